@@ -1,12 +1,13 @@
 -- How many writes numbering makes.
-use Rattle.std.specs.Prelude.{◌≡◌, ℕ, ◌+◌, ◌*◌, ◌≤◌, true, if◌then◌else◌, List}
+use Rattle.std.specs.Prelude.{◌≡◌, ℕ, ◌+◌, ◌*◌, ◌≤◌, true, if◌then◌else◌}
 use Rattle.pci_spec.specs.Slot.{Slot}
 use Rattle.number_spec.specs.Board.{Nodes, NoMore, Node, Board, is_type_1}
 use Rattle.number_spec.specs.Access.{nodes_behind}
-use Rattle.number_spec.specs.Walk.{all_after, is_walkable}
+use Rattle.number_spec.specs.Walk.{is_walkable}
 use Rattle.number_spec.specs.NoBus.{bridges}
 use Rattle.number_spec.specs.Ready.{IsReady}
-use Rattle.pci_number.specs.Seen.{View, code, IsSeen, IsClosed}
+use Rattle.pci_number.specs.Seen.{View, IsSeen, IsClosed}
+use Rattle.pci_number.specs.Steps.{OfOpening}
 use Rattle.pci_number.specs.Walked.{Outset}
 
 -- how many bridges there are on the bus itself
@@ -32,11 +33,7 @@ IsHushFew before bus made total =
 -- A bridge gets a bus by 4 at most, and those there are closed.
 abbrev pub IsOpenFew : Board → Slot → ℕ → ℕ → ℕ → ℕ → Type 0
 IsOpenFew before slot bus last made total =
-    (v : View) (high : ℕ) (image : List ℕ) (behind others : Nodes)
-    → before ≡ v.fill (Node slot.device slot.function image behind others)
-    → IsSeen v slot.bus (code slot) high last → all_after slot.device slot.function others ≡ true
-    → is_type_1 image ≡ true → IsClosed others → is_walkable behind ≡ true
-    → high + 1 ≤ bus → bus ≤ last → total ≤ made + 4 + 3 * bridges_on behind
+    OfOpening before slot bus last (λ v image behind others. total ≤ made + 4 + 3 * bridges_on behind)
 
 -- The bridges on a bus, which are closed, get numbers, and so do those behind them.
 abbrev pub IsBusFew : Board → Outset → ℕ → ℕ → Type 0

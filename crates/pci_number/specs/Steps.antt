@@ -84,28 +84,30 @@ IsHushLeft before bus after =
     → IsSeen v bus 0 high last → is_walkable nodes ≡ true
     → (whole : Nodes) × (after ≡ v.fill whole) × (without_numbers whole ≡ without_numbers nodes)
 
--- A bridge has a bus behind it, on which no bridge forwards anything.
-abbrev pub IsOpened : Board → Slot → ℕ → ℕ → Bool → Board → Type 0
-IsOpened before slot bus last bridges after =
+-- Said of a bridge that gets a bus while those after it forward nothing: of how its own bus is
+-- seen, of its image, and of the nodes behind it and after it.
+abbrev pub OfOpening : Board → Slot → ℕ → ℕ → (View → List ℕ → Nodes → Nodes → Type 0) → Type 0
+OfOpening before slot bus last P =
     (v : View) (high : ℕ) (image : List ℕ) (behind others : Nodes)
     → before ≡ v.fill (Node slot.device slot.function image behind others)
     → IsSeen v slot.bus (code slot) high last → all_after slot.device slot.function others ≡ true
     → is_type_1 image ≡ true → IsClosed others → is_walkable behind ≡ true
-    → high + 1 ≤ bus → bus ≤ last
-    → (new : List ℕ) × (nodes : Nodes)
+    → high + 1 ≤ bus → bus ≤ last → P v image behind others
+
+-- A bridge has a bus behind it, on which no bridge forwards anything.
+abbrev pub IsOpened : Board → Slot → ℕ → ℕ → Bool → Board → Type 0
+IsOpened before slot bus last bridges after =
+    OfOpening before slot bus last (λ v image behind others.
+    (new : List ℕ) × (nodes : Nodes)
     × (after ≡ v.fill (Node slot.device slot.function new nodes others)) × IsAlike image new
     × (without_numbers nodes ≡ without_numbers behind)
     × (shows new slot.bus bus (if bridges then last else bus) ≡ true)
-    × IsClosed nodes × (has_bridges nodes ≡ bridges)
+    × IsClosed nodes × (has_bridges nodes ≡ bridges))
 
 -- All but bus numbers is kept.
 abbrev pub IsOpenLeft : Board → Slot → ℕ → ℕ → Board → Type 0
 IsOpenLeft before slot bus last after =
-    (v : View) (high : ℕ) (image : List ℕ) (behind others : Nodes)
-    → before ≡ v.fill (Node slot.device slot.function image behind others)
-    → IsSeen v slot.bus (code slot) high last → all_after slot.device slot.function others ≡ true
-    → is_type_1 image ≡ true → IsClosed others → is_walkable behind ≡ true
-    → high + 1 ≤ bus → bus ≤ last
-    → (new : List ℕ) × (nodes : Nodes)
+    OfOpening before slot bus last (λ v image behind others.
+    (new : List ℕ) × (nodes : Nodes)
     × (after ≡ v.fill (Node slot.device slot.function new nodes others)) × IsAlike image new
-    × (without_numbers nodes ≡ without_numbers behind)
+    × (without_numbers nodes ≡ without_numbers behind))
