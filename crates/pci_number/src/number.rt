@@ -2,7 +2,7 @@
 ghost use Rattle.std.specs.Prelude.{◌≡◌, ◌+◌, IfOk, IfErr};
 ghost use Rattle.pci_number.specs.Stops.{failures_at, IsStop};
 ghost use Rattle.number_spec.specs.Ready.{IsReady};
-ghost use Rattle.pci_number.specs.Answer.{Answers, Keeps};
+ghost use Rattle.pci_number.specs.Answer.{Answers, Keeps, named_by, highest_of};
 ghost use Rattle.pci_number.specs.Few.{IsFew};
 ghost use Rattle.pci_number.specs.Single.{IsSingleThroughout, EndsSingle};
 ghost use Rattle.pci_number.specs.Stood.{moment};
@@ -61,13 +61,17 @@ pub fn number<P: BoardPort>(port: &mut P, root: u8, last: u8, spare: u8) -> Resu
         without: None,
     };
     let walk = number_bus(port, root, last, spare, start)?;
+    Ok(answer(walk))
+}
+
+/// What a walk over the whole root bus comes to.
+fn answer(walk: Walk) -> Numbering
+    ensures without { named_by result ≡ walk.without }
+    ensures highest { highest_of result ≡ walk.taken }
+{
+    let highest = walk.taken;
     match walk.without {
-        None => Ok(Numbering::Numbered {
-            highest: walk.taken,
-        }),
-        Some(slot) => Ok(Numbering::NoBus {
-            slot,
-            highest: walk.taken,
-        }),
+        None => Numbering::Numbered { highest },
+        Some(slot) => Numbering::NoBus { slot, highest },
     }
 }

@@ -1,5 +1,3 @@
-use Rattle.std.proofs.Common.{refl, sym}
-use Rattle.pci_number.specs.declared.number.Numbering.TheVariants.{Numbered, NoBus}
 use Rattle.pci_number.proofs.Few.{few_at_hush, few_at_walk}
 use Rattle.pci_number.proofs.Roots.{kept_at_hush, kept_at_walk, kept_at_end, answer_of}
 use Rattle.pci_number.proofs.Throughout.{throughout_hush, throughout_left, throughout_done, end_single}
@@ -15,25 +13,14 @@ returns-in_err-walk-clause-kept g c =
     let board = g.P.BoardPort.board in
     kept_at_walk c.args.spare (board c.args.port.now) (board c.hush.new.port) (board c.number_bus.new.port) c.args.root c.args.last c.in_ok-hush.field-0 c.in_ok-hush.ensures.hushed c.in_err-walk.ensures.left
 
-pub returns-in-None-clause-answer : goal.returns-in-None-clause-answer
-returns-in-None-clause-answer g c =
+pub returns-clause-answer : goal.returns-clause-answer
+returns-clause-answer g c =
     let board = g.P.BoardPort.board in
-    answer_of c.args.spare (board c.args.port.now) (board c.hush.new.port) (board c.number_bus.new.port) c.args.root c.args.last c.in_ok-hush.field-0 c.in_ok-walk.walk (Numbered c.in_ok-walk.walk.taken)
-    c.in_ok-hush.ensures.hushed c.in_ok-walk.ensures.numbered (sym c.in-None.is) refl
+    answer_of c.args.spare (board c.args.port.now) (board c.hush.new.port) (board c.number_bus.new.port) c.args.root c.args.last c.in_ok-hush.field-0 c.in_ok-walk.walk c.answer.result
+    c.in_ok-hush.ensures.hushed c.in_ok-walk.ensures.numbered c.answer.ensures.without c.answer.ensures.highest
 
-pub returns-in-None-clause-kept : goal.returns-in-None-clause-kept
-returns-in-None-clause-kept g c =
-    let board = g.P.BoardPort.board in
-    kept_at_end c.args.spare (board c.args.port.now) (board c.hush.new.port) (board c.number_bus.new.port) c.args.root c.args.last c.in_ok-hush.field-0 c.in_ok-walk.walk c.in_ok-hush.ensures.hushed c.in_ok-walk.ensures.numbered
-
-pub returns-in-Some-clause-answer : goal.returns-in-Some-clause-answer
-returns-in-Some-clause-answer g c =
-    let board = g.P.BoardPort.board in
-    answer_of c.args.spare (board c.args.port.now) (board c.hush.new.port) (board c.number_bus.new.port) c.args.root c.args.last c.in_ok-hush.field-0 c.in_ok-walk.walk (NoBus c.in-Some.slot c.in_ok-walk.walk.taken)
-    c.in_ok-hush.ensures.hushed c.in_ok-walk.ensures.numbered (sym c.in-Some.is) refl
-
-pub returns-in-Some-clause-kept : goal.returns-in-Some-clause-kept
-returns-in-Some-clause-kept g c =
+pub returns-clause-kept : goal.returns-clause-kept
+returns-clause-kept g c =
     let board = g.P.BoardPort.board in
     kept_at_end c.args.spare (board c.args.port.now) (board c.hush.new.port) (board c.number_bus.new.port) c.args.root c.args.last c.in_ok-hush.field-0 c.in_ok-walk.walk c.in_ok-hush.ensures.hushed c.in_ok-walk.ensures.numbered
 
@@ -49,15 +36,8 @@ returns-in_err-walk-clause-few g c =
     few_at_walk c.args.spare (board c.args.port.now) (board c.hush.new.port) c.args.root c.args.last c.in_ok-hush.field-0 (writes c.args.port.now) (writes c.hush.new.port) (writes c.number_bus.new.port)
     c.in_ok-hush.ensures.hushed c.in_ok-hush.ensures.few c.in_err-walk.ensures.few
 
-pub returns-in-None-clause-few : goal.returns-in-None-clause-few
-returns-in-None-clause-few g c =
-    let board = g.P.BoardPort.board in
-    let writes = g.P.BoardPort.writes in
-    few_at_walk c.args.spare (board c.args.port.now) (board c.hush.new.port) c.args.root c.args.last c.in_ok-hush.field-0 (writes c.args.port.now) (writes c.hush.new.port) (writes c.number_bus.new.port)
-    c.in_ok-hush.ensures.hushed c.in_ok-hush.ensures.few c.in_ok-walk.ensures.few
-
-pub returns-in-Some-clause-few : goal.returns-in-Some-clause-few
-returns-in-Some-clause-few g c =
+pub returns-clause-few : goal.returns-clause-few
+returns-clause-few g c =
     let board = g.P.BoardPort.board in
     let writes = g.P.BoardPort.writes in
     few_at_walk c.args.spare (board c.args.port.now) (board c.hush.new.port) c.args.root c.args.last c.in_ok-hush.field-0 (writes c.args.port.now) (writes c.hush.new.port) (writes c.number_bus.new.port)
@@ -75,26 +55,14 @@ returns-in_err-walk-clause-single g c =
     throughout_left (board c.args.port.now) (board c.hush.new.port) c.args.root c.args.last c.in_ok-hush.field-0 (history c.args.port.now) (history c.hush.new.port) (history c.number_bus.new.port)
     c.in_ok-hush.ensures.hushed c.in_ok-hush.ensures.stood c.from_residual-in_err-walk.result c.from_residual-in_err-walk.ensures.0 c.in_err-walk.ensures.stood
 
-pub returns-in-None-clause-single : goal.returns-in-None-clause-single
-returns-in-None-clause-single g c =
+pub returns-clause-single : goal.returns-clause-single
+returns-clause-single g c =
     let board = g.P.BoardPort.board in
     let history = g.P.BoardPort.history in
     throughout_done (board c.args.port.now) (board c.hush.new.port) c.args.root c.args.last c.in_ok-hush.field-0 (history c.args.port.now) (history c.hush.new.port) (history c.number_bus.new.port)
-    c.in_ok-hush.ensures.hushed c.in_ok-hush.ensures.stood (Numbered c.in_ok-walk.walk.taken) c.in_ok-walk.ensures.stood
+    c.in_ok-hush.ensures.hushed c.in_ok-hush.ensures.stood c.answer.result c.in_ok-walk.ensures.stood
 
-pub returns-in-Some-clause-single : goal.returns-in-Some-clause-single
-returns-in-Some-clause-single g c =
-    let board = g.P.BoardPort.board in
-    let history = g.P.BoardPort.history in
-    throughout_done (board c.args.port.now) (board c.hush.new.port) c.args.root c.args.last c.in_ok-hush.field-0 (history c.args.port.now) (history c.hush.new.port) (history c.number_bus.new.port)
-    c.in_ok-hush.ensures.hushed c.in_ok-hush.ensures.stood (NoBus c.in-Some.slot c.in_ok-walk.walk.taken) c.in_ok-walk.ensures.stood
-
-pub returns-in-None-clause-end : goal.returns-in-None-clause-end
-returns-in-None-clause-end g c =
-    let board = g.P.BoardPort.board in
-    end_single c.args.spare (board c.args.port.now) (board c.hush.new.port) (board c.number_bus.new.port) c.args.root c.args.last c.in_ok-hush.field-0 c.in_ok-walk.walk c.in_ok-hush.ensures.hushed c.in_ok-walk.ensures.numbered
-
-pub returns-in-Some-clause-end : goal.returns-in-Some-clause-end
-returns-in-Some-clause-end g c =
+pub returns-clause-end : goal.returns-clause-end
+returns-clause-end g c =
     let board = g.P.BoardPort.board in
     end_single c.args.spare (board c.args.port.now) (board c.hush.new.port) (board c.number_bus.new.port) c.args.root c.args.last c.in_ok-hush.field-0 c.in_ok-walk.walk c.in_ok-hush.ensures.hushed c.in_ok-walk.ensures.numbered
