@@ -19,7 +19,7 @@ use Rattle.pci_number.proofs.Opening.{shows_another}
 use Rattle.pci_number.proofs.Passing.{Came, came_first, came_past, at_bridge, came_beyond}
 use Rattle.pci_number.proofs.Places.{IsPlaceOf}
 use Rattle.pci_number.proofs.RootView.{same_nodes}
-use Rattle.pci_number.proofs.Roots.{root_view, seen_root, start}
+use Rattle.pci_number.proofs.Roots.{root_view, seen_root, at_root_now, start}
 use Rattle.pci_number.proofs.Views.{inside, seen_alone, seen_inside}
 use Rattle.pci_number.proofs.Walking.{one_more, IsBegun}
 
@@ -167,13 +167,11 @@ few_at_hush before root last made total few = λ ready.
 pub few_at_walk : (spare : ℕ) (before mid : Board) (root last : ℕ) (found : Bool) (made hushed_by total : ℕ) → IsHushed before root found mid → IsHushFew before root made hushed_by → IsBusFew mid (outset root last spare (start root)) hushed_by total → IsFew before root last made total
 few_at_walk spare before mid root last found made hushed_by total hushed hush bus = λ ready.
     let nodes = nodes_behind before root in
-    let seen = seen_root before root last ready in
-    let same = sym (same_nodes root before ready.one) in
-    let h = hushed (root_view before root) root last nodes same seen ready.walkable in
+    let h = at_root_now before mid root last found hushed ready in
     omega (
       arith,
-      hush (root_view before root) root last nodes same seen ready.walkable,
-      bus (root_view before root) h.0 h.1 seen (same_walk h.0 nodes h.2 ∙ ready.walkable) h.3,
-      same_bridges h.0 nodes h.2,
-      same_on h.0 nodes h.2,
+      hush (root_view before root) root last nodes (sym (same_nodes root before ready.one)) h.seen ready.walkable,
+      bus (root_view before root) h.nodes h.is h.seen h.walkable h.closed,
+      same_bridges h.nodes nodes h.same,
+      same_on h.nodes nodes h.same,
     )

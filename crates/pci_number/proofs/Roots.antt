@@ -6,13 +6,14 @@ use Rattle.std.proofs.lemmas.Bool.{eq-eqb, ne_eqb}
 use Rattle.pci_spec.specs.Slot.{Slot}
 use Rattle.number_spec.specs.Board.{Nodes, Root, Board, Place, at_root, image_at}
 use Rattle.number_spec.specs.Access.{nodes_behind, with_byte, with_nodes}
+use Rattle.number_spec.specs.Walk.{is_walkable}
 use Rattle.number_spec.specs.Numbered.{without_numbers}
 use Rattle.number_spec.specs.Room.{last_behind, IsNumberedWithRoom}
 use Rattle.number_spec.specs.Spare.{spare_room}
 use Rattle.number_spec.specs.NoBus.{first_without}
 use Rattle.number_spec.specs.Ready.{IsReady}
 use Rattle.number_spec.proofs.Kept.{same_walk}
-use Rattle.pci_number.specs.Seen.{View, IsSeen}
+use Rattle.pci_number.specs.Seen.{View, IsSeen, IsClosed}
 use Rattle.pci_number.specs.Steps.{IsHushed, IsHushLeft}
 use Rattle.pci_number.specs.Walked.{IsBusNumbered, IsBusLeft, outset}
 use Rattle.pci_number.specs.Answer.{named_by, highest_of, IsAnswer, IsBoardKept}
@@ -63,33 +64,51 @@ kept_at_hush before after root last left = λ ready.
     let w = left (root_view before root) root last (nodes_behind before root) (sym (same_nodes root before ready.one)) (seen_root before root last ready) ready.walkable in
     kept before after root last w.0 ready w.1 w.2
 
+-- the nodes at the root once the bridges there are closed
+pub record AtRoot (before : Board) (mid : Board) (root : ℕ) (last : ℕ) : Type 0 where
+  pub nodes : Nodes
+  pub is : mid ≡ with_nodes before root nodes
+  pub seen : IsSeen (root_view before root) root 0 root last
+  pub walkable : is_walkable nodes ≡ true
+  pub closed : IsClosed nodes
+  pub same : without_numbers nodes ≡ without_numbers (nodes_behind before root)
+
+pub at_root_now : (before mid : Board) (root last : ℕ) (bridges : Bool) → IsHushed before root bridges mid → IsReady before root last → AtRoot before mid root last
+at_root_now before mid root last bridges hushed ready =
+    let seen = seen_root before root last ready in
+    let h = hushed (root_view before root) root last (nodes_behind before root) (sym (same_nodes root before ready.one)) seen ready.walkable in
+    record {
+      nodes = h.0;
+      is = h.1;
+      seen = seen;
+      walkable = same_walk h.0 (nodes_behind before root) h.2 ∙ ready.walkable;
+      closed = h.3;
+      same = h.2;
+    }
+
 -- a walk that begins at the root
 abbrev pub start : ℕ → Walk
 start root = record { taken = root; without = None }
 
 pub kept_at_walk : (spare : ℕ) (before mid after : Board) (root last : ℕ) (bridges : Bool) → IsHushed before root bridges mid → IsBusLeft mid (outset root last spare (start root)) after → IsReady before root last → IsBoardKept before root after
 kept_at_walk spare before mid after root last bridges hushed left = λ ready.
-    let seen = seen_root before root last ready in
-    let h = hushed (root_view before root) root last (nodes_behind before root) (sym (same_nodes root before ready.one)) seen ready.walkable in
-    let w = left (root_view before root) h.0 h.1 seen (same_walk h.0 (nodes_behind before root) h.2 ∙ ready.walkable) h.3 in
-    kept before after root last w.0 ready w.1 (w.2 ∙ h.2)
+    let h = at_root_now before mid root last bridges hushed ready in
+    let w = left (root_view before root) h.nodes h.is h.seen h.walkable h.closed in
+    kept before after root last w.0 ready w.1 (w.2 ∙ h.same)
 
 pub answer_of : (spare : ℕ) (before mid after : Board) (root last : ℕ) (bridges : Bool) (walk : Walk) (answer : Numbering) → IsHushed before root bridges mid → IsBusNumbered mid (outset root last spare (start root)) walk after → named_by answer ≡ walk.without → highest_of answer ≡ walk.taken → IsReady before root last → IsAnswer spare before root last answer after
 answer_of spare before mid after root last bridges walk answer hushed numbered names highest = λ ready.
-    let seen = seen_root before root last ready in
-    let h = hushed (root_view before root) root last (nodes_behind before root) (sym (same_nodes root before ready.one)) seen ready.walkable in
-    let n = numbered (root_view before root) h.0 h.1 seen (same_walk h.0 (nodes_behind before root) h.2 ∙ ready.walkable) h.3 in
+    let h = at_root_now before mid root last bridges hushed ready in
+    let n = numbered (root_view before root) h.nodes h.is h.seen h.walkable h.closed in
     let there = behind_it before after root last n.0 ready n.1 in
     record {
       others = n.1 ∙ ap (with_nodes before root) (sym there);
-      numbered = subst (IsNumberedWithRoom (spare_room spare) root last (nodes_behind before root)) (sym there) (record { same = sym (n.2 ∙ h.2); numbers = n.3 });
+      numbered = subst (IsNumberedWithRoom (spare_room spare) root last (nodes_behind before root)) (sym there) (record { same = sym (n.2 ∙ h.same); numbers = n.3 });
       without = names ∙ n.5 ∙ ap (first_without root) (sym there);
       highest = highest ∙ n.4 ∙ ap (last_behind root) (sym there);
     }
 
 pub kept_at_end : (spare : ℕ) (before mid after : Board) (root last : ℕ) (bridges : Bool) (walk : Walk) → IsHushed before root bridges mid → IsBusNumbered mid (outset root last spare (start root)) walk after → IsReady before root last → IsBoardKept before root after
-kept_at_end spare before mid after root last bridges walk hushed numbered = λ ready.
-    let seen = seen_root before root last ready in
-    let h = hushed (root_view before root) root last (nodes_behind before root) (sym (same_nodes root before ready.one)) seen ready.walkable in
-    let n = numbered (root_view before root) h.0 h.1 seen (same_walk h.0 (nodes_behind before root) h.2 ∙ ready.walkable) h.3 in
-    kept before after root last n.0 ready n.1 (n.2 ∙ h.2)
+kept_at_end spare before mid after root last bridges walk hushed numbered = kept_at_walk spare before mid after root last bridges hushed (λ v nodes is seen walkable closed.
+    let n = numbered v nodes is seen walkable closed in
+    (n.0, n.1, n.2))

@@ -4,7 +4,6 @@ use Rattle.std.specs.Result.{IsErr}
 use Rattle.number_spec.specs.Board.{Nodes, Board, answers, IsSingle}
 use Rattle.number_spec.specs.Access.{nodes_behind, with_nodes}
 use Rattle.number_spec.specs.Ready.{IsReady}
-use Rattle.number_spec.proofs.Kept.{same_walk}
 use Rattle.pci_number.specs.Steps.{IsHushed}
 use Rattle.pci_number.specs.Less.{without_own_numbers, AreShut, IsLessStep}
 use Rattle.pci_number.specs.Single.{IsHushStep, IsSingleBeside, EndsSingle, ClosedOrStopped, IsSingleThroughout}
@@ -14,7 +13,7 @@ use Rattle.pci_number.specs.Walked.{IsBusNumbered, outset}
 use Rattle.pci_number.specs.declared.walk.Walk.{Walk}
 use Rattle.pci_number.specs.Stood.{Adds, Ends, AddsSteps, moment}
 use Rattle.pci_number.proofs.RootView.{same_nodes}
-use Rattle.pci_number.proofs.Roots.{root_view, seen_root, behind_it, start}
+use Rattle.pci_number.proofs.Roots.{root_view, seen_root, behind_it, at_root_now, start}
 use Rattle.pci_number.proofs.Apart.{shut_spread, closed_shut, numbered_spread}
 use Rattle.pci_number.proofs.Beside.{single_beside, less_is_single, spread_at_root, apart_at_root, fewer_answers}
 use Rattle.pci_number.proofs.Showing.{IsHushOk, IsHushEnd}
@@ -67,15 +66,14 @@ module _ (before mid : Board) (root last : ℕ) (bridges : Bool) (old hushed new
 
   shut_there : IsReady before root last → AreShut (nodes_behind mid root)
   shut_there ready =
-      let h = hush (root_view before root) root last (nodes_behind before root) (sym (same_nodes root before ready.one)) (seen_root before root last ready) ready.walkable in
-      subst AreShut (sym (behind_it before mid root last h.0 ready h.1)) (closed_shut h.0 h.3)
+      let h = at_root_now before mid root last bridges hush ready in
+      subst AreShut (sym (behind_it before mid root last h.nodes ready h.is)) (closed_shut h.nodes h.closed)
 
   pub throughout_left : {T E : Type 0} → (r : Result T E) → IsErr r → IsBusEnd mid root last (start root) hushed new → IsReady before root last → IsSingleThroughout (moment before old) root r new
   throughout_left r err walk = λ ready.
       let R = IsLessStep (root_view before root) (nodes_behind before root) in
-      let seen = seen_root before root last ready in
-      let h = hush (root_view before root) root last (nodes_behind before root) (sym (same_nodes root before ready.one)) seen ready.walkable in
-      let ends : IsSingleBeside before root → Ends IsSingle hushed new = λ beside. walk (root_view before root) h.0 h.1 seen (same_walk h.0 (nodes_behind before root) h.2 ∙ ready.walkable) h.3 (apart_at_root before root last ready h.0 h.2 beside) in
+      let h = at_root_now before mid root last bridges hush ready in
+      let ends : IsSingleBeside before root → Ends IsSingle hushed new = λ beside. walk (root_view before root) h.nodes h.is h.seen h.walkable h.closed (apart_at_root before root last ready h.nodes h.same beside) in
       record {
         closed = moment mid hushed;
         hushing = steps_as R (IsHushStep before root) (hush_step before root last ready) before old mid hushed (less_stood ready);
@@ -87,9 +85,8 @@ module _ (before mid : Board) (root last : ℕ) (bridges : Bool) (old hushed new
   pub throughout_done : {T E : Type 0} → (x : T) → IsBusOk mid root last (start root) hushed new → IsReady before root last → IsSingleThroughout {T = T} {E = E} (moment before old) root (Ok x) new
   throughout_done x walk = λ ready.
       let R = IsLessStep (root_view before root) (nodes_behind before root) in
-      let seen = seen_root before root last ready in
-      let h = hush (root_view before root) root last (nodes_behind before root) (sym (same_nodes root before ready.one)) seen ready.walkable in
-      let adds : IsSingleBeside before root → Adds IsSingle hushed new = λ beside. walk (root_view before root) h.0 h.1 seen (same_walk h.0 (nodes_behind before root) h.2 ∙ ready.walkable) h.3 (apart_at_root before root last ready h.0 h.2 beside) in
+      let h = at_root_now before mid root last bridges hush ready in
+      let adds : IsSingleBeside before root → Adds IsSingle hushed new = λ beside. walk (root_view before root) h.nodes h.is h.seen h.walkable h.closed (apart_at_root before root last ready h.nodes h.same beside) in
       record {
         closed = moment mid hushed;
         hushing = steps_as R (IsHushStep before root) (hush_step before root last ready) before old mid hushed (less_stood ready);
@@ -100,7 +97,6 @@ module _ (before mid : Board) (root last : ℕ) (bridges : Bool) (old hushed new
 
 pub end_single : (spare : ℕ) (before mid after : Board) (root last : ℕ) (bridges : Bool) (walk : Walk) → IsHushed before root bridges mid → IsBusNumbered mid (outset root last spare (start root)) walk after → EndsSingle before root last after
 end_single spare before mid after root last bridges walk hushed numbered = λ ready beside.
-    let seen = seen_root before root last ready in
-    let h = hushed (root_view before root) root last (nodes_behind before root) (sym (same_nodes root before ready.one)) seen ready.walkable in
-    let n = numbered (root_view before root) h.0 h.1 seen (same_walk h.0 (nodes_behind before root) h.2 ∙ ready.walkable) h.3 in
-    subst IsSingle (sym n.1) (spread_at_root before root last ready (last_behind root n.0) n.0 (n.2 ∙ h.2) beside (numbered_spread (spare_room spare) last root root n.0 n.3))
+    let h = at_root_now before mid root last bridges hushed ready in
+    let n = numbered (root_view before root) h.nodes h.is h.seen h.walkable h.closed in
+    subst IsSingle (sym n.1) (spread_at_root before root last ready (last_behind root n.0) n.0 (n.2 ∙ h.same) beside (numbered_spread (spare_room spare) last root root n.0 n.3))
