@@ -1,6 +1,6 @@
 -- What a walk finds doesn't hang on bus numbers.
-use Rattle.std.proofs.Common.{◌≡◌, ◌≢◌, ℕ, List, refl, sym, ◌∙◌, ap, get_or-set_other, inl, inr}
-use Rattle.std.specs.Bool.{if◌then◌else◌}
+use Rattle.std.proofs.Common.{◌≡◌, ◌≢◌, ℕ, ◌%◌, List, refl, sym, ◌∙◌, ap, get_or-set_other, inl, inr}
+use Rattle.std.specs.Bool.{if◌then◌else◌, ◌==◌}
 use Rattle.std.proofs.lemmas.Bool.{cases_Bool}
 use Rattle.pci_spec.specs.Number.{byte_at}
 use Rattle.pci_spec.specs.Registers.{HEADER_TYPE}
@@ -10,7 +10,7 @@ use Rattle.number_spec.specs.Walk.{has_more, all_after, is_rising, is_all_found,
 use Rattle.number_spec.specs.Numbered.{with_numbers, without_numbers}
 
 -- an image with no bus numbers
-abbrev cleared : List ℕ → List ℕ
+abbrev pub cleared : List ℕ → List ℕ
 cleared image = if is_type_1 image then with_numbers 0 0 0 image else image
 
 byte_stays : (image : List ℕ) (offset : ℕ) → offset ≢ 0x18 → offset ≢ 0x19 → offset ≢ 0x1a → byte_at (cleared image) offset ≡ byte_at image offset
@@ -21,6 +21,9 @@ byte_stays image offset not_p not_s not_u = elim (cases_Bool (is_type_1 image)) 
 
 header_stays : (image : List ℕ) → byte_at (cleared image) HEADER_TYPE ≡ byte_at image HEADER_TYPE
 header_stays image = byte_stays image HEADER_TYPE (λ is. cc is) (λ is. cc is) (λ is. cc is)
+
+pub kind_stays : (image : List ℕ) → is_type_1 (cleared image) ≡ is_type_1 image
+kind_stays image = ap (λ n. n % 128 == 1) (header_stays image)
 
 vendor_stays : (image : List ℕ) → vendor_id (cleared image) ≡ vendor_id image
 vendor_stays image =

@@ -13,7 +13,7 @@ use Rattle.number_spec.proofs.Single.{goes_alone}
 use Rattle.number_spec.specs.Board.{Root, Board, Place, at_root, goes_to, IsSingle}
 
 -- the nodes at a root that answer, with its number
-abbrev with_root : Slot → Root → List (ℕ × Place)
+abbrev pub with_root : Slot → Root → List (ℕ × Place)
 with_root access root = map (λ place. (root.number, place)) (at_root root access)
 
 -- a root that is single alone

@@ -1,5 +1,5 @@
 -- The same nodes that are numbered twice have the same numbers, as far as a walk comes.
-use Rattle.std.proofs.Common.{◌≡◌, ◌≢◌, ℕ, ◌+◌, ◌%◌, inl, inr, List, ◌∷◌, ◌++◌, true, false, ◌&&◌, ◌||◌, not, refl, sym, ◌∙◌, ap, subst, length, set, Option, Some, None, get_or-set_other}
+use Rattle.std.proofs.Common.{◌≡◌, ◌≢◌, ℕ, ◌+◌, inl, inr, List, ◌∷◌, ◌++◌, true, false, ◌&&◌, ◌||◌, not, refl, sym, ◌∙◌, ap, subst, length, set, Option, Some, None, get_or-set_other}
 use Rattle.std.specs.Bool.{◌==◌, if◌then◌else◌}
 use Rattle.std.proofs.lemmas.Bool.{and_parts, eqb-true, cases_Bool}
 use Rattle.std.proofs.lemmas.List.{set-get_or, set-set}
@@ -13,6 +13,7 @@ use Rattle.number_spec.specs.Numbered.{with_numbers, without_numbers, secondarie
 use Rattle.number_spec.specs.NoBus.{first_of, first_without}
 use Rattle.number_spec.specs.Reached.{reached, is_none, only_bridges_lead}
 use Rattle.number_spec.specs.NumberingLaws.{NumbersAreOne, AllNumbersAreOne}
+use Rattle.number_spec.proofs.Kept.{cleared, kind_stays}
 use Rattle.number_spec.proofs.InOrder.{IsRun, run_from, run_parts, of_device, of_closed, of_open}
 
 -- ---- images that are the same but for bus numbers
@@ -36,20 +37,6 @@ same_image a b same primary secondary subordinate =
     set_back a b 0x18 (set_back (set a 0x18 0) (set b 0x18 0) 0x19
     (set_back (set (set a 0x18 0) 0x19 0) (set (set b 0x18 0) 0x19 0) 0x1a same (third_byte a ∙ subordinate ∙ sym (third_byte b)))
     (second_byte a ∙ secondary ∙ sym (second_byte b))) primary
-
-abbrev pub cleared : List ℕ → List ℕ
-cleared image = if is_type_1 image then with_numbers 0 0 0 image else image
-
-kind_cleared : (image : List ℕ) → is_type_1 (with_numbers 0 0 0 image) ≡ is_type_1 image
-kind_cleared image =
-    ap (λ n. n % 128 == 1)
-    (other_byte (set (set image 0x18 0) 0x19 0) 0x1a 14 (λ is. cc is) ∙ other_byte (set image 0x18 0) 0x19 14 (λ is. cc is) ∙ other_byte image 0x18 14 (λ is. cc is))
-
-pub kind_stays : (image : List ℕ) → is_type_1 (cleared image) ≡ is_type_1 image
-kind_stays image = elim (cases_Bool (is_type_1 image)) [
-  | inr plain ↦ rw plain plain
-  | inl bridge ↦ rw bridge (kind_cleared image ∙ bridge)
-]
 
 pub same_kind : (a b : List ℕ) → cleared a ≡ cleared b → is_type_1 b ≡ is_type_1 a
 same_kind a b same = sym (kind_stays b) ∙ ap is_type_1 (sym same) ∙ kind_stays a

@@ -3,7 +3,7 @@ use Rattle.std.proofs.Common.{◌≡◌, ℕ, ◌≤◌, inl, inr, List, [], ◌
 use Rattle.std.specs.Bool.{nat_le, nat_lt, ◌==◌}
 use Rattle.std.specs.List.{filter, flat_map, list_all}
 use Rattle.std.proofs.lemmas.Bool.{and_parts, eqb-true, leb-true, cases_Bool, eqb-false}
-use Rattle.std.proofs.lemmas.List.{length-map}
+use Rattle.std.proofs.lemmas.List.{append-nil, length-map}
 use Rattle.pci_spec.specs.Slot.{Slot}
 use Rattle.number_spec.specs.Board.{Nodes, NoMore, Node, Root, Board, on_bus, at_root, goes_to, behind_bridges, answers, IsSingle}
 use Rattle.number_spec.specs.Access.{nodes_behind, with_nodes}
@@ -12,12 +12,13 @@ use Rattle.number_spec.specs.Numbered.{without_numbers}
 use Rattle.number_spec.specs.Ready.{IsReady}
 use Rattle.number_spec.specs.Spread.{IsSpread}
 use Rattle.number_spec.proofs.Kept.{same_walk}
+use Rattle.number_spec.proofs.Roots.{with_root}
 use Rattle.number_spec.proofs.Single.{once_on_bus}
 use Rattle.number_spec.proofs.Spread.{once_at_root}
 use Rattle.pci_number.specs.Less.{without_own_numbers, IsLessOf}
 use Rattle.pci_number.specs.Single.{IsApart, IsSingleBeside}
 use Rattle.pci_number.proofs.RootView.{root_of, same_nodes, only_there}
-use Rattle.pci_number.proofs.Roots.{append_nothing, root_view, with_root}
+use Rattle.pci_number.proofs.Roots.{root_view}
 
 -- who is on a bus hangs on no bus number
 on_bus_still : (nodes : Nodes) (access : Slot) → on_bus (without_own_numbers nodes) access ≡ on_bus nodes access
@@ -67,7 +68,7 @@ module _ (board : Board) (root last : ℕ) (ready : IsReady board root last) whe
       let parts = and_parts (nat_le root access.bus) (list_all (λ other. nat_le other.number root || nat_lt access.bus other.number) board) goes in
       let here : IsReady board root access.bus = record { one = ready.one; apart = parts.1; walkable = ready.walkable } in
       ap (flat_map (with_root access)) (only_there board root access.bus here nodes access.bus (leb-true root access.bus parts.0) (inr (omega arith)))
-      ∙ append_nothing (with_root access (root_of root nodes))
+      ∙ append-nil (with_root access (root_of root nodes))
 
   count_at : (nodes : Nodes) (access : Slot) → goes_to board access.bus (root_of root NoMore) ≡ true → length (answers (with_nodes board root nodes) access) ≡ length (at_root (root_of root nodes) access)
   count_at nodes access goes = ap length (root_answers nodes access goes) ∙ length-map (at_root (root_of root nodes) access) (λ place. (root, place))

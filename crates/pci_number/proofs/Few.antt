@@ -7,8 +7,7 @@ use Rattle.number_spec.specs.Access.{nodes_behind}
 use Rattle.number_spec.specs.Walk.{is_walkable, all_after}
 use Rattle.number_spec.specs.Numbered.{without_numbers}
 use Rattle.number_spec.specs.NoBus.{bridges}
-use Rattle.number_spec.proofs.Kept.{same_walk}
-use Rattle.number_spec.proofs.Same.{kind_stays}
+use Rattle.number_spec.proofs.Kept.{kind_stays, same_walk}
 use Rattle.pci_number.specs.Seen.{View, code, IsSeen, IsClosed}
 use Rattle.pci_number.specs.Steps.{IsPut, IsLooked, IsShownAt, IsHushed, IsOpened}
 use Rattle.pci_number.specs.Few.{bridges_on, IsFew, IsHushFew, IsOpenFew, IsBusFew}

@@ -1,6 +1,7 @@
 -- Closing the bridges on a bus, place by place.
 use Rattle.std.proofs.Common.{◌≡◌, ℕ, ◌+◌, Bool, true, false, ◌||◌, arith, refl, sym, ◌∙◌, ap}
 use Rattle.std.proofs.lemmas.Bool.{both_ways}
+use Rattle.std.proofs.Math.Bool.{or-true, or-false}
 use Rattle.pci_spec.specs.Slot.{Slot}
 use Rattle.number_spec.specs.Board.{Nodes, NoMore, Node, Board, is_type_1}
 use Rattle.number_spec.specs.Walk.{is_walkable}
@@ -11,7 +12,6 @@ use Rattle.pci_number.specs.Hushing.{ClosedUpTo, KeptUpTo, IsHushing}
 use Rattle.pci_number.specs.declared.look.Found.{Found}
 use Rattle.pci_number.proofs.Passing.{rest, Came, came_first, came_past, at_bridge, came_beyond}
 use Rattle.pci_number.proofs.Places.{IsPlaceOf}
-use Rattle.pci_number.proofs.Reached.{or_none}
 use Rattle.pci_number.proofs.Views.{seen_alone, same_node, same_others}
 
 -- what is known of the nodes from a place on
@@ -31,10 +31,6 @@ hush_start before bus = hushing_of before before bus 0 false false (λ v high la
   (λ after closed same. (after, refl, same, closed, refl)),
   (λ after same. (after, refl, same)),
 ))
-
-or_all : (b : Bool) → (b || true) ≡ true
-or_all true = refl
-or_all false = refl
 
 pub hush_pass : (before now : Board) (slot : Slot) (bus place : ℕ) (more bridges : Bool) (found : Found) → IsPlaceOf slot bus place → IsLooked now slot more found → found.bridge ≡ false → IsHushing before bus place more bridges now → IsHushing before bus (place + 1) found.more bridges now
 hush_pass before now slot bus place more bridges found at looked none hushing = hushing_of before now bus (place + 1) found.more bridges (λ v high last nodes is seen walkable.
@@ -57,7 +53,7 @@ hush_close before now after_it slot bus place more bridges found at looked one s
     came_beyond now after_it slot bus place 0 0 0 found.more (UpTo v nodes bridges) (UpTo v nodes true) b s.0 b.behind 0 0 0 at s.1 s.3 (omega arith) (omega arith) (omega arith) (
       (λ after closed same.
           let w = b.known.0 (Node d f s.0 b.behind after) ((λ is_one. s.3), closed) (same_node d f b.image s.0 b.behind b.behind b.others after b.bridge s.2 refl same) in
-          (w.0, w.1, w.2, w.3, w.4 ∙ ap (λ x. bridges || (x || has_bridges after)) kind ∙ or_all bridges)),
+          (w.0, w.1, w.2, w.3, w.4 ∙ ap (λ x. bridges || (x || has_bridges after)) kind ∙ or-true bridges)),
       (λ after same. b.known.1 (Node d f s.0 b.behind after) (same_node d f b.image s.0 b.behind b.behind b.others after b.bridge s.2 refl same)),
     ))
 
@@ -84,4 +80,4 @@ hush_done before now bus more bridges hushing = λ v high last nodes is seen wal
     let h = hushing v high last nodes is seen walkable in
     let none = no_more h.0.device more h.0.nodes h.1.has in
     let w = h.3 NoMore tt (ap without_numbers (sym none)) in
-    (w.0, h.1.is ∙ ap h.0.view.fill none ∙ w.1, w.2, w.3, w.4 ∙ or_none bridges)
+    (w.0, h.1.is ∙ ap h.0.view.fill none ∙ w.1, w.2, w.3, w.4 ∙ or-false bridges)

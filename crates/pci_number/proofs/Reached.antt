@@ -1,17 +1,14 @@
 -- The nodes of a bus that a walk finds, from the first place on.
-use Rattle.std.proofs.Common.{◌≡◌, ◌≢◌, ℕ, ◌+◌, ◌*◌, ◌<◌, ◌≤◌, ◌⊎◌, inl, inr, Bool, true, false, ◌&&◌, ◌||◌, not, arith, refl, sym, ◌∙◌, ap, subst, List}
+use Rattle.std.proofs.Common.{◌≡◌, ◌≢◌, ℕ, ◌+◌, ◌*◌, ◌<◌, ◌≤◌, ◌⊎◌, inl, inr, Bool, true, false, ◌&&◌, not, arith, refl, sym, ◌∙◌, ap, subst, List}
 use Rattle.std.specs.Bool.{nat_lt, ◌==◌}
 use Rattle.std.proofs.lemmas.Bool.{and_parts, and_from, or_cases, both_ways, eqb-true, eqb-false, eq-eqb, ne_eqb, ltb-true, cases_eq, false_from_ne_true, not-true}
+use Rattle.std.proofs.Math.Bool.{or-false}
 use Rattle.pci_spec.specs.Number.{byte_at, has_bit}
 use Rattle.pci_spec.specs.Header.{vendor_id}
 use Rattle.pci_spec.proofs.BusRanges.{second_side}
 use Rattle.number_spec.specs.Board.{Nodes, NoMore, Node}
 use Rattle.number_spec.specs.Walk.{has_more, is_found, comes_before, all_after, is_rising, is_all_found, is_walkable}
 use Rattle.pci_number.specs.Seen.{IsRest}
-
-pub or_none : (b : Bool) → (b || false) ≡ b
-or_none true = refl
-or_none false = refl
 
 before : (device function d f : ℕ) → comes_before device function d f ≡ true → (device < d) ⊎ ((device ≡ d) × (function < f))
 before device function d f comes = elim (or_cases (nat_lt device d) (device == d && nat_lt function f) comes) [
@@ -37,7 +34,7 @@ of_first : (d f : ℕ) (image : List ℕ) (behind others : Nodes) → f ≡ 0 �
 of_first d f image behind others zero after =
     let same : (d == d) ≡ true = eq-eqb d d refl in
     let first : (f == 0) ≡ true = eq-eqb f 0 zero in
-    rw (same, first, none_more others d f after) (or_none (has_bit (byte_at image 14) 7))
+    rw (same, first, none_more others d f after) (or-false (has_bit (byte_at image 14) 7))
 
 of_later : (d f : ℕ) (image : List ℕ) (behind others : Nodes) → f ≢ 0 → all_after d f others ≡ true → has_more (Node d f image behind others) d ≡ false
 of_later d f image behind others some after =

@@ -1,10 +1,10 @@
 -- What is numbered behind a root bus.
-use Rattle.std.proofs.Common.{◌≡◌, ℕ, inl, inr, List, [], ◌∷◌, ◌++◌, Bool, true, false, arith, refl, sym, ◌∙◌, ap, subst, map, None}
+use Rattle.std.proofs.Common.{◌≡◌, ℕ, inl, inr, Bool, true, false, arith, refl, sym, ◌∙◌, ap, subst, None}
 use Rattle.std.specs.Bool.{◌==◌}
 use Rattle.std.specs.List.{flat_map}
 use Rattle.std.proofs.lemmas.Bool.{eq-eqb, ne_eqb}
-use Rattle.pci_spec.specs.Slot.{Slot}
-use Rattle.number_spec.specs.Board.{Nodes, Root, Board, Place, at_root, image_at}
+use Rattle.std.proofs.lemmas.List.{append-nil}
+use Rattle.number_spec.specs.Board.{Nodes, Board, image_at}
 use Rattle.number_spec.specs.Access.{nodes_behind, with_byte, with_nodes}
 use Rattle.number_spec.specs.Walk.{is_walkable}
 use Rattle.number_spec.specs.Numbered.{without_numbers}
@@ -13,6 +13,7 @@ use Rattle.number_spec.specs.Spare.{spare_room}
 use Rattle.number_spec.specs.NoBus.{first_without}
 use Rattle.number_spec.specs.Ready.{IsReady}
 use Rattle.number_spec.proofs.Kept.{same_walk}
+use Rattle.number_spec.proofs.Roots.{with_root}
 use Rattle.pci_number.specs.Seen.{View, IsSeen, IsClosed}
 use Rattle.pci_number.specs.Steps.{IsHushed, IsHushLeft}
 use Rattle.pci_number.specs.Walked.{IsBusNumbered, IsBusLeft, outset}
@@ -21,28 +22,20 @@ use Rattle.pci_number.specs.declared.number.Numbering.{Numbering}
 use Rattle.pci_number.specs.declared.walk.Walk.{Walk}
 use Rattle.pci_number.proofs.RootView.{only_there, nodes_there, nodes_twice, same_nodes}
 
-pub append_nothing : {A : Type 0} → (xs : List A) → xs ++ [] ≡ xs
-append_nothing [] = refl
-append_nothing (x ∷ xs) = ap (λ ys. x ∷ ys) (append_nothing xs)
-
 abbrev pub root_view : Board → ℕ → View
 root_view board root = record { fill = λ nodes. with_nodes board root nodes; at = λ place. (root, place) }
-
--- the nodes at a root that answer, with its number
-abbrev pub with_root : Slot → Root → List (ℕ × Place)
-with_root access root = map (λ place. (root.number, place)) (at_root root access)
 
 pub seen_root : (board : Board) (root last : ℕ) → IsReady board root last → IsSeen (root_view board root) root 0 root last
 seen_root board root last ready = record {
   here = λ nodes access on from.
       let own : (root == access.bus) ≡ true = eq-eqb root access.bus (sym on) in
       ap (flat_map (with_root access)) (only_there board root last ready nodes access.bus (omega (arith, on)) (inl (omega (arith, on))))
-      ∙ append_nothing (with_root access (record { number = root; nodes = nodes }))
+      ∙ append-nil (with_root access (record { number = root; nodes = nodes }))
       ∙ rw own refl;
   behind = λ nodes access over within.
       let other : (root == access.bus) ≡ false = ne_eqb root access.bus (λ is. omega (arith, is, over)) in
       ap (flat_map (with_root access)) (only_there board root last ready nodes access.bus (omega (arith, over)) (inr within))
-      ∙ append_nothing (with_root access (record { number = root; nodes = nodes }))
+      ∙ append-nil (with_root access (record { number = root; nodes = nodes }))
       ∙ rw other refl;
   image = λ nodes place. ap (λ n. image_at n place) (nodes_there root nodes board (omega (arith, ready.one)));
   byte = λ nodes place offset value.

@@ -1,9 +1,9 @@
 -- Boards that stood one after the other.
 use Rattle.std.proofs.Common.{◌≡◌, inl, inr, List, [], ◌∷◌, ◌++◌, refl, sym, ◌∙◌, ap, subst, Result, Ok, Err}
 use Rattle.std.specs.Result.{IsErr}
+use Rattle.std.proofs.lemmas.List.{append_assoc}
 use Rattle.number_spec.specs.Board.{Board}
 use Rattle.pci_number.specs.Stood.{Each, Adds, Ends, IsOneMore, latest, EachStep, AddsSteps, EndsSteps, StepsOrEnds, moment}
-use Rattle.pci_number.proofs.Stood.{join}
 
 latest_join : (a b : Board) (xs ys : List Board) → latest a xs ≡ b → latest a (ys ++ xs) ≡ latest b ys
 latest_join a b xs [] is = is
@@ -28,7 +28,7 @@ pub steps_one : (R : Board → Board → Type 0) (a : Board) (old : List Board) 
 steps_one R a old b new more said = elim more [ inl none ↦ ([], none.1, tt, sym none.0) | inr one ↦ (b ∷ [], one, (said, tt), refl) ]
 
 pub steps_then : (R : Board → Board → Type 0) (a : Board) (old : List Board) (b : Board) (mid : List Board) (d : Board) (new : List Board) → AddsSteps R (moment a old) (moment b mid) → AddsSteps R (moment b mid) (moment d new) → AddsSteps R (moment a old) (moment d new)
-steps_then R a old b mid d new x y = (y.0 ++ x.0, y.1 ∙ ap (λ xs. y.0 ++ xs) x.1 ∙ join y.0 x.0 old, steps_both R a b x.0 y.0 x.3 x.2 y.2, latest_join a b x.0 y.0 x.3 ∙ y.3)
+steps_then R a old b mid d new x y = (y.0 ++ x.0, y.1 ∙ ap (λ xs. y.0 ++ xs) x.1 ∙ sym (append_assoc y.0 x.0 old), steps_both R a b x.0 y.0 x.3 x.2 y.2, latest_join a b x.0 y.0 x.3 ∙ y.3)
 
 pub steps_as : (R Q : Board → Board → Type 0) → ((p b : Board) → R p b → Q p b) → (a : Board) (old : List Board) (b : Board) (new : List Board) → AddsSteps R (moment a old) (moment b new) → AddsSteps Q (moment a old) (moment b new)
 steps_as R Q so a old b new x = (x.0, x.1, steps_map R Q so a x.0 x.2, x.3)

@@ -1,6 +1,7 @@
 -- Lists of boards that stood.
-use Rattle.std.proofs.Common.{◌≡◌, inl, inr, List, [], ◌∷◌, ◌++◌, refl, ◌∙◌, ap, Result, Ok, Err}
+use Rattle.std.proofs.Common.{◌≡◌, inl, inr, List, [], ◌∷◌, ◌++◌, refl, sym, ◌∙◌, ap, Result, Ok, Err}
 use Rattle.std.specs.Result.{IsErr}
+use Rattle.std.proofs.lemmas.List.{append_assoc}
 use Rattle.number_spec.specs.Board.{Board}
 use Rattle.pci_number.specs.Stood.{Each, Adds, Ends, AddsOrEnds, IsOneMore, moment}
 
@@ -8,15 +9,11 @@ each_both : (P : Board → Type 0) (xs ys : List Board) → Each P xs → Each P
 each_both P [] ys px py = py
 each_both P (x ∷ xs) ys px py = (px.0, each_both P xs ys px.1 py)
 
-pub join : (xs ys zs : List Board) → xs ++ (ys ++ zs) ≡ (xs ++ ys) ++ zs
-join [] ys zs = refl
-join (x ∷ xs) ys zs = ap (λ rest. x ∷ rest) (join xs ys zs)
-
 pub adds_none : (P : Board → Type 0) (old : List Board) → Adds P old old
 adds_none P old = ([], refl, tt)
 
 pub adds_then : (P : Board → Type 0) (old mid new : List Board) → Adds P old mid → Adds P mid new → Adds P old new
-adds_then P old mid new a b = (b.0 ++ a.0, b.1 ∙ ap (λ xs. b.0 ++ xs) a.1 ∙ join b.0 a.0 old, each_both P b.0 a.0 b.2 a.2)
+adds_then P old mid new a b = (b.0 ++ a.0, b.1 ∙ ap (λ xs. b.0 ++ xs) a.1 ∙ sym (append_assoc b.0 a.0 old), each_both P b.0 a.0 b.2 a.2)
 
 pub adds_one : (P : Board → Type 0) (was : Board) (old : List Board) (board : Board) (new : List Board) → IsOneMore (moment was old) (moment board new) → P board → Adds P old new
 adds_one P was old board new more said = elim more [ inl same ↦ ([], same.1, tt) | inr one ↦ (board ∷ [], one, (said, tt)) ]

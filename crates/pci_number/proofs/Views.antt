@@ -1,11 +1,12 @@
 -- From one node of a bus to the next, and to the bus behind it.
-use Rattle.std.proofs.Common.{◌≡◌, ℕ, ◌+◌, ◌*◌, ◌<◌, ◌≤◌, inl, inr, List, [], ◌∷◌, ◌++◌, true, false, ◌&&◌, arith, refl, sym, ◌∙◌, ap, map}
+use Rattle.std.proofs.Common.{◌≡◌, ℕ, ◌+◌, ◌*◌, ◌<◌, ◌≤◌, inl, inr, List, [], true, false, ◌&&◌, arith, refl, sym, ◌∙◌, ap, map}
 use Rattle.std.specs.Bool.{nat_lt, nat_le, ◌==◌}
 use Rattle.std.proofs.lemmas.Bool.{and_parts, and_from, eqb-true, eq-eqb, lt-ltb, le-leb, cases_Bool, false_from_ne_true}
+use Rattle.std.proofs.lemmas.List.{append-nil}
 use Rattle.std.proofs.lemmas.Simd.{map-map}
 use Rattle.pci_spec.specs.Slot.{Slot}
 use Rattle.pci_spec.specs.Header.{secondary_bus, subordinate_bus}
-use Rattle.number_spec.specs.Board.{Nodes, NoMore, Node, Place, Behind, Next, is_type_1, on_bus, passes_on, behind_bridges}
+use Rattle.number_spec.specs.Board.{Nodes, NoMore, Node, Behind, Next, is_type_1, on_bus, passes_on, behind_bridges}
 use Rattle.number_spec.specs.Numbered.{without_numbers}
 use Rattle.number_spec.specs.Room.{shows}
 use Rattle.number_spec.proofs.Roomy.{shown}
@@ -81,10 +82,6 @@ closed_answer_nothing (Node d f image behind others) access closed some =
     ] in
     rest_alone d f image behind others access idle ∙ ap (map Next) (closed_answer_nothing others access closed.1 some)
 
-append_none : (xs : List Place) → xs ++ [] ≡ xs
-append_none [] = refl
-append_none (x ∷ xs) = ap (λ ys. x ∷ ys) (append_none xs)
-
 pub seen_inside : (v : View) (bus from high last p s u d f : ℕ) (image : List ℕ) (others : Nodes) → IsSeen v bus from high last → is_type_1 image ≡ true → shows image p s u ≡ true → high < s → s ≤ last → u ≤ last → IsClosed others → IsSeen (inside v d f image others) s 0 s u
 seen_inside v bus from high last p s u d f image others seen bridge numbers over within end closed =
     let show = shown image p s u numbers in
@@ -92,7 +89,7 @@ seen_inside v bus from high last p s u d f image others seen bridge numbers over
       here = λ nodes access on it_is.
           let takes : (is_type_1 image && secondary_bus image == access.bus) ≡ true = and_from (is_type_1 image) (secondary_bus image == access.bus) bridge (eq-eqb (secondary_bus image) access.bus (show.secondary ∙ sym on)) in
           let only : behind_bridges (Node d f image nodes others) access ≡ map Behind (on_bus nodes access) =
-          rw (takes, closed_answer_nothing others access closed (omega (arith, on, over))) (append_none (map Behind (on_bus nodes access))) in
+          rw (takes, closed_answer_nothing others access closed (omega (arith, on, over))) (append-nil (map Behind (on_bus nodes access))) in
           seen.behind (Node d f image nodes others) access (omega (arith, on, over)) (omega (arith, on, within))
           ∙ ap (map v.at) only ∙ map-map v.at Behind (on_bus nodes access);
       behind = λ nodes access above upto.
@@ -102,7 +99,7 @@ seen_inside v bus from high last p s u d f image others seen bridge numbers over
           let passes : (is_type_1 image && passes_on image access.bus) ≡ true = and_from (is_type_1 image) (passes_on image access.bus) bridge
           (and_from (nat_lt (secondary_bus image) access.bus) (nat_le access.bus (subordinate_bus image)) (lt-ltb (secondary_bus image) access.bus (omega (arith, show.secondary, above))) (le-leb access.bus (subordinate_bus image) (omega (arith, show.subordinate, upto)))) in
           let only : behind_bridges (Node d f image nodes others) access ≡ map Behind (behind_bridges nodes access) =
-          rw (apart, passes, closed_answer_nothing others access closed (omega (arith, over, above))) (append_none (map Behind (behind_bridges nodes access))) in
+          rw (apart, passes, closed_answer_nothing others access closed (omega (arith, over, above))) (append-nil (map Behind (behind_bridges nodes access))) in
           seen.behind (Node d f image nodes others) access (omega (arith, over, above)) (omega (arith, upto, end))
           ∙ ap (map v.at) only ∙ map-map v.at Behind (behind_bridges nodes access);
       image = λ nodes place. seen.image (Node d f image nodes others) (Behind place);

@@ -11,6 +11,7 @@ use Rattle.number_spec.specs.Room.{shows, last_behind, have_numbers}
 use Rattle.number_spec.specs.Spare.{spare_room}
 use Rattle.number_spec.specs.NoBus.{first_of, first_without}
 use Rattle.number_spec.proofs.Kept.{same_walk}
+use Rattle.number_spec.proofs.Same.{first_device}
 use Rattle.number_spec.proofs.Spare.{spare_stays}
 use Rattle.number_spec.proofs.Roomy.{closed as shut_of}
 use Rattle.number_spec.proofs.Roomy.{shown, opened, within_last}
@@ -64,9 +65,6 @@ first_node bus taken d f image behind others u bridge numbers =
 
 last_device : (taken d f : ℕ) (image : List ℕ) (behind others : Nodes) → is_type_1 image ≡ false → last_behind taken (Node d f image behind others) ≡ last_behind taken others
 last_device taken d f image behind others plain = rw plain refl
-
-first_device : (bus d f : ℕ) (image : List ℕ) (behind others : Nodes) → is_type_1 image ≡ false → first_without bus (Node d f image behind others) ≡ first_without bus others
-first_device bus d f image behind others plain = rw plain refl
 
 -- ---- a bus without bridges
 
