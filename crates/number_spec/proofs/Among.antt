@@ -16,12 +16,12 @@ use Rattle.number_spec.proofs.Roomy.{roomy, within_top}
 
 -- ---- the one root with a number
 
-record Only (n : ℕ) (board : Board) : Type 0 where
-  root : Root
-  has : Contains board root
-  number : root.number ≡ n
-  nodes : nodes_behind board n ≡ root.nodes
-  one : (r : Root) → Contains board r → r.number ≡ n → r ≡ root
+pub record Only (n : ℕ) (board : Board) : Type 0 where
+  pub root : Root
+  pub has : Contains board root
+  pub number : root.number ≡ n
+  pub nodes : nodes_behind board n ≡ root.nodes
+  pub one : (r : Root) → Contains board r → r.number ≡ n → r ≡ root
 
 none_there : (n : ℕ) (board : Board) → length (filter (λ (o : Root). o.number == n) board) ≡ 0 → (r : Root) → Contains board r → r.number ≡ n → ⊥
 none_there n [] none r has is = in_nil r has
@@ -35,7 +35,7 @@ none_there n (o ∷ rest) none r has is = elim (cases_Bool (o.number == n)) [
       ]
 ]
 
-only : (n : ℕ) (board : Board) → length (filter (λ (o : Root). o.number == n) board) ≡ 1 → Only n board
+pub only : (n : ℕ) (board : Board) → length (filter (λ (o : Root). o.number == n) board) ≡ 1 → Only n board
 only n [] one = absurd (omega (arith, one))
 only n (r ∷ rest) one = elim (cases_Bool (r.number == n)) [
   | inl own ↦

@@ -2,7 +2,7 @@
 use Rattle.std.proofs.Common.{◌≡◌, ℕ, suc, inl, inr, [], ◌∷◌, true, ◌||◌, refl, sym, ◌∙◌, ap, subst, length}
 use Rattle.std.specs.Bool.{nat_le, nat_lt, ◌==◌}
 use Rattle.std.specs.List.{filter, list_all}
-use Rattle.std.proofs.lemmas.Bool.{and_parts, eqb-true, eq-eqb, cases_Bool}
+use Rattle.std.proofs.lemmas.Bool.{eq-eqb, cases_Bool}
 use Rattle.pci_spec.specs.Header.{secondary_bus}
 use Rattle.number_spec.specs.Board.{Nodes, NoMore, Node, Board}
 use Rattle.number_spec.specs.Access.{nodes_behind, with_nodes}
@@ -20,7 +20,7 @@ use Rattle.pci_number.specs.Answer.{named_by, highest_of, IsAnswer}
 use Rattle.pci_number.specs.Again.{IsStanding, NumbersStand}
 use Rattle.pci_number.specs.declared.number.Numbering.{Numbering}
 use Rattle.pci_number.specs.declared.number.Numbering.TheVariants.{Numbered, NoBus}
-use Rattle.pci_number.proofs.RootView.{same_nodes}
+use Rattle.pci_number.proofs.RootView.{same_nodes, all_same}
 
 -- ---- a board that may be numbered may be so with other numbers
 
@@ -31,22 +31,10 @@ count_stays root nodes (r ∷ roots) = elim (cases_Bool (r.number == root)) [
   | inr other ↦ rw (other, other) (count_stays root nodes roots)
 ]
 
-apart_stays : (root last : ℕ) (nodes : Nodes) (board : Board) → list_all (λ other. nat_le other.number root || nat_lt last other.number) board ≡ true → list_all (λ other. nat_le other.number root || nat_lt last other.number) (with_nodes board root nodes) ≡ true
-apart_stays root last nodes [] apart = refl
-apart_stays root last nodes (r ∷ roots) apart =
-    let parts = and_parts (nat_le r.number root || nat_lt last r.number) (list_all (λ other. nat_le other.number root || nat_lt last other.number) roots) apart in
-    let rest = apart_stays root last nodes roots parts.1 in
-    elim (cases_Bool (r.number == root)) [
-      | inl own ↦
-          let first : (nat_le root root || nat_lt last root) ≡ true = subst (λ n. (nat_le n root || nat_lt last n) ≡ true) (eqb-true r.number root own) parts.0 in
-          rw (own, first) rest
-      | inr other ↦ let first = parts.0 in rw (other, first) rest
-    ]
-
 pub ready_stays : (before after : Board) (root last : ℕ) → IsReady before root last → after ≡ with_nodes before root (nodes_behind after root) → without_numbers (nodes_behind before root) ≡ without_numbers (nodes_behind after root) → IsReady after root last
 ready_stays before after root last ready others same = record {
   one = ap (λ b. length (filter (λ other. other.number == root) b)) others ∙ count_stays root (nodes_behind after root) before ∙ ready.one;
-  apart = subst (λ b. list_all (λ other. nat_le other.number root || nat_lt last other.number) b ≡ true) (sym others) (apart_stays root last (nodes_behind after root) before ready.apart);
+  apart = subst (λ b. list_all (λ other. nat_le other.number root || nat_lt last other.number) b ≡ true) (sym others) (all_same (λ n. nat_le n root || nat_lt last n) root (nodes_behind after root) before ∙ ready.apart);
   walkable = sym (same_walk (nodes_behind before root) (nodes_behind after root) same) ∙ ready.walkable;
 }
 

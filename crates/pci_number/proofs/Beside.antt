@@ -2,7 +2,7 @@
 use Rattle.std.proofs.Common.{◌≡◌, ℕ, ◌≤◌, inl, inr, List, [], ◌∷◌, ◌++◌, true, false, ◌&&◌, ◌||◌, arith, refl, sym, ◌∙◌, ap, subst, length}
 use Rattle.std.specs.Bool.{nat_le, nat_lt, ◌==◌}
 use Rattle.std.specs.List.{filter, flat_map, list_all}
-use Rattle.std.proofs.lemmas.Bool.{and_parts, eqb-true, leb-true, cases_Bool, eqb-false}
+use Rattle.std.proofs.lemmas.Bool.{and_parts, leb-true, cases_Bool, eqb-false}
 use Rattle.std.proofs.lemmas.List.{append-nil, length-map}
 use Rattle.pci_spec.specs.Slot.{Slot}
 use Rattle.number_spec.specs.Board.{Nodes, NoMore, Node, Root, Board, on_bus, at_root, goes_to, behind_bridges, answers, IsSingle}
@@ -17,7 +17,7 @@ use Rattle.number_spec.proofs.Single.{once_on_bus}
 use Rattle.number_spec.proofs.Spread.{once_at_root}
 use Rattle.pci_number.specs.Less.{without_own_numbers, IsLessOf}
 use Rattle.pci_number.specs.Single.{IsApart, IsSingleBeside}
-use Rattle.pci_number.proofs.RootView.{root_of, same_nodes, only_there}
+use Rattle.pci_number.proofs.RootView.{root_of, same_nodes, all_same, only_there}
 use Rattle.pci_number.proofs.Roots.{root_view}
 
 -- who is on a bus hangs on no bus number
@@ -29,15 +29,8 @@ same_on_bus : (first second : Nodes) (access : Slot) → without_own_numbers sec
 same_on_bus first second access same = sym (on_bus_still second access) ∙ ap (λ n. on_bus n access) same ∙ on_bus_still first access
 
 -- where an access goes hangs on the numbers of the roots alone
-all_same : (n bus root : ℕ) (nodes : Nodes) (roots : List Root) → list_all (λ other. nat_le other.number n || nat_lt bus other.number) (with_nodes roots root nodes) ≡ list_all (λ other. nat_le other.number n || nat_lt bus other.number) roots
-all_same n bus root nodes [] = refl
-all_same n bus root nodes (r ∷ roots) = elim (cases_Bool (r.number == root)) [
-  | inl own ↦ let is : root ≡ r.number = sym (eqb-true r.number root own) in rw own (ap (λ m. (nat_le m n || nat_lt bus m) && list_all (λ other. nat_le other.number n || nat_lt bus other.number) (with_nodes roots root nodes)) is ∙ ap (λ b. (nat_le r.number n || nat_lt bus r.number) && b) (all_same n bus root nodes roots))
-  | inr other ↦ rw other (ap (λ b. (nat_le r.number n || nat_lt bus r.number) && b) (all_same n bus root nodes roots))
-]
-
 same_goes : (board : Board) (root bus : ℕ) (nodes : Nodes) (r : Root) → goes_to (with_nodes board root nodes) bus r ≡ goes_to board bus r
-same_goes board root bus nodes r = ap (λ b. nat_le r.number bus && b) (all_same r.number bus root nodes board)
+same_goes board root bus nodes r = ap (λ b. nat_le r.number bus && b) (all_same (λ n. nat_le n r.number || nat_lt bus n) root nodes board)
 
 -- it goes to another root, whatever is behind this one
 others_answer : (board : Board) (root : ℕ) (first second : Nodes) (access : Slot) → goes_to board access.bus (root_of root NoMore) ≡ false → (roots : List Root) → flat_map (with_root access) (filter (goes_to (with_nodes board root first) access.bus) (with_nodes roots root first)) ≡ flat_map (with_root access) (filter (goes_to (with_nodes board root second) access.bus) (with_nodes roots root second))

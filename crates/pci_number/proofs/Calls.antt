@@ -1,5 +1,5 @@
 -- What is behind each root after a call for each.
-use Rattle.std.proofs.Common.{◌≡◌, ◌↔◌, ℕ, ◌<◌, ◌⊎◌, inl, inr, List, [], ◌∷◌, true, false, ◌||◌, arith, refl, sym, ◌∙◌, ap, subst, length, map}
+use Rattle.std.proofs.Common.{◌≡◌, ◌↔◌, ℕ, ◌<◌, ◌⊎◌, inl, inr, List, [], ◌∷◌, true, false, ◌||◌, arith, refl, sym, ◌∙◌, ap, subst, length}
 use Rattle.std.specs.Bool.{◌==◌, nat_le, nat_lt, if◌then◌else◌}
 use Rattle.std.specs.List.{Contains, AllPairs, filter}
 use Rattle.std.specs.List.Sorted.{IsStrictlyIncreasing}
@@ -10,7 +10,7 @@ use Rattle.pci_spec.proofs.BusRanges.{all_from}
 use Rattle.pci_spec.proofs.Members.{in_nil, in_cons_cases, in_head, in_tail, in_map_to, in_map_from, pairs_head, pairs_tail}
 use Rattle.pci_spec.specs.NestingLaws.{HasNoBusFault}
 use Rattle.number_spec.specs.Board.{Nodes, Root, Board, Place, answers, access_of, IsSingle}
-use Rattle.number_spec.specs.Access.{nodes_behind, with_nodes}
+use Rattle.number_spec.specs.Access.{nodes_behind}
 use Rattle.number_spec.specs.Walk.{is_rising, is_all_found, is_walkable, walk}
 use Rattle.number_spec.specs.Room.{last_behind, IsNumberedWithRoom}
 use Rattle.number_spec.specs.Spare.{spare_room}
@@ -27,9 +27,7 @@ use Rattle.pci_number.specs.Left.{IsRootNumbered}
 use Rattle.pci_number.specs.Calls.{AreReady, AreNumbered, AreItsRoots, RootsGetNumbers, RootsHaveNoBusFault, RootsGetSingle, RootsAnswerOnce}
 use Rattle.pci_number.specs.declared.number.Numbering.{Numbering}
 use Rattle.pci_number.proofs.Left.{one_root_is_numbered}
-
-abbrev numbers : Board → List ℕ
-numbers board = map (λ (root : Root). root.number) board
+use Rattle.pci_number.proofs.RootView.{numbers, numbers_stay}
 
 abbrev Rises : Board → Type 0
 Rises board = AllPairs (λ m n. m < n) (numbers board)
@@ -83,13 +81,6 @@ module _ (spare : ℕ) (last : ℕ → ℕ) where
         ]);
         walkable = ap is_walkable (ap (nodes_behind board) (sym made.is) ∙ there board made.from rises made.has) ∙ ready.walkable made.from made.has;
       }
-
-  numbers_stay : (n : ℕ) (nodes : Nodes) (board : Board) → numbers (with_nodes board n nodes) ≡ numbers board
-  numbers_stay n nodes [] = refl
-  numbers_stay n nodes (r ∷ rest) = elim (cases_Bool (r.number == n)) [
-    | inl own ↦ let is : r.number ≡ n = eqb-true r.number n own in rw (own, numbers_stay n nodes rest) (ap (λ m. m ∷ numbers rest) (sym is))
-    | inr other ↦ rw (other, numbers_stay n nodes rest) refl
-  ]
 
   module _ (board mid : Board) (n : ℕ) (answer : Numbering) (ready : AreReady last board) (has_it : Contains (numbers board) n) (a : IsAnswer spare board n (last n) answer mid) where
     same_numbers : numbers mid ≡ numbers board

@@ -1,11 +1,14 @@
 -- How a root bus is seen.
-use Rattle.std.proofs.Common.{◌≡◌, ◌≢◌, ℕ, suc, ◌<◌, ◌≤◌, ◌⊎◌, inl, inr, List, [], ◌∷◌, true, false, ◌&&◌, ◌||◌, arith, refl, sym, ◌∙◌, ap, length, replicate}
+use Rattle.std.proofs.Common.{◌≡◌, ◌≢◌, ℕ, suc, ◌<◌, ◌≤◌, ◌⊎◌, inl, inr, List, [], ◌∷◌, Bool, true, false, ◌||◌, arith, refl, sym, ◌∙◌, ap, length, map, replicate}
 use Rattle.std.specs.Bool.{nat_le, nat_lt, ◌==◌}
 use Rattle.std.specs.List.{filter, list_all}
-use Rattle.std.proofs.lemmas.Bool.{and_parts, and_from, or_cases, or_right, eqb-true, eqb-false, eq-eqb, le-leb, leb-true, lt-ltb, ltb-true, cases_lt, cases_Bool, false_from_ne_true}
+use Rattle.std.proofs.lemmas.Bool.{and_parts, and_from, or_cases, or_left, or_right, eqb-true, eqb-false, eq-eqb, le-leb, leb-true, lt-ltb, ltb-true, cases_lt, cases_Bool, false_from_ne_true}
+use Rattle.std.proofs.lemmas.List.Folds.{list_all-map}
+use Rattle.pci_spec.proofs.BusRanges.{all_from, all_gives}
 use Rattle.number_spec.specs.Board.{Nodes, Root, Board, goes_to}
 use Rattle.number_spec.specs.Access.{nodes_behind, with_nodes}
 use Rattle.number_spec.specs.Ready.{IsReady}
+use Rattle.number_spec.proofs.Among.{only}
 
 -- how many roots have a number
 abbrev count : ℕ → Board → ℕ
@@ -52,55 +55,55 @@ nodes_twice root first second (r ∷ roots) = elim (cases_Bool (r.number == root
   | inr other ↦ rw (other, other, nodes_twice root first second roots) refl
 ]
 
--- an access goes to this root
-all_apart : (root last bus : ℕ) (nodes : Nodes) (board : Board) → list_all (λ other. nat_le other.number root || nat_lt last other.number) board ≡ true → (bus ≤ root) ⊎ (bus ≤ last) → list_all (λ other. nat_le other.number root || nat_lt bus other.number) (with_nodes board root nodes) ≡ true
-all_apart root last bus nodes [] apart within = refl
-all_apart root last bus nodes (r ∷ roots) apart within =
-    let parts = and_parts (nat_le r.number root || nat_lt last r.number) (list_all (λ other. nat_le other.number root || nat_lt last other.number) roots) apart in
-    let rest = all_apart root last bus nodes roots parts.1 within in
-    elim (cases_Bool (r.number == root)) [
-      | inl own ↦ let upto : nat_le root root ≡ true = le-leb root root (omega arith) in rw (own, upto, rest) refl
-      | inr other ↦ elim (cases_lt root r.number) [
-        | inr low ↦ let upto : nat_le r.number root ≡ true = le-leb r.number root low in rw (other, upto, rest) refl
-        | inl high ↦
-            let beyond : bus < r.number = elim within [
-              | inl to_root ↦ omega (arith, to_root, high)
-              | inr to_last ↦ elim (or_cases (nat_le r.number root) (nat_lt last r.number) parts.0) [
-                | inl low ↦ absurd (omega (arith, leb-true r.number root low, high))
-                | inr above ↦ omega (arith, ltb-true last r.number above, to_last)
-              ]
-            ] in
-            let test : nat_lt bus r.number ≡ true = lt-ltb bus r.number beyond in
-            rw (other, or_right (nat_le r.number root) (nat_lt bus r.number) test, rest) refl
-      ]
-    ]
+abbrev pub numbers : Board → List ℕ
+numbers board = map (λ (r : Root). r.number) board
 
--- and to none before it
-some_nearer : (root bus n : ℕ) (nodes : Nodes) (board : Board) → 0 < count root board → n < root → root ≤ bus → list_all (λ other. nat_le other.number n || nat_lt bus other.number) (with_nodes board root nodes) ≡ true → ⊥
-some_nearer root bus n nodes [] some before within all = absurd (omega (arith, some))
-some_nearer root bus n nodes (r ∷ roots) some before within all = elim (cases_Bool (r.number == root)) [
-  | inl own ↦
-      let all_of : ((nat_le root n || nat_lt bus root) && list_all (λ other. nat_le other.number n || nat_lt bus other.number) (with_nodes roots root nodes)) ≡ true = rw own at all in
-      let first = (and_parts (nat_le root n || nat_lt bus root) (list_all (λ other. nat_le other.number n || nat_lt bus other.number) (with_nodes roots root nodes)) all_of).0 in
-      elim (or_cases (nat_le root n) (nat_lt bus root) first) [
-        | inl low ↦ omega (arith, leb-true root n low, before)
-        | inr high ↦ omega (arith, ltb-true bus root high, within)
-      ]
-  | inr other ↦
-      let rest : 0 < count root roots = rw other at some in
-      let all_of : ((nat_le r.number n || nat_lt bus r.number) && list_all (λ other. nat_le other.number n || nat_lt bus other.number) (with_nodes roots root nodes)) ≡ true = rw other at all in
-      some_nearer root bus n nodes roots rest before within (and_parts (nat_le r.number n || nat_lt bus r.number) (list_all (λ other. nat_le other.number n || nat_lt bus other.number) (with_nodes roots root nodes)) all_of).1
+pub numbers_stay : (root : ℕ) (nodes : Nodes) (board : Board) → numbers (with_nodes board root nodes) ≡ numbers board
+numbers_stay root nodes [] = refl
+numbers_stay root nodes (r ∷ rest) = elim (cases_Bool (r.number == root)) [
+  | inl own ↦ let is : r.number ≡ root = eqb-true r.number root own in rw (own, numbers_stay root nodes rest) (ap (λ n. n ∷ numbers rest) (sym is))
+  | inr other ↦ rw (other, numbers_stay root nodes rest) refl
+]
+
+-- what is asked of these alone is answered as before
+pub all_same : (test : ℕ → Bool) (root : ℕ) (nodes : Nodes) (board : Board) → list_all (λ (other : Root). test other.number) (with_nodes board root nodes) ≡ list_all (λ (other : Root). test other.number) board
+all_same test root nodes board =
+    sym (list_all-map test (λ (r : Root). r.number) (with_nodes board root nodes)) ∙ ap (list_all test) (numbers_stay root nodes board) ∙ list_all-map test (λ (r : Root). r.number) board
+
+-- what is beyond the last bus of a root is beyond each of its buses
+beyond_it : (root last bus n : ℕ) → (bus ≤ root) ⊎ (bus ≤ last) → (nat_le n root || nat_lt last n) ≡ true → (nat_le n root || nat_lt bus n) ≡ true
+beyond_it root last bus n within apart = elim (cases_lt root n) [
+  | inr low ↦ or_left (nat_le n root) (nat_lt bus n) (le-leb n root low)
+  | inl high ↦
+      let beyond : bus < n = elim within [
+        | inl to_root ↦ omega (arith, to_root, high)
+        | inr to_last ↦ elim (or_cases (nat_le n root) (nat_lt last n) apart) [
+          | inl low ↦ absurd (omega (arith, leb-true n root low, high))
+          | inr above ↦ omega (arith, ltb-true last n above, to_last)
+        ]
+      ] in
+      or_right (nat_le n root) (nat_lt bus n) (lt-ltb bus n beyond)
 ]
 
 module _ (board : Board) (root last : ℕ) (ready : IsReady board root last) (nodes : Nodes) (bus : ℕ) (from : root ≤ bus) (within : (bus ≤ root) ⊎ (bus ≤ last)) where
+  -- an access goes to this root
   own_goes : goes_to (with_nodes board root nodes) bus (root_of root nodes) ≡ true
-  own_goes = and_from (nat_le root bus) (list_all (λ other. nat_le other.number root || nat_lt bus other.number) (with_nodes board root nodes)) (le-leb root bus from) (all_apart root last bus nodes board ready.apart within)
+  own_goes = and_from (nat_le root bus) (list_all (λ other. nat_le other.number root || nat_lt bus other.number) (with_nodes board root nodes)) (le-leb root bus from)
+      (all_same (λ n. nat_le n root || nat_lt bus n) root nodes board ∙ all_from (λ other. nat_le other.number root || nat_lt bus other.number) board (λ r has.
+      beyond_it root last bus r.number within (all_gives (λ other. nat_le other.number root || nat_lt last other.number) board ready.apart r has)))
 
+  -- and to none before it
   other_goes_not : (r : Root) → r.number ≢ root → (nat_le r.number root || nat_lt last r.number) ≡ true → goes_to (with_nodes board root nodes) bus r ≡ false
   other_goes_not r other apart = false_from_ne_true _ (λ goes.
       let parts = and_parts (nat_le r.number bus) (list_all (λ o. nat_le o.number r.number || nat_lt bus o.number) (with_nodes board root nodes)) goes in
       elim (cases_lt r.number root) [
-        | inl before ↦ some_nearer root bus r.number nodes board (omega (arith, ready.one)) before from parts.1
+        | inl before ↦
+            let own = only root board ready.one in
+            let all = sym (all_same (λ n. nat_le n r.number || nat_lt bus n) root nodes board) ∙ parts.1 in
+            elim (or_cases (nat_le own.root.number r.number) (nat_lt bus own.root.number) (all_gives (λ o. nat_le o.number r.number || nat_lt bus o.number) board all own.root own.has)) [
+              | inl low ↦ omega (arith, leb-true own.root.number r.number low, own.number, before)
+              | inr high ↦ omega (arith, ltb-true bus own.root.number high, own.number, from)
+            ]
         | inr beyond ↦ elim (or_cases (nat_le r.number root) (nat_lt last r.number) apart) [
           | inl low ↦ other (omega (arith, leb-true r.number root low, beyond))
           | inr above ↦ let upto = leb-true r.number bus parts.0 in elim within [
