@@ -1,8 +1,7 @@
 -- A bridge behind which all have their numbers, whether there are bridges behind it or not.
-use Rattle.std.proofs.Common.{◌≡◌, ℕ, ◌+◌, ◌<◌, ◌≤◌, Bool, true, false, arith, ◌∙◌, subst, List}
+use Rattle.std.proofs.Common.{◌≡◌, ℕ, ◌+◌, ◌<◌, ◌≤◌, Bool, true, false, arith, subst, List}
 use Rattle.pci_spec.specs.Slot.{Slot}
 use Rattle.number_spec.specs.Board.{Board, IsSingle}
-use Rattle.number_spec.proofs.Kept.{same_walk}
 use Rattle.pci_number.specs.Steps.{IsOpened}
 use Rattle.pci_number.specs.Few.{IsOpenFew, IsBusFew}
 use Rattle.pci_number.specs.Walked.{IsBusNumbered, outset}
@@ -10,9 +9,8 @@ use Rattle.pci_number.specs.Stood.{Adds}
 use Rattle.pci_number.specs.declared.walk.Walk.{Walk}
 use Rattle.pci_number.proofs.Few.{IsBegunFew, begun_few_alone, begun_few_wide}
 use Rattle.pci_number.proofs.Showing.{IsOpenOk}
-use Rattle.pci_number.proofs.Standing.{Bridge, IsBusOk, IsOpenEnd, opened_here, stood_here, seen_there, apart_there}
+use Rattle.pci_number.proofs.Standing.{Bridge, IsBusOk, IsOpenEnd, stood_here, bus_there}
 use Rattle.pci_number.proofs.Stood.{adds_then}
-use Rattle.pci_number.proofs.Views.{inside}
 use Rattle.pci_number.proofs.Walking.{one_more, IsBegun, begun_alone, begun_wide}
 
 -- what is known where it leads on: of the board, of the writes that were made, of the boards that stood, of failures
@@ -54,10 +52,8 @@ module _ (spare : ℕ) (now mid : Board) (slot : Slot) (last : ℕ) (walk : Walk
     begun = begun_wide spare now mid far slot last walk after left gets bus up;
     few = begun_few_wide spare now mid slot last walk total opened_by far_by left gets opened_few bus_few;
     stood = λ b.
-        let o = opened_here now slot last walk old new more b true mid left gets in
         adds_then IsSingle old newer newest (stood_here now slot last walk old new newer more b left opened_ok)
-        (bus_ok (inside b.view slot.device slot.function o.0 b.others) o.1 o.2 (seen_there now slot last walk old new more b o.0 left o.3 o.5) (same_walk o.1 b.behind o.4 ∙ b.inner) o.6
-        (apart_there now slot last walk old new more b o.0 o.1 left o.3 o.4 o.5));
+        (bus_there now mid slot last walk old new more b (Adds IsSingle newer newest) left gets bus_ok);
     above = up;
     counted = none_failed;
   }

@@ -7,19 +7,19 @@ use Rattle.number_spec.specs.Access.{nodes_behind}
 use Rattle.number_spec.specs.Walk.{is_walkable, all_after}
 use Rattle.number_spec.specs.Numbered.{without_numbers}
 use Rattle.number_spec.specs.NoBus.{bridges}
-use Rattle.number_spec.proofs.Kept.{kind_stays, same_walk}
+use Rattle.number_spec.proofs.Kept.{kind_stays}
 use Rattle.pci_number.specs.Seen.{View, code, IsSeen, IsClosed}
 use Rattle.pci_number.specs.Steps.{IsPut, IsLooked, IsShownAt, IsHushed, IsOpened}
 use Rattle.pci_number.specs.Few.{bridges_on, IsFew, IsHushFew, IsOpenFew, IsBusFew}
 use Rattle.pci_number.specs.declared.look.Found.{Found}
 use Rattle.pci_number.specs.declared.walk.Walk.{Walk}
 use Rattle.pci_number.specs.Walked.{outset}
-use Rattle.pci_number.proofs.Opening.{shows_another}
+use Rattle.pci_number.proofs.Opening.{shows_another, open_hushed, opened_inside}
 use Rattle.pci_number.proofs.Passing.{Came, came_first, came_past, at_bridge, came_beyond}
 use Rattle.pci_number.proofs.Places.{IsPlaceOf}
 use Rattle.pci_number.proofs.RootView.{same_nodes}
 use Rattle.pci_number.proofs.Roots.{root_view, seen_root, at_root_now, start}
-use Rattle.pci_number.proofs.Views.{inside, seen_alone, seen_inside}
+use Rattle.pci_number.proofs.Views.{inside, seen_alone}
 use Rattle.pci_number.proofs.Walking.{one_more, IsBegun}
 
 -- ---- how many bridges there are
@@ -88,8 +88,7 @@ hush_few_close before now slot bus place more found made total more_made at look
 pub open_few : (before first : Board) (slot : Slot) (bus last made shown_by hushed_by total : ℕ) → IsShownAt before slot slot.bus bus bus first → shown_by ≤ made + 3 → IsHushFew first bus shown_by hushed_by → total ≤ hushed_by + 1 → IsOpenFew before slot bus last made total
 open_few before first slot bus last made shown_by hushed_by total show three hush one = λ v high image behind others is seen alone bridge closed walkable over within.
     let s = show v high last image behind others is seen alone in
-    let on_it = seen_inside v slot.bus (code slot) high last slot.bus bus bus slot.device slot.function s.0 others seen (s.2.kind ∙ bridge) s.3 (omega (arith, over)) within within closed in
-    omega (arith, three, one, hush (inside v slot.device slot.function s.0 others) bus bus behind s.1 on_it walkable)
+    omega (arith, three, one, hush (inside v slot.device slot.function s.0 others) bus bus behind s.1 (open_hushed v high last slot bus s.0 others seen (s.2.kind ∙ bridge) s.3 over within closed) walkable)
 
 -- ---- the walk over a bus
 
@@ -125,10 +124,9 @@ begun_few_alone now slot last walk total opened_by left few = λ view image behi
 
 pub begun_few_wide : (spare : ℕ) (now mid : Board) (slot : Slot) (last : ℕ) (walk : Walk) (total opened_by far_by : ℕ) → walk.taken < last → IsOpened now slot (walk.taken + 1) last true mid → IsOpenFew now slot (walk.taken + 1) last total opened_by → IsBusFew mid (outset (walk.taken + 1) last spare (one_more walk)) opened_by far_by → IsBegunFew now slot last walk.taken total far_by
 begun_few_wide spare now mid slot last walk total opened_by far_by left gets few bus = λ view image behind others is seen alone bridge closed walkable.
-    let o = gets view walk.taken image behind others is seen alone bridge closed walkable (omega arith) (omega (arith, left)) in
-    let seen_behind = seen_inside view slot.bus (code slot) walk.taken last slot.bus (walk.taken + 1) last slot.device slot.function o.0 others seen (o.3.kind ∙ bridge) o.5 (omega arith) (omega (arith, left)) (omega arith) closed in
-    let behind_it = bus (inside view slot.device slot.function o.0 others) o.1 o.2 seen_behind (same_walk o.1 behind o.4 ∙ walkable) o.6 in
-    omega (arith, few view walk.taken image behind others is seen alone bridge closed walkable (omega arith) (omega (arith, left)), behind_it, same_bridges o.1 behind o.4, same_on o.1 behind o.4)
+    let o = opened_inside now mid slot (walk.taken + 1) last gets view walk.taken image behind others is seen alone bridge closed walkable (omega arith) (omega (arith, left)) in
+    let behind_it = bus (inside view slot.device slot.function o.new others) o.nodes o.is o.seen o.walkable o.closed in
+    omega (arith, few view walk.taken image behind others is seen alone bridge closed walkable (omega arith) (omega (arith, left)), behind_it, same_bridges o.nodes behind o.same, same_on o.nodes behind o.same)
 
 pub walk_count_led : (before now far later : Board) (slot : Slot) (bus place spare last : ℕ) (start walk after_behind after : Walk) (more : Bool) (found : Found) (made total far_by put_by : ℕ) → IsPlaceOf slot bus place → IsLooked now slot more found → found.bridge ≡ true → walk.taken < last → IsBegun spare now far slot last walk after_behind → IsPut far slot 0x1a after.taken later → after_behind.taken ≤ after.taken → IsBegunFew now slot last walk.taken total far_by → put_by ≤ far_by + 1 → IsWalkCounted before bus last start place more walk now made total → IsWalkCounted before bus last start (place + 1) found.more after later made put_by
 walk_count_led before now far later slot bus place spare last start walk after_behind after more found made total far_by put_by at looked one left begun put above far_few put_few counted = λ v nodes is seen walkable closed.

@@ -1,11 +1,14 @@
 -- A bridge gets a bus.
 use Rattle.std.proofs.Common.{◌≡◌, ℕ, ◌+◌, ◌≤◌, Bool, true, false, arith, refl, ◌∙◌, List}
 use Rattle.pci_spec.specs.Slot.{Slot}
-use Rattle.number_spec.specs.Board.{Nodes, Board, is_type_1}
+use Rattle.number_spec.specs.Board.{Nodes, Node, Board, is_type_1}
+use Rattle.number_spec.specs.Walk.{is_walkable}
+use Rattle.number_spec.specs.Numbered.{without_numbers}
 use Rattle.number_spec.specs.Room.{shows}
+use Rattle.number_spec.proofs.Kept.{same_walk}
 use Rattle.number_spec.proofs.Roomy.{shown}
 use Rattle.pci_number.specs.Seen.{View, code, IsSeen, IsClosed, IsKeptBut}
-use Rattle.pci_number.specs.Steps.{IsPut, IsTouched, IsShownAt, IsLeftAt, IsHushed, IsHushLeft, IsOpened, IsOpenLeft}
+use Rattle.pci_number.specs.Steps.{IsPut, IsTouched, IsAlike, IsShownAt, IsLeftAt, IsHushed, IsHushLeft, OfOpening, IsOpened, IsOpenLeft}
 use Rattle.pci_number.proofs.Bytes.{other_byte, alike_subordinate, alike_then, shows_from}
 use Rattle.pci_number.proofs.Views.{inside, seen_inside}
 use Rattle.pci_spec.specs.Number.{byte_at}
@@ -50,3 +53,30 @@ opened_wide before first second after slot bus last show hush put = λ v high im
     let h = hush (inside v slot.device slot.function s.0 others) bus bus behind s.1 (open_hushed v high last slot bus s.0 others seen (s.2.kind ∙ bridge) s.3 over within closed) walkable in
     let p = put v high last s.0 h.0 others h.1 seen alone in
     (p.0, h.0, p.1, alike_then image s.0 p.0 s.2 (alike_subordinate s.0 p.0 p.2), h.2, shows_another s.0 p.0 slot.bus bus bus last s.3 p.2 p.3, h.3, h.4)
+
+-- the bus behind a bridge that was opened for bridges there
+pub record Inside (slot : Slot) (bus : ℕ) (last : ℕ) (v : View) (image : List ℕ) (behind : Nodes) (others : Nodes) (now : Board) : Type 0 where
+  pub new : List ℕ
+  pub nodes : Nodes
+  pub is : now ≡ v.fill (Node slot.device slot.function new nodes others)
+  pub alike : IsAlike image new
+  pub same : without_numbers nodes ≡ without_numbers behind
+  pub numbers : shows new slot.bus bus last ≡ true
+  pub seen : IsSeen (inside v slot.device slot.function new others) bus 0 bus last
+  pub walkable : is_walkable nodes ≡ true
+  pub closed : IsClosed nodes
+
+pub opened_inside : (before now : Board) (slot : Slot) (bus last : ℕ) → IsOpened before slot bus last true now → OfOpening before slot bus last (λ v image behind others. Inside slot bus last v image behind others now)
+opened_inside before now slot bus last opened = λ v high image behind others is seen alone bridge closed walkable over within.
+    let o = opened v high image behind others is seen alone bridge closed walkable over within in
+    record {
+      new = o.0;
+      nodes = o.1;
+      is = o.2;
+      alike = o.3;
+      same = o.4;
+      numbers = o.5;
+      seen = seen_inside v slot.bus (code slot) high last slot.bus bus last slot.device slot.function o.0 others seen (o.3.kind ∙ bridge) o.5 (omega (arith, over)) within (omega arith) closed;
+      walkable = same_walk o.1 behind o.4 ∙ walkable;
+      closed = o.6;
+    }

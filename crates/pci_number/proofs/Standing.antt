@@ -1,6 +1,5 @@
 -- The board is single on the walk over a bus, place by place.
-use Rattle.std.proofs.Common.{◌≡◌, ℕ, ◌+◌, ◌<◌, ◌≤◌, inl, inr, Bool, true, false, arith, refl, sym, ◌∙◌, subst, List, Result}
-use Rattle.std.specs.Bool.{if◌then◌else◌}
+use Rattle.std.proofs.Common.{◌≡◌, ℕ, ◌+◌, ◌<◌, ◌≤◌, inl, inr, Bool, true, false, arith, refl, sym, subst, List, Result}
 use Rattle.std.specs.Result.{IsErr}
 use Rattle.std.proofs.lemmas.Bool.{both_ways}
 use Rattle.pci_spec.specs.Slot.{Slot}
@@ -10,8 +9,7 @@ use Rattle.number_spec.specs.Numbered.{without_numbers}
 use Rattle.number_spec.specs.Room.{shows}
 use Rattle.number_spec.specs.Spare.{spare_room}
 use Rattle.number_spec.specs.Spread.{IsSpread}
-use Rattle.number_spec.proofs.Kept.{same_walk}
-use Rattle.pci_number.specs.Seen.{View, code, IsSeen, IsClosed, has_bridges}
+use Rattle.pci_number.specs.Seen.{View, code, IsSeen, IsClosed}
 use Rattle.pci_number.specs.Steps.{IsPut, IsLooked, IsAlike, IsOpened}
 use Rattle.pci_number.specs.Spare.{IsLed}
 use Rattle.pci_number.specs.Single.{IsApart, IsBusStood, IsWalkStanding}
@@ -20,10 +18,10 @@ use Rattle.pci_number.specs.declared.look.Found.{Found}
 use Rattle.pci_number.specs.declared.walk.Walk.{Walk}
 use Rattle.pci_number.specs.Walked.{outset}
 use Rattle.pci_number.proofs.Bytes.{alike_itself, alike_subordinate, alike_then}
-use Rattle.pci_number.proofs.Opening.{shows_another}
+use Rattle.pci_number.proofs.Opening.{shows_another, opened_inside}
 use Rattle.pci_number.proofs.Passing.{Came, came_first, came_past, AtBridge, at_bridge, came_beyond}
 use Rattle.pci_number.proofs.Places.{IsPlaceOf}
-use Rattle.pci_number.proofs.Views.{next, inside, seen_inside, same_others}
+use Rattle.pci_number.proofs.Views.{next, inside, same_others}
 use Rattle.pci_number.proofs.Walking.{one_more, IsBegun}
 use Rattle.pci_number.proofs.Apart.{shut_from, closed_spread, numbered_spread, spread_more, spread_lead, single_with, apart_next, apart_inside}
 use Rattle.pci_number.proofs.Showing.{IsOpenOk}
@@ -105,29 +103,28 @@ stand_given spare before now later slot bus place last start walk walk_after old
       n.stood,
     ))
 
-pub opened_here : (now : Board) (slot : Slot) (last : ℕ) (walk : Walk) (old new : List Board) (more : Bool) (b : Bridge now slot last walk old new more) (bridges : Bool) (later : Board) → walk.taken < last → IsOpened now slot (walk.taken + 1) last bridges later → (shown_now : List ℕ) × (behind : Nodes) × (later ≡ b.view.fill (Node slot.device slot.function shown_now behind b.others)) × IsAlike b.image shown_now × (without_numbers behind ≡ without_numbers b.behind) × (shows shown_now slot.bus (walk.taken + 1) (if bridges then last else walk.taken + 1) ≡ true) × IsClosed behind × (has_bridges behind ≡ bridges)
-opened_here now slot last walk old new more b bridges later left gets = gets b.view walk.taken b.image b.behind b.others b.is b.seen b.alone b.bridge b.known.0.1 b.inner (omega arith) (omega (arith, left))
-
 pub stood_here : (now : Board) (slot : Slot) (last : ℕ) (walk : Walk) (old new newer : List Board) (more : Bool) (b : Bridge now slot last walk old new more) → walk.taken < last → IsOpenOk now slot (walk.taken + 1) last new newer → Adds IsSingle old newer
 stood_here now slot last walk old new newer more b left gets =
     adds_then IsSingle old new newer b.known.2 (gets b.view walk.taken b.image b.behind b.others b.is b.seen b.alone b.bridge (b.known.0.0 b.bridge) b.known.0.1 b.inner (omega arith) (omega (arith, left)) b.known.1)
 
--- what is seen behind it, and that the board is single with that
-pub seen_there : (now : Board) (slot : Slot) (last : ℕ) (walk : Walk) (old new : List Board) (more : Bool) (b : Bridge now slot last walk old new more) (shown_now : List ℕ) → walk.taken < last → IsAlike b.image shown_now → shows shown_now slot.bus (walk.taken + 1) last ≡ true → IsSeen (inside b.view slot.device slot.function shown_now b.others) (walk.taken + 1) 0 (walk.taken + 1) last
-seen_there now slot last walk old new more b shown_now left alike numbers =
-    seen_inside b.view slot.bus (code slot) walk.taken last slot.bus (walk.taken + 1) last slot.device slot.function shown_now b.others b.seen (alike.kind ∙ b.bridge) numbers (omega arith) (omega (arith, left)) (omega arith) b.known.0.1
+-- said of a bus whose bridges are closed, with which the board is single
+abbrev pub OfBus : Board → ℕ → ℕ → Walk → Type 0 → Type 0
+OfBus before bus last start P = (v : View) (nodes : Nodes) → before ≡ v.fill nodes → IsSeen v bus 0 start.taken last → is_walkable nodes ≡ true → IsClosed nodes → IsApart v nodes start.taken last → P
 
-pub apart_there : (now : Board) (slot : Slot) (last : ℕ) (walk : Walk) (old new : List Board) (more : Bool) (b : Bridge now slot last walk old new more) (shown_now : List ℕ) (nodes : Nodes) → walk.taken < last → IsAlike b.image shown_now → without_numbers nodes ≡ without_numbers b.behind → shows shown_now slot.bus (walk.taken + 1) last ≡ true → IsApart (inside b.view slot.device slot.function shown_now b.others) nodes (walk.taken + 1) last
-apart_there now slot last walk old new more b shown_now nodes left alike same numbers =
-    apart_inside b.view walk.taken last (walk.taken + 1) last slot.device slot.function b.image shown_now b.behind nodes b.others b.bridge alike same b.known.1 (λ after spread.
-    spread_lead walk.taken last slot.bus (walk.taken + 1) last slot.device slot.function shown_now after b.others numbers (omega arith) (omega (arith, left)) (omega arith) (inr spread) (closed_spread _ last b.others b.known.0.1))
+-- and so of the bus behind a bridge
+pub bus_there : (now mid : Board) (slot : Slot) (last : ℕ) (walk : Walk) (old new : List Board) (more : Bool) (b : Bridge now slot last walk old new more) (P : Type 0) → walk.taken < last → IsOpened now slot (walk.taken + 1) last true mid → OfBus mid (walk.taken + 1) last (one_more walk) P → P
+bus_there now mid slot last walk old new more b P left gets said =
+    let o = opened_inside now mid slot (walk.taken + 1) last gets b.view walk.taken b.image b.behind b.others b.is b.seen b.alone b.bridge b.known.0.1 b.inner (omega arith) (omega (arith, left)) in
+    said (inside b.view slot.device slot.function o.new b.others) o.nodes o.is o.seen o.walkable o.closed
+    (apart_inside b.view walk.taken last (walk.taken + 1) last slot.device slot.function b.image o.new b.behind o.nodes b.others b.bridge o.alike o.same b.known.1 (λ after spread.
+    spread_lead walk.taken last slot.bus (walk.taken + 1) last slot.device slot.function o.new after b.others o.numbers (omega arith) (omega (arith, left)) (omega arith) (inr spread) (closed_spread _ last b.others b.known.0.1)))
 
 -- such boards stood while the bridges behind it got their numbers, where that was done and where it stopped
 abbrev pub IsBusOk : Board → ℕ → ℕ → Walk → List Board → List Board → Type 0
-IsBusOk before bus last start old new = (v : View) (nodes : Nodes) → before ≡ v.fill nodes → IsSeen v bus 0 start.taken last → is_walkable nodes ≡ true → IsClosed nodes → IsApart v nodes start.taken last → Adds IsSingle old new
+IsBusOk before bus last start old new = OfBus before bus last start (Adds IsSingle old new)
 
 abbrev pub IsBusEnd : Board → ℕ → ℕ → Walk → List Board → List Board → Type 0
-IsBusEnd before bus last start old new = (v : View) (nodes : Nodes) → before ≡ v.fill nodes → IsSeen v bus 0 start.taken last → is_walkable nodes ≡ true → IsClosed nodes → IsApart v nodes start.taken last → Ends IsSingle old new
+IsBusEnd before bus last start old new = OfBus before bus last start (Ends IsSingle old new)
 
 abbrev pub IsOpenEnd : Board → Slot → ℕ → ℕ → List Board → List Board → Type 0
 IsOpenEnd before slot bus last old new = (v : View) (high : ℕ) (image : List ℕ) (behind others : Nodes) → before ≡ v.fill (Node slot.device slot.function image behind others) → IsSeen v slot.bus (code slot) high last → all_after slot.device slot.function others ≡ true → is_type_1 image ≡ true → shows image 0 0 0 ≡ true → IsClosed others → is_walkable behind ≡ true → high + 1 ≤ bus → bus ≤ last → IsApart v (Node slot.device slot.function image behind others) high last → Ends IsSingle old new
@@ -143,10 +140,8 @@ module _ (spare : ℕ) (before now : Board) (slot : Slot) (bus place last : ℕ)
     pub stand_left_bus : {T E : Type 0} → (r : Result T E) → IsErr r → IsBusEnd mid (walk.taken + 1) last (one_more walk) newer newest → IsBusStood (moment before old) (outset bus last spare start) r newest
     stand_left_bus r err ends = λ v nodes is seen walkable closed apart.
         let b = bridge_there spare before now slot bus place last start walk old new more found at looked one standing v nodes is seen walkable closed apart in
-        let o = opened_here now slot last walk old new found.more b true mid left gets in
         ended IsSingle r old newest err (ends_then IsSingle old newer newest (stood_here now slot last walk old new newer found.more b left stood)
-        (ends (inside b.view slot.device slot.function o.0 b.others) o.1 o.2 (seen_there now slot last walk old new found.more b o.0 left o.3 o.5) (same_walk o.1 b.behind o.4 ∙ b.inner) o.6
-        (apart_there now slot last walk old new found.more b o.0 o.1 left o.3 o.4 o.5)))
+        (bus_there now mid slot last walk old new found.more b (Ends IsSingle newer newest) left gets ends))
 
   -- the bridge leads on
   module _ (far : Board) (inside : Walk) (begun : IsBegun spare now far slot last walk inside) (newest : List Board) (far_stood : (b : Bridge now slot last walk old new found.more) → Adds IsSingle old newest) (later : Board) (final : List Board) (put_stood : IsOneMore (moment far newest) (moment later final)) where

@@ -10,7 +10,6 @@ use Rattle.number_spec.specs.Numbered.{without_numbers}
 use Rattle.number_spec.specs.Room.{shows, last_behind, have_numbers}
 use Rattle.number_spec.specs.Spare.{spare_room}
 use Rattle.number_spec.specs.NoBus.{first_of, first_without}
-use Rattle.number_spec.proofs.Kept.{same_walk}
 use Rattle.number_spec.proofs.Same.{first_device}
 use Rattle.number_spec.proofs.Spare.{spare_stays}
 use Rattle.number_spec.proofs.Roomy.{closed as shut_of}
@@ -24,11 +23,11 @@ use Rattle.pci_number.specs.Walking.{NumberedUpTo, IsWalking}
 use Rattle.pci_number.specs.declared.look.Found.{Found}
 use Rattle.pci_number.specs.declared.walk.Walk.{Walk}
 use Rattle.pci_number.proofs.Bytes.{alike_subordinate, alike_then}
-use Rattle.pci_number.proofs.Opening.{shows_another}
+use Rattle.pci_number.proofs.Opening.{shows_another, opened_inside}
 use Rattle.pci_number.proofs.Passing.{rest, Came, came_first, came_past, AtBridge, at_bridge, came_beyond}
 use Rattle.pci_number.proofs.Places.{IsPlaceOf, At}
 use Rattle.pci_number.proofs.Hushing.{no_more}
-use Rattle.pci_number.proofs.Views.{inside, seen_inside, same_node, same_others}
+use Rattle.pci_number.proofs.Views.{inside, same_node, same_others}
 
 pub first_of_three : (a b x : Option Slot) → first_of a (first_of b x) ≡ first_of (first_of a b) x
 first_of_three (Some s) b x = refl
@@ -227,17 +226,16 @@ module _ (spare : ℕ) where
   -- the bridges behind it have their numbers
   pub begun_wide : (now mid far : Board) (slot : Slot) (last : ℕ) (walk after : Walk) → walk.taken < last → IsOpened now slot (walk.taken + 1) last true mid → IsBusNumbered mid (outset (walk.taken + 1) last spare (one_more walk)) after far → walk.taken + 1 ≤ after.taken → IsBegun now far slot last walk after
   begun_wide now mid far slot last walk after left gets bus above = λ view image behind others is seen alone bridge closed walkable.
-      let o = gets view walk.taken image behind others is seen alone bridge closed walkable (omega arith) (omega (arith, left)) in
-      let seen_behind = seen_inside view slot.bus (code slot) walk.taken last slot.bus (walk.taken + 1) last slot.device slot.function o.0 others seen (o.3.kind ∙ bridge) o.5 (omega arith) (omega (arith, left)) (omega arith) closed in
-      let r = bus (inside view slot.device slot.function o.0 others) o.1 o.2 seen_behind (same_walk o.1 behind o.4 ∙ walkable) o.6 in
+      let o = opened_inside now mid slot (walk.taken + 1) last gets view walk.taken image behind others is seen alone bridge closed walkable (omega arith) (omega (arith, left)) in
+      let r = bus (inside view slot.device slot.function o.new others) o.nodes o.is o.seen o.walkable o.closed in
       record {
-        new = o.0;
+        new = o.new;
         nodes = r.0;
         leads = last;
         is = r.1;
-        alike = o.3;
-        same = r.2 ∙ o.4;
-        numbers = o.5;
+        alike = o.alike;
+        same = r.2 ∙ o.same;
+        numbers = o.numbers;
         end = r.4;
         above = above;
         within = omega (arith, r.4, within_last (spare_room spare) last (walk.taken + 1) (walk.taken + 1) r.0 r.3 (omega (arith, left)));
@@ -290,10 +288,9 @@ module _ (spare : ℕ) where
   pub walk_left_bus : (before now mid after : Board) (slot : Slot) (bus place last : ℕ) (start walk : Walk) (more : Bool) (found : Found) → IsPlaceOf slot bus place → IsLooked now slot more found → found.bridge ≡ true → walk.taken < last → IsOpened now slot (walk.taken + 1) last true mid → IsBusLeft mid (outset (walk.taken + 1) last spare (one_more walk)) after → IsWalking before (outset bus last spare start) place more walk now → IsBusLeft before (outset bus last spare start) after
   walk_left_bus before now mid after slot bus place last start walk more found at looked one left gets left_behind walking = λ v nodes is seen walkable closed.
       let b = bridge_there before now slot bus place last start walk more found at looked one walking v nodes is seen walkable closed in
-      let o = gets b.view walk.taken b.image b.behind b.others b.is b.seen b.alone b.bridge b.known.0.1 b.inner (omega arith) (omega (arith, left)) in
-      let inner = seen_inside b.view slot.bus (code slot) walk.taken last slot.bus (walk.taken + 1) last slot.device slot.function o.0 b.others b.seen (o.3.kind ∙ b.bridge) o.5 (omega arith) (omega (arith, left)) (omega arith) b.known.0.1 in
-      let r = left_behind (inside b.view slot.device slot.function o.0 b.others) o.1 o.2 inner (same_walk o.1 b.behind o.4 ∙ b.inner) o.6 in
-      left_there now after slot bus last start walk found.more v nodes b o.0 r.0 r.1 o.3 (r.2 ∙ o.4)
+      let o = opened_inside now mid slot (walk.taken + 1) last gets b.view walk.taken b.image b.behind b.others b.is b.seen b.alone b.bridge b.known.0.1 b.inner (omega arith) (omega (arith, left)) in
+      let r = left_behind (inside b.view slot.device slot.function o.new b.others) o.nodes o.is o.seen o.walkable o.closed in
+      left_there now after slot bus last start walk found.more v nodes b o.new r.0 r.1 o.alike (r.2 ∙ o.same)
 
   pub walk_left_led : (before now far after : Board) (slot : Slot) (bus place last : ℕ) (start walk behind : Walk) (more : Bool) (found : Found) → IsPlaceOf slot bus place → IsLooked now slot more found → found.bridge ≡ true → IsBegun now far slot last walk behind → IsTouched far slot 0x1a after → IsWalking before (outset bus last spare start) place more walk now → IsBusLeft before (outset bus last spare start) after
   walk_left_led before now far after slot bus place last start walk behind more found at looked one begun touched walking = λ v nodes is seen walkable closed.
