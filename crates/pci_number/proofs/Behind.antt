@@ -8,8 +8,8 @@ use Rattle.pci_number.specs.Walked.{IsBusNumbered, outset}
 use Rattle.pci_number.specs.Stood.{Adds}
 use Rattle.pci_number.specs.declared.walk.Walk.{Walk}
 use Rattle.pci_number.proofs.Few.{IsBegunFew, begun_few_alone, begun_few_wide}
-use Rattle.pci_number.proofs.Showing.{IsOpenOk}
-use Rattle.pci_number.proofs.Standing.{Bridge, IsBusOk, IsOpenEnd, stood_here, bus_there}
+use Rattle.pci_number.proofs.Showing.{IsOpenOk, IsOpenEnd}
+use Rattle.pci_number.proofs.Standing.{Bridge, IsBusOk, stood_here, bus_there}
 use Rattle.pci_number.proofs.Stood.{adds_then}
 use Rattle.pci_number.proofs.Walking.{one_more, IsBegun, begun_alone, begun_wide}
 

@@ -3,7 +3,7 @@ use Rattle.std.proofs.Common.{◌≡◌, ◌≢◌, ℕ, ◌+◌, inl, inr, Bool
 use Rattle.std.specs.Result.{IsErr}
 use Rattle.pci_spec.specs.Slot.{Slot}
 use Rattle.number_spec.specs.Board.{Nodes, Node, Board, is_type_1}
-use Rattle.number_spec.specs.Walk.{all_after, is_walkable}
+use Rattle.number_spec.specs.Walk.{all_after}
 use Rattle.number_spec.proofs.Roomy.{shown}
 use Rattle.pci_number.specs.Seen.{View, code, IsSeen}
 use Rattle.pci_number.specs.Steps.{IsPut, IsAlike, IsLooked, IsShownAt}
@@ -12,7 +12,7 @@ use Rattle.pci_number.specs.Less.{IsLess, IsLessOf, IsLessStep, Wrap, IsCloseSto
 use Rattle.pci_number.specs.Stood.{AddsSteps, EndsSteps, IsOneMore, Moment, moment}
 use Rattle.pci_number.specs.declared.look.Found.{Found}
 use Rattle.pci_number.proofs.Bytes.{other_byte, alike_primary, alike_secondary, alike_subordinate, alike_then}
-use Rattle.pci_number.proofs.Passing.{rest, Came, came_first, came_past, at_bridge, came_beyond}
+use Rattle.pci_number.proofs.Passing.{OfBus, rest, Came, came_first, came_past, at_bridge, came_beyond}
 use Rattle.pci_number.proofs.Places.{IsPlaceOf}
 use Rattle.pci_number.proofs.Views.{seen_alone}
 use Rattle.pci_number.proofs.Less.{less_itself, less_then, less_after, less_node}
@@ -33,12 +33,16 @@ s_not_u e = cc e
 u_not_s : ◌≢◌ {A = ℕ} 0x1a 0x19
 u_not_s e = cc e
 
+-- said of a bridge and what follows on its bus, as that is seen
+abbrev pub OfBridge : Board → Slot → (View → Nodes → Type 0) → Type 0
+OfBridge before slot P = (v : View) (high last : ℕ) (image : List ℕ) (behind others : Nodes) → before ≡ v.fill (Node slot.device slot.function image behind others) → IsSeen v slot.bus (code slot) high last → all_after slot.device slot.function others ≡ true → is_type_1 image ≡ true → P v (Node slot.device slot.function image behind others)
+
 -- such boards stood while it was closed, where that was done and where it stopped
 abbrev pub IsCloseOk : Board → Slot → List Board → Board → List Board → Type 0
-IsCloseOk before slot old now new = (v : View) (high last : ℕ) (image : List ℕ) (behind others : Nodes) → before ≡ v.fill (Node slot.device slot.function image behind others) → IsSeen v slot.bus (code slot) high last → all_after slot.device slot.function others ≡ true → is_type_1 image ≡ true → AddsSteps (IsLessStep v (Node slot.device slot.function image behind others)) (moment before old) (moment now new)
+IsCloseOk before slot old now new = OfBridge before slot (λ v node. AddsSteps (IsLessStep v node) (moment before old) (moment now new))
 
 abbrev pub IsCloseEnd : Board → Slot → List Board → List Board → Type 0
-IsCloseEnd before slot old new = (v : View) (high last : ℕ) (image : List ℕ) (behind others : Nodes) → before ≡ v.fill (Node slot.device slot.function image behind others) → IsSeen v slot.bus (code slot) high last → all_after slot.device slot.function others ≡ true → is_type_1 image ≡ true → EndsSteps (IsLessStep v (Node slot.device slot.function image behind others)) (moment before old) new
+IsCloseEnd before slot old new = OfBridge before slot (λ v node. EndsSteps (IsLessStep v node) (moment before old) new)
 
 -- a byte of it was written
 less_step : (v : View) (d f : ℕ) (image first second : List ℕ) (behind others : Nodes) (was now : Board) → is_type_1 first ≡ true → was ≡ v.fill (Node d f first behind others) → now ≡ v.fill (Node d f second behind others) → IsLessOf (Node d f image behind others) (Node d f first behind others) → IsAlike first second → IsLess first second → IsLessStep v (Node d f image behind others) was now
@@ -112,12 +116,12 @@ wrapped v nodes left device w = record { wrap = w.wrap; fills = w.fills; less = 
 
 -- with that as one fact, and taken apart
 module _ (from to : Moment) (bus place : ℕ) (more : Bool) where
-  came_of : IsHushStanding from bus place more to → (v : View) (high last : ℕ) (nodes : Nodes) → from.board ≡ v.fill nodes → IsSeen v bus 0 high last → is_walkable nodes ≡ true → Came to.board bus place 0 0 more (StoodUpTo v nodes from to)
+  came_of : IsHushStanding from bus place more to → OfBus from.board bus (λ v nodes. Came to.board bus place 0 0 more (StoodUpTo v nodes from to))
   came_of standing v high last nodes is seen walkable =
       let h = standing v high last nodes is seen walkable in
       (h.0, h.1, h.2, (wrapped v nodes h.0 0 h.3, h.4))
 
-  standing_of : ((v : View) (high last : ℕ) (nodes : Nodes) → from.board ≡ v.fill nodes → IsSeen v bus 0 high last → is_walkable nodes ≡ true → Came to.board bus place 0 0 more (StoodUpTo v nodes from to)) → IsHushStanding from bus place more to
+  standing_of : OfBus from.board bus (λ v nodes. Came to.board bus place 0 0 more (StoodUpTo v nodes from to)) → IsHushStanding from bus place more to
   standing_of came = λ v high last nodes is seen walkable.
       let h = came v high last nodes is seen walkable in
       (h.0, h.1, h.2, wrapped v nodes (rest h.0.view h.0.nodes) h.0.device h.3.0, h.3.1)
@@ -193,5 +197,5 @@ standing_left_close before now after slot bus place old mid new more found r err
     (stops_as (IsLessStep b.view node) (IsLessStep v nodes) (step_of_bus v nodes b.view node b.known.0) now mid new
     (stood b.view 0 0 b.image b.behind b.others b.is b.seen b.alone b.bridge)))
 
-pub standing_done : (before now : Board) (bus place : ℕ) (old new : List Board) (more : Bool) → IsHushStanding (moment before old) bus place more (moment now new) → (v : View) (high last : ℕ) (nodes : Nodes) → before ≡ v.fill nodes → IsSeen v bus 0 high last → is_walkable nodes ≡ true → AddsSteps (IsLessStep v nodes) (moment before old) (moment now new)
+pub standing_done : (before now : Board) (bus place : ℕ) (old new : List Board) (more : Bool) → IsHushStanding (moment before old) bus place more (moment now new) → OfBus before bus (λ v nodes. AddsSteps (IsLessStep v nodes) (moment before old) (moment now new))
 standing_done before now bus place old new more standing v high last nodes is seen walkable = (standing v high last nodes is seen walkable).4

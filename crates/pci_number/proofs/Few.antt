@@ -15,7 +15,7 @@ use Rattle.pci_number.specs.declared.look.Found.{Found}
 use Rattle.pci_number.specs.declared.walk.Walk.{Walk}
 use Rattle.pci_number.specs.Walked.{outset}
 use Rattle.pci_number.proofs.Opening.{shows_another, open_hushed, opened_inside}
-use Rattle.pci_number.proofs.Passing.{Came, came_first, came_past, at_bridge, came_beyond}
+use Rattle.pci_number.proofs.Passing.{OfBus, OfClosed, Came, came_first, came_past, at_bridge, came_beyond}
 use Rattle.pci_number.proofs.Places.{IsPlaceOf}
 use Rattle.pci_number.proofs.RootView.{same_nodes}
 use Rattle.pci_number.proofs.Roots.{root_view, seen_root, at_root_now, start}
@@ -59,7 +59,7 @@ abbrev HushCount : Nodes → ℕ → ℕ → View → Nodes → Type 0
 HushCount nodes made total view left = total + 3 * bridges_on left ≤ made + 3 * bridges_on nodes
 
 abbrev pub IsHushCounted : Board → ℕ → ℕ → Bool → Board → ℕ → ℕ → Type 0
-IsHushCounted before bus place more now made total = (v : View) (high last : ℕ) (nodes : Nodes) → before ≡ v.fill nodes → IsSeen v bus 0 high last → is_walkable nodes ≡ true → Came now bus place 0 0 more (HushCount nodes made total)
+IsHushCounted before bus place more now made total = OfBus before bus (λ v nodes. Came now bus place 0 0 more (HushCount nodes made total))
 
 pub hush_count_start : (before : Board) (bus made : ℕ) → IsHushCounted before bus 0 false before made made
 hush_count_start before bus made = λ v high last nodes is seen walkable. came_first before bus 0 0 (HushCount nodes made made) v nodes is (seen_alone v bus 0 high last seen) walkable (omega arith)
@@ -97,7 +97,7 @@ abbrev pub WalkCount : Nodes → ℕ → ℕ → View → Nodes → Type 0
 WalkCount nodes made total view left = IsClosed left × (total + 8 * bridges left + 3 * bridges_on nodes ≤ made + 8 * bridges nodes + 3 * bridges_on left)
 
 abbrev pub IsWalkCounted : Board → ℕ → ℕ → Walk → ℕ → Bool → Walk → Board → ℕ → ℕ → Type 0
-IsWalkCounted before bus last start place more walk now made total = (v : View) (nodes : Nodes) → before ≡ v.fill nodes → IsSeen v bus 0 start.taken last → is_walkable nodes ≡ true → IsClosed nodes → Came now bus place walk.taken last more (WalkCount nodes made total)
+IsWalkCounted before bus last start place more walk now made total = OfClosed before bus start.taken last (λ v nodes. Came now bus place walk.taken last more (WalkCount nodes made total))
 
 pub walk_count_start : (before : Board) (bus last : ℕ) (start : Walk) (made : ℕ) → IsWalkCounted before bus last start 0 false start before made made
 walk_count_start before bus last start made = λ v nodes is seen walkable closed. came_first before bus start.taken last (WalkCount nodes made made) v nodes is seen walkable (closed, omega arith)

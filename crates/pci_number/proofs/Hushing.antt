@@ -4,13 +4,12 @@ use Rattle.std.proofs.lemmas.Bool.{both_ways}
 use Rattle.std.proofs.Math.Bool.{or-true, or-false}
 use Rattle.pci_spec.specs.Slot.{Slot}
 use Rattle.number_spec.specs.Board.{Nodes, NoMore, Node, Board, is_type_1}
-use Rattle.number_spec.specs.Walk.{is_walkable}
 use Rattle.number_spec.specs.Numbered.{without_numbers}
-use Rattle.pci_number.specs.Seen.{View, IsSeen, IsRest, has_bridges}
+use Rattle.pci_number.specs.Seen.{View, IsRest, has_bridges}
 use Rattle.pci_number.specs.Steps.{IsLooked, IsShownAt, IsLeftAt, IsHushed, IsHushLeft}
 use Rattle.pci_number.specs.Hushing.{ClosedUpTo, KeptUpTo, IsHushing}
 use Rattle.pci_number.specs.declared.look.Found.{Found}
-use Rattle.pci_number.proofs.Passing.{rest, Came, came_first, came_past, at_bridge, came_beyond}
+use Rattle.pci_number.proofs.Passing.{OfBus, rest, Came, came_first, came_past, at_bridge, came_beyond}
 use Rattle.pci_number.proofs.Places.{IsPlaceOf}
 use Rattle.pci_number.proofs.Views.{seen_alone, same_node, same_others}
 
@@ -20,10 +19,10 @@ UpTo v nodes bridges view left = ClosedUpTo v nodes bridges (rest view left) × 
 
 -- with that as one fact, and taken apart
 module _ (before now : Board) (bus place : ℕ) (more bridges : Bool) where
-  came_of : IsHushing before bus place more bridges now → (v : View) (high last : ℕ) (nodes : Nodes) → before ≡ v.fill nodes → IsSeen v bus 0 high last → is_walkable nodes ≡ true → Came now bus place 0 0 more (UpTo v nodes bridges)
+  came_of : IsHushing before bus place more bridges now → OfBus before bus (λ v nodes. Came now bus place 0 0 more (UpTo v nodes bridges))
   came_of hushing v high last nodes is seen walkable = let h = hushing v high last nodes is seen walkable in (h.0, h.1, h.2, (h.3, h.4))
 
-  hushing_of : ((v : View) (high last : ℕ) (nodes : Nodes) → before ≡ v.fill nodes → IsSeen v bus 0 high last → is_walkable nodes ≡ true → Came now bus place 0 0 more (UpTo v nodes bridges)) → IsHushing before bus place more bridges now
+  hushing_of : OfBus before bus (λ v nodes. Came now bus place 0 0 more (UpTo v nodes bridges)) → IsHushing before bus place more bridges now
   hushing_of came = λ v high last nodes is seen walkable. let h = came v high last nodes is seen walkable in (h.0, h.1, h.2, h.3.0, h.3.1)
 
 pub hush_start : (before : Board) (bus : ℕ) → IsHushing before bus 0 false false before

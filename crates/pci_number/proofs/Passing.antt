@@ -5,13 +5,21 @@ use Rattle.pci_spec.specs.Slot.{Slot}
 use Rattle.number_spec.specs.Board.{Nodes, Node, Board, is_type_1}
 use Rattle.number_spec.specs.Walk.{is_walkable, all_after}
 use Rattle.number_spec.specs.Room.{shows}
-use Rattle.pci_number.specs.Seen.{View, code, IsSeen, IsRest}
+use Rattle.pci_number.specs.Seen.{View, code, IsSeen, IsRest, IsClosed}
 use Rattle.pci_number.specs.Steps.{IsLooked, Absent, There}
 use Rattle.pci_number.specs.Hushing.{Rest, IsRestOf}
 use Rattle.pci_number.specs.declared.look.Found.{Found}
 use Rattle.pci_number.proofs.Places.{IsPlaceOf, At}
 use Rattle.pci_number.proofs.Reached.{rest_of}
 use Rattle.pci_number.proofs.Views.{next, seen_next, seen_on, device_is_idle, above_is_idle}
+
+-- said of the nodes on a bus, as it is seen
+abbrev pub OfBus : Board → ℕ → (View → Nodes → Type 0) → Type 0
+OfBus before bus P = (v : View) (high last : ℕ) (nodes : Nodes) → before ≡ v.fill nodes → IsSeen v bus 0 high last → is_walkable nodes ≡ true → P v nodes
+
+-- and of those on a bus whose bridges are closed
+abbrev pub OfClosed : Board → ℕ → ℕ → ℕ → (View → Nodes → Type 0) → Type 0
+OfClosed before bus high last P = (v : View) (nodes : Nodes) → before ≡ v.fill nodes → IsSeen v bus 0 high last → is_walkable nodes ≡ true → IsClosed nodes → P v nodes
 
 abbrev pub rest : View → Nodes → Rest
 rest view nodes = record { view = view; nodes = nodes; device = 0 }

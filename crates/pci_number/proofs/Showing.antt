@@ -11,8 +11,9 @@ use Rattle.pci_number.specs.Steps.{IsPut, IsAlike, IsShownAt, IsHushed}
 use Rattle.pci_number.specs.Less.{IsLessStep}
 use Rattle.pci_number.specs.Single.{IsApart, IsShowStood, IsOpenStood}
 use Rattle.pci_number.specs.declared.stop.Stop.{Stop}
-use Rattle.pci_number.specs.Stood.{Adds, AddsSteps, EndsSteps, IsOneMore, moment}
+use Rattle.pci_number.specs.Stood.{Adds, Ends, AddsSteps, EndsSteps, IsOneMore, moment}
 use Rattle.pci_number.proofs.Bytes.{other_byte, alike_primary, alike_secondary, alike_subordinate, alike_then, shows_from}
+use Rattle.pci_number.proofs.Passing.{OfBus}
 use Rattle.pci_number.proofs.Opening.{shows_another, open_hushed}
 use Rattle.pci_number.proofs.Views.{inside}
 use Rattle.pci_number.proofs.Apart.{shut_from, closed_spread, spread_lead, single_with}
@@ -69,14 +70,22 @@ module _ (before first second third : Board) (slot : Slot) (n bus : ℕ) (old on
 
 -- ---- then the bridges on that bus are closed, and what comes next is behind it
 
+-- said of a bridge that gets a bus, with which the board is single
+abbrev pub OfSingle : Board → Slot → ℕ → ℕ → Type 0 → Type 0
+OfSingle before slot bus last P = (v : View) (high : ℕ) (image : List ℕ) (behind others : Nodes) → before ≡ v.fill (Node slot.device slot.function image behind others) → IsSeen v slot.bus (code slot) high last → all_after slot.device slot.function others ≡ true → is_type_1 image ≡ true → shows image 0 0 0 ≡ true → IsClosed others → is_walkable behind ≡ true → high + 1 ≤ bus → bus ≤ last → IsApart v (Node slot.device slot.function image behind others) high last → P
+
+-- such boards stood meanwhile, where that was done and where it stopped
 abbrev pub IsOpenOk : Board → Slot → ℕ → ℕ → List Board → List Board → Type 0
-IsOpenOk before slot bus last old new = (v : View) (high : ℕ) (image : List ℕ) (behind others : Nodes) → before ≡ v.fill (Node slot.device slot.function image behind others) → IsSeen v slot.bus (code slot) high last → all_after slot.device slot.function others ≡ true → is_type_1 image ≡ true → shows image 0 0 0 ≡ true → IsClosed others → is_walkable behind ≡ true → high + 1 ≤ bus → bus ≤ last → IsApart v (Node slot.device slot.function image behind others) high last → Adds IsSingle old new
+IsOpenOk before slot bus last old new = OfSingle before slot bus last (Adds IsSingle old new)
+
+abbrev pub IsOpenEnd : Board → Slot → ℕ → ℕ → List Board → List Board → Type 0
+IsOpenEnd before slot bus last old new = OfSingle before slot bus last (Ends IsSingle old new)
 
 abbrev pub IsHushOk : Board → ℕ → List Board → Board → List Board → Type 0
-IsHushOk before bus old now new = (v : View) (high last : ℕ) (nodes : Nodes) → before ≡ v.fill nodes → IsSeen v bus 0 high last → is_walkable nodes ≡ true → AddsSteps (IsLessStep v nodes) (moment before old) (moment now new)
+IsHushOk before bus old now new = OfBus before bus (λ v nodes. AddsSteps (IsLessStep v nodes) (moment before old) (moment now new))
 
 abbrev pub IsHushEnd : Board → ℕ → List Board → List Board → Type 0
-IsHushEnd before bus old new = (v : View) (high last : ℕ) (nodes : Nodes) → before ≡ v.fill nodes → IsSeen v bus 0 high last → is_walkable nodes ≡ true → EndsSteps (IsLessStep v nodes) (moment before old) new
+IsHushEnd before bus old new = OfBus before bus (λ v nodes. EndsSteps (IsLessStep v nodes) (moment before old) new)
 
 -- whatever numbers are behind a bridge that leads to one bus
 less_is_single : (v : View) (high last : ℕ) (slot : Slot) (bus : ℕ) (image new : List ℕ) (behind others : Nodes) → is_type_1 image ≡ true → IsAlike image new → shows new slot.bus bus bus ≡ true → IsClosed others → high + 1 ≤ bus → bus ≤ last → IsApart v (Node slot.device slot.function image behind others) high last → (was b : Board) → IsLessStep (inside v slot.device slot.function new others) behind was b → IsSingle b

@@ -4,12 +4,11 @@ use Rattle.std.specs.Result.{IsErr}
 use Rattle.std.proofs.lemmas.Bool.{both_ways}
 use Rattle.pci_spec.specs.Slot.{Slot}
 use Rattle.number_spec.specs.Board.{Nodes, Node, Board, is_type_1, IsSingle}
-use Rattle.number_spec.specs.Walk.{is_walkable, all_after}
 use Rattle.number_spec.specs.Numbered.{without_numbers}
 use Rattle.number_spec.specs.Room.{shows}
 use Rattle.number_spec.specs.Spare.{spare_room}
 use Rattle.number_spec.specs.Spread.{IsSpread}
-use Rattle.pci_number.specs.Seen.{View, code, IsSeen, IsClosed}
+use Rattle.pci_number.specs.Seen.{View, IsClosed}
 use Rattle.pci_number.specs.Steps.{IsPut, IsLooked, IsAlike, IsOpened}
 use Rattle.pci_number.specs.Spare.{IsLed}
 use Rattle.pci_number.specs.Single.{IsApart, IsBusStood, IsWalkStanding}
@@ -19,13 +18,17 @@ use Rattle.pci_number.specs.declared.walk.Walk.{Walk}
 use Rattle.pci_number.specs.Walked.{outset}
 use Rattle.pci_number.proofs.Bytes.{alike_itself, alike_subordinate, alike_then}
 use Rattle.pci_number.proofs.Opening.{shows_another, opened_inside}
-use Rattle.pci_number.proofs.Passing.{Came, came_first, came_past, AtBridge, at_bridge, came_beyond}
+use Rattle.pci_number.proofs.Passing.{OfClosed, Came, came_first, came_past, AtBridge, at_bridge, came_beyond}
 use Rattle.pci_number.proofs.Places.{IsPlaceOf}
 use Rattle.pci_number.proofs.Views.{next, inside, same_others}
 use Rattle.pci_number.proofs.Walking.{one_more, IsBegun}
 use Rattle.pci_number.proofs.Apart.{shut_from, closed_spread, numbered_spread, spread_more, spread_lead, single_with, apart_next, apart_inside}
-use Rattle.pci_number.proofs.Showing.{IsOpenOk}
+use Rattle.pci_number.proofs.Showing.{IsOpenOk, IsOpenEnd}
 use Rattle.pci_number.proofs.Stood.{adds_none, adds_then, adds_more, ends_one, ends_same, ends_then, ended}
+
+-- said of a bus whose bridges are closed, with which the board is single
+abbrev pub OfApart : Board → ℕ → ℕ → Walk → Type 0 → Type 0
+OfApart before bus last start P = OfClosed before bus start.taken last (λ v nodes. IsApart v nodes start.taken last → P)
 
 -- what is known of the nodes from a place on
 abbrev pub StoodUpTo : ℕ → Walk → List Board → List Board → View → Nodes → Type 0
@@ -33,10 +36,10 @@ StoodUpTo last walk old new view left = IsClosed left × IsApart view left walk.
 
 -- with that as one fact, and taken apart
 module _ (spare : ℕ) (before now : Board) (bus place last : ℕ) (start walk : Walk) (old new : List Board) (more : Bool) where
-  came_of : IsWalkStanding (moment before old) (outset bus last spare start) place more walk (moment now new) → (v : View) (nodes : Nodes) → before ≡ v.fill nodes → IsSeen v bus 0 start.taken last → is_walkable nodes ≡ true → IsClosed nodes → IsApart v nodes start.taken last → Came now bus place walk.taken last more (StoodUpTo last walk old new)
+  came_of : IsWalkStanding (moment before old) (outset bus last spare start) place more walk (moment now new) → OfApart before bus last start (Came now bus place walk.taken last more (StoodUpTo last walk old new))
   came_of standing v nodes is seen walkable closed apart = let h = standing v nodes is seen walkable closed apart in (h.0, h.1, h.2, (h.3, h.4, h.5))
 
-  standing_of : ((v : View) (nodes : Nodes) → before ≡ v.fill nodes → IsSeen v bus 0 start.taken last → is_walkable nodes ≡ true → IsClosed nodes → IsApart v nodes start.taken last → Came now bus place walk.taken last more (StoodUpTo last walk old new)) → IsWalkStanding (moment before old) (outset bus last spare start) place more walk (moment now new)
+  standing_of : OfApart before bus last start (Came now bus place walk.taken last more (StoodUpTo last walk old new)) → IsWalkStanding (moment before old) (outset bus last spare start) place more walk (moment now new)
   standing_of came = λ v nodes is seen walkable closed apart. let h = came v nodes is seen walkable closed apart in (h.0, h.1, h.2, h.3.0, h.3.1, h.3.2)
 
 pub stand_start : (spare : ℕ) (before : Board) (bus last : ℕ) (start : Walk) (old : List Board) → IsWalkStanding (moment before old) (outset bus last spare start) 0 false start (moment before old)
@@ -58,7 +61,7 @@ stand_pass spare before now slot bus place last start walk old new more found at
 abbrev pub Bridge : Board → Slot → ℕ → Walk → List Board → List Board → Bool → Type 0
 Bridge now slot last walk old new more = AtBridge now slot walk.taken last more (StoodUpTo last walk old new)
 
-bridge_there : (spare : ℕ) (before now : Board) (slot : Slot) (bus place last : ℕ) (start walk : Walk) (old new : List Board) (more : Bool) (found : Found) → IsPlaceOf slot bus place → IsLooked now slot more found → found.bridge ≡ true → IsWalkStanding (moment before old) (outset bus last spare start) place more walk (moment now new) → (v : View) (nodes : Nodes) → before ≡ v.fill nodes → IsSeen v bus 0 start.taken last → is_walkable nodes ≡ true → IsClosed nodes → IsApart v nodes start.taken last → Bridge now slot last walk old new found.more
+bridge_there : (spare : ℕ) (before now : Board) (slot : Slot) (bus place last : ℕ) (start walk : Walk) (old new : List Board) (more : Bool) (found : Found) → IsPlaceOf slot bus place → IsLooked now slot more found → found.bridge ≡ true → IsWalkStanding (moment before old) (outset bus last spare start) place more walk (moment now new) → OfApart before bus last start (Bridge now slot last walk old new found.more)
 bridge_there spare before now slot bus place last start walk old new more found at looked one standing v nodes is seen walkable closed apart =
     at_bridge now slot bus place walk.taken last more found (StoodUpTo last walk old new) at looked one (came_of spare before now bus place last start walk old new more standing v nodes is seen walkable closed apart)
 
@@ -107,12 +110,8 @@ pub stood_here : (now : Board) (slot : Slot) (last : ℕ) (walk : Walk) (old new
 stood_here now slot last walk old new newer more b left gets =
     adds_then IsSingle old new newer b.known.2 (gets b.view walk.taken b.image b.behind b.others b.is b.seen b.alone b.bridge (b.known.0.0 b.bridge) b.known.0.1 b.inner (omega arith) (omega (arith, left)) b.known.1)
 
--- said of a bus whose bridges are closed, with which the board is single
-abbrev pub OfBus : Board → ℕ → ℕ → Walk → Type 0 → Type 0
-OfBus before bus last start P = (v : View) (nodes : Nodes) → before ≡ v.fill nodes → IsSeen v bus 0 start.taken last → is_walkable nodes ≡ true → IsClosed nodes → IsApart v nodes start.taken last → P
-
--- and so of the bus behind a bridge
-pub bus_there : (now mid : Board) (slot : Slot) (last : ℕ) (walk : Walk) (old new : List Board) (more : Bool) (b : Bridge now slot last walk old new more) (P : Type 0) → walk.taken < last → IsOpened now slot (walk.taken + 1) last true mid → OfBus mid (walk.taken + 1) last (one_more walk) P → P
+-- what is said of such a bus is said of the one behind a bridge
+pub bus_there : (now mid : Board) (slot : Slot) (last : ℕ) (walk : Walk) (old new : List Board) (more : Bool) (b : Bridge now slot last walk old new more) (P : Type 0) → walk.taken < last → IsOpened now slot (walk.taken + 1) last true mid → OfApart mid (walk.taken + 1) last (one_more walk) P → P
 bus_there now mid slot last walk old new more b P left gets said =
     let o = opened_inside now mid slot (walk.taken + 1) last gets b.view walk.taken b.image b.behind b.others b.is b.seen b.alone b.bridge b.known.0.1 b.inner (omega arith) (omega (arith, left)) in
     said (inside b.view slot.device slot.function o.new b.others) o.nodes o.is o.seen o.walkable o.closed
@@ -121,13 +120,10 @@ bus_there now mid slot last walk old new more b P left gets said =
 
 -- such boards stood while the bridges behind it got their numbers, where that was done and where it stopped
 abbrev pub IsBusOk : Board → ℕ → ℕ → Walk → List Board → List Board → Type 0
-IsBusOk before bus last start old new = OfBus before bus last start (Adds IsSingle old new)
+IsBusOk before bus last start old new = OfApart before bus last start (Adds IsSingle old new)
 
 abbrev pub IsBusEnd : Board → ℕ → ℕ → Walk → List Board → List Board → Type 0
-IsBusEnd before bus last start old new = OfBus before bus last start (Ends IsSingle old new)
-
-abbrev pub IsOpenEnd : Board → Slot → ℕ → ℕ → List Board → List Board → Type 0
-IsOpenEnd before slot bus last old new = (v : View) (high : ℕ) (image : List ℕ) (behind others : Nodes) → before ≡ v.fill (Node slot.device slot.function image behind others) → IsSeen v slot.bus (code slot) high last → all_after slot.device slot.function others ≡ true → is_type_1 image ≡ true → shows image 0 0 0 ≡ true → IsClosed others → is_walkable behind ≡ true → high + 1 ≤ bus → bus ≤ last → IsApart v (Node slot.device slot.function image behind others) high last → Ends IsSingle old new
+IsBusEnd before bus last start old new = OfApart before bus last start (Ends IsSingle old new)
 
 module _ (spare : ℕ) (before now : Board) (slot : Slot) (bus place last : ℕ) (start walk : Walk) (old new newer : List Board) (more : Bool) (found : Found) (at : IsPlaceOf slot bus place) (looked : IsLooked now slot more found) (one : found.bridge ≡ true) (left : walk.taken < last) (standing : IsWalkStanding (moment before old) (outset bus last spare start) place more walk (moment now new)) where
   pub stand_left_open : {T E : Type 0} → (r : Result T E) → IsErr r → IsOpenEnd now slot (walk.taken + 1) last new newer → IsBusStood (moment before old) (outset bus last spare start) r newer

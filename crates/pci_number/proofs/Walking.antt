@@ -24,7 +24,7 @@ use Rattle.pci_number.specs.declared.look.Found.{Found}
 use Rattle.pci_number.specs.declared.walk.Walk.{Walk}
 use Rattle.pci_number.proofs.Bytes.{alike_subordinate, alike_then}
 use Rattle.pci_number.proofs.Opening.{shows_another, opened_inside}
-use Rattle.pci_number.proofs.Passing.{rest, Came, came_first, came_past, AtBridge, at_bridge, came_beyond}
+use Rattle.pci_number.proofs.Passing.{OfClosed, rest, Came, came_first, came_past, AtBridge, at_bridge, came_beyond}
 use Rattle.pci_number.proofs.Places.{IsPlaceOf, At}
 use Rattle.pci_number.proofs.Hushing.{no_more}
 use Rattle.pci_number.proofs.Views.{inside, same_node, same_others}
@@ -91,10 +91,10 @@ module _ (spare : ℕ) where
 
   -- with that as one fact, and taken apart
   module _ (before now : Board) (bus place last : ℕ) (start walk : Walk) (more : Bool) where
-    came_of : IsWalking before (outset bus last spare start) place more walk now → (v : View) (nodes : Nodes) → before ≡ v.fill nodes → IsSeen v bus 0 start.taken last → is_walkable nodes ≡ true → IsClosed nodes → Came now bus place walk.taken last more (UpTo v nodes bus last start walk)
+    came_of : IsWalking before (outset bus last spare start) place more walk now → OfClosed before bus start.taken last (λ v nodes. Came now bus place walk.taken last more (UpTo v nodes bus last start walk))
     came_of walking v nodes is seen walkable closed = let h = walking v nodes is seen walkable closed in (h.0, h.1, h.2, (h.3, h.4, h.5))
 
-    walking_of : ((v : View) (nodes : Nodes) → before ≡ v.fill nodes → IsSeen v bus 0 start.taken last → is_walkable nodes ≡ true → IsClosed nodes → Came now bus place walk.taken last more (UpTo v nodes bus last start walk)) → IsWalking before (outset bus last spare start) place more walk now
+    walking_of : OfClosed before bus start.taken last (λ v nodes. Came now bus place walk.taken last more (UpTo v nodes bus last start walk)) → IsWalking before (outset bus last spare start) place more walk now
     walking_of came = λ v nodes is seen walkable closed. let h = came v nodes is seen walkable closed in (h.0, h.1, h.2, h.3.0, h.3.1, h.3.2)
 
   pub walk_start : (before : Board) (bus last : ℕ) (start : Walk) → IsWalking before (outset bus last spare start) 0 false start before
@@ -120,7 +120,7 @@ module _ (spare : ℕ) where
   abbrev Bridge : Board → Slot → ℕ → ℕ → Walk → Walk → Bool → View → Nodes → Type 0
   Bridge now slot bus last start walk more v nodes = AtBridge now slot walk.taken last more (UpTo v nodes bus last start walk)
 
-  bridge_there : (before now : Board) (slot : Slot) (bus place last : ℕ) (start walk : Walk) (more : Bool) (found : Found) → IsPlaceOf slot bus place → IsLooked now slot more found → found.bridge ≡ true → IsWalking before (outset bus last spare start) place more walk now → (v : View) (nodes : Nodes) → before ≡ v.fill nodes → IsSeen v bus 0 start.taken last → is_walkable nodes ≡ true → IsClosed nodes → Bridge now slot bus last start walk found.more v nodes
+  bridge_there : (before now : Board) (slot : Slot) (bus place last : ℕ) (start walk : Walk) (more : Bool) (found : Found) → IsPlaceOf slot bus place → IsLooked now slot more found → found.bridge ≡ true → IsWalking before (outset bus last spare start) place more walk now → OfClosed before bus start.taken last (Bridge now slot bus last start walk found.more)
   bridge_there before now slot bus place last start walk more found at looked one walking v nodes is seen walkable closed =
       at_bridge now slot bus place walk.taken last more found (UpTo v nodes bus last start walk) at looked one (came_of before now bus place last start walk more walking v nodes is seen walkable closed)
 
