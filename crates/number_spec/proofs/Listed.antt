@@ -185,6 +185,9 @@ IsWithin low high bus at = (at ≡ bus) ⊎ ((low < at) × (at ≤ high))
 wider : (low up end high bus at : ℕ) → low ≤ up → end ≤ high → IsWithin up end bus at → IsWithin low high bus at
 wider low up end high bus at less more is = elim is [ inl own ↦ inl own | inr there ↦ inr (omega (arith, less, there.0), omega (arith, more, there.1)) ]
 
+leading : (image : List ℕ) → is_type_1 image ≡ false → has_bus image ≡ true → ⊥
+leading image plain leads = both_ways (is_type_1 image) plain (and_parts (is_type_1 image) (not (secondary_bus image == 0)) leads).0
+
 within : (low high bus : ℕ) (all nodes : Nodes) (p : Place) → IsFull low high bus nodes → Contains (walk all nodes) p → IsWithin low high bus (slot_at bus nodes p).bus
 within low high bus all NoMore p is has = absurd (in_nil p has)
 within low high bus all (Node d f image behind others) Here is has = inl refl
@@ -197,7 +200,7 @@ within low high bus all (Node d f image behind others) (Next p) is has =
 within low high bus all (Node d f image behind others) (Behind p) is has =
     let inside = first_in all d f image behind others p has in
     elim is [
-      | inl plain ↦ absurd (both_ways (is_type_1 image) plain.0 (and_parts (is_type_1 image) (not (secondary_bus image == 0)) inside.1).0)
+      | inl plain ↦ absurd (leading image plain.0 inside.1)
       | inr leads ↦
           let end = rising (subordinate_bus image) high bus others leads.5 in
           elim (within (secondary_bus image) (subordinate_bus image) (secondary_bus image) behind behind p leads.4 inside.2) [
@@ -231,7 +234,7 @@ shown low high bus all (Node d f image behind others) (Next p) less is has bridg
 shown low high bus all (Node d f image behind others) (Behind p) less is has bridge =
     let inside = first_in all d f image behind others p has in
     elim is [
-      | inl plain ↦ absurd (both_ways (is_type_1 image) plain.0 (and_parts (is_type_1 image) (not (secondary_bus image == 0)) inside.1).0)
+      | inl plain ↦ absurd (leading image plain.0 inside.1)
       | inr leads ↦
           let end = rising (subordinate_bus image) high bus others leads.5 in
           let s = shown (secondary_bus image) (subordinate_bus image) (secondary_bus image) behind behind p (omega arith) leads.4 inside.2 bridge in
@@ -282,9 +285,6 @@ module _ (low high bus d f : ℕ) (image : List ℕ) (behind others all : Nodes)
         | inl own ↦ inl (omega (arith, own, less, over, s.from))
         | inr there ↦ inr (omega (arith, there.0, s.upto))
       ])
-
-leading : (image : List ℕ) → is_type_1 image ≡ false → has_bus image ≡ true → ⊥
-leading image plain leads = both_ways (is_type_1 image) plain (and_parts (is_type_1 image) (not (secondary_bus image == 0)) leads).0
 
 two : (low high bus : ℕ) (all nodes : Nodes) (p q : Place) → bus ≤ low → IsFull low high bus nodes → Contains (walk all nodes) p → Contains (walk all nodes) q → is_type_1 (image_at nodes p) ≡ true → is_type_1 (image_at nodes q) ≡ true → Two (slot_at bus nodes p) (image_at nodes p) (slot_at bus nodes q) (image_at nodes q)
 two low high bus all NoMore p q less is in_p in_q one other = absurd (in_nil p in_p)

@@ -1,5 +1,5 @@
 -- Where the ranges of bridges are apart, and inside those above them, each access is answered once at most.
-use Rattle.std.proofs.Common.{◌≡◌, ℕ, ◌<◌, ◌≤◌, ◌⊎◌, inl, inr, List, [], ◌∷◌, ◌++◌, Bool, true, false, ◌&&◌, arith, refl, ◌∙◌, ap, length, map}
+use Rattle.std.proofs.Common.{◌≡◌, ℕ, ◌<◌, ◌≤◌, ◌⊎◌, inl, inr, List, [], ◌∷◌, ◌++◌, Bool, true, false, ◌&&◌, arith, refl, ◌∙◌, ap, length, map, max}
 use Rattle.std.specs.Bool.{nat_le, nat_lt, ◌==◌, if◌then◌else◌}
 use Rattle.std.proofs.lemmas.Bool.{and_parts, and_from, or_cases, le-leb, eqb-true, eqb-false, ltb-true, leb-true, cases_lt, cases_Bool, false_from_ne_true}
 use Rattle.std.proofs.lemmas.List.{length-append, length-map}
@@ -39,8 +39,11 @@ once_on_bus (Node d f image behind others) rising access =
 -- ---- behind bridges
 
 -- a bridge passes on no access, to whatever bus behind a root
+abbrev pub IsIdleTo : List ℕ → ℕ → Type 0
+IsIdleTo image bus = ((is_type_1 image && secondary_bus image == bus) ≡ false) × ((is_type_1 image && passes_on image bus) ≡ false)
+
 abbrev pub IsIdle : List ℕ → Type 0
-IsIdle image = (bus : ℕ) → 0 < bus → ((is_type_1 image && secondary_bus image == bus) ≡ false) × ((is_type_1 image && passes_on image bus) ≡ false)
+IsIdle image = (bus : ℕ) → 0 < bus → IsIdleTo image bus
 
 -- the bridges on a bus that aren't idle have buses above the lower one up to the higher one, each after the
 -- one before it, and what is behind has buses of these above its own
@@ -71,17 +74,24 @@ one_side false false here further one_here one_further = omega arith
 pub first_alone : (first rest : List Place) → length first ≤ 1 → rest ≡ [] → length (map Behind first ++ map Next rest) ≤ 1
 first_alone first rest one none = rw (none, length-append, length-map) (omega arith)
 
--- no bridge passes on an access outside its range
-pub outside_is_idle : (image : List ℕ) (bus : ℕ) → (bus < secondary_bus image) ⊎ (subordinate_bus image < bus) → secondary_bus image ≤ subordinate_bus image → ((is_type_1 image && secondary_bus image == bus) ≡ false) × ((is_type_1 image && passes_on image bus) ≡ false)
-outside_is_idle image bus outside range = (
+pub device_is_idle : (image : List ℕ) (bus : ℕ) → is_type_1 image ≡ false → IsIdleTo image bus
+device_is_idle image bus plain = (rw plain refl, rw plain refl)
+
+-- a bridge whose two numbers are both below a bus, or which has a secondary number above it
+pub idle_beyond : (image : List ℕ) (bus : ℕ) → (bus < secondary_bus image) ⊎ (max (secondary_bus image) (subordinate_bus image) < bus) → IsIdleTo image bus
+idle_beyond image bus outside = (
   false_from_ne_true _ (λ meets. let at = eqb-true (secondary_bus image) bus (and_parts (is_type_1 image) (secondary_bus image == bus) meets).1 in omega arith),
   false_from_ne_true _ (λ meets.
       let passed = and_parts (nat_lt (secondary_bus image) bus) (nat_le bus (subordinate_bus image)) (and_parts (is_type_1 image) (passes_on image bus) meets).1 in
       omega (arith, ltb-true (secondary_bus image) bus passed.0, leb-true bus (subordinate_bus image) passed.1)),
 )
 
+-- no bridge passes on an access outside its range
+pub outside_is_idle : (image : List ℕ) (bus : ℕ) → (bus < secondary_bus image) ⊎ (subordinate_bus image < bus) → secondary_bus image ≤ subordinate_bus image → IsIdleTo image bus
+outside_is_idle image bus outside range = idle_beyond image bus (elim outside [ inl below ↦ inl below | inr above ↦ inr (omega (arith, above, range)) ])
+
 -- where a bridge passes nothing on, only what is behind the others on its bus answers
-pub rest_alone : (device function : ℕ) (image : List ℕ) (behind others : Nodes) (access : Slot) → ((is_type_1 image && secondary_bus image == access.bus) ≡ false) × ((is_type_1 image && passes_on image access.bus) ≡ false) → behind_bridges (Node device function image behind others) access ≡ map Next (behind_bridges others access)
+pub rest_alone : (device function : ℕ) (image : List ℕ) (behind others : Nodes) (access : Slot) → IsIdleTo image access.bus → behind_bridges (Node device function image behind others) access ≡ map Next (behind_bridges others access)
 rest_alone device function image behind others access idle = rw (idle.0, idle.1) refl
 
 -- an access to a bus outside the range
@@ -140,12 +150,13 @@ at_one_root root access one = elim (cases_Bool (goes_to (root ∷ []) access.bus
   | inr elsewhere ↦ rw elsewhere (omega arith)
 ]
 
+-- an access to the root or a bus above it
+pub once_at : (root : ℕ) (nodes : Nodes) (access : Slot) → is_rising nodes ≡ true → (0 < access.bus → length (behind_bridges nodes access) ≤ 1) → root ≤ access.bus → length (at_root (record { number = root; nodes = nodes }) access) ≤ 1
+once_at root nodes access rising behind from = elim (cases_Bool (root == access.bus)) [
+  | inl own ↦ rw own (once_on_bus nodes rising access)
+  | inr other ↦ let apart = eqb-false root access.bus other in rw other (behind (omega arith))
+]
+
 -- A board of one root is single where the ranges of its bridges are apart, and inside those above them.
 pub single : (root low high : ℕ) (nodes : Nodes) → IsRanged low high nodes → is_rising nodes ≡ true → IsSingle (record { number = root; nodes = nodes } ∷ [])
-single root low high nodes ranged rising access = at_one_root (record { number = root; nodes = nodes }) access (λ from. elim (cases_Bool (root == access.bus)) [
-  | inl own ↦ rw own (once_on_bus nodes rising access)
-  | inr other ↦
-      let apart = eqb-false root access.bus other in
-      let above : 0 < access.bus = omega arith in
-      rw other (once_behind low high nodes ranged rising access above)
-])
+single root low high nodes ranged rising access = at_one_root (record { number = root; nodes = nodes }) access (once_at root nodes access rising (once_behind low high nodes ranged rising access))

@@ -1,31 +1,18 @@
 -- While numbers are given each access is answered once at most.
 use Rattle.std.proofs.Common.{◌≡◌, ℕ, ◌<◌, ◌≤◌, ◌⊎◌, inl, inr, List, [], ◌∷◌, true, false, ◌&&◌, arith, refl, ◌∙◌, ap, subst, length, map, max}
 use Rattle.std.specs.Bool.{nat_le, nat_lt, ◌==◌}
-use Rattle.std.proofs.lemmas.Bool.{and_parts, and_from, both_ways, cases_lt, cases_Bool, eqb-true, eqb-false, eq-eqb, le-leb, lt-ltb, leb-true, ltb-true, false_from_ne_true}
+use Rattle.std.proofs.lemmas.Bool.{and_parts, and_from, both_ways, cases_lt, cases_Bool, eq-eqb, le-leb, lt-ltb, leb-true, ltb-true, false_from_ne_true}
 use Rattle.std.proofs.lemmas.List.{length-map}
 use Rattle.pci_spec.specs.Slot.{Slot}
 use Rattle.pci_spec.specs.Header.{secondary_bus, subordinate_bus}
 use Rattle.number_spec.specs.Board.{Nodes, NoMore, Node, Next, is_type_1, on_bus, passes_on, behind_bridges, at_root, IsSingle}
 use Rattle.number_spec.specs.Walk.{all_after, is_rising}
 use Rattle.number_spec.specs.Spread.{IsShut, IsSpread}
-use Rattle.number_spec.proofs.Single.{IsIdle, IsRanged, once_on_bus, one_side, other_side, first_alone, rest_alone, at_one_root, low_to_high}
-
--- a bridge passes nothing on to a bus
-abbrev pub IsIdleTo : List ℕ → ℕ → Type 0
-IsIdleTo image bus = ((is_type_1 image && secondary_bus image == bus) ≡ false) × ((is_type_1 image && passes_on image bus) ≡ false)
-
--- a bridge whose two numbers are both below a bus, or which has a secondary number above it
-pub idle_beyond : (image : List ℕ) (bus : ℕ) → (bus < secondary_bus image) ⊎ (max (secondary_bus image) (subordinate_bus image) < bus) → IsIdleTo image bus
-idle_beyond image bus outside = (
-  false_from_ne_true _ (λ meets. let at = eqb-true (secondary_bus image) bus (and_parts (is_type_1 image) (secondary_bus image == bus) meets).1 in omega arith),
-  false_from_ne_true _ (λ meets.
-      let passed = and_parts (nat_lt (secondary_bus image) bus) (nat_le bus (subordinate_bus image)) (and_parts (is_type_1 image) (passes_on image bus) meets).1 in
-      omega (arith, ltb-true (secondary_bus image) bus passed.0, leb-true bus (subordinate_bus image) passed.1)),
-)
+use Rattle.number_spec.proofs.Single.{IsIdleTo, IsIdle, IsRanged, device_is_idle, idle_beyond, once_at, once_on_bus, one_side, other_side, first_alone, rest_alone, at_one_root, low_to_high}
 
 pub shut_is_idle : (image : List ℕ) → IsShut image → (bus : ℕ) → 0 < bus → IsIdleTo image bus
 shut_is_idle image shut bus above = elim (cases_Bool (is_type_1 image)) [
-  | inr plain ↦ (rw plain refl, rw plain refl)
+  | inr plain ↦ device_is_idle image bus plain
   | inl bridge ↦ let numbers = shut bridge in idle_beyond image bus (inr (omega (arith, numbers.0, numbers.1)))
 ]
 
@@ -73,13 +60,7 @@ once_spread low high (Node d f image behind others) spread rising access above =
 
 -- an access to the root or a bus above it
 pub once_at_root : (root high : ℕ) (nodes : Nodes) → IsSpread root high nodes → is_rising nodes ≡ true → (access : Slot) → root ≤ access.bus → length (at_root (record { number = root; nodes = nodes }) access) ≤ 1
-once_at_root root high nodes spread rising access from = elim (cases_Bool (root == access.bus)) [
-  | inl own ↦ rw own (once_on_bus nodes rising access)
-  | inr other ↦
-      let apart = eqb-false root access.bus other in
-      let above : 0 < access.bus = omega arith in
-      rw other (once_spread root high nodes spread rising access above)
-]
+once_at_root root high nodes spread rising access = once_at root nodes access rising (once_spread root high nodes spread rising access)
 
 pub spread_single : (root high : ℕ) (nodes : Nodes) → is_rising nodes ≡ true → IsSpread root high nodes → IsSingle (record { number = root; nodes = nodes } ∷ [])
 spread_single root high nodes rising spread access = at_one_root (record { number = root; nodes = nodes }) access (λ from. once_at_root root high nodes spread rising access from)

@@ -5,13 +5,14 @@ use Rattle.pci_spec.specs.Slot.{Slot}
 use Rattle.number_spec.specs.Board.{Nodes, Node, Board, is_type_1}
 use Rattle.number_spec.specs.Walk.{is_walkable, all_after}
 use Rattle.number_spec.specs.Room.{shows}
+use Rattle.number_spec.proofs.Single.{device_is_idle}
 use Rattle.pci_number.specs.Seen.{View, code, IsSeen, IsRest, IsClosed}
 use Rattle.pci_number.specs.Steps.{IsLooked, Absent, There}
 use Rattle.pci_number.specs.Hushing.{Rest, IsRestOf}
 use Rattle.pci_number.specs.declared.look.Found.{Found}
 use Rattle.pci_number.proofs.Places.{IsPlaceOf, At}
 use Rattle.pci_number.proofs.Reached.{rest_of}
-use Rattle.pci_number.proofs.Views.{next, seen_next, seen_on, device_is_idle, above_is_idle}
+use Rattle.pci_number.proofs.Views.{next, seen_next, seen_on, above_is_idle}
 
 -- said of the nodes on a bus, as it is seen
 abbrev pub OfBus : Board → ℕ → (View → Nodes → Type 0) → Type 0

@@ -10,18 +10,11 @@ use Rattle.number_spec.specs.Board.{Nodes, NoMore, Node, Behind, Next, is_type_1
 use Rattle.number_spec.specs.Numbered.{without_numbers}
 use Rattle.number_spec.specs.Room.{shows}
 use Rattle.number_spec.proofs.Roomy.{shown}
-use Rattle.number_spec.proofs.Single.{outside_is_idle, rest_alone}
+use Rattle.number_spec.proofs.Single.{IsIdleTo, device_is_idle, outside_is_idle, rest_alone}
 use Rattle.pci_number.specs.Seen.{View, IsSeen, IsClosed}
 use Rattle.pci_number.specs.Steps.{IsAlike}
 
--- a bridge passes on no access to a bus
-abbrev pub IsIdleAt : List ℕ → ℕ → Type 0
-IsIdleAt image to = ((is_type_1 image && secondary_bus image == to) ≡ false) × ((is_type_1 image && passes_on image to) ≡ false)
-
-pub device_is_idle : (image : List ℕ) (to : ℕ) → is_type_1 image ≡ false → IsIdleAt image to
-device_is_idle image to plain = (rw plain refl, rw plain refl)
-
-pub above_is_idle : (image : List ℕ) (p s u to : ℕ) → shows image p s u ≡ true → s ≤ u → u < to → IsIdleAt image to
+pub above_is_idle : (image : List ℕ) (p s u to : ℕ) → shows image p s u ≡ true → s ≤ u → u < to → IsIdleTo image to
 above_is_idle image p s u to numbers range above =
     let show = shown image p s u numbers in
     outside_is_idle image to (inr (omega (arith, show.subordinate))) (omega (arith, show.secondary, show.subordinate))
@@ -31,7 +24,7 @@ above_is_idle image p s u to numbers range above =
 abbrev pub next : View → ℕ → ℕ → List ℕ → Nodes → View
 next v d f image behind = record { fill = λ others. v.fill (Node d f image behind others); at = λ place. v.at (Next place) }
 
-pub seen_next : (v : View) (bus from to high above last d f : ℕ) (image : List ℕ) (behind : Nodes) → IsSeen v bus from high last → from ≤ to → d * 8 + f < to → high ≤ above → ((bus : ℕ) → above < bus → bus ≤ last → IsIdleAt image bus) → IsSeen (next v d f image behind) bus to above last
+pub seen_next : (v : View) (bus from to high above last d f : ℕ) (image : List ℕ) (behind : Nodes) → IsSeen v bus from high last → from ≤ to → d * 8 + f < to → high ≤ above → ((bus : ℕ) → above < bus → bus ≤ last → IsIdleTo image bus) → IsSeen (next v d f image behind) bus to above last
 seen_next v bus from to high above last d f image behind seen onward passed higher idle = record {
   here = λ nodes access on it_is.
       let apart : (d == access.device && f == access.function) ≡ false = false_from_ne_true _ (λ meets.
@@ -76,7 +69,7 @@ inside v d f image others = record { fill = λ behind. v.fill (Node d f image be
 closed_answer_nothing : (nodes : Nodes) (access : Slot) → IsClosed nodes → 0 < access.bus → behind_bridges nodes access ≡ []
 closed_answer_nothing NoMore access closed some = refl
 closed_answer_nothing (Node d f image behind others) access closed some =
-    let idle : IsIdleAt image access.bus = elim (cases_Bool (is_type_1 image)) [
+    let idle : IsIdleTo image access.bus = elim (cases_Bool (is_type_1 image)) [
       | inl bridge ↦ above_is_idle image 0 0 0 access.bus (closed.0 bridge) (omega arith) some
       | inr plain ↦ device_is_idle image access.bus plain
     ] in
