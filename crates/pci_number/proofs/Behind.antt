@@ -9,8 +9,7 @@ use Rattle.pci_number.specs.Stood.{Adds}
 use Rattle.pci_number.specs.declared.walk.Walk.{Walk}
 use Rattle.pci_number.proofs.Few.{IsBegunFew, begun_few_alone, begun_few_wide}
 use Rattle.pci_number.proofs.Showing.{IsOpenOk, IsOpenEnd}
-use Rattle.pci_number.proofs.Standing.{Bridge, IsBusOk, stood_here, bus_there}
-use Rattle.pci_number.proofs.Stood.{adds_then}
+use Rattle.pci_number.proofs.Standing.{Bridge, IsBusOk, stood_here, stood_wide}
 use Rattle.pci_number.proofs.Walking.{one_more, IsBegun, begun_alone, begun_wide}
 
 -- what is known where it leads on: of the board, of the writes that were made, of the boards that stood, of failures
@@ -51,9 +50,7 @@ module _ (spare : ℕ) (now mid : Board) (slot : Slot) (last : ℕ) (walk : Walk
   behind_wide far after far_by far_failed newest gets bus up bus_few bus_ok none_failed = record {
     begun = begun_wide spare now mid far slot last walk after left gets bus up;
     few = begun_few_wide spare now mid slot last walk total opened_by far_by left gets opened_few bus_few;
-    stood = λ b.
-        adds_then IsSingle old newer newest (stood_here now slot last walk old new newer more b left opened_ok)
-        (bus_there now mid slot last walk old new more b (Adds IsSingle newer newest) left gets bus_ok);
+    stood = λ b. stood_wide now mid slot last walk old new newer newest more b left gets opened_ok bus_ok;
     above = up;
     counted = none_failed;
   }

@@ -125,6 +125,10 @@ IsBusOk before bus last start old new = OfApart before bus last start (Adds IsSi
 abbrev pub IsBusEnd : Board → ℕ → ℕ → Walk → List Board → List Board → Type 0
 IsBusEnd before bus last start old new = OfApart before bus last start (Ends IsSingle old new)
 
+pub stood_wide : (now mid : Board) (slot : Slot) (last : ℕ) (walk : Walk) (old new newer newest : List Board) (more : Bool) (b : Bridge now slot last walk old new more) → walk.taken < last → IsOpened now slot (walk.taken + 1) last true mid → IsOpenOk now slot (walk.taken + 1) last new newer → IsBusOk mid (walk.taken + 1) last (one_more walk) newer newest → Adds IsSingle old newest
+stood_wide now mid slot last walk old new newer newest more b left gets open_stood stood =
+    adds_then IsSingle old newer newest (stood_here now slot last walk old new newer more b left open_stood) (bus_there now mid slot last walk old new more b (Adds IsSingle newer newest) left gets stood)
+
 module _ (spare : ℕ) (before now : Board) (slot : Slot) (bus place last : ℕ) (start walk : Walk) (old new newer : List Board) (more : Bool) (found : Found) (at : IsPlaceOf slot bus place) (looked : IsLooked now slot more found) (one : found.bridge ≡ true) (left : walk.taken < last) (standing : IsWalkStanding (moment before old) (outset bus last spare start) place more walk (moment now new)) where
   pub stand_left_open : {T E : Type 0} → (r : Result T E) → IsErr r → IsOpenEnd now slot (walk.taken + 1) last new newer → IsBusStood (moment before old) (outset bus last spare start) r newer
   stand_left_open r err gets = λ v nodes is seen walkable closed apart.
@@ -140,14 +144,14 @@ module _ (spare : ℕ) (before now : Board) (slot : Slot) (bus place last : ℕ)
         (bus_there now mid slot last walk old new found.more b (Ends IsSingle newer newest) left gets ends))
 
   -- the bridge leads on
-  module _ (far : Board) (inside : Walk) (begun : IsBegun spare now far slot last walk inside) (newest : List Board) (far_stood : (b : Bridge now slot last walk old new found.more) → Adds IsSingle old newest) (later : Board) (final : List Board) (put_stood : IsOneMore (moment far newest) (moment later final)) where
+  module _ (far : Board) (newest : List Board) (far_stood : (b : Bridge now slot last walk old new found.more) → Adds IsSingle old newest) (later : Board) (final : List Board) (put_stood : IsOneMore (moment far newest) (moment later final)) where
     pub stand_left_led : {T E : Type 0} → (r : Result T E) → IsErr r → IsBusStood (moment before old) (outset bus last spare start) r final
     stand_left_led r err = λ v nodes is seen walkable closed apart.
         let b = bridge_there spare before now slot bus place last start walk old new more found at looked one standing v nodes is seen walkable closed apart in
         ended IsSingle r old final err (ends_one IsSingle far old newest later final (far_stood b) put_stood)
 
-    pub stand_led : (after : Walk) → IsPut far slot 0x1a after.taken later → IsLed far slot inside.taken last spare after.taken → inside.taken ≤ after.taken → IsWalkStanding (moment before old) (outset bus last spare start) (place + 1) found.more after (moment later final)
-    stand_led after put led above = stand_given spare before now later slot bus place last start walk after old new final more found at looked one left standing (λ b.
+    pub stand_led : (inside after : Walk) → IsBegun spare now far slot last walk inside → IsPut far slot 0x1a after.taken later → IsLed far slot inside.taken last spare after.taken → inside.taken ≤ after.taken → IsWalkStanding (moment before old) (outset bus last spare start) (place + 1) found.more after (moment later final)
+    stand_led inside after begun put led above = stand_given spare before now later slot bus place last start walk after old new final more found at looked one left standing (λ b.
         let a = begun b.view b.image b.behind b.others b.is b.seen b.alone b.bridge b.known.0.1 b.inner in
         let p = put b.view walk.taken last a.new a.nodes b.others a.is b.seen b.alone in
         let alike = alike_then b.image a.new p.0 a.alike (alike_subordinate a.new p.0 p.2) in

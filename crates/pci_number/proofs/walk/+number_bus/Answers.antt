@@ -1,5 +1,7 @@
 use Rattle.std.proofs.Common.{◌+◌, true, false, arith, refl, ap, subst}
+use Rattle.number_spec.specs.Board.{IsSingle}
 use Rattle.pci_number.specs.Steps.{IsOpenLeft}
+use Rattle.pci_number.specs.Stood.{Adds}
 use Rattle.pci_number.specs.Walked.{outset}
 use Rattle.pci_number.specs.Walking.{IsWalking}
 use Rattle.pci_number.specs.declared.walk.Walk.{Walk}
@@ -8,7 +10,7 @@ use Rattle.pci_number.proofs.Behind.{is_open, few_from, open_ok, open_end, Behin
 use Rattle.pci_number.proofs.Few.{IsBegunFew, begun_few_alone, begun_few_wide, walk_count_start, walk_count_pass, walk_count_without, walk_count_led, walk_few, walk_few_open, walk_few_led}
 use Rattle.pci_number.proofs.Places.{place_of}
 use Rattle.pci_number.proofs.Walking.{IsBegun, begun_alone, begun_wide, walk_start, walk_pass, walk_without, walk_led, walk_left, walk_left_open, walk_left_bus, walk_left_led, walk_done}
-use Rattle.pci_number.proofs.Standing.{stand_start, stand_pass, stand_without, stand_led, stand_left, stand_left_open, stand_left_bus, stand_left_led, stand_done}
+use Rattle.pci_number.proofs.Standing.{Bridge, stood_here, stood_wide, stand_start, stand_pass, stand_without, stand_led, stand_left, stand_left_open, stand_left_bus, stand_left_led, stand_done}
 use Rattle.pci_number.proofs.walk.+number_bus.Goals as goal
 use Rattle.pci_number.proofs.walk.+number_bus.Goals.{then-found+then-walk-last+in_ok-open+in_ok-walk-2, then-branch+in_ok-walk, else-branch, then-found+else-walk-last, else-found}
 
@@ -106,7 +108,7 @@ loop-place-preserved g t c =
             walking = rw (w.port-is, w.walk-is) (walk_led spare before now far later slot bus at last start walk led_on after more found place look.looked w.if-found.true w.if-walk-last.true
                 behind.begun led.put led.led led.above refl so_far.walking);
             standing = rw (w.port-is, w.walk-is) (stand_led spare before now slot bus at last start walk old stood newer more found place look.looked w.if-found.true w.if-walk-last.true so_far.standing
-                far led_on behind.begun far_stood behind.stood later (history w.lead_to.new.port) led.stood after led.put led.led led.above);
+                far far_stood behind.stood later (history w.lead_to.new.port) led.stood led_on after behind.begun led.put led.led led.above);
             above = omega (arith, ap (λ (x : Walk). x.taken) w.walk-is, led.above, behind.above, so_far.above);
             counted = omega (arith, ap failures w.port-is, led.counted, behind.counted);
             few = rw (w.port-is, w.walk-is) (walk_count_led before now far later slot bus at spare last start walk led_on after more found made total far_by (writes w.lead_to.new.port) place look.looked w.if-found.true w.if-walk-last.true
@@ -270,39 +272,24 @@ returns-in_err-walk-2-clause-few g t c =
 pub returns-in_err-walk-2-clause-stood : goal.returns-in_err-walk-2-clause-stood
 returns-in_err-walk-2-clause-stood g t c =
     let board = g.P.BoardPort.board in
-    let writes = g.P.BoardPort.writes in
     let history = g.P.BoardPort.history in
-    let failures = g.P.BoardPort.failures in
     let now = board c.loop-place.port in
-    let total = writes c.loop-place.port in
     let old = history c.args.port.now in
     let stood = history c.loop-place.port in
-    let failed = failures c.args.port.now in
     let opened = board c.open.new.port in
-    let opened_by = writes c.open.new.port in
     let newer = history c.open.new.port in
     let slot = c.slot_at-slot.result in
     let walk = c.loop-place.walk in
     let last = c.args.last in
     let found = c.in_ok-found.found in
     let look = c.in_ok-found.ensures in
-    let seen_on = board c.look.new.port in
-    let opened_few = few_from now seen_on slot (walk.taken + 1) last look.same total (writes c.look.new.port) opened_by look.no_more c.in_ok-open.ensures.few in
-    let opened_ok = open_ok now seen_on slot (walk.taken + 1) last look.same stood (history c.look.new.port) newer look.same_history c.in_ok-open.ensures.stood in
-    let far = c.if-branch.port in
-    let behind : Behind c.args.spare now (board far) slot last walk c.if-branch.walk total (writes far) old stood (history far) found.more failed (failures far) = elim c.if-branch.branch [
-      | then-branch+in_ok-walk y ↦ rw (y.port-is, y.walk-is)
-          (behind_wide c.args.spare now opened slot last walk total opened_by old stood newer found.more failed c.if-walk-last.true opened_few opened_ok
-          (board y.number_bus.new.port) y.in_ok-walk.walk (writes y.number_bus.new.port) (failures y.number_bus.new.port) (history y.number_bus.new.port)
-          (is_open now seen_on slot (walk.taken + 1) last look.same opened c.in_ok-open.field-0 true y.if-branch.true c.in_ok-open.ensures.opened)
-          y.in_ok-walk.ensures.numbered y.in_ok-walk.ensures.above y.in_ok-walk.ensures.few y.in_ok-walk.ensures.stood
-          (omega (arith, y.in_ok-walk.ensures.counted, c.in_ok-open.ensures.counted, look.counted, c.loop-place.invariant.counted)))
-      | else-branch y ↦ rw (y.port-is, y.walk-is)
-          (behind_alone c.args.spare now opened slot last walk total opened_by old stood newer found.more failed c.if-walk-last.true opened_few opened_ok (failures c.open.new.port)
-          (is_open now seen_on slot (walk.taken + 1) last look.same opened c.in_ok-open.field-0 false y.if-branch.false c.in_ok-open.ensures.opened)
-          (omega (arith, c.in_ok-open.ensures.counted, look.counted, c.loop-place.invariant.counted)))
+    let opened_ok = open_ok now (board c.look.new.port) slot (walk.taken + 1) last look.same stood (history c.look.new.port) newer look.same_history c.in_ok-open.ensures.stood in
+    let far_stood : (b : Bridge now slot last walk old stood found.more) → Adds IsSingle old (history c.if-branch.port) = elim c.if-branch.branch [
+      | then-branch+in_ok-walk y ↦ rw y.port-is (λ b. stood_wide now opened slot last walk old stood newer (history y.number_bus.new.port) found.more b c.if-walk-last.true
+          (is_open now (board c.look.new.port) slot (walk.taken + 1) last look.same opened c.in_ok-open.field-0 true y.if-branch.true c.in_ok-open.ensures.opened) opened_ok y.in_ok-walk.ensures.stood)
+      | else-branch y ↦ rw y.port-is (λ b. stood_here now slot last walk old stood newer found.more b c.if-walk-last.true opened_ok)
     ] in
     stand_left_led c.args.spare (board c.args.port.now) now slot c.args.bus c.loop-place.place last c.args.start walk old stood newer c.loop-place.more found
     (place_of slot c.args.bus c.loop-place.place c.slot_at-slot.ensures) look.looked c.if-found.true c.if-walk-last.true c.loop-place.invariant.standing
-    (board far) c.if-branch.walk behind.begun (history far) behind.stood (board c.lead_to.new.port) (history c.lead_to.new.port) c.in_err-walk-2.ensures.stood
+    (board c.if-branch.port) (history c.if-branch.port) far_stood (board c.lead_to.new.port) (history c.lead_to.new.port) c.in_err-walk-2.ensures.stood
     c.from_residual-in_err-walk-2.result c.from_residual-in_err-walk-2.ensures.0
