@@ -70,6 +70,13 @@ passed_more s k f g at passed =
       | inr differ ↦ let before = is.before in inl (in_front_from k s g is.listed (omega (arith, before, differ)))
     ]
 
+-- the bus behind a bridge has a place in the table
+pub secondary_small : (s : System) → IsSystem s → (f : Function) (r : Record) (bridge : Bridge) → IsRecordOf s f r → r.bridge ≡ Some bridge → bridge.secondary < 256
+secondary_small s system f r bridge is there =
+    let to : bridge.secondary ≡ secondary f = ap (λ (x : decoded.Bridge). x.secondary) (same_bridge_of r f bridge is.value there) in
+    let small = (All-contains IsFunction s f system.each is.listed).image.bytes 0x19 in
+    omega (arith, to, small)
+
 module _ (roots : List ℕ) (s : System) (system : IsSystem s) (nested : IsNested roots s) where
   above_root : (bus : ℕ) → Contains roots bus → IsAbove s bus no_bridge
   above_root bus root = record {
@@ -164,13 +171,6 @@ module _ (roots : List ℕ) (s : System) (system : IsSystem s) (nested : IsNeste
                   ])
             ];
           }
-
-  -- the bus behind a bridge has a place in the table
-  pub secondary_small : (f : Function) (r : Record) (bridge : Bridge) → IsRecordOf s f r → r.bridge ≡ Some bridge → bridge.secondary < 256
-  secondary_small f r bridge is there =
-      let to : bridge.secondary ≡ secondary f = ap (λ (x : decoded.Bridge). x.secondary) (same_bridge_of r f bridge is.value there) in
-      let small = (All-contains IsFunction s f system.each is.listed).image.bytes 0x19 in
-      omega (arith, to, small)
 
   -- once all functions are passed, the table is whole
   pub whole_aboves : (k : ℕ) (aboves : List Above) → k ≡ length s → AreAbovesTo roots s k aboves → AreAboves s aboves

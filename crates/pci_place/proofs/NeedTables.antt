@@ -6,11 +6,10 @@ use Rattle.std.specs.List.{All, slice_get, flat_map, sum}
 use Rattle.std.proofs.lemmas.Bool.{cases_eq, cases_lt, lt-ltb, le-ltb, eq-eqb, ne_eqb}
 use Rattle.std.proofs.lemmas.List.{length-set, drop_all, drop_more, get_or-replicate, get_or-set_same, get_or-set_other, get_or_default}
 use Rattle.std.proofs.lemmas.List.Sums.{fold_push, sum_by_push}
-use Rattle.std.proofs.lemmas.List.Elements.{All-contains}
 use Rattle.std.proofs.lemmas.Option.{slice_get_within, slice_get_read, get_or_from_slice_get}
 use Rattle.pci_spec.specs.Slot.{Slot}
 use Rattle.pci_spec.specs.Window.{WindowKind}
-use Rattle.pci_spec.specs.System.{System, Function, IsFunction, IsSystem, is_bridge}
+use Rattle.pci_spec.specs.System.{System, Function, IsSystem, is_bridge}
 use Rattle.pci_spec.specs.Bus.{secondary, is_root, IsNested}
 use Rattle.pci_spec.specs.Decoded.{HasRecords}
 use Rattle.pci_spec.specs.Decoded as decoded
@@ -32,6 +31,7 @@ use Rattle.pci_place.specs.Pools.{pools_value}
 use Rattle.pci_place.specs.Above.{IsAbove, AreAboves}
 use Rattle.pci_place.specs.Records.{IsRecordOf}
 use Rattle.pci_place.specs.Sizes.{own_sizes, window_sizes, IsTallyOf}
+use Rattle.pci_place.proofs.Aboves.{secondary_small}
 use Rattle.pci_place.proofs.Owned.{sizes_are}
 use Rattle.pci_place.proofs.Records.{FunctionAt, function_at, same_count}
 
@@ -91,12 +91,6 @@ module _ (roots : List ℕ) (s : System) (system : IsSystem s) (nested : IsNeste
       | inr none ↦ le-ltb 0 (limited n) (omega (arith, none)) ∙ sym (le-ltb 0 n none)
     ]
 
-    secondary_small : (b : Bridge) → r.bridge ≡ Some b → b.secondary < 256
-    secondary_small b there =
-        let to : b.secondary ≡ secondary f = ap (λ (x : decoded.Bridge). x.secondary) (same_bridge_of r f b is.value there) in
-        let small = (All-contains IsFunction s f system.each is.listed).image.bytes 0x19 in
-        omega (arith, to, small)
-
     -- the window that the table asks for is the bridge's
     window_is : (o : Option Bridge) → r.bridge ≡ o → window_sizes c of_bus o ≡ behind_sizes s value c f
     window_is None none =
@@ -108,7 +102,7 @@ module _ (roots : List ℕ) (s : System) (system : IsSystem s) (nested : IsNeste
         let bridge : is_bridge f ≡ true = sym (same_bridge r f is.value) ∙ ap is_some there in
         let to : b.secondary ≡ secondary f = ap (λ (x : decoded.Bridge). x.secondary) (same_bridge_of r f b is.value there) in
         let need : get_or of_bus b.secondary 0 ≡ limited n =
-        was.need b.secondary (secondary_small b there)
+        was.need b.secondary (secondary_small s system f r b is there)
         ∙ ap (λ bus. limited (added_on s value c bus (drop (k + 1) s))) to
         ∙ ap limited (whole_behind roots s value c system nested k f at bridge) in
         ap (λ m. cond (nat_lt 0 m) (window_size c m ∷ []) []) need
@@ -171,12 +165,20 @@ module _ (roots : List ℕ) (s : System) (system : IsSystem s) (nested : IsNeste
             e ∙ here (is_root roots f.slot.bus) ∙ ap (λ fs. plan.greatest (flat_map (root_sizes roots s value c) fs)) (sym rest_is);
       }
 
-  -- once all functions are passed, the table is whole
-  pub whole_needs : (of_bus : List ℕ) (most : ℕ) → AreNeedsFrom roots s value c 0 of_bus most → (bus : ℕ) → bus < 256 → get_or of_bus bus 0 ≡ need_of s value c bus
-  whole_needs of_bus most was bus small = was.need bus small ∙ ap limited (sym (need_added s value c bus roots system nested))
+  -- once all records are passed, the table is whole
+  module _ (records : List Record) (has : HasRecords s (map record_value records)) (done : ℕ) (all : length records ≤ done)
+      (of_bus : List ℕ) (most : ℕ) (was : AreNeedsFrom roots s value c (length s - done) of_bus most) where
+    whole : AreNeedsFrom roots s value c 0 of_bus most
+    whole =
+        let count = same_count s records has in
+        let first : length s - done ≡ 0 = omega (arith, count, all) in
+        subst (λ n. AreNeedsFrom roots s value c n of_bus most) first was
 
-  pub whole_greatest : (of_bus : List ℕ) (most : ℕ) → AreNeedsFrom roots s value c 0 of_bus most → most ≡ plan.greatest_of_roots roots s value c
-  whole_greatest of_bus most was = was.greatest ∙ greatest_by_slots roots s value c system nested
+    pub whole_needs : (bus : ℕ) → bus < 256 → get_or of_bus bus 0 ≡ need_of s value c bus
+    whole_needs bus small = whole.need bus small ∙ ap limited (sym (need_added s value c bus roots system nested))
+
+    pub whole_greatest : most ≡ plan.greatest_of_roots roots s value c
+    whole_greatest = whole.greatest ∙ greatest_by_slots roots s value c system nested
 
   -- ---- the records, from the last to the first
 

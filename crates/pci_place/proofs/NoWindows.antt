@@ -1,7 +1,7 @@
 -- The first function with an I/O BAR behind a bridge without an I/O window.
-use Rattle.std.proofs.Common.{◌≡◌, ℕ, ◌+◌, ◌⊎◌, inl, inr, length, take, refl, true, false, not, Some, arith, sym, ◌∙◌, ap, subst}
+use Rattle.std.proofs.Common.{◌≡◌, ℕ, ◌+◌, ◌⊎◌, inl, inr, List, length, take, get_or, refl, true, false, not, arith, sym, ◌∙◌, ap, subst}
 use Rattle.std.specs.Bool.{IsTrue}
-use Rattle.std.specs.List.{Contains, list_any, slice_get}
+use Rattle.std.specs.List.{Contains, list_any}
 use Rattle.std.proofs.lemmas.Bool.{both_ways}
 use Rattle.pci_spec.specs.Slot.{Slot, slot_number}
 use Rattle.pci_spec.specs.Window.{IoWindow, has_window}
@@ -11,10 +11,11 @@ use Rattle.plan_spec.specs.PlanPromise.{IsFirstLacking}
 use Rattle.pci_spec.proofs.Nesting.{one_function}
 use Rattle.plan_spec.proofs.Planning.Passed.{in_front_from, passed_or_higher}
 use Rattle.pci_function.specs.declared.record.Record.{Record}
+use Rattle.pci_tree.proofs.Lifting.{same_slot_of}
 use Rattle.pci_place.specs.declared.above.Above.{Above}
-use Rattle.pci_place.specs.Above.{IsAbove}
+use Rattle.pci_place.specs.Above.{IsAbove, AreAboves}
 use Rattle.pci_place.specs.Classes.{is_io_kind}
-use Rattle.pci_place.specs.Records.{IsRecordOf}
+use Rattle.pci_place.proofs.Records.{FunctionAt}
 use Rattle.pci_place.proofs.Owned.{any_io, lacking_above}
 use Rattle.pci_place.proofs.Aboves.{passed_more}
 
@@ -34,34 +35,43 @@ module _ (s : System) (system : IsSystem s) where
 
   -- ---- the next function
 
-  module _ (k : ℕ) (f : Function) (r : Record) (at : slice_get s k ≡ Some f) (is : IsRecordOf s f r) (above : Above) (at_bus : IsAbove s f.slot.bus above) (none : NoneLacks s k) where
-    pub lacks_here : above.io ≡ false → list_any (λ bar. is_io_kind bar.kind) r.bars.items ≡ true → LacksWindow s f.slot
-    lacks_here no_window io =
-        let listed = is.listed in
-        (f, (listed.0, listed.1, listed.2), refl, sym (any_io s f r is) ∙ io, sym (lacking_above s f r is above at_bus) ∙ ap not no_window)
+  module _ (k : ℕ) (r : Record) (here : FunctionAt s r k) (aboves : List Above) (are : AreAboves s aboves) (bus : ℕ) (on : bus ≡ r.slot.bus) (none : NoneLacks s k) where
+    abbrev f : Function
+    f = here.f
 
-    -- and it is the first one
-    pub first_here : LacksWindow s f.slot → IsFirstLacking s f.slot
-    first_here lacks = record {
-      lacks = lacks;
-      first = λ other (g, listed, same, io, lacking).
-          elim (passed_or_higher s system k f at g (listed.0, listed.1, listed.2)) [
-            | inl passed ↦ absurd (none g passed (subst (λ slot. LacksWindow s slot) (sym same) (g, (listed.0, listed.1, listed.2), same, io, lacking)))
-            | inr higher ↦ let number : slot_number g.slot ≡ slot_number other = ap slot_number same in omega (arith, higher, number)
-          ];
-    }
+    abbrev nothing : Above
+    nothing = record { io = false; pref = false; wide = false }
+
+    abbrev above : Above
+    above = get_or aboves bus nothing
+
+    at_bus : IsAbove s f.slot.bus above
+    at_bus = subst (λ n. IsAbove s f.slot.bus (get_or aboves n nothing)) (sym (on ∙ ap (λ (x : Slot). x.bus) (same_slot_of r f here.is.value))) (are f nothing here.is.listed)
+
+    -- one without a window above it lacks that window, and is the first one
+    pub first_here : above.io ≡ false → list_any (λ bar. is_io_kind bar.kind) r.bars.items ≡ true → IsFirstLacking s r.slot
+    first_here no_window io =
+        let listed = here.is.listed in
+        subst (IsFirstLacking s) (sym (same_slot_of r f here.is.value)) record {
+          lacks = (f, (listed.0, listed.1, listed.2), refl, sym (any_io s f r here.is) ∙ io, sym (lacking_above s f r here.is above at_bus) ∙ ap not no_window);
+          first = λ other (g, listed, same, io, lacking).
+              elim (passed_or_higher s system k f here.at g (listed.0, listed.1, listed.2)) [
+                | inl passed ↦ absurd (none g passed (subst (λ slot. LacksWindow s slot) (sym same) (g, (listed.0, listed.1, listed.2), same, io, lacking)))
+                | inr higher ↦ let number : slot_number g.slot ≡ slot_number other = ap slot_number same in omega (arith, higher, number)
+              ];
+        }
 
     none_here : (above.io ≡ true) ⊎ (list_any (λ bar. is_io_kind bar.kind) r.bars.items ≡ false) → LacksWindow s f.slot → ⊥
     none_here fine (g, listed, same, io, lacking) =
-        let e : g ≡ f = one_function s system g f (listed.0, listed.1, listed.2) is.listed (ap slot_number same) in
+        let e : g ≡ f = one_function s system g f (listed.0, listed.1, listed.2) here.is.listed (ap slot_number same) in
         elim fine [
-          | inl windows ↦ both_ways (not above.io) (ap not windows) (lacking_above s f r is above at_bus ∙ lacking)
-          | inr no_bar ↦ both_ways (list_any (λ bar. is_io_kind bar.kind) r.bars.items) no_bar (any_io s f r is ∙ subst (λ (h : Function). list_any (is_io_part h) (bars_and_rom h) ≡ true) e io)
+          | inl windows ↦ both_ways (not above.io) (ap not windows) (lacking_above s f r here.is above at_bus ∙ lacking)
+          | inr no_bar ↦ both_ways (list_any (λ bar. is_io_kind bar.kind) r.bars.items) no_bar (any_io s f r here.is ∙ subst (λ (h : Function). list_any (is_io_part h) (bars_and_rom h) ≡ true) e io)
         ]
 
     -- one that has all windows above it, or no I/O BAR
     pub none_more : (above.io ≡ true) ⊎ (list_any (λ bar. is_io_kind bar.kind) r.bars.items ≡ false) → NoneLacks s (k + 1)
-    none_more fine g passed lacks = elim (passed_more s k f g at passed) [
+    none_more fine g passed lacks = elim (passed_more s k f g here.at passed) [
       | inl before ↦ none g before lacks
       | inr here ↦ none_here fine (subst (λ (h : Function). LacksWindow s h.slot) here lacks)
     ]

@@ -1,15 +1,20 @@
 -- The functions of a system and their records, side by side.
-use Rattle.std.proofs.Common.{◌≡◌, ℕ, List, Option, Some, None, refl, sym, ◌∙◌, ap, map, length}
+use Rattle.std.proofs.Common.{◌≡◌, ℕ, List, Option, Some, None, refl, sym, ◌∙◌, ap, map, length, subst, ◌<◌, get_or}
 use Rattle.std.specs.List.{Contains, slice_get}
 use Rattle.std.specs.Option.{option_map}
-use Rattle.std.proofs.lemmas.Option.{slice_get-map, slice_get_within, get_or_from_slice_get}
+use Rattle.std.proofs.lemmas.Option.{slice_get-map, slice_get_within, slice_get_read, get_or_from_slice_get}
 use Rattle.std.proofs.lemmas.List.{length-map}
 use Rattle.std.proofs.lemmas.List.Elements.{All-contains}
 use Rattle.pci_spec.specs.System.{System, Function}
 use Rattle.pci_spec.specs.Decoded.{IsDecodable, HasRecords, record_of}
+use Rattle.pci_spec.specs.Decoded as decoded
 use Rattle.pci_function.specs.Values.{record_value}
 use Rattle.pci_function.specs.declared.record.Record.{Record}
 use Rattle.pci_place.specs.Records.{IsRecordOf}
+
+-- the records that an outline lends are those of the system
+pub lent : (s : System) (records : List Record) {values : List decoded.Record} → map record_value records ≡ values → HasRecords s values → HasRecords s (map record_value records)
+lent s records same has = subst (HasRecords s) (sym same) has
 
 -- as many functions as records
 pub same_count : (s : System) (records : List Record) → HasRecords s (map record_value records) → length s ≡ length records
@@ -36,3 +41,8 @@ function_at s records is k r at =
           let listed : Contains s f = (k, within, get_or_from_slice_get s k f f e) in
           record { f = f; at = e; is = record { listed = listed; decodable = All-contains IsDecodable s f is.decodable listed; value = same } }
     ] refl
+
+-- the function of the record that a pass has come to
+pub function_read : (s : System) (records : List Record) {values : List decoded.Record} → map record_value records ≡ values → HasRecords s values
+    → (k : ℕ) (r : Record) → k < length records → r ≡ get_or records k r → FunctionAt s r k
+function_read s records same has k r within read = function_at s records (lent s records same has) k r (slice_get_read records (length records) k r refl within read)

@@ -1,13 +1,9 @@
-use Rattle.std.proofs.Common.{◌≡◌, ◌+◌, ◌<◌, length, map, refl, false, Some, arith, sym, ◌∙◌, ap, get_or, subst}
-use Rattle.std.specs.List.{slice_get}
-use Rattle.std.proofs.lemmas.Option.{slice_get_read}
+use Rattle.std.proofs.Common.{◌≡◌, ◌+◌, length, false, arith, sym, ◌∙◌, ap, get_or, subst}
 use Rattle.pci_spec.specs.Slot.{Slot}
-use Rattle.pci_spec.specs.Decoded.{HasRecords}
-use Rattle.pci_function.specs.Values.{record_value}
 use Rattle.pci_tree.proofs.Lifting.{same_slot_of}
 use Rattle.pci_place.specs.declared.above.Above.{Above}
 use Rattle.pci_place.specs.Above.{system_in, IsAbove}
-use Rattle.pci_place.proofs.Records.{FunctionAt, function_at, same_count}
+use Rattle.pci_place.proofs.Records.{lent, function_read, same_count}
 use Rattle.pci_place.proofs.Aboves.{AreAbovesTo, aboves_none, above_of, aboves_same, aboves_more, secondary_small, whole_aboves}
 use Rattle.pci_place.proofs.above.aboves.Goals as goal
 use Rattle.pci_place.proofs.above.aboves.Goals.{in-Some, in_default}
@@ -20,12 +16,9 @@ loop-record-preserved g c =
     let roots = c.args.admitted.now.roots in
     let s = system_in c.args.admitted.now in
     let admitted = c.outline.ensures.admitted in
-    let records = c.records-record-items.result.now in
-    let has : HasRecords s (map record_value records) = subst (λ rs. HasRecords s rs) (sym c.records-record-items.ensures.value) c.outline.ensures.records in
     let k = c.loop-record.record-index in
     let r = c.record-item.result in
-    let at : slice_get records k ≡ Some r = slice_get_read records (length records) k r refl c.loop-record-test.true c.record-item.is in
-    let here : FunctionAt s r k = function_at s records has k r at in
+    let here = function_read s c.records-record-items.result.now c.records-record-items.ensures.value c.outline.ensures.records k r c.loop-record-test.true c.record-item.is in
     let aboves = c.loop-record.aboves in
     elim c.match-record.branch [
       | in-Some w ↦
@@ -43,49 +36,26 @@ loop-record-preserved g c =
 
 pub overflow_cast-secondary : goal.overflow_cast-secondary
 overflow_cast-secondary g c =
-    let s = system_in c.args.admitted.now in
-    let admitted = c.outline.ensures.admitted in
-    let records = c.records-record-items.result.now in
-    let has : HasRecords s (map record_value records) = subst (λ rs. HasRecords s rs) (sym c.records-record-items.ensures.value) c.outline.ensures.records in
-    let k = c.loop-record.record-index in
-    let r = c.record-item.result in
-    let at : slice_get records k ≡ Some r = slice_get_read records (length records) k r refl c.loop-record-test.true c.record-item.is in
-    let here : FunctionAt s r k = function_at s records has k r at in
-    let small : c.in-Some.bridge.secondary < 256 = secondary_small c.args.admitted.now.roots s admitted.system admitted.nested here.f r c.in-Some.bridge here.is c.in-Some.is in
+    let here = function_read (system_in c.args.admitted.now) c.records-record-items.result.now c.records-record-items.ensures.value c.outline.ensures.records c.loop-record.record-index c.record-item.result c.loop-record-test.true c.record-item.is in
+    let small = secondary_small _ c.outline.ensures.admitted.system here.f c.record-item.result c.in-Some.bridge here.is c.in-Some.is in
     omega (arith, small)
 
 pub offset_bounds-aboves-secondary : goal.offset_bounds-aboves-secondary
 offset_bounds-aboves-secondary g c =
-    let s = system_in c.args.admitted.now in
-    let admitted = c.outline.ensures.admitted in
-    let records = c.records-record-items.result.now in
-    let has : HasRecords s (map record_value records) = subst (λ rs. HasRecords s rs) (sym c.records-record-items.ensures.value) c.outline.ensures.records in
-    let k = c.loop-record.record-index in
-    let r = c.record-item.result in
-    let at : slice_get records k ≡ Some r = slice_get_read records (length records) k r refl c.loop-record-test.true c.record-item.is in
-    let here : FunctionAt s r k = function_at s records has k r at in
-    let small : c.in-Some.bridge.secondary < 256 = secondary_small c.args.admitted.now.roots s admitted.system admitted.nested here.f r c.in-Some.bridge here.is c.in-Some.is in
+    let here = function_read (system_in c.args.admitted.now) c.records-record-items.result.now c.records-record-items.ensures.value c.outline.ensures.records c.loop-record.record-index c.record-item.result c.loop-record-test.true c.record-item.is in
+    let small = secondary_small _ c.outline.ensures.admitted.system here.f c.record-item.result c.in-Some.bridge here.is c.in-Some.is in
     omega (arith, small)
 
 pub bounds-aboves-secondary : goal.bounds-aboves-secondary
 bounds-aboves-secondary g c =
-    let s = system_in c.args.admitted.now in
-    let admitted = c.outline.ensures.admitted in
-    let records = c.records-record-items.result.now in
-    let has : HasRecords s (map record_value records) = subst (λ rs. HasRecords s rs) (sym c.records-record-items.ensures.value) c.outline.ensures.records in
-    let k = c.loop-record.record-index in
-    let r = c.record-item.result in
-    let at : slice_get records k ≡ Some r = slice_get_read records (length records) k r refl c.loop-record-test.true c.record-item.is in
-    let here : FunctionAt s r k = function_at s records has k r at in
-    let small : c.in-Some.bridge.secondary < 256 = secondary_small c.args.admitted.now.roots s admitted.system admitted.nested here.f r c.in-Some.bridge here.is c.in-Some.is in
-    small
+    let here = function_read (system_in c.args.admitted.now) c.records-record-items.result.now c.records-record-items.ensures.value c.outline.ensures.records c.loop-record.record-index c.record-item.result c.loop-record-test.true c.record-item.is in
+    secondary_small _ c.outline.ensures.admitted.system here.f c.record-item.result c.in-Some.bridge here.is c.in-Some.is
 
 pub returns : goal.returns
 returns g c =
     let s = system_in c.args.admitted.now in
     let admitted = c.outline.ensures.admitted in
     let records = c.records-record-items.result.now in
-    let has : HasRecords s (map record_value records) = subst (λ rs. HasRecords s rs) (sym c.records-record-items.ensures.value) c.outline.ensures.records in
-    let count = same_count s records has in
+    let count = same_count s records (lent s records c.records-record-items.ensures.value c.outline.ensures.records) in
     let all : c.loop-record.record-index ≡ length s = omega (arith, count) in
     whole_aboves c.args.admitted.now.roots s admitted.system admitted.nested c.loop-record.record-index c.loop-record.aboves all c.loop-record.invariant

@@ -1,17 +1,15 @@
-use Rattle.std.proofs.Common.{◌≡◌, ◌-◌, ◌≤◌, ℕ, length, map, max, true, false, arith, sym, ◌∙◌, subst}
+use Rattle.std.proofs.Common.{◌≡◌, ◌-◌, length, max, true, false, arith, sym, ◌∙◌, subst}
 use Rattle.std.specs.List.{Contains}
 use Rattle.std.proofs.lemmas.Bool.{both_ways}
 use Rattle.pci_spec.specs.Bus.{is_root}
-use Rattle.pci_spec.specs.Decoded.{HasRecords}
 use Rattle.pci_spec.proofs.BusRanges.{root_means}
 use Rattle.pci_spec.proofs.Records.{same_truth}
 use Rattle.pci_base.specs.WindowKinds.{kind_value}
-use Rattle.pci_function.specs.Values.{record_value}
 use Rattle.pci_place.specs.declared.above.Above.{Above}
 use Rattle.pci_place.specs.Pools.{pools_value}
 use Rattle.pci_place.specs.Above.{system_in}
-use Rattle.pci_place.proofs.Records.{same_count}
-use Rattle.pci_place.proofs.NeedTables.{AreNeedsFrom, needs_none, needs_step, whole_needs, whole_greatest}
+use Rattle.pci_place.proofs.Records.{lent}
+use Rattle.pci_place.proofs.NeedTables.{needs_none, needs_step, whole_needs, whole_greatest}
 use Rattle.pci_place.proofs.need.needs_of.Goals as goal
 use Rattle.pci_place.proofs.need.needs_of.Goals.{then-has+then-greatest-tally, else-has, else-has-via-then-has+else-greatest-tally, else-has-via-else-has}
 
@@ -26,7 +24,7 @@ loop-done-preserved g c =
     let s = system_in c.args.admitted.now in
     let admitted = c.outline-outline.ensures.admitted in
     let records = c.records-records.result.now in
-    let has : HasRecords s (map record_value records) = subst (λ rs. HasRecords s rs) (sym c.records-records.ensures.value) c.outline-outline.ensures.records in
+    let has = lent s records c.records-records.ensures.value c.outline-outline.ensures.records in
     let r = c.index-records-records.result in
     let bus = c.bus-bus.result in
     let d : Above = record { io = false; pref = false; wide = false } in
@@ -53,29 +51,18 @@ loop-done-preserved g c =
     needs_step roots s admitted.system admitted.nested c.args.pools.now (kind_value c.args.class) records has c.args.aboves.now c.requires
     c.loop-done.done r c.loop-done-test.true c.index-records-records.is c.loop-done.needs.of_bus most c.loop-done.invariant bus d c.bus-bus.ensures t c.tally_of-tally.ensures c.min.result next c.min.ensures root other
 
-at_start : (n done : ℕ) → n ≤ done → n - done ≡ 0
-at_start n done h = omega (arith, h)
-
 pub returns-clause-need : goal.returns-clause-need
 returns-clause-need g c =
-    let roots = c.args.admitted.now.roots in
     let s = system_in c.args.admitted.now in
     let admitted = c.outline-outline.ensures.admitted in
-    let records = c.records-records.result.now in
-    let has : HasRecords s (map record_value records) = subst (λ rs. HasRecords s rs) (sym c.records-records.ensures.value) c.outline-outline.ensures.records in
-    let count = same_count s records has in
-    let start = at_start (length s) c.loop-done.done (omega (arith, count)) in
-    whole_needs roots s admitted.system admitted.nested c.args.pools.now (kind_value c.args.class) c.loop-done.needs.of_bus c.loop-done.greatest
-    (subst (λ n. AreNeedsFrom roots s (pools_value c.args.pools.now) (kind_value c.args.class) n c.loop-done.needs.of_bus c.loop-done.greatest) start c.loop-done.invariant)
+    let has = lent s c.records-records.result.now c.records-records.ensures.value c.outline-outline.ensures.records in
+    whole_needs c.args.admitted.now.roots s admitted.system admitted.nested c.args.pools.now (kind_value c.args.class)
+    c.records-records.result.now has c.loop-done.done (omega arith) c.loop-done.needs.of_bus c.loop-done.greatest c.loop-done.invariant
 
 pub returns-clause-greatest : goal.returns-clause-greatest
 returns-clause-greatest g c =
-    let roots = c.args.admitted.now.roots in
     let s = system_in c.args.admitted.now in
     let admitted = c.outline-outline.ensures.admitted in
-    let records = c.records-records.result.now in
-    let has : HasRecords s (map record_value records) = subst (λ rs. HasRecords s rs) (sym c.records-records.ensures.value) c.outline-outline.ensures.records in
-    let count = same_count s records has in
-    let start = at_start (length s) c.loop-done.done (omega (arith, count)) in
-    whole_greatest roots s admitted.system admitted.nested c.args.pools.now (kind_value c.args.class) c.loop-done.needs.of_bus c.loop-done.greatest
-    (subst (λ n. AreNeedsFrom roots s (pools_value c.args.pools.now) (kind_value c.args.class) n c.loop-done.needs.of_bus c.loop-done.greatest) start c.loop-done.invariant)
+    let has = lent s c.records-records.result.now c.records-records.ensures.value c.outline-outline.ensures.records in
+    whole_greatest c.args.admitted.now.roots s admitted.system admitted.nested c.args.pools.now (kind_value c.args.class)
+    c.records-records.result.now has c.loop-done.done (omega arith) c.loop-done.needs.of_bus c.loop-done.greatest c.loop-done.invariant
