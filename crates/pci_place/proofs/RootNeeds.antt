@@ -85,10 +85,11 @@ map_same f g (x ∷ xs) same =
 
 module _ (roots : List ℕ) (s : System) (pools : Pools) (c : WindowKind) where
   -- what a table has for the roots is what they need
-  pub need_is : (flags : List Bool) (needs : List ℕ) → set_in flags ≡ roots → ((bus : ℕ) → bus < 256 → get_or needs bus 0 ≡ need_of s pools c bus)
-      → sum (map (get_or_zero needs) (set_in flags)) ≡ need_of_roots roots s pools c
-  need_is flags needs are each =
-      ap sum (map_same (get_or_zero needs) (need_of s pools c) (set_in flags) (λ bus has. each bus (set_small flags bus has)))
+  pub need_is : (need : ℕ) (flags : List Bool) (needs : List ℕ) → need ≡ sum (map (get_or_zero needs) (set_in flags)) → set_in flags ≡ roots → ((bus : ℕ) → bus < 256 → get_or needs bus 0 ≡ need_of s pools c bus)
+      → need ≡ need_of_roots roots s pools c
+  need_is need flags needs is are each =
+      is
+      ∙ ap sum (map_same (get_or_zero needs) (need_of s pools c) (set_in flags) (λ bus has. each bus (set_small flags bus has)))
       ∙ ap (λ buses. sum (map (need_of s pools c) buses)) are
 
   -- and none of it is more than what is told apart

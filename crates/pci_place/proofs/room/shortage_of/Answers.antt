@@ -1,6 +1,5 @@
-use Rattle.std.proofs.Common.{◌≡◌, arith, ◌∙◌, ap}
+use Rattle.std.proofs.Common.{arith, ◌∙◌, ap}
 use Rattle.pci_spec.specs.Decoded.{Range}
-use Rattle.plan_spec.specs.Plan.{need_of_roots}
 use Rattle.plan_spec.proofs.Planning.Tallies.{greatest_small}
 use Rattle.pci_base.specs.WindowKinds.{kind_value}
 use Rattle.pci_place.specs.Pools.{pools_value}
@@ -32,7 +31,6 @@ returns-clause-lacking g c =
     let pools = pools_value c.args.pools.now in
     let class = kind_value c.args.class in
     let needs = c.needs_of.new.needs in
-    let need : c.need_of_roots-needed.result ≡ need_of_roots roots s pools class =
-    c.need_of_roots-needed.ensures.sum ∙ need_is roots s pools class c.roots.result.flags needs.of_bus (c.roots.ensures ∙ c.outline.ensures.roots) c.needs_of.ensures.need in
+    let need = need_is roots s pools class c.need_of_roots-needed.result c.roots.result.flags needs.of_bus c.need_of_roots-needed.ensures.sum (c.roots.ensures ∙ c.outline.ensures.roots) c.needs_of.ensures.need in
     shortage_is roots s pools class needs.greatest c.of-pool.result.first c.from.result (record { needed = c.need_of_roots-needed.result; start = c.raised-start.result; available = c.saturating_sub.result })
     need c.needs_of.ensures.greatest (ap (λ (x : Range). x.first) c.of-pool.ensures) (c.from.ensures ∙ ap (λ (x : Range). x.last) c.of-pool.ensures) c.raised-start.ensures.raised c.saturating_sub.ensures
