@@ -44,38 +44,26 @@ wide_decoded Io = refl
 wide_decoded Mem32 = refl
 wide_decoded Mem64 = refl
 
-io_register : (register : ℕ) → is_io_bar (bar_kind register) ≡ is_io register
-unfolding is_io_bar
-io_register register = elim (cases_Bool (is_io register)) [
-  | inl io ↦ rw io refl
+-- what a register's kind says is what its bits say
+by_bits : (register : ℕ) → (is_io_bar (bar_kind register) ≡ is_io register) × (is_wide_bar (bar_kind register) ≡ is_wide register)
+unfolding is_io_bar is_wide_bar
+by_bits register = elim (cases_Bool (is_io register)) [
+  | inl io ↦ rw io (refl, refl)
   | inr memory ↦ elim (cases_Bool (nat_eq (type_bits register) 2)) [
-    | inl wide ↦ rw (memory, wide) refl
+    | inl wide ↦ rw (memory, wide) (refl, refl)
     | inr other ↦ elim (cases_Bool (nat_eq (type_bits register) 0)) [
-      | inl narrow ↦ rw (memory, other, narrow) refl
-      | inr reserved ↦ rw (memory, other, reserved) refl
-    ]
-  ]
-]
-
-wide_register : (register : ℕ) → is_wide_bar (bar_kind register) ≡ is_wide register
-unfolding is_wide_bar
-wide_register register = elim (cases_Bool (is_io register)) [
-  | inl io ↦ rw io refl
-  | inr memory ↦ elim (cases_Bool (nat_eq (type_bits register) 2)) [
-    | inl wide ↦ rw (memory, wide) refl
-    | inr other ↦ elim (cases_Bool (nat_eq (type_bits register) 0)) [
-      | inl narrow ↦ rw (memory, other, narrow) refl
-      | inr reserved ↦ rw (memory, other, reserved) refl
+      | inl narrow ↦ rw (memory, other, narrow) (refl, refl)
+      | inr reserved ↦ rw (memory, other, reserved) (refl, refl)
     ]
   ]
 ]
 
 -- whether a BAR is of I/O, and whether it is of 64 bits, by its register
 pub kind_io : (f : Function) (bar : CodeBar) (n : ℕ) → decoded_bar_of bar ≡ decoded_bar f.image f.probe n → is_io_kind bar.kind ≡ is_io (bar_at f.probe n)
-kind_io f bar n e = io_decoded bar.kind ∙ ap (λ (x : DecodedBar). is_io_bar x.kind) e ∙ io_register (bar_at f.probe n)
+kind_io f bar n e = io_decoded bar.kind ∙ ap (λ (x : DecodedBar). is_io_bar x.kind) e ∙ (by_bits (bar_at f.probe n)).0
 
 pub kind_wide : (f : Function) (bar : CodeBar) (n : ℕ) → decoded_bar_of bar ≡ decoded_bar f.image f.probe n → is_wide_kind bar.kind ≡ is_wide (bar_at f.probe n)
-kind_wide f bar n e = wide_decoded bar.kind ∙ ap (λ (x : DecodedBar). is_wide_bar x.kind) e ∙ wide_register (bar_at f.probe n)
+kind_wide f bar n e = wide_decoded bar.kind ∙ ap (λ (x : DecodedBar). is_wide_bar x.kind) e ∙ (by_bits (bar_at f.probe n)).1
 
 -- ---- classes
 
