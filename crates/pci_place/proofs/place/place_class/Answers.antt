@@ -52,13 +52,9 @@ returns-clause-placed g c =
 
 pub returns-clause-others : goal.returns-clause-others
 returns-clause-others g c =
-    let roots = c.args.admitted.now.roots in
-    let s = system_in c.args.admitted.now in
-    let pools = pools_value c.args.pools.now in
-    let class = kind_value c.args.class in
-    let is = ready roots s pools class c.of-pool.result c.in_ok-items.ensures.rooted c.requires.plannable
+    let is = ready c.args.admitted.now.roots (system_in c.args.admitted.now) (pools_value c.args.pools.now) (kind_value c.args.class) c.of-pool.result c.in_ok-items.ensures.rooted c.requires.plannable
     c.of-pool.ensures c.of-pool.type_inv.1.1.1.0.1 c.in_ok-items.items.items c.sort_items.new.items.items c.in_ok-items.ensures.items c.sort_items.ensures.permutation c.in_ok-sort_items.ensures.sorted in
-    kept_class roots s pools class c.sort_items.new.items.items is c.args.places.now c.if-not-is_empty.places c.if-not-is_empty.auto.places
+    kept_class _ _ _ _ _ is c.args.places.now c.if-not-is_empty.places c.if-not-is_empty.auto.places
     (elim c.if-not-is_empty.branch [
       | then-not-is_empty w ↦ λ k d part none.
           ap (λ ps. first_in (get_or ps k d) part) w.places-is
