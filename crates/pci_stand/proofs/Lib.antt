@@ -1,7 +1,6 @@
 pub mod Indexes
 pub mod OfRecord
 pub mod Taking
-pub mod Sorts
 pub mod Collected
 pub mod InPlace
 pub mod Passing

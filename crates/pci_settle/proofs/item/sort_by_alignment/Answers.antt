@@ -1,7 +1,7 @@
 use Rattle.std.proofs.Common.{rules}
 use Rattle.std.proofs.lemmas.List.Sorted.{answers_always}
+use Rattle.pci_place.proofs.StableSorts.{falls_by_sort}
 use Rattle.pci_settle.specs.Turns.{IsLarger}
-use Rattle.pci_settle.proofs.Turns.{falls_by_sort}
 use Rattle.pci_settle.proofs.item.sort_by_alignment.Goals as goal
 
 pub returns-in-Ok-clause-sorted : goal.returns-in-Ok-clause-sorted

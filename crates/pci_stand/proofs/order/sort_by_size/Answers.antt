@@ -1,7 +1,7 @@
 use Rattle.std.proofs.Common.{◌<◌, rules}
 use Rattle.std.proofs.lemmas.List.Sorted.{answers_always}
+use Rattle.pci_place.proofs.StableSorts.{falls_by_sort}
 use Rattle.pci_stand.specs.Order.{span_of}
-use Rattle.pci_stand.proofs.Sorts.{falls_by_sort}
 use Rattle.pci_stand.proofs.order.sort_by_size.Goals as goal
 
 pub returns-in-Ok-clause-sorted : goal.returns-in-Ok-clause-sorted

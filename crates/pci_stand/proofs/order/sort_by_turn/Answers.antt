@@ -1,7 +1,7 @@
 use Rattle.std.proofs.Common.{rules}
 use Rattle.std.proofs.lemmas.List.Sorted.{answers_always}
+use Rattle.pci_place.proofs.StableSorts.{rises_by_sort}
 use Rattle.pci_stand.specs.Order.{turn_of, IsLarger}
-use Rattle.pci_stand.proofs.Sorts.{rises_by_sort}
 use Rattle.pci_stand.proofs.order.sort_by_turn.Goals as goal
 
 pub returns-in-Ok-clause-sorted : goal.returns-in-Ok-clause-sorted
