@@ -1,31 +1,36 @@
 -- The open windows over each bus, in one pass over the records.
-use Rattle.std.proofs.Common.{◌≡◌, ℕ, ◌+◌, ◌<◌, ◌≤◌, inl, inr, List, length, set, replicate, get_or, refl, Bool, true, false, cond, ◌||◌, arith, sym, ◌∙◌, ap, subst, Option, Some, None}
+use Rattle.std.proofs.Common.{◌≡◌, ℕ, ◌+◌, ◌<◌, ◌≤◌, inl, inr, List, map, length, set, replicate, get_or, refl, Bool, true, false, cond, ◌||◌, arith, sym, ◌∙◌, ap, subst, Option, Some, None}
 use Rattle.std.specs.Option.{is_some, option_map}
 use Rattle.std.specs.List.{Contains, slice_get}
 use Rattle.std.proofs.lemmas.Bool.{cases_eq, cases_lt, both_ways, false_from_ne_true}
 use Rattle.std.proofs.lemmas.List.{length-set, get_or-replicate, get_or-set_same, get_or-set_other, get_or_past}
 use Rattle.std.proofs.lemmas.List.Elements.{All-contains}
 use Rattle.std.proofs.lemmas.Option.{slice_get_within, slice_get-get_or, get_or_from_slice_get}
+use Rattle.pci_spec.specs.Slot.{Slot}
 use Rattle.pci_spec.specs.Window.{WindowKind, MemoryWindow, PrefetchWindow}
 use Rattle.pci_spec.specs.System.{System, Function, IsFunction, IsSystem, is_bridge}
 use Rattle.pci_spec.specs.Bus.{is_root, secondary, IsNested}
-use Rattle.pci_spec.specs.Decoded.{Range}
+use Rattle.pci_spec.specs.Decoded.{Range, HasRecords}
 use Rattle.pci_spec.specs.Decoded as decoded
-use Rattle.settle_spec.specs.Lists.{Request}
+use Rattle.settle_spec.specs.Lists.{Lists, Request}
 use Rattle.settle_spec.specs.Parts.{bridge_over}
 use Rattle.settle_spec.proofs.Nested.{at_secondary, is_no_root, one_bridge}
 use Rattle.settle_spec.proofs.BridgeOver.{over_leads, none_leads}
 use Rattle.pci_base.specs.Ranges.{decoded_range_of}
 use Rattle.pci_function.specs.declared.record.Bridge.{Bridge}
 use Rattle.pci_function.specs.declared.record.Record.{Record}
+use Rattle.pci_function.specs.Values.{record_value}
 use Rattle.pci_image.specs.Windows.{window_of}
+use Rattle.pci_tree.specs.Admission.{Admission, IsAdmitted}
 use Rattle.pci_tree.specs.Passes.{range_in}
 use Rattle.pci_tree.proofs.Lifting.{same_bridge}
 use Rattle.pci_tree.proofs.RegionParts.{same_bridge_of}
+use Rattle.pci_place.specs.Above.{system_in}
 use Rattle.pci_place.specs.Records.{IsRecordOf}
-use Rattle.pci_place.proofs.Records.{same_count}
+use Rattle.pci_place.proofs.Records.{lent, same_count}
 use Rattle.pci_settle.specs.declared.over.OpenWindows.{OpenWindows}
 use Rattle.pci_settle.specs.Over.{open_range, class_window, no_windows, AreClassWindows, AreOpenOver}
+use Rattle.pci_stand.specs.Known.{asked}
 use Rattle.pci_stand.proofs.OfRecord.{window_is}
 use Rattle.pci_stay.specs.Windows.{IsTree}
 
@@ -147,3 +152,8 @@ all_opened q s records tree k past table are f listed = by (bridge_over s f.slot
           memory = own.memory ∙ sym (class_off q s f.slot.bus MemoryWindow (Some b) tree.stands off over);
           prefetch = own.prefetch ∙ sym (class_off q s f.slot.bus PrefetchWindow (Some b) tree.stands off over);
         }
+
+-- the tree of an admission of which nothing is placed anew
+pub tree_of : (a : Admission) (l : Lists) (fixed : List Slot) → IsAdmitted a → (records : List Record) {values : List decoded.Record} → map record_value records ≡ values → HasRecords (system_in a) values
+    → IsTree (asked a.roots l fixed) (system_in a) records
+tree_of a l fixed admitted records same has = record { has = lent (system_in a) records same has; system = admitted.system; nested = admitted.nested; stands = refl }
