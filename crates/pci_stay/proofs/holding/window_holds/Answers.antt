@@ -1,21 +1,20 @@
-use Rattle.std.proofs.Common.{◌≡◌, map, false, true, sym, ◌∙◌, ap, subst, Some}
+use Rattle.std.proofs.Common.{◌≡◌, false, true, sym, ◌∙◌, ap, subst, Some}
 use Rattle.std.specs.Option.{is_some}
 use Rattle.std.proofs.lemmas.Bool.{false_from_ne_true}
 use Rattle.pci_spec.specs.System.{is_bridge}
 use Rattle.pci_spec.specs.Bus.{is_root, secondary}
-use Rattle.pci_spec.specs.Decoded.{HasRecords}
 use Rattle.pci_spec.specs.Decoded as decoded
 use Rattle.settle_spec.specs.Items.{new_window}
 use Rattle.settle_spec.proofs.Nested.{at_secondary, is_no_root}
 use Rattle.pci_base.specs.Ranges.{decoded_range_of}
 use Rattle.pci_base.specs.WindowKinds.{kind_value}
 use Rattle.pci_function.specs.declared.record.Record.{Record}
-use Rattle.pci_function.specs.Values.{record_value}
 use Rattle.pci_image.specs.Windows.{window_of}
 use Rattle.pci_tree.specs.Passes.{range_in}
 use Rattle.pci_tree.proofs.Lifting.{same_bridge}
 use Rattle.pci_tree.proofs.RegionParts.{same_bridge_of}
 use Rattle.pci_place.specs.Above.{system_in}
+use Rattle.pci_place.proofs.Records.{lent}
 use Rattle.pci_settle.specs.Buses.{AreBehind}
 use Rattle.pci_stand.proofs.OfRecord.{window_is}
 use Rattle.pci_stay.specs.Holding.{told_in}
@@ -29,33 +28,25 @@ returns-then-not-window g c = λ q f asking at held.
 pub returns-in_default : goal.returns-in_default
 returns-in_default g c = λ q f asking at held.
     let s = system_in c.args.admitted.now in
-    let records = c.records-records.result.now in
-    let has : HasRecords s (map record_value records) = subst (λ rs. HasRecords s rs) (sym c.records-records.ensures.value) c.outline.ensures.records in
     let r = c.index-records-function.result in
-    let is = record_at s records has c.args.function f at r c.index-records-function.is in
+    let is = record_at s c.records-records.result.now (lent s c.records-records.result.now c.records-records.ensures.value c.outline.ensures.records) c.args.function f at r c.index-records-function.is in
     let other : is_bridge f ≡ false = sym (same_bridge r f is.value) ∙ ap (λ (x : Record). is_some x.bridge) c.index-records-function.is ∙ ap is_some c.in_default.is in
     other_holds q s asking.system asking.nested c.args.function f at c.args.table.now held (kind_value c.args.class) other
 
 pub returns-in_default-open_range : goal.returns-in_default-open_range
 returns-in_default-open_range g c = λ q f asking at held.
     let s = system_in c.args.admitted.now in
-    let records = c.records-records.result.now in
-    let has : HasRecords s (map record_value records) = subst (λ rs. HasRecords s rs) (sym c.records-records.ensures.value) c.outline.ensures.records in
     let r = c.index-records-function.result in
-    let is = record_at s records has c.args.function f at r c.index-records-function.is in
-    let b = c.in-Some.bridge in
-    let b_is : r.bridge ≡ Some b = ap (λ (x : Record). x.bridge) c.index-records-function.is ∙ c.in-Some.is in
+    let is = record_at s c.records-records.result.now (lent s c.records-records.result.now c.records-records.ensures.value c.outline.ensures.records) c.args.function f at r c.index-records-function.is in
     let class = kind_value c.args.class in
-    closed_holds q s asking.system asking.nested c.args.function f at c.args.table.now held class
-    (none_closed f class (range_in (window_of b.windows class)) (window_is s f r b is b_is class) (sym c.in_default-open_range.ensures))
+    let shown = window_is s f r c.in-Some.bridge is (ap (λ (x : Record). x.bridge) c.index-records-function.is ∙ c.in-Some.is) class in
+    closed_holds q s asking.system asking.nested c.args.function f at c.args.table.now held class (none_closed f class _ shown (sym c.in_default-open_range.ensures))
 
 pub returns : goal.returns
 returns g c = λ q f asking at held.
     let s = system_in c.args.admitted.now in
-    let records = c.records-records.result.now in
-    let has : HasRecords s (map record_value records) = subst (λ rs. HasRecords s rs) (sym c.records-records.ensures.value) c.outline.ensures.records in
     let r = c.index-records-function.result in
-    let is = record_at s records has c.args.function f at r c.index-records-function.is in
+    let is = record_at s c.records-records.result.now (lent s c.records-records.result.now c.records-records.ensures.value c.outline.ensures.records) c.args.function f at r c.index-records-function.is in
     let b = c.in-Some.bridge in
     let b_is : r.bridge ≡ Some b = ap (λ (x : Record). x.bridge) c.index-records-function.is ∙ c.in-Some.is in
     let class = kind_value c.args.class in
