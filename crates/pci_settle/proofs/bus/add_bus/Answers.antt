@@ -1,10 +1,9 @@
-use Rattle.std.proofs.Common.{◌≡◌, ◌+◌, ◌<◌, ◌≤◌, false, get_or, map, refl, arith, sym, ap, subst}
-use Rattle.pci_spec.specs.Decoded.{HasRecords}
+use Rattle.std.proofs.Common.{◌≡◌, ◌+◌, ◌<◌, ◌≤◌, false, get_or, refl, arith, sym, ap, subst}
 use Rattle.pci_base.specs.WindowKinds.{kind_value}
-use Rattle.pci_function.specs.Values.{record_value}
 use Rattle.pci_tree.proofs.BusParts.{begins_before}
 use Rattle.pci_place.specs.Above.{system_in}
 use Rattle.pci_place.specs.declared.above.Above.{Above}
+use Rattle.pci_place.proofs.Records.{lent}
 use Rattle.pci_settle.specs.declared.over.OpenWindows.{OpenWindows}
 use Rattle.pci_settle.specs.declared.over.Over.{Over}
 use Rattle.pci_settle.specs.Buses.{listing_of, AreOnBusTo}
@@ -20,21 +19,21 @@ pub first_from-first-requires-clause-slots : goal.first_from-first-requires-clau
 first_from-first-requires-clause-slots g c =
     let s = system_in c.args.admitted.now in
     let records = c.records-records.result.now in
-    let has : HasRecords s (map record_value records) = subst (λ rs. HasRecords s rs) (sym c.records-records.ensures.value) c.outline.ensures.records in
+    let has = lent s records c.records-records.ensures.value c.outline.ensures.records in
     slots_in s c.outline.ensures.admitted.system records has
 
 pub first_from-end-requires-clause-slots : goal.first_from-end-requires-clause-slots
 first_from-end-requires-clause-slots g c =
     let s = system_in c.args.admitted.now in
     let records = c.records-records.result.now in
-    let has : HasRecords s (map record_value records) = subst (λ rs. HasRecords s rs) (sym c.records-records.ensures.value) c.outline.ensures.records in
+    let has = lent s records c.records-records.ensures.value c.outline.ensures.records in
     slots_in s c.outline.ensures.admitted.system records has
 
 pub loop-function-init : goal.loop-function-init
 loop-function-init g c = λ on beside below.
     let s = system_in c.args.admitted.now in
     let records = c.records-records.result.now in
-    let has : HasRecords s (map record_value records) = subst (λ rs. HasRecords s rs) (sym c.records-records.ensures.value) c.outline.ensures.records in
+    let has = lent s records c.records-records.ensures.value c.outline.ensures.records in
     let first = c.first_from-first.ensures in
     below_first (listing_of c.args.admitted.now (kind_value c.args.class) on c.args.terms c.args.windows.now c.args.left.now) c.outline.ensures.admitted.system records has c.args.bus c.first_from-first.result _
     first.bound first.before first.after below
@@ -43,7 +42,7 @@ pub add_items-requires-clause-bars : goal.add_items-requires-clause-bars
 add_items-requires-clause-bars g c =
     let s = system_in c.args.admitted.now in
     let records = c.records-records.result.now in
-    let has : HasRecords s (map record_value records) = subst (λ rs. HasRecords s rs) (sym c.records-records.ensures.value) c.outline.ensures.records in
+    let has = lent s records c.records-records.ensures.value c.outline.ensures.records in
     let r = c.index-records-function.result in
     let end = c.first_from-end.ensures.bound in
     bars_sized s _ r (record_of_place s records has c.loop-function.function r (omega (arith, end)) c.index-records-function.is)
@@ -52,7 +51,7 @@ pub add_items-requires-clause-rom : goal.add_items-requires-clause-rom
 add_items-requires-clause-rom g c =
     let s = system_in c.args.admitted.now in
     let records = c.records-records.result.now in
-    let has : HasRecords s (map record_value records) = subst (λ rs. HasRecords s rs) (sym c.records-records.ensures.value) c.outline.ensures.records in
+    let has = lent s records c.records-records.ensures.value c.outline.ensures.records in
     let r = c.index-records-function.result in
     let end = c.first_from-end.ensures.bound in
     rom_sized s _ r (record_of_place s records has c.loop-function.function r (omega (arith, end)) c.index-records-function.is)
@@ -61,7 +60,7 @@ pub loop-function-preserved : goal.loop-function-preserved
 loop-function-preserved g c = λ on beside below.
     let s = system_in c.args.admitted.now in
     let records = c.records-records.result.now in
-    let has : HasRecords s (map record_value records) = subst (λ rs. HasRecords s rs) (sym c.records-records.ensures.value) c.outline.ensures.records in
+    let has = lent s records c.records-records.ensures.value c.outline.ensures.records in
     let r = c.index-records-function.result in
     let k = c.loop-function.function in
     let d : Above = record { io = false; pref = false; wide = false } in
@@ -77,7 +76,7 @@ pub returns : goal.returns
 returns g c = λ on beside below.
     let s = system_in c.args.admitted.now in
     let records = c.records-records.result.now in
-    let has : HasRecords s (map record_value records) = subst (λ rs. HasRecords s rs) (sym c.records-records.ensures.value) c.outline.ensures.records in
+    let has = lent s records c.records-records.ensures.value c.outline.ensures.records in
     let first = c.first_from-first.ensures in
     let end = c.first_from-end.ensures in
     let up : c.first_from-first.result ≤ c.first_from-end.result = begins_before records c.args.bus _ c.first_from-first.result c.first_from-end.result refl first.bound first.before end.after in

@@ -1,10 +1,8 @@
-use Rattle.std.proofs.Common.{◌≡◌, ◌+◌, ◌-◌, ◌≤◌, ℕ, length, map, arith, sym, ap, ◌∙◌, subst}
-use Rattle.pci_spec.specs.Decoded.{HasRecords}
+use Rattle.std.proofs.Common.{◌≡◌, ◌+◌, ◌-◌, ◌≤◌, ℕ, length, arith, sym, ap, ◌∙◌, subst}
 use Rattle.pci_base.specs.WindowKinds.{kind_value}
 use Rattle.pci_function.specs.declared.record.Record.{Record}
-use Rattle.pci_function.specs.Values.{record_value}
 use Rattle.pci_place.specs.Above.{system_in}
-use Rattle.pci_place.proofs.Records.{same_count}
+use Rattle.pci_place.proofs.Records.{lent, same_count}
 use Rattle.pci_settle.specs.Buses.{classing_of}
 use Rattle.pci_settle.specs.NewWindows.{IsPut}
 use Rattle.pci_settle.proofs.NewWindows.{AreWindowsFrom, windows_none, step_same, step_put, step_large, whole_windows}
@@ -22,7 +20,7 @@ returns-then-not-branch-clause-windows g c =
     let s = system_in c.args.admitted.now in
     let admitted = c.outline-outline.ensures.admitted in
     let records = c.records-records.result.now in
-    let has : HasRecords s (map record_value records) = subst (λ rs. HasRecords s rs) (sym c.records-records.ensures.value) c.outline-outline.ensures.records in
+    let has = lent s records c.records-records.ensures.value c.outline-outline.ensures.records in
     step_large (classing_of c.args.admitted.now c.args.terms c.args.overs.now) admitted.system admitted.nested (kind_value c.args.class) records has c.loop-done.done c.index-records-function.result c.loop-done-test.true c.index-records-function.is
     c.loop-done.windows c.loop-done.invariant c.in-Some.bridge (ap (λ (x : Record). x.bridge) c.index-records-function.is ∙ c.in-Some.is) c.put_window.new.windows
     (subst (IsPut (classing_of c.args.admitted.now c.args.terms c.args.overs.now) (kind_value c.args.class) c.in-Some.bridge c.loop-done.windows c.put_window.new.windows) c.if-not-branch.true c.in_ok-put_window.ensures.put)
@@ -32,7 +30,7 @@ loop-done-preserved g c =
     let s = system_in c.args.admitted.now in
     let admitted = c.outline-outline.ensures.admitted in
     let records = c.records-records.result.now in
-    let has : HasRecords s (map record_value records) = subst (λ rs. HasRecords s rs) (sym c.records-records.ensures.value) c.outline-outline.ensures.records in
+    let has = lent s records c.records-records.ensures.value c.outline-outline.ensures.records in
     elim c.match-records-function.branch [
       | in-Some+in_ok-put_window+else-not-branch w ↦
           subst (AreWindowsFrom (classing_of c.args.admitted.now c.args.terms c.args.overs.now) (kind_value c.args.class) (length s - (c.loop-done.done + 1))) (sym w.windows-is)
@@ -54,7 +52,7 @@ returns-clause-windows g c =
     let s = system_in c.args.admitted.now in
     let admitted = c.outline-outline.ensures.admitted in
     let records = c.records-records.result.now in
-    let has : HasRecords s (map record_value records) = subst (λ rs. HasRecords s rs) (sym c.records-records.ensures.value) c.outline-outline.ensures.records in
+    let has = lent s records c.records-records.ensures.value c.outline-outline.ensures.records in
     let count = same_count s records has in
     let start = at_start (length s) c.loop-done.done (omega (arith, count)) in
     whole_windows (classing_of c.args.admitted.now c.args.terms c.args.overs.now) admitted.system admitted.nested (kind_value c.args.class) c.loop-done.windows

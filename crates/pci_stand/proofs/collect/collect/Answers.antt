@@ -1,9 +1,8 @@
-use Rattle.std.proofs.Common.{◌+◌, [], false, get_or, map, refl, sym, ◌∙◌, ap, subst}
+use Rattle.std.proofs.Common.{◌+◌, [], false, get_or, refl, ◌∙◌, ap}
 use Rattle.std.specs.Bool.{if◌then◌else◌}
 use Rattle.pci_spec.specs.Bus.{is_root}
-use Rattle.pci_spec.specs.Decoded.{HasRecords}
-use Rattle.pci_function.specs.Values.{record_value}
 use Rattle.pci_place.specs.Above.{system_in}
+use Rattle.pci_place.proofs.Records.{lent}
 use Rattle.pci_settle.specs.Lists.{lists_value}
 use Rattle.pci_settle.proofs.Sized.{bars_sized}
 use Rattle.pci_stand.specs.declared.region.Owner.{Owner}
@@ -20,7 +19,7 @@ add_regions-requires g c =
     let s = system_in c.args.admitted.now in
     let q = asked c.args.admitted.now.roots (lists_value c.args.lists.now) [] in
     let records = c.records-record-items.result.now in
-    let has : HasRecords s (map record_value records) = subst (λ rs. HasRecords s rs) (sym c.records-record-items.ensures.value) c.outline-outline.ensures.records in
+    let has = lent s records c.records-record-items.ensures.value c.outline-outline.ensures.records in
     let r = c.record-item.result in
     λ k d less. (bars_sized s _ r (record_is q s records has c.loop-function.function r c.loop-function-test.true c.record-item.is) k d less).register
 
@@ -29,7 +28,7 @@ loop-function-preserved g c = λ slots are.
     let s = system_in c.args.admitted.now in
     let q = asked c.args.admitted.now.roots (lists_value c.args.lists.now) slots in
     let records = c.records-record-items.result.now in
-    let has : HasRecords s (map record_value records) = subst (λ rs. HasRecords s rs) (sym c.records-record-items.ensures.value) c.outline-outline.ensures.records in
+    let has = lent s records c.records-record-items.ensures.value c.outline-outline.ensures.records in
     let r = c.record-item.result in
     let bus = c.bus-bus.result in
     let flag = get_or c.args.fixed.now c.from.result false in
@@ -43,5 +42,5 @@ pub returns : goal.returns
 returns g c = λ slots are.
     let s = system_in c.args.admitted.now in
     let records = c.records-record-items.result.now in
-    let has : HasRecords s (map record_value records) = subst (λ rs. HasRecords s rs) (sym c.records-record-items.ensures.value) c.outline-outline.ensures.records in
+    let has = lent s records c.records-record-items.ensures.value c.outline-outline.ensures.records in
     parts_all (asked c.args.admitted.now.roots (lists_value c.args.lists.now) slots) s records has c.loop-function.function c.loop-function.regions.items c.loop-function-test.false (c.loop-function.invariant slots are)

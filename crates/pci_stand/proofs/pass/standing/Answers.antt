@@ -1,10 +1,8 @@
-use Rattle.std.proofs.Common.{◌≡◌, map, length, sym, ap, ◌∙◌, subst, arith, refl}
+use Rattle.std.proofs.Common.{◌≡◌, length, sym, ap, ◌∙◌, subst, arith, refl}
 use Rattle.std.specs.List.{All}
-use Rattle.pci_spec.specs.Decoded.{HasRecords}
 use Rattle.settle_spec.specs.Stands.{rank}
-use Rattle.pci_function.specs.Values.{record_value}
 use Rattle.pci_place.specs.Above.{system_in}
-use Rattle.pci_place.proofs.Records.{same_count}
+use Rattle.pci_place.proofs.Records.{lent, same_count}
 use Rattle.pci_settle.specs.Lists.{lists_value}
 use Rattle.pci_stand.specs.Boards.{IsBoard}
 use Rattle.pci_stand.specs.Known.{asked, region_value}
@@ -18,7 +16,7 @@ note_all-requires-clause-ready g c =
     let s = system_in c.args.admitted.now in
     let q = asked c.args.admitted.now.roots (lists_value c.args.lists.now) c.args.fixed.now in
     let records = c.records-records.result.now in
-    let has : HasRecords s (map record_value records) = subst (λ rs. HasRecords s rs) (sym c.records-records.ensures.value) c.outline.ensures.records in
+    let has = lent s records c.records-records.ensures.value c.outline.ensures.records in
     subst (All (IsReady (length records))) (sym c.as_slice.ensures.value)
     (ready q s c.in_ok-regions.regions.items c.in_ok-regions.ensures c.sort_regions.new.regions.items c.sort_regions.ensures.permutation (length records) (sym (same_count s records has)))
 
@@ -27,7 +25,7 @@ returns g c =
     let s = system_in c.args.admitted.now in
     let q = asked c.args.admitted.now.roots (lists_value c.args.lists.now) c.args.fixed.now in
     let records = c.records-records.result.now in
-    let has : HasRecords s (map record_value records) = subst (λ rs. HasRecords s rs) (sym c.records-records.ensures.value) c.outline.ensures.records in
+    let has = lent s records c.records-records.ensures.value c.outline.ensures.records in
     let admitted = c.outline.ensures.admitted in
     let count = same_count s records has in
     let board : IsBoard q s records (lists_value c.args.lists.now) = record {

@@ -1,13 +1,11 @@
-use Rattle.std.proofs.Common.{◌≡◌, ◌+◌, ◌-◌, ◌<◌, ℕ, length, map, get_or, refl, arith, sym, ◌∙◌, ap, subst, Some}
+use Rattle.std.proofs.Common.{◌≡◌, ◌+◌, ◌-◌, ◌<◌, ℕ, length, get_or, refl, arith, sym, ◌∙◌, ap, subst, Some}
 use Rattle.std.specs.Option.{is_some}
 use Rattle.std.specs.List.{slice_get}
 use Rattle.std.proofs.lemmas.Option.{slice_get-get_or}
-use Rattle.pci_spec.specs.Decoded.{HasRecords}
-use Rattle.pci_function.specs.Values.{record_value}
 use Rattle.pci_tree.proofs.Lifting.{same_bridge}
 use Rattle.pci_place.specs.Above.{system_in}
 use Rattle.pci_place.specs.Items.{no_function}
-use Rattle.pci_place.proofs.Records.{same_count}
+use Rattle.pci_place.proofs.Records.{lent, same_count}
 use Rattle.pci_stay.specs.Holding.{IsHeldFrom}
 use Rattle.pci_stay.proofs.Held.{record_at, held_last, held_same, all_hold}
 use Rattle.pci_stay.proofs.holding.hold_all.Goals as goal
@@ -42,7 +40,7 @@ loop-done-preserved g c = record {
   held = λ q asking are. (
       let s = system_in c.args.admitted.now in
       let records = c.records-records.result.now in
-      let has : HasRecords s (map record_value records) = subst (λ rs. HasRecords s rs) (sym c.records-records.ensures.value) c.outline.ensures.records in
+      let has = lent s records c.records-records.ensures.value c.outline.ensures.records in
       let count = same_count s records has in
       let done = c.loop-done.done in
       let less = c.loop-done-test.true in
@@ -66,7 +64,7 @@ pub returns : goal.returns
 returns g c = λ q asking are.
     let s = system_in c.args.admitted.now in
     let records = c.records-records.result.now in
-    let has : HasRecords s (map record_value records) = subst (λ rs. HasRecords s rs) (sym c.records-records.ensures.value) c.outline.ensures.records in
+    let has = lent s records c.records-records.ensures.value c.outline.ensures.records in
     let count = same_count s records has in
     let past = c.loop-done-test.false in
     all_hold q s asking.system asking.nested c.loop-done.table
