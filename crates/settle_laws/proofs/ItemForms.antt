@@ -2,9 +2,9 @@
 use Rattle.std.proofs.Common.{◌≡◌, ℕ, ◌<◌, inl, inr, List, [], ◌∷◌, map, Bool, true, false, cond, ◌&&◌, not, arith, refl, sym, ◌∙◌, ap, subst, zero, suc}
 use Rattle.std.specs.List.{Contains, filter, flat_map}
 use Rattle.std.specs.Bool.{if◌then◌else◌}
-use Rattle.std.proofs.lemmas.Bool.{and_parts, and_from, both_ways, lt-ltb, not-true}
+use Rattle.std.proofs.lemmas.Bool.{and_from, both_ways, lt-ltb}
 use Rattle.std.proofs.lemmas.List.Elements.{Contains-append_cases, Contains-append_left, Contains-append_right}
-use Rattle.std.proofs.lemmas.List.Sorted.{IsPermutation-sym, Contains-permutation}
+use Rattle.std.proofs.lemmas.List.Sorted.{Contains-permutation}
 use Rattle.pci_spec.specs.Number.{lowest_one}
 use Rattle.pci_spec.specs.Slot.{slot_number}
 use Rattle.pci_spec.specs.Header.{layout, bar_count}
@@ -13,13 +13,12 @@ use Rattle.pci_spec.specs.Rom.{rom_at}
 use Rattle.pci_spec.specs.Window.{WindowKind, IoWindow, MemoryWindow, PrefetchWindow, page_size}
 use Rattle.pci_spec.specs.System.{System, Function, IsSystem, Space, Io, Memory, Part, Bar, Rom, Window, has_part, is_bridge, is_window, register_of, window_space}
 use Rattle.pci_spec.specs.Bus.{are_siblings, secondary}
-use Rattle.pci_spec.proofs.Members.{in_nil, in_cons_cases, in_head, in_flat_map_to, in_flat_map_from, IsInPiece, in_map_to, in_map_from, IsMade, in_filter_to, in_filter_from}
+use Rattle.pci_spec.proofs.Members.{in_nil, in_head, in_flat_map_from, in_map_to, in_map_from, IsMade, in_filter_from}
 use Rattle.pci_spec.proofs.Nesting.{one_function}
 use Rattle.pci_spec.proofs.Regions.{register_of-lt, part_same}
 use Rattle.plan_spec.specs.Plan.{same_class}
 use Rattle.plan_spec.specs.Planning.Placing.{IsPower}
 use Rattle.plan_spec.proofs.Planning.Placement.{step_power, power_pos}
-use Rattle.plan_spec.proofs.Planning.PlacedItems.{same_class_is}
 use Rattle.settle_spec.specs.FirstPlace.{Extent}
 use Rattle.settle_spec.specs.Lists.{Request}
 use Rattle.settle_spec.specs.Parts.{Region, is_part, parts_of, header_parts, regions_of, class_in}
@@ -27,6 +26,7 @@ use Rattle.settle_spec.specs.Stands.{rank, window_region}
 use Rattle.settle_spec.specs.Items.{Item, in_turn, own_extent, own_item, is_own, has_of, items_of, items_on, window_around, window_within, new_window, stays}
 use Rattle.settle_spec.specs.Places.{space_items}
 use Rattle.settle_spec.proofs.InTurn.{turn_same}
+use Rattle.settle_spec.proofs.ItemsOn.{each_on}
 use Rattle.settle_laws.proofs.HeaderParts.{part_cases}
 use Rattle.settle_laws.proofs.Powers.{greatest_power}
 
@@ -72,10 +72,6 @@ pub record IsItemOf (q : Request) (s : System) (new : WindowKind → Function �
   pub is : item_by new c f p ≡ i
   pub can : IsPlaceable q s c f p
 
-in_if : (b : Bool) (xs : List Item) (y : Item) → Contains (cond b xs []) y → (b ≡ true) × Contains xs y
-in_if true xs y has = (refl, has)
-in_if false xs y has = absurd (in_nil y has)
-
 module _ (q : Request) (s : System) (new : WindowKind → Function → Extent) (c : WindowKind) (keeps : Region → Bool) (bus : ℕ) where
   abbrev kept : Region → Bool
   kept r = is_own q s c r && not (keeps r)
@@ -92,56 +88,31 @@ module _ (q : Request) (s : System) (new : WindowKind → Function → Extent) (
   abbrev later : Function → List Item
   later f = cond (opens f) (window f ∷ []) []
 
-  own_is : (f : Function) (p : Part) (r : Region) (i : Item) → record { function = f; part = p } ≡ r → is_window p ≡ false → own_item c r ≡ i → item_by new c f p ≡ i
-  own_is f p r i of plain is = sym (ap (λ e. record { region = record { function = f; part = p }; class = c; extent = e }) (own_by_part new f p plain)) ∙ ap (own_item c) of ∙ is
-
-  of_function : (f : Function) → Contains s f → are_siblings q.roots bus f.slot.bus ≡ true → (i : Item) → Contains (items_of q s c keeps (new c) f) i → IsItemOf q s new c bus i
-  of_function f listed beside i has = elim (Contains-append_cases (own f) (later f) i has) [
-    | inl here ↦
-        let made : IsMade (own_item c) (filter kept (regions_of q s f)) i = in_map_to (own_item c) (filter kept (regions_of q s f)) i here in
-        let r = made.from in
-        let chosen = in_filter_to kept (regions_of q s f) r made.has in
-        let of : IsMade (λ p. record { function = f; part = p }) (parts_of q s f) r = in_map_to (λ p. record { function = f; part = p }) (parts_of q s f) r chosen.0 in
-        let p = of.from in
-        let part = in_filter_to (is_part q s f) (header_parts f) p of.has in
-        let mine : is_own q s c record { function = f; part = p } ≡ true = ap (is_own q s c) of.is ∙ (and_parts (is_own q s c r) (not (keeps r)) chosen.1).0 in
-        let split = and_parts (not (is_window p)) (same_class c (class_in q s f p)) mine in
-        let plain = not-true (is_window p) split.0 in
-        record {
-          f = f;
-          p = p;
-          listed = listed;
-          beside = beside;
-          there = header_has f p part.0 plain;
-          class = same_class_is c (class_in q s f p) split.1;
-          is = own_is f p r i of.is plain made.is;
-          can = IsOwnPart plain part.1;
-        }
-    | inr more ↦
-        let split = in_if (opens f) (window f ∷ []) i more in
-        let same : window f ≡ i = elim (in_cons_cases (window f) [] i split.1) [ inl is ↦ is | inr none ↦ absurd (in_nil i none) ] in
-        let bridge = and_parts (is_bridge f) (has_of q s c f) (and_parts (is_bridge f && has_of q s c f) (not (keeps (window_region c f))) split.0).0 in
-        record {
-          f = f;
-          p = Window c;
-          listed = listed;
-          beside = beside;
-          there = bridge.0;
-          class = refl;
-          is = same;
-          can = IsNewWindow refl bridge.0 bridge.1;
-        }
-  ]
+  pub items_are : (i : Item) → Contains (items_on q s c keeps (new c) bus) i → IsItemOf q s new c bus i
+  items_are = each_on q s c keeps (new c) bus (IsItemOf q s new c bus)
+      (λ f on p is. record {
+        f = f;
+        p = p;
+        listed = on.listed;
+        beside = on.beside;
+        there = header_has f p is.there is.plain;
+        class = is.class;
+        is = ap (λ e. record { region = record { function = f; part = p }; class = c; extent = e }) (sym (own_by_part new f p is.plain));
+        can = IsOwnPart is.plain is.part;
+      })
+      (λ f on is. record {
+        f = f;
+        p = Window c;
+        listed = on.listed;
+        beside = on.beside;
+        there = is.bridge;
+        class = refl;
+        is = refl;
+        can = IsNewWindow refl is.bridge is.has;
+      })
 
   abbrev on_bus : Function → List Item
   on_bus f = cond (are_siblings q.roots bus f.slot.bus) (items_of q s c keeps (new c) f) []
-
-  pub items_are : (i : Item) → Contains (items_on q s c keeps (new c) bus) i → IsItemOf q s new c bus i
-  items_are i has =
-      let all = flat_map on_bus s in
-      let piece : IsInPiece on_bus s i = in_flat_map_to on_bus s i (Contains-permutation (in_turn all) all i (IsPermutation-sym all (in_turn all) (turn_same all)) has) in
-      let split = in_if (are_siblings q.roots bus piece.of.slot.bus) (items_of q s c keeps (new c) piece.of) i piece.piece in
-      of_function piece.of piece.has split.0 i split.1
 
   put : (f : Function) (i : Item) → Contains s f → are_siblings q.roots bus f.slot.bus ≡ true → Contains (items_of q s c keeps (new c) f) i → Contains (items_on q s c keeps (new c) bus) i
   put f i listed beside has =
@@ -175,23 +146,8 @@ module _ (q : Request) (s : System) (new : WindowKind → Function → Extent) (
       (Contains-append_right (own f) (later f) (window f) (subst (λ b. Contains (cond b (window f ∷ []) []) (window f)) (sym now) (in_head (window f) [])))
 
   -- and none that is
-  moves_of : (f : Function) (i : Item) → Contains (items_of q s c keeps (new c) f) i → keeps i.region ≡ false
-  moves_of f i has = elim (Contains-append_cases (own f) (later f) i has) [
-    | inl here ↦
-        let made : IsMade (own_item c) (filter kept (regions_of q s f)) i = in_map_to (own_item c) (filter kept (regions_of q s f)) i here in
-        let chosen = in_filter_to kept (regions_of q s f) made.from made.has in
-        ap (λ (j : Item). keeps j.region) (sym made.is) ∙ not-true (keeps made.from) (and_parts (is_own q s c made.from) (not (keeps made.from)) chosen.1).1
-    | inr more ↦
-        let split = in_if (opens f) (window f ∷ []) i more in
-        let same : window f ≡ i = elim (in_cons_cases (window f) [] i split.1) [ inl is ↦ is | inr none ↦ absurd (in_nil i none) ] in
-        ap (λ (j : Item). keeps j.region) (sym same) ∙ not-true (keeps (window_region c f)) (and_parts (is_bridge f && has_of q s c f) (not (keeps (window_region c f))) split.0).1
-  ]
-
   pub item_moves : (i : Item) → Contains (items_on q s c keeps (new c) bus) i → keeps i.region ≡ false
-  item_moves i has =
-      let all = flat_map on_bus s in
-      let piece : IsInPiece on_bus s i = in_flat_map_to on_bus s i (Contains-permutation (in_turn all) all i (IsPermutation-sym all (in_turn all) (turn_same all)) has) in
-      moves_of piece.of i (in_if (are_siblings q.roots bus piece.of.slot.bus) (items_of q s c keeps (new c) piece.of) i piece.piece).1
+  item_moves = each_on q s c keeps (new c) bus (λ i. keeps i.region ≡ false) (λ f on p is. is.moves) (λ f on is. is.moves)
 
 -- ---- alignments are powers of two
 

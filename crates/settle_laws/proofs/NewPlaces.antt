@@ -1,10 +1,9 @@
 -- What gets a new place: which part it is of, how large it is, and how far its place can be.
-use Rattle.std.proofs.Common.{◌≡◌, ℕ, zero, suc, ◌+◌, ◌*◌, ◌%◌, ◌<◌, ◌≤◌, ◌⊎◌, inl, inr, List, [], ◌∷◌, refl, Bool, true, false, cond, ◌&&◌, ◌||◌, not, Option, None, Some, arith, sym, ◌∙◌, ap, subst, map, length}
+use Rattle.std.proofs.Common.{◌≡◌, ℕ, zero, suc, ◌+◌, ◌*◌, ◌%◌, ◌<◌, ◌≤◌, ◌⊎◌, inl, inr, List, [], ◌∷◌, refl, Bool, true, false, cond, ◌&&◌, ◌||◌, not, Option, None, Some, arith, sym, ◌∙◌, ap, subst, length}
 use Rattle.std.specs.Bool.{◌==◌, nat_le, nat_lt, if◌then◌else◌}
-use Rattle.std.specs.List.{Contains, filter, flat_map, list_all}
-use Rattle.std.proofs.lemmas.Bool.{and_parts, or_parts, cases_Bool, both_ways, eqb-true, leb-true, ltb-false, not-true}
+use Rattle.std.specs.List.{Contains, filter, list_all}
+use Rattle.std.proofs.lemmas.Bool.{and_parts, or_parts, cases_Bool, both_ways, eqb-true, leb-true, ltb-false}
 use Rattle.std.proofs.lemmas.Nat.{pow_pos}
-use Rattle.std.proofs.lemmas.List.Sorted.{IsPermutation-sym, Contains-permutation}
 use Rattle.std.proofs.lemmas.List.Elements.{Contains-append_cases}
 use Rattle.pci_spec.specs.Number.{lowest_one, IsImage}
 use Rattle.pci_spec.specs.Slot.{slot_number}
@@ -13,23 +12,24 @@ use Rattle.pci_spec.specs.Rom.{rom_at}
 use Rattle.pci_spec.specs.Window.{WindowKind, IoWindow, MemoryWindow, PrefetchWindow, page_size}
 use Rattle.pci_spec.specs.Decoded.{Range}
 use Rattle.pci_spec.specs.System.{System, Function, IsSystem, Space, Io, Memory, Part, Bar, Rom, Window, register_of, space_of, window_space, is_bridge, is_window}
-use Rattle.pci_spec.specs.Bus.{are_siblings, is_root}
-use Rattle.pci_spec.proofs.Members.{in_nil, in_cons_cases, in_filter_to, IsMade, in_map_to, in_map_from, IsInPiece, in_flat_map_to}
+use Rattle.pci_spec.specs.Bus.{is_root}
+use Rattle.pci_spec.proofs.Members.{in_nil, in_cons_cases, in_filter_to, IsMade, in_map_to, in_map_from}
 use Rattle.pci_spec.proofs.Nesting.{one_function}
 use Rattle.plan_spec.specs.Plan.{bridges_above, size_of}
 use Rattle.plan_spec.proofs.Planning.Behind.{Passes, any_gives}
 use Rattle.plan_spec.proofs.Planning.Kept.{images_of}
+use Rattle.plan_spec.proofs.Planning.OwnItems.{in_cond}
 use Rattle.plan_spec.proofs.Planning.Registers.{number_below}
 use Rattle.settle_spec.specs.FirstPlace.{Extent, is_spot, ends_in}
 use Rattle.settle_spec.specs.Lists.{RootRange, Request, list_of, ranges_of, is_had_by, end_above, are_bad_lists, is_bad_list}
-use Rattle.settle_spec.specs.Parts.{Region, regions_of, parts_of, is_part, is_within, regions, header_parts, addresses, bridge_over}
+use Rattle.settle_spec.specs.Parts.{Region, is_part, is_within, regions, header_parts, addresses, bridge_over}
 use Rattle.settle_spec.specs.Stands.{rank, window_region, stands, stands_within, is_in_place, is_in_window, is_listed}
-use Rattle.settle_spec.specs.Items.{Item, Placed, Placing, AllPlaced, Lacks, own_item, own_extent, is_own, items_of, items_on, has_of, new_window, window_within, in_turn, has_room, holds, holds_within, stays, taken_by}
+use Rattle.settle_spec.specs.Items.{Item, Placed, Placing, AllPlaced, Lacks, own_extent, new_window, window_within, has_room, holds, holds_within, stays, taken_by}
 use Rattle.settle_spec.specs.Places.{root_ranges, wide_ranges, window_ranges, placed_range, place_among, ranges_for, space_items, taken_at, placed_of, placing_within, placing_on, new_place}
 use Rattle.settle_spec.specs.PlacingLaws.{ArePlaced}
 use Rattle.settle_spec.proofs.BridgeOver.{over_leads}
 use Rattle.settle_spec.proofs.Placed.{are_placed}
-use Rattle.settle_spec.proofs.InTurn.{turn_same}
+use Rattle.settle_spec.proofs.ItemsOn.{each_in}
 use Rattle.settle_laws.proofs.After.{none_passes}
 use Rattle.settle_laws.proofs.Finding.{found}
 use Rattle.settle_laws.proofs.HeaderParts.{IsPart, one_kind, one_part, register_low, window_of}
@@ -67,76 +67,25 @@ page_some IoWindow = omega arith
 page_some MemoryWindow = omega arith
 page_some PrefetchWindow = omega arith
 
-in_if : {X : Type 0} (b : Bool) (xs : List X) (y : X) → Contains (cond b xs []) y → (b ≡ true) × Contains xs y
-in_if true xs y has = (refl, has)
-in_if false xs y has = absurd (in_nil y has)
-
 module _ (q : Request) (s : System) where
-  module _ (c : WindowKind) (keeps : Region → Bool) (bus : ℕ) where
-    abbrev kept : Region → Bool
-    kept r = is_own q s c r && not (keeps r)
-
-    abbrev opens : Function → Bool
-    opens f = is_bridge f && has_of q s c f && not (keeps (window_region c f))
-
-    abbrev window : Function → Item
-    window f = record { region = window_region c f; class = c; extent = new_window q s c f }
-
-    abbrev on_bus : Function → List Item
-    on_bus f = cond (are_siblings q.roots bus f.slot.bus) (items_of q s c keeps (new_window q s c) f) []
-
-    own_is : (f : Function) → Contains s f → (i : Item) → Contains (map (own_item c) (filter kept (regions_of q s f))) i → IsItem q s (window_space c) i
-    own_is f listed i has =
-        let made : IsMade (own_item c) (filter kept (regions_of q s f)) i = in_map_to (own_item c) (filter kept (regions_of q s f)) i has in
-        let chosen = in_filter_to kept (regions_of q s f) made.from made.has in
-        let of : IsMade (λ p. record { function = f; part = p }) (parts_of q s f) made.from = in_map_to (λ p. record { function = f; part = p }) (parts_of q s f) made.from chosen.0 in
-        let own = and_parts (is_own q s c made.from) (not (keeps made.from)) chosen.1 in
-        let plain = not-true (is_window made.from.part) (and_parts (not (is_window made.from.part)) _ own.0).0 in
-        record {
-          f = f;
-          p = of.from;
-          listed = listed;
-          region = of.is ∙ ap (λ (j : Item). j.region) made.is;
-          class = ap (λ (j : Item). window_space j.class) (sym made.is);
-          of = inl record {
-            there = (in_filter_to (is_part q s f) (header_parts f) of.from of.has).0;
-            plain = ap (λ (t : Region). is_window t.part) of.is ∙ plain;
-            extent = ap own_extent of.is ∙ ap (λ (j : Item). j.extent) made.is;
-          };
-        }
-
-    window_is : (f : Function) → Contains s f → is_bridge f ≡ true → (i : Item) → window f ≡ i → IsItem q s (window_space c) i
-    window_is f listed bridge i is = record {
-      f = f;
-      p = Window c;
-      listed = listed;
-      region = ap (λ (j : Item). j.region) is;
-      class = ap (λ (j : Item). window_space j.class) (sym is);
-      of = inr record { kind = c; is = refl; bridge = bridge; extent = ap (λ (j : Item). j.extent) is };
-    }
-
-    in_one : (x i : Item) → Contains (x ∷ []) i → x ≡ i
-    in_one x i has = elim (in_cons_cases x [] i has) [ inl is ↦ is | inr none ↦ absurd (in_nil i none) ]
-
-    items_are : (i : Item) → Contains (items_on q s c keeps (new_window q s c) bus) i → IsItem q s (window_space c) i
-    items_are i has =
-        let piece : IsInPiece on_bus s i = in_flat_map_to on_bus s i (Contains-permutation (in_turn (flat_map on_bus s)) (flat_map on_bus s) i
-        (IsPermutation-sym (flat_map on_bus s) (in_turn (flat_map on_bus s)) (turn_same (flat_map on_bus s))) has) in
-        let of = (in_if (are_siblings q.roots bus piece.of.slot.bus) (items_of q s c keeps (new_window q s c) piece.of) i piece.piece).1 in
-        elim (Contains-append_cases (map (own_item c) (filter kept (regions_of q s piece.of))) (cond (opens piece.of) (window piece.of ∷ []) []) i of) [
-          | inl own ↦ own_is piece.of piece.has i own
-          | inr new ↦
-              let opened = in_if (opens piece.of) (window piece.of ∷ []) i new in
-              window_is piece.of piece.has (and_parts (is_bridge piece.of) (has_of q s c piece.of) (and_parts (is_bridge piece.of && has_of q s c piece.of) _ opened.0).0).0 i (in_one (window piece.of) i opened.1)
-        ]
-
   pub space_items_are : (space : Space) (bus : ℕ) (i : Item) → Contains (space_items q s space bus) i → IsItem q s space i
-  space_items_are Io bus i has = items_are IoWindow (stays q s) bus i has
-  space_items_are Memory bus i has =
-      elim (Contains-append_cases (items_on q s MemoryWindow (stays q s) (new_window q s MemoryWindow) bus) (items_on q s PrefetchWindow (stays q s) (new_window q s PrefetchWindow) bus) i has) [
-        | inl plain ↦ items_are MemoryWindow (stays q s) bus i plain
-        | inr prefetch ↦ items_are PrefetchWindow (stays q s) bus i prefetch
-      ]
+  space_items_are space bus = each_in q s space bus (IsItem q s space)
+      (λ c of f on p is. record {
+        f = f;
+        p = p;
+        listed = on.listed;
+        region = refl;
+        class = of;
+        of = inl record { there = is.there; plain = is.plain; extent = refl };
+      })
+      (λ c of f on is. record {
+        f = f;
+        p = Window c;
+        listed = on.listed;
+        region = refl;
+        class = of;
+        of = inr record { kind = c; is = refl; bridge = is.bridge; extent = refl };
+      })
 
   -- ---- each is aligned to something
 
@@ -215,7 +164,7 @@ module _ (q : Request) (s : System) where
     root_limit : (i : Item) (r : Range) → Contains (root_ranges q i) r → r.last ≤ limit (window_space i.class)
     root_limit i r has = elim (Contains-append_cases (ranges_of q i.class i.region.function.slot.bus) (cond i.extent.wide (wide_ranges q i.class i.region.function.slot.bus) []) r has) [
       | inl own ↦ listed_limit i.class i.region.function.slot.bus r own
-      | inr more ↦ wide_limit i.class i.region.function.slot.bus r (in_if i.extent.wide (wide_ranges q i.class i.region.function.slot.bus) r more).1
+      | inr more ↦ wide_limit i.class i.region.function.slot.bus r (in_cond i.extent.wide (wide_ranges q i.class i.region.function.slot.bus) r more).1
     ]
 
     listed_low : (bus : ℕ) (r : Range) → is_listed q bus r IoWindow ≡ true → r.last ≤ 0xffff

@@ -1,24 +1,22 @@
 -- Places are told bus by bus: those of a bus by the bus on which the bridge to it stands.
-use Rattle.std.proofs.Common.{◌≡◌, ℕ, zero, suc, ◌<◌, inl, inr, List, [], ◌∷◌, ◌++◌, map, Bool, true, false, cond, ◌&&◌, not, arith, sym, ◌∙◌, ap, subst, refl, Option, None, Some}
+use Rattle.std.proofs.Common.{◌≡◌, ℕ, zero, suc, ◌<◌, inl, inr, List, [], ◌∷◌, ◌++◌, map, Bool, true, false, cond, ◌&&◌, arith, sym, ◌∙◌, ap, subst, refl, Option, None, Some}
 use Rattle.std.specs.Bool.{◌==◌}
 use Rattle.std.specs.List.{Contains, filter, flat_map}
 use Rattle.std.proofs.Math.Path.{fun_ext}
 use Rattle.std.proofs.lemmas.Bool.{cases_Bool, or_cases, and_parts, eqb-true, both_ways, and_from, or_right, false_from_ne_true}
-use Rattle.std.proofs.lemmas.List.Elements.{Contains-append_cases}
-use Rattle.std.proofs.lemmas.List.Sorted.{IsPermutation-sym, Contains-permutation}
 use Rattle.pci_spec.specs.Decoded.{Range}
 use Rattle.pci_spec.specs.Window.{WindowKind, IoWindow, MemoryWindow, PrefetchWindow}
-use Rattle.pci_spec.specs.System.{System, Function, Space, Io, Memory, IsSystem, is_bridge, window_space}
+use Rattle.pci_spec.specs.System.{System, Function, Space, Io, Memory, IsSystem, window_space}
 use Rattle.pci_spec.specs.Bus.{is_root, are_siblings, IsNested}
-use Rattle.pci_spec.proofs.Members.{in_nil, in_head, in_tail, in_cons_cases, in_flat_map_to, IsInPiece, in_map_to, IsMade, in_filter_to}
+use Rattle.pci_spec.proofs.Members.{in_head, in_tail}
 use Rattle.plan_spec.proofs.Planning.Safe.{order_of}
-use Rattle.settle_spec.specs.FirstPlace.{Extent, first_place}
+use Rattle.settle_spec.specs.FirstPlace.{first_place}
 use Rattle.settle_spec.specs.Lists.{Request}
-use Rattle.settle_spec.specs.Parts.{Region, regions, regions_of, parts_of, addresses, bridge_over, same_space}
+use Rattle.settle_spec.specs.Parts.{Region, regions, addresses, bridge_over, same_space}
 use Rattle.settle_spec.specs.Stands.{window_region, region_space}
-use Rattle.settle_spec.specs.Items.{Item, Placed, Placing, in_turn, own_item, is_own, has_of, items_of, items_on, and_placed, place_next, place_all, taken_by, new_window, stays}
+use Rattle.settle_spec.specs.Items.{Item, Placed, Placing, in_turn, items_of, and_placed, place_next, place_all, taken_by, new_window, stays}
 use Rattle.settle_spec.specs.Places.{placed_of, place_among, placed_range, root_ranges, window_ranges, ranges_for, space_items, taken_at, placing_within, placing_on}
-use Rattle.settle_spec.proofs.InTurn.{turn_same}
+use Rattle.settle_spec.proofs.ItemsOn.{IsBeside, each_in}
 use Rattle.settle_spec.proofs.BridgeOver.{over_leads}
 
 -- ---- places hang on the ranges of the items that are placed
@@ -37,58 +35,8 @@ places_by ranges others taken (i ∷ items) same =
 
 -- ---- the items of a bus are of its functions
 
-in_if : (b : Bool) (xs : List Item) (y : Item) → Contains (cond b xs []) y → (b ≡ true) × Contains xs y
-in_if true xs y has = (refl, has)
-in_if false xs y has = absurd (in_nil y has)
-
--- the function of an item is one of the system, on the bus or on another root
-pub record IsOfBus (q : Request) (s : System) (bus : ℕ) (i : Item) : Type 0 where
-  pub listed : Contains s i.region.function
-  pub beside : are_siblings q.roots bus i.region.function.slot.bus ≡ true
-
-module _ (q : Request) (s : System) (c : WindowKind) (keeps : Region → Bool) (extent : Function → Extent) (bus : ℕ) where
-  abbrev kept : Region → Bool
-  kept r = is_own q s c r && not (keeps r)
-
-  abbrev opens : Function → Bool
-  opens f = is_bridge f && has_of q s c f && not (keeps (window_region c f))
-
-  abbrev window : Function → Item
-  window f = record { region = window_region c f; class = c; extent = extent f }
-
-  of_function : (f : Function) (i : Item) → Contains (items_of q s c keeps extent f) i → i.region.function ≡ f
-  of_function f i listed = elim (Contains-append_cases (map (own_item c) (filter kept (regions_of q s f))) (cond (opens f) (window f ∷ []) []) i listed) [
-    | inl here ↦
-        let made : IsMade (own_item c) (filter kept (regions_of q s f)) i = in_map_to (own_item c) (filter kept (regions_of q s f)) i here in
-        let of : IsMade (λ p. record { function = f; part = p }) (parts_of q s f) made.from = in_map_to (λ p. record { function = f; part = p }) (parts_of q s f) made.from (in_filter_to kept (regions_of q s f) made.from made.has).0 in
-        ap (λ (j : Item). j.region.function) (sym made.is) ∙ ap (λ (r : Region). r.function) (sym of.is)
-    | inr later ↦ elim (in_cons_cases (window f) [] i (in_if (opens f) (window f ∷ []) i later).1) [
-      | inl same ↦ ap (λ (j : Item). j.region.function) (sym same)
-      | inr none ↦ absurd (in_nil i none)
-    ]
-  ]
-
-  abbrev on_bus : Function → List Item
-  on_bus f = cond (are_siblings q.roots bus f.slot.bus) (items_of q s c keeps extent f) []
-
-  pub of_bus : (i : Item) → Contains (items_on q s c keeps extent bus) i → IsOfBus q s bus i
-  of_bus i listed =
-      let all = flat_map on_bus s in
-      let piece : IsInPiece on_bus s i = in_flat_map_to on_bus s i (Contains-permutation (in_turn all) all i (IsPermutation-sym all (in_turn all) (turn_same all)) listed) in
-      let split = in_if (are_siblings q.roots bus piece.of.slot.bus) (items_of q s c keeps extent piece.of) i piece.piece in
-      let is : piece.of ≡ i.region.function = sym (of_function piece.of i split.1) in
-      record {
-        listed = subst (λ f. Contains s f) is piece.has;
-        beside = subst (λ (f : Function). are_siblings q.roots bus f.slot.bus ≡ true) is split.0;
-      }
-
-pub of_space : (q : Request) (s : System) (space : Space) (bus : ℕ) (i : Item) → Contains (space_items q s space bus) i → IsOfBus q s bus i
-of_space q s Io bus i listed = of_bus q s IoWindow (stays q s) (new_window q s IoWindow) bus i listed
-of_space q s Memory bus i listed =
-    elim (Contains-append_cases (items_on q s MemoryWindow (stays q s) (new_window q s MemoryWindow) bus) (items_on q s PrefetchWindow (stays q s) (new_window q s PrefetchWindow) bus) i listed) [
-      | inl plain ↦ of_bus q s MemoryWindow (stays q s) (new_window q s MemoryWindow) bus i plain
-      | inr prefetch ↦ of_bus q s PrefetchWindow (stays q s) (new_window q s PrefetchWindow) bus i prefetch
-    ]
+pub of_space : (q : Request) (s : System) (space : Space) (bus : ℕ) (i : Item) → Contains (space_items q s space bus) i → IsBeside q s bus i.region.function
+of_space q s space bus = each_in q s space bus (λ i. IsBeside q s bus i.region.function) (λ c of f on p is. on) (λ c of f on is. on)
 
 -- ---- as many buses as there are above one another are enough
 
@@ -115,7 +63,7 @@ module _ (q : Request) (s : System) (system : IsSystem s) (nested : IsNested q.r
       ap (λ placed. cond (stays q s (window_region c b)) (addresses (window_region c b) ∷ []) (placed_range (place_among (window_region c b) placed))) (same b.slot.bus (omega (arith, up, to)))
 
   -- an item's ranges are told by what is on lower buses
-  pub ranges_by : (d e : ℕ → List Placed) (bus : ℕ) → ((over : ℕ) → over < bus → d over ≡ e over) → (i : Item) → IsOfBus q s bus i → ranges_for q s d i ≡ ranges_for q s e i
+  pub ranges_by : (d e : ℕ → List Placed) (bus : ℕ) → ((over : ℕ) → over < bus → d over ≡ e over) → (i : Item) → IsBeside q s bus i.region.function → ranges_for q s d i ≡ ranges_for q s e i
   ranges_by d e bus same i of =
       let on = i.region.function.slot.bus in
       elim (cases_Bool (is_root q.roots on)) [

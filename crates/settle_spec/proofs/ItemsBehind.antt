@@ -8,8 +8,9 @@ use Rattle.std.proofs.lemmas.List.Sorted.{IsPermutation-sym, Contains-permutatio
 use Rattle.pci_spec.specs.Window.{WindowKind}
 use Rattle.pci_spec.specs.System.{System, Function, IsSystem, is_bridge}
 use Rattle.pci_spec.specs.Bus.{secondary, is_behind, is_root, are_siblings, IsNested}
-use Rattle.pci_spec.proofs.Members.{in_nil, in_head, in_flat_map_to, in_flat_map_from, IsInPiece, in_map_to, in_map_from, IsMade, in_filter_to, in_filter_from}
+use Rattle.pci_spec.proofs.Members.{in_head, in_flat_map_to, in_flat_map_from, IsInPiece, in_map_to, in_map_from, IsMade, in_filter_to, in_filter_from}
 use Rattle.plan_spec.proofs.Planning.Behind.{any_gives, any_from, behind_range, bridge_between}
+use Rattle.plan_spec.proofs.Planning.OwnItems.{in_cond}
 use Rattle.plan_spec.proofs.Planning.Safe.{order_of}
 use Rattle.settle_spec.specs.FirstPlace.{Extent}
 use Rattle.settle_spec.specs.Lists.{Request}
@@ -19,10 +20,6 @@ use Rattle.settle_spec.specs.Items.{Item, in_turn, own_item, is_own, has_of, ite
 use Rattle.settle_spec.proofs.InTurn.{turn_same}
 use Rattle.settle_spec.proofs.Nested.{at_secondary, behind_outer, is_no_root, on_it}
 use Rattle.settle_spec.proofs.NewWindows.{on_bus}
-
-in_cond : (b : Bool) (xs : List Item) (y : Item) → Contains (cond b xs []) y → (b ≡ true) × Contains xs y
-in_cond true xs y has = (refl, has)
-in_cond false xs y has = absurd (in_nil y has)
 
 some_long : (xs : List Item) (i : Item) → Contains xs i → 0 < length xs
 some_long xs i (k, less, at) = omega (arith, less)

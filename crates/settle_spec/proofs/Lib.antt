@@ -5,6 +5,7 @@ pub mod LaidOut
 pub mod MoreTaken
 pub mod Placed
 pub mod InTurn
+pub mod ItemsOn
 pub mod Nested
 pub mod NewWindows
 pub mod ItemsBehind
