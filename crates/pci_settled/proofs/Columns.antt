@@ -15,7 +15,7 @@ use Rattle.settle_spec.specs.Places.{root_ranges, window_ranges, wide_ranges}
 use Rattle.settle_spec.proofs.Buses.{of_space}
 use Rattle.pci_base.specs.declared.range.Range.{Range}
 use Rattle.pci_settled.specs.Columns.{kind_number, list_at, had, AreColumn, HasColumn, HasRootColumns, AreListsFor}
-use Rattle.pci_settled.proofs.Spaces.{in_space}
+use Rattle.pci_settled.proofs.Parts.{in_space}
 
 -- ---- one column after another
 

@@ -1,5 +1,4 @@
 pub mod Added
-pub mod Spaces
 pub mod Parts
 pub mod Notes
 pub mod Wanted

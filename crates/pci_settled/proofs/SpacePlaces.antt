@@ -38,7 +38,7 @@ use Rattle.pci_settled.specs.Windows.{window_at, plain_of, prefetch_of, range_al
 use Rattle.pci_settled.specs.Places.{range_in, placed_at, or_kept, NotesOf}
 use Rattle.pci_settled.specs.Spaces.{HasWindowsOver, HasNone, KeepsOthers, HasNewPlaces, space_lack}
 use Rattle.pci_settled.proofs.Notes.{region}
-use Rattle.pci_settled.proofs.Spaces.{in_space}
+use Rattle.pci_settled.proofs.Parts.{in_space}
 use Rattle.pci_settled.proofs.Reached.{not_here, leads, reached, reached_first, reached_more, not_yet, reached_before}
 
 -- ---- what stays is a part that is looked at
