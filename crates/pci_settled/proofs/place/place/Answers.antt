@@ -1,25 +1,29 @@
-use Rattle.std.proofs.Common.{◌∙◌, length, map, arith, sym, ap, subst, refl}
+use Rattle.std.proofs.Common.{◌≡◌, ◌∙◌, List, length, map, arith, sym, ap, subst, refl}
 use Rattle.std.proofs.lemmas.Result.{err_from_is_err_and}
-use Rattle.pci_spec.specs.System.{Io}
+use Rattle.pci_spec.specs.System.{System, Io}
 use Rattle.pci_spec.specs.Decoded.{HasRecords}
+use Rattle.pci_spec.specs.Decoded as decoded
+use Rattle.pci_function.specs.declared.record.Record.{Record}
 use Rattle.pci_function.specs.Values.{record_value}
 use Rattle.pci_place.specs.Above.{system_in}
-use Rattle.pci_place.proofs.Records.{same_count}
+use Rattle.pci_place.proofs.Records.{lent, same_count}
 use Rattle.pci_settle.specs.Lists.{lists_value}
+use Rattle.pci_settled.specs.declared.places.Places.{Places}
 use Rattle.pci_settled.specs.Placed.{AreAllNone, ArePlacesOff}
 use Rattle.pci_settled.proofs.Buses.{slice_back}
 use Rattle.pci_settled.proofs.BothSpaces.{has_none, still_none, request_known, both_placed, io_unplaced, memory_unplaced}
 use Rattle.pci_settled.proofs.place.place.Goals as goal
 
+-- a table as long as the records has an entry for each function
+as_many : (s : System) (records : List Record) {values : List decoded.Record} → map record_value records ≡ values → HasRecords s values → (table : List Places) → length table ≡ length records → length table ≡ length s
+as_many s records same has table made = made ∙ sym (same_count s records (lent s records same has))
+
 pub place_in-requires-clause-none : goal.place_in-requires-clause-none
 place_in-requires-clause-none g c =
     let s = system_in c.args.admitted.now in
-    let records = c.records.result.now in
-    let has : HasRecords s (map record_value records) = subst (λ rs. HasRecords s rs) (sym c.records.ensures.value) c.outline.ensures.records in
-    let count = same_count s records has in
-    let made = c.in_ok-table.ensures.count in
-    let lent = c.as_mut_slice-entries.ensures.value in
-    has_none s Io c.as_mut_slice-entries.result.now (ap length lent ∙ made ∙ sym count) (subst AreAllNone (sym lent) c.in_ok-table.ensures.none)
+    let same = c.as_mut_slice-entries.ensures.value in
+    let count = as_many s c.records.result.now c.records.ensures.value c.outline.ensures.records c.in_ok-table.table.items c.in_ok-table.ensures.count in
+    has_none s Io c.as_mut_slice-entries.result.now (ap length same ∙ count) (subst AreAllNone (sym same) c.in_ok-table.ensures.none)
 
 pub returns-in_err-place_in-clause-fault : goal.returns-in_err-place_in-clause-fault
 returns-in_err-place_in-clause-fault g c =
@@ -29,12 +33,9 @@ returns-in_err-place_in-clause-fault g c =
 pub place_in-requires-2-clause-none : goal.place_in-requires-2-clause-none
 place_in-requires-2-clause-none g c =
     let s = system_in c.args.admitted.now in
-    let records = c.records.result.now in
-    let has : HasRecords s (map record_value records) = subst (λ rs. HasRecords s rs) (sym c.records.ensures.value) c.outline.ensures.records in
-    let count = same_count s records has in
-    let made = c.in_ok-table.ensures.count in
-    let lent = c.as_mut_slice-entries.ensures.value in
-    still_none s c.as_mut_slice-entries.result.now c.place_in.new.table (ap length lent ∙ made ∙ sym count) (subst AreAllNone (sym lent) c.in_ok-table.ensures.none) c.in_ok-place_in.ensures.others
+    let same = c.as_mut_slice-entries.ensures.value in
+    let count = as_many s c.records.result.now c.records.ensures.value c.outline.ensures.records c.in_ok-table.table.items c.in_ok-table.ensures.count in
+    still_none s c.as_mut_slice-entries.result.now c.place_in.new.table (ap length same ∙ count) (subst AreAllNone (sym same) c.in_ok-table.ensures.none) c.in_ok-place_in.ensures.others
 
 pub returns-in_err-place_in-2-clause-fault : goal.returns-in_err-place_in-2-clause-fault
 returns-in_err-place_in-2-clause-fault g c =
@@ -45,15 +46,11 @@ returns-in_err-place_in-2-clause-fault g c =
 pub returns-clause-places : goal.returns-clause-places
 returns-clause-places g c =
     let s = system_in c.args.admitted.now in
-    let records = c.records.result.now in
-    let has : HasRecords s (map record_value records) = subst (λ rs. HasRecords s rs) (sym c.records.ensures.value) c.outline.ensures.records in
-    let count = same_count s records has in
-    let made = c.in_ok-table.ensures.count in
-    let lent = c.as_mut_slice-entries.ensures.value in
+    let count = as_many s c.records.result.now c.records.ensures.value c.outline.ensures.records c.in_ok-table.table.items c.in_ok-table.ensures.count in
     let long = c.in_ok-table.table.ok.0 in
-    let even = c.in_ok-place_in-2.ensures.others.count ∙ c.in_ok-place_in.ensures.others.count ∙ ap length lent in
+    let even = c.in_ok-place_in-2.ensures.others.count ∙ c.in_ok-place_in.ensures.others.count ∙ ap length c.as_mut_slice-entries.ensures.value in
     subst (ArePlacesOff c.args.admitted.now.roots s (lists_value c.args.lists.now) c.args.left.now) (sym (slice_back c.in_ok-table.table.len c.place_in-2.new.table c.in_ok-table.table.items even (omega (arith, long))))
-    (both_placed c.args.admitted.now.roots (system_in c.args.admitted.now) (lists_value c.args.lists.now) _ c.of-terms.ensures c.args.left.now _ c.in_ok-held.ensures.held _ refl c.as_slice.ensures.value c.place_in.new.table c.place_in-2.new.table (even ∙ made ∙ sym count) c.in_ok-place_in.ensures.placed c.in_ok-place_in-2.ensures.others c.in_ok-place_in-2.ensures.placed)
+    (both_placed c.args.admitted.now.roots (system_in c.args.admitted.now) (lists_value c.args.lists.now) _ c.of-terms.ensures c.args.left.now _ c.in_ok-held.ensures.held _ refl c.as_slice.ensures.value c.place_in.new.table c.place_in-2.new.table (even ∙ count) c.in_ok-place_in.ensures.placed c.in_ok-place_in-2.ensures.others c.in_ok-place_in-2.ensures.placed)
 
 pub place_in-requires-clause-known : goal.place_in-requires-clause-known
 place_in-requires-clause-known g c =
