@@ -1,9 +1,7 @@
-use Rattle.std.proofs.Common.{◌∙◌, map, length, sym, ap, subst, arith, refl}
-use Rattle.pci_spec.specs.Decoded.{HasRecords}
+use Rattle.std.proofs.Common.{◌∙◌, length, ap, arith, refl}
 use Rattle.pci_base.specs.Space.{space_of}
-use Rattle.pci_function.specs.Values.{record_value}
 use Rattle.pci_place.specs.Above.{system_in}
-use Rattle.pci_place.proofs.Records.{same_count}
+use Rattle.pci_place.proofs.Records.{lent, same_count}
 use Rattle.pci_settled.proofs.Buses.{slice_back, slice_within, all_lawful, within_in, places_in}
 use Rattle.pci_settled.proofs.bus.place_bus.Goals as goal
 
@@ -12,7 +10,7 @@ wanted_of-requires g c =
     let s = system_in c.args.admitted.now in
     let outline = c.outline-outline.ensures in
     let records = c.records-records.result.now in
-    let has : HasRecords s (map record_value records) = subst (λ rs. HasRecords s rs) (sym c.records-records.ensures.value) outline.records in
+    let has = lent s records c.records-records.ensures.value outline.records in
     slice_within c.args.admitted.now.roots s outline.admitted.system (space_of c.args.space) c.args.terms c.args.staying.now c.args.windows.now c.args.bus c.in_ok-candidates.candidates.items c.in_ok-candidates.ensures.items
     _ (c.roots-roots.ensures ∙ outline.roots) _ c.as_slice.ensures.value _ refl c.requires.known (length records) (same_count s records has)
 
@@ -21,7 +19,7 @@ place_all-requires-clause-wanted g c =
     let s = system_in c.args.admitted.now in
     let outline = c.outline-outline.ensures in
     let records = c.records-records.result.now in
-    let has : HasRecords s (map record_value records) = subst (λ rs. HasRecords s rs) (sym c.records-records.ensures.value) outline.records in
+    let has = lent s records c.records-records.ensures.value outline.records in
     all_lawful c.args.admitted.now.roots s outline.admitted.system (space_of c.args.space) c.args.terms c.args.staying.now c.args.windows.now c.args.bus c.in_ok-candidates.candidates.items c.in_ok-candidates.ensures.items
     _ (c.roots-roots.ensures ∙ outline.roots) _ c.as_slice.ensures.value c.in_ok-wanted.wanted.items (c.in_ok-wanted.ensures s has) c.requires.known
     _ c.as_slice-2.ensures.value (length c.args.lists.now) c.requires.some c.requires.roots (c.in_ok-candidates.ensures.lawful c.requires.lawful)
@@ -31,7 +29,7 @@ returns-clause-placing g c =
     let s = system_in c.args.admitted.now in
     let outline = c.outline-outline.ensures in
     let records = c.records-records.result.now in
-    let has : HasRecords s (map record_value records) = subst (λ rs. HasRecords s rs) (sym c.records-records.ensures.value) outline.records in
+    let has = lent s records c.records-records.ensures.value outline.records in
     let long = c.in_ok-places.places.ok.0 in
     places_in c.args.admitted.now.roots s outline.admitted.system (space_of c.args.space) c.args.terms c.args.staying.now c.args.windows.now c.args.bus c.in_ok-candidates.candidates.items c.in_ok-candidates.ensures.items
     _ (c.roots-roots.ensures ∙ outline.roots) _ c.as_slice.ensures.value c.in_ok-wanted.wanted.items (c.in_ok-wanted.ensures s has) c.requires.known
@@ -44,7 +42,7 @@ returns-clause-within g c =
     let s = system_in c.args.admitted.now in
     let outline = c.outline-outline.ensures in
     let records = c.records-records.result.now in
-    let has : HasRecords s (map record_value records) = subst (λ rs. HasRecords s rs) (sym c.records-records.ensures.value) outline.records in
+    let has = lent s records c.records-records.ensures.value outline.records in
     let long = c.in_ok-places.places.ok.0 in
     let even = c.place_all.auto.places ∙ ap length c.as_mut_slice.ensures.value in
     let places = c.in_ok-places.ensures.len in

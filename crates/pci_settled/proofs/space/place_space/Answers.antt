@@ -1,10 +1,8 @@
-use Rattle.std.proofs.Common.{◌+◌, ◌∙◌, map, arith, sym, ap, subst}
-use Rattle.pci_spec.specs.Decoded.{HasRecords}
+use Rattle.std.proofs.Common.{◌+◌, ◌∙◌, arith, sym, ap, subst}
 use Rattle.pci_base.specs.Space.{space_of}
 use Rattle.pci_function.specs.declared.record.Record.{Record}
-use Rattle.pci_function.specs.Values.{record_value}
 use Rattle.pci_place.specs.Above.{system_in}
-use Rattle.pci_place.proofs.Records.{same_count}
+use Rattle.pci_place.proofs.Records.{lent, same_count}
 use Rattle.pci_settle.specs.Lists.{lists_value}
 use Rattle.pci_settled.specs.Candidates.{pass_of}
 use Rattle.pci_settled.specs.Spaces.{AreNotedOnRoots}
@@ -50,7 +48,7 @@ place_behind-requires-clause-behind g c =
     let admitted = c.outline-outline.ensures.admitted in
     let s = system_in c.args.admitted.now in
     let records = c.records-records.result.now in
-    let has : HasRecords s (map record_value records) = subst (λ rs. HasRecords s rs) (sym c.records-records.ensures.value) c.outline-outline.ensures.records in
+    let has = lent s records c.records-records.ensures.value c.outline-outline.ensures.records in
     bus_off c.args.admitted.now.roots s admitted.system admitted.nested (space_of c.args.space) (lists_value c.args.lists.now) c.args.terms c.args.staying.now c.args.windows.now c.requires.known c.requires.windows
     records has c.loop-function.function c.index-records-function.result c.loop-function-test.true c.index-records-function.is c.args.table.now c.loop-function.table c.loop-function.invariant
     c.in-Some.bridge (ap (λ (x : Record). x.bridge) c.index-records-function.is ∙ c.in-Some.is)
@@ -63,7 +61,7 @@ loop-function-preserved g c =
     let space = space_of c.args.space in
     let l = lists_value c.args.lists.now in
     let records = c.records-records.result.now in
-    let has : HasRecords s (map record_value records) = subst (λ rs. HasRecords s rs) (sym c.records-records.ensures.value) c.outline-outline.ensures.records in
+    let has = lent s records c.records-records.ensures.value c.outline-outline.ensures.records in
     elim c.match-records-function.branch [
       | in-Some+in_ok-place_behind w ↦
           subst (IsSpaceTo roots s space l c.args.terms c.args.staying.now c.args.windows.now (c.loop-function.function + 1) c.args.table.now) (sym w.table-is)
@@ -81,7 +79,7 @@ returns-clause-placed g c =
     let admitted = c.outline-outline.ensures.admitted in
     let s = system_in c.args.admitted.now in
     let records = c.records-records.result.now in
-    let has : HasRecords s (map record_value records) = subst (λ rs. HasRecords s rs) (sym c.records-records.ensures.value) c.outline-outline.ensures.records in
+    let has = lent s records c.records-records.ensures.value c.outline-outline.ensures.records in
     let count = same_count s records has in
     let past = c.loop-function-test.false in
     space_all c.args.admitted.now.roots s admitted.system admitted.nested (space_of c.args.space) (lists_value c.args.lists.now) c.args.terms c.args.staying.now c.args.windows.now c.requires.known c.requires.windows
