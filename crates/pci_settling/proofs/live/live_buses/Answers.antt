@@ -1,9 +1,7 @@
-use Rattle.std.proofs.Common.{◌≡◌, ◌-◌, ◌≤◌, ℕ, length, map, set, cond, true, arith, sym, ap, ◌∙◌, subst}
-use Rattle.pci_spec.specs.Decoded.{HasRecords}
+use Rattle.std.proofs.Common.{◌≡◌, ◌-◌, ◌≤◌, ℕ, length, set, cond, true, arith, sym, ap, ◌∙◌, subst}
 use Rattle.pci_base.specs.Space.{space_of}
-use Rattle.pci_function.specs.Values.{record_value}
 use Rattle.pci_place.specs.Above.{system_in}
-use Rattle.pci_place.proofs.Records.{same_count}
+use Rattle.pci_place.proofs.Records.{lent, same_count}
 use Rattle.pci_settling.proofs.LiveBuses.{AreLiveFrom, live_none, live_all, live_step}
 use Rattle.pci_settling.proofs.Registers.{registers_at}
 use Rattle.pci_settling.proofs.live.live_buses.Goals as goal
@@ -19,7 +17,7 @@ pub is_live-requires : goal.is_live-requires
 is_live-requires g c =
     let s = system_in c.args.admitted.now in
     let records = c.records-records.result.now in
-    let has : HasRecords s (map record_value records) = subst (λ rs. HasRecords s rs) (sym c.records-records.ensures.value) c.outline-outline.ensures.records in
+    let has = lent s records c.records-records.ensures.value c.outline-outline.ensures.records in
     registers_at s records has (length records - 1 - c.loop-done.done) c.index-records-function.result (let less = c.loop-done-test.true in omega (arith, less)) c.index-records-function.is
 
 pub loop-done-preserved : goal.loop-done-preserved
@@ -27,7 +25,7 @@ loop-done-preserved g c =
     let s = system_in c.args.admitted.now in
     let admitted = c.outline-outline.ensures.admitted in
     let records = c.records-records.result.now in
-    let has : HasRecords s (map record_value records) = subst (λ rs. HasRecords s rs) (sym c.records-records.ensures.value) c.outline-outline.ensures.records in
+    let has = lent s records c.records-records.ensures.value c.outline-outline.ensures.records in
     live_step c.args.admitted.now.roots s admitted.system admitted.nested (space_of c.args.space) c.args.terms c.args.table.now c.args.aboves.now c.requires.above records has c.loop-done.done
     c.index-records-function.result c.loop-done-test.true c.index-records-function.is c.loop-done.live c.loop-done.invariant c.from-bus.result _ _
     c.is_live_behind-behind.result c.is_live.result c.if-is_live.live (c.from-bus.ensures ∙ c.bus.ensures) c.is_live_behind-behind.ensures c.is_live.ensures
@@ -44,7 +42,7 @@ returns g c =
     let s = system_in c.args.admitted.now in
     let admitted = c.outline-outline.ensures.admitted in
     let records = c.records-records.result.now in
-    let has : HasRecords s (map record_value records) = subst (λ rs. HasRecords s rs) (sym c.records-records.ensures.value) c.outline-outline.ensures.records in
+    let has = lent s records c.records-records.ensures.value c.outline-outline.ensures.records in
     let count = same_count s records has in
     let start = at_start (length s) c.loop-done.done (let done = c.loop-done-test.false in omega (arith, count, done)) in
     live_all c.args.admitted.now.roots s admitted.system admitted.nested (space_of c.args.space) c.args.terms c.args.table.now c.loop-done.live
