@@ -1,24 +1,29 @@
 -- Tables of what stands and stays: where all is placed anew nothing does, and else as they were made.
-use Rattle.std.proofs.Common.{◌≡◌, ◌<◌, Bool, List, [], length, false, slice_index_or, refl, sym, ◌∙◌, ap, subst}
+use Rattle.std.proofs.Common.{◌≡◌, ◌<◌, Bool, List, [], map, length, false, slice_index_or, refl, sym, ◌∙◌, ap, subst}
 use Rattle.std.specs.Bool.{IsTrue}
 use Rattle.std.proofs.lemmas.List.{get_or_default}
 use Rattle.std.proofs.lemmas.Option.{slice_get_within}
 use Rattle.pci_spec.specs.Slot.{Slot}
 use Rattle.pci_spec.specs.System.{System}
+use Rattle.pci_spec.specs.Decoded.{HasRecords}
+use Rattle.pci_spec.specs.Decoded as decoded
 use Rattle.settle_spec.specs.Lists.{Lists, Request}
 use Rattle.settle_spec.specs.Parts.{Region, regions}
 use Rattle.settle_spec.specs.Stands.{stands}
 use Rattle.settle_spec.specs.Items.{stays}
 use Rattle.settle_spec.proofs.Anew.{none_stands, none_stays}
-use Rattle.pci_tree.specs.Admission.{Admission}
+use Rattle.pci_function.specs.declared.record.Record.{Record}
+use Rattle.pci_function.specs.Values.{record_value}
+use Rattle.pci_tree.specs.Admission.{Admission, IsAdmitted}
 use Rattle.pci_place.specs.Above.{system_in}
 use Rattle.pci_settle.specs.declared.kept.Kept.{Kept}
 use Rattle.pci_settle.specs.declared.over.Left.{Left}
 use Rattle.pci_settle.specs.Kept.{kept_of, nothing_kept, AreNone}
-use Rattle.pci_settle.specs.Over.{AreOpenOver}
 use Rattle.pci_stand.specs.Known.{asked}
 use Rattle.pci_stand.specs.Passing.{AreStanding}
+use Rattle.pci_stay.specs.Windows.{AreOpenFor}
 use Rattle.pci_stay.specs.Staying.{AreStaying}
+use Rattle.pci_stay.proofs.Opened.{tree_of}
 use Rattle.pci_settled.specs.Placed.{IsLeaving, CanBeLeft}
 use Rattle.pci_settled.proofs.NothingLeft.{leaves}
 use Rattle.pci_settle_writes.specs.Requests.{IsAskedOf}
@@ -56,14 +61,15 @@ module _ (a : Admission) (l : Lists) where
   }
 
   -- where something may stay
-  module _ (fixed : List Slot) (left : Left) (standing staying : List Kept) (open_over : AreOpenOver (asked a.roots l fixed) (system_in a) left.over.now)
-      (stand : AreStanding (asked a.roots l fixed) (system_in a) standing) (stay : AreStaying (asked a.roots l fixed) (system_in a) staying) (same : left.kept.now ≡ staying) where
+  module _ (fixed : List Slot) (admitted : IsAdmitted a) (records : List Record) {values : List decoded.Record} (same : map record_value records ≡ values) (has : HasRecords (system_in a) values)
+      (left : Left) (opened : (q : Request) (s : System) → AreOpenFor q s records left.over.now) (standing staying : List Kept) {stood stayed : List Kept} (stood_is : standing ≡ stood) (stayed_is : staying ≡ stayed)
+      (kept_is : left.kept.now ≡ stayed) (stand : AreStanding (asked a.roots l fixed) (system_in a) stood) (stay : AreStaying (asked a.roots l fixed) (system_in a) stayed) where
     leaving_rest : IsLeaving (asked a.roots l fixed) a.roots (system_in a) l left
     leaving_rest = record {
       rooted = refl;
       lists = refl;
-      overs_are = open_over;
-      keeps_is = λ k f part at there. ap (λ t. kept_of (slice_index_or t k nothing_kept) part) same ∙ stay.each k f part at there;
+      overs_are = opened (asked a.roots l fixed) (system_in a) (tree_of a l fixed admitted records same has);
+      keeps_is = λ k f part at there. ap (λ t. kept_of (slice_index_or t k nothing_kept) part) kept_is ∙ stay.each k f part at there;
     }
 
     pub rest_can_be_left : CanBeLeft a.roots (system_in a) l left
@@ -73,6 +79,6 @@ module _ (a : Admission) (l : Lists) where
     told_rest = record {
       asked = record { roots_are = refl; lists_are = refl };
       leaving = leaving_rest;
-      stand = record { count = stand.count; each = stand.each };
-      stay = table_of_staying (asked a.roots l fixed) (system_in a) staying stay;
+      stand = subst (IsTableOf (system_in a) (stands (asked a.roots l fixed) (system_in a))) (sym stood_is) record { count = stand.count; each = stand.each };
+      stay = subst (IsTableOf (system_in a) (stays (asked a.roots l fixed) (system_in a))) (sym stayed_is) (table_of_staying (asked a.roots l fixed) (system_in a) stayed stay);
     }
