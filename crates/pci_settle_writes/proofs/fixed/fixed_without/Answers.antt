@@ -1,17 +1,14 @@
-use Rattle.std.proofs.Common.{◌≡◌, ◌∙◌, ◌<◌, ℕ, Bool, List, false, length, map, get_or, refl, sym, ap, subst}
+use Rattle.std.proofs.Common.{◌≡◌, ◌∙◌, Bool, false, get_or, sym, ap, subst}
 use Rattle.std.specs.List.{list_any}
-use Rattle.std.proofs.lemmas.Option.{slice_get_read}
 use Rattle.pci_spec.specs.Slot.{Slot, same_slot}
-use Rattle.pci_spec.specs.Decoded.{HasRecords}
 use Rattle.pci_spec.specs.System.{System}
 use Rattle.settle_spec.specs.Lists.{Request}
 use Rattle.settle_spec.specs.Parts.{Region, regions_of}
 use Rattle.pci_function.specs.declared.record.Record.{Record}
-use Rattle.pci_function.specs.Values.{record_value}
 use Rattle.pci_tree.proofs.Lifting.{same_slot_of}
 use Rattle.pci_place.specs.declared.above.Above.{Above}
 use Rattle.pci_place.specs.Above.{system_in, IsAbove}
-use Rattle.pci_place.proofs.Records.{FunctionAt, function_at}
+use Rattle.pci_place.proofs.Records.{FunctionAt, function_read}
 use Rattle.pci_settle.specs.Lists.{lists_value}
 use Rattle.pci_settle.specs.Own.{AreTerms}
 use Rattle.pci_settling.proofs.Registers.{have_registers}
@@ -29,18 +26,11 @@ use Rattle.pci_settle_writes.proofs.fixed.fixed_without.Given.{Over}
 abbrev no_above : Above
 no_above = record { io = false; pref = false; wide = false }
 
--- the function of a record
-module _ (s : System) (records : List Record) (has : HasRecords s (map record_value records)) where
-  function_here : (k : ℕ) (r : Record) → k < length records → r ≡ get_or records k r → FunctionAt s r k
-  function_here k r within is = function_at s records has k r (slice_get_read records (length records) k r refl within is)
-
 pub record_without-fault-requires : goal.record_without-fault-requires
 record_without-fault-requires g c =
     let s = system_in c.args.admitted.now in
-    let records = c.records-records.result.now in
-    let has : HasRecords s (map record_value records) = subst (λ rs. HasRecords s rs) (sym c.records-records.ensures.value) c.outline-outline.ensures.records in
     let r = c.index-records-k.result in
-    let here = function_here s records has c.loop-k.k r c.loop-k-test.true c.index-records-k.is in
+    let here = function_read s c.records-records.result.now c.records-records.ensures.value c.outline-outline.ensures.records c.loop-k.k r c.loop-k-test.true c.index-records-k.is in
     have_registers s here.f r here.is
 
 module _ (g : Over) (c : After-record_without-fault g) where
@@ -50,11 +40,8 @@ module _ (g : Over) (c : After-record_without-fault g) where
   abbrev r : Record
   r = c.index-records-k.result
 
-  has : HasRecords s (map record_value c.records-records.result.now)
-  has = subst (λ rs. HasRecords s rs) (sym c.records-records.ensures.value) c.outline-outline.ensures.records
-
   here : FunctionAt s r c.loop-k.k
-  here = function_here s c.records-records.result.now has c.loop-k.k r c.loop-k-test.true c.index-records-k.is
+  here = function_read s c.records-records.result.now c.records-records.ensures.value c.outline-outline.ensures.records c.loop-k.k r c.loop-k-test.true c.index-records-k.is
 
   slot : r.slot ≡ here.f.slot
   slot = same_slot_of r here.f here.is.value

@@ -1,13 +1,11 @@
-use Rattle.std.proofs.Common.{rules, ◌≡◌, ◌∙◌, ◌<◌, ℕ, length, map, get_or, refl, arith, sym, ap, subst}
-use Rattle.std.proofs.lemmas.Option.{slice_get_read, get_or_from_slice_get}
-use Rattle.pci_spec.specs.Decoded.{HasRecords}
+use Rattle.std.proofs.Common.{rules, ◌≡◌, ◌∙◌, ◌<◌, ℕ, length, get_or, refl, arith, sym, ap, subst}
+use Rattle.std.proofs.lemmas.Option.{get_or_from_slice_get}
 use Rattle.pci_spec.specs.System.{Function}
 use Rattle.pci_function.specs.declared.record.Record.{Record}
-use Rattle.pci_function.specs.Values.{record_value}
 use Rattle.pci_tree.proofs.Lifting.{same_slot_of}
 use Rattle.pci_place.specs.Above.{system_in}
 use Rattle.pci_place.specs.Items.{no_function, function_in}
-use Rattle.pci_place.proofs.Records.{FunctionAt, same_count, function_at}
+use Rattle.pci_place.proofs.Records.{lent, FunctionAt, same_count, function_read}
 use Rattle.pci_settled.specs.declared.anew.Unplaced.{Unplaced}
 use Rattle.pci_settled.specs.declared.anew.Unplaced.TheVariants as unplaced
 use Rattle.pci_settle_writes.specs.declared.lack.SettleFault.TheVariants as fault
@@ -18,16 +16,15 @@ use Rattle.pci_settle_writes.proofs.lack.fault_of.Goals.{After-records-records}
 use Rattle.pci_settle_writes.proofs.lack.fault_of.Given.{Over}
 
 module _ (g : Over) (c : After-records-records g) where
-  has : HasRecords (system_in c.args.admitted.now) (map record_value c.records-records.result.now)
-  has = subst (λ rs. HasRecords (system_in c.args.admitted.now) rs) (sym c.records-records.ensures.value) c.outline-outline.ensures.records
-
-  count : length (system_in c.args.admitted.now) ≡ length c.records-records.result.now
-  count = same_count (system_in c.args.admitted.now) c.records-records.result.now has
+  within_records : (k : ℕ) → k < length (system_in c.args.admitted.now) → k < length c.records-records.result.now
+  within_records k within =
+      let s = system_in c.args.admitted.now in
+      let count = same_count s c.records-records.result.now (lent s c.records-records.result.now c.records-records.ensures.value c.outline-outline.ensures.records) in
+      omega (arith, count, within)
 
   function_here : (k : ℕ) (r : Record) → k < length (system_in c.args.admitted.now) → r ≡ get_or c.records-records.result.now k r → FunctionAt (system_in c.args.admitted.now) r k
   function_here k r within is =
-      let n = count in
-      function_at (system_in c.args.admitted.now) c.records-records.result.now has k r (slice_get_read c.records-records.result.now (length c.records-records.result.now) k r refl (omega (arith, n, within)) is)
+      function_read (system_in c.args.admitted.now) c.records-records.result.now c.records-records.ensures.value c.outline-outline.ensures.records k r (within_records k within) is
 
   named_here : IsNamed (system_in c.args.admitted.now) c.args.unplaced
   named_here = c.requires
@@ -35,9 +32,6 @@ module _ (g : Over) (c : After-records-records g) where
   -- what has no place, by its kind
   named_as : (u : Unplaced) → c.args.unplaced ≡ u → IsNamed (system_in c.args.admitted.now) u
   named_as u is = subst (IsNamed (system_in c.args.admitted.now)) is named_here
-
-  within_records : (k : ℕ) → k < length (system_in c.args.admitted.now) → k < length c.records-records.result.now
-  within_records k within = let n = count in omega (arith, n, within)
 
 pub bounds-records-candidate : goal.bounds-records-candidate
 bounds-records-candidate g c =

@@ -1,19 +1,16 @@
-use Rattle.std.proofs.Common.{◌≡◌, ◌∙◌, ◌+◌, ◌<◌, ◌++◌, [], ◌∷◌, ℕ, List, length, map, get_or, refl, false, not, ◌||◌, arith, sym, ap, subst}
+use Rattle.std.proofs.Common.{◌≡◌, ◌∙◌, ◌+◌, ◌<◌, ◌++◌, [], ◌∷◌, ℕ, List, length, get_or, false, not, ◌||◌, arith, sym, ap, subst}
 use Rattle.std.proofs.lemmas.List.{length-append}
-use Rattle.std.proofs.lemmas.Option.{slice_get_read}
 use Rattle.pci_spec.specs.Slot.{Slot}
 use Rattle.pci_spec.specs.Text.{Block}
-use Rattle.pci_spec.specs.Decoded.{HasRecords}
 use Rattle.pci_spec.proofs.Pairing.{same_length, length-system_of}
 use Rattle.settle_spec.specs.Lists.{Request, Lists}
 use Rattle.settle_spec.specs.Writes.{is_changed}
 use Rattle.pci_function.specs.declared.record.Record.{Record}
-use Rattle.pci_function.specs.Values.{record_value}
 use Rattle.pci_tree.specs.Admission.{Admission, IsAdmitted}
 use Rattle.pci_tree.proofs.Lifting.{same_slot_of}
 use Rattle.pci_place.specs.declared.above.Above.{Above}
 use Rattle.pci_place.specs.Above.{system_in, IsAbove}
-use Rattle.pci_place.proofs.Records.{FunctionAt, same_count, function_at}
+use Rattle.pci_place.proofs.Records.{lent, FunctionAt, same_count, function_read}
 use Rattle.pci_settle.specs.Lists.{lists_value}
 use Rattle.pci_settle.specs.Own.{AreTerms}
 use Rattle.pci_settle_writes.specs.declared.way.Way.{Way}
@@ -44,9 +41,6 @@ module _ (g : Over) (c : After-blocks-start g) where
   admitted_is : IsAdmitted a
   admitted_is = c.outline-outline.ensures.admitted
 
-  has : HasRecords (system_in a) (map record_value c.records-records.result.now)
-  has = subst (λ rs. HasRecords (system_in a) rs) (sym c.records-records.ensures.value) c.outline-outline.ensures.records
-
   blocks_are : c.blocks-start.result.now ≡ a.dump
   blocks_are = c.blocks-start.ensures.value ∙ c.dump.ensures
 
@@ -55,7 +49,7 @@ module _ (g : Over) (c : After-blocks-start g) where
   size = length-system_of a.dump a.probe (same_length a.dump a.probe admitted_is.slots)
 
   count : length (system_in a) ≡ length c.records-records.result.now
-  count = same_count (system_in a) c.records-records.result.now has
+  count = same_count (system_in a) c.records-records.result.now (lent (system_in a) c.records-records.result.now c.records-records.ensures.value c.outline-outline.ensures.records)
 
   start : AreOf (system_in a) c.blocks-start.result.now
   start = subst (λ (bs : List Block). AreOf (system_in a) bs) (sym blocks_are) (start_of a admitted_is)
@@ -68,7 +62,7 @@ module _ (g : Over) (c : After-blocks-start g) where
 
   -- the function of a record
   function_here : (k : ℕ) (r : Record) → k < length c.records-records.result.now → r ≡ get_or c.records-records.result.now k r → FunctionAt (system_in a) r k
-  function_here k r within is = function_at (system_in a) c.records-records.result.now has k r (slice_get_read c.records-records.result.now (length c.records-records.result.now) k r refl within is)
+  function_here = function_read (system_in a) c.records-records.result.now c.records-records.ensures.value c.outline-outline.ensures.records
 
 pub loop-k-init : goal.loop-k-init
 loop-k-init g c =
