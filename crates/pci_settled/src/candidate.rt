@@ -97,45 +97,24 @@ pub fn candidates_on<A: Allocator + Copy, B: Allocator>(
     ensures lawful { AreSpaceWindows windows.now → IfOk result (λ candidates. All IsLawful candidates.items) }
 {
     let mut candidates = Vec::new(alloc);
+    let out = &mut candidates;
+    let plain = &windows.plain;
     match space {
         Space::Io => {
             let class = WindowKind::Io;
             add_class(
-                alloc,
-                &mut candidates,
-                admitted,
-                bus,
-                class,
-                aboves,
-                terms,
-                staying,
-                &windows.plain,
+                alloc, out, admitted, bus, class, aboves, terms, staying, plain,
             )?;
         }
         Space::Mem => {
             let class = WindowKind::Memory;
             add_class(
-                alloc,
-                &mut candidates,
-                admitted,
-                bus,
-                class,
-                aboves,
-                terms,
-                staying,
-                &windows.plain,
+                alloc, out, admitted, bus, class, aboves, terms, staying, plain,
             )?;
             let class = WindowKind::Prefetchable;
+            let prefetch = &windows.prefetch;
             add_class(
-                alloc,
-                &mut candidates,
-                admitted,
-                bus,
-                class,
-                aboves,
-                terms,
-                staying,
-                &windows.prefetch,
+                alloc, out, admitted, bus, class, aboves, terms, staying, prefetch,
             )?;
         }
     }

@@ -82,36 +82,15 @@ fn space_windows<A: Allocator + Copy, B: Allocator>(
     let mut prefetch = [None; BUSES];
     match space {
         Space::Io => {
-            class_windows(
-                alloc,
-                admitted,
-                WindowKind::Io,
-                aboves,
-                terms,
-                staying,
-                &mut plain,
-            )?;
+            let class = WindowKind::Io;
+            class_windows(alloc, admitted, class, aboves, terms, staying, &mut plain)?;
         }
         Space::Mem => {
-            class_windows(
-                alloc,
-                admitted,
-                WindowKind::Memory,
-                aboves,
-                terms,
-                staying,
-                &mut plain,
-            )?;
+            let class = WindowKind::Memory;
+            class_windows(alloc, admitted, class, aboves, terms, staying, &mut plain)?;
             let class = WindowKind::Prefetchable;
-            class_windows(
-                alloc,
-                admitted,
-                class,
-                aboves,
-                terms,
-                staying,
-                &mut prefetch,
-            )?;
+            let wide = &mut prefetch;
+            class_windows(alloc, admitted, class, aboves, terms, staying, wide)?;
         }
     }
     Ok(SpaceWindows { plain, prefetch })
@@ -188,25 +167,13 @@ pub fn place<A: Allocator + Copy, B: Allocator>(
     };
     let mut table = no_places(alloc, admitted.outline().records().len())?;
     let entries = table.as_mut_slice();
+    let space = Space::Io;
     place_in(
-        alloc,
-        admitted,
-        Space::Io,
-        lists,
-        &aboves,
-        terms,
-        &staying,
-        entries,
+        alloc, admitted, space, lists, &aboves, terms, &staying, entries,
     )?;
+    let space = Space::Mem;
     place_in(
-        alloc,
-        admitted,
-        Space::Mem,
-        lists,
-        &aboves,
-        terms,
-        &staying,
-        entries,
+        alloc, admitted, space, lists, &aboves, terms, &staying, entries,
     )?;
     Ok(table)
 }

@@ -100,41 +100,17 @@ fn hold_bridge<A: Allocator + Copy, B: Allocator>(
         → IsHeldFrom q (system_in admitted.now) table.old (function + 1)
         → IsHeldFrom q (system_in admitted.now) table.new function) }
 {
+    let class = WindowKind::Io;
     let io = window_holds(
-        alloc,
-        admitted,
-        function,
-        WindowKind::Io,
-        aboves,
-        terms,
-        over,
-        windows,
-        regions,
-        table,
+        alloc, admitted, function, class, aboves, terms, over, windows, regions, table,
     )?;
+    let class = WindowKind::Memory;
     let memory = window_holds(
-        alloc,
-        admitted,
-        function,
-        WindowKind::Memory,
-        aboves,
-        terms,
-        over,
-        windows,
-        regions,
-        table,
+        alloc, admitted, function, class, aboves, terms, over, windows, regions, table,
     )?;
+    let class = WindowKind::Prefetchable;
     let prefetchable = window_holds(
-        alloc,
-        admitted,
-        function,
-        WindowKind::Prefetchable,
-        aboves,
-        terms,
-        over,
-        windows,
-        regions,
-        table,
+        alloc, admitted, function, class, aboves, terms, over, windows, regions, table,
     )?;
     table[function].windows = ByKind {
         io,

@@ -83,34 +83,13 @@ pub fn all_windows<A: Allocator + Copy, B: Allocator>(
     let mut io = [None; BUSES];
     let mut memory = [None; BUSES];
     let mut prefetchable = [None; BUSES];
-    class_windows(
-        alloc,
-        admitted,
-        WindowKind::Io,
-        aboves,
-        terms,
-        over,
-        &mut io,
-    )?;
-    class_windows(
-        alloc,
-        admitted,
-        WindowKind::Memory,
-        aboves,
-        terms,
-        over,
-        &mut memory,
-    )?;
+    let class = WindowKind::Io;
+    class_windows(alloc, admitted, class, aboves, terms, over, &mut io)?;
+    let class = WindowKind::Memory;
+    class_windows(alloc, admitted, class, aboves, terms, over, &mut memory)?;
     let class = WindowKind::Prefetchable;
-    class_windows(
-        alloc,
-        admitted,
-        class,
-        aboves,
-        terms,
-        over,
-        &mut prefetchable,
-    )?;
+    let wide = &mut prefetchable;
+    class_windows(alloc, admitted, class, aboves, terms, over, wide)?;
     Ok(ByKind {
         io,
         memory,
