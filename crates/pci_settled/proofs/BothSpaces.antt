@@ -1,9 +1,9 @@
 -- The places of both spaces in one table, and what lacks one: of I/O, or else of memory.
-use Rattle.std.proofs.Common.{◌≡◌, ℕ, ◌+◌, ◌-◌, inl, inr, ◌⊎◌, List, [], ◌∷◌, ◌++◌, length, replicate, get_or, arith, refl, sym, ◌∙◌, ap, subst, Option, None, Some}
+use Rattle.std.proofs.Common.{◌≡◌, ℕ, inl, inr, ◌⊎◌, List, [], ◌∷◌, ◌++◌, length, replicate, get_or, arith, refl, sym, ◌∙◌, ap, subst, Option, None, Some}
 use Rattle.std.specs.Option.{IfSome}
 use Rattle.std.proofs.lemmas.Bool.{cases_lt}
-use Rattle.std.proofs.lemmas.List.{length-append, get_or_append_left, get_or-append_right, get_or-replicate, get_or_past}
-use Rattle.std.proofs.lemmas.List.Elements.{All-replicate}
+use Rattle.std.proofs.lemmas.List.{get_or-replicate, get_or_past}
+use Rattle.std.proofs.lemmas.List.Elements.{All-nil, All-cons, All-append, All-replicate}
 use Rattle.std.proofs.lemmas.Option.{slice_get_within}
 use Rattle.pci_spec.specs.Window.{IoWindow, MemoryWindow, PrefetchWindow}
 use Rattle.pci_spec.specs.System.{System, Space, Io, Memory, Part, Bar, Rom, Window, space_of, window_space}
@@ -96,18 +96,10 @@ pub none_first : (table : List Places) → table ≡ [] → AreAllNone table
 none_first table none k d part low = absurd (let long : length table ≡ 0 = ap length none in let no : ⊥ = omega (arith, low, long) in no)
 
 pub none_more : (old new : List Places) → AreAllNone old → new ≡ old ++ none_at_all ∷ [] → AreAllNone new
-none_more old new none put k d part low = ap (λ xs. range_in (get_or xs k d) part) put ∙ by_place
-  where
-    by_place : range_in (get_or (old ++ none_at_all ∷ []) k d) part ≡ None
-    by_place = elim (cases_lt k (length old)) [
-      | inl before ↦ ap (λ e. range_in e part) (get_or_append_left old (none_at_all ∷ []) d k before) ∙ none k d part before
-      | inr here ↦
-          let long : length new ≡ length old + 1 = ap length put ∙ length-append old (none_at_all ∷ []) in
-          let at : k ≡ length old = omega (arith, here, low, long) in
-          ap (λ n. range_in (get_or (old ++ none_at_all ∷ []) n d) part) at
-          ∙ ap (λ e. range_in e part) (get_or-append_right old (none_at_all ∷ []) (length old) (length old) d refl (omega arith) ∙ ap (λ n. get_or (none_at_all ∷ []) n d) (let z : length old - length old ≡ 0 = omega arith in z))
-          ∙ none_in part
-    ]
+none_more old new none put =
+    let test : Places → Type 0 = λ entry. (part : Part) → range_in entry part ≡ None in
+    let all = All-append test old (none_at_all ∷ []) (λ k d low part. none k d part low) (All-cons test none_at_all [] none_in (All-nil test)) in
+    subst AreAllNone (sym put) (λ k d part low. all k d low part)
 
 pub has_none : (s : System) (space : Space) (table : List Places) → length table ≡ length s → AreAllNone table → HasNone s space table
 has_none s space table count none k f d part at there of = let inside = slice_get_within s k f at in none k d part (omega (arith, inside, count))
