@@ -1,23 +1,17 @@
 -- What is above each bus, in one pass over the records in slot order.
-use Rattle.std.proofs.Common.{◌≡◌, ℕ, ◌+◌, ◌<◌, ◌⊎◌, inl, inr, List, length, take, set, replicate, get_or, refl, Bool, true, false, not, ◌%◌, ◌&&◌, Some, None, arith, sym, ◌∙◌, ap, subst}
+use Rattle.std.proofs.Common.{◌≡◌, ℕ, ◌+◌, ◌<◌, inl, inr, List, length, set, replicate, get_or, refl, Bool, true, false, ◌%◌, ◌&&◌, Some, None, arith, sym, ◌∙◌, ap}
 use Rattle.std.specs.Bool.{◌==◌, if◌then◌else◌}
 use Rattle.std.specs.Option.{is_some}
 use Rattle.std.specs.List.{Contains, slice_get, list_all}
-use Rattle.std.proofs.lemmas.Bool.{cases_Bool, cases_eq, both_ways, not-true, not-false, and_parts, eqb-true}
-use Rattle.std.proofs.lemmas.List.{length-set, get_or-replicate, get_or-set_same, get_or-set_other}
+use Rattle.std.proofs.lemmas.Bool.{cases_Bool, not-false, and_parts, eqb-true}
 use Rattle.std.proofs.lemmas.List.Elements.{All-contains}
-use Rattle.std.proofs.lemmas.Option.{get_or_from_slice_get}
 use Rattle.pci_spec.specs.Window.{WindowKind, IoWindow, PrefetchWindow, bounds_at, has_window, is_wide_window}
 use Rattle.pci_spec.specs.System.{System, Function, IsFunction, IsSystem, is_bridge}
-use Rattle.pci_spec.specs.Bus.{secondary, is_behind, IsNested}
+use Rattle.pci_spec.specs.Bus.{secondary, IsNested}
 use Rattle.pci_spec.specs.Decoded.{decoded_window, optional_window}
 use Rattle.pci_spec.specs.Decoded as decoded
 use Rattle.plan_spec.specs.Plan.{bridges_above}
-use Rattle.pci_spec.proofs.Members.{in_nil}
-use Rattle.pci_spec.proofs.BusRanges.{all_gives, ordered, behind_of_within}
-use Rattle.plan_spec.proofs.Planning.Safe.{slots_of}
-use Rattle.plan_spec.proofs.Planning.Passed.{IsBefore, in_front_to, in_front_from, lower_is_passed}
-use Rattle.plan_spec.proofs.Planning.AboveBuses.{all_above, all_above_root, root_or_led}
+use Rattle.plan_spec.proofs.Planning.AboveBuses.{all_above, all_above_root}
 use Rattle.pci_function.specs.declared.record.Bridge.{Bridge}
 use Rattle.pci_function.specs.declared.record.Record.{Record}
 use Rattle.pci_tree.proofs.Lifting.{same_bridge}
@@ -25,6 +19,7 @@ use Rattle.pci_tree.proofs.RegionParts.{same_bridge_of}
 use Rattle.pci_place.specs.declared.above.Above.{Above}
 use Rattle.pci_place.specs.Above.{IsAbove, AreAboves, is_wide_in}
 use Rattle.pci_place.specs.Records.{IsRecordOf}
+use Rattle.pci_place.proofs.BusTables.{AreTo, none_yet, of_bus, same_after, put_after, whole_table}
 
 -- below no bridge
 abbrev pub no_bridge : Above
@@ -56,19 +51,8 @@ wide_window image probe = elim (cases_Bool (has_window PrefetchWindow probe)) [
 -- ---- the table
 
 -- what is above each root, and above the buses behind the first k functions
-pub record AreAbovesTo (roots : List ℕ) (s : System) (k : ℕ) (aboves : List Above) : Type 0 where
-  pub size : length aboves ≡ 256
-  pub on_roots : (bus : ℕ) (d : Above) → Contains roots bus → bus < 256 → IsAbove s bus (get_or aboves bus d)
-  pub behind : (b : Function) (d : Above) → Contains (take k s) b → is_bridge b ≡ true → IsAbove s (secondary b) (get_or aboves (secondary b) d)
-
--- one more function is passed
-pub passed_more : (s : System) (k : ℕ) (f g : Function) → slice_get s k ≡ Some f → Contains (take (k + 1) s) g → Contains (take k s) g ⊎ (g ≡ f)
-passed_more s k f g at passed =
-    let is : IsBefore (k + 1) s g = in_front_to (k + 1) s g passed in
-    elim (cases_eq is.listed.0 k) [
-      | inl same ↦ inr (sym is.listed.2 ∙ ap (λ n. get_or s n g) same ∙ get_or_from_slice_get s k f g at)
-      | inr differ ↦ let before = is.before in inl (in_front_from k s g is.listed (omega (arith, before, differ)))
-    ]
+abbrev pub AreAbovesTo : List ℕ → System → ℕ → List Above → Type 0
+AreAbovesTo roots s k aboves = AreTo (IsAbove s) roots s k aboves
 
 -- the bus behind a bridge has a place in the table
 pub secondary_small : (s : System) → IsSystem s → (f : Function) (r : Record) (bridge : Bridge) → IsRecordOf s f r → r.bridge ≡ Some bridge → bridge.secondary < 256
@@ -85,42 +69,19 @@ module _ (roots : List ℕ) (s : System) (system : IsSystem s) (nested : IsNeste
     wide = sym (all_above_root roots s system nested (λ b. is_wide_window PrefetchWindow b.probe) bus root);
   }
 
-  -- no bridge leads to a root
-  led_is_no_root : (b : Function) → Contains s b → is_bridge b ≡ true → Contains roots (secondary b) → ⊥
-  led_is_no_root b listed bridge root =
-      let range = (ordered b (nested.order b listed bridge)).range in
-      both_ways (is_behind b (secondary b)) (not-true _ (all_gives (λ r. not (is_behind b r)) roots (nested.clear b listed bridge) (secondary b) root))
-      (behind_of_within b (secondary b) record { low = omega arith; high = range })
-
   pub aboves_none : AreAbovesTo roots s 0 (replicate 256 no_bridge)
-  aboves_none = record {
-    size = refl;
-    on_roots = λ bus d root small. subst (λ a. IsAbove s bus a) (sym (get_or-replicate 256 bus no_bridge d small)) (above_root bus root);
-    behind = λ b d passed bridge. absurd (in_nil b passed);
-  }
+  aboves_none = none_yet (IsAbove s) roots s system nested no_bridge above_root
 
   -- ---- the next function
 
   module _ (k : ℕ) (f : Function) (r : Record) (at : slice_get s k ≡ Some f) (is : IsRecordOf s f r) (aboves : List Above) (was : AreAbovesTo roots s k aboves) where
     -- what is above its bus is known
     pub above_of : (d : Above) → IsAbove s f.slot.bus (get_or aboves f.slot.bus d)
-    above_of d = elim (root_or_led roots s system nested f is.listed) [
-      | inl root ↦ let slot = slots_of s system f is.listed in was.on_roots f.slot.bus d root slot.0
-      | inr (b, leader) ↦
-          subst (λ bus. IsAbove s bus (get_or aboves bus d)) leader.leads
-          (was.behind b d (lower_is_passed s system k f at b leader.listed leader.before) leader.bridge)
-    ]
+    above_of = of_bus (IsAbove s) roots s system nested k f at aboves was
 
     -- a function that is no bridge changes nothing
     pub aboves_same : r.bridge ≡ None → AreAbovesTo roots s (k + 1) aboves
-    aboves_same none = record {
-      size = was.size;
-      on_roots = was.on_roots;
-      behind = λ b d passed bridge. elim (passed_more s k f b at passed) [
-        | inl before ↦ was.behind b d before bridge
-        | inr here ↦ absurd (both_ways (is_bridge f) (sym (same_bridge r f is.value) ∙ ap is_some none) (ap is_bridge (sym here) ∙ bridge))
-      ];
-    }
+    aboves_same none = same_after (IsAbove s) roots s system nested k f at aboves was (sym (same_bridge r f is.value) ∙ ap is_some none)
 
     module _ (bridge : Bridge) (there : r.bridge ≡ Some bridge) (above new : Above) where
       is_one : is_bridge f ≡ true
@@ -148,36 +109,8 @@ module _ (roots : List ℕ) (s : System) (system : IsSystem s) (nested : IsNeste
 
       pub aboves_more : IsAbove s f.slot.bus above → new.io ≡ (above.io && is_some bridge.windows.io) → new.pref ≡ (above.pref && is_some bridge.windows.pref) → new.wide ≡ (above.wide && is_wide_in bridge.windows.pref)
           → AreAbovesTo roots s (k + 1) (set aboves bridge.secondary new)
-      aboves_more at_bus io pref wide =
-          let next = above_next at_bus io pref wide in
-          let size = was.size in
-          let small = (All-contains IsFunction s f system.each is.listed).image.bytes 0x19 in
-          let to = leads_to in
-          record {
-            size = length-set aboves bridge.secondary new ∙ was.size;
-            on_roots = λ bus d root inside.
-                subst (λ a. IsAbove s bus a)
-                (sym (get_or-set_other aboves bridge.secondary bus new d (λ e. led_is_no_root f is.listed is_one (subst (λ n. Contains roots n) (e ∙ leads_to) root))))
-                (was.on_roots bus d root inside);
-            behind = λ b d passed is_b. elim (cases_eq (secondary b) bridge.secondary) [
-              | inl same ↦
-                  let here : get_or (set aboves bridge.secondary new) (secondary b) d ≡ new =
-                  ap (λ n. get_or (set aboves bridge.secondary new) n d) same ∙ get_or-set_same aboves bridge.secondary new d (omega (arith, size, small, to)) in
-                  subst (λ a. IsAbove s (secondary b) a) (sym here) (subst (λ bus. IsAbove s bus new) (sym (same ∙ leads_to)) next)
-              | inr differ ↦
-                  subst (λ a. IsAbove s (secondary b) a) (sym (get_or-set_other aboves bridge.secondary (secondary b) new d differ)) (elim (passed_more s k f b at passed) [
-                    | inl before ↦ was.behind b d before is_b
-                    | inr here ↦ absurd (differ (ap secondary here ∙ sym leads_to))
-                  ])
-            ];
-          }
+      aboves_more at_bus io pref wide = put_after (IsAbove s) roots s system nested k f at aboves was bridge.secondary new is_one leads_to (above_next at_bus io pref wide)
 
   -- once all functions are passed, the table is whole
   pub whole_aboves : (k : ℕ) (aboves : List Above) → k ≡ length s → AreAbovesTo roots s k aboves → AreAboves s aboves
-  whole_aboves k aboves all was f d listed = elim (root_or_led roots s system nested f listed) [
-    | inl root ↦ let slot = slots_of s system f listed in was.on_roots f.slot.bus d root slot.0
-    | inr (b, leader) ↦
-        let within = leader.listed.1 in
-        subst (λ bus. IsAbove s bus (get_or aboves bus d)) leader.leads
-        (was.behind b d (in_front_from k s b leader.listed (omega (arith, all, within))) leader.bridge)
-  ]
+  whole_aboves = whole_table (IsAbove s) roots s system nested

@@ -1,4 +1,5 @@
 pub mod Aboves
+pub mod BusTables
 pub mod ClassOf
 pub mod ClassPlaces
 pub mod ItemValues

@@ -17,7 +17,7 @@ use Rattle.pci_place.specs.Above.{IsAbove, AreAboves}
 use Rattle.pci_place.specs.Classes.{is_io_kind}
 use Rattle.pci_place.proofs.Records.{FunctionAt}
 use Rattle.pci_place.proofs.Owned.{any_io, lacking_above}
-use Rattle.pci_place.proofs.Aboves.{passed_more}
+use Rattle.pci_place.proofs.BusTables.{passed_more}
 
 -- none of the first k functions lacks a window
 abbrev pub NoneLacks : System → ℕ → Type 0

@@ -19,13 +19,13 @@ use Rattle.pci_tree.proofs.RegionParts.{same_bridge_of}
 use Rattle.pci_place.specs.declared.above.Above.{Above}
 use Rattle.pci_place.specs.Above.{IsAbove}
 use Rattle.pci_place.specs.Records.{IsRecordOf}
+use Rattle.pci_place.proofs.BusTables.{AreTo, none_yet, of_bus, same_after, put_after}
 use Rattle.pci_settle.specs.declared.own.Terms.{Terms}
 use Rattle.pci_settle.specs.Own.{AreTerms}
 use Rattle.pci_settle_writes.specs.declared.way.Way.{Way}
 use Rattle.pci_settle_writes.specs.Shut.{IsWay, is_image_changed, is_shut_by, closing_by}
 use Rattle.pci_settle_writes.specs.Stages.{AreOf, AreSettled}
 use Rattle.pci_settle_writes.proofs.StagedWrites.{same_at}
-use Rattle.pci_settle_writes.proofs.Tables.{AreTo, none_yet, of_bus, same_after, put_after}
 use Rattle.pci_settle_writes.proofs.Ways.{on_root, behind_bridge, itself_is, shut_is, closing_is}
 
 -- the first k functions are passed

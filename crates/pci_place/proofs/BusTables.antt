@@ -1,18 +1,27 @@
 -- A table by bus that one pass over the functions in slot order fills: what it says of the bus behind a bridge is known before
 -- what is on that bus comes.
-use Rattle.std.proofs.Common.{◌≡◌, ℕ, ◌+◌, ◌<◌, inl, inr, List, length, take, set, replicate, get_or, refl, true, false, not, Some, arith, sym, ◌∙◌, ap, subst}
+use Rattle.std.proofs.Common.{◌≡◌, ℕ, ◌+◌, ◌<◌, ◌⊎◌, inl, inr, List, length, take, set, replicate, get_or, refl, true, false, not, Some, arith, sym, ◌∙◌, ap, subst}
 use Rattle.std.specs.List.{Contains, slice_get}
 use Rattle.std.proofs.lemmas.Bool.{cases_eq, both_ways, not-true}
 use Rattle.std.proofs.lemmas.List.{length-set, get_or-replicate, get_or-set_same, get_or-set_other}
 use Rattle.std.proofs.lemmas.List.Elements.{All-contains}
+use Rattle.std.proofs.lemmas.Option.{get_or_from_slice_get}
 use Rattle.pci_spec.specs.System.{System, Function, IsFunction, IsSystem, is_bridge}
 use Rattle.pci_spec.specs.Bus.{secondary, is_behind, IsNested}
 use Rattle.pci_spec.proofs.Members.{in_nil}
 use Rattle.pci_spec.proofs.BusRanges.{all_gives, ordered, behind_of_within}
 use Rattle.plan_spec.proofs.Planning.Safe.{slots_of}
-use Rattle.plan_spec.proofs.Planning.Passed.{at_place, lower_is_passed}
+use Rattle.plan_spec.proofs.Planning.Passed.{IsBefore, at_place, in_front_to, in_front_from, lower_is_passed}
 use Rattle.plan_spec.proofs.Planning.AboveBuses.{root_or_led}
-use Rattle.pci_place.proofs.Aboves.{passed_more}
+
+-- one more function is passed
+pub passed_more : (s : System) (k : ℕ) (f g : Function) → slice_get s k ≡ Some f → Contains (take (k + 1) s) g → Contains (take k s) g ⊎ (g ≡ f)
+passed_more s k f g at passed =
+    let is : IsBefore (k + 1) s g = in_front_to (k + 1) s g passed in
+    elim (cases_eq is.listed.0 k) [
+      | inl same ↦ inr (sym is.listed.2 ∙ ap (λ n. get_or s n g) same ∙ get_or_from_slice_get s k f g at)
+      | inr differ ↦ let before = is.before in inl (in_front_from k s g is.listed (omega (arith, before, differ)))
+    ]
 
 -- it is right for each root, and for the buses behind the first k functions
 pub record AreTo {W : Type 0} (Is : ℕ → W → Type 0) (roots : List ℕ) (s : System) (k : ℕ)
@@ -80,3 +89,13 @@ module _ {W : Type 0} (Is : ℕ → W → Type 0) (roots : List ℕ) (s : System
                 ])
           ];
         }
+
+  -- once all functions are passed, it is right for the bus of each
+  pub whole_table : (k : ℕ) (table : List W) → k ≡ length s → AreTo Is roots s k table → (f : Function) (d : W) → Contains s f → Is f.slot.bus (get_or table f.slot.bus d)
+  whole_table k table all was f d listed = elim (root_or_led roots s system nested f listed) [
+    | inl root ↦ let slot = slots_of s system f listed in was.on_roots f.slot.bus d root slot.0
+    | inr (b, leader) ↦
+        let within = leader.listed.1 in
+        subst (λ bus. Is bus (get_or table bus d)) leader.leads
+        (was.behind b d (in_front_from k s b leader.listed (omega (arith, all, within))) leader.bridge)
+  ]
