@@ -66,6 +66,7 @@ fn map_words<'a>(found: &ArgMatches<'a>) -> MapWords<'a>
 }
 
 /// The words of the options of `plan`.
+#[tactic(auto, using(crate::proofs::CommandWords::word_there, crate::proofs::CommandWords::word_missing, crate::proofs::CommandWords::flag_there))]
 fn plan_words<'a>(found: &ArgMatches<'a>) -> Option<PlanWords<'a>>
     ensures { MatchOption result
         ((words : PlanWords) → HasPlanWords (rows_of (found_of found.now)) words → ⊥)
@@ -82,6 +83,7 @@ fn plan_words<'a>(found: &ArgMatches<'a>) -> Option<PlanWords<'a>>
 }
 
 /// The words of the options of `settle`.
+#[tactic(auto, using(crate::proofs::CommandWords::word_missing))]
 fn settle_words<'a>(found: &ArgMatches<'a>) -> Option<SettleWords<'a>>
     ensures { MatchOption result
         ((words : SettleWords) → HasSettleWords (rows_of (found_of found.now)) words → ⊥)
@@ -99,6 +101,7 @@ fn settle_words<'a>(found: &ArgMatches<'a>) -> Option<SettleWords<'a>>
 }
 
 /// The task of this name, with the words of its options.
+#[tactic(auto, using(crate::proofs::CommandWords::word_there, crate::proofs::CommandWords::flag_there))]
 fn asked_of<'a>(name: &str, found: &ArgMatches<'a>) -> Option<Asked<'a>>
     ensures { MatchOption result
         ((asked : Asked) → IsAsked name.now (rows_of (found_of found.now)) asked → ⊥)
@@ -123,6 +126,7 @@ fn asked_of<'a>(name: &str, found: &ArgMatches<'a>) -> Option<Asked<'a>>
 }
 
 /// What the words of a subcommand say.
+#[tactic(auto, using(crate::proofs::CommandWords::word_there, crate::proofs::CommandWords::word_missing))]
 fn given_of<'a>(name: &str, found: &ArgMatches<'a>) -> Option<Given<'a>>
     ensures { MatchOption result ((asked : Asked) (dump second : List ℕ)
         → IsSaid name.now (rows_of (found_of found.now)) asked dump second → ⊥)

@@ -1,19 +1,7 @@
 use Rattle.std.proofs.Common.{Some, codes}
 use Rattle.clap.specs.Words.{found_of}
-use Rattle.pciplan_words.proofs.CommandWords.{word_there, word_missing, flag_there}
+use Rattle.pciplan_words.proofs.CommandWords.{word_there, flag_there}
 use Rattle.pciplan_words.proofs.words.settle_words.Goals as goal
-
-pub returns-in_err-get_str : goal.returns-in_err-get_str
-returns-in_err-get_str c =
-    rw c.from_residual.ensures (λ words is. word_missing (found_of c.args.found.now) (codes "io") words.io.now c.in_err-get_str.ensures is.io)
-
-pub returns-in_err-get_str-2 : goal.returns-in_err-get_str-2
-returns-in_err-get_str-2 c =
-    rw c.from_residual-in_err-get_str-2.ensures (λ words is. word_missing (found_of c.args.found.now) (codes "mem") words.mem.now c.in_err-get_str-2.ensures is.mem)
-
-pub returns-in_err-get_str-3 : goal.returns-in_err-get_str-3
-returns-in_err-get_str-3 c =
-    rw c.from_residual-in_err-get_str-3.ensures (λ words is. word_missing (found_of c.args.found.now) (codes "pref") words.pref.now c.in_err-get_str-3.ensures is.pref)
 
 pub returns : goal.returns
 returns c =
