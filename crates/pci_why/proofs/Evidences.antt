@@ -3,7 +3,6 @@ use Rattle.std.proofs.Common.{◌≡◌, ℕ, ◌≤◌, List, [], ◌∷◌, �
 use Rattle.std.specs.Prelude.{◌↔◌}
 use Rattle.std.specs.List.{Contains, flat_map}
 use Rattle.std.proofs.lemmas.Bool.{cases_Bool, both_ways}
-use Rattle.std.proofs.lemmas.List.{append_assoc}
 use Rattle.std.proofs.lemmas.List.Elements.{All-contains}
 use Rattle.pci_spec.specs.Slot.{Slot}
 use Rattle.pci_spec.specs.Header.{secondary_bus}
@@ -15,7 +14,7 @@ use Rattle.pci_spec.specs.Fault.{Clash, Split, IsUnreached, ClaimsOnBus, address
 use Rattle.pci_spec.specs.Decoded.{Bridge, IsDecodable, record_of, bridge_of, decoded_windows}
 use Rattle.pci_spec.specs.Decoded as decoded
 use Rattle.pci_spec.specs.Listing.{inner_line, on_text}
-use Rattle.pci_spec.specs.Why.{Region as RegionValue, IsRegionIn, Misses, part_text, place_words, region_line, range_line, bridge_line, windows_text}
+use Rattle.pci_spec.specs.Why.{Region as RegionValue, IsBehindUnreached, IsRegionIn, Misses, part_text, place_words, region_line, range_line, bridge_line, windows_text}
 use Rattle.pci_spec.proofs.Members.{in_nil, in_cons_cases, in_map_from}
 use Rattle.pci_base.specs.declared.range.Range.{Range}
 use Rattle.pci_base.specs.Ranges.{decoded_range_of}
@@ -38,6 +37,7 @@ use Rattle.pci_why.specs.Found.{IsFoundIn}
 use Rattle.pci_why.specs.Bridges.{line_of_bridge, bridge_text, AreMissedTold, ArePassedBy, range_at}
 use Rattle.pci_why.specs.Evidence.{IsInBoth, Appends, IsBehindOne, AreBehindTwo, AreTwoTold, IsEvidenceTold}
 use Rattle.pci_why.proofs.Runs.{runs_of}
+use Rattle.pci_why.proofs.Texts.{three_appended}
 
 -- ---- a region
 
@@ -137,26 +137,22 @@ unreached_told roots s rs slot reg space a bridge q r old first second new is ri
     let stands : record_value r ≡ record_of there.b = own.2 ∙ ap record_of same_b in
     let v : RegionValue = told q found.part space in
     let missed_lines = flat_map (range_line (codes "missed") space) (map decoded_range_of missed.missed) in
+    let lines = region_line (codes "needs") v ++ (bridge_line there.b space q.prefetch ++ missed_lines) in
+    let behind : IsBehindUnreached s v bridge lines = record {
+      is = region_in s found.f found.part space q found.listed found.is;
+      b = there.b;
+      listed = way.0;
+      named = there.named_bridge;
+      missed = map decoded_range_of missed.missed;
+      runs = runs_of (Misses v there.b) missed.missed missed.outside.canonical
+          (missed_exact q found.part space r there.b missed.passed missed.missed stands (All-contains IsDecodable s there.b is.decodable way.0) way.1 missed.exact missed.outside);
+      text = refl;
+    } in
     record {
-      lines = region_line (codes "needs") v ++ (bridge_line there.b space q.prefetch ++ missed_lines);
-      text = missed.text
-          ∙ ap (λ t. t ++ missed_lines) (line ∙ ap (λ t. first ++ t) (bridge_same r there.b space q.prefetch stands way.1) ∙ ap (λ t. t ++ bridge_line there.b space q.prefetch) (needs ∙ ap (λ t. old ++ t) (line_same (codes "needs") found.f found.part space q found.is)))
-          ∙ append_assoc (old ++ region_line (codes "needs") v) (bridge_line there.b space q.prefetch) missed_lines
-          ∙ append_assoc old (region_line (codes "needs") v) (bridge_line there.b space q.prefetch ++ missed_lines);
-      are = (
-        v,
-        (found.slot_is, found.register, refl),
-        record {
-          is = region_in s found.f found.part space q found.listed found.is;
-          b = there.b;
-          listed = way.0;
-          named = there.named_bridge;
-          missed = map decoded_range_of missed.missed;
-          runs = runs_of (Misses v there.b) missed.missed missed.outside.canonical
-              (missed_exact q found.part space r there.b missed.passed missed.missed stands (All-contains IsDecodable s there.b is.decodable way.0) way.1 missed.exact missed.outside);
-          text = refl;
-        },
-      );
+      lines = lines;
+      text = three_appended old first second new _ _ missed_lines (needs ∙ ap (λ t. old ++ t) (line_same (codes "needs") found.f found.part space q found.is))
+          (line ∙ ap (λ t. first ++ t) (bridge_same r there.b space q.prefetch stands way.1)) missed.text;
+      are = (v, (found.slot_is, found.register, refl), behind);
     }
 
 -- an address that is claimed at both places is of both regions
@@ -175,10 +171,8 @@ two_told s first second first_reg second_reg space p q shared old one two new at
     let shared_line = range_line (codes "shared") space (decoded_range_of shared) in
     record {
       lines = region_line (codes "first") v ++ (region_line (codes "second") w ++ shared_line);
-      text = new_is
-          ∙ ap (λ t. t ++ shared_line) (two_is ∙ ap (λ t. one ++ t) (line_same (codes "second") at_q.f at_q.part space q at_q.is) ∙ ap (λ t. t ++ region_line (codes "second") w) (one_is ∙ ap (λ t. old ++ t) (line_same (codes "first") at_p.f at_p.part space p at_p.is)))
-          ∙ append_assoc (old ++ region_line (codes "first") v) (region_line (codes "second") w) shared_line
-          ∙ append_assoc old (region_line (codes "first") v) (region_line (codes "second") w ++ shared_line);
+      text = three_appended old one two new _ _ shared_line (one_is ∙ ap (λ t. old ++ t) (line_same (codes "first") at_p.f at_p.part space p at_p.is))
+          (two_is ∙ ap (λ t. one ++ t) (line_same (codes "second") at_q.f at_q.part space q at_q.is)) new_is;
       are = (
         v,
         w,

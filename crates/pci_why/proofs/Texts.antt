@@ -27,3 +27,8 @@ pub line_ended : (start told last : List ℕ) (slot : Slot) (on : Bool) (space :
     → told ≡ start ++ bridge_start slot on space prefetch windows → last ≡ told ++ rest
     → last ≡ start ++ (codes "  bridge" ++ ((32 ∷ slot_text slot) ++ ((32 ∷ on_text on) ++ ((32 ∷ windows_text space prefetch windows) ++ rest))))
 line_ended start told last slot on space prefetch windows rest begun more = more ∙ rw begun (simp append_assoc)
+
+-- three pieces that are appended one after the other
+pub three_appended : (old one two new a b c : List ℕ) → one ≡ old ++ a → two ≡ one ++ b → new ≡ two ++ c → new ≡ old ++ (a ++ (b ++ c))
+three_appended old one two new a b c one_is two_is new_is =
+    new_is ∙ ap (λ t. t ++ c) (two_is ∙ ap (λ t. t ++ b) one_is) ∙ append_assoc (old ++ a) b c ∙ append_assoc old a (b ++ c)
