@@ -8,9 +8,8 @@ use Rattle.pci_spec.specs.Slot.{Slot, IsSlot}
 use Rattle.pci_spec.specs.System.{System, IsSystem, Space as SpaceValue, IsAddress}
 use Rattle.pci_spec.specs.Fault.{ClaimsOnBus, IsClash, IsSplit, address_in, named_region, named_regions}
 use Rattle.pci_spec.specs.Fault as faults
-use Rattle.pci_spec.specs.Order.{Clashes, Splits, judging_key}
+use Rattle.pci_spec.specs.Order.{Clashes, Splits}
 use Rattle.pci_spec.specs.JudgingLaws.{region_number}
-use Rattle.pci_spec.specs.AllFaults.{IsClashOf, IsSplitOf}
 use Rattle.pci_spec.proofs.Regions.{register_of-lt}
 use Rattle.pci_spec.proofs.Firsts.{slot_of}
 use Rattle.pci_base.specs.declared.range.Range.{Range}
@@ -27,11 +26,12 @@ use Rattle.pci_check.specs.Stops.{AreListed}
 use Rattle.pci_check.specs.Clashes.{AreRegionsOn, AreRootsListed}
 use Rattle.pci_check.proofs.Overlaps.{claims_of, number_same}
 use Rattle.pci_check.proofs.Clashing.{gets_of_passed, passed_of_gets}
+use Rattle.pci_faults.specs.declared.shares.Among.{Among}
 use Rattle.pci_faults.specs.declared.shares.Among.TheVariants.{Bus, Roots}
 use Rattle.pci_faults.specs.declared.shares.Share.{Share}
 use Rattle.pci_faults.specs.Shares.{SpansAt, IsShared, AreShares, GroupsRise, group_at}
 use Rattle.pci_faults.specs.Lines.{region_at, nowhere, told, AreJust, AreLinesAdded, IsLine, IsAt}
-use Rattle.pci_faults.proofs.Naming.{IsAtPlace, IsSharedAs, IsLeastMeeting, number_at, rise_at, place_rise, just_told}
+use Rattle.pci_faults.proofs.Naming.{IsAtPlace, IsSharedAs, AreLeastOf, IsTold, clash_told, split_told, second_of_clash, second_of_split, place_before, places_of, rising_of, just_told}
 
 module _ (s : System) (system : IsSystem s) (IsOne : ℕ → Type 0) (space : SpaceValue) (regions : List Region) (are : AreRegionsOn s IsOne space regions) where
   claims_at : (k a : ℕ) → k < length regions → SpansAt regions k a → (bus : ℕ) × IsOne bus × ClaimsOnBus s bus (address_in space a) (named_region (region_at regions k).slot (region_at regions k).reg)
@@ -41,7 +41,7 @@ module _ (s : System) (system : IsSystem s) (IsOne : ℕ → Type 0) (space : Sp
   record IsClaimedAt (a : ℕ) (slot : Slot) (register : ℕ) : Type 0 where
     k : ℕ
     within : k < length regions
-    at : IsAtPlace regions k slot register
+    at : IsAtPlace (places_of regions) k slot register
     spans : SpansAt regions k a
 
   claimed_at : (a bus : ℕ) (slot : Slot) (register : ℕ) → IsOne bus → ClaimsOnBus s bus (address_in space a) (named_region slot register) → IsClaimedAt a slot register
@@ -61,7 +61,7 @@ module _ (s : System) (system : IsSystem s) (IsOne : ℕ → Type 0) (space : Sp
   -- regions on buses that rise
   lower_or_same_bus : (i k : ℕ) → i < k → k < length regions → (region_at regions i).slot.bus ≤ (region_at regions k).slot.bus
   lower_or_same_bus i k less within =
-      let up = rise_at regions are.rising i k less within in
+      let up = rising_of regions are.rising i k less within in
       let on = λ (n : ℕ) (inside : n < length regions). (are.each (region_at regions n) (Contains-get_or regions n nowhere inside)).2 in
       let one = on i (omega (arith, less, within)) in
       let other = on k within in
@@ -84,6 +84,16 @@ module _ (s : System) (system : IsSystem s) (IsOne : ℕ → Type 0) (space : Sp
     | inr (inl less) ↦ (let low = lower_or_same_bus j k less within in let a = group_is j (omega (arith, less, within)) in let b = group_is k within in omega (arith, low, a, b))
     | inr (inr more) ↦ absurd (let no : ⊥ = omega (arith, up, more) in no)
   ]
+
+order_of_shared : {among : Among} {regions : List Region} {allowed : List Range} (a i k : ℕ) → IsShared among regions allowed a i k → (i < k) × (k < length regions)
+order_of_shared a i k shared = (shared.before, shared.within)
+
+least_of_shares : {among : Among} {regions : List Region} {allowed : List Range} {list : List Share} → AreShares among regions allowed list → AreLeastOf (IsShared among regions allowed) list
+least_of_shares are = record {
+  each = λ s has. (let (within, is) = are.each s has in record { there = is.there; least = is.least });
+  complete = λ s is. are.complete s is.there.within record { there = is.there; least = is.least };
+  rising = are.rising;
+}
 
 -- two regions that share an address aren't one
 differ_at : (regions : List Region) (i k : ℕ) → number_of (region_at regions i) < number_of (region_at regions k)
@@ -120,16 +130,14 @@ module _ (roots : List ℕ) (s : System) (system : IsSystem s) (bus : ℕ) (spac
         gets = gets_of_passed roots s (space_of space) a bus ((reach.exact a).0 shared.covered).1;
         claims_first = claims_here i a (omega (arith, within, before)) shared.claims_first;
         claims_second = claims_here k a within shared.claims_second;
-        differ = differ_at regions i k (rise_at regions are.rising i k before within);
+        differ = differ_at regions i k (rising_of regions are.rising i k before within);
       }
 
-  shared_by : (a : ℕ) (f : Slot) (r : ℕ) (g : Slot) (q : ℕ) → Clashing a f r g q → region_number f r < region_number g q → IsSharedAs (Bus bus) regions allowed a f r g q
+  shared_by : (a : ℕ) (f : Slot) (r : ℕ) (g : Slot) (q : ℕ) → Clashing a f r g q → region_number f r < region_number g q → IsSharedAs (places_of regions) (IsShared (Bus bus) regions allowed) a f r g q
   shared_by a f r g q clash less =
       let one = claimed_at s system IsThis (space_of space) regions on_this_bus a bus f r refl clash.claims_first in
       let two = claimed_at s system IsThis (space_of space) regions on_this_bus a bus g q refl clash.claims_second in
-      let number = number_at regions one.k f r one.at in
-      let number_two = number_at regions two.k g q two.at in
-      let up = place_rise regions are.rising one.k two.k one.within (omega (arith, number, number_two, less)) in
+      let up = place_before (places_of regions) (rising_of regions are.rising) one.k two.k f r g q one.within one.at two.at less in
       record {
         i = one.k;
         k = two.k;
@@ -145,39 +153,20 @@ module _ (roots : List ℕ) (s : System) (system : IsSystem s) (bus : ℕ) (spac
         second = two.at;
       }
 
-  abbrev tell : ℕ → Slot → ℕ → Slot → ℕ → faults.Fault
-  tell a f r g q = faults.Clash bus (space_of space) a f r g q
-
-  number_told : (a b : ℕ) (f g h k : Slot) (r q n m : ℕ) → judging_key (tell a f r g q) ≡ judging_key (tell b h n k m) → region_number g q ≡ region_number k m
-  number_told a b f g h k r q n m e =
-      let at : (i : ℕ) → get_or (judging_key (tell a f r g q)) i 0 ≡ get_or (judging_key (tell b h n k m)) i 0 = λ i. ap (λ l. get_or l i 0) e in
-      let b8 = at 8 in
-      let b9 = at 9 in
-      let b10 = at 10 in
-      let b11 = at 11 in
-      omega (arith, b8, b9, b10, b11)
-
   abbrev pub Line : faults.Fault → Type 0
   Line = IsLine (IsAt Clashes bus (space_of space)) roots s
 
-  line_only : (fault : faults.Fault) → Line fault → (a : ℕ) × (f : Slot) × (r : ℕ) × (g : Slot) × (q : ℕ) × IsLeastMeeting Clashing a f r g q × (tell a f r g q ≡ fault)
-  line_only (faults.Clash b sp a f r g q) ((one, e, h), line) =
-      let here = subst (λ n. IsClashOf roots s n (address_in (space_of space) a) (named_regions f r g q)) e (subst (λ (x : SpaceValue). IsClashOf roots s b (address_in x a) (named_regions f r g q)) h line) in (
-        a,
-        f,
-        r,
-        g,
-        q,
-        record { there = here.there; rise = here.rise; least = λ c slot register. here.least c slot register },
-        ap (λ n. faults.Clash n (space_of space) a f r g q) (sym e) ∙ ap (λ (x : SpaceValue). faults.Clash b x a f r g q) (sym h),
-      )
+  line_only : (fault : faults.Fault) → Line fault → IsTold Clashing (faults.Clash bus (space_of space)) fault
+  line_only (faults.Clash b sp a f r g q) ((one, e, h), line) = clash_told (λ n x a f r g q. IsClash roots s n (address_in x a) (named_regions f r g q)) bus b (space_of space) sp a f r g q e h
+      record { there = line.there; rise = line.rise; least = λ c slot register. line.least c slot register }
   line_only (faults.Unreached slot register sp a b) (at, line) = absurd (let no : ⊥ = cc in no)
   line_only (faults.Split sp a f r g q) (at, line) = absurd (let no : ⊥ = cc in no)
   line_only fault line = absurd (search rules)
 
   pub clashes_told : (list : List Share) → (GroupsRise (Bus bus) regions → AreShares (Bus bus) regions allowed list) → AreJust Line (map (told (Bus bus) space regions) list)
   clashes_told list shares =
-      just_told (Bus bus) regions allowed are.rising Clashing clash_of shared_by space list (shares (λ j k up within. up)) tell (λ a x y. refl) number_told Line
+      just_told (places_of regions) (rising_of regions are.rising) (IsShared (Bus bus) regions allowed) order_of_shared Clashing clash_of shared_by list (least_of_shares (shares (λ j k up within. up)))
+      (told (Bus bus) space regions) (faults.Clash bus (space_of space)) (λ x. refl) (second_of_clash bus (space_of space)) Line
       (λ a f r g q meets. ((refl, refl, refl), record { there = meets.there; rise = meets.rise; least = meets.least }))
       line_only
 
@@ -223,13 +212,11 @@ module _ (roots : List ℕ) (s : System) (system : IsSystem s) (space : Space) (
         claims_second = two.claims;
       }
 
-  shared_over_roots : (a : ℕ) (f : Slot) (r : ℕ) (g : Slot) (q : ℕ) → Splitting a f r g q → region_number f r < region_number g q → IsSharedAs Roots regions allowed a f r g q
+  shared_over_roots : (a : ℕ) (f : Slot) (r : ℕ) (g : Slot) (q : ℕ) → Splitting a f r g q → region_number f r < region_number g q → IsSharedAs (places_of regions) (IsShared Roots regions allowed) a f r g q
   shared_over_roots a f r g q split less =
       let one = claimed_at s system IsRoot (space_of space) regions are a f.bus f r split.root_first split.claims_first in
       let two = claimed_at s system IsRoot (space_of space) regions are a g.bus g q split.root_second split.claims_second in
-      let number = number_at regions one.k f r one.at in
-      let number_two = number_at regions two.k g q two.at in
-      let up = place_rise regions are.rising one.k two.k one.within (omega (arith, number, number_two, less)) in
+      let up = place_before (places_of regions) (rising_of regions are.rising) one.k two.k f r g q one.within one.at two.at less in
       let low = lower_or_same_bus s system IsRoot (space_of space) regions are one.k two.k up two.within in
       let bus = ap (λ (x : Slot). x.bus) one.at.slot_is in
       let bus_two = ap (λ (x : Slot). x.bus) two.at.slot_is in
@@ -254,33 +241,22 @@ module _ (roots : List ℕ) (s : System) (system : IsSystem s) (space : Space) (
         second = two.at;
       }
 
-  abbrev tell_split : ℕ → Slot → ℕ → Slot → ℕ → faults.Fault
-  tell_split a f r g q = faults.Split (space_of space) a f r g q
-
-  number_split : (a b : ℕ) (f g h k : Slot) (r q n m : ℕ) → judging_key (tell_split a f r g q) ≡ judging_key (tell_split b h n k m) → region_number g q ≡ region_number k m
-  number_split a b f g h k r q n m e =
-      let at : (i : ℕ) → get_or (judging_key (tell_split a f r g q)) i 0 ≡ get_or (judging_key (tell_split b h n k m)) i 0 = λ i. ap (λ l. get_or l i 0) e in
-      let b7 = at 7 in
-      let b8 = at 8 in
-      let b9 = at 9 in
-      let b10 = at 10 in
-      omega (arith, b7, b8, b9, b10)
-
   abbrev pub SplitLine : faults.Fault → Type 0
   SplitLine = IsLine (IsAt Splits 0 (space_of space)) roots s
 
-  split_only : (fault : faults.Fault) → SplitLine fault → (a : ℕ) × (f : Slot) × (r : ℕ) × (g : Slot) × (q : ℕ) × IsLeastMeeting Splitting a f r g q × (tell_split a f r g q ≡ fault)
-  split_only (faults.Split sp a f r g q) ((one, none, h), line) =
-      let here = subst (λ (x : SpaceValue). IsSplitOf roots s (address_in x a) (named_regions f r g q)) h line in
-      (a, f, r, g, q, record { there = here.there; rise = here.rise; least = λ c slot register. here.least c slot register }, ap (λ (x : SpaceValue). faults.Split x a f r g q) (sym h))
+  split_only : (fault : faults.Fault) → SplitLine fault → IsTold Splitting (faults.Split (space_of space)) fault
+  split_only (faults.Split sp a f r g q) ((one, none, h), line) = split_told (λ x a f r g q. IsSplit roots s (address_in x a) (named_regions f r g q)) (space_of space) sp a f r g q h
+      record { there = line.there; rise = line.rise; least = λ c slot register. line.least c slot register }
   split_only (faults.Unreached slot register sp a b) (at, line) = absurd (let no : ⊥ = cc in no)
   split_only (faults.Clash b sp a f r g q) (at, line) = absurd (let no : ⊥ = cc in no)
   split_only fault line = absurd (search rules)
 
   pub splits_told : (list : List Share) → (GroupsRise Roots regions → AreShares Roots regions allowed list) → AreJust SplitLine (map (told Roots space regions) list)
   splits_told list shares =
-      just_told Roots regions allowed are.rising Splitting split_of shared_over_roots space list (shares (groups_rise s system IsRoot (space_of space) regions are)) tell_split (λ a x y. refl)
-      number_split SplitLine (λ a f r g q meets. ((refl, refl, refl), record { there = meets.there; rise = meets.rise; least = meets.least })) split_only
+      just_told (places_of regions) (rising_of regions are.rising) (IsShared Roots regions allowed) order_of_shared Splitting split_of shared_over_roots list
+      (least_of_shares (shares (groups_rise s system IsRoot (space_of space) regions are))) (told Roots space regions) (faults.Split (space_of space)) (λ x. refl) (second_of_split (space_of space)) SplitLine
+      (λ a f r g q meets. ((refl, refl, refl), record { there = meets.there; rise = meets.rise; least = meets.least }))
+      split_only
 
 -- ---- in each system with a tree
 

@@ -24,7 +24,7 @@ use Rattle.pci_check.proofs.Homes.{passed_on}
 use Rattle.pci_check.proofs.Overlaps.{number_same}
 use Rattle.pci_faults.specs.Lines.{region_at, nowhere, AreAdded, AreLinesAdded, IsLine, IsAt}
 use Rattle.pci_faults.proofs.Adding.{added_none, added_one, added_both, added_same}
-use Rattle.pci_faults.proofs.Naming.{IsAtPlace, number_at, one_place}
+use Rattle.pci_faults.proofs.Naming.{IsAtPlace, number_at, one_place, places_of, rising_of}
 
 -- where no system has the tree, everything holds
 added_nowhere : (t : Tree) (P Q : System → faults.Fault → Type 0) (a b : List Fault) → ((s : System) → HasTree t s → ⊥) → AreAdded t P a b → AreAdded t Q a b
@@ -33,7 +33,7 @@ added_nowhere t P Q a b none added = record { more = added.more; appended = adde
 module _ (t : Tree) (space : SpaceValue) (regions : List Region) where
   -- the line of the region at a place
   abbrev pub IsLineAt : ℕ → System → faults.Fault → Type 0
-  IsLineAt k s (faults.Unreached slot register sp a b) = IsAtPlace regions k slot register × (sp ≡ space) × IsUnreachedOf t.roots s (named_region slot register) (address_in sp a) b
+  IsLineAt k s (faults.Unreached slot register sp a b) = IsAtPlace (places_of regions) k slot register × (sp ≡ space) × IsUnreachedOf t.roots s (named_region slot register) (address_in sp a) b
   IsLineAt k s fault = ⊥
 
   -- a line of one of the first so many
@@ -80,8 +80,8 @@ module _ (t : Tree) (bus : ℕ) (space : SpaceValue) (regions : List Region) (li
   apart s tree n within (faults.Unreached u r sp a c) (faults.Unreached v q sq b d) (k, less, inside, (at, e, one)) (at_other, h, two) same =
       let place : (i : ℕ) → get_or (judging_key (faults.Unreached u r sp a c)) i 0 ≡ get_or (judging_key (faults.Unreached v q sq b d)) i 0 = λ i. ap (λ l. get_or l i 0) same in
       let slot : u ≡ v = slot_from u v (place 1) (place 2) (place 3) in
-      let numbers : number_of (region_at regions k) ≡ number_of (region_at regions n) = number_at regions k u r at ∙ number_same u v r q slot (place 4) ∙ sym (number_at regions n v q at_other) in
-      let one_k = one_place regions (listed s tree.records).rising k n inside within numbers in
+      let numbers : number_of (region_at regions k) ≡ number_of (region_at regions n) = number_at (places_of regions) k u r at ∙ number_same u v r q slot (place 4) ∙ sym (number_at (places_of regions) n v q at_other) in
+      let one_k = one_place (places_of regions) (rising_of regions (listed s tree.records).rising) k n inside within numbers in
       let no : ⊥ = omega (arith, less, one_k) in no
   apart s tree n within f g one two same = absurd (search rules)
 
