@@ -3,7 +3,6 @@ use Rattle.std.proofs.Common.{◌≡◌, ℕ, List, ◌∷◌, ◌++◌, map, re
 use Rattle.std.specs.Prelude.{◌↔◌}
 use Rattle.std.specs.List.{Contains, flat_map}
 use Rattle.std.proofs.lemmas.Bool.{cases_Bool, both_ways}
-use Rattle.std.proofs.lemmas.List.{append_assoc}
 use Rattle.std.proofs.lemmas.List.Elements.{All-contains}
 use Rattle.pci_spec.specs.Slot.{Slot}
 use Rattle.pci_spec.specs.Text.{slot_text}
@@ -33,10 +32,11 @@ use Rattle.pci_why.specs.Evidence.{Appends}
 use Rattle.pci_why.specs.Fits.{told}
 use Rattle.pci_why.proofs.Evidences.{line_same, region_in, on_the_way, bridge_in}
 use Rattle.pci_why.proofs.Runs.{runs_of}
+use Rattle.pci_why.proofs.Texts.{three_appended}
 use Rattle.given_spec.specs.Given.{Given}
 use Rattle.given_spec.specs.Claims.{passes}
 use Rattle.given_spec.specs.Fault.{IsUnreached}
-use Rattle.given_spec.specs.Why.{legacy_words, bridge_line, Misses}
+use Rattle.given_spec.specs.Why.{legacy_words, bridge_line, IsBehindUnreached, Misses}
 use Rattle.pci_claims.specs.Passed.{ArePassed, passes_with}
 use Rattle.pci_claims.proofs.Linking.{passes_same}
 use Rattle.pci_given_why.specs.Bridges.{bridge_text, line_of_bridge, AreMissedTold, IsBehindOne}
@@ -102,25 +102,20 @@ module _ (given : Given) (roots : List ℕ) (s : System) (rs : List Record) (slo
       let v : RegionValue = told q found.part space in
       let missed_lines = flat_map (range_line (codes "missed") space) (map decoded_range_of missed.missed) in
       let of_bridge = bridge_line given there.b space q.prefetch in
+      let lines = region_line (codes "needs") v ++ (of_bridge ++ missed_lines) in
+      let behind : IsBehindUnreached given s v bridge lines = record {
+        is = region_in s found.f found.part space q found.listed found.is;
+        b = there.b;
+        listed = way.0;
+        named = there.named_bridge;
+        missed = map decoded_range_of missed.missed;
+        runs = runs_of (Misses given v there.b) missed.missed missed.outside.canonical
+            (missed_exact given q found.part space r there.b missed.passed missed.missed stands (All-contains IsDecodable s there.b is.decodable way.0) way.1 missed.exact missed.outside);
+        text = refl;
+      } in
       record {
-        lines = region_line (codes "needs") v ++ (of_bridge ++ missed_lines);
-        text = missed.text
-            ∙ ap (λ t. t ++ missed_lines) (line ∙ ap (λ t. first ++ t) (bridge_same given r there.b space q.prefetch stands way.1)
-            ∙ ap (λ t. t ++ of_bridge) (needs ∙ ap (λ t. old ++ t) (line_same (codes "needs") found.f found.part space q found.is)))
-            ∙ append_assoc (old ++ region_line (codes "needs") v) of_bridge missed_lines
-            ∙ append_assoc old (region_line (codes "needs") v) (of_bridge ++ missed_lines);
-        are = (
-          v,
-          (found.slot_is, found.register, refl),
-          record {
-            is = region_in s found.f found.part space q found.listed found.is;
-            b = there.b;
-            listed = way.0;
-            named = there.named_bridge;
-            missed = map decoded_range_of missed.missed;
-            runs = runs_of (Misses given v there.b) missed.missed missed.outside.canonical
-                (missed_exact given q found.part space r there.b missed.passed missed.missed stands (All-contains IsDecodable s there.b is.decodable way.0) way.1 missed.exact missed.outside);
-            text = refl;
-          },
-        );
+        lines = lines;
+        text = three_appended old first second new _ of_bridge missed_lines (needs ∙ ap (λ t. old ++ t) (line_same (codes "needs") found.f found.part space q found.is))
+            (line ∙ ap (λ t. first ++ t) (bridge_same given r there.b space q.prefetch stands way.1)) missed.text;
+        are = (v, (found.slot_is, found.register, refl), behind);
       }

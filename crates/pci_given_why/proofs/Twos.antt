@@ -1,7 +1,6 @@
 -- What is told behind two regions that claim an address.
 use Rattle.std.proofs.Common.{◌≡◌, ℕ, List, [], ◌∷◌, ◌++◌, map, refl, ◌∙◌, ap, codes}
 use Rattle.std.specs.List.{flat_map}
-use Rattle.std.proofs.lemmas.List.{append_assoc}
 use Rattle.pci_spec.specs.Slot.{Slot}
 use Rattle.pci_spec.specs.System.{System, Space}
 use Rattle.pci_spec.specs.Why.{range_line}
@@ -11,6 +10,7 @@ use Rattle.pci_base.specs.Ranges.{decoded_range_of}
 use Rattle.pci_tree.specs.Ranges.{Covers}
 use Rattle.pci_why.specs.Evidence.{Appends}
 use Rattle.pci_why.proofs.Runs.{runs_of}
+use Rattle.pci_why.proofs.Texts.{three_appended}
 use Rattle.given_spec.specs.Given.{Given}
 use Rattle.given_spec.specs.Claims.{ClaimsOnBus}
 use Rattle.given_spec.specs.Why.{Holds, region_line, AreNamedTwo}
@@ -36,10 +36,7 @@ two_told given s space first second first_reg second_reg a bus other p q ps qs s
     let shared_lines = flat_map (range_line (codes "shared") space) (map decoded_range_of shared) in
     record {
       lines = first_line ++ (second_line ++ shared_lines);
-      text = new_is
-          ∙ ap (λ t. t ++ shared_lines) (two_is ∙ ap (λ t. one ++ t) (at_q.line (codes "second")) ∙ ap (λ t. t ++ second_line) (one_is ∙ ap (λ t. old ++ t) (at_p.line (codes "first"))))
-          ∙ append_assoc (old ++ first_line) second_line shared_lines
-          ∙ append_assoc old first_line (second_line ++ shared_lines);
+      text = three_appended old one two new first_line second_line shared_lines (one_is ∙ ap (λ t. old ++ t) (at_p.line (codes "first"))) (two_is ∙ ap (λ t. one ++ t) (at_q.line (codes "second"))) new_is;
       are = (
         v,
         w,
