@@ -1,13 +1,9 @@
-use Rattle.std.proofs.Common.{◌++◌, ◌≡◌, List, [], ◌∷◌, length, get_or, take, sym, ◌∙◌, ap, subst, arith, ◌<◌}
-use Rattle.std.specs.List.{All}
+use Rattle.std.proofs.Common.{◌++◌, List, [], ◌∷◌, length, take, sym, ◌∙◌, ap, subst, arith, ◌<◌}
 use Rattle.std.proofs.lemmas.List.{take_all, take_more}
 use Rattle.pci_spec.specs.Text.{Block, IsDump}
 use Rattle.pci_spec.specs.Stops.{IsAboveLast, last_slot}
-use Rattle.pci_spec.specs.System.{system_of}
-use Rattle.pci_spec.specs.Machine.{Target, sized}
-use Rattle.pci_spec.specs.Sizing.{function_at, IsSizable}
 use Rattle.pci_listing.proofs.Shows.{same_count}
-use Rattle.pciplan_tasks.proofs.Sizes.{above_last, function_at_block}
+use Rattle.pciplan_tasks.proofs.Sizes.{above_last, block_sized}
 use Rattle.pciplan_tasks.proofs.sizing.size_all.Goals as goal
 
 pub bounds-probes-i : goal.bounds-probes-i
@@ -18,30 +14,15 @@ bounds-probes-i g c =
 
 pub sized_block-block-requires-clause-sizable : goal.sized_block-block-requires-clause-sizable
 sized_block-block-requires-clause-sizable g c =
-    let dump = c.args.dump.now in
-    let probe = c.args.probe.now in
-    let same = (c.in-Ok.ensures.pair []).same in
-    let count = same_count dump probe same in
-    let P : List Target → Type 0 = λ targets. All (λ f. sized (function_at targets f.slot) ≡ f.probe) (system_of dump probe) in
-    let read_backs = subst P c.in-Ok.ensures.machine c.in-Ok.ensures.read_backs in
-    let at = function_at_block dump probe same c.blocks-blocks.ensures.dump c.blocks-probes.ensures.dump c.in-Ok.ensures.decodable read_backs
-    c.loop-i.i c.index-probes-i.result (omega (arith, count, ap length c.blocks-blocks.ensures.value))
-    (c.index-probes-i.is ∙ ap (λ bs. get_or bs c.loop-i.i c.index-probes-i.result) c.blocks-probes.ensures.value) in
-    let Q : List Target → Type 0 = λ targets. IsSizable targets c.index-probes-i.result.slot in
-    subst Q (sym (c.loop-i.invariant.1 ∙ c.in-Ok.ensures.machine)) at.sizable
+    (block_sized c.args.dump.now c.args.probe.now c.blocks-blocks.result.now c.blocks-probes.result.now _ _ (c.in-Ok.ensures.pair []).same c.blocks-blocks.ensures.dump c.blocks-probes.ensures.dump
+    c.in-Ok.ensures.decodable c.in-Ok.ensures.machine c.in-Ok.ensures.read_backs c.loop-i.invariant.1 c.blocks-blocks.ensures.value c.blocks-probes.ensures.value c.loop-i.i c.index-probes-i.result (omega arith)
+    c.index-probes-i.is).sizable
 
 pub sized_block-block-requires-clause-found : goal.sized_block-block-requires-clause-found
 sized_block-block-requires-clause-found g c =
-    let dump = c.args.dump.now in
-    let probe = c.args.probe.now in
-    let same = (c.in-Ok.ensures.pair []).same in
-    let count = same_count dump probe same in
-    let P : List Target → Type 0 = λ targets. All (λ f. sized (function_at targets f.slot) ≡ f.probe) (system_of dump probe) in
-    let read_backs = subst P c.in-Ok.ensures.machine c.in-Ok.ensures.read_backs in
-    let at = function_at_block dump probe same c.blocks-blocks.ensures.dump c.blocks-probes.ensures.dump c.in-Ok.ensures.decodable read_backs
-    c.loop-i.i c.index-probes-i.result (omega (arith, count, ap length c.blocks-blocks.ensures.value))
-    (c.index-probes-i.is ∙ ap (λ bs. get_or bs c.loop-i.i c.index-probes-i.result) c.blocks-probes.ensures.value) in
-    ap (λ (targets : List Target). sized (function_at targets c.index-probes-i.result.slot)) (c.loop-i.invariant.1 ∙ c.in-Ok.ensures.machine) ∙ at.found
+    (block_sized c.args.dump.now c.args.probe.now c.blocks-blocks.result.now c.blocks-probes.result.now _ _ (c.in-Ok.ensures.pair []).same c.blocks-blocks.ensures.dump c.blocks-probes.ensures.dump
+    c.in-Ok.ensures.decodable c.in-Ok.ensures.machine c.in-Ok.ensures.read_backs c.loop-i.invariant.1 c.blocks-blocks.ensures.value c.blocks-probes.ensures.value c.loop-i.i c.index-probes-i.result (omega arith)
+    c.index-probes-i.is).found
 
 pub push_next-requires-clause-above : goal.push_next-requires-clause-above
 push_next-requires-clause-above g c =
