@@ -14,7 +14,7 @@ use Rattle.pci_function.specs.declared.fault.Fault.{Fault}
 use Rattle.pci_tree.specs.declared.region.Region.{Region}
 use Rattle.pci_tree.specs.Regions.{HasEachRegion}
 use Rattle.pci_tree.specs.Outline.{Tree, IsReachTo}
-use Rattle.pci_check.specs.Trees.{HasTree}
+use Rattle.pci_tree.specs.Trees.{HasTree}
 use Rattle.pci_tree.proofs.Orders.{own_of_rising}
 use Rattle.pci_check.specs.Sweep.{AreDistinct, IsUnshared, IsFirstOverlap}
 use Rattle.pci_check.specs.Stops.{Reaches, ranges_at, AreReachesOf, AreListed}

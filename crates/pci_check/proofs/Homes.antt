@@ -17,14 +17,15 @@ use Rattle.pci_spec.proofs.Regions.{register_of-lt}
 use Rattle.pci_spec.proofs.Firsts.{slot_of, least_unreached_is_first, line_of_stop}
 use Rattle.pci_function.specs.declared.fault.Fault.{Fault}
 use Rattle.pci_tree.specs.declared.region.Region.{Region}
-use Rattle.pci_tree.specs.Regions.{IsRegionOf, IsRegionOn, AreRegionsOf, region_number as number_of}
+use Rattle.pci_tree.specs.Regions.{IsRegionOf, IsRegionOn, AreRegionsOf, region_number as number_of, is_of_window}
 use Rattle.pci_tree.specs.Outline.{Tree, IsPathTo}
-use Rattle.pci_check.specs.Trees.{HasTree}
+use Rattle.pci_tree.specs.Trees.{HasTree}
 use Rattle.pci_check.specs.Homes.{AreHomeBelow, IsHomeOn, IsHomeBelow}
 use Rattle.pci_check.specs.Judgement.{AreHome}
-use Rattle.pci_check.specs.Stops.{is_of_window, Reaches, AreReachesOf, AlwaysNested, IsWholeAt, IsReachedAt, IsFirstOutside, IsOutsideAnswer, IsWholeBehind, IsFirstStop, IsUnreachedFault, IsUnreachedFaultOn, IsWholeInEach, AreHomeInEach, AreListed}
-use Rattle.pci_check.proofs.Overlaps.{number_same}
-use Rattle.pci_check.proofs.Stops.{window_named, first_stop, whole_without_stop}
+use Rattle.pci_check.specs.Stops.{Reaches, AreReachesOf, AlwaysNested, IsWholeAt, IsReachedAt, IsFirstOutside, IsOutsideAnswer, IsWholeBehind, IsFirstStop, IsUnreachedFault, IsUnreachedFaultOn, IsWholeInEach, AreHomeInEach, AreListed}
+use Rattle.pci_tree.proofs.RegionOrder.{number_same}
+use Rattle.pci_tree.proofs.RegionParts.{window_named}
+use Rattle.pci_check.proofs.Stops.{first_stop, whole_without_stop}
 
 module _ (t : Tree) (reaches : Reaches) (reached : AreReachesOf t reaches) (nested : AlwaysNested t) where
   -- a bus of a system's function

@@ -6,7 +6,7 @@ use Rattle.pci_spec.specs.JudgingLaws.{HasNoUnreached}
 use Rattle.pci_spec.proofs.Verdicts.{single_without_clashes, home_without_unreached}
 use Rattle.pci_function.specs.declared.fault.Fault.{Fault}
 use Rattle.pci_tree.specs.Outline.{Tree}
-use Rattle.pci_check.specs.Trees.{HasTree}
+use Rattle.pci_tree.specs.Trees.{HasTree}
 use Rattle.pci_check.specs.Stops.{AlwaysNested}
 use Rattle.pci_check.specs.Clashes.{NoneClash, NoneSplit, IsSplitFault}
 use Rattle.pci_check.specs.Judgement.{AreHome, IsFirstInEach, IsJudgement}

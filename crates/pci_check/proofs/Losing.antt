@@ -9,7 +9,8 @@ use Rattle.pci_spec.specs.System.{Space}
 use Rattle.pci_base.specs.declared.range.Range.{Range}
 use Rattle.pci_tree.specs.declared.region.Region.{Region}
 use Rattle.pci_tree.specs.Ranges.{Covers, Holds, IsLeastOutside}
-use Rattle.pci_check.specs.Stops.{is_of_window, Reaches, ranges_at, IsWholeAt, IsReachedAt, IsFirstOutside, IsBusBehind, IsWholeBehind, IsLeastLost}
+use Rattle.pci_tree.specs.Regions.{is_of_window}
+use Rattle.pci_check.specs.Stops.{Reaches, ranges_at, IsWholeAt, IsReachedAt, IsFirstOutside, IsBusBehind, IsWholeBehind, IsLeastLost}
 use Rattle.pci_check.proofs.Sweeps.{at_each}
 
 -- the range of a region

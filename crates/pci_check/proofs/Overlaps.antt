@@ -16,6 +16,7 @@ use Rattle.pci_base.specs.declared.range.Range.{Range}
 use Rattle.pci_tree.specs.declared.region.Region.{Region}
 use Rattle.pci_tree.specs.Ranges.{Covers}
 use Rattle.pci_tree.specs.Regions.{region_number as number_of}
+use Rattle.pci_tree.proofs.RegionOrder.{number_same}
 use Rattle.pci_check.specs.Sweep.{Spans, IsTwice, IsLeastTwice, AreTwoLeast, IsClaimantIn, IsUnshared, IsFirstOverlap}
 use Rattle.pci_check.specs.Clashes.{AreRegionsOn}
 
@@ -101,9 +102,6 @@ module _ (old new : List Region) (allowed : List Range) (moved : IsPermutation o
       }
 
 -- ---- regions of a system
-
-pub number_same : (s t : Slot) (r q : ℕ) → s ≡ t → r ≡ q → region_number s r ≡ region_number t q
-number_same s t r q slot register = ap (λ (x : Slot). region_number x r) slot ∙ ap (λ n. region_number t n) register
 
 module _ (s : System) (system : IsSystem s) (IsOne : ℕ → Type 0) (space : Space) (regions : List Region) (are : AreRegionsOn s IsOne space regions) (allowed : List Range) where
   -- a region of the list that claims an address does so on its bus

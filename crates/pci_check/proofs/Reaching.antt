@@ -5,7 +5,7 @@ use Rattle.pci_spec.specs.System.{System, Io, Memory, window_space}
 use Rattle.pci_base.specs.declared.range.Range.{Range}
 use Rattle.pci_base.specs.Space.{is_prefetch}
 use Rattle.pci_tree.specs.Outline.{Tree, IsReachTo}
-use Rattle.pci_check.specs.Trees.{HasTree}
+use Rattle.pci_tree.specs.Trees.{HasTree}
 use Rattle.pci_check.specs.Stops.{Reaches, reaches_by, AreReachesOf}
 
 -- the lists of a kind of access, for each system with the tree

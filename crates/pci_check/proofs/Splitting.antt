@@ -18,7 +18,7 @@ use Rattle.pci_tree.specs.declared.region.Region.{Region}
 use Rattle.pci_tree.specs.Ranges.{Covers, Holds}
 use Rattle.pci_tree.specs.Outline.{Tree}
 use Rattle.pci_tree.specs.Regions.{IsRegionOn, region_number as number_of}
-use Rattle.pci_check.specs.Trees.{HasTree}
+use Rattle.pci_tree.specs.Trees.{HasTree}
 use Rattle.pci_tree.proofs.Orders.{own_of_rising}
 use Rattle.pci_check.specs.Sweep.{AreDistinct, IsUnshared, IsFirstOverlap}
 use Rattle.pci_check.specs.Stops.{AreListed}

@@ -6,16 +6,17 @@ use Rattle.std.proofs.lemmas.List.{get_or_default, get_or-map, length-map, lengt
 use Rattle.std.proofs.lemmas.List.Elements.{All-contains}
 use Rattle.pci_spec.specs.Slot.{Slot}
 use Rattle.pci_spec.specs.Header.{secondary_bus}
-use Rattle.pci_spec.specs.System.{System, IsSystem, IsFunction, Function, Space, Part, Bar, Rom, Window, Claims, IsPassedTo, Leads, passes, is_window, is_prefetchable_part}
+use Rattle.pci_spec.specs.System.{System, IsSystem, IsFunction, Function, Space, Part, Claims, IsPassedTo, Leads, passes, is_prefetchable_part}
 use Rattle.pci_spec.specs.Bus.{IsNested}
 use Rattle.pci_spec.specs.JudgingLaws.{IsFirstStop as StopsFirst}
 use Rattle.pci_spec.specs.Fault.{address_in, named_region}
 use Rattle.pci_spec.proofs.Verdicts.{passed_by_each}
 use Rattle.pci_tree.specs.declared.region.Region.{Region}
 use Rattle.pci_tree.specs.Ranges.{Covers}
-use Rattle.pci_tree.specs.Regions.{IsRegionOn, name_of}
+use Rattle.pci_tree.specs.Regions.{IsRegionOn, is_of_window}
 use Rattle.pci_tree.specs.Outline.{IsPathTo, IsReachTo}
-use Rattle.pci_check.specs.Stops.{is_of_window, Reaches, ranges_at, IsWholeAt, IsBusBehind, IsWholeBehind, IsFirstStop}
+use Rattle.pci_tree.proofs.RegionParts.{window_named}
+use Rattle.pci_check.specs.Stops.{Reaches, ranges_at, IsWholeAt, IsBusBehind, IsWholeBehind, IsFirstStop}
 
 -- ---- parts of a way
 
@@ -68,11 +69,6 @@ in_take bridges m k z less within =
 
 secondary_fits : (s : System) → IsSystem s → (b : Function) → Contains s b → secondary_bus b.image < 256
 secondary_fits s system b listed = (All-contains IsFunction s b system.each listed).image.bytes 0x19
-
-pub window_named : (p : Part) → is_window p ≡ is_of_window (name_of p)
-window_named (Bar n) = refl
-window_named Rom = refl
-window_named (Window kind) = refl
 
 -- ---- a region, the path to its bus, and what gets to each bus
 

@@ -9,7 +9,7 @@ use Rattle.pci_tree.specs.declared.region.Region.{Region}
 use Rattle.pci_function.specs.Fault.{fault_of}
 use Rattle.pci_tree.specs.Outline.{Tree}
 use Rattle.pci_tree.specs.Regions.{IsRegionOn, HasEachRegion, region_number as number_of}
-use Rattle.pci_check.specs.Trees.{HasTree}
+use Rattle.pci_tree.specs.Trees.{HasTree}
 
 -- in each system with the tree no regions of the bus and space clash
 abbrev pub NoneClashOn : Tree → ℕ → Space → Type 0

@@ -6,7 +6,7 @@ use Rattle.pci_spec.specs.Order.{IsFirst}
 use Rattle.pci_function.specs.declared.fault.Fault.{Fault}
 use Rattle.pci_function.specs.Fault.{fault_of}
 use Rattle.pci_tree.specs.Outline.{Tree}
-use Rattle.pci_check.specs.Trees.{HasTree}
+use Rattle.pci_tree.specs.Trees.{HasTree}
 
 -- in every system with the tree each access is of at most one region, and each region is reached
 abbrev pub IsFree : Tree → Type 0

@@ -1,4 +1,3 @@
-pub mod Trees
 pub mod Sweep
 pub mod Homes
 pub mod Clashes

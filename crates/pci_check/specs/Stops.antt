@@ -1,5 +1,5 @@
 -- The first bridge of a path that doesn't pass a whole region, found by what gets to the bus behind each.
-use Rattle.std.specs.Prelude.{◌≡◌, ℕ, ◌+◌, ◌<◌, ◌≤◌, Bool, true, false, List, [], length, slice_index_or, Option, None, Some, MatchOption}
+use Rattle.std.specs.Prelude.{◌≡◌, ℕ, ◌+◌, ◌<◌, ◌≤◌, Bool, false, List, [], length, slice_index_or, Option, None, Some, MatchOption}
 use Rattle.std.specs.List.{All, AllWithin, HoldsAt}
 use Rattle.pci_spec.specs.Slot.{Slot}
 use Rattle.pci_spec.specs.Window.{WindowKind, IoWindow, MemoryWindow, PrefetchWindow}
@@ -16,11 +16,9 @@ use Rattle.pci_tree.specs.declared.region.Region.{Region}
 use Rattle.pci_base.specs.Space.{kind_in}
 use Rattle.pci_tree.specs.Ranges.{Covers, IsCanonical}
 use Rattle.pci_function.specs.Fault.{fault_of}
-use Rattle.pci_tree.specs.declared.region.Part as parts
-use Rattle.pci_tree.specs.declared.region.Part.TheVariants as part
 use Rattle.pci_tree.specs.Outline.{Tree, IsReachTo}
-use Rattle.pci_tree.specs.Regions.{IsRegionOn, AreRegionsOf, region_number as number_of}
-use Rattle.pci_check.specs.Trees.{HasTree}
+use Rattle.pci_tree.specs.Regions.{IsRegionOn, AreRegionsOf, is_of_window, region_number as number_of}
+use Rattle.pci_tree.specs.Trees.{HasTree}
 use Rattle.pci_check.specs.declared.unreached.Foremost.{Foremost}
 use Rattle.pci_check.specs.declared.unreached.Foremost.TheVariants as foremost
 use Rattle.pci_check.specs.Sweep.{Spans}
@@ -51,12 +49,6 @@ abbrev pub AreReachesOf : Tree → Reaches → Type 0
 AreReachesOf t reaches =
     (s : System) → HasTree t s → (space : Space) (prefetchable : Bool) (bus : ℕ) → bus < 256
     → IsReachTo t.roots s space prefetchable bus (ranges_at reaches space prefetchable bus)
-
--- whether a region is a window
-abbrev pub is_of_window : parts.Part → Bool
-is_of_window part.Bar = false
-is_of_window part.Rom = false
-is_of_window part.Window = true
 
 -- each address of the region gets to the bus
 abbrev pub IsWholeAt : Reaches → Space → ℕ → Region → Type 0

@@ -4,7 +4,8 @@ ghost use Rattle.std.specs.Prelude.{◌≡◌, ◌<◌, ℕ, false, length, Opti
 ghost use Rattle.pci_spec.specs.System.{Io, Memory};
 ghost use Rattle.pci_function.specs.declared.fault.Fault.{Fault};
 ghost use Rattle.pci_base.specs.Space.{space_of};
-ghost use Rattle.pci_check.specs.Stops.{is_of_window, AreReachesOf, IsWholeAt, IsReachedAt, IsOutsideAnswer, IsBusBehind, IsWholeBehind, IsLeastLost, IsFirstStop, IsEarlier, IsUnreachedFault, IsLineFault, IsUnreachedFaultOn, IsWholeInEach, AreHomeInEach, AlwaysNested, AreListed};
+ghost use Rattle.pci_tree.specs.Regions.{is_of_window};
+ghost use Rattle.pci_check.specs.Stops.{AreReachesOf, IsWholeAt, IsReachedAt, IsOutsideAnswer, IsBusBehind, IsWholeBehind, IsLeastLost, IsFirstStop, IsEarlier, IsUnreachedFault, IsLineFault, IsUnreachedFaultOn, IsWholeInEach, AreHomeInEach, AlwaysNested, AreListed};
 
 use super::reached::Reached;
 use super::sweep::is_before;

@@ -22,8 +22,8 @@ use Rattle.pci_tree.specs.Regions.{AreRegionsOf, region_number as number_of_regi
 use Rattle.pci_tree.specs.Ways.{slots_of}
 use Rattle.pci_tree.specs.Outline.{Tree, RiseBySlot}
 use Rattle.pci_tree.proofs.Lifting.{Has, record_for, function_for, functions_rise, same_slot_of, one_by_number}
-use Rattle.pci_check.specs.Trees.{HasTree}
-use Rattle.pci_check.proofs.Overlaps.{number_same}
+use Rattle.pci_tree.specs.Trees.{HasTree}
+use Rattle.pci_tree.proofs.RegionOrder.{number_same}
 use Rattle.given_spec.specs.Given.{Given, legacy_claims}
 use Rattle.given_spec.specs.Claims.{Own, Legacy, ClaimsOnBus}
 use Rattle.pci_claims.specs.Passed.{is_piece_at}

@@ -13,10 +13,9 @@ use Rattle.pci_base.specs.declared.range.Range.{Range}
 use Rattle.pci_tree.specs.declared.region.Region.{Region}
 use Rattle.pci_tree.specs.Ranges.{Holds, Covers, IsLeastOutside}
 use Rattle.pci_tree.specs.Outline.{Tree, IsPathTo}
-use Rattle.pci_tree.specs.Regions.{IsRegionOn}
-use Rattle.pci_check.specs.Trees.{HasTree}
-use Rattle.pci_check.specs.Stops.{is_of_window}
-use Rattle.pci_check.proofs.Stops.{window_named}
+use Rattle.pci_tree.specs.Regions.{IsRegionOn, is_of_window}
+use Rattle.pci_tree.specs.Trees.{HasTree}
+use Rattle.pci_tree.proofs.RegionParts.{window_named}
 use Rattle.given_spec.specs.Given.{Given, starts}
 use Rattle.given_spec.specs.Fault.{IsOutside}
 use Rattle.pci_claims.specs.Sent.{IsSentTo}

@@ -11,7 +11,7 @@ use Rattle.pci_spec.proofs.Members.{in_nil, pairs_nil, pairs_append}
 use Rattle.pci_spec.proofs.Firsts.{slot_of}
 use Rattle.pci_tree.specs.Ranges.{Covers}
 use Rattle.pci_tree.specs.Outline.{Tree}
-use Rattle.pci_check.specs.Trees.{HasTree}
+use Rattle.pci_tree.specs.Trees.{HasTree}
 use Rattle.given_spec.specs.Given.{Given, starts}
 use Rattle.given_spec.specs.Claims.{ClaimsOnBus}
 use Rattle.pci_claims.specs.Claim.{Claimed}

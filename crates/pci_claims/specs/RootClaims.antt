@@ -6,7 +6,7 @@ use Rattle.pci_spec.specs.System.{System, Space}
 use Rattle.pci_spec.specs.Fault.{address_in, named_region}
 use Rattle.pci_tree.specs.Ranges.{Covers}
 use Rattle.pci_tree.specs.Outline.{Tree}
-use Rattle.pci_check.specs.Trees.{HasTree}
+use Rattle.pci_tree.specs.Trees.{HasTree}
 use Rattle.given_spec.specs.Given.{Given, starts}
 use Rattle.given_spec.specs.Claims.{ClaimsOnBus}
 use Rattle.pci_claims.specs.Claim.{Claimed}

@@ -15,7 +15,7 @@ use Rattle.std.proofs.lemmas.Bool.{cases_eq}
 use Rattle.pci_function.specs.declared.fault.Fault.{Fault}
 use Rattle.pci_function.specs.Fault.{fault_of}
 use Rattle.pci_tree.specs.Outline.{Tree}
-use Rattle.pci_check.specs.Trees.{HasTree}
+use Rattle.pci_tree.specs.Trees.{HasTree}
 use Rattle.pci_faults.specs.Lines.{AreJust, AreAdded, AreLinesAdded, IsLine, IsAt, IsBelow}
 
 abbrev pub key_of : Fault → List ℕ

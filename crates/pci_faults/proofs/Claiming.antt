@@ -21,10 +21,11 @@ use Rattle.pci_tree.specs.Regions.{AreRegionsOf, region_number as number_of}
 use Rattle.pci_tree.specs.Outline.{IsReachTo}
 use Rattle.pci_function.specs.declared.fault.Fault.{Fault}
 use Rattle.pci_tree.specs.Outline.{Tree}
-use Rattle.pci_check.specs.Trees.{HasTree}
+use Rattle.pci_tree.specs.Trees.{HasTree}
 use Rattle.pci_check.specs.Stops.{AreListed}
 use Rattle.pci_check.specs.Clashes.{AreRegionsOn, AreRootsListed}
-use Rattle.pci_check.proofs.Overlaps.{claims_of, number_same}
+use Rattle.pci_tree.proofs.RegionOrder.{number_same}
+use Rattle.pci_check.proofs.Overlaps.{claims_of}
 use Rattle.pci_check.proofs.Clashing.{gets_of_passed, passed_of_gets}
 use Rattle.pci_faults.specs.declared.shares.Among.{Among}
 use Rattle.pci_faults.specs.declared.shares.Among.TheVariants.{Bus, Roots}

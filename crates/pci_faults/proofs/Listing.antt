@@ -22,7 +22,7 @@ use Rattle.pci_function.specs.declared.fault.Fault.{Fault}
 use Rattle.pci_function.specs.declared.fault.Fault.TheVariants.{NoVendor}
 use Rattle.pci_function.specs.Fault.{fault_of}
 use Rattle.pci_tree.specs.Outline.{Tree}
-use Rattle.pci_check.specs.Trees.{HasTree}
+use Rattle.pci_tree.specs.Trees.{HasTree}
 use Rattle.pci_check.specs.Stops.{AlwaysNested}
 use Rattle.pci_check.specs.Judgement.{IsFree}
 use Rattle.pci_faults.specs.Order.{place_of}

@@ -17,11 +17,11 @@ use Rattle.pci_function.specs.declared.fault.Fault.{Fault}
 use Rattle.pci_function.specs.Fault.{fault_of}
 use Rattle.pci_tree.specs.declared.region.Region.{Region}
 use Rattle.pci_tree.specs.Outline.{Tree}
-use Rattle.pci_tree.specs.Regions.{IsRegionOn, region_number as number_of}
-use Rattle.pci_check.specs.Trees.{HasTree}
-use Rattle.pci_check.specs.Stops.{is_of_window, Reaches, AreReachesOf, AlwaysNested, AreListed, IsWholeAt, IsReachedAt, IsWholeInEach, IsLineOf, IsLineFault}
+use Rattle.pci_tree.specs.Regions.{IsRegionOn, region_number as number_of, is_of_window}
+use Rattle.pci_tree.specs.Trees.{HasTree}
+use Rattle.pci_check.specs.Stops.{Reaches, AreReachesOf, AlwaysNested, AreListed, IsWholeAt, IsReachedAt, IsWholeInEach, IsLineOf, IsLineFault}
 use Rattle.pci_check.proofs.Homes.{passed_on}
-use Rattle.pci_check.proofs.Overlaps.{number_same}
+use Rattle.pci_tree.proofs.RegionOrder.{number_same}
 use Rattle.pci_faults.specs.Lines.{region_at, nowhere, AreAdded, AreLinesAdded, IsLine, IsAt}
 use Rattle.pci_faults.proofs.Adding.{added_none, added_one, added_both, added_same}
 use Rattle.pci_faults.proofs.Naming.{IsAtPlace, number_at, one_place, places_of, rising_of}

@@ -13,7 +13,7 @@ use Rattle.pci_function.specs.declared.fault.Fault.{Fault}
 use Rattle.pci_function.specs.Fault.{fault_of}
 use Rattle.pci_tree.specs.declared.region.Region.{Region}
 use Rattle.pci_tree.specs.Regions.{region_number as number_of}
-use Rattle.pci_check.proofs.Overlaps.{number_same}
+use Rattle.pci_tree.proofs.RegionOrder.{number_same}
 use Rattle.pci_faults.specs.declared.shares.Share.{Share}
 use Rattle.pci_faults.specs.Lines.{region_at, nowhere, AreJust}
 use Rattle.pci_faults.proofs.Adding.{Differ}

@@ -11,7 +11,7 @@ use Rattle.pci_base.specs.Space.{space_of}
 use Rattle.pci_function.specs.declared.fault.Fault.{Fault}
 use Rattle.pci_tree.specs.Ranges.{Covers}
 use Rattle.pci_tree.specs.Outline.{Tree}
-use Rattle.pci_check.proofs.Overlaps.{number_same}
+use Rattle.pci_tree.proofs.RegionOrder.{number_same}
 use Rattle.pci_faults.specs.declared.shares.Among.TheVariants.{Bus}
 use Rattle.pci_faults.specs.declared.shares.Share.{Share}
 use Rattle.pci_faults.specs.Lines.{AreJust}

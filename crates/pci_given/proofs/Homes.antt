@@ -15,7 +15,7 @@ use Rattle.pci_spec.proofs.Verdicts.{passed_by_each}
 use Rattle.pci_tree.specs.declared.region.Region.{Region}
 use Rattle.pci_tree.specs.Outline.{Tree}
 use Rattle.pci_check.specs.Judgement.{AreHome}
-use Rattle.pci_check.specs.Trees.{HasTree}
+use Rattle.pci_tree.specs.Trees.{HasTree}
 use Rattle.pci_check.specs.Stops.{Reaches, AreReachesOf, AlwaysNested, IsReachedAt}
 use Rattle.given_spec.specs.Given.{Given, legacy_claims}
 use Rattle.given_spec.specs.Claims.{passes}

@@ -15,10 +15,9 @@ use Rattle.pci_base.specs.declared.space.Space.{Space}
 use Rattle.pci_base.specs.Space.{space_of}
 use Rattle.pci_tree.specs.declared.region.Region.{Region}
 use Rattle.pci_tree.specs.Outline.{Tree}
-use Rattle.pci_tree.specs.Regions.{IsRegionOn, IsRegionOf, AreRegionsOf, region_number}
-use Rattle.pci_check.specs.Trees.{HasTree}
-use Rattle.pci_check.specs.Stops.{is_of_window}
-use Rattle.pci_check.proofs.Stops.{window_named}
+use Rattle.pci_tree.specs.Regions.{IsRegionOn, IsRegionOf, AreRegionsOf, region_number, is_of_window}
+use Rattle.pci_tree.specs.Trees.{HasTree}
+use Rattle.pci_tree.proofs.RegionParts.{window_named}
 use Rattle.pci_given.specs.declared.bars_and_roms.BarOrRom.{BarOrRom}
 use Rattle.pci_given.specs.Clashes.{IsOnBusIn}
 use Rattle.pci_given.specs.BarsAndRoms.{place_of, among, IsBarOrRom, HasBarOrRom, AreBarsAndRomsAt, AreBarsAndRomsAdded, AreAllBarsAndRoms}

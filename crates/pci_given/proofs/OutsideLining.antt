@@ -13,7 +13,7 @@ use Rattle.pci_spec.proofs.FirstLines.{same_precedes}
 use Rattle.pci_spec.proofs.Members.{in_map_to, in_map_from, pairs_map}
 use Rattle.pci_base.specs.Space.{space_of}
 use Rattle.pci_tree.specs.Outline.{Tree}
-use Rattle.pci_check.specs.Trees.{HasTree}
+use Rattle.pci_tree.specs.Trees.{HasTree}
 use Rattle.given_spec.specs.Given.{Given}
 use Rattle.given_spec.specs.Fault.{Known, fault_number}
 use Rattle.given_spec.specs.Fault as spec

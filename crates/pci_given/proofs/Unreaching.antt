@@ -19,11 +19,10 @@ use Rattle.pci_function.specs.declared.record.Record.{Record}
 use Rattle.pci_function.specs.Values.{record_value}
 use Rattle.pci_tree.specs.declared.region.Region.{Region}
 use Rattle.pci_tree.specs.Outline.{Tree, RiseBySlot, IsPathTo}
-use Rattle.pci_tree.specs.Regions.{IsRegionOn}
+use Rattle.pci_tree.specs.Regions.{IsRegionOn, is_of_window}
 use Rattle.pci_tree.proofs.Lifting.{Has}
-use Rattle.pci_check.specs.Trees.{HasTree}
-use Rattle.pci_check.specs.Stops.{is_of_window}
-use Rattle.pci_check.proofs.Stops.{window_named}
+use Rattle.pci_tree.specs.Trees.{HasTree}
+use Rattle.pci_tree.proofs.RegionParts.{window_named}
 use Rattle.given_spec.specs.Given.{Given, starts}
 use Rattle.given_spec.specs.Claims.{passes}
 use Rattle.given_spec.specs.Fault.{IsUnreached}

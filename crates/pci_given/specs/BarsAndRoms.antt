@@ -7,9 +7,8 @@ use Rattle.pci_base.specs.declared.space.Space.{Space}
 use Rattle.pci_base.specs.Space.{space_of}
 use Rattle.pci_tree.specs.declared.region.Region.{Region}
 use Rattle.pci_tree.specs.Outline.{Tree}
-use Rattle.pci_tree.specs.Regions.{IsRegionOn, IsRegionOf, region_number}
-use Rattle.pci_check.specs.Trees.{HasTree}
-use Rattle.pci_check.specs.Stops.{is_of_window}
+use Rattle.pci_tree.specs.Regions.{IsRegionOn, IsRegionOf, region_number, is_of_window}
+use Rattle.pci_tree.specs.Trees.{HasTree}
 use Rattle.pci_given.specs.declared.bars_and_roms.BarOrRom.{BarOrRom}
 
 -- its place in the order of slots and registers

@@ -11,7 +11,7 @@ use Rattle.pci_function.specs.declared.fault.Fault.TheVariants.{Clash, Split}
 use Rattle.pci_function.specs.Fault.{fault_of}
 use Rattle.pci_tree.specs.Ranges.{Covers}
 use Rattle.pci_tree.specs.Outline.{Tree}
-use Rattle.pci_check.specs.Trees.{HasTree}
+use Rattle.pci_tree.specs.Trees.{HasTree}
 use Rattle.pci_faults.specs.declared.shares.Among.{Among}
 use Rattle.pci_faults.specs.declared.shares.Among.TheVariants.{Bus, Roots}
 use Rattle.pci_faults.specs.declared.shares.Share.{Share}

@@ -4,7 +4,7 @@ use Rattle.pci_spec.specs.System.{System}
 use Rattle.pci_spec.specs.JudgingLaws.{region_number}
 use Rattle.pci_base.specs.Space.{space_of}
 use Rattle.pci_tree.specs.Outline.{Tree}
-use Rattle.pci_check.specs.Trees.{HasTree}
+use Rattle.pci_tree.specs.Trees.{HasTree}
 use Rattle.given_spec.specs.Given.{Given}
 use Rattle.given_spec.specs.Fault as spec
 use Rattle.given_spec.specs.Numbered.{AreAllNumbered}

@@ -9,7 +9,7 @@ use Rattle.pci_base.specs.declared.range.Range.{Range}
 use Rattle.pci_tree.specs.declared.region.Region.{Region}
 use Rattle.pci_tree.specs.Ranges.{Covers}
 use Rattle.pci_tree.specs.Outline.{Tree}
-use Rattle.pci_check.specs.Trees.{HasTree}
+use Rattle.pci_tree.specs.Trees.{HasTree}
 use Rattle.given_spec.specs.Given.{Given, legacy_holds}
 use Rattle.given_spec.specs.Claims.{ClaimsOnBus, may_share}
 use Rattle.pci_claims.specs.declared.given.LegacyBridge.{LegacyBridge}

@@ -10,9 +10,8 @@ use Rattle.pci_function.specs.declared.record.Record.{Record}
 use Rattle.pci_tree.specs.declared.region.Region.{Region}
 use Rattle.pci_tree.specs.Outline.{Tree}
 use Rattle.pci_tree.specs.Ranges.{Holds}
-use Rattle.pci_tree.specs.Regions.{IsRegionOn}
-use Rattle.pci_check.specs.Trees.{HasTree}
-use Rattle.pci_check.specs.Stops.{is_of_window}
+use Rattle.pci_tree.specs.Regions.{IsRegionOn, is_of_window}
+use Rattle.pci_tree.specs.Trees.{HasTree}
 use Rattle.given_spec.specs.Given.{Given}
 use Rattle.given_spec.specs.Fault.{IsUnreached}
 use Rattle.given_spec.specs.AllFaults.{IsUnreachedOf}

@@ -11,7 +11,7 @@ use Rattle.pci_function.specs.declared.fault.Fault.{Fault as CodeFault}
 use Rattle.pci_function.specs.declared.fault.Fault.TheVariants as code
 use Rattle.pci_function.specs.Fault.{fault_of}
 use Rattle.pci_tree.specs.Outline.{Tree}
-use Rattle.pci_check.specs.Trees.{HasTree}
+use Rattle.pci_tree.specs.Trees.{HasTree}
 use Rattle.pci_why.specs.Evidence.{Appends}
 use Rattle.given_spec.specs.Given.{Given}
 use Rattle.given_spec.specs.Fault.{Fault, Known, Outside}

@@ -23,7 +23,7 @@ use Rattle.pci_function.specs.Values.{record_value}
 use Rattle.pci_tree.specs.declared.region.Region as outline
 use Rattle.pci_tree.specs.Outline.{Tree, RiseBySlot}
 use Rattle.pci_tree.proofs.Lifting.{Has, function_for, same_slot_of, one_function}
-use Rattle.pci_check.specs.Trees.{HasTree}
+use Rattle.pci_tree.specs.Trees.{HasTree}
 use Rattle.given_spec.specs.Given.{Given}
 use Rattle.given_spec.specs.Why.{Own, Legacy, IsPlaceFor, IsLeastPlace, IsFit, IsFitBehind, is_said}
 use Rattle.pci_claims.proofs.RegionClaims.{not_legacy}

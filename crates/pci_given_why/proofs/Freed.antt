@@ -15,7 +15,7 @@ use Rattle.pci_base.specs.declared.range.Range.{Range}
 use Rattle.pci_base.specs.Space.{kind_in}
 use Rattle.pci_tree.specs.Outline.{Tree}
 use Rattle.pci_tree.specs.Ranges.{Holds, Covers}
-use Rattle.pci_check.specs.Trees.{HasTree}
+use Rattle.pci_tree.specs.Trees.{HasTree}
 use Rattle.given_spec.specs.Given.{Given, legacy_claims}
 use Rattle.given_spec.specs.Claims.{Gets, IsPassedTo, passes, forwards, register_of, may_share}
 use Rattle.given_spec.specs.Why.{IsTaken}

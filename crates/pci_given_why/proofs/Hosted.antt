@@ -15,7 +15,7 @@ use Rattle.pci_base.specs.declared.range.Range.{Range}
 use Rattle.pci_base.specs.Ranges.{decoded_range_of}
 use Rattle.pci_tree.specs.declared.region.Region.{Region}
 use Rattle.pci_tree.specs.Outline.{Tree, IsPathTo}
-use Rattle.pci_check.specs.Trees.{HasTree}
+use Rattle.pci_tree.specs.Trees.{HasTree}
 use Rattle.pci_why.specs.RegionLines.{line_of}
 use Rattle.pci_why.specs.Found.{IsFoundIn, NoneClaims}
 use Rattle.pci_why.specs.Evidence.{Appends}

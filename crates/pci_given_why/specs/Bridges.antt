@@ -15,7 +15,7 @@ use Rattle.pci_base.specs.Space.{is_on, kind_in}
 use Rattle.pci_function.specs.declared.record.Record.{Record}
 use Rattle.pci_tree.specs.declared.region.Region.{Region}
 use Rattle.pci_tree.specs.Outline.{Tree}
-use Rattle.pci_check.specs.Trees.{HasTree}
+use Rattle.pci_tree.specs.Trees.{HasTree}
 use Rattle.pci_why.specs.Missed.{IsOutside}
 use Rattle.pci_why.specs.Bridges.{range_at}
 use Rattle.pci_why.specs.Evidence.{Appends}

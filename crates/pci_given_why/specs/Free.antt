@@ -15,7 +15,7 @@ use Rattle.pci_tree.specs.declared.region.Region.{Region}
 use Rattle.pci_tree.specs.Ranges.{Covers}
 use Rattle.pci_tree.specs.Regions.{IsRegionOf}
 use Rattle.pci_tree.specs.Outline.{Tree}
-use Rattle.pci_check.specs.Trees.{HasTree}
+use Rattle.pci_tree.specs.Trees.{HasTree}
 use Rattle.pci_claims.specs.Claim.{Claimed}
 use Rattle.pci_why.specs.Fits.{told}
 

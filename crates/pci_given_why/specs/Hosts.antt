@@ -6,7 +6,7 @@ use Rattle.pci_spec.specs.System.{System, Space, Function, Leads}
 use Rattle.pci_spec.specs.Why as plain
 use Rattle.pci_spec.specs.Fault.{RegionName, address_in}
 use Rattle.pci_tree.specs.Outline.{Tree}
-use Rattle.pci_check.specs.Trees.{HasTree}
+use Rattle.pci_tree.specs.Trees.{HasTree}
 use Rattle.pci_why.specs.Evidence.{Appends}
 use Rattle.given_spec.specs.Given.{Given}
 use Rattle.given_spec.specs.Fault.{IsOutside}

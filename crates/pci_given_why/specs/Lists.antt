@@ -3,7 +3,7 @@ use Rattle.std.specs.Prelude.{◌≡◌, ℕ, true, List}
 use Rattle.std.specs.List.{Contains}
 use Rattle.pci_spec.specs.System.{System}
 use Rattle.pci_tree.specs.Outline.{Tree}
-use Rattle.pci_check.specs.Trees.{HasTree}
+use Rattle.pci_tree.specs.Trees.{HasTree}
 use Rattle.pci_why.specs.Evidence.{Appends}
 use Rattle.given_spec.specs.Given.{Given}
 use Rattle.given_spec.specs.Fault.{Fault, IsIn}

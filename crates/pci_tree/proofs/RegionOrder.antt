@@ -11,6 +11,7 @@ use Rattle.pci_spec.specs.System.{Function, Space, Io, Memory, is_bridge}
 use Rattle.pci_spec.specs.Bar.{has_bar}
 use Rattle.pci_spec.specs.Decoded.{record_of, decoded_bar, decoded_bars, DecodedBar}
 use Rattle.pci_spec.specs.Decoded as decoded
+use Rattle.pci_spec.specs.JudgingLaws.{region_number}
 use Rattle.pci_spec.proofs.Members.{IsMade, IsInPiece, in_nil, in_cons_cases, in_map_to, in_filter_to, pairs_nil, pairs_cons, pairs_append, pairs_map, pairs_filter, pairs_range, pairs_flat_map}
 use Rattle.pci_image.specs.declared.bar.Bar.{Bar}
 use Rattle.pci_image.specs.declared.rom.Rom.{Rom}
@@ -229,3 +230,6 @@ region_of_record r f space q e has =
       ]
       | inr rom ↦ rom_of_record r f q (at_rom r f space q e rom)
     ]
+
+pub number_same : (s t : Slot) (r q : ℕ) → s ≡ t → r ≡ q → region_number s r ≡ region_number t q
+number_same s t r q slot register = ap (λ (x : Slot). region_number x r) slot ∙ ap (λ n. region_number t n) register

@@ -24,7 +24,7 @@ use Rattle.pci_function.specs.Values.{record_value, bridge_value}
 use Rattle.pci_image.specs.Roms.{decoded_rom_of}
 use Rattle.pci_base.specs.Space.{is_on}
 use Rattle.pci_tree.specs.Passes.{is_in, range_in}
-use Rattle.pci_tree.specs.Regions.{bar_regions, window_region, window_regions, window_in, kinds_in, kind_regions, bridge_regions, rom_region, rom_regions, regions_of, IsRegionOf, HasRegionOf, IsSpanIn, IsLawful}
+use Rattle.pci_tree.specs.Regions.{bar_regions, window_region, window_regions, window_in, kinds_in, kind_regions, bridge_regions, rom_region, rom_regions, regions_of, IsRegionOf, HasRegionOf, IsSpanIn, IsLawful, name_of, is_of_window}
 use Rattle.pci_tree.proofs.Recorded.{is_in-holds, holds-there, holds-optional}
 use Rattle.pci_tree.proofs.Lifting.{same_bridge, same_slot_of}
 use Rattle.pci_tree.proofs.Regions.{on_same, address_below, some_is, IsRegionOfSome, bar_regions_are, bar_has_region}
@@ -287,3 +287,9 @@ pub regions_are_all : (r : Record) (f : Function) (part : system.Part) (space : 
 regions_are_all r f part space a is e lawful claims =
     if_in (is_on r.command space) (bar_regions r.slot space r.bars.items ++ bridge_regions r.slot space r.bridge ++ rom_regions r.slot space r.rom) f part space
     (ap (λ c. is_on c space) (same_command r f e) ∙ sym (on_same f space) ∙ on_of f part space a claims) (parts_have_regions r f part space a is e lawful claims)
+
+-- the part that a region is named by is a window where it is
+pub window_named : (p : system.Part) → system.is_window p ≡ is_of_window (name_of p)
+window_named (system.Bar n) = refl
+window_named system.Rom = refl
+window_named (system.Window kind) = refl

@@ -12,3 +12,4 @@ pub mod Misplaced
 pub mod Admission
 pub mod Refusals
 pub mod Survey
+pub mod Trees

@@ -159,3 +159,9 @@ pub record IsLawful (r : Record) : Type 0 where
   pub windows : IfSome r.bridge (λ b. (kind : WindowKind)
       → IfSome (window_in kind b.windows) (λ w. IsSpanIn (system.window_space kind) w.first w.last))
   pub rom : IfSome r.rom (λ x. IsSpanIn system.Memory x.first x.last)
+
+-- whether a region is a window
+abbrev pub is_of_window : Part → Bool
+is_of_window parts.Bar = false
+is_of_window parts.Rom = false
+is_of_window parts.Window = true

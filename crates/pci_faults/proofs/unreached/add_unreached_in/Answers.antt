@@ -3,7 +3,8 @@ use Rattle.std.proofs.lemmas.List.{get_or_default}
 use Rattle.pci_base.specs.Space.{space_of}
 use Rattle.pci_function.specs.declared.fault.Fault.{Fault}
 use Rattle.pci_tree.specs.declared.region.Region.{Region}
-use Rattle.pci_check.specs.Stops.{is_of_window, AreListed, IsReachedAt, IsWholeAt, IsWholeInEach, IsLineFault}
+use Rattle.pci_tree.specs.Regions.{is_of_window}
+use Rattle.pci_check.specs.Stops.{AreListed, IsReachedAt, IsWholeAt, IsWholeInEach, IsLineFault}
 use Rattle.pci_faults.specs.Lines.{AreAdded, region_at, nowhere}
 use Rattle.pci_faults.proofs.Losing.{IsLineBelow, none_yet, without_line, with_line, none_of_reached, not_whole, found_line, lines_of_bus}
 use Rattle.pci_faults.proofs.unreached.add_unreached_in.Goals.{then-is_lost+in-Some+in_ok-push, then-is_lost+in_default, else-is_lost}
