@@ -2,10 +2,19 @@
 use Rattle.std.proofs.Common.{◌≡◌, ◌⊎◌, inr, List, ℕ, sym}
 use Rattle.std.specs.Prelude.{Result, Ok, Err, IfOk, IfErr, MatchResult}
 use Rattle.std.proofs.lemmas.Result.{IfErr-at_err}
-use Rattle.pciplan_cli.specs.Invocations.{IsRefusedFor, HasBadWords}
+use Rattle.pciplan_cli.specs.Invocations.{IsRefusedLine, IsRefusedFor, HasBadWords}
 use Rattle.pciplan_tasks.specs.Statuses.{status_of}
 use Rattle.pciplan_cli.specs.declared.invocation.Invocation.{Invocation}
 use Rattle.pciplan_tasks.specs.declared.failure.Failure.{Failure}
+use Rattle.pciplan_tasks.specs.declared.failure.Failure.TheVariants.{Usage, Memory}
+
+-- a word that is refused refuses the line
+pub line_refused : (words : List (List ℕ)) (failure : Failure) → IsRefusedLine words failure → IsRefusedFor words failure
+line_refused words failure = elim failure as (λ f. IsRefusedLine words f → IsRefusedFor words f) [
+  | Memory ↦ λ refused. tt
+  | Usage ↦ λ refused. inr refused
+  | _ ↦ λ refused. refused
+]
 
 -- what holds of the line that the words make holds of one that they make
 pub with_line : {W E : Type 0} (P : W → Invocation → Type 0) (Q : Invocation → Type 0) (words : Result W E) (line : Invocation)
