@@ -1,4 +1,4 @@
--- The words of what is said beside the two texts, and which of them is the first that says nothing.
+-- The words of what is said beside the two texts: what they say, and which of them is the first that says nothing.
 use Rattle.std.specs.Prelude.{ℕ, List, Option}
 use Rattle.std.specs.Borrow.{Bor}
 use Rattle.std.specs.Global.{Vec}
@@ -7,30 +7,42 @@ use Rattle.pci_base.specs.declared.space.Space.TheVariants.{Io, Mem}
 use Rattle.pci_model.specs.declared.words.Words.{Words}
 use Rattle.pci_tree.specs.Roots.{buses_of}
 use Rattle.pci_tree.specs.declared.roots.Roots.{Roots}
+use Rattle.pciplan_cli.specs.declared.beside.Beside.{Beside}
 use Rattle.pciplan_cli.specs.OptionWords.{AreRootsOf, AreWordsOf, AreRangesOf, HasNoRoots, HasNoWords, HasNoRanges}
 use Rattle.pciplan_tasks.specs.declared.failure.Failure.{Failure}
 use Rattle.pciplan_tasks.specs.declared.failure.Failure.TheVariants.{Root, Model, Host, Memory}
 
 -- the words of `--root`, `--model`, `--host-io` and `--host-mem`
-pub record Beside : Type 0 where
+pub record BesideWords : Type 0 where
   pub root : Option (Bor (List ℕ))
   pub model : Option (Bor (List ℕ))
   pub host_io : Option (Bor (List ℕ))
   pub host_mem : Option (Bor (List ℕ))
 
-pub record IsNoModel (asked : Beside) : Type 0 where
+abbrev pub beside_words : (root model host_io host_mem : Option (Bor (List ℕ))) → BesideWords
+beside_words root model host_io host_mem =
+    record { root = root; model = model; host_io = host_io; host_mem = host_mem }
+
+-- what they say
+pub record IsSaidBeside (asked : BesideWords) (said : Beside) : Type 0 where
+  pub are_roots : AreRootsOf asked.root said.roots
+  pub are_words : AreWordsOf asked.model said.words
+  pub io : AreRangesOf asked.host_io (buses_of said.roots) said.host.io
+  pub mem : AreRangesOf asked.host_mem (buses_of said.roots) said.host.mem
+
+pub record IsNoModel (asked : BesideWords) : Type 0 where
   pub roots : Roots
   pub are_roots : AreRootsOf asked.root roots
   pub none : HasNoWords asked.model
 
-pub record IsNoHostIo (asked : Beside) : Type 0 where
+pub record IsNoHostIo (asked : BesideWords) : Type 0 where
   pub roots : Roots
   pub words : Option Words
   pub are_roots : AreRootsOf asked.root roots
   pub are_words : AreWordsOf asked.model words
   pub none : HasNoRanges asked.host_io (buses_of roots)
 
-pub record IsNoHostMem (asked : Beside) : Type 0 where
+pub record IsNoHostMem (asked : BesideWords) : Type 0 where
   pub roots : Roots
   pub words : Option Words
   pub ranges : Option (Vec RootRange)
@@ -40,7 +52,7 @@ pub record IsNoHostMem (asked : Beside) : Type 0 where
   pub none : HasNoRanges asked.host_mem (buses_of roots)
 
 -- the first of them that says nothing
-abbrev pub IsRefusedBeside : Beside → Failure → Type 0
+abbrev pub IsRefusedBeside : BesideWords → Failure → Type 0
 IsRefusedBeside asked Root = HasNoRoots asked.root
 IsRefusedBeside asked Model = IsNoModel asked
 IsRefusedBeside asked (Host Io) = IsNoHostIo asked

@@ -4,8 +4,7 @@ ghost use Rattle.pciplan_words.specs.declared.asked.Asked.{Asked};
 ghost use Rattle.pciplan_cli.specs.Asked.{IsTaskOf, IsRefusedFor};
 ghost use Rattle.pciplan_cli.specs.FaultsAsked.{is_given};
 
-use crate::option_words::{ranges_of, roots_of, words_of};
-use pci_base::space::Space;
+use crate::beside::beside_of;
 use pci_model::words::Words;
 use pciplan_tasks::failure::Failure;
 use pciplan_tasks::task::{HostLists, Task};
@@ -28,21 +27,26 @@ pub fn faults_of(alloc: Global, asked: &FaultsWords<'_>) -> Result<Task, Failure
     ensures { MatchResult result (IsTaskOf (Asked.Faults asked.now))
         (IsRefusedFor (Asked.Faults asked.now)) }
 {
-    let roots = roots_of(asked.root).ok_or(Failure::Root)?;
-    let words = words_of(asked.model)?;
-    let host = HostLists {
-        io: ranges_of(alloc, &roots, asked.host_io, Space::Io)?,
-        mem: ranges_of(alloc, &roots, asked.host_mem, Space::Mem)?,
-    };
+    let said = beside_of(
+        alloc,
+        asked.root,
+        asked.model,
+        asked.host_io,
+        asked.host_mem,
+    )?;
     let why = asked.why;
-    if is_given(words, &host) {
+    if is_given(said.words, &said.host) {
         Ok(Task::FaultsGiven {
-            roots,
-            words,
-            host,
+            roots: said.roots,
+            words: said.words,
+            host: said.host,
             why,
         })
     } else {
-        Ok(Task::Faults { roots, words, why })
+        Ok(Task::Faults {
+            roots: said.roots,
+            words: said.words,
+            why,
+        })
     }
 }

@@ -11,6 +11,7 @@
 #![tactic(auto)]
 
 pub mod asked;
+mod beside;
 pub mod faults_asked;
 pub mod invocation;
 mod map_asked;
