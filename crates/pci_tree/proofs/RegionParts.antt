@@ -11,7 +11,7 @@ use Rattle.pci_spec.specs.Rom.{has_rom, rom_is_on, rom_at, RomDecodes}
 use Rattle.pci_spec.specs.Window.{WindowKind, IoWindow, MemoryWindow, PrefetchWindow, window_register, holds}
 use Rattle.pci_spec.specs.System.{Function, Space, Io, Memory, is_bridge, is_space_on, Claims, window_space}
 use Rattle.pci_spec.specs.System as system
-use Rattle.pci_spec.specs.Decoded.{IsDecodable, record_of, bridge_of, aligned_range, rom_size, decoded_rom, InRange}
+use Rattle.pci_spec.specs.Decoded.{IsDecodable, record_of, bridge_of, aligned_range, rom_size, InRange}
 use Rattle.pci_spec.specs.Decoded as decoded
 use Rattle.pci_spec.proofs.Members.{IsInPiece, in_nil, in_cons_cases, in_head, in_tail, in_flat_map_to, in_flat_map_from}
 use Rattle.pci_spec.proofs.Ranges.{rom_range-decodes, absent_rom}

@@ -8,7 +8,7 @@ use Rattle.pci_spec.specs.Slot.{Slot}
 use Rattle.pci_spec.specs.Header.{secondary_bus}
 use Rattle.pci_spec.specs.Text.{slot_text}
 use Rattle.pci_spec.specs.Window.{WindowKind, IoWindow, MemoryWindow, PrefetchWindow}
-use Rattle.pci_spec.specs.System.{System, Function, Space, Io, Memory, Claims, Leads, is_bridge, passes}
+use Rattle.pci_spec.specs.System.{System, Function, Space, Io, Memory, Leads, is_bridge, passes}
 use Rattle.pci_spec.specs.System as system
 use Rattle.pci_spec.specs.Fault.{Clash, Split, IsUnreached, ClaimsOnBus, address_in, named_region, named_regions}
 use Rattle.pci_spec.specs.Decoded.{Bridge, IsDecodable, record_of, bridge_of, decoded_windows}
