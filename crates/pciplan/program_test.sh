@@ -37,6 +37,35 @@ cp -R -- "$here"/cases "$here"/cases.awk "$room" || exit 1
 chmod 755 "$room" "$room/program" "$room/pciplan"
 cd "$room" || exit 1
 
+# a way of 255 bridges to bus FFh, where all pass its BAR, and where one is closed
+awk 'BEGIN {
+    for (closed = -1; closed < 255; closed += 51) {
+        print "# 255 bridges in a row"
+        for (bus = 0; bus < 255; bus++)
+            printf "%02x:00.0 bridge %02x %02x ff 04=%s 20=e000e000/fff0fff0\n", bus, bus, bus + 1,
+                bus == closed ? "0000" : "0002"
+        print "ff:00.0 04=0002 10=e0000000/fff00000"
+        print "$ check dump probe"
+        if (closed < 0)
+            print "yes\n"
+        else
+            printf "no 60 Unreached ff:00.0 10 mem 00000000e0000000 bridge %02x:00.0\n\n", closed
+    }
+}' >cases/deep.txt
+
+# Boards written as text, with what the program answers about each, run beside what follows, each file in a folder of its
+# own: it prints `FILE: N passed, M failed`. So do the scripts around the program: capture and conversion of texts, what
+# is installed, and the commands that pages show.
+for cases in cases/*.txt; do
+    mkdir "$cases.d"
+    ln -s ../../pciplan ../../cases "$cases.d"
+    (cd "$cases.d" && exec awk -f ../../cases.awk "$cases" >"../../$cases.told") &
+done
+scripts='capture install pages'
+for script in $scripts; do
+    "$here/${script}_test.sh" "$made" >$script.told &
+done
+
 mkdir folder
 : >empty.txt
 printf '00:01.0' >cut.txt
@@ -276,24 +305,25 @@ compare 'a dump on standard input' 0 "yes$lf" '' $?
 cat probe.txt | ./pciplan check dump.txt /dev/stdin >out 2>err
 compare 'a probe on standard input' 0 "yes$lf" '' $?
 mkfifo dump.pipe probe.pipe
-# writers_end: ends what still waits for the program to read it, where that failed.
+# writers_end PID..: ends what still waits for the program to read it, where that failed.
 writers_end() {
-    # shellcheck disable=SC2046
-    kill $(jobs -p) 2>/dev/null
-    wait
+    kill "$@" 2>/dev/null
+    wait "$@"
 }
 text_of old.check
 for size in 1000 4096 9000; do
     { head -c $size old.dump; sleep 0.1; tail -c +$((size + 1)) old.dump; } >dump.pipe &
+    first=$!
     cat old.probe >probe.pipe &
     case_of "texts through pipes, the dump cut after $size bytes" 0 "$text" '' check dump.pipe probe.pipe
-    writers_end
+    writers_end $first $!
 done
 text_of old.derived
 cat old.dump >dump.pipe &
+first=$!
 { head -c 1000 old.sizes; sleep 0.1; tail -c +1001 old.sizes; } >probe.pipe &
 case_of 'dump and sizes through pipes' 0 "$text" "pciplan: assumed 00:02.0 30$lf" probe dump.pipe probe.pipe
-writers_end
+writers_end $first $!
 case_of 'no dump, and a pipe that nobody writes' 4 '' "pciplan: dump: 1 Io$lf" check missing.txt probe.pipe
 cp dump.txt ' dump .txt '
 case_of 'a path with blanks' 0 "yes$lf" '' check ' dump .txt ' probe.txt
@@ -373,37 +403,18 @@ else
     echo 'skipped: standard output is full'
 fi
 
-# a way of 255 bridges to bus FFh, where all pass its BAR, and where one is closed
-awk 'BEGIN {
-    for (closed = -1; closed < 255; closed += 51) {
-        print "# 255 bridges in a row"
-        for (bus = 0; bus < 255; bus++)
-            printf "%02x:00.0 bridge %02x %02x ff 04=%s 20=e000e000/fff0fff0\n", bus, bus, bus + 1,
-                bus == closed ? "0000" : "0002"
-        print "ff:00.0 04=0002 10=e0000000/fff00000"
-        print "$ check dump probe"
-        if (closed < 0)
-            print "yes\n"
-        else
-            printf "no 60 Unreached ff:00.0 10 mem 00000000e0000000 bridge %02x:00.0\n\n", closed
-    }
-}' >cases/deep.txt
-
-# boards written as text, with what the program answers about each: each file prints `FILE: N passed, M failed`
+# what ran beside all this
+wait
 for cases in cases/*.txt; do
-    awk -f cases.awk "$cases" >told
-    cat told
+    cat "$cases.told"
     # shellcheck disable=SC2046
-    set -- $(tail -n 1 told)
+    set -- $(tail -n 1 "$cases.told")
     passed=$((passed + $2)) failed=$((failed + $4))
 done
-
-# the scripts around the program: capture and conversion of texts, what is installed, and the commands that pages show
-for script in capture install pages; do
-    "$here/${script}_test.sh" "$made" >told
-    grep -v '^ok: ' told | sed "s/^[0-9]* passed/${script}_test.sh: &/"
+for script in $scripts; do
+    grep -v '^ok: ' $script.told | sed "s/^[0-9]* passed/${script}_test.sh: &/"
     # shellcheck disable=SC2046
-    set -- $(tail -n 1 told)
+    set -- $(tail -n 1 $script.told)
     passed=$((passed + $1)) failed=$((failed + $3))
 done
 
