@@ -92,39 +92,38 @@ absent_is_fine bar v m =
 
 -- ---- the cases of a derived BAR
 
-abbrev derived_by : Bool → Bool → Bool → Bool → ℕ → ℕ → Derived
-derived_by told clear addresses enabled size least =
-    if told then Known size else if clear then (if addresses then OtherSize else Known 0) else if enabled then Untold least else Assumed least
+abbrev derived_by : Bool → Bool → Bool → ℕ → ℕ → Derived
+derived_by told clear addresses size least =
+    if told then Known size else if clear then (if addresses then OtherSize else Known 0) else Untold least
 
--- an enabled register has no fault only where the least size is assumed of it
+-- a register that is no habit's has no fault only where the least size is assumed of it
 pub none_assumed : (assuming : Assuming) (register : ℕ) → (if assumes_enabled assuming then None else Some (NoSize register)) ≡ None → assumes_enabled assuming ≡ true
 none_assumed assuming register none = elim (cases_Bool (assumes_enabled assuming)) [
   | inl any ↦ any
   | inr off ↦ absurd (none-some (NoSize register) (sym (sym (ap (λ b. if b then None else Some (NoSize register)) off) ∙ none)))
 ]
 
--- the least size is taken where the BAR isn't enabled, or where it is taken of enabled ones too
-abbrev pub Cases : Assuming → Bool → Bool → Bool → Bool → ℕ → ℕ → ℕ → Type 0
-Cases assuming told clear addresses enabled size least read_back =
+-- the least size is taken only where it is assumed of BARs too
+abbrev pub Cases : Assuming → Bool → Bool → Bool → ℕ → ℕ → ℕ → Type 0
+Cases assuming told clear addresses size least read_back =
     ((told ≡ true) × (read_back ≡ size))
     ⊎ ((clear ≡ true) × (addresses ≡ false) × (read_back ≡ 0))
-    ⊎ ((clear ≡ false) × ((enabled ≡ false) ⊎ (assumes_enabled assuming ≡ true)) × (read_back ≡ least))
+    ⊎ ((clear ≡ false) × (assumes_enabled assuming ≡ true) × (read_back ≡ least))
 
-derived_cases : (assuming : Assuming) (register : ℕ) (told clear addresses enabled : Bool) (size least : ℕ)
-    → register_fault assuming register (lower_half (derived_by told clear addresses enabled size least)) ≡ None
-    → Cases assuming told clear addresses enabled size least (read_back_of (derived_by told clear addresses enabled size least))
-derived_cases assuming register true clear addresses enabled size least none = inl (refl, refl)
-derived_cases assuming register false true true enabled size least none = absurd (cc)
-derived_cases assuming register false true false enabled size least none = inr (inl (refl, refl, refl))
-derived_cases assuming register false false addresses true size least none = inr (inr (refl, inr (none_assumed assuming register none), refl))
-derived_cases assuming register false false addresses false size least none = inr (inr (refl, inl refl, refl))
+derived_cases : (assuming : Assuming) (register : ℕ) (told clear addresses : Bool) (size least : ℕ)
+    → register_fault assuming register (lower_half (derived_by told clear addresses size least)) ≡ None
+    → Cases assuming told clear addresses size least (read_back_of (derived_by told clear addresses size least))
+derived_cases assuming register true clear addresses size least none = inl (refl, refl)
+derived_cases assuming register false true true size least none = absurd (cc)
+derived_cases assuming register false true false size least none = inr (inl (refl, refl, refl))
+derived_cases assuming register false false addresses size least none = inr (inr (refl, none_assumed assuming register none, refl))
 
-pub bar_cases : (assuming : Assuming) (register : ℕ) (line : ResourceLine) (width : ℕ) (enabled : Bool) (value : ℕ) → register_fault assuming register (lower_half (derived_bar line width enabled value)) ≡ None
-    → Cases assuming (tells_bar line width value) (value == 0) (is_of_register line) enabled (bar_of_size width value (address_count line)) (bar_of_size width value (encodings value))
-    (read_back_of (derived_bar line width enabled value))
+pub bar_cases : (assuming : Assuming) (register : ℕ) (line : ResourceLine) (width value : ℕ) → register_fault assuming register (lower_half (derived_bar line width value)) ≡ None
+    → Cases assuming (tells_bar line width value) (value == 0) (is_of_register line) (bar_of_size width value (address_count line)) (bar_of_size width value (encodings value))
+    (read_back_of (derived_bar line width value))
 unfolding derived_bar
-bar_cases assuming register line width enabled value none =
-    derived_cases assuming register (tells_bar line width value) (value == 0) (is_of_register line) enabled (bar_of_size width value (address_count line)) (bar_of_size width value (encodings value)) none
+bar_cases assuming register line width value none =
+    derived_cases assuming register (tells_bar line width value) (value == 0) (is_of_register line) (bar_of_size width value (address_count line)) (bar_of_size width value (encodings value)) none
 
 pub lower_read_back : (d : Derived) → read_back_of (lower_half d) ≡ read_back_of d % 2 ^ 32
 lower_read_back (Known read_back) = refl

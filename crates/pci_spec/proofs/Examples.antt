@@ -27,6 +27,7 @@ pub mod Phases
 pub mod DerivedProbes
 pub mod SizesTexts
 pub mod ProbesOf
+pub mod Marks
 pub mod ToldAlike
 pub mod TrueLines
 pub mod Sized

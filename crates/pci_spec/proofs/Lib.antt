@@ -57,3 +57,4 @@ pub mod ToldWindows
 pub mod DerivedSystems
 pub mod DerivedDumps
 pub mod Pairs
+pub mod Marks

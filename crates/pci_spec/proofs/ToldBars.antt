@@ -3,8 +3,8 @@ use Rattle.std.specs.Prelude.{◌⊎◌}
 use Rattle.std.proofs.Common.{◌≡◌, ◌≢◌, ℕ, zero, suc, ◌+◌, ◌-◌, ◌*◌, ◌/◌, ◌%◌, ◌^◌, ◌<◌, ◌≤◌, Bool, true, false, ◌&&◌, ◌||◌, not, List, None, inl, inr, refl, arith, sym, ◌∙◌, ap, subst}
 use Rattle.std.specs.Bool.{nat_lt, ◌==◌, if◌then◌else◌, IsTrue}
 use Rattle.std.proofs.lemmas.Bool.{and_parts, and_from, or_cases, both_ways, cases_Bool, eqb-true, eqb-false, eq-eqb, ne_eqb, lt-ltb, ltb-true, not-true, not-false, not_from_false}
-use Rattle.pci_spec.specs.Number.{has_bit, lowest_one, IsImage}
-use Rattle.pci_spec.specs.Header.{layout, command, bar_count, bar_register}
+use Rattle.pci_spec.specs.Number.{lowest_one, IsImage}
+use Rattle.pci_spec.specs.Header.{layout, bar_count, bar_register}
 use Rattle.pci_spec.specs.Bar.{BarKind, bar_at, bar_kind, bar_fault, bar_reading, first_broken, is_io, is_wide, starts_bar, whole_bar, encodings, is_lawful, has_lawful_size, is_within, has_bar}
 use Rattle.pci_spec.specs.System.{Function}
 use Rattle.pci_spec.specs.Machine.{without_low}
@@ -74,8 +74,8 @@ module _ (f : Function) (lines : List ResourceLine) (is : IsImage f.image) (good
     lawful : is_lawful (kind_at n) some k ≡ true
     read_back : back n ≡ sized_mask (kind_at n) (shown n) k
     aligned : without_low (2 ^ first_bit (kind_at n)) (shown n) % 2 ^ k ≡ 0
-    least : is_enabled image (shown n) ≡ true → 2 ^ k ≤ bar_size own n
-    size : assumes_enabled assuming ≡ false → is_enabled image (shown n) ≡ true → bar_size own n ≡ 2 ^ k
+    least : 2 ^ k ≤ bar_size own n
+    size : assumes_enabled assuming ≡ false → bar_size own n ≡ 2 ^ k
 
   module _ (n : ℕ) (less : n < count) (s : starts_bar image n ≡ true) where
     own_starts : starts_bar own n ≡ true
@@ -142,8 +142,8 @@ module _ (f : Function) (lines : List ResourceLine) (is : IsImage f.image) (good
           lawful = lawful.0;
           read_back = e ∙ ap (bar_of_size (bar_width image n) (shown n)) count_is ∙ mask_is k;
           aligned = sym (λ i. without_low (step i) (shown n) % count_is i) ∙ aligned_told (line_at lines n) (bar_width image n) (shown n) t;
-          least = λ on. omega (arith, own_size);
-          size = λ exact on. own_size;
+          least = omega (arith, own_size);
+          size = λ exact. own_size;
         }
 
     shows_some : (shown n == 0) ≡ false → bar_at own n ≢ 0
@@ -155,8 +155,8 @@ module _ (f : Function) (lines : List ResourceLine) (is : IsImage f.image) (good
         ap (λ m. if is_wide m then bar_at image n + 2 ^ 32 * bar_at image (n + 1) else bar_at image n) zeros in
         eqb-false (shown n) 0 some (shown_is ∙ whole ∙ value)
 
-    assumed_case : (shown n == 0) ≡ false → (is_enabled image (shown n) ≡ false) ⊎ (assumes_enabled assuming ≡ true) → back n ≡ bar_of_size (bar_width image n) (shown n) (encodings (shown n)) → IsSizedBar n
-    assumed_case some may e =
+    assumed_case : (shown n == 0) ≡ false → assumes_enabled assuming ≡ true → back n ≡ bar_of_size (bar_width image n) (shown n) (encodings (shown n)) → IsSizedBar n
+    assumed_case some any e =
         let there = shows_some some in
         let lawful = lawful-lowest_one (kind_at n) (whole_bar own own n) (rules there).sized in
         let least = least_lawful (kind_at n) (whole_bar own own n) (lowest_one (first_bit (kind_at n)) (whole_bar own own n)) lawful.0 in
@@ -168,22 +168,19 @@ module _ (f : Function) (lines : List ResourceLine) (is : IsImage f.image) (good
           lawful = least.1;
           read_back = e ∙ ap (bar_of_size (bar_width image n) (shown n)) step ∙ mask_is (first_bit (kind_at n));
           aligned = sym (λ i. without_low (step i) (shown n) % step i) ∙ aligned_by (is_io (shown n)) (shown n);
-          least = λ on.
+          least =
               let own_size : bar_size own n ≡ 2 ^ lowest_one (first_bit (kind_at n)) (whole_bar own own n) =
               ap (λ from. 2 ^ lowest_one from (whole_bar own own n)) (sym (first_bit-of_register (bar_at own n))) in
               let low = (lawful_bound (kind_at n) (whole_bar own own n) (lowest_one (first_bit (kind_at n)) (whole_bar own own n)) lawful.0).least in
               let more = pow_within (first_bit (kind_at n)) (lowest_one (first_bit (kind_at n)) (whole_bar own own n)) low in
               omega (arith, own_size, more);
-          size = λ exact on. elim may [
-            | inl off ↦ absurd (both_ways (is_enabled image (shown n)) off on)
-            | inr any ↦ absurd (both_ways (assumes_enabled assuming) exact any)
-          ];
+          size = λ exact. absurd (both_ways (assumes_enabled assuming) exact any);
         }
 
     choice : IsAbsentBar n ⊎ IsSizedBar n
     choice =
         let fault = sym (ap (register_fault assuming (bar_register n)) (starts_derived n s)) ∙ bar_no_fault image lines (layouts f good) assuming none n less in
-        elim (bar_cases assuming (bar_register n) (line_at lines n) (bar_width image n) (is_enabled image (shown n)) (shown n) fault) [
+        elim (bar_cases assuming (bar_register n) (line_at lines n) (bar_width image n) (shown n) fault) [
           | inl known ↦ inr (told_case known.0 known.1)
           | inr other ↦ elim other [
             | inl clear ↦ inl record {
@@ -339,7 +336,6 @@ module _ (f : Function) (lines : List ResourceLine) (is : IsImage f.image) (good
   record IsOn (n : ℕ) : Type 0 where
     less : n < count
     starts : starts_bar image n ≡ true
-    command_on : is_enabled image (shown n) ≡ true
 
   is_on : (n : ℕ) → enables_bar image n ≡ true → IsOn n
   is_on n on =
@@ -348,7 +344,6 @@ module _ (f : Function) (lines : List ResourceLine) (is : IsImage f.image) (good
       record {
         less = ltb-true n count inner.0;
         starts = inner.1;
-        command_on = ap (λ b. has_bit (command image) (if b then 0 else 1)) (io_of_whole (is_pair image n) (bar_at image n) (bar_at image (n + 1))) ∙ outer.1;
       }
 
   pub same_bars : (n : ℕ) → IsTrue (enables_bar image n) → has_bar own n ≡ has_bar new n
@@ -370,7 +365,7 @@ module _ (f : Function) (lines : List ResourceLine) (is : IsImage f.image) (good
       let h = is_on n on in
       elim (choice n h.less h.starts) [
         | inl b ↦ absurd (both_ways (has_bar own n) (b.gone on) there)
-        | inr b ↦ let least = b.least h.command_on in let size = size_new n h.less h.starts b in omega (arith, least, size)
+        | inr b ↦ let least = b.least in let size = size_new n h.less h.starts b in omega (arith, least, size)
       ]
 
   pub same_sizes : assumes_enabled assuming ≡ false → (n : ℕ) → IsTrue (enables_bar image n) → IsTrue (has_bar own n) → bar_size own n ≡ bar_size new n
@@ -378,5 +373,5 @@ module _ (f : Function) (lines : List ResourceLine) (is : IsImage f.image) (good
       let h = is_on n on in
       elim (choice n h.less h.starts) [
         | inl b ↦ absurd (both_ways (has_bar own n) (b.gone on) there)
-        | inr b ↦ b.size exact h.command_on ∙ sym (size_new n h.less h.starts b)
+        | inr b ↦ b.size exact ∙ sym (size_new n h.less h.starts b)
       ]

@@ -14,9 +14,9 @@ use Rattle.pci_spec.specs.Resource.{ResourceLine, line_at, rom_line, is_of_regis
 pub data Derived : Type 0 where
   -- a read back that follows from what is shown and told
   Known : (read_back : ℕ) → Derived
-  -- none is told and nothing enabled hangs on it: a read back by habit
+  -- of a ROM that is off, or a window that shows 0: a read back by habit
   Assumed : (read_back : ℕ) → Derived
-  -- the register is enabled, and no size is told: the read back of the least size
+  -- of a BAR, on or off, or a ROM that is on no size is told: the read back of the least size
   Untold : (read_back : ℕ) → Derived
   -- the register shows 0, and what is told isn't of it
   OtherSize : Derived
@@ -44,19 +44,18 @@ unfoldable pub bar_of_size : ℕ → ℕ → ℕ → ℕ
 bar_of_size width value size =
     without_low (encodings value) (2 ^ width - size) + value % encodings value
 
--- Of a BAR, by its line, how many bits it has, whether it is enabled and what it shows; its least size is 16 addresses, and 4 of I/O.
-unfoldable pub derived_bar : ResourceLine → ℕ → Bool → ℕ → Derived
-derived_bar line width enabled value =
+-- Of a BAR, by its line, how many bits it has and what it shows; its least size is 16 addresses, and 4 of I/O. Whether the
+-- BAR is on doesn't count: a size that is guessed for one that is off would become true once its address is written.
+unfoldable pub derived_bar : ResourceLine → ℕ → ℕ → Derived
+derived_bar line width value =
     if tells_bar line width value then Known (bar_of_size width value (address_count line))
     else if value == 0 then (if is_of_register line then OtherSize else Known 0)
-    else if enabled then Untold (bar_of_size width value (encodings value))
-    else Assumed (bar_of_size width value (encodings value))
+    else Untold (bar_of_size width value (encodings value))
 
 -- of the BAR at register n
 abbrev pub bar_derived : List ℕ → List ResourceLine → ℕ → Derived
 bar_derived image lines n =
-    derived_bar (line_at lines n) (bar_width image n) (is_enabled image (shown_bar image n))
-    (shown_bar image n)
+    derived_bar (line_at lines n) (bar_width image n) (shown_bar image n)
 
 -- ---- the ROM
 

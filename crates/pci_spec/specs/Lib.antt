@@ -23,6 +23,7 @@ pub mod Listing
 pub mod Resource
 pub mod Derived
 pub mod NoProbe
+pub mod Mark
 pub mod SizesText
 pub mod SizesForm
 pub mod SizesStops
@@ -46,3 +47,4 @@ pub mod SoundLaws
 pub mod RecordLaws
 pub mod ProbeLaws
 pub mod DerivedLaws
+pub mod MarkLaws

@@ -9,9 +9,9 @@ use Rattle.pci_spec.specs.Derived as derived
 pub data Assuming : Type 0 where
   -- of none: the probe is exact
   Nothing : Assuming
-  -- of those that aren't enabled
+  -- of ROMs that are off; windows that show 0 are taken as absent
   Disabled : Assuming
-  -- of enabled ones too
+  -- of BARs and of ROMs that are on, too
   Any : Assuming
 
 abbrev pub assumes_disabled : Assuming → Bool

@@ -10,6 +10,7 @@ use Rattle.pci_spec.specs.Resource.{ResourceLine}
 use Rattle.pci_spec.specs.Derived.{derived_probe, assumed_registers}
 use Rattle.pci_spec.specs.NoProbe.{Assuming, NoProbe, no_probe}
 use Rattle.pci_spec.specs.NoProbe as register
+use Rattle.pci_spec.specs.Mark.{AssumedRegister, assumed_at, mark}
 use Rattle.pci_spec.specs.SizesText.{SizesBlock, sized_slots}
 
 -- a function: where it stands, what it shows, and what is told of its registers
@@ -27,20 +28,16 @@ told_of (b ∷ blocks) (s ∷ sizes) =
 
 -- ---- the probe
 
--- its functions have the dump's slots, and no titles
+-- its functions have the dump's slots; their titles name the registers whose read backs are assumed
 abbrev pub probe_block : Told → Block
-probe_block f = record { slot = f.slot; title = None; image = derived_probe f.image f.lines }
+probe_block f = record {
+  slot = f.slot;
+  title = mark (assumed_registers f.image f.lines);
+  image = derived_probe f.image f.lines;
+}
 
 abbrev pub probe_of : List Block → List SizesBlock → List Block
 probe_of dump sizes = map probe_block (told_of dump sizes)
-
--- a register whose read back is assumed
-pub record AssumedRegister : Type 0 where
-  pub slot : Slot
-  pub register : ℕ
-
-abbrev pub assumed_at : Slot → ℕ → AssumedRegister
-assumed_at slot register = record { slot = slot; register = register }
 
 abbrev pub assumed_in : Told → List AssumedRegister
 assumed_in f = map (assumed_at f.slot) (assumed_registers f.image f.lines)

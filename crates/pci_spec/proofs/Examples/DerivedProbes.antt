@@ -79,7 +79,23 @@ ports_of_an_ide_channel : of_device 0x0001 [] (lines 0 (line 0x1f0 0x1f7 0x110))
 unfolding some_from has_size tells_bar tells_rom bar_of_size derived_bar derived_rom window_read_back bar_register_derived window_register_derived register_derived assumed_registers first_at no_probe
 ports_of_an_ide_channel = refl
 
+a_bar_of_32_bits_that_was_never_placed_above_others : of_device 0x0000 [] (lines 3 (line 0x0 0x3ffffff 0x200)) ≡ found (only 3 0xfc000000)
+unfolding some_from has_size tells_bar tells_rom bar_of_size derived_bar derived_rom window_read_back bar_register_derived window_register_derived register_derived assumed_registers first_at no_probe
+a_bar_of_32_bits_that_was_never_placed_above_others = refl
+
+a_bar_of_64_bits_that_was_never_placed : of_device 0x0000 ((0x18, 0xc) ∷ []) (lines 2 (line 0x0 0x3ffffff 0x20c)) ≡ found (set (only 2 0xfc00000c) 3 0xffffffff)
+unfolding some_from has_size tells_bar tells_rom bar_of_size derived_bar derived_rom window_read_back bar_register_derived window_register_derived register_derived assumed_registers first_at no_probe
+a_bar_of_64_bits_that_was_never_placed = refl
+
 -- ---- BARs of which no size is told
+
+a_size_of_another_encoding_than_the_register_shows : refused (NoSize 0x18) (of_device 0x0000 ((0x18, 0xc) ∷ []) (lines 2 (line 0x0 0x3ffffff 0x200)))
+unfolding some_from has_size tells_bar tells_rom bar_of_size derived_bar derived_rom window_read_back bar_register_derived window_register_derived register_derived assumed_registers first_at no_probe
+a_size_of_another_encoding_than_the_register_shows = refl
+
+a_size_from_0_of_no_power_of_two : refused (OtherSize 0x10) (of_device 0x0000 [] (lines 0 (line 0x0 0x2ffffff 0x200)))
+unfolding some_from has_size tells_bar tells_rom bar_of_size derived_bar derived_rom window_read_back bar_register_derived window_register_derived register_derived assumed_registers first_at no_probe
+a_size_from_0_of_no_power_of_two = refl
 
 an_enabled_bar_with_no_line : refused (NoSize 0x10) (of_device 0x0002 ((0x10, 0xe0000000) ∷ []) (lines 0 no_line))
 unfolding some_from has_size tells_bar tells_rom bar_of_size derived_bar derived_rom window_read_back bar_register_derived window_register_derived register_derived assumed_registers first_at no_probe
@@ -101,11 +117,11 @@ an_enabled_bar_with_fixed_ports : refused (NoSize 0x10) (of_device 0x0001 ((0x10
 unfolding some_from has_size tells_bar tells_rom bar_of_size derived_bar derived_rom window_read_back bar_register_derived window_register_derived register_derived assumed_registers first_at no_probe
 an_enabled_bar_with_fixed_ports = refl
 
-a_bar_that_is_not_enabled : of_device 0x0000 ((0x10, 0xe0000000) ∷ []) (lines 0 no_line) ≡ assumed (only 0 0xfffffff0) (0x10 ∷ [])
+a_bar_that_is_not_enabled : refused (NoSize 0x10) (of_device 0x0000 ((0x10, 0xe0000000) ∷ []) (lines 0 no_line))
 unfolding some_from has_size tells_bar tells_rom bar_of_size derived_bar derived_rom window_read_back bar_register_derived window_register_derived register_derived assumed_registers first_at no_probe
 a_bar_that_is_not_enabled = refl
 
-an_io_bar_that_is_not_enabled : of_device 0x0002 ((0x14, 0xc001) ∷ []) (lines 0 no_line) ≡ assumed (only 1 0xfffffffd) (0x14 ∷ [])
+an_io_bar_that_is_not_enabled : refused (NoSize 0x14) (of_device 0x0002 ((0x14, 0xc001) ∷ []) (lines 0 no_line))
 unfolding some_from has_size tells_bar tells_rom bar_of_size derived_bar derived_rom window_read_back bar_register_derived window_register_derived register_derived assumed_registers first_at no_probe
 an_io_bar_that_is_not_enabled = refl
 

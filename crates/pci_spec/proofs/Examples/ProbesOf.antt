@@ -6,8 +6,9 @@ use Rattle.pci_spec.specs.Text.{Block}
 use Rattle.pci_spec.specs.Resource.{ResourceLine, no_line, has_size, tells_bar, tells_rom}
 use Rattle.pci_spec.specs.Derived.{bar_of_size, derived_bar, derived_rom, window_read_back, bar_register_derived, window_register_derived, register_derived, derived_probe, assumed_registers}
 use Rattle.pci_spec.specs.NoProbe.{Assuming, Nothing, Disabled, first_at, no_probe}
+use Rattle.pci_spec.specs.Mark.{spelled, assumed_at}
 use Rattle.pci_spec.specs.SizesText.{SizesBlock}
-use Rattle.pci_spec.specs.ProbeOf.{ProbeFault, SlotsDiffer, NoVendor, HeaderKind, NoSize, OtherSize, first_of, probe_fault, probe_of, assumed_of, assumed_at, probe_fault_text, assumed_text}
+use Rattle.pci_spec.specs.ProbeOf.{ProbeFault, SlotsDiffer, NoVendor, HeaderKind, NoSize, OtherSize, first_of, probe_fault, probe_of, assumed_of, probe_fault_text, assumed_text}
 use Rattle.pci_spec.proofs.Examples.Samples.{put, puts, blank, slot, read_backs}
 use Rattle.pci_spec.proofs.Examples.DerivedProbes.{line, lines}
 
@@ -21,6 +22,10 @@ told device lines = record { slot = slot 0 device 0; lines = lines }
 -- a device with its Command and a memory BAR; lines that tell 4 KB of it, and none
 abbrev bar : ℕ → ℕ → List ℕ
 bar command value = puts ((0x10, value) ∷ []) (blank 0 command)
+
+-- a device with a ROM alone
+abbrev rom : ℕ → ℕ → List ℕ
+rom command value = puts ((0x30, value) ∷ []) (blank 0 command)
 
 abbrev sized : List ResourceLine
 sized = lines 0 (line 0xe0000000 0xe0000fff 0x40200)
@@ -82,11 +87,15 @@ the_lower_slot_is_named : fault_of Disabled (bar 2 0) (lines 0 (line 0xe0000000 
 unfolding some_from has_size tells_bar tells_rom bar_of_size derived_bar derived_rom window_read_back bar_register_derived window_register_derived register_derived first_at no_probe first_of probe_fault
 the_lower_slot_is_named = refl
 
-all_is_derived : fault_of Disabled (bar 2 0xe0000000) sized (bar 0 0xe0000000) untold ≡ None
+no_size_is_told_of_a_bar_that_is_off : fault_of Disabled (bar 2 0xe0000000) sized (bar 0 0xe0000000) untold ≡ Some (NoSize (slot 0 2 0) 0x10)
+unfolding some_from has_size tells_bar tells_rom bar_of_size derived_bar derived_rom window_read_back bar_register_derived window_register_derived register_derived first_at no_probe first_of probe_fault
+no_size_is_told_of_a_bar_that_is_off = refl
+
+all_is_derived : fault_of Disabled (bar 2 0xe0000000) sized (rom 0 0xfebe0000) untold ≡ None
 unfolding some_from has_size tells_bar tells_rom bar_of_size derived_bar derived_rom window_read_back bar_register_derived window_register_derived register_derived first_at no_probe first_of probe_fault
 all_is_derived = refl
 
-an_exact_probe_assumes_nothing : fault_of Nothing (bar 2 0xe0000000) sized (bar 0 0xe0000000) untold ≡ Some (NoSize (slot 0 2 0) 0x10)
+an_exact_probe_assumes_nothing : fault_of Nothing (bar 2 0xe0000000) sized (rom 0 0xfebe0000) untold ≡ Some (NoSize (slot 0 2 0) 0x30)
 unfolding some_from has_size tells_bar tells_rom bar_of_size derived_bar derived_rom window_read_back bar_register_derived window_register_derived register_derived first_at no_probe first_of probe_fault
 an_exact_probe_assumes_nothing = refl
 
@@ -98,10 +107,11 @@ dump = shown 1 (bar 0 0xe0000000) ∷ record { slot = slot 0 2 0; title = Some (
 abbrev sizes : List SizesBlock
 sizes = told 1 sized ∷ told 2 untold ∷ []
 
-a_probe_has_no_titles : probe_of dump sizes
-    ≡ shown 1 (read_backs ((0x10, 0xfffff000) ∷ [])) ∷ shown 2 (read_backs ((0x10, 0xfffffff0) ∷ (0x30, 0xfffff800) ∷ [])) ∷ []
-unfolding some_from has_size tells_bar tells_rom bar_of_size derived_bar derived_rom window_read_back bar_register_derived window_register_derived register_derived derived_probe
-a_probe_has_no_titles = refl
+titles_name_what_is_assumed : probe_of dump sizes
+    ≡ shown 1 (read_backs ((0x10, 0xfffff000) ∷ []))
+    ∷ record (shown 2 (read_backs ((0x10, 0xfffffff0) ∷ (0x30, 0xfffff800) ∷ []))) { title = Some (codes "assumed 10,30") } ∷ []
+unfolding some_from has_size tells_bar tells_rom bar_of_size derived_bar derived_rom window_read_back bar_register_derived window_register_derived register_derived derived_probe assumed_registers spelled
+titles_name_what_is_assumed = refl
 
 registers_of_all_functions : assumed_of (shown 0 (bar 0 0xe0000000) ∷ dump) (told 0 untold ∷ sizes)
     ≡ assumed_at (slot 0 0 0) 0x10 ∷ assumed_at (slot 0 2 0) 0x10 ∷ assumed_at (slot 0 2 0) 0x30 ∷ []
