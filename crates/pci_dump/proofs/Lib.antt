@@ -13,3 +13,5 @@ pub mod RowLine
 pub mod SixteenLanes
 pub mod TitleRuns
 pub mod Tails
+mod Marks
+mod NamedBlocks

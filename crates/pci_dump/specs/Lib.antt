@@ -10,3 +10,4 @@ pub mod State
 pub mod Fill
 pub mod Front
 pub mod Begun
+pub mod Marks

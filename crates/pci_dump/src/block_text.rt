@@ -19,7 +19,7 @@ pub(crate) const BLOCK_MAX: usize = SLOT_LEN + 1 + TITLE_MAX + 1 + LINES_LEN;
 pub(crate) type Text = ArrayVec<u8, BLOCK_MAX>;
 
 /// Two hex digits.
-fn put_byte(text: &mut Text, byte: u8)
+pub(crate) fn put_byte(text: &mut Text, byte: u8)
     requires { array_vec_len text.old + 2 ≤ BLOCK_MAX }
     ensures text { text.new.items ≡ text.old.items ++ hex_byte byte }
     ensures len { array_vec_len text.new ≡ array_vec_len text.old + 2 }
@@ -42,7 +42,7 @@ fn put_slot(text: &mut Text, slot: Slot)
 }
 
 /// Bytes as they are.
-fn put_bytes(text: &mut Text, bytes: &[u8])
+pub(crate) fn put_bytes(text: &mut Text, bytes: &[u8])
     requires { array_vec_len text.old + length bytes.now ≤ BLOCK_MAX }
     ensures text { text.new.items ≡ text.old.items ++ bytes.now }
     ensures len { array_vec_len text.new ≡ array_vec_len text.old + length bytes.now }

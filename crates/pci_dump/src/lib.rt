@@ -21,6 +21,7 @@ pub mod block;
 mod block_text;
 pub mod dump;
 mod lanes;
+pub mod mark;
 mod parse;
 pub mod read_fault;
 pub mod reader;

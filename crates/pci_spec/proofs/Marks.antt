@@ -27,6 +27,7 @@ abbrev IsOfTitle : ℕ → Type 0
 IsOfTitle c = IsTrue (is_title_byte c)
 
 pub digit_reads : (d : ℕ) → d < 16 → digit (hex_digit d) ≡ Some d
+unfolding digit
 digit_reads d small = some_number (digit (hex_digit d)) d (agree_below_at (λ d. is_number (digit (hex_digit d)) d) (λ _. true) 16 d refl small)
 
 find_is : {X : Type 0} (p : X → Bool) (xs : List X) (x : X) → find p xs ≡ Some x → (p x ≡ true) × Contains xs x
@@ -40,7 +41,8 @@ find_is p (y ∷ ys) x h = elim (cases_Bool (p y)) [
       (more.0, in_tail y ys x more.1)
 ]
 
-digit_is : (c d : ℕ) → digit c ≡ Some d → (d < 16) × (c ≡ hex_digit d)
+pub digit_is : (c d : ℕ) → digit c ≡ Some d → (d < 16) × (c ≡ hex_digit d)
+unfolding digit
 digit_is c d h =
     let found = find_is (λ d. hex_digit d == c) (range_with_len 0 16) d h in
     let low = (in_range_to 0 16 d found.1).1 in

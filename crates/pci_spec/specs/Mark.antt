@@ -17,7 +17,7 @@ mark (register ∷ more) = Some (codes "assumed" ++ spelled 32 (register ∷ mor
 -- ---- what a title names
 
 -- the number of a hex digit in lower case
-abbrev pub digit : ℕ → Option ℕ
+unfoldable pub digit : ℕ → Option ℕ
 digit c = find (λ d. hex_digit d == c) (range_with_len 0 16)
 
 -- the number of two digits
