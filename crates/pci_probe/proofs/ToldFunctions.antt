@@ -8,7 +8,8 @@ use Rattle.pci_spec.specs.Slot.{Slot, IsRising, slot_number}
 use Rattle.pci_spec.specs.Text.{Block, IsDump, slots_of}
 use Rattle.pci_spec.specs.Stops.{IsAboveLast, last_slot}
 use Rattle.pci_spec.specs.SizesText.{SizesBlock, sized_slots}
-use Rattle.pci_spec.specs.ProbeOf.{Told, AssumedRegister, told_of, probe_block, assumed_in}
+use Rattle.pci_spec.specs.ProbeOf.{Told, told_of, probe_block, assumed_in}
+use Rattle.pci_spec.specs.Mark.{AssumedRegister}
 use Rattle.pci_spec.proofs.Pairing.{above_all}
 use Rattle.pci_machine.proofs.Targets.{map-map}
 use Rattle.pci_probe.specs.Derivation.{told}

@@ -6,9 +6,9 @@
 pub enum Assuming {
     /// Of none: the probe is exact.
     Nothing,
-    /// Of those that aren't enabled.
+    /// Of ROMs that are off.
     Disabled,
-    /// Of enabled ones too. A fault that such a probe shows is there whatever the sizes are; where it shows none, there may
+    /// Of BARs and of ROMs that are on, too. A fault that such a probe shows is there whatever the sizes are; where it shows none, there may
     /// be some.
     Any,
 }
@@ -18,7 +18,7 @@ impl Assuming {
     ghost use Rattle.pci_spec.specs.NoProbe.{assumes_disabled, assumes_enabled};
     ghost use Rattle.pci_probe.specs.Assuming.{assuming_of};
 
-    /// Whether it is assumed of a register that isn't enabled.
+    /// Whether it is assumed of a ROM that is off.
     pub(crate) fn of_disabled(self) -> bool
         ensures { result ≡ assumes_disabled (assuming_of self) }
     {
@@ -28,7 +28,7 @@ impl Assuming {
         }
     }
 
-    /// Whether it is assumed of an enabled register.
+    /// Whether it is assumed of a BAR or of a ROM that is on.
     pub(crate) fn of_enabled(self) -> bool
         ensures { result ≡ assumes_enabled (assuming_of self) }
     {

@@ -11,8 +11,7 @@ ghost use Rattle.pci_probe.specs.Derived.{derived_of};
 use super::derived::Derived;
 use super::line::ResourceLine;
 use pci_base::image::Image;
-use pci_base::offset::{BASE_ADDRESS, COMMAND};
-use pci_base::space::Space;
+use pci_base::offset::BASE_ADDRESS;
 use pci_image::bar::{is_io, is_wide};
 use pci_image::layout::Layout;
 
@@ -82,24 +81,19 @@ fn of_size(wide: bool, value: u64, size: u64) -> u64
 
 /// What is derived for a BAR that shows a value.
 #[tactic(auto, unfolding(pci_spec::specs::Derived::derived_bar))]
-fn derived(line: ResourceLine, wide: bool, enabled: bool, value: u64) -> Derived
-    ensures { derived_of result ≡ spec.derived_bar line (if wide then 64 else 32) enabled value }
+fn derived(line: ResourceLine, wide: bool, value: u64) -> Derived
+    ensures { derived_of result ≡ spec.derived_bar line (if wide then 64 else 32) value }
 {
     if let Some(size) = told_size(line, wide, value) {
         return Derived::Known(of_size(wide, value, size));
     }
-    if value == 0 {
-        return if line.is_of_register() {
-            Derived::OtherSize
-        } else {
-            Derived::Known(0)
-        };
+    if value != 0 {
+        return Derived::Untold(of_size(wide, value, encodings(value)));
     }
-    let least = of_size(wide, value, encodings(value));
-    if enabled {
-        Derived::Untold(least)
+    if line.is_of_register() {
+        Derived::OtherSize
     } else {
-        Derived::Assumed(least)
+        Derived::Known(0)
     }
 }
 
@@ -110,9 +104,7 @@ pub fn bar(image: &Image, line: ResourceLine, layout: Layout, n: u8) -> Derived
     // no header has more BAR registers
     requires few { n < 6 }
     ensures { derived_of result
-        ≡ spec.derived_bar line (spec.bar_width image.now.0 n)
-        (spec.is_enabled image.now.0 (spec.shown_bar image.now.0 n))
-        (spec.shown_bar image.now.0 n) }
+        ≡ spec.derived_bar line (spec.bar_width image.now.0 n) (spec.shown_bar image.now.0 n) }
 {
     let register = BASE_ADDRESS + 4 * n;
     let low = image.u32(register);
@@ -122,6 +114,5 @@ pub fn bar(image: &Image, line: ResourceLine, layout: Layout, n: u8) -> Derived
     } else {
         low.into()
     };
-    let space = if is_io(value) { Space::Io } else { Space::Mem };
-    derived(line, wide, space.is_on(image.u16(COMMAND)), value)
+    derived(line, wide, value)
 }

@@ -5,9 +5,9 @@
 pub enum Derived {
     /// It follows from what is shown and told.
     Known(u64),
-    /// Nothing tells it and nothing enabled hangs on it: this is assumed.
+    /// Of a ROM that is off or a window that shows 0 nothing tells it: this is assumed.
     Assumed(u64),
-    /// The register is enabled, and no size is told: the read back of the least size.
+    /// No size is told of a BAR, or of a ROM that is on: the read back of the least size.
     Untold(u64),
     /// 33: the register shows 0, and what is told of it has another encoding or size.
     OtherSize,

@@ -4,9 +4,10 @@
 //! Linux sizes every register as it boots, and shows what it found in sysfs: a file `resource` with a
 //! line for each BAR register and for the ROM. [`probe::probe_of`] makes the probe of a dump by the
 //! lines of its functions, one function after another ([`derive::derive`]) and register by register
-//! ([`register::register`]); nothing is written to a device. Where no size is told of a register that
-//! isn't enabled, the least is assumed, and the register is named; where the register is enabled,
-//! there is no probe, unless that may be assumed of any ([`Assuming`]).
+//! ([`register::register`]); nothing is written to a device. Where no size is told of a ROM that is off,
+//! the least is assumed; a window that shows 0 is taken as absent. The titles of the probe name these
+//! registers. Where no size is told of a BAR, or of a ROM that is on, there is no probe, unless the
+//! least may be assumed of these too ([`Assuming`]).
 //!
 //! ```text
 //! let dump = read_dump(rt.alloc(), &mut Incoming::new(dump_file))?;
@@ -22,7 +23,6 @@
 //! ```
 #![tactic(auto)]
 
-pub mod assumed;
 pub mod assuming;
 mod bar;
 pub mod derive;
@@ -41,7 +41,6 @@ mod sizes_line;
 pub mod sizes_reader;
 mod window;
 
-pub use assumed::AssumedRegister;
 pub use assuming::Assuming;
 pub use derived::Derived;
 pub use fault::DeriveFault;

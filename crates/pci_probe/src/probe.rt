@@ -2,7 +2,7 @@
 ghost use Rattle.std.specs.Prelude.{◌≡◌, ℕ, List, ◌<◌, ◌++◌, ◌∷◌, [], length, map, None, Some, IfNone, IfSome, IfOk, IfErr, OnOk};
 ghost use Rattle.pci_spec.specs.Stops.{IsAboveLast, last_slot};
 ghost use Rattle.pci_spec.specs.NoProbe.{no_probe};
-ghost use Rattle.pci_spec.specs.ProbeOf.{assumed_at, assumed_in, assumed_of, first_of, identity_fault, probe_block, probe_fault};
+ghost use Rattle.pci_spec.specs.ProbeOf.{assumed_in, assumed_of, first_of, identity_fault, probe_block, probe_fault};
 ghost use Rattle.pci_spec.specs.ProbeOf as spec;
 ghost use Rattle.pci_image.specs.Header.{HasHeader};
 ghost use Rattle.pci_pair.specs.Pair.{IsPair};
@@ -10,7 +10,6 @@ ghost use Rattle.pci_probe.specs.Assuming.{assuming_of};
 ghost use Rattle.pci_probe.specs.ProbeFault.{IsFirstFault, fault_value};
 ghost use Rattle.pci_probe.specs.Derivation.{IsFaultOfFunction, told};
 
-use super::assumed::AssumedRegister;
 use super::assuming::Assuming;
 use super::derive::{derive, layout_of};
 use super::fault::DeriveFault;
@@ -18,10 +17,10 @@ use super::lone::lone_slot;
 use super::probe_fault::ProbeFault;
 use super::sizes::{Sizes, SizesBlock};
 use pci_base::image::{IMAGE_LEN, Image};
-use pci_base::memory::{OutOfMemory, Refused};
-use pci_base::slot::Slot;
+use pci_base::memory::Refused;
 use pci_dump::block::Block;
 use pci_dump::dump::Dump;
+use pci_dump::mark::{AssumedRegister, add_registers, mark};
 use std::alloc::{Allocator, Global};
 
 /// A probe, and the registers in it whose read backs are assumed, by rising slot and offset.
@@ -44,24 +43,6 @@ fn header_fault(dump: &[Block]) -> Option<ProbeFault>
         }
     }
     None
-}
-
-/// Puts the registers of the function at a slot after all that are there.
-fn add_assumed<A: Allocator>(
-    assumed: &mut Vec<AssumedRegister, A>,
-    slot: Slot,
-    registers: &[u8],
-) -> Result<(), OutOfMemory>
-    ensures { OnOk result
-        (assumed.new.items ≡ assumed.old.items ++ map (assumed_at slot) registers.now) }
-{
-    for register in registers {
-        assumed.push(AssumedRegister {
-            slot,
-            register: *register,
-        })?;
-    }
-    Ok(())
 }
 
 /// Derives the probe of one function more, which stands above all that there are.
@@ -88,15 +69,15 @@ fn add<A: Allocator>(
     };
     derivation.probe.push_next(Block {
         slot: block.slot,
-        title: None,
+        title: mark(registers.as_slice()),
         image,
     })?;
-    add_assumed(&mut derivation.assumed, block.slot, registers.as_slice())?;
+    add_registers(&mut derivation.assumed, block.slot, registers.as_slice())?;
     Ok(())
 }
 
-/// The probe of a dump, by what Linux tells of its functions' registers. It has the dump's slots and
-/// no titles, and goes with the dump as [`pci_pair::pair::pair`] asks.
+/// The probe of a dump, by what Linux tells of its functions' registers. It has the dump's slots, its titles name the
+/// registers that are assumed, and it goes with the dump as [`pci_pair::pair::pair`] asks.
 ///
 /// # Errors
 ///

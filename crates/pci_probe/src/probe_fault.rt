@@ -16,7 +16,7 @@ pub enum ProbeFault {
     NoVendor(Slot),
     /// 21: the header is neither of type 0 nor of type 1.
     HeaderKind(Slot),
-    /// 32: no size is told of an enabled register, or, of an exact probe, of any.
+    /// 32: no size is told of a BAR or of a ROM that is on, or, of an exact probe, of any register.
     NoSize(Slot, u8),
     /// 33: the register shows 0, and what is told of it has another encoding or size.
     OtherSize(Slot, u8),
