@@ -18,6 +18,8 @@ formats=$here/../../docs/FORMATS.md
 room=$(mktemp -d) || exit 1
 trap 'rm -rf "$room"' EXIT
 cd "$room" || exit 1
+# the log of this machine's kernel tells nothing of a sysfs of files
+export LOG=/dev/null
 
 passed=0 failed=0
 
@@ -133,6 +135,179 @@ ln -s "../../../${virtual#virtual/}" virtual/bus/pci/devices/0000:00:1e.0
 tr '\0' '\377' </dev/zero 2>/dev/null | dd bs=256 count=1 of=$virtual/config 2>/dev/null
 head -n 7 virtual/devices/pci0000:00/0000:00:00.0/resource >$virtual/resource
 captured 'a virtual function is left out' virtual 'capture.sh: left out 0000:00:1e.0, a virtual function' old 00
+
+# What the kernel's log tells of BARs that Linux couldn't place. Linux has cleared all lines of 02:02.0 in `failed`.
+cp -R old failed
+zeros='0x0000000000000000 0x0000000000000000 0x0000000000000000'
+yes "$zeros" | head -n 7 >failed/bus/pci/devices/0000:02:02.0/resource
+
+# sized NAME LINE..: with the log that standard input holds, the sizes of 02:02.0 begin with these lines, `-` for zeros and
+# else the last address and the flags; zeros follow, and all other sizes are as they were.
+sized() {
+    title=$1
+    shift
+    {
+        sed '/^02:02.0$/q' "$machines/old.sizes"
+        for line in "$@" - - - - - - -; do
+            [ "$line" = - ] && echo "$zeros" || echo "0x0000000000000000 0x${line% *} 0x0000000000000${line#* }"
+        done | head -n 7
+        echo
+    } >wanted
+    cat >log.txt
+    LOG=log.txt SYSFS=$room/failed "$machines/capture.sh" >out 2>err && ! [ -s err ] &&
+        cmp -s dump.txt "$machines/old.dump" && cmp -s sizes.txt wanted
+    told "capture: $title" $?
+}
+
+sized 'an empty log' </dev/null
+sized 'a log' '00000000000000ff 101' '00000000000000ff 200' '0000000003ffffff 20c' - '0000000000003fff 204' \
+    '000000000000000f 208' <<'END'
+[    0.410000] pci 0000:02:02.0: [10ec:8139] type 00 class 0x020000 conventional PCI endpoint
+[    0.412345] pci 0000:02:02.0: BAR 0 [io  0xc100-0xc1ff]
+[    0.500000] pci 0000:02:02.0: BAR 2 [mem size 0x04000000 64bit pref]: can't assign; no space
+[    0.500001] pci 0000:02:02.0: BAR 2 [mem size 0x04000000 64bit pref]: failed to assign
+[    0.500002] pci 0000:02:02.0: BAR 0 [io  size 0x0100]: can't assign; no space
+[    0.500003] pci 0000:02:02.0: BAR 1 [mem size 0x00000100]: failed to assign
+[    0.500004] pci 0000:02:02.0: BAR 4 [mem size 0x00004000 64bit]: failed to assign
+[    0.500005] rtl8139 0000:02:02.0: BAR 5 [mem size 0x00000010 pref]: failed to assign
+END
+sized 'a log of an older kernel' '00000000000000ff 101' '00000000000000ff 200' '0000000003ffffff 20c' <<'END'
+[    0.410000] pci 0000:02:02.0: [10ec:8139] type 00 class 0x020000
+[    0.412345] pci 0000:02:02.0: reg 0x10: [io  0xc100-0xc1ff]
+[    0.500000] pci 0000:02:02.0: BAR 2: no space for [mem size 0x04000000 64bit pref]
+[    0.500001] pci 0000:02:02.0: BAR 2: failed to assign [mem size 0x04000000 64bit pref]
+[    0.500002] pci 0000:02:02.0: BAR 0: no space for [io size 0x0100]
+[    0.500003] pci 0000:02:02.0: BAR 1: failed to assign [mem size 0x00000100]
+END
+sized 'a log with priorities, of a journal, and without times' '00000000000000ff 101' '00000000000000ff 200' \
+    '0000000003ffffff 20c' <<'END'
+kern  :info  : [    0.500002] pci 0000:02:02.0: BAR 0 [io  size 0x0100]: can't assign; no space
+Nov 27 10:13:29 desk kernel: pci 0000:02:02.0: BAR 1 [mem size 0x00000100]: failed to assign
+pci 0000:02:02.0: BAR 2 [mem size 0x04000000 64bit pref]: failed to assign
+END
+sized 'a log: the last line of a BAR counts' '0000000000000fff 101' '0000000000007fff 200' '000000000000ffff 204' <<'END'
+[    0.500000] pci 0000:02:02.0: BAR 0: no space for [io  size 0x0100]
+[    0.500001] pci 0000:02:02.0: BAR 1 [mem size 0x00000100 64bit pref]: failed to assign
+[    0.500002] pci 0000:02:02.0: BAR 2 [mem size 0x00003000]: failed to assign
+[    0.500003] pci 0000:02:02.0: BAR 3 [mem size 0x00004000]: failed to assign
+[    1.500000] pci 0000:02:02.0: BAR 0: no space for [io  size 0x1000]
+[    1.500001] pci 0000:02:02.0: BAR 1 [mem size 0x00008000]: failed to assign
+[    1.500002] pci 0000:02:02.0: BAR 2 [mem size 0x00010000 64bit]: failed to assign
+[    1.500003] pci 0000:02:02.0: BAR 3 [mem size 0x00005000]: failed to assign
+END
+sized 'a log: what is no size of a BAR' <<'END'
+[    0.500000] pci 0000:02:02.0: BAR 0: assigned [io  0xc100-0xc1ff]
+[    0.500001] pci 0000:02:02.0: BAR 1 [mem 0xfe643000-0xfe6430ff]: assigned
+[    0.500002] pci 0000:02:02.0: BAR 6 [mem size 0x00040000 pref]: failed to assign
+[    0.500003] pci 0000:02:02.0: ROM [mem size 0x00040000 pref]: failed to assign
+[    0.500004] pci 0000:02:02.0: VF BAR 2 [mem size 0x00004000 64bit]: failed to assign
+[    0.500005] pci 0000:02:02.0: BAR 7 [mem size 0x00004000 64bit]: failed to assign
+[    0.500006] pci 0000:02:02.0: BAR 13: no space for [io  size 0x1000]
+[    0.500007] pci 0000:02:02.0: BAR 14 [mem size 0x00100000]: failed to assign
+[    0.500008] pci 0000:02:02.0: bridge window [mem size 0x00200000]: failed to assign
+[    0.500009] pci 0000:02:02.1: BAR 0 [mem size 0x00004000]: failed to assign
+[    0.500010] pci 0000:02:03.0: BAR 0 [mem size 0x00004000]: failed to assign
+[    0.500011] pci 0001:02:02.0: BAR 0 [mem size 0x00004000]: failed to assign
+[    0.500012] pci 10000:02:02.0: BAR 0 [mem size 0x00004000]: failed to assign
+[    0.500013] pci 0000:02:02.0: BAR 3 [mem size 0x00004000
+[    0.500014] pci 0000:02:02.0: BAR 3 [??? size 0x00004000]: failed to assign
+END
+sized 'a log: sizes that are none, and the largest' - - - - - '7fffffffffffffff 20c' <<'END'
+[    0.500000] pci 0000:02:02.0: BAR 0 [mem size 0x00000000]: failed to assign
+[    0.500001] pci 0000:02:02.0: BAR 1 [mem size 0x04000001]: failed to assign
+[    0.500002] pci 0000:02:02.0: BAR 2 [mem size 0x8000000000000001 64bit]: failed to assign
+[    0.500003] pci 0000:02:02.0: BAR 3 [mem size 0x00003000]: failed to assign
+[    0.500004] pci 0000:02:02.0: BAR 4 [mem size 0x10000000000000000 64bit]: failed to assign
+[    0.500005] pci 0000:02:02.0: BAR 5 [mem size 0x8000000000000000 64bit pref]: failed to assign
+END
+sized 'a log: another device was in the slot before' - '00000000000000ff 200' <<'END'
+[    0.410000] pci 0000:02:02.0: [8086:10d3] type 00 class 0x020000
+[    0.500000] pci 0000:02:02.0: BAR 0: failed to assign [mem size 0x00020000]
+[    9.410000] pci 0000:02:02.0: [10ec:8139] type 00 class 0x020000
+[    9.410001] pci 0000:02:03.0: [10ec:8139] type 00 class 0x020000
+[    9.500000] pci 0000:02:02.0: BAR 1: failed to assign [mem size 0x00000100]
+END
+
+# where sysfs tells a size the log isn't asked
+cat >log.txt <<'END'
+[    0.500000] pci 0000:02:02.0: BAR 0 [io  size 0x0100]: failed to assign
+[    0.500001] pci 0000:02:02.0: BAR 1 [mem size 0x00000100]: failed to assign
+[    0.600000] pci 0000:02:02.0: BAR 0 [io  0xc100-0xc1ff]: assigned
+[    0.600001] pci 0000:02:02.0: BAR 1 [mem 0xfe643000-0xfe6430ff]: assigned
+END
+export LOG=log.txt
+captured 'a log: a device that was placed later' old '' old 00
+cat >log.txt <<'END'
+[    0.500000] pci 0000:02:02.0: BAR 0 [io  size 0x0020]: failed to assign
+[    0.500001] pci 0000:02:02.0: BAR 1 [mem size 0x04000000 64bit pref]: failed to assign
+END
+captured 'a log that tells otherwise than sysfs' old '' old 00
+
+# dmesg is asked where no log is named, and may be refused
+unread="capture.sh: the kernel's log can't be read; sizes of BARs that Linux couldn't place aren't known"
+LOG=missing.txt
+captured 'a log that is missing' old "$unread" old 00
+LOG=/
+captured 'a folder as log' old "$unread" old 00
+LOG=
+mkdir asked
+path=$PATH
+PATH=$room/asked:$PATH
+printf '#!/bin/sh\necho "dmesg: read kernel buffer failed: Operation not permitted" >&2\nexit 1\n' >asked/dmesg
+chmod 755 asked/dmesg
+captured 'a log that dmesg may not read' old "$unread" old 00
+
+# Two BARs read 0 as Linux cleared them: by their sizes in the log the probe is that of the machine.
+cp -R failed cleared
+printf '\001\000\000\000\000\000\000\000' |
+    dd of=cleared/bus/pci/devices/0000:02:02.0/config bs=1 seek=16 conv=notrunc 2>/dev/null
+sed '7!d' old/bus/pci/devices/0000:02:02.0/resource >rom.txt
+{ yes "$zeros" | head -n 6; cat rom.txt; } >cleared/bus/pci/devices/0000:02:02.0/resource
+{
+    echo '#!/bin/sh'
+    echo 'echo "[    0.500000] pci 0000:02:02.0: BAR 0: no space for [io  size 0x0100]"'
+    echo 'echo "[    0.500001] pci 0000:02:02.0: BAR 1: failed to assign [mem size 0x00000100]"'
+} >asked/dmesg
+SYSFS=$room/cleared "$machines/capture.sh" >out 2>err && ! [ -s err ]
+told 'capture: dmesg is asked' $?
+"$program" probe dump.txt sizes.txt >probe.txt 2>probe.err &&
+    "$program" probe "$machines/old.dump" "$machines/old.sizes" >own.txt 2>own.err &&
+    [ -s own.txt ] && cmp -s probe.txt own.txt && cmp -s probe.err own.err
+told 'capture: BARs that read 0, by the log: probe' $?
+"$program" settle dump.txt probe.txt --io 700-ffff --mem 80000000-febfffff --pref none --writes >out 2>err
+[ "$(sed -n '/^02:02.0 1/p' out)" = '02:02.0 10.4 0000c101
+02:02.0 14.4 fe600000' ]
+told 'capture: BARs that read 0, by the log: settle' $?
+PATH=$path LOG=/dev/null
+
+# what virtual functions decode is named: lines 8 to 13 of `resource`, where a physical function has some
+virtual_lines() {
+    echo 0x00000000fe604000 0x00000000fe607fff 0x0000000000140204
+    echo "$zeros"
+    echo "$zeros"
+    echo 0x0000000800000000 0x00000008000fffff 0x000000000014220c
+    echo "$zeros"
+    echo "$zeros"
+    echo 0x00000000fe000000 0x00000000fe0fffff 0x0000000000000200
+}
+for name in 0000:01:03.0 0000:02:02.0 0000:02:01.0; do
+    virtual_lines >>virtual/bus/pci/devices/$name/resource
+done
+echo 2 >virtual/bus/pci/devices/0000:01:03.0/sriov_numvfs
+echo 0 >virtual/bus/pci/devices/0000:02:01.0/sriov_numvfs
+left='capture.sh: left out 0000:00:1e.0, a virtual function'
+text='capture.sh: no text tells pciplan of virtual functions: settle may put a BAR onto their addresses'
+captured 'virtual functions: what one physical function has' virtual "$left
+capture.sh: virtual functions of 0000:01:03.0 decode mem 00000000fe604000-00000000fe607fff
+capture.sh: virtual functions of 0000:01:03.0 decode mem 0000000800000000-00000008000fffff
+$text" old 00
+echo 1 >virtual/bus/pci/devices/0000:02:02.0/sriov_numvfs
+captured 'virtual functions: what two physical functions have' virtual "$left
+capture.sh: virtual functions of 0000:01:03.0 decode mem 00000000fe604000-00000000fe607fff
+capture.sh: virtual functions of 0000:01:03.0 decode mem 0000000800000000-00000008000fffff
+capture.sh: virtual functions of 0000:02:02.0 decode mem 00000000fe604000-00000000fe607fff
+capture.sh: virtual functions of 0000:02:02.0 decode mem 0000000800000000-00000008000fffff
+$text" old 00
 
 # what is refused
 bytes='00:01.0: less than 256 bytes of configuration space can be read; root reads them all'
