@@ -523,11 +523,58 @@ not_converted 'the last line is missing' "02:02.0: $cut"
 head -n 1 lspci.txt >text
 not_converted 'a slot line alone' "00:00.0: $cut"
 
-# The two lines of docs/FORMATS.md: the first for texts of one domain, the second for domain 0001 of several.
+# A function whose slot line isn't seen isn't lost: its bytes are refused.
+stray='bytes without a slot line before them'
+at=$(grep -n '^00:01.0' lspci.txt | cut -d: -f1)
+for before in '# ' '> ' ' ' "$(printf '\t')" "$(printf '\357\273\277')"; do
+    sed "s/^00:01.0/$before&/" lspci.txt >text
+    not_converted "'$before' before a slot" "line $((at + 1)): $stray"
+    sed "1s/^/$before/" lspci.txt >text
+    not_converted "'$before' before the first slot" "line 2: $stray"
+done
+sed '/^00:01.0/d' lspci.txt >text
+not_converted 'no slot line' "line $at: $stray"
+sed '/^00:01.0/d' lspci.txt | kernel | ended >text
+not_converted 'no slot line, with -k and carriage returns' "line $(grep -n '^00: ' text | sed -n '2s/:.*//p'): $stray"
+sed 's/^02:02.0/02:02.8/' lspci.txt >text
+not_converted 'a slot of function 8' "line $(($(grep -n '^02:02.8' text | cut -d: -f1) + 1)): $stray"
+sed 1d lspci.txt >text
+not_converted 'bytes first' "line 1: $stray"
+grep '^[0-9a-f]0: ' lspci.txt >text
+not_converted 'bytes alone' "line 1: $stray"
+{ of_domain 0000 <lspci.txt; of_domain 0001 <"$machines/desk.dump" | sed '1s/^/# /'; } >text
+at=$(grep -n '^# 0001:' text | cut -d: -f1)
+not_converted 'no slot line, of another domain' "line $((at + 1)): $stray"
+not_converted 'no slot line, of the domain' "line $((at + 1)): $stray" 0001
+{ of_domain 0001 <"$machines/desk.dump" | sed '/^[4-9a-f]0: /d'; sed '1s/^/# /' lspci.txt; } >text
+not_converted 'no slot line, behind 64 bytes of another domain' "line $(($(grep -n '^# 00:' text | cut -d: -f1) + 1)): $stray"
+{ of_domain 0001 <"$machines/desk.dump" | sed '/^[4-9a-f]0: /d'; cat "$machines/old.dump"; } >text
+converted '64 bytes of another domain' "$machines/old.dump"
+
+# the paths of -P and -PP aren't slots
+path='a path of lspci -P in the place of a slot'
+sed 's/^01:/00:01.0\//' lspci.txt >text
+at=$(grep -n / text | sed -n '1s/:.*//p')
+not_converted '-Pxxx' "line $at: $path"
+sed 's/^01:/00:01.0\//' lspci.txt | of_domain 0000 >text
+not_converted '-DPxxx' "line $at: $path"
+sed 's/^01:/00:01.0\/01:/' lspci.txt >text
+not_converted '-PPxxx' "line $at: $path"
+records Slot <lspci.txt | sed 's/^\(Slot:.\)01:/\100:01.0\//' >text
+not_converted '-Pvmmxxx' "line $(grep -n '^Slot:.*/' text | sed -n '1s/:.*//p'): $path"
+{ of_domain 0000 <"$machines/old.dump"; sed 's/^01:/00:01.0\//' lspci.txt | of_domain 0001; } >text
+converted 'paths of another domain' "$machines/old.dump"
+
+# The two lines of docs/FORMATS.md: the first for texts of one domain, the second for domain 0001 of several; and what
+# stands before the first for -vm and -vmm.
 sed -n 's/^    \(sed -n .* lspci.txt | .*\) > dump.txt$/\1/p' "$formats" >lines
 [ "$(wc -l <lines)" -eq 2 ]
 told 'FORMATS.md: two lines' $?
 one=$(sed -n 1p lines) of_several=$(sed -n 2p lines)
+sed -n "s/^| \`-vm\`, \`-vmm\`.* after \`\(sed [^\`]*\)\`.*/\1/p" "$formats" >lines
+[ "$(wc -l <lines)" -eq 1 ]
+told 'FORMATS.md: a line for -vm and -vmm' $?
+slots=$(cat lines)
 for machine in desk old port roots; do
     titled $machine | kernel | verbose | extended | remarked | sed '$d' >text
     titled $machine | cut -b1-208 >titled.txt
@@ -536,6 +583,13 @@ for machine in desk old port roots; do
         sh -c "$one" >out && cmp -s out titled.txt
         told "FORMATS.md: $machine, one domain: $form" $?
     done
+    for word in Device Slot; do
+        titled $machine | records $word | kernel | extended >text
+        sh -c "$slots" <text >lspci.txt
+        sh -c "$one" >out && cmp -s out "$machines/$machine.dump"
+        told "FORMATS.md: $machine, -vm and -vmm: $word" $?
+    done
+    titled $machine | kernel | verbose | extended | remarked | sed '$d' >text
     { of_domain 0000 <text; of_domain 0001 <text; of_domain 10000 <text; } >lspci.txt
     sh -c "$of_several" >out && cmp -s out titled.txt
     told "FORMATS.md: $machine, a domain of several" $?
