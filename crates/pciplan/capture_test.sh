@@ -1,7 +1,7 @@
 #!/bin/sh
-# Tests the scripts that read dumps and sizes: machines/capture.sh over sysfs made of files, machines/convert.sh over what
-# lspci prints, both made from the dumps of machines/, and the lines of docs/FORMATS.md that cut such texts into form. A
-# line is printed for each case; the status is 1 where one differs.
+# Tests the scripts that read dumps and sizes: machines/capture.sh over sysfs made of files, machines/convert.sh and
+# machines/sizes_of_lspci.sh over what lspci prints, all made from the texts of machines/, and the lines of
+# docs/FORMATS.md that cut such texts into form. A line is printed for each case; the status is 1 where one differs.
 #
 # Usage: capture_test.sh [PROGRAM], by default out/pciplan beside this file, which `rt ci` and `rt run` make.
 set -u
@@ -564,6 +564,251 @@ records Slot <lspci.txt | sed 's/^\(Slot:.\)01:/\100:01.0\//' >text
 not_converted '-Pvmmxxx' "line $(grep -n '^Slot:.*/' text | sed -n '1s/:.*//p'): $path"
 { of_domain 0000 <"$machines/old.dump"; sed 's/^01:/00:01.0\//' lspci.txt | of_domain 0001; } >text
 converted 'paths of another domain' "$machines/old.dump"
+
+# listed MACHINE [-v]: prints what lspci -vvxxx does of a machine, with -v what -vxxx does, by its dump and what sysfs has
+# of its sizes: its regions, a bridge's windows, and a capability that lists regions of virtual functions.
+listed() {
+    awk -v one="${2-}" '
+        function number(hex,    i, n) {
+            for (i = 1; i <= length(hex); i++)
+                n = n * 16 + index("0123456789abcdef", substr(hex, i, 1)) - 1
+            return n + 0
+        }
+        function register(at,    i, n) {
+            for (i = 3; i >= 0; i--)
+                n = n * 256 + byte[at + i]
+            return n
+        }
+        # size N: as lspci writes it
+        function size(n,    unit) {
+            for (unit = 0; unit < 4 && n % 1024 == 0; unit++)
+                n /= 1024
+            return n ? " [size=" n substr("KMGT", unit, unit > 0) "]" : ""
+        }
+        # region BAR AT: the line of the register at this offset; 6 is the ROM. Where it shows 0, as those of an IDE
+        # channel do, the line has the kind that sysfs tells.
+        function region(bar, at,    first, shown, told, line) {
+            shown = register(at)
+            split(sysfs[slot " " bar], told, " ")
+            first = number(told[1])
+            if (first == 0 && shown == 0)
+                return
+            if (bar == 6)
+                line = "Expansion ROM at " substr(told[1], 9)
+            else if (shown % 2 || !shown && told[3] ~ /1[01].$/)
+                line = "I/O ports at " substr(told[1], 13)
+            else
+                line = "Memory at " substr(told[1], 9) " (" (shown % 8 == 4 ? 64 : 32) "-bit, " \
+                    (shown % 16 < 8 ? "non-" : "") "prefetchable)"
+            if (bar < 6 && one == "")
+                line = "Region " bar ": " line
+            print "\t" line (bar == 6 && !shown ? " [virtual]" : "") size(first ? number(told[2]) - first + 1 : 0)
+        }
+        FNR == 1 { text++ }
+        /^..:..\../ { slot = $1; bar = 0; rows = "" }
+        text == 1 {
+            gsub(/0x/, "")
+            if (NF == 3)
+                sysfs[slot " " bar++] = $0
+            next
+        }
+        NF == 17 {
+            rows = rows $0 "\n"
+            for (i = 2; i <= 17; i++)
+                byte[number(substr($1, 1, 2)) + i - 2] = number($i)
+        }
+        NF == 0 {
+            bridge = byte[14] % 128
+            print slot " Device Memory at fe000000: Vendor [1234:5678] (rev 02) (prog-if 00 [Normal decode])"
+            print "\tControl: I/O+ Mem+ BusMaster+ SpecCycle- MemWINV- VGASnoop- ParErr- Stepping- SERR+ FastB2B- DisINTx-"
+            for (bar = 0; bar < (bridge ? 2 : 6); bar++) {
+                region(bar, 16 + 4 * bar)
+                if (register(16 + 4 * bar) % 8 == 4)
+                    bar++
+            }
+            if (bridge) {
+                print "\tBus: primary=00, secondary=01, subordinate=02, sec-latency=0"
+                print "\tI/O behind bridge: 0000c000-0000cfff [size=4K] [16-bit]"
+                print "\tMemory behind bridge: fe600000-fe9fffff [size=4M] [32-bit]"
+            }
+            region(6, bridge ? 56 : 48)
+            print "\tCapabilities: [40] Single Root I/O Virtualization (SR-IOV)"
+            print "\t\tIOVCap:\tMigration-, Interrupt Message Number: 000"
+            print "\t\tRegion 0: Memory at 00000000fe604000 (64-bit, non-prefetchable)"
+            print "\tKernel driver in use: nvme"
+            print rows
+        }' "$machines/$1.sizes" "$machines/$1.dump"
+}
+
+# told_of MACHINE: its sizes as lspci lets them be known: the first address isn't kept, and of flags those of the space and
+# the encoding bits alone. Lines of 110 are the ports of IDE channels, one of 212 is the copy of a ROM.
+told_of() {
+    awk -v zeros="$zeros" '
+        function number(hex,    i, n) {
+            for (i = 3; i <= length(hex); i++)
+                n = n * 16 + index("0123456789abcdef", substr(hex, i, 1)) - 1
+            return n
+        }
+        /^0x/ && $3 !~ /(0000|0110|0212)$/ {
+            printf "0x%016x 0x%016x 0x0000000000000%s0%s\n", 0, number($2) - number($1), substr($3, 16, 1), substr($3, 18)
+            next
+        }
+        /^0x/ { $0 = zeros }
+        { print }' "$machines/$1.sizes"
+}
+
+# sizes NAME WANTED [WORD..]: the sizes that are in the file text are WANTED.
+sizes() {
+    title=$1 wanted=$2
+    shift 2
+    "$machines/sizes_of_lspci.sh" "$@" <text >out 2>err && ! [ -s err ] && cmp -s out "$wanted"
+    told "sizes: $title" $?
+}
+
+# no_sizes NAME MESSAGE [WORD..]: the file text is refused, and nothing is printed.
+no_sizes() {
+    title=$1 message=$2
+    shift 2
+    "$machines/sizes_of_lspci.sh" "$@" <text >out 2>err
+    [ $? -eq 1 ] && ! [ -s out ] && [ "$(cat err)" = "sizes_of_lspci.sh: $message" ]
+    told "sizes: $title" $?
+}
+
+for machine in desk old port roots; do
+    roots=00
+    [ $machine = roots ] && roots=00,40
+    told_of $machine >wanted.sizes
+    listed $machine >lspci.txt
+    for form in cat 'of_domain 0000' extended kernel remarked ended; do
+        $form <lspci.txt >text
+        sizes "$machine: -vvxxx: $form" wanted.sizes
+    done
+    "$machines/convert.sh" lspci.txt >dump.txt
+    "$machines/sizes_of_lspci.sh" lspci.txt >sizes.txt
+    judged "sizes of lspci: $machine" $machine $roots
+    listed "$machine" -v >text
+    sizes "$machine: -vxxx" wanted.sizes
+    sed '$d' lspci.txt >text
+    sizes "$machine: no empty line at the end" wanted.sizes
+    tr -d '\t' <lspci.txt >text
+    sizes "$machine: no blanks before lines" wanted.sizes
+    sed '/^[4-9a-f]0: /d' lspci.txt >text
+    sizes "$machine: 64 bytes a function" wanted.sizes
+    cp lspci.txt text
+    sizes "$machine: of a file" wanted.sizes 0000 ./lspci.txt
+done
+
+# what lspci 3.9 prints of a machine
+told_of port >wanted.sizes
+cp "$machines/port.lspci" text
+sizes 'port.lspci' wanted.sizes
+"$machines/convert.sh" text | sed 's/^\(..:..\..\) .*/\1/' | cmp -s - "$machines/port.dump"
+told 'convert: port.lspci' $?
+
+# one_of LINE..: a function with six BARs of 32 bits, whose lines of -v are these; the third register shows 0.
+one_of() {
+    echo '01:00.0 Device'
+    printf '\t%s\n' "$@"
+    sed -n -e '/^02:02.0/,$!d' -e 's/^\([12]0:\) .*/\1 00 00 00 f0 00 00 00 f1 00 00 00 00 00 00 00 f3/' \
+        -e 's/^20:.*/20: 00 00 00 f4 00 00 00 f5 00 00 00 00 00 00 00 00/' -e '/^[0-9a-f]0: /p' "$machines/old.dump"
+    echo
+}
+
+# wants LINE..: writes to `wanted` the sizes of 01:00.0, by the last addresses, `-` for zeros.
+wants() {
+    echo 01:00.0
+    for line in "$@" - - - - - - -; do
+        [ "$line" = - ] && echo "$zeros" || echo "0x0000000000000000 0x$line 0x0000000000000200"
+    done | head -n 7
+    echo
+}
+
+kind='(32-bit, non-prefetchable)'
+one_of "Region 0: Memory at f0000000 $kind [size=16]" "Region 1: Memory at f1000000 $kind [disabled] [size=512K]" \
+    "Region 2: Memory at <unassigned> $kind [size=16M]" "Region 3: Memory at f3000000 $kind [size=256G]" \
+    "Region 4: Memory at f4000000 $kind [size=8388608T]" "Region 5: Memory at f5000000 $kind [size=1T]" \
+    'Expansion ROM at fe460000 [disabled] [size=64K]' >text
+wants 000000000000000f 000000000007ffff 0000000000ffffff 0000003fffffffff 7fffffffffffffff 000000ffffffffff \
+    000000000000ffff >wanted
+sizes 'powers of two, and a register that shows 0' wanted
+sed 's/Region [0-5]: //' text >text.plain
+cp text.plain text
+wants 000000000000000f 000000000007ffff - 0000003fffffffff 7fffffffffffffff 000000ffffffffff 000000000000ffff >wanted
+sizes 'powers of two, of -v' wanted
+sed -e /256G/d -e 's/f4000000/f7000000/' text.plain >text
+wants 000000000000000f 000000000007ffff - - - 000000ffffffffff 000000000000ffff >wanted
+sizes 'a region that is missing, and one elsewhere, of -v' wanted
+memory="Memory at f0000000 $kind"
+one_of "Region 0: $memory [size=0]" "Region 1: $memory" "Region 2: $memory [virtual] [size=4K]" \
+    "Region 3: $memory [size=3M]" "Region 4: $memory [size=16777216T]" "Region 5: $memory [enhanced] [size=4K]" \
+    'Expansion ROM at 000c0000 [disabled] [size=128K]' >text
+wants >wanted
+sizes 'what is no size of a register' wanted
+
+one_of "Region 0: I/O ports at f000 [size=8]" "Region 1: Memory at f1000000 (32-bit, prefetchable) [size=4K]" \
+    "Region 2: I/O ports at 01f0 [size=8]" "Region 3: Memory at f3000000 (64-bit, non-prefetchable) [size=4K]" >text
+sizes 'regions of another kind than the register' wanted
+
+# An I/O BAR and one of 64 bits, which has two registers, by their encoding bits.
+{
+    echo '01:00.0 Device'
+    printf '\tRegion 0: I/O ports at c000 [size=256]\n\tRegion 1: Memory at 7f000000000 (64-bit, prefetchable) [size=64G]\n'
+    printf '\tRegion 3: Memory at f0000 (low-1M, non-prefetchable) [size=4K]\n'
+    one_of | sed -e 1,2d -e 's/^10: .*/10: 01 c0 00 00 0c 00 00 00 f0 07 00 00 02 00 0f 00/'
+} >text
+{
+    echo 01:00.0
+    echo 0x0000000000000000 0x00000000000000ff 0x0000000000000101
+    echo 0x0000000000000000 0x0000000fffffffff 0x000000000000020c
+    echo "$zeros"
+    echo 0x0000000000000000 0x0000000000000fff 0x0000000000000202
+    yes "$zeros" | head -n 3
+    echo
+} >wanted
+sizes 'encoding bits' wanted
+sed -i 's/Region [0-5]: //' text
+sizes 'encoding bits, of -v' wanted
+
+# no sizes at all: a text of zeros, and a remark
+sed 's/^0x.*/'"$zeros/" "$machines/old.sizes" >wanted
+"$machines/sizes_of_lspci.sh" "$machines/old.dump" >out 2>err && cmp -s out wanted &&
+    [ "$(cat err)" = 'sizes_of_lspci.sh: no sizes in the text; lspci prints them with -v' ]
+told 'sizes: no sizes at all' $?
+
+# what is refused
+listed old >lspci.txt
+: >text
+no_sizes 'an empty text' 'no function of domain 0000'
+cp lspci.txt text
+no_sizes 'no such domain' 'no function of domain 0001' 0001
+no_sizes 'two files' 'usage: sizes_of_lspci.sh [DOMAIN] [FILE]' one.txt two.txt
+no_sizes 'no such file' "missing.txt can't be read" missing.txt
+no_sizes 'no such file, and a domain' "missing.txt can't be read" 0000 missing.txt
+no_sizes 'a folder' "/ can't be read" /
+few='not all of the lines 00 to 30; lspci prints them with -xxx'
+sed '/^[0-9a-f]0: /d' lspci.txt >text
+no_sizes 'no bytes' "00:00.0: $few"
+sed '/^00:01.0/,/^$/{/^30: /d;}' lspci.txt >text
+no_sizes 'a line of bytes that is missing' "00:01.0: $few"
+sed '/^02:02.0/,/^$/{/^00: /d;}' lspci.txt >text
+no_sizes 'a line of bytes that is missing in the last function' "02:02.0: $few"
+sed '/^00:01.0/,/^$/s/^20: 00/20:/' lspci.txt >text
+no_sizes 'fifteen bytes' "line $(grep -n '^20:' text | sed -n '2s/:.*//p'): not sixteen bytes"
+sed '/^00:01.0/,/^$/s/^20: 00/20: 0g/' lspci.txt >text
+no_sizes 'no hex digit' "line $(grep -n '^20:' text | sed -n '2s/:.*//p'): not sixteen bytes"
+sed 's/^00:01.0/# &/' lspci.txt >text
+no_sizes 'a prompt before a slot' "line $(grep -n '^00: ' text | sed -n '2s/:.*//p'): $stray"
+sed 1d lspci.txt >text
+no_sizes 'bytes first' "line $(grep -n '^00: ' text | sed -n '1s/:.*//p'): $stray"
+sed 's/^01:/00:01.0\//' lspci.txt >text
+no_sizes 'a path of -P' "line $(grep -n '^00:01.0/' text | sed -n '1s/:.*//p'): $path"
+
+# several domains in one text
+told_of old >old.wanted
+told_of roots >roots.wanted
+{ listed roots | of_domain 0000; listed old | of_domain 0001; } >text
+sizes 'several domains: the first' roots.wanted
+sizes 'several domains: the second' old.wanted 0001
 
 # The two lines of docs/FORMATS.md: the first for texts of one domain, the second for domain 0001 of several; and what
 # stands before the first for -vm and -vmm.

@@ -16,7 +16,7 @@ trap 'rm -rf "$room"' EXIT
 mkdir "$room/bin" "$room/texts" "$room/steps" || exit 1
 printf '#!/bin/sh\nexec "%s" "$@"\n' "$made" >"$room/bin/pciplan"
 chmod 755 "$room/bin/pciplan"
-cp -- "$here"/data/*.txt "$here"/../../machines/*.* "$room/texts" || exit 1
+cp -- "$here"/data/*.txt "$here"/../../machines/*.* "$room/texts" && ln -s . "$room/texts/machines" || exit 1
 PATH=$room/bin:$PATH
 cd "$room/texts" || exit 1
 
