@@ -1,7 +1,7 @@
 #!/bin/sh
 # Tests the scripts that read dumps and sizes: machines/capture.sh over sysfs made of files, machines/convert.sh and
-# machines/sizes_of_lspci.sh over what lspci prints, all made from the texts of machines/, and the lines of
-# docs/FORMATS.md that cut such texts into form. A line is printed for each case; the status is 1 where one differs.
+# machines/sizes_of_lspci.sh over what lspci prints, all made from the texts of machines/, and the lines of README.md and
+# docs/FORMATS.md that do the same. A line is printed for each case; the status is 1 where one differs.
 #
 # Usage: capture_test.sh [PROGRAM], by default out/pciplan beside this file, which `rt ci` and `rt run` make.
 set -u
@@ -135,6 +135,17 @@ ln -s "../../../${virtual#virtual/}" virtual/bus/pci/devices/0000:00:1e.0
 tr '\0' '\377' </dev/zero 2>/dev/null | dd bs=256 count=1 of=$virtual/config 2>/dev/null
 head -n 7 virtual/devices/pci0000:00/0000:00:00.0/resource >$virtual/resource
 captured 'a virtual function is left out' virtual 'capture.sh: left out 0000:00:1e.0, a virtual function' old 00
+
+# The lines of README.md capture the same, with a sysfs of files in the place of /sys.
+sed -n '/^    export LC_ALL=C; S=/,/^    done 3>/s/^    //p' "$here/../../README.md" >capture.lines
+for machine in desk old port roots virtual; do
+    texts=$machines/$machine
+    [ $machine != virtual ] || texts=$machines/old
+    rm -f dump.txt sizes.txt
+    sed "s|=/sys/|=$room/$machine/|" capture.lines >lines
+    sh lines >out 2>err && ! [ -s out ] && ! [ -s err ] && cmp -s dump.txt "$texts.dump" && cmp -s sizes.txt "$texts.sizes"
+    told "README.md: the lines that capture: $machine" $?
+done
 
 # What the kernel's log tells of BARs that Linux couldn't place. Linux has cleared all lines of 02:02.0 in `failed`.
 cp -R old failed

@@ -313,7 +313,7 @@ example() {
     awk -v wanted="$1" '
         /^\.EX/ { number++; inside = 1; next }
         /^\.EE/ { inside = 0 }
-        inside && number == wanted { gsub(/\\-/, "-"); gsub(/\\\(aq/, "\047"); gsub(/\\e/, "\\"); print }' "$page"
+        inside && number == wanted { gsub(/\\-/, "-"); gsub(/\\\(aq/, "\047"); gsub(/\\\(ha/, "^"); gsub(/\\e/, "\\"); print }' "$page"
 }
 
 PATH=$room/usr/bin:$PATH

@@ -2,7 +2,7 @@
 # Runs the commands that pages show, as they stand there: in a block that is indented by four spaces, each line that
 # begins with `$ ` is a command, those behind it that begin with `> ` go on with it, and the others are what it prints on
 # both of its outputs. Blocks that don't begin with `$ ` aren't run. The Rattle that docs/APPLYING.md shows is looked for in
-# the crate that proves it.
+# the crate that proves it. The lines that capture a machine are the same in README.md and in the manual page.
 #
 # Usage: pages_test.sh PROGRAM [PAGE..]; README.md and docs/USING.md if none is said.
 set -u
@@ -45,6 +45,19 @@ for page; do
         fi
     done
 done
+# the lines that capture a machine, those of the manual page without its escapes
+sed -n '/^    export LC_ALL=C; S=/,/^    done 3>/s/^    //p' "$here/../../README.md" >../capture
+sed -n -e '/^export LC_ALL=C; S=/,/^done 3>/!d' -e 's/\\-/-/g' -e "s/\\\\(aq/'/g" -e 's/\\(ha/^/g' -e 's/\\e/\\/g' -e p \
+    "$here/../../docs/pciplan.1" >../capture.page
+name='pciplan.1: the lines of README.md that capture a machine'
+if [ -s ../capture ] && cmp -s ../capture ../capture.page; then
+    echo "ok: $name"
+    passed=$((passed + 1))
+else
+    echo "DIFFERS: $name"
+    diff ../capture ../capture.page
+    failed=$((failed + 1))
+fi
 flat() {
     tr -s ' \n' ' '
 }
