@@ -21,20 +21,41 @@ void pciplan_put(char character)
     used++;
 }
 
-static size_t captured_dump(uint8_t last)
+static size_t captured_dump(uint8_t first, uint8_t last)
 {
     text = dump;
     used = 0;
-    pciplan_capture_dump(0, last);
+    pciplan_capture_dump(first, last);
     return used;
 }
 
-static size_t captured_probe(uint8_t last, uint16_t *unsized)
+static size_t captured_probe(uint8_t first, uint8_t last, uint16_t *unsized)
 {
     text = probe;
     used = 0;
-    *unsized = pciplan_capture_probe(0, last).count;
+    *unsized = pciplan_capture_probe(first, last).count;
     return used;
+}
+
+static int is_list_of_roots(const uint8_t *roots, size_t roots_len)
+{
+    for (size_t r = 1; r < roots_len; r++)
+        if (roots[r] <= roots[r - 1])
+            return 0;
+    return roots_len != 0;
+}
+
+/* Numbers the buses behind each root, below the next root. Whether each bridge has its numbers; *last is the greatest. */
+static int number_all(const uint8_t *roots, size_t roots_len, uint8_t *last)
+{
+    for (size_t r = 0; r < roots_len; r++) {
+        uint8_t end = r + 1 < roots_len ? (uint8_t)(roots[r + 1] - 1) : 0xff;
+        struct pciplan_numbered numbered = pciplan_number(roots[r], end, 0);
+        if (numbered.status != PCIPLAN_NUMBERED)
+            return 0;
+        *last = numbered.highest;
+    }
+    return 1;
 }
 
 /* What the library said: null at YES. */
@@ -57,29 +78,30 @@ static const char *put(size_t of_dump, size_t count, size_t safe_from)
     return applied.made < safe_from ? "the plan isn't put, and a stop isn't safe yet" : "the plan isn't put";
 }
 
-/* Null where all went well, else what didn't: in a line with its end, what the library says of the board. */
-const char *pciplan_bring_up(const struct pciplan_pools *pools)
+/* Brings up the board behind these root buses, each above the one before it. Null where all went well, else what didn't: in
+   a line with its end, what the library says of the board. */
+const char *pciplan_bring_up(const uint8_t *roots, size_t roots_len, const struct pciplan_pools *pools)
 {
-    static const uint8_t roots[] = {0x00};
     size_t of_dump, of_probe, count = 0, safe_from = 0, length = 0;
+    uint8_t last = 0, status;
     const char *fault;
     uint16_t unsized;
-    uint8_t status;
 
     if (!pciplan_supported())
         return "the processor lacks instructions that the library needs";
-    struct pciplan_numbered numbered = pciplan_number(roots[0], 0xff, 0);
-    if (numbered.status != PCIPLAN_NUMBERED)
+    if (!is_list_of_roots(roots, roots_len))
+        return "the list of root buses is empty or doesn't rise";
+    if (!number_all(roots, roots_len, &last))
         return "a bridge has no bus numbers";
 
-    of_dump = captured_dump(numbered.highest);
-    of_probe = captured_probe(numbered.highest, &unsized);
+    of_dump = captured_dump(roots[0], last);
+    of_probe = captured_probe(roots[0], last, &unsized);
     if (of_dump > TEXT || of_probe > TEXT)
         return "the board has too many functions";
     if (unsized != 0)
         return "a function goes on decoding while it is sized";
 
-    status = pciplan_plan(dump, of_dump, probe, of_probe, roots, sizeof roots, pools, writes, WRITES, &count, &safe_from,
+    status = pciplan_plan(dump, of_dump, probe, of_probe, roots, roots_len, pools, writes, WRITES, &count, &safe_from,
                           (uint8_t *)line, PCIPLAN_LINE, &length);
     fault = said(status, length);
     if (fault == NULL)
@@ -87,7 +109,7 @@ const char *pciplan_bring_up(const struct pciplan_pools *pools)
     if (fault != NULL)
         return fault;
 
-    of_dump = captured_dump(numbered.highest);
-    status = pciplan_check(dump, of_dump, probe, of_probe, roots, sizeof roots, (uint8_t *)line, PCIPLAN_LINE, &length);
+    of_dump = captured_dump(roots[0], last);
+    status = pciplan_check(dump, of_dump, probe, of_probe, roots, roots_len, (uint8_t *)line, PCIPLAN_LINE, &length);
     return said(status, length);
 }

@@ -6,7 +6,7 @@
 #include "pciplan.h"
 #include "pciplan_capture.h"
 
-const char *pciplan_bring_up(const struct pciplan_pools *pools);
+const char *pciplan_bring_up(const uint8_t *roots, size_t roots_len, const struct pciplan_pools *pools);
 
 /* ---- ports */
 
@@ -167,10 +167,11 @@ void firmware(void)
 {
     /* I/O above the ports of the chipset; memory below the interrupt controllers; prefetchable memory above all RAM. */
     static const struct pciplan_pools pools = {0x1000, 0x9fff, 0xc0000000, 0xfebfffff, 0x400000000, 0x7ffffffff};
+    static const uint8_t roots[] = {0x00};
     const char *fault;
 
     out8(SERIAL + 3, 0x03);
-    fault = pciplan_bring_up(&pools);
+    fault = pciplan_bring_up(roots, sizeof roots, &pools);
     if (fault != NULL) {
         say(fault);
         put('\n');

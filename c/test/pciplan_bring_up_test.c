@@ -1,5 +1,5 @@
 /* Brings up a board in memory by the example, from all registers 0: a bridge with a device behind it, and a device beside
-   it. Then boards on which that can't be done. */
+   it. Then a board with two root buses, and boards on which that can't be done. */
 #include <stdio.h>
 #include <stdlib.h>
 #include <string.h>
@@ -8,7 +8,7 @@
 #include "pciplan_board.h"
 #include "pciplan_capture.h"
 
-const char *pciplan_bring_up(const struct pciplan_pools *pools);
+const char *pciplan_bring_up(const uint8_t *roots, size_t roots_len, const struct pciplan_pools *pools);
 
 static struct board board;
 static uint8_t writable[NODES][256];
@@ -68,6 +68,17 @@ static int device_on(int bus, unsigned place, uint32_t read_back)
     return index;
 }
 
+/* A bridge, and a device behind it whose BAR at 10h has this read back. */
+static int bridge_on(int bus, unsigned place, uint32_t read_back)
+{
+    int bridge = board_add(&board, bus, place, 1);
+    let_write(bridge, 0x04, 2, 0x0007);
+    let_write(bridge, 0x18, 3, 0xffffff);
+    let_write(bridge, 0x20, 4, 0xfff0fff0);
+    device_on(bridge, 0 * 8, read_back);
+    return bridge;
+}
+
 static int make(void)
 {
     int bridge;
@@ -76,13 +87,17 @@ static int make(void)
     wired = 0;
     board_empty(&board);
     board_add_root(&board, 0x00);
-    bridge = board_add(&board, -2, 1 * 8, 1);
-    let_write(bridge, 0x04, 2, 0x0007);
-    let_write(bridge, 0x18, 3, 0xffffff);
-    let_write(bridge, 0x20, 4, 0xfff0fff0);
-    device_on(bridge, 0 * 8, 0xfffff000);
+    bridge = bridge_on(-2, 1 * 8, 0xfffff000);
     device_on(-2, 2 * 8, 0xfff00000);
     return bridge;
+}
+
+/* With a second root bus, 40, and there a bridge with a device behind it. */
+static void make_two(void)
+{
+    make();
+    board_add_root(&board, 0x40);
+    bridge_on(-3, 1 * 8, 0xffffe000);
 }
 
 static uint32_t bar_of(uint8_t bus, uint8_t device)
@@ -90,16 +105,25 @@ static uint32_t bar_of(uint8_t bus, uint8_t device)
     return pciplan_config_read(bus, device, 0, 0x10, 4);
 }
 
-static void says(const char *wanted, const struct pciplan_pools *pools)
+static void says_of(const char *wanted, const uint8_t *roots, size_t roots_len, const struct pciplan_pools *pools)
 {
-    const char *got = pciplan_bring_up(pools);
+    const char *got = pciplan_bring_up(roots, roots_len, pools);
 
     if (got == NULL ? wanted != NULL : wanted == NULL || strcmp(got, wanted) != 0)
         stop(got != NULL ? got : "all went well");
 }
 
+static void says(const char *wanted, const struct pciplan_pools *pools)
+{
+    const uint8_t root = 0x00;
+
+    says_of(wanted, &root, 1, pools);
+}
+
 int main(void)
 {
+    const uint8_t two_roots[] = {0x00, 0x40}, turned[] = {0x40, 0x00};
+    const char *no_list = "the list of root buses is empty or doesn't rise";
     const struct pciplan_pools pools = {0x1000, 0xffff, 0xe0000000, 0xe02fffff, 0x100000000, 0x1ffffffff};
     const struct pciplan_pools small = {0x1000, 0xffff, 0xe0000000, 0xe00fffff, 0x100000000, 0x1ffffffff};
     int bridge = make();
@@ -107,6 +131,17 @@ int main(void)
     says(NULL, &pools);
     if (bar_of(0x01, 0) != 0xe0000000 || bar_of(0x00, 2) != 0xe0100000)
         stop("a device isn't at its place");
+
+    make_two();
+    says_of(NULL, two_roots, 2, &pools);
+    if (bar_of(0x01, 0) != 0xe0000000 || bar_of(0x00, 2) != 0xe0100000 || bar_of(0x41, 0) != 0xe0200000)
+        stop("a device of two roots isn't at its place");
+
+    make_two();
+    says_of(no_list, turned, 2, &pools);
+    says_of(no_list, two_roots, 0, &pools);
+    if (pciplan_config_read(0x00, 1, 0, 0x18, 4) != 0)
+        stop("a bridge was numbered by no list of roots");
 
     make();
     says("no 72 NoRoom mem\n", &small);
@@ -119,6 +154,6 @@ int main(void)
     wired = 2;
     board.nodes[board.count - 1].image[0x04] = wired;
     says("a function goes on decoding while it is sized", &pools);
-    puts("a bare board: from no bus numbers to addresses; three that can't be brought up");
+    puts("two bare boards: from no bus numbers to addresses; four that can't be brought up");
     return 0;
 }
