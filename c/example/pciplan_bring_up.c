@@ -95,6 +95,8 @@ const char *pciplan_bring_up(const uint8_t *roots, size_t roots_len, const struc
         return "a bridge has no bus numbers";
 
     of_dump = captured_dump(roots[0], last);
+    if (of_dump == 0)
+        return "no function answers: each Vendor ID reads FFFFh";
     of_probe = captured_probe(roots[0], last, &unsized);
     if (of_dump > TEXT || of_probe > TEXT)
         return "the board has too many functions";

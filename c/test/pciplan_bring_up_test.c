@@ -79,14 +79,20 @@ static int bridge_on(int bus, unsigned place, uint32_t read_back)
     return bridge;
 }
 
-static int make(void)
+/* Without a function: every register reads ones. */
+static void make_empty(void)
 {
-    int bridge;
-
     memset(writable, 0, sizeof writable);
     wired = 0;
     board_empty(&board);
     board_add_root(&board, 0x00);
+}
+
+static int make(void)
+{
+    int bridge;
+
+    make_empty();
     bridge = bridge_on(-2, 1 * 8, 0xfffff000);
     device_on(-2, 2 * 8, 0xfff00000);
     return bridge;
@@ -137,6 +143,9 @@ int main(void)
     if (bar_of(0x01, 0) != 0xe0000000 || bar_of(0x00, 2) != 0xe0100000 || bar_of(0x41, 0) != 0xe0200000)
         stop("a device of two roots isn't at its place");
 
+    make_empty();
+    says("no function answers: each Vendor ID reads FFFFh", &pools);
+
     make_two();
     says_of(no_list, turned, 2, &pools);
     says_of(no_list, two_roots, 0, &pools);
@@ -154,6 +163,6 @@ int main(void)
     wired = 2;
     board.nodes[board.count - 1].image[0x04] = wired;
     says("a function goes on decoding while it is sized", &pools);
-    puts("two bare boards: from no bus numbers to addresses; four that can't be brought up");
+    puts("two bare boards: from no bus numbers to addresses; five that can't be brought up");
     return 0;
 }
