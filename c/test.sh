@@ -42,6 +42,13 @@ for part in capture/pciplan_capture number/pciplan_number apply/pciplan_apply me
     compiled "${part##*_}.o" -ffreestanding -nostdinc -isystem "$headers" -c "$here/$part.c"
 done
 
+# The memory over an array compiles as C++ too, and for processors of 32 bits, where a compiler for that is at hand.
+for compiler in "${CXX:-c++} -x c++ -std=c++11" "${CC:-cc} -x c -std=c11 -m32"; do
+    $compiler -fsyntax-only /dev/null 2>/dev/null || continue
+    $compiler -fsyntax-only -Wall -Wextra -Werror -ffreestanding -nostdinc -isystem "$headers" -I"$here/include" \
+        "$here/memory/pciplan_fixed_memory.c"
+done
+
 compiled capture "$here/test/pciplan_capture_test.c" "$built/capture.o"
 for machine in desk old port roots; do
     told "$machine: " "$built/capture" "$machines/$machine.dump" "$machines/$machine.probe"

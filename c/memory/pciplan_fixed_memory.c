@@ -2,7 +2,8 @@
 
    The array is cut into blocks, each behind a head. The first free block that is large enough is handed out, and free
    blocks that stand side by side are joined as they are come upon; so once all are given back, as they are when a call
-   has returned, the whole array can be had again. One call at a time may run. It needs no header but the compiler's own. */
+   has returned, the whole array can be had again. One call at a time may run. It needs no header but the compiler's own.
+   It compiles as C11 and as C++11, for 64 bits and for 32. */
 #include "pciplan.h"
 
 #ifndef PCIPLAN_FIXED_BYTES
@@ -12,17 +13,25 @@
 /* No block is aligned to more than 16. */
 #define STEP 16
 
+#ifdef __cplusplus
+#define ALIGNED(bytes) alignas(bytes)
+#define ASSERTED(that, text) static_assert(that, text)
+#else
+#define ALIGNED(bytes) _Alignas(bytes)
+#define ASSERTED(that, text) _Static_assert(that, text)
+#endif
+
 /* What stands before each block. */
 struct head {
-    size_t steps; /* so many STEPs the block has, with its head */
+    ALIGNED(STEP) size_t steps; /* so many STEPs the block has, with its head */
     size_t taken;
 };
 
-_Static_assert(sizeof(struct head) == STEP, "what stands behind a head is aligned as the head is");
+ASSERTED(sizeof(struct head) == STEP, "what stands behind a head is aligned as the head is");
 
 #define STEPS (PCIPLAN_FIXED_BYTES / STEP)
 
-static _Alignas(STEP) struct head heads[STEPS];
+static struct head heads[STEPS];
 static uint8_t none;
 
 static struct pciplan_tried refused(void)
@@ -93,7 +102,7 @@ struct pciplan_tried rattle_realloc(void *at, size_t kept, size_t n, size_t alig
     take(head, old);
     struct pciplan_tried t = rattle_alloc(n, align);
     if (t.ok) {
-        copy(t.at, at, kept < n ? kept : n);
+        copy((uint8_t *)t.at, (const uint8_t *)at, kept < n ? kept : n);
         head->taken = 0;
     }
     return t;
