@@ -55,4 +55,4 @@ complete -c pciplan -n '__pciplan_takes anew settle' -l anew -d 'Leave nothing w
 complete -c pciplan -n '__pciplan_takes writes plan settle' -l writes -d 'Print the register writes'
 complete -c pciplan -n '__pciplan_takes why faults plan' -l why -d 'Tell what stands behind a fault'
 complete -c pciplan -n '__pciplan_takes exact probe' -l exact -d 'Assume nothing'
-complete -c pciplan -n '__pciplan_takes least probe' -l least -d 'Assume the least size of enabled registers too'
+complete -c pciplan -n '__pciplan_takes least probe' -l least -d 'Assume the least size of BARs and enabled ROMs too'
