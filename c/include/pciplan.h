@@ -86,6 +86,9 @@ struct pciplan_write {
    At NO and REFUSED line and *line_used are as pciplan_check leaves them, where NO names a fault of the texts or of
    planning. writes and *safe_from aren't changed; *writes_used is 0.
 
+   A title of the probe that names registers as assumed, as "02:00.0 assumed 18", means nothing here: a BAR with an assumed
+   size is planned like any other, and may decode more addresses than were planned for it. pciplan_settle refuses it.
+
    At MEMORY nothing is changed. At SHORT writes, line and *safe_from aren't: either *writes_used is above writes_len, the
    number of writes that a plan has, and *line_used is 0; or there is no plan, *line_used is above line_len, the length
    that is needed to say why, and *writes_used is 0. */
@@ -121,7 +124,9 @@ struct pciplan_settle_words {
    the dump shows is sound, else the number of the first writes, which close functions. Where all is settled already there
    are no writes.
 
-   At NO a fault of the texts or of settling is named, as "no 74 Fixed 00:1f.0 10". At REFUSED a message stands in line:
+   At NO a fault of the texts or of settling is named, as "no 74 Fixed 00:1f.0 10". It is "no 76 Assumed 02:00.0 18" where a
+   title of the probe names this BAR as assumed, or this ROM whose bit 0 is set; a title of any other form than those of
+   docs/FORMATS.md means nothing. At REFUSED a message stands in line:
    "root", else "pool io", "pool mem", "pool pref" or "fixed" for the first word without a meaning, else a message of
    pciplan_check. At MEMORY and SHORT all is as pciplan_plan leaves it. */
 uint8_t pciplan_settle(const uint8_t *dump, size_t dump_len,
