@@ -18,7 +18,7 @@
 #   - `OFFSET:BYTES`: bytes in their order;
 #   - `lineN=FIRST-LAST/FLAGS`, N from 0 to 6: what Linux tells of BAR register N or, by line 6, of the ROM, in digits
 #     without leading zeros. A line that isn't said is three zeros;
-#   - `| TITLE`, at the end: the title in the dump.
+#   - `| TITLE`, at the end: the title in the dump, and `|| TITLE` behind it: the title in the probe.
 #   `dump`, `probe` or `sizes` before the slot: the function stands in that text alone, in a probe with its title too;
 # - `!` and a command of the shell, which makes more files of the board's three texts, the files dump, probe and sizes;
 # - `$` and the words that the program is given, as a shell reads them. Several such lines have one answer;
@@ -64,12 +64,16 @@ function sizes_block(    text, at) {
     return text "\n"
 }
 
-# Reads a function's line into `slot`, `label`, `image`, `reads` and `resource`.
+# Reads a function's line into `slot`, `label`, `mark`, `image`, `reads` and `resource`.
 function read_function(line,    items, count, at, parts, offset) {
     split("", image)
     split("", reads)
     split("", resource)
-    label = ""
+    label = mark = ""
+    if (at = index(line, " || ")) {
+        mark = " " substr(line, at + 4)
+        line = substr(line, 1, at - 1)
+    }
     if (at = index(line, " | ")) {
         label = " " substr(line, at + 3)
         line = substr(line, 1, at - 1)
@@ -184,7 +188,7 @@ begun { out = out $0 "\n"; next }
     if (!only || only == "dump")
         dump = dump block(slot label, image)
     if (!only || only == "probe")
-        probe = probe block(slot (only ? label : ""), reads)
+        probe = probe block(slot (only ? label : mark), reads)
     if (!only || only == "sizes")
         sizes = sizes sizes_block()
 }

@@ -206,14 +206,65 @@ derived() {
 }
 
 # Two devices have a ROM of 64 KB of which Linux tells a copy in memory; port has a window that can't be opened.
-sed '/^02:01.0/,/^$/s/^30: 00 00/30: 00 f8/' desk.probe >desk.derived
-sed '/^00:02.0/,/^$/s/^30: 00 00/30: 00 f8/' old.probe >old.derived
+sed '/^02:01.0/,/^$/{s/^02:01.0/& assumed 30/;s/^30: 00 00/30: 00 f8/;}' desk.probe >desk.derived
+sed '/^00:02.0/,/^$/{s/^00:02.0/& assumed 30/;s/^30: 00 00/30: 00 f8/;}' old.probe >old.derived
 sed '/^00:06.0/,/^$/s/^\(10:.*\) f0 00 00 00$/\1 f0 f0 00 00/' port.probe >port.derived
 cp roots.probe roots.derived
 derived desk "pciplan: assumed 02:01.0 30$lf" 'no 52 VgaEnable 00:02.0' 1 'no 32 NoSize 02:01.0 30'
 derived old "pciplan: assumed 00:02.0 30$lf" yes 0 'no 32 NoSize 00:02.0 30'
 derived port '' 'no 60 Unreached 02:00.0 18 io 00002000 bridge 00:06.0' 1
 derived roots '' yes 0
+
+# told DUMP SIZES SLOT LINE SIZE FLAGS..: the sizes with these lines in the place of cleared ones, as a kernel's log tells them
+told() {
+    awk -v changes="$*" '
+        BEGIN { count = split(changes, word, " ") }
+        /^[0-9a-f][0-9a-f]:/ { slot = $1; line = -1 }
+        {
+            for (at = 1; at + 3 <= count; at += 4)
+                if (slot == word[at] && line == word[at + 1])
+                    $0 = "0x0000000000000000 0x" word[at + 2] " 0x0000000000000" word[at + 3]
+            line++
+            print
+        }'
+}
+
+# unplaced: BARs that Linux couldn't place. Their lines are cleared in sysfs, and the kernel's log has their sizes.
+lists='--io 400-50f,51c-cf7,d00-ffff --mem 20000000-afffffff,c0000000-febfffff --pref 100000000-8ffffffff'
+case_of 'unplaced: probe' 1 "no 32 NoSize 02:02.0 18$lf" '' probe unplaced.dump unplaced.sizes
+./pciplan probe unplaced.dump unplaced.sizes --least >unplaced.least 2>err
+# shellcheck disable=SC2086
+case_of 'unplaced: settle by the least sizes' 1 "no 76 Assumed 02:02.0 18$lf" '' \
+    settle unplaced.dump unplaced.least $lists
+told 02:02.0 2 0000000003ffffff 20c 02:03.0 0 0000000003ffffff 208 <unplaced.sizes >unplaced.told
+./pciplan probe unplaced.dump unplaced.told >unplaced.probe
+# shellcheck disable=SC2086
+./pciplan settle unplaced.dump unplaced.probe $lists >unplaced.settled
+case_of 'unplaced: settled by the sizes of the log' 0 "yes$lf" '' check unplaced.settled unplaced.probe
+./pciplan show unplaced.settled unplaced.probe | sed -n '/^02:02.0/,/^[^ ]/s/^  bar 18 //p' >out
+: >err
+compare 'unplaced: its BAR has 64 MB' 0 "mem64 pref 0000000100000000-0000000103ffffff$lf" '' 0
+
+# cleared: two BARs of 32 bits that show 0, of which sysfs tells nothing, so that only the log has them
+lists='--io 400-50f,51c-cf7,d00-afdf,afe4-ffff --mem 20000000-febfffff --pref 100000000-17fffffff'
+./pciplan probe cleared.dump cleared.sizes >cleared.probe
+# shellcheck disable=SC2086
+case_of 'cleared: nothing is known of its BARs' 0 '' '' settle cleared.dump cleared.probe $lists --writes
+told 01:03.0 0 00000000000fffff 200 01:04.0 0 00000000000fffff 200 <cleared.sizes >cleared.told
+./pciplan probe cleared.dump cleared.told >cleared.probe
+# shellcheck disable=SC2086
+case_of 'cleared: settled by the sizes of the log' 0 "01:01.0 04.2 0100
+00:05.0 04.2 0100
+00:05.0 20.4 20302000
+01:01.0 10.4 20300000
+01:02.0 10.4 20000000
+01:03.0 10.4 20100000
+01:04.0 10.4 20200000
+00:05.0 04.2 0103
+01:01.0 04.2 0103
+01:02.0 04.2 0002
+01:03.0 04.2 0002
+01:04.0 04.2 0002$lf" '' settle cleared.dump cleared.probe $lists --writes
 case_of 'probe: nothing to derive' 0 '' '' probe empty.txt empty.txt
 case_of "probe: another machine's sizes" 1 "no 30 SlotsDiffer 00:01.0$lf" '' probe old.dump desk.sizes
 

@@ -11,5 +11,6 @@ pub mod Refusals
 pub mod Firsts
 pub mod FixedParts
 pub mod FixedFunctions
+pub mod AssumedParts
 pub mod Written
 pub mod SettledSound

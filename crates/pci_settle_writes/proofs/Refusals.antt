@@ -26,7 +26,7 @@ use Rattle.pci_settle_writes.specs.declared.lack.SettleFault.{SettleFault}
 use Rattle.pci_settle_writes.specs.declared.lack.SettleFault.TheVariants as fault
 use Rattle.pci_settle_writes.specs.Lacks.{IsNamed, IsFaultOf}
 use Rattle.pci_settle_writes.specs.Fixed.{fixed_part, fixed_register}
-use Rattle.pci_settle_writes.specs.Endings.{then_writes, after_lists, IsTooLargeAsked, IsLack, IsLackOff, IsEndedBy, IsRefusal}
+use Rattle.pci_settle_writes.specs.Endings.{then_writes, after_lists, IsTooLargeAsked, IsLack, IsLackOff, IsEndedBy, IsRefusal, IsSized}
 use Rattle.pci_settle_writes.proofs.Lacking.{lack_named}
 use Rattle.pci_settle_writes.proofs.Endings.{ends_fine, ends_unstanding, ends_unstaying, ends_written, ends_settled, past_fixed}
 
@@ -44,11 +44,13 @@ module _ (a : Admission) (l : Lists) (left : Left) where
   pub lack_of_fault : (u : Unplaced) (f : SettleFault) → IsUnplacedOff a.roots (system_in a) l left (refused.Fault u) → IsFaultOf (system_in a) u f
       → IsLackOff a l left (refused.Fault f)
   lack_of_fault (unplaced.Lacks x) fault.BadLists is of = absurd of
+  lack_of_fault (unplaced.Lacks x) (fault.Assumed slot reg) is of = absurd of
   lack_of_fault (unplaced.Lacks x) (fault.NoRoom lack) is of = λ q leaving other. ap (λ o. or_lack o other) (is q leaving) ∙ of other
   lack_of_fault (unplaced.Lacks x) (fault.TooLarge class slot) is of = absurd of
   lack_of_fault (unplaced.Lacks x) (fault.Fixed slot reg) is of = absurd of
   lack_of_fault (unplaced.TooLarge class k) (fault.Fixed slot reg) is of = absurd of
   lack_of_fault (unplaced.TooLarge class k) fault.BadLists is of = absurd of
+  lack_of_fault (unplaced.TooLarge class k) (fault.Assumed slot reg) is of = absurd of
   lack_of_fault (unplaced.TooLarge class k) (fault.NoRoom lack) is of = absurd of
   lack_of_fault (unplaced.TooLarge class k) (fault.TooLarge name slot) is of = λ q leaving. record {
     function = k;
@@ -62,6 +64,7 @@ module _ (a : Admission) (q : Request) where
   pub asked_too_large : (class : Class) (k : ℕ) (f : SettleFault) → q.anew ≡ false → IsTooLarge q (system_in a) (kind_value class) k
       → IsFaultOf (system_in a) (unplaced.TooLarge class k) f → IsTooLargeAsked a q (refused.Fault f)
   asked_too_large class k fault.BadLists stands large of = absurd of
+  asked_too_large class k (fault.Assumed slot reg) stands large of = absurd of
   asked_too_large class k (fault.NoRoom lack) stands large of = absurd of
   asked_too_large class k (fault.Fixed slot reg) stands large of = absurd of
   asked_too_large class k (fault.TooLarge name slot) stands large of = record {
@@ -74,6 +77,7 @@ module _ (a : Admission) (q : Request) where
   pub ended_too_large : (e : Refused SettleFault) → IsTooLargeAsked a q e → IsEndedBy a q e
   ended_too_large refused.Memory is = tt
   ended_too_large (refused.Fault fault.BadLists) is = absurd is
+  ended_too_large (refused.Fault (fault.Assumed slot reg)) is = absurd is
   ended_too_large (refused.Fault (fault.NoRoom lack)) is = absurd is
   ended_too_large (refused.Fault (fault.TooLarge class slot)) is = is
   ended_too_large (refused.Fault (fault.Fixed slot reg)) is = absurd is
@@ -107,6 +111,7 @@ module _ (a : Admission) (q : Request) where
       pub ended_of_lack : (e : Refused SettleFault) → IsLack a q e → IsEndedBy a q e
       ended_of_lack refused.Memory is = tt
       ended_of_lack (refused.Fault fault.BadLists) is = absurd is
+      ended_of_lack (refused.Fault (fault.Assumed slot reg)) is = absurd is
       ended_of_lack (refused.Fault (fault.NoRoom lack)) is =
           past_fixed q (system_in a) stand_none stay_none ∙ is (then_writes q (settle_writes q (system_in a)))
       ended_of_lack (refused.Fault (fault.TooLarge class slot)) is = is
@@ -124,10 +129,11 @@ module _ (a : Admission) (q : Request) where
         pub ended_settled : None ≡ option_map fixed_register (fixed_write q writes) → after_lists q (system_in a) ≡ Settled writes
         ended_settled none = ends_settled q (system_in a) stand_none stay_none room writes are (none_found fixed_register (fixed_write q writes) none)
 
-  -- where the lists are fine
-  pub refusal_of_ended : are_bad_lists q.roots q.lists ≡ false → (e : Refused SettleFault) → IsEndedBy a q e → IsRefusal a q e
-  refusal_of_ended fine refused.Memory is = tt
-  refusal_of_ended fine (refused.Fault fault.BadLists) is = absurd is
-  refusal_of_ended fine (refused.Fault (fault.NoRoom lack)) is = ends_fine q (system_in a) fine ∙ is
-  refusal_of_ended fine (refused.Fault (fault.TooLarge class slot)) is = (fine, is)
-  refusal_of_ended fine (refused.Fault (fault.Fixed slot reg)) is = ends_fine q (system_in a) fine ∙ is
+  -- where the lists are fine, and no read back is assumed
+  pub refusal_of_ended : are_bad_lists q.roots q.lists ≡ false → IsSized a → (e : Refused SettleFault) → IsEndedBy a q e → IsRefusal a q e
+  refusal_of_ended fine sized refused.Memory is = tt
+  refusal_of_ended fine sized (refused.Fault fault.BadLists) is = absurd is
+  refusal_of_ended fine sized (refused.Fault (fault.Assumed slot reg)) is = absurd is
+  refusal_of_ended fine sized (refused.Fault (fault.NoRoom lack)) is = (sized, ends_fine q (system_in a) fine ∙ is)
+  refusal_of_ended fine sized (refused.Fault (fault.TooLarge class slot)) is = (fine, sized, is)
+  refusal_of_ended fine sized (refused.Fault (fault.Fixed slot reg)) is = (sized, ends_fine q (system_in a) fine ∙ is)

@@ -1,11 +1,14 @@
 -- How settling ends once its lists are fine, and why nothing is settled.
-use Rattle.std.specs.Prelude.{◌≡◌, ℕ, IsTrue, IsFalse, List, None, ⊤}
+use Rattle.std.specs.Prelude.{◌≡◌, ℕ, IsTrue, IsFalse, List, None, Some, ⊤}
+use Rattle.std.specs.Option.{option_map}
+use Rattle.pci_spec.specs.Mark.{all_named}
 use Rattle.pci_spec.specs.Slot.{Slot}
 use Rattle.pci_spec.specs.Text.{Block}
 use Rattle.pci_spec.specs.Window.{WindowKind}
 use Rattle.pci_spec.specs.System.{System, Io, Memory, window_space}
 use Rattle.pci_spec.specs.Machine.{Write}
 use Rattle.settle_spec.specs.Lists.{Lists, Request, are_bad_lists}
+use Rattle.settle_spec.specs.Assumed.{assumed_region}
 use Rattle.settle_spec.specs.Stands.{stands}
 use Rattle.settle_spec.specs.Items.{stays}
 use Rattle.settle_spec.specs.Places.{lacking}
@@ -28,6 +31,7 @@ use Rattle.pci_settle_writes.specs.Requests.{IsAskedOf}
 use Rattle.pci_settle_writes.specs.Told.{IsTableOf}
 use Rattle.pci_settle_writes.specs.Dumps.{IsSettledBy}
 use Rattle.pci_settle_writes.specs.Lacks.{no_room}
+use Rattle.pci_settle_writes.specs.Fixed.{assumed_part}
 
 -- ---- once the lists are fine
 
@@ -52,6 +56,7 @@ pub record IsTooLargeAt (a : Admission) (q : Request) (c : WindowKind) (slot : S
 abbrev pub IsLack : Admission → Request → Refused SettleFault → Type 0
 IsLack a q refused.Memory = ⊤
 IsLack a q (refused.Fault fault.BadLists) = ⊥
+IsLack a q (refused.Fault (fault.Assumed slot reg)) = ⊥
 IsLack a q (refused.Fault (fault.NoRoom lack)) =
     (other : Settling) → or_lack (lacking q (system_in a)) other ≡ no_room lack
 IsLack a q (refused.Fault (fault.TooLarge class slot)) = IsTooLargeAt a q (kind_value class) slot
@@ -61,6 +66,7 @@ IsLack a q (refused.Fault (fault.Fixed slot reg)) = ⊥
 abbrev pub IsTooLargeAsked : Admission → Request → Refused SettleFault → Type 0
 IsTooLargeAsked a q refused.Memory = ⊤
 IsTooLargeAsked a q (refused.Fault fault.BadLists) = ⊥
+IsTooLargeAsked a q (refused.Fault (fault.Assumed slot reg)) = ⊥
 IsTooLargeAsked a q (refused.Fault (fault.NoRoom lack)) = ⊥
 IsTooLargeAsked a q (refused.Fault (fault.TooLarge class slot)) =
     IsTooLargeAt a q (kind_value class) slot
@@ -91,6 +97,7 @@ pub record IsEnded (q : Request) (a : Admission) (dump : List Block) (writes : L
 abbrev pub IsEndedBy : Admission → Request → Refused SettleFault → Type 0
 IsEndedBy a q refused.Memory = ⊤
 IsEndedBy a q (refused.Fault fault.BadLists) = ⊥
+IsEndedBy a q (refused.Fault (fault.Assumed slot reg)) = ⊥
 IsEndedBy a q (refused.Fault (fault.NoRoom lack)) = after_lists q (system_in a) ≡ no_room lack
 IsEndedBy a q (refused.Fault (fault.TooLarge class slot)) = IsTooLargeAt a q (kind_value class) slot
 IsEndedBy a q (refused.Fault (fault.Fixed slot reg)) =
@@ -98,12 +105,27 @@ IsEndedBy a q (refused.Fault (fault.Fixed slot reg)) =
 
 -- ---- the whole
 
--- settling ends so, or a new window is too large for the lists, which are fine, or there was no memory
+-- no part that the titles of the probe name has an assumed read back
+abbrev pub IsSized : Admission → Type 0
+IsSized a = assumed_region (all_named a.probe) (system_in a) ≡ None
+
+-- the lists are fine, and this is the first part whose read back is assumed
+abbrev pub IsAssumedFirst : Admission → Request → SettleFault → Type 0
+IsAssumedFirst a q fault =
+    IsFalse (are_bad_lists q.roots q.lists)
+    × (option_map assumed_part (assumed_region (all_named a.probe) (system_in a)) ≡ Some fault)
+
+-- settling ends so, or a read back is assumed, or a new window is too large for the lists, which are fine, or there was no
+-- memory
 abbrev pub IsRefusal : Admission → Request → Refused SettleFault → Type 0
 IsRefusal a q refused.Memory = ⊤
 IsRefusal a q (refused.Fault fault.BadLists) = settle q (system_in a) ≡ BadLists
-IsRefusal a q (refused.Fault (fault.NoRoom lack)) = settle q (system_in a) ≡ no_room lack
+IsRefusal a q (refused.Fault (fault.Assumed slot reg)) =
+    IsAssumedFirst a q (fault.Assumed slot reg)
+IsRefusal a q (refused.Fault (fault.NoRoom lack)) =
+    IsSized a × (settle q (system_in a) ≡ no_room lack)
 IsRefusal a q (refused.Fault (fault.TooLarge class slot)) =
-    IsFalse (are_bad_lists q.roots q.lists) × IsTooLargeAt a q (kind_value class) slot
+    IsFalse (are_bad_lists q.roots q.lists) × IsSized a
+    × IsTooLargeAt a q (kind_value class) slot
 IsRefusal a q (refused.Fault (fault.Fixed slot reg)) =
-    settle q (system_in a) ≡ spec.Fixed slot reg
+    IsSized a × (settle q (system_in a) ≡ spec.Fixed slot reg)

@@ -6,7 +6,7 @@ use Rattle.pci_spec.specs.Window.{WindowKind, window_register}
 use Rattle.pci_spec.specs.Line.{field, region_field, window_name}
 use Rattle.pci_base.specs.WindowKinds.{kind_value}
 use Rattle.pci_settle_writes.specs.declared.lack.SettleFault.{SettleFault}
-use Rattle.pci_settle_writes.specs.declared.lack.SettleFault.TheVariants.{BadLists, NoRoom, TooLarge, Fixed}
+use Rattle.pci_settle_writes.specs.declared.lack.SettleFault.TheVariants.{BadLists, Assumed, NoRoom, TooLarge, Fixed}
 
 -- a number in hex digits, without a zero in front
 abbrev pub hex_text : ℕ → List ℕ
@@ -23,6 +23,7 @@ part_text class slot register = window_name class ++ region_field slot register
 -- a number, a name and its fields: of a part without a place its size and its alignment too
 abbrev pub settle_fault_text : SettleFault → List ℕ
 settle_fault_text BadLists = codes "70 BadPools"
+settle_fault_text (Assumed slot reg) = codes "76 Assumed" ++ region_field slot reg
 settle_fault_text (NoRoom lack) =
     codes "72 NoRoom" ++ field (part_text (kind_value lack.class) lack.slot lack.register)
     ++ field (sizes_text lack.size lack.alignment)

@@ -20,13 +20,17 @@ use Rattle.pci_settling.specs.Claims.{is_rom_on}
 use Rattle.pci_settle.specs.declared.kept.Kept.{Kept}
 use Rattle.pci_settle.specs.Kept.{kept_of}
 use Rattle.pci_settle_writes.specs.declared.lack.SettleFault.{SettleFault}
-use Rattle.pci_settle_writes.specs.declared.lack.SettleFault.TheVariants.{Fixed}
+use Rattle.pci_settle_writes.specs.declared.lack.SettleFault.TheVariants.{Assumed, Fixed}
 
 -- ---- what is named
 
 -- a part of a function whose registers may not be written
 abbrev pub fixed_part : Region → SettleFault
 fixed_part r = Fixed r.function.slot (register_of r.function r.part)
+
+-- a part whose read back is assumed
+abbrev pub assumed_part : Region → SettleFault
+assumed_part r = Assumed r.function.slot (register_of r.function r.part)
 
 -- a register that may not
 abbrev pub fixed_register : Write → SettleFault

@@ -21,6 +21,7 @@ use Rattle.pci_settle_writes.specs.declared.lack.SettleFault.TheVariants as faul
 
 abbrev pub fault_number : SettleFault → ℕ
 fault_number fault.BadLists = 70
+fault_number (fault.Assumed slot reg) = 76
 fault_number (fault.NoRoom lack) = 72
 fault_number (fault.TooLarge class slot) = 72
 fault_number (fault.Fixed slot reg) = 74
@@ -51,6 +52,7 @@ no_room l = NoRoom (kind_value l.class) l.slot l.register l.size l.alignment
 -- the fault names just that
 abbrev pub IsFaultOf : System → Unplaced → SettleFault → Type 0
 IsFaultOf s u fault.BadLists = ⊥
+IsFaultOf s u (fault.Assumed slot reg) = ⊥
 IsFaultOf s u (fault.Fixed slot reg) = ⊥
 IsFaultOf s (unplaced.Lacks x) (fault.NoRoom lack) =
     (other : Settling) → or_lack (Some (candidate_value s x)) other ≡ no_room lack

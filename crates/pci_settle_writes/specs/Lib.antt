@@ -5,5 +5,6 @@ pub mod Shut
 pub mod Stages
 pub mod Lacks
 pub mod Fixed
+pub mod Assumed
 pub mod Endings
 pub mod FaultText

@@ -36,6 +36,9 @@ pub enum SettleFault {
     /// 70: a range is backward or of a bus that is no root, two ranges of a list share an address, I/O ends above FFFFh or
     /// memory above FFFFFFFFh.
     BadLists,
+    /// 76: the title of the function's block in the probe names this register as assumed. It is that of a BAR, or of a ROM that
+    /// is on.
+    Assumed { slot: Slot, reg: u8 },
     /// 72: this is the first on the roots that has no place.
     NoRoom(Lack),
     /// 72: what is of the class behind the bridge at the slot would take a window of 2^64 addresses or more.
@@ -46,12 +49,13 @@ pub enum SettleFault {
 }
 
 impl SettleFault {
-    /// The fault's number, 70, 72 or 74.
+    /// The fault's number, 70, 72, 74 or 76.
     pub fn number(&self) -> u8
         ensures { result ≡ fault_number self.now }
     {
         match self {
             SettleFault::BadLists => 70,
+            SettleFault::Assumed { .. } => 76,
             SettleFault::NoRoom(_) | SettleFault::TooLarge { .. } => 72,
             SettleFault::Fixed { .. } => 74,
         }
@@ -107,6 +111,7 @@ impl fmt::Display for SettleFault {
     fn fmt<W: fmt::Write>(&self, f: &mut fmt::Formatter<W>) -> fmt::Result {
         match *self {
             SettleFault::BadLists => write!(f, "70 BadPools"),
+            SettleFault::Assumed { slot, reg } => write!(f, "76 Assumed {slot} {reg:02x}"),
             SettleFault::NoRoom(lack) => {
                 let part = Named {
                     class: lack.class,

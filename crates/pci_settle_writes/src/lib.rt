@@ -1,6 +1,7 @@
 //! The settled dump, and the writes that lead to it.
 #![tactic(auto)]
 
+pub mod assumed;
 pub mod dump;
 pub mod fixed;
 pub mod lack;

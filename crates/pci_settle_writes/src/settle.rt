@@ -1,5 +1,5 @@
 //! Settling: the dump in which all has its place, and the writes that lead there.
-ghost use Rattle.std.specs.Prelude.{◌≡◌, ◌≤◌, ◌<◌, ◌^◌, ◌⊎◌, ℕ, IsTrue, IfOk, IfErr, length, map, take};
+ghost use Rattle.std.specs.Prelude.{◌≡◌, ◌≤◌, ◌<◌, ◌^◌, ◌⊎◌, ℕ, IsTrue, IfOk, IfErr, OnOk, length, map, take};
 ghost use Rattle.std.specs.List.{All};
 ghost use Rattle.pci_spec.specs.Sound.{IsSound};
 ghost use Rattle.pci_spec.specs.System.{system_of};
@@ -18,8 +18,9 @@ ghost use Rattle.pci_stay.specs.Staying.{AreStaying};
 ghost use Rattle.pci_settle_writes.specs.Requests.{request, IsAskedOf};
 ghost use Rattle.pci_settle_writes.specs.Told.{IsTableOf};
 ghost use Rattle.pci_settle_writes.specs.Dumps.{IsSettledDump, IsSettledBy};
-ghost use Rattle.pci_settle_writes.specs.Endings.{IsLackOff, IsTooLargeAsked, AreTold, IsEnded, IsEndedBy, IsRefusal};
+ghost use Rattle.pci_settle_writes.specs.Endings.{IsLackOff, IsTooLargeAsked, AreTold, IsEnded, IsEndedBy, IsRefusal, IsSized};
 
+use crate::assumed::first_assumed;
 use crate::dump::settled_dump;
 use crate::fixed::{fixed_without, fixed_write};
 use crate::lack::{SettleFault, fault_of};
@@ -272,7 +273,8 @@ fn end_in_64_bits(list: &[RootRange])
 /// placed in the lists. Answers the dump that shows the places and the writes that lead there. That dump is sound, and so is
 /// what stands after the first writes, once all that close are made, and from a sound start at any time.
 ///
-/// Errors: 70 `BadLists` where the lists are refused; else 74 `Fixed` with the first part of a function of `fixed` that
+/// Errors: 70 `BadLists` where the lists are refused; else 76 `Assumed` with the first BAR, or ROM that is on, whose read back
+/// is assumed, as the titles of the probe tell; 74 `Fixed` with the first part of a function of `fixed` that
 /// doesn't stand, or doesn't stay; 72 `NoRoom` with the first part on the roots that has no place; 74 `Fixed` with the first
 /// write to a function of `fixed`; 72 `TooLarge` where a new window would have 2^64 addresses or more; 2 `Memory` where a
 /// growth was refused.
@@ -295,6 +297,8 @@ pub fn settle<A: Allocator + Copy, B: Allocator>(
     // a title is the caller's own text, and no register
     ensures titles { IfOk result
         (λ x. map (λ b. b.title) x.dump ≡ map (λ b. b.title) admitted.now.dump) }
+    // what a guessed size would move is never moved
+    ensures sized { OnOk result (IsSized admitted.now) }
     ensures dump { IfOk result (λ x. IsSettledDump
         (request admitted.now.roots (lists_value lists.now) fixed.now anew) admitted.now x.dump) }
     ensures settled { IfOk result (λ x. spec.settle
@@ -310,6 +314,9 @@ pub fn settle<A: Allocator + Copy, B: Allocator>(
     end_in_64_bits(lists.pref);
     if lists.are_bad(&roots) {
         return Err(Refused::Fault(SettleFault::BadLists));
+    }
+    if let Some(fault) = first_assumed(admitted) {
+        return Err(Refused::Fault(fault));
     }
     let settled = settle_listed(alloc, admitted, lists, fixed, anew)?;
     Ok(settled)

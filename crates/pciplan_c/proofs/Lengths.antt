@@ -69,6 +69,7 @@ sizes_short size alignment few less =
 settle_fault_short : (fault : SettleFault) → (settle_fault_numbers fault).0 < 2 ^ 64 → (settle_fault_numbers fault).1 < 2 ^ 64
     → length (settle_fault_text fault) ≤ 92
 settle_fault_short settle.BadLists few less = let bytes : length (settle_fault_text settle.BadLists) ≡ 11 = refl in omega (arith, bytes)
+settle_fault_short (settle.Assumed slot reg) few less = let bytes : length (settle_fault_text (settle.Assumed slot reg)) ≡ 21 = refl in omega (arith, bytes)
 settle_fault_short (settle.NoRoom lack) few less =
     let part = part_short (kind_value lack.class) lack.slot lack.register in
     let sizes = sizes_short lack.size lack.alignment few less in

@@ -10,7 +10,7 @@ use Rattle.pci_base.specs.declared.memory.Refused.TheVariants as refused
 use Rattle.pci_base.specs.declared.range.RootRange.{RootRange}
 use Rattle.pci_tree.specs.Admission.{Admission, IsAdmitted}
 use Rattle.pci_place.specs.Above.{system_in}
-use Rattle.pci_settle_writes.specs.Endings.{IsRefusal}
+use Rattle.pci_settle_writes.specs.Endings.{IsRefusal, IsSized}
 use Rattle.pci_settle_writes.specs.Requests.{request}
 use Rattle.pci_settle_writes.specs.declared.lack.SettleFault.{SettleFault}
 use Rattle.pciplan_held.specs.RegisterWrites.{value_of}
@@ -83,16 +83,17 @@ stops_from a closing safe_from made (inr none) stops k past = let all = none.1 i
 pub are_settled : {A : Type 0} (roots dump probe : List ℕ) (words : SettleWords) (asked : Asked A) (a : Admission) (q : Request)
     (made : List spec.Write) (items : List RegisterWrite) (closing safe_from : ℕ)
     → AreTexts roots dump probe a → IsAdmitted a → IsAskedBy words asked → q ≡ asked_request a.roots asked
-    → settle q (system_in a) ≡ Settled made → closing ≡ length (closings q (system_in a) (system_in a))
+    → IsSized a → settle q (system_in a) ≡ Settled made → closing ≡ length (closings q (system_in a) (system_in a))
     → AreStops a closing made → IsSafeFrom a closing safe_from → map value_of items ≡ made
     → AreSettled roots dump probe words items safe_from
-are_settled roots dump probe words asked a q made items closing safe_from texts admitted by same is closes stops safe are = record {
+are_settled roots dump probe words asked a q made items closing safe_from texts admitted by same sized is closes stops safe are = record {
   start = a;
   texts = texts;
   admitted = admitted;
   request = q;
   asked = request_of_words a.roots words asked q same by;
   are = record {
+    sized = sized;
     is = is ∙ ap Settled (sym are);
     safe = subst (λ n. IsSafeFrom a n safe_from) closes safe;
     stops = λ k past. subst (λ ws. IsSound a.roots (system_after (system_in a) (take k ws))) (sym are)

@@ -39,6 +39,7 @@ no_writes_status (NotSettled fault) = 1
 -- the size and the alignment of what has no room
 abbrev pub settle_fault_numbers : SettleFault → ℕ × ℕ
 settle_fault_numbers settle.BadLists = (0, 0)
+settle_fault_numbers (settle.Assumed slot reg) = (0, 0)
 settle_fault_numbers (settle.NoRoom lack) = (lack.size, lack.alignment)
 settle_fault_numbers (settle.TooLarge class slot) = (0, 0)
 settle_fault_numbers (settle.Fixed slot reg) = (0, 0)

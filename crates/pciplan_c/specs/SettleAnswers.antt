@@ -8,7 +8,7 @@ use Rattle.pci_base.specs.declared.memory.Refused.TheVariants as refused
 use Rattle.pci_tree.specs.Admission.{Admission, IsAdmitted}
 use Rattle.pci_tree.specs.Roots.{IsRootList}
 use Rattle.pci_place.specs.Above.{system_in}
-use Rattle.pci_settle_writes.specs.Endings.{IsRefusal}
+use Rattle.pci_settle_writes.specs.Endings.{IsRefusal, IsSized}
 use Rattle.pci_settle_writes.specs.declared.lack.SettleFault.{SettleFault}
 use Rattle.pciplan_held.specs.RegisterWrites.{value_of}
 use Rattle.pciplan_held.specs.Texts.{AreTexts, IsUnreadOf}
@@ -28,9 +28,10 @@ IsSafeFrom a closing safe_from =
     (IsSound a.roots (system_in a) × (safe_from ≡ 0))
     ⊎ ((IsSound a.roots (system_in a) → ⊥) × (safe_from ≡ closing))
 
--- the writes of settling what is admitted, as this is asked for
+-- the writes of settling what is admitted, as this is asked for, where no read back is assumed
 pub record AreWritesFor (q : Request) (a : Admission) (writes : List RegisterWrite)
     (safe_from : ℕ) : Type 0 where
+  pub sized : IsSized a
   pub is : settle q (system_in a) ≡ Settled (map value_of writes)
   pub safe : IsSafeFrom a (length (closings q (system_in a) (system_in a))) safe_from
   pub stops : (k : ℕ) → safe_from ≤ k

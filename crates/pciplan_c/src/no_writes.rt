@@ -27,6 +27,7 @@ fn sizes_of(fault: SettleFault) -> (u64, u64)
 {
     match fault {
         SettleFault::BadLists => (0, 0),
+        SettleFault::Assumed { slot: _, reg: _ } => (0, 0),
         SettleFault::NoRoom(lack) => (lack.size, lack.alignment),
         SettleFault::TooLarge { class: _, slot: _ } => (0, 0),
         SettleFault::Fixed { slot: _, reg: _ } => (0, 0),

@@ -38,9 +38,13 @@ answer_of reply = record {
   remarks = string_bytes reply.remarks;
 }
 
+-- of a task that was done, with remarks
+abbrev pub done_with : List ℕ → List ℕ → Answer
+done_with remarks text = record { status = 0; text = text; remarks = remarks }
+
 -- of a task that was done, and of one that is refused, without remarks
 abbrev pub done : List ℕ → Answer
-done text = record { status = 0; text = text; remarks = [] }
+done text = done_with [] text
 
 abbrev pub refused : List ℕ → Answer
 refused line = record { status = 1; text = line; remarks = [] }

@@ -1,10 +1,10 @@
 pub mod Statuses
 pub mod Answers
+pub mod ProbeAnswers
 pub mod PlanAnswers
 pub mod SettleAnswers
 pub mod FaultsAnswers
 pub mod MapAnswers
 pub mod TakenAnswers
 pub mod GivenAnswers
-pub mod ProbeAnswers
 pub mod Tasks

@@ -12,7 +12,8 @@ use Rattle.plan_spec.specs.PlanPromise.{IsPlanFaultOf}
 use Rattle.pci_tree.specs.Admission.{Admission, IsAdmitted}
 use Rattle.pci_place.specs.Above.{system_in}
 use Rattle.pci_plan.specs.Plans.{PlanValue, IsPlanIn}
-use Rattle.pciplan_tasks.specs.Answers.{Answer, done, no_line, refused}
+use Rattle.pciplan_tasks.specs.Answers.{Answer, done_with, no_line, refused}
+use Rattle.pciplan_tasks.specs.ProbeAnswers.{remarks_named}
 
 -- what is asked for: a plan in these pools, with these root buses, as a dump or as writes; and what a class without room
 -- lacks
@@ -30,12 +31,12 @@ admission_of asked dump probe = record { roots = asked.roots; dump = dump; probe
 abbrev pub plan_text : Bool → PlanValue → List ℕ
 plan_text writes p = if writes then flat_map write_line p.writes else text_of p.dump
 
--- the text of a plan of the two, which are admitted
+-- the text of a plan of the two, which are admitted, and a remark on each register that the titles of the probe name
 pub record IsPlanText (asked : Asked) (dump probe : List Block) (answer : Answer) : Type 0 where
   pub plan : PlanValue
   pub admitted : IsAdmitted (admission_of asked dump probe)
   pub stands : IsPlanIn (admission_of asked dump probe) asked.pools plan
-  pub line : answer ≡ done (plan_text asked.writes plan)
+  pub line : answer ≡ done_with (remarks_named probe) (plan_text asked.writes plan)
 
 -- the line of the first fault that is there, which is one that is looked for before judging
 pub record IsRefusedText (roots : List ℕ) (dump probe : List Block) (answer : Answer) : Type 0 where

@@ -3,13 +3,18 @@ use Rattle.std.specs.Prelude.{List, ℕ, [], ◌∷◌, ◌++◌, Option, Some, 
 use Rattle.std.specs.List.{flat_map}
 use Rattle.pci_spec.specs.Text.{Block, text_of}
 use Rattle.pci_spec.specs.SizesText.{SizesBlock}
+use Rattle.pci_spec.specs.Mark.{AssumedRegister, all_named}
 use Rattle.pci_spec.specs.NoProbe.{Assuming}
-use Rattle.pci_spec.specs.ProbeOf.{AssumedRegister, ProbeFault, probe_of, assumed_of, assumed_text, probe_fault, probe_fault_text}
+use Rattle.pci_spec.specs.ProbeOf.{ProbeFault, probe_of, assumed_of, assumed_text, probe_fault, probe_fault_text}
 use Rattle.pciplan_tasks.specs.Answers.{Answer, no_line, refused}
 
 -- the line on standard error of a register whose read back is assumed
 abbrev pub remark : AssumedRegister → List ℕ
 remark a = codes "pciplan: " ++ (assumed_text a ++ 10 ∷ [])
+
+-- of each register that the titles of a probe name
+abbrev pub remarks_named : List Block → List ℕ
+remarks_named probe = flat_map remark (all_named probe)
 
 -- `probe`: the probe's text and its remarks, or the line of the first fault
 abbrev pub answer_of_fault : List Block → List SizesBlock → Option ProbeFault → Answer

@@ -13,7 +13,7 @@ use Rattle.pci_settle.specs.Lists.{root_range_value}
 use Rattle.pci_base.specs.declared.memory.Refused.TheVariants as refused
 use Rattle.pci_settle_writes.specs.Requests.{request}
 use Rattle.pci_settle_writes.specs.Dumps.{IsSettledDump}
-use Rattle.pci_settle_writes.specs.Endings.{IsRefusal}
+use Rattle.pci_settle_writes.specs.Endings.{IsRefusal, IsSized}
 use Rattle.pci_settle_writes.specs.FaultText.{settle_fault_text}
 use Rattle.pci_settle_writes.specs.declared.lack.SettleFault.{SettleFault}
 use Rattle.pci_tree.specs.Admission.{Admission, IsAdmitted}
@@ -49,8 +49,9 @@ admission_of asked dump probe = record {
   probe = probe;
 }
 
--- What settling comes to: the writes, and the dump after them, titles as they are.
+-- What settling comes to: the writes, and the dump after them, titles as they are. No read back of what has a place is assumed.
 pub record IsSettled (q : Request) (a : Admission) (after : List Block) (writes : List Write) : Type 0 where
+  pub sized : IsSized a
   pub titles : map (λ (b : Block). b.title) after ≡ map (λ (b : Block). b.title) a.dump
   pub settled : IsSettledDump q a after
   pub is : settle q (system_in a) ≡ Settled writes

@@ -11,15 +11,18 @@ ghost use Rattle.pci_tree.specs.Admission.{IsAdmitted};
 ghost use Rattle.pci_tree.specs.Roots.{buses_of};
 ghost use Rattle.pci_place.specs.Pools.{pools_value};
 ghost use Rattle.pci_plan.specs.Writes.{is_plain, write_value};
-ghost use Rattle.pciplan_tasks.specs.Answers.{answer_of, done, no_line, refused};
+ghost use Rattle.pciplan_tasks.specs.Answers.{answer_of, done_with, no_line, refused, text_bytes};
 ghost use Rattle.pci_plan.specs.Plans.{IsFaultOf, plan_fault_of};
 ghost use Rattle.pciplan_tasks.specs.PlanAnswers.{IsPlanned, no_plan_text, plan_text};
+ghost use Rattle.pciplan_tasks.specs.ProbeAnswers.{remarks_named};
 
-use crate::reply::{Reply, Text, done, refused};
+use crate::probing::remarks_named;
+use crate::reply::{Reply, Text, refused};
 use crate::shortage_line::push_shortage;
 use pci_base::memory::{OutOfMemory, Refused};
 use pci_base::window_kind::WindowKind;
 use pci_check::line::no_line;
+use pci_dump::block::Block;
 use pci_dump::dump::Dump;
 use pci_listing::hex_text::{push_byte, push_hex, push_slot};
 use pci_place::pools::Pools;
@@ -113,18 +116,37 @@ fn no_plan<A: Allocator + Copy>(
 }
 
 /// What a plan answers: its writes, or the planned dump.
-fn plan_reply<'a, A: Allocator + Copy>(
+fn plan_text<'a, A: Allocator + Copy>(
     alloc: A,
     plan: Plan<'a, A>,
     writes: bool,
-) -> Result<Reply<A>, OutOfMemory>
-    ensures { IfOk result (λ reply. answer_of reply ≡ done (plan_text writes plan.entry)) }
+) -> Result<Text<A>, OutOfMemory>
+    ensures { IfOk result (λ text. text_bytes text ≡ plan_text writes plan.entry) }
 {
     if writes {
         let lines = lines_of(alloc, plan.writes())?;
-        return Ok(done(alloc, Text::Lines(lines)));
+        return Ok(Text::Lines(lines));
     }
-    Ok(done(alloc, Text::Dump(plan.into_dump())))
+    Ok(Text::Dump(plan.into_dump()))
+}
+
+/// The answer of a plan, with a remark on each register that the titles of the probe name as assumed.
+fn plan_reply<'a, A: Allocator + Copy>(
+    alloc: A,
+    plan: Plan<'a, A>,
+    probe: &[Block],
+    writes: bool,
+) -> Result<Reply<A>, OutOfMemory>
+    ensures { IfOk result (λ reply. answer_of reply
+        ≡ done_with (remarks_named probe.now) (plan_text writes plan.entry)) }
+{
+    let remarks = remarks_named(alloc, probe)?;
+    let text = plan_text(alloc, plan, writes)?;
+    Ok(Reply {
+        refused: false,
+        text,
+        remarks,
+    })
 }
 
 /// Plans what was admitted.
@@ -144,7 +166,7 @@ fn plan_admitted<A: Allocator + Copy>(
     } admitted.now.dump admitted.now.probe (answer_of reply)) }
 {
     match plan(alloc, admitted, pools) {
-        Ok(plan) => plan_reply(alloc, plan, writes),
+        Ok(plan) => plan_reply(alloc, plan, admitted.probe().blocks(), writes),
         Err(Refused::Fault(fault)) => no_plan(alloc, admitted, pools, fault, why),
         Err(Refused::Memory) => Err(OutOfMemory),
     }

@@ -4,12 +4,13 @@ ghost use Rattle.std.specs.List.{flat_map};
 ghost use Rattle.std.specs.String.{string_bytes};
 ghost use Rattle.pci_probe.specs.Assuming.{assuming_of};
 ghost use Rattle.pciplan_tasks.specs.Answers.{answer_of};
-ghost use Rattle.pciplan_tasks.specs.ProbeAnswers.{probe_answer, remark};
+ghost use Rattle.pciplan_tasks.specs.ProbeAnswers.{probe_answer, remark, remarks_named};
 
 use crate::reply::{Reply, Text, refused};
 use pci_base::memory::{OutOfMemory, Refused};
+use pci_dump::block::Block;
 use pci_dump::dump::Dump;
-use pci_probe::assumed::AssumedRegister;
+use pci_dump::mark::{AssumedRegister, all_named};
 use pci_probe::assuming::Assuming;
 use pci_probe::probe::probe_of;
 use pci_probe::sizes::Sizes;
@@ -38,6 +39,17 @@ fn remarks_on<A: Allocator>(alloc: A, assumed: &[AssumedRegister]) -> Result<Str
         }
     }
     Ok(text)
+}
+
+/// A remark on each register that the titles of a probe's blocks name.
+pub fn remarks_named<A: Allocator + Copy>(
+    alloc: A,
+    probe: &[Block],
+) -> Result<String<A>, OutOfMemory>
+    ensures { IfOk result (λ text. string_bytes text ≡ remarks_named probe.now) }
+{
+    let named = all_named(alloc, probe)?;
+    remarks_on(alloc, named.as_slice())
 }
 
 /// The probe of a dump and its sizes, with the remarks on it.

@@ -2,6 +2,7 @@ pub mod FirstPlace
 pub mod PlacingLaws
 pub mod Lists
 pub mod Parts
+pub mod Assumed
 pub mod Stands
 pub mod Items
 pub mod Places

@@ -74,22 +74,14 @@ static ROWS: [Row; 31] = [
         Err(DeriveFault::NoSize(0x10)),
     ),
     // nothing is told of one that isn't enabled: memory, I/O, 64 bits, and 64 bits in the last register
-    Row(
-        &[(0x10, 0xe000_0000)],
-        &[],
-        Ok((&[(0x10, 0xffff_fff0)], &[0x10])),
-    ),
-    Row(
-        &[(0x10, 0xc001)],
-        &[],
-        Ok((&[(0x10, 0xffff_fffd)], &[0x10])),
-    ),
+    Row(&[(0x10, 0xe000_0000)], &[], Err(DeriveFault::NoSize(0x10))),
+    Row(&[(0x10, 0xc001)], &[], Err(DeriveFault::NoSize(0x10))),
     Row(
         &[(0x14, 0xc), (0x18, 1)],
         &[],
-        Ok((&[(0x14, 0xffff_fffc), (0x18, 0xffff_ffff)], &[0x14])),
+        Err(DeriveFault::NoSize(0x14)),
     ),
-    Row(&[(0x24, 4)], &[], Ok((&[(0x24, 0xffff_fff4)], &[0x24]))),
+    Row(&[(0x24, 4)], &[], Err(DeriveFault::NoSize(0x24))),
     // one that shows 0, and a line of another type
     Row(
         &[],

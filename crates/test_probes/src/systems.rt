@@ -4,7 +4,7 @@ use pci_base::memory::Refused;
 use pci_base::slot::Slot;
 use pci_dump::block::{Block, Title};
 use pci_dump::dump::{Dump, PushFault};
-use pci_probe::assumed::AssumedRegister;
+use pci_dump::mark::AssumedRegister;
 use pci_probe::assuming::Assuming;
 use pci_probe::probe::probe_of;
 use pci_probe::probe_fault::ProbeFault;
@@ -26,6 +26,14 @@ const DISABLED: Registers = &[(0x10, 0xe000_0000)];
 
 /// The same with a ROM.
 const WITH_ROM: Registers = &[(0x10, 0xe000_0000), (0x30, 0xfebe_0000)];
+
+/// A bridge on which all is enabled, with a memory window alone, and a ROM that is off.
+const BRIDGE: Registers = &[
+    (0x04, 7),
+    (0x0c, 0x0001_0000),
+    (0x20, 0xfff0),
+    (0x38, 0xfebe_0000),
+];
 
 /// What reads FFFFh as its vendor, and a header of type 2.
 const SILENT: Registers = &[(0x00, 0xffff)];
@@ -49,18 +57,19 @@ static SYSTEMS: [System; 17] = [
     ),
     // remarks by slot and register
     System(
-        &[(1, DISABLED), (2, WITH_ROM)],
-        &[(1, UNTOLD), (2, UNTOLD)],
+        &[(1, WITH_ROM), (2, BRIDGE)],
+        &[(1, SIZED), (2, UNTOLD)],
         Assuming::Disabled,
         Ok((
             &[
-                &[(0x10, 0xffff_fff0)],
-                &[(0x10, 0xffff_fff0), (0x30, 0xffff_f800)],
+                &[(0x10, 0xffff_f000), (0x30, 0xffff_f800)],
+                &[(0x20, 0xfff0_fff0), (0x38, 0xffff_f800)],
             ],
             &[
-                "assumed 00:01.0 10",
-                "assumed 00:02.0 10",
-                "assumed 00:02.0 30",
+                "assumed 00:01.0 30",
+                "assumed 00:02.0 1c",
+                "assumed 00:02.0 24",
+                "assumed 00:02.0 38",
             ],
         )),
     ),
@@ -120,12 +129,12 @@ static SYSTEMS: [System; 17] = [
         Assuming::Disabled,
         Err("20 NoVendor 00:02.0"),
     ),
-    // registers, by slot
+    // registers, by slot; whether a BAR is enabled doesn't count
     System(
         &[(1, DISABLED), (2, ENABLED)],
         &[(1, UNTOLD), (2, UNTOLD)],
         Assuming::Disabled,
-        Err("32 NoSize 00:02.0 10"),
+        Err("32 NoSize 00:01.0 10"),
     ),
     System(
         &[(1, &[(0x04, 2)]), (2, ENABLED)],
@@ -195,9 +204,7 @@ fn sizes_of(rt: &HostRuntime, functions: &[(u8, &[Line])]) -> Option<Sizes> {
 
 /// Whether a block of a probe is of this device, and holds these read backs.
 fn is_block(block: &Block, device: u8, registers: Registers) -> bool {
-    block.slot == slot(device)
-        && block.title.is_none()
-        && block.image == with_registers([0; 256], registers)
+    block.slot == slot(device) && block.image == with_registers([0; 256], registers)
 }
 
 /// Whether a probe has a system's functions with these read backs.
@@ -289,4 +296,28 @@ fn blocks_of_sizes_rise(rt: HostRuntime) {
 fn faults_of_a_probe_have_these_numbers(rt: HostRuntime) {
     assert!(rt; ProbeFault::SlotsDiffer(slot(1)).number() == 30);
     assert!(rt; ProbeFault::OtherSize(slot(1), 0x10).number() == 33);
+}
+
+/// Whether a block has a title of this text; an empty text is that of none.
+fn has_title(block: &Block, text: &[u8]) -> bool {
+    match &block.title {
+        None => text.is_empty(),
+        Some(title) => title.bytes() == text,
+    }
+}
+
+#[test]
+fn titles_name_what_is_assumed(rt: HostRuntime) {
+    let dump = dump_of(&rt, &[(1, ENABLED), (2, WITH_ROM), (3, BRIDGE)]);
+    let sizes = sizes_of(&rt, &[(1, SIZED), (2, SIZED), (3, UNTOLD)]);
+    let (Some(dump), Some(sizes)) = (dump, sizes) else {
+        return assert!(rt; false);
+    };
+    let Ok(derived) = probe_of(rt.alloc(), &dump, &sizes, Assuming::Disabled) else {
+        return assert!(rt; false);
+    };
+    let texts: [&[u8]; 3] = [b"", b"assumed 30", b"assumed 1c,24,38"];
+    for (block, text) in derived.probe.blocks().iter().zip(texts.iter()) {
+        assert!(rt; has_title(block, text));
+    }
 }

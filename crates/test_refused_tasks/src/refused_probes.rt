@@ -30,7 +30,7 @@ fn push_sizes(text: &mut String, slot: &str, first: &str) -> Result<(), AllocErr
 fn example(alloc: Global) -> Result<Texts, AllocError> {
     let board = [
         device("00:01.0", 2, &[(0x10, 0xfebc_0000, 0)]),
-        device("00:02.0", 0, &[(0x10, 0xe000_0000, 0)]),
+        device("00:02.0", 0, &[(0x30, 0xe000_0000, 0)]),
     ];
     let dump = texts_of(alloc, &board)?.dump;
     let mut probe = String::new(alloc);
@@ -52,7 +52,7 @@ fn a_probe_that_is_refused_a_growth_says_just_that(rt: HostRuntime) -> Result<()
 fn is_told(got: &Answer, message: &[u8]) -> bool {
     match got.status {
         4 => got.out.is_empty() && got.err.as_slice() == message,
-        0 => got.err.as_slice() == b"pciplan: assumed 00:02.0 10\n".as_slice(),
+        0 => got.err.as_slice() == b"pciplan: assumed 00:02.0 30\n".as_slice(),
         _ => false,
     }
 }

@@ -31,7 +31,7 @@ returns-in-Ok-put_writes-clause-put g c = λ roots dump probe words texts by.
           texts c.outline-outline.ensures.admitted by
           (same_request c.args.admitted.now.roots c.args.asked.now _ _ _ _
           c.as_slice-io.ensures.value c.as_slice-mem.ensures.value c.as_slice-pref.ensures.value c.as_slice-fixed.ensures.value)
-          c.in-Ok.ensures.settled c.in-Ok.ensures.closings c.in-Ok.ensures.stops c.in-Ok-safe_from.ensures
+          c.in-Ok.ensures.sized c.in-Ok.ensures.settled c.in-Ok.ensures.closings c.in-Ok.ensures.stops c.in-Ok-safe_from.ensures
           (put.are ∙ ap (λ writes. map write_value writes) c.as_slice.ensures.value);
       put = put.put;
       number = put.number;
@@ -49,7 +49,7 @@ returns-clause-why g c = λ roots dump probe words texts by. record {
       texts c.outline-outline.ensures.admitted by
       (same_request c.args.admitted.now.roots c.args.asked.now _ _ _ _
       c.as_slice-io.ensures.value c.as_slice-mem.ensures.value c.as_slice-pref.ensures.value c.as_slice-fixed.ensures.value)
-      c.in-Ok.ensures.settled c.in-Ok.ensures.closings c.in-Ok.ensures.stops c.in-Ok-safe_from.ensures
+      c.in-Ok.ensures.sized c.in-Ok.ensures.settled c.in-Ok.ensures.closings c.in-Ok.ensures.stops c.in-Ok-safe_from.ensures
       (writes_as_planned c.as_slice.result.now ∙ ap (λ writes. map write_value writes) c.as_slice.ensures.value);
   number = c.in-Err.ensures.needed.0 ∙ sym (length-map c.as_slice.result.now write_of_c);
   more = c.in-Err.ensures.needed.1;
