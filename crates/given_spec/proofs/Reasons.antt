@@ -12,6 +12,7 @@ use Rattle.pci_spec.specs.Bus.{is_root}
 use Rattle.pci_spec.specs.Fault.{Unreached, Clash, Split, named_region, named_regions}
 use Rattle.pci_spec.specs.Fault as faults
 use Rattle.pci_spec.specs.Decoded.{Range, InRange}
+use Rattle.pci_spec.specs.Mark.{AssumedRegister, is_size_assumed}
 use Rattle.pci_spec.specs.Why.{IsRun, AreRuns, range_line, is_wide_part}
 use Rattle.pci_spec.specs.Why as plain
 use Rattle.pci_spec.specs.FaultsText as plain_text
@@ -240,67 +241,76 @@ said_of_none Memory = refl
 root_alone : (b : Bool) (space : Space) → b && not (is_said nothing_given space) ≡ b
 root_alone b space = ap (λ x. b && not x) (said_of_none space) ∙ and-true b
 
-fit_behind_plain : (roots : List ℕ) (s : System) (q : plain.Region) (lines : List ℕ) → plain.IsRegionIn s q → IsFitBehind nothing_given roots s (Own q) lines → plain.IsFitBehind roots s q lines
-fit_behind_plain roots s q lines is h =
-    match_same (is_root roots q.slot.bus) (lines ≡ []) (IsFit nothing_given roots s q lines) (plain.IsFit roots s q lines)
-    (λ off fit. record { f = fit.f; listed = fit.listed; slot = fit.slot; place = fit.place; exact = least_plain roots s q is (no_root roots q.slot.bus off) (is_wide_part fit.f q.part) fit.place fit.exact; text = fit.text })
-    (subst (λ b. MatchBool b (lines ≡ []) (IsFit nothing_given roots s q lines)) (root_alone (is_root roots q.slot.bus) q.space) h)
+-- what stands below a root bus
+abbrev GivenInner : List AssumedRegister → List ℕ → System → plain.Region → List ℕ → Type 0
+GivenInner assumed roots s q lines = MatchBool (is_size_assumed assumed q.slot q.register) (lines ≡ plain.unknown_line) (IsFit nothing_given roots s q lines)
 
-plain_fit_behind : (roots : List ℕ) (s : System) (q : plain.Region) (lines : List ℕ) → plain.IsRegionIn s q → plain.IsFitBehind roots s q lines → IsFitBehind nothing_given roots s (Own q) lines
-plain_fit_behind roots s q lines is h =
-    subst (λ b. MatchBool b (lines ≡ []) (IsFit nothing_given roots s q lines)) (sym (root_alone (is_root roots q.slot.bus) q.space))
-    (match_same (is_root roots q.slot.bus) (lines ≡ []) (plain.IsFit roots s q lines) (IsFit nothing_given roots s q lines)
-    (λ off fit. record { f = fit.f; listed = fit.listed; slot = fit.slot; place = fit.place; exact = plain_least roots s q is (no_root roots q.slot.bus off) (is_wide_part fit.f q.part) fit.place fit.exact; text = fit.text })
+abbrev PlainInner : List AssumedRegister → List ℕ → System → plain.Region → List ℕ → Type 0
+PlainInner assumed roots s q lines = MatchBool (is_size_assumed assumed q.slot q.register) (lines ≡ plain.unknown_line) (plain.IsFit roots s q lines)
+
+fit_behind_plain : (assumed : List AssumedRegister) (roots : List ℕ) (s : System) (q : plain.Region) (lines : List ℕ) → plain.IsRegionIn s q → IsFitBehind assumed nothing_given roots s (Own q) lines → plain.IsFitBehind assumed roots s q lines
+fit_behind_plain assumed roots s q lines is h =
+    match_same (is_root roots q.slot.bus) (lines ≡ []) (GivenInner assumed roots s q lines) (PlainInner assumed roots s q lines)
+    (λ off. match_same (is_size_assumed assumed q.slot q.register) (lines ≡ plain.unknown_line) (IsFit nothing_given roots s q lines) (plain.IsFit roots s q lines)
+    (λ told fit. record { f = fit.f; listed = fit.listed; slot = fit.slot; place = fit.place; exact = least_plain roots s q is (no_root roots q.slot.bus off) (is_wide_part fit.f q.part) fit.place fit.exact; text = fit.text }))
+    (subst (λ b. MatchBool b (lines ≡ []) (GivenInner assumed roots s q lines)) (root_alone (is_root roots q.slot.bus) q.space) h)
+
+plain_fit_behind : (assumed : List AssumedRegister) (roots : List ℕ) (s : System) (q : plain.Region) (lines : List ℕ) → plain.IsRegionIn s q → plain.IsFitBehind assumed roots s q lines → IsFitBehind assumed nothing_given roots s (Own q) lines
+plain_fit_behind assumed roots s q lines is h =
+    subst (λ b. MatchBool b (lines ≡ []) (GivenInner assumed roots s q lines)) (sym (root_alone (is_root roots q.slot.bus) q.space))
+    (match_same (is_root roots q.slot.bus) (lines ≡ []) (PlainInner assumed roots s q lines) (GivenInner assumed roots s q lines)
+    (λ off. match_same (is_size_assumed assumed q.slot q.register) (lines ≡ plain.unknown_line) (plain.IsFit roots s q lines) (IsFit nothing_given roots s q lines)
+    (λ told fit. record { f = fit.f; listed = fit.listed; slot = fit.slot; place = fit.place; exact = plain_least roots s q is (no_root roots q.slot.bus off) (is_wide_part fit.f q.part) fit.place fit.exact; text = fit.text }))
     h)
 
-abbrev PlainAdvice : List ℕ → System → Slot → ℕ → Space → List ℕ → Type 0
-PlainAdvice roots s slot register space lines = (q : plain.Region) × plain.IsNamed q slot register space × plain.IsRegionIn s q × plain.IsFitBehind roots s q lines
+abbrev PlainAdvice : List AssumedRegister → List ℕ → System → Slot → ℕ → Space → List ℕ → Type 0
+PlainAdvice assumed roots s slot register space lines = (q : plain.Region) × plain.IsNamed q slot register space × plain.IsRegionIn s q × plain.IsFitBehind assumed roots s q lines
 
-advice_plain : (roots : List ℕ) (s : System) (slot : Slot) (register : ℕ) (space : Space) (lines : List ℕ) → IsAdviceFor nothing_given roots s (named_region slot register) space lines → PlainAdvice roots s slot register space lines
-advice_plain roots s slot register space lines (Own q, named, is, fit) = (q, named, is, fit_behind_plain roots s q lines is fit)
-advice_plain roots s slot register space lines (Legacy b sp, named, is, fit) = absurd (no_legacy_claims b sp is.1 is.2)
+advice_plain : (assumed : List AssumedRegister) (roots : List ℕ) (s : System) (slot : Slot) (register : ℕ) (space : Space) (lines : List ℕ) → IsAdviceFor assumed nothing_given roots s (named_region slot register) space lines → PlainAdvice assumed roots s slot register space lines
+advice_plain assumed roots s slot register space lines (Own q, named, is, fit) = (q, named, is, fit_behind_plain assumed roots s q lines is fit)
+advice_plain assumed roots s slot register space lines (Legacy b sp, named, is, fit) = absurd (no_legacy_claims b sp is.1 is.2)
 
-plain_advice : (roots : List ℕ) (s : System) (slot : Slot) (register : ℕ) (space : Space) (lines : List ℕ) → PlainAdvice roots s slot register space lines → IsAdviceFor nothing_given roots s (named_region slot register) space lines
-plain_advice roots s slot register space lines (q, named, is, fit) = (Own q, named, is, plain_fit_behind roots s q lines is fit)
+plain_advice : (assumed : List AssumedRegister) (roots : List ℕ) (s : System) (slot : Slot) (register : ℕ) (space : Space) (lines : List ℕ) → PlainAdvice assumed roots s slot register space lines → IsAdviceFor assumed nothing_given roots s (named_region slot register) space lines
+plain_advice assumed roots s slot register space lines (q, named, is, fit) = (Own q, named, is, plain_fit_behind assumed roots s q lines is fit)
 
-advice_same : (roots : List ℕ) (s : System) (fault : faults.Fault) (lines : List ℕ) → IsAdvice nothing_given roots s (Known fault) lines ↔ plain.IsAdvice roots s fault lines
-advice_same roots s fault lines = elim fault as (λ fault. IsKnownAdvice nothing_given roots s fault lines ↔ plain.IsAdvice roots s fault lines) [
-  | Unreached slot register space a bridge ↦ (advice_plain roots s slot register space lines, plain_advice roots s slot register space lines)
-  | Clash bus space a first fr second sr ↦ (advice_plain roots s second sr space lines, plain_advice roots s second sr space lines)
+advice_same : (assumed : List AssumedRegister) (roots : List ℕ) (s : System) (fault : faults.Fault) (lines : List ℕ) → IsAdvice assumed nothing_given roots s (Known fault) lines ↔ plain.IsAdvice assumed roots s fault lines
+advice_same assumed roots s fault lines = elim fault as (λ fault. IsKnownAdvice assumed nothing_given roots s fault lines ↔ plain.IsAdvice assumed roots s fault lines) [
+  | Unreached slot register space a bridge ↦ (advice_plain assumed roots s slot register space lines, plain_advice assumed roots s slot register space lines)
+  | Clash bus space a first fr second sr ↦ (advice_plain assumed roots s second sr space lines, plain_advice assumed roots s second sr space lines)
   | Split space a first fr second sr ↦ (
-    λ h. subst (λ b. MatchBool b (IsAdviceFor nothing_given roots s (named_region second sr) space lines) (lines ≡ [])) (said_of_none space) h,
-    λ h. subst (λ b. MatchBool b (IsAdviceFor nothing_given roots s (named_region second sr) space lines) (lines ≡ [])) (sym (said_of_none space)) h,
+    λ h. subst (λ b. MatchBool b (IsAdviceFor assumed nothing_given roots s (named_region second sr) space lines) (lines ≡ [])) (said_of_none space) h,
+    λ h. subst (λ b. MatchBool b (IsAdviceFor assumed nothing_given roots s (named_region second sr) space lines) (lines ≡ [])) (sym (said_of_none space)) h,
   )
   | _ ↦ (λ h. h, λ h. h)
 ]
 
 pub same_why : SameWhy
-same_why roots s fault lines = (
+same_why assumed roots s fault lines = (
   λ h. record {
     evidence = h.evidence;
     advice = h.advice;
     told = (evidence_same roots s fault h.evidence).0 h.told;
-    fits = (advice_same roots s fault h.advice).0 h.fits;
+    fits = (advice_same assumed roots s fault h.advice).0 h.fits;
     text = h.text;
   },
   λ h. record {
     evidence = h.evidence;
     advice = h.advice;
     told = (evidence_same roots s fault h.evidence).1 h.told;
-    fits = (advice_same roots s fault h.advice).1 h.fits;
+    fits = (advice_same assumed roots s fault h.advice).1 h.fits;
     text = h.text;
   },
 )
 
 -- ---- lists
 
-reasoned_plain : (roots : List ℕ) (s : System) (fs : List faults.Fault) (lines : List ℕ) → AreReasoned nothing_given roots s (map Known fs) lines → plain_text.AreReasoned roots s fs lines
-reasoned_plain roots s [] lines h = h
-reasoned_plain roots s (f ∷ fs) lines (behind, more, why, rest, e) = (behind, more, (same_why roots s f behind).0 why, reasoned_plain roots s fs more rest, e)
+reasoned_plain : (assumed : List AssumedRegister) (roots : List ℕ) (s : System) (fs : List faults.Fault) (lines : List ℕ) → AreReasoned assumed nothing_given roots s (map Known fs) lines → plain_text.AreReasoned assumed roots s fs lines
+reasoned_plain assumed roots s [] lines h = h
+reasoned_plain assumed roots s (f ∷ fs) lines (behind, more, why, rest, e) = (behind, more, (same_why assumed roots s f behind).0 why, reasoned_plain assumed roots s fs more rest, e)
 
-plain_reasoned : (roots : List ℕ) (s : System) (fs : List faults.Fault) (lines : List ℕ) → plain_text.AreReasoned roots s fs lines → AreReasoned nothing_given roots s (map Known fs) lines
-plain_reasoned roots s [] lines h = h
-plain_reasoned roots s (f ∷ fs) lines (behind, more, why, rest, e) = (behind, more, (same_why roots s f behind).1 why, plain_reasoned roots s fs more rest, e)
+plain_reasoned : (assumed : List AssumedRegister) (roots : List ℕ) (s : System) (fs : List faults.Fault) (lines : List ℕ) → plain_text.AreReasoned assumed roots s fs lines → AreReasoned assumed nothing_given roots s (map Known fs) lines
+plain_reasoned assumed roots s [] lines h = h
+plain_reasoned assumed roots s (f ∷ fs) lines (behind, more, why, rest, e) = (behind, more, (same_why assumed roots s f behind).1 why, plain_reasoned assumed roots s fs more rest, e)
 
 yes_same : (fs : List faults.Fault) → yes_line (map Known fs) ≡ plain_text.yes_line fs
 yes_same [] = refl
@@ -314,7 +324,7 @@ text_same : (s : System) (fs : List faults.Fault) (lines : List ℕ) → (yes_li
 text_same s fs lines = ap (λ y. (y ++ lines) ++ off_behind s (map Known fs)) (yes_same fs) ∙ ap (λ o. (plain_text.yes_line fs ++ lines) ++ o) (off_same s fs)
 
 pub same_text : SameText
-same_text roots s fs text = (
-  λ h. record { lines = h.lines; reasoned = reasoned_plain roots s fs h.lines h.reasoned; is = h.is ∙ text_same s fs h.lines },
-  λ h. record { lines = h.lines; reasoned = plain_reasoned roots s fs h.lines h.reasoned; is = h.is ∙ sym (text_same s fs h.lines) },
+same_text assumed roots s fs text = (
+  λ h. record { lines = h.lines; reasoned = reasoned_plain assumed roots s fs h.lines h.reasoned; is = h.is ∙ text_same s fs h.lines },
+  λ h. record { lines = h.lines; reasoned = plain_reasoned assumed roots s fs h.lines h.reasoned; is = h.is ∙ sym (text_same s fs h.lines) },
 )

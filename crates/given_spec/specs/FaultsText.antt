@@ -3,6 +3,7 @@
 use Rattle.std.specs.Prelude.{◌≡◌, ℕ, ◌==◌, Bool, true, false, if◌then◌else◌, List, [], ◌∷◌, ◌++◌, codes}
 use Rattle.pci_spec.specs.System.{System}
 use Rattle.pci_spec.specs.Order.{phase_key, phase_of, Judging}
+use Rattle.pci_spec.specs.Mark.{AssumedRegister}
 use Rattle.pci_spec.specs.Why.{off_lines}
 use Rattle.given_spec.specs.Given.{Given}
 use Rattle.given_spec.specs.Fault.{Fault, Known, Outside}
@@ -15,11 +16,12 @@ yes_line [] = codes "yes" ++ 10 ∷ []
 yes_line (fault ∷ rest) = []
 
 -- the faults' lines, each with the lines behind it
-abbrev pub AreReasoned : Given → List ℕ → System → List Fault → List ℕ → Type 0
-AreReasoned given roots s [] lines = lines ≡ []
-AreReasoned given roots s (fault ∷ rest) lines =
-    (behind : List ℕ) × (more : List ℕ) × IsWhy given roots s fault behind
-    × AreReasoned given roots s rest more × (lines ≡ (fault_line fault ++ behind) ++ more)
+abbrev pub AreReasoned :
+    List AssumedRegister → Given → List ℕ → System → List Fault → List ℕ → Type 0
+AreReasoned assumed given roots s [] lines = lines ≡ []
+AreReasoned assumed given roots s (fault ∷ rest) lines =
+    (behind : List ℕ) × (more : List ℕ) × IsWhy assumed given roots s fault behind
+    × AreReasoned assumed given roots s rest more × (lines ≡ (fault_line fault ++ behind) ++ more)
 
 -- whether a fault is one of judging
 abbrev pub is_of_judging : Fault → Bool
@@ -36,13 +38,15 @@ abbrev pub off_behind : System → List Fault → List ℕ
 off_behind s faults = if is_judged faults then off_lines s else []
 
 -- with reasons
-pub record IsReasonedText (given : Given) (roots : List ℕ) (s : System) (faults : List Fault)
-    (text : List ℕ) : Type 0 where
+pub record IsReasonedText (assumed : List AssumedRegister) (given : Given) (roots : List ℕ)
+    (s : System) (faults : List Fault) (text : List ℕ) : Type 0 where
   pub lines : List ℕ
-  pub reasoned : AreReasoned given roots s faults lines
+  pub reasoned : AreReasoned assumed given roots s faults lines
   pub is : text ≡ (yes_line faults ++ lines) ++ off_behind s faults
 
 -- with reasons, or without
-abbrev pub IsFaultsText : Given → List ℕ → System → Bool → List Fault → List ℕ → Type 0
-IsFaultsText given roots s true faults text = IsReasonedText given roots s faults text
-IsFaultsText given roots s false faults text = text ≡ list_text faults
+abbrev pub IsFaultsText :
+    List AssumedRegister → Given → List ℕ → System → Bool → List Fault → List ℕ → Type 0
+IsFaultsText assumed given roots s true faults text =
+    IsReasonedText assumed given roots s faults text
+IsFaultsText assumed given roots s false faults text = text ≡ list_text faults

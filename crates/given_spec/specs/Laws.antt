@@ -7,6 +7,7 @@ use Rattle.pci_spec.specs.System as system
 use Rattle.pci_spec.specs.Bus.{IsNested}
 use Rattle.pci_spec.specs.Fault as plain
 use Rattle.pci_spec.specs.Sound as sound
+use Rattle.pci_spec.specs.Mark.{AssumedRegister}
 use Rattle.pci_spec.specs.Why as why
 use Rattle.pci_spec.specs.FaultsText as faults_text
 use Rattle.pci_spec.specs.Fault.{address_in, named_region}
@@ -73,15 +74,18 @@ SameSound =
 -- the lines behind a fault
 abbrev pub SameWhy : Type 0
 SameWhy =
-    (roots : List ℕ) (s : System) (fault : plain.Fault) (lines : List ℕ)
-    → IsWhy nothing_given roots s (Known fault) lines ↔ why.IsWhy roots s fault lines
+    (assumed : List AssumedRegister) (roots : List ℕ) (s : System) (fault : plain.Fault)
+    (lines : List ℕ)
+    → IsWhy assumed nothing_given roots s (Known fault) lines
+    ↔ why.IsWhy assumed roots s fault lines
 
 -- the text of a list with reasons
 abbrev pub SameText : Type 0
 SameText =
-    (roots : List ℕ) (s : System) (faults : List plain.Fault) (text : List ℕ)
-    → IsReasonedText nothing_given roots s (map Known faults) text
-    ↔ faults_text.IsReasonedText roots s faults text
+    (assumed : List AssumedRegister) (roots : List ℕ) (s : System) (faults : List plain.Fault)
+    (text : List ℕ)
+    → IsReasonedText assumed nothing_given roots s (map Known faults) text
+    ↔ faults_text.IsReasonedText assumed roots s faults text
 
 -- ---- what faults are good for
 

@@ -13,7 +13,8 @@ use Rattle.pci_spec.specs.Fault as faults
 use Rattle.pci_spec.specs.Decoded.{Range, InRange, decoded_windows}
 use Rattle.pci_spec.specs.Line.{space_text}
 use Rattle.pci_spec.specs.Listing.{inner_line, range_text, on_text}
-use Rattle.pci_spec.specs.Why.{AreRuns, range_line, windows_text, fits_line, address_count, place_end, is_wide_part}
+use Rattle.pci_spec.specs.Mark.{AssumedRegister, is_size_assumed}
+use Rattle.pci_spec.specs.Why.{AreRuns, range_line, windows_text, fits_line, unknown_line, address_count, place_end, is_wide_part}
 use Rattle.pci_spec.specs.Why as plain
 use Rattle.given_spec.specs.Given.{Given, HostRange, ranges_said, is_for, starts}
 use Rattle.given_spec.specs.Claims.{Part, Claims, LegacyClaims, passes, IsPassedTo, register_of, may_share}
@@ -217,42 +218,47 @@ pub record IsFit (given : Given) (roots : List ℕ) (s : System) (q : plain.Regi
 abbrev pub is_said : Given → Space → Bool
 is_said given space = is_some (ranges_said given space)
 
--- on a root bus to which all of the space is sent there is no such line, and a legacy part can't be moved
-abbrev pub IsFitBehind : Given → List ℕ → System → Region → List ℕ → Type 0
-IsFitBehind given roots s (Own q) lines =
+-- On a root bus to which all of the space is sent there is no such line, and a legacy part can't be moved. Where the read
+-- back of the region's register is assumed, its size isn't known.
+abbrev pub IsFitBehind : List AssumedRegister → Given → List ℕ → System → Region → List ℕ → Type 0
+IsFitBehind assumed given roots s (Own q) lines =
     MatchBool (is_root roots q.slot.bus && not (is_said given q.space)) (lines ≡ [])
-    (IsFit given roots s q lines)
-IsFitBehind given roots s (Legacy b space) lines = lines ≡ []
+    (MatchBool (is_size_assumed assumed q.slot q.register) (lines ≡ unknown_line)
+    (IsFit given roots s q lines))
+IsFitBehind assumed given roots s (Legacy b space) lines = lines ≡ []
 
-abbrev pub IsAdviceFor : Given → List ℕ → System → RegionName → Space → List ℕ → Type 0
-IsAdviceFor given roots s region space lines =
+abbrev pub IsAdviceFor :
+    List AssumedRegister → Given → List ℕ → System → RegionName → Space → List ℕ → Type 0
+IsAdviceFor assumed given roots s region space lines =
     (q : Region) × IsNamed q region.slot region.register space × IsRegionIn given s q
-    × IsFitBehind given roots s q lines
+    × IsFitBehind assumed given roots s q lines
 
-abbrev pub IsKnownAdvice : Given → List ℕ → System → faults.Fault → List ℕ → Type 0
-IsKnownAdvice given roots s (Unreached slot register space address bridge) lines =
-    IsAdviceFor given roots s (named_region slot register) space lines
-IsKnownAdvice given roots s (Clash bus space address first first_register second second_register)
-    lines =
-    IsAdviceFor given roots s (named_region second second_register) space lines
+abbrev pub IsKnownAdvice :
+    List AssumedRegister → Given → List ℕ → System → faults.Fault → List ℕ → Type 0
+IsKnownAdvice assumed given roots s (Unreached slot register space address bridge) lines =
+    IsAdviceFor assumed given roots s (named_region slot register) space lines
+IsKnownAdvice assumed given roots s
+    (Clash bus space address first first_register second second_register) lines =
+    IsAdviceFor assumed given roots s (named_region second second_register) space lines
 -- the second region stands on a root bus
-IsKnownAdvice given roots s (Split space address first first_register second second_register)
-    lines =
+IsKnownAdvice assumed given roots s
+    (Split space address first first_register second second_register) lines =
     MatchBool (is_said given space)
-    (IsAdviceFor given roots s (named_region second second_register) space lines) (lines ≡ [])
-IsKnownAdvice given roots s fault lines = lines ≡ []
+    (IsAdviceFor assumed given roots s (named_region second second_register) space lines)
+    (lines ≡ [])
+IsKnownAdvice assumed given roots s fault lines = lines ≡ []
 
 -- the line of the region that isn't sent or reached, or the second of two
-abbrev pub IsAdvice : Given → List ℕ → System → Fault → List ℕ → Type 0
-IsAdvice given roots s (Known fault) lines = IsKnownAdvice given roots s fault lines
-IsAdvice given roots s (Outside slot register space address) lines =
-    IsAdviceFor given roots s (named_region slot register) space lines
+abbrev pub IsAdvice : List AssumedRegister → Given → List ℕ → System → Fault → List ℕ → Type 0
+IsAdvice assumed given roots s (Known fault) lines = IsKnownAdvice assumed given roots s fault lines
+IsAdvice assumed given roots s (Outside slot register space address) lines =
+    IsAdviceFor assumed given roots s (named_region slot register) space lines
 
 -- all lines behind a fault
-pub record IsWhy (given : Given) (roots : List ℕ) (s : System) (fault : Fault)
-    (lines : List ℕ) : Type 0 where
+pub record IsWhy (assumed : List AssumedRegister) (given : Given) (roots : List ℕ) (s : System)
+    (fault : Fault) (lines : List ℕ) : Type 0 where
   pub evidence : List ℕ
   pub advice : List ℕ
   pub told : IsEvidence given roots s fault evidence
-  pub fits : IsAdvice given roots s fault advice
+  pub fits : IsAdvice assumed given roots s fault advice
   pub text : lines ≡ evidence ++ advice

@@ -6,6 +6,7 @@ use Rattle.pci_spec.specs.System.{System}
 use Rattle.pci_spec.specs.Fault.{Fault}
 use Rattle.pci_spec.specs.Order.{phase_key, phase_of, Judging}
 use Rattle.pci_spec.specs.Line.{fault_text}
+use Rattle.pci_spec.specs.Mark.{AssumedRegister}
 use Rattle.pci_spec.specs.Why.{IsWhy, off_lines}
 
 -- a fault's line is that of a verdict without its `no`
@@ -18,11 +19,11 @@ yes_line [] = codes "yes" ++ 10 ∷ []
 yes_line (fault ∷ rest) = []
 
 -- the faults' lines, each with the lines behind it
-abbrev pub AreReasoned : List ℕ → System → List Fault → List ℕ → Type 0
-AreReasoned roots s [] lines = lines ≡ []
-AreReasoned roots s (fault ∷ rest) lines =
-    (behind : List ℕ) × (more : List ℕ) × IsWhy roots s fault behind
-    × AreReasoned roots s rest more × (lines ≡ (fault_line fault ++ behind) ++ more)
+abbrev pub AreReasoned : List AssumedRegister → List ℕ → System → List Fault → List ℕ → Type 0
+AreReasoned assumed roots s [] lines = lines ≡ []
+AreReasoned assumed roots s (fault ∷ rest) lines =
+    (behind : List ℕ) × (more : List ℕ) × IsWhy assumed roots s fault behind
+    × AreReasoned assumed roots s rest more × (lines ≡ (fault_line fault ++ behind) ++ more)
 
 -- whether judging came to look: no fault of an earlier phase is there
 abbrev pub is_judged : List Fault → Bool
@@ -34,13 +35,15 @@ abbrev pub off_behind : System → List Fault → List ℕ
 off_behind s faults = if is_judged faults then off_lines s else []
 
 -- with reasons
-pub record IsReasonedText (roots : List ℕ) (s : System) (faults : List Fault)
-    (text : List ℕ) : Type 0 where
+pub record IsReasonedText (assumed : List AssumedRegister) (roots : List ℕ) (s : System)
+    (faults : List Fault) (text : List ℕ) : Type 0 where
   pub lines : List ℕ
-  pub reasoned : AreReasoned roots s faults lines
+  pub reasoned : AreReasoned assumed roots s faults lines
   pub is : text ≡ (yes_line faults ++ lines) ++ off_behind s faults
 
 -- with reasons, or without
-abbrev pub IsFaultsText : List ℕ → System → Bool → List Fault → List ℕ → Type 0
-IsFaultsText roots s true faults text = IsReasonedText roots s faults text
-IsFaultsText roots s false faults text = text ≡ yes_line faults ++ flat_map fault_line faults
+abbrev pub IsFaultsText :
+    List AssumedRegister → List ℕ → System → Bool → List Fault → List ℕ → Type 0
+IsFaultsText assumed roots s true faults text = IsReasonedText assumed roots s faults text
+IsFaultsText assumed roots s false faults text =
+    text ≡ yes_line faults ++ flat_map fault_line faults

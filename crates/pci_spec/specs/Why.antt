@@ -11,6 +11,7 @@ use Rattle.pci_spec.specs.Bus.{is_root}
 use Rattle.pci_spec.specs.Fault.{Fault, Unreached, Clash, Split}
 use Rattle.pci_spec.specs.Decoded.{Range, InRange, DecodedBar, DecodedWindows, decoded_bars, decoded_windows}
 use Rattle.pci_spec.specs.Listing.{words, inner_line, range_text, kind_space, on_text, window_text}
+use Rattle.pci_spec.specs.Mark.{AssumedRegister, is_size_assumed}
 
 -- ---- amounts
 
@@ -210,26 +211,36 @@ pub record IsFit (roots : List ℕ) (s : System) (q : Region) (lines : List ℕ)
       (λ r. IsLeastPlace roots s q (is_wide_part f q.part) r)
   pub text : lines ≡ fits_line q.space place
 
--- on a root bus there is no bridge on the way, and no such line
-abbrev pub IsFitBehind : List ℕ → System → Region → List ℕ → Type 0
-IsFitBehind roots s q lines =
-    MatchBool (is_root roots q.slot.bus) (lines ≡ []) (IsFit roots s q lines)
+-- the line of a region whose size isn't known
+abbrev pub unknown_line : List ℕ
+unknown_line = inner_line (codes "fits" ∷ codes "unknown" ∷ [])
+
+-- On a root bus there is no bridge on the way, and no such line. Where the read back of the region's register is
+-- assumed, its size isn't known.
+abbrev pub IsFitBehind : List AssumedRegister → List ℕ → System → Region → List ℕ → Type 0
+IsFitBehind assumed roots s q lines =
+    MatchBool (is_root roots q.slot.bus) (lines ≡ [])
+    (MatchBool (is_size_assumed assumed q.slot q.register) (lines ≡ unknown_line)
+    (IsFit roots s q lines))
 
 -- the line of the region that isn't reached, or the second of two of one bus
-abbrev pub IsAdvice : List ℕ → System → Fault → List ℕ → Type 0
-IsAdvice roots s (Unreached slot register space address bridge) lines =
-    (q : Region) × IsNamed q slot register space × IsRegionIn s q × IsFitBehind roots s q lines
-IsAdvice roots s (Clash bus space address first first_register second second_register) lines =
+abbrev pub IsAdvice : List AssumedRegister → List ℕ → System → Fault → List ℕ → Type 0
+IsAdvice assumed roots s (Unreached slot register space address bridge) lines =
+    (q : Region) × IsNamed q slot register space × IsRegionIn s q
+    × IsFitBehind assumed roots s q lines
+IsAdvice assumed roots s
+    (Clash bus space address first first_register second second_register) lines =
     (q : Region) × IsNamed q second second_register space × IsRegionIn s q
-    × IsFitBehind roots s q lines
-IsAdvice roots s fault lines = lines ≡ []
+    × IsFitBehind assumed roots s q lines
+IsAdvice assumed roots s fault lines = lines ≡ []
 
 -- all lines behind a fault
-pub record IsWhy (roots : List ℕ) (s : System) (fault : Fault) (lines : List ℕ) : Type 0 where
+pub record IsWhy (assumed : List AssumedRegister) (roots : List ℕ) (s : System) (fault : Fault)
+    (lines : List ℕ) : Type 0 where
   pub evidence : List ℕ
   pub advice : List ℕ
   pub told : IsEvidence s fault evidence
-  pub fits : IsAdvice roots s fault advice
+  pub fits : IsAdvice assumed roots s fault advice
   pub text : lines ≡ evidence ++ advice
 
 -- ---- BARs that are off

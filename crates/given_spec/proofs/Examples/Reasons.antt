@@ -1,11 +1,13 @@
 -- What is told behind a fault with what is given: lines, what a bridge misses, what is taken.
 use Rattle.std.proofs.Common.{◌≡◌, ℕ, List, [], ◌∷◌, ◌++◌, codes, refl, Bool, true, false, map, lit≤, lit<, inl, inr}
+use Rattle.std.specs.Prelude.{◌↔◌}
 use Rattle.std.proofs.lemmas.Bool.{both_ways}
 use Rattle.pci_spec.specs.System.{Function, Io, Memory, Bar}
+use Rattle.pci_spec.specs.Mark.{assumed_at}
 use Rattle.pci_spec.specs.Why as plain
 use Rattle.pci_spec.proofs.Examples.Samples.{slot, device, bridge, range}
-use Rattle.given_spec.specs.Given.{LegacyBridge}
-use Rattle.given_spec.specs.Why.{Legacy, legacy_words, region_line, ranges_for, host_line, bridge_line, Misses, IsBeside}
+use Rattle.given_spec.specs.Given.{LegacyBridge, nothing_given}
+use Rattle.given_spec.specs.Why.{Own, Legacy, IsFit, IsFitBehind, legacy_words, region_line, ranges_for, host_line, bridge_line, Misses, IsBeside}
 use Rattle.given_spec.proofs.Examples.Ranges.{to_each, to_root, sent_memory}
 use Rattle.given_spec.proofs.Examples.Legacy.{legacy_at}
 
@@ -73,3 +75,20 @@ sent_to_both = inr ((1, lit< tt, refl), (0, lit< tt, refl), refl)
 sent_to_one_alone : IsBeside (sent_memory (to_root 0x40 0xe0000000 0xefffffff ∷ [])) (0 ∷ 0x40 ∷ []) moved 0xe0000000 other → ⊥
 sent_to_one_alone (inl same) = cc
 sent_to_one_alone (inr both) = both_ways false refl both.2
+
+-- ---- where the read back of a register is assumed, no place is known
+
+place_of_an_assumed_size : IsFitBehind (assumed_at (slot 0x40 1 0) 0x10 ∷ []) (sent_memory (to_each 0xe0000000 0xefffffff ∷ [])) (0x40 ∷ []) (other ∷ []) (Own moved) (line (codes "  fits unknown"))
+place_of_an_assumed_size = refl
+
+place_beside_an_assumed_size : (lines : List ℕ) → IsFitBehind (assumed_at (slot 0x40 1 0) 0x14 ∷ []) (sent_memory []) (0x40 ∷ []) (other ∷ []) (Own moved) lines
+    ↔ IsFit (sent_memory []) (0x40 ∷ []) (other ∷ []) moved lines
+place_beside_an_assumed_size lines = (λ fit. fit, λ fit. fit)
+
+-- on a root bus of which nothing is said there is no such line
+nothing_is_told_at_a_root : IsFitBehind (assumed_at (slot 0x40 1 0) 0x10 ∷ []) nothing_given (0x40 ∷ []) (other ∷ []) (Own moved) []
+nothing_is_told_at_a_root = refl
+
+-- nor of a legacy part
+no_legacy_part_moves : IsFitBehind (assumed_at (slot 0 1 0) 0x3e ∷ []) nothing_given (0 ∷ []) (closed ∷ []) (Legacy closed Memory) []
+no_legacy_part_moves = refl

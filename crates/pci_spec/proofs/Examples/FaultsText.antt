@@ -27,14 +27,14 @@ lines_have_no_no = refl
 
 -- ---- without reasons
 
-each_fault_has_its_line : IsFaultsText host off false (vga ∷ unreached ∷ [])
+each_fault_has_its_line : IsFaultsText [] host off false (vga ∷ unreached ∷ [])
     (line (codes "52 VgaEnable 00:02.0") ++ line (codes "60 Unreached 01:00.0 10 mem 00000000e0000000 bridge 00:01.0"))
 each_fault_has_its_line = refl
 
-no_fault_is_a_yes : IsFaultsText host off false [] (line (codes "yes"))
+no_fault_is_a_yes : IsFaultsText [] host off false [] (line (codes "yes"))
 no_fault_is_a_yes = refl
 
-yes_stands_alone : IsFaultsText host off false (vga ∷ []) (line (codes "52 VgaEnable 00:02.0") ++ line (codes "yes")) → ⊥
+yes_stands_alone : IsFaultsText [] host off false (vga ∷ []) (line (codes "52 VgaEnable 00:02.0") ++ line (codes "yes")) → ⊥
 yes_stands_alone is = let letter = ap (λ t. slice_index_or t 22 0) is in omega (arith, letter)
 
 -- ---- with reasons
@@ -42,11 +42,11 @@ yes_stands_alone is = let letter = ap (λ t. slice_index_or t 22 0) is in omega 
 abbrev what_is_off : List ℕ
 what_is_off = line (codes "off 00:01.0 10 bar mem 00000000e0000000-00000000e00fffff 1M")
 
-off_stands_behind_a_yes : IsFaultsText host off true [] (line (codes "yes") ++ what_is_off)
+off_stands_behind_a_yes : IsFaultsText [] host off true [] (line (codes "yes") ++ what_is_off)
 unfolding scaled_text digits each_from some_from
 off_stands_behind_a_yes = record { lines = []; reasoned = refl; is = refl }
 
-off_isnt_left_out : IsFaultsText host off true [] (line (codes "yes")) → ⊥
+off_isnt_left_out : IsFaultsText [] host off true [] (line (codes "yes")) → ⊥
 unfolding scaled_text digits each_from some_from
 off_isnt_left_out text =
     let none = text.reasoned in
@@ -54,11 +54,11 @@ off_isnt_left_out text =
     let same = ap (λ l. slice_index_or ((line (codes "yes") ++ l) ++ what_is_off) 4 0) none in
     omega (arith, letter, same)
 
-nothing_behind : IsWhy host off vga []
+nothing_behind : IsWhy [] host off vga []
 nothing_behind = record { evidence = []; advice = []; told = refl; fits = refl; text = refl }
 
 -- not every register of a system that judging didn't come to needs to decode
-nothing_is_off_before_judging : IsFaultsText host off true (vga ∷ []) (line (codes "52 VgaEnable 00:02.0"))
+nothing_is_off_before_judging : IsFaultsText [] host off true (vga ∷ []) (line (codes "52 VgaEnable 00:02.0"))
 nothing_is_off_before_judging = record {
   lines = line (codes "52 VgaEnable 00:02.0");
   reasoned = ([], [], nothing_behind, refl, refl);

@@ -1,5 +1,6 @@
 -- What is told behind a fault of judging: amounts, lines, runs of addresses, places.
 use Rattle.std.proofs.Common.{◌≡◌, ℕ, ◌-◌, ◌*◌, ◌^◌, List, [], ◌∷◌, ◌++◌, codes, refl, zero, suc, ◌<◌, Bool, true, false, arith, lit<, lit≤, None, Some, sym, ap, get_or}
+use Rattle.std.specs.Prelude.{◌↔◌}
 use Rattle.std.specs.List.{Any}
 use Rattle.std.specs.Fmt.{digits}
 use Rattle.pci_spec.specs.Number.{each_from, some_from}
@@ -8,7 +9,8 @@ use Rattle.pci_spec.specs.Window.{IoWindow, MemoryWindow, PrefetchWindow}
 use Rattle.pci_spec.specs.System.{Function, System, Space, Io, Memory, Part, Bar, Rom, Window, Claims}
 use Rattle.pci_spec.specs.Fault.{Orphan}
 use Rattle.pci_spec.specs.Decoded.{Range, InRange}
-use Rattle.pci_spec.specs.Why.{scaled_text, amount_text, Region, region_line, bridge_line, fits_line, IsRun, AreRuns, Misses, IsPlaceFor, IsEvidence, off_lines}
+use Rattle.pci_spec.specs.Mark.{assumed_at}
+use Rattle.pci_spec.specs.Why.{scaled_text, amount_text, Region, region_line, bridge_line, fits_line, IsRun, AreRuns, Misses, IsPlaceFor, IsFit, IsFitBehind, IsEvidence, off_lines}
 use Rattle.pci_spec.proofs.Bits.{interval-agrees}
 use Rattle.pci_spec.proofs.Examples.Samples.{slot, device, bridge, range, host}
 
@@ -182,6 +184,25 @@ of_io = record { slot = slot 1 1 0; register = 0x10; part = Bar 0; space = Io; p
 
 place_above_64_kilobytes_of_io_is_none : IsPlaceFor host three of_io false (2 ^ 16) → ⊥
 place_above_64_kilobytes_of_io_is_none place = let fits = place.fits in omega (arith, fits)
+
+-- ---- regions whose size isn't known
+
+place_of_an_assumed_size : IsFitBehind (assumed_at (slot 1 1 0) 0x10 ∷ []) host three of_moved (line (codes "  fits unknown"))
+place_of_an_assumed_size = refl
+
+-- another register of the function that is assumed leaves its place as it was
+place_beside_an_assumed_size : (lines : List ℕ) → IsFitBehind (assumed_at (slot 1 1 0) 0x14 ∷ []) host three of_moved lines ↔ IsFit host three of_moved lines
+place_beside_an_assumed_size lines = (λ fit. fit, λ fit. fit)
+
+-- and so does the same register of another function
+place_beside_an_assumed_function : (lines : List ℕ) → IsFitBehind (assumed_at (slot 1 0 0) 0x10 ∷ []) host three of_moved lines ↔ IsFit host three of_moved lines
+place_beside_an_assumed_function lines = (λ fit. fit, λ fit. fit)
+
+abbrev at_the_root : Region
+at_the_root = record { slot = slot 0 3 0; register = 0x10; part = Bar 0; space = Memory; prefetchable = false; range = range 0xe0000000 0xe000ffff }
+
+nothing_is_told_at_a_root : IsFitBehind (assumed_at (slot 0 3 0) 0x10 ∷ []) host three at_the_root []
+nothing_is_told_at_a_root = refl
 
 -- ---- faults that aren't of judging, and BARs that are off
 
