@@ -5,6 +5,7 @@ use Rattle.std.proofs.lemmas.List.Elements.{Contains-append_left, Contains-appen
 use Rattle.pci_spec.specs.System.{System}
 use Rattle.pci_spec.specs.Fault.{Fault}
 use Rattle.pci_spec.specs.Decoded.{HasRecords}
+use Rattle.pci_spec.specs.Mark.{AssumedRegister}
 use Rattle.pci_spec.specs.Why.{IsWhy, off_lines}
 use Rattle.pci_spec.specs.FaultsText.{fault_line, yes_line, AreReasoned}
 use Rattle.pci_tree.specs.Outline.{Tree}
@@ -13,36 +14,36 @@ use Rattle.pci_why.specs.Lists.{AreReasonedTold, IsReasonedTextOf}
 use Rattle.pci_spec.proofs.Members.{in_head}
 
 -- one more fault behind those of a list
-and_one : (roots : List ℕ) (s : System) (faults : List Fault) (fault : Fault) (lines behind : List ℕ) → AreReasoned roots s faults lines → IsWhy roots s fault behind
-    → AreReasoned roots s (faults ++ fault ∷ []) (lines ++ (fault_line fault ++ behind))
-and_one roots s [] fault lines behind none why = (behind, [], why, refl, ap (λ l. l ++ (fault_line fault ++ behind)) none ∙ sym (append-nil (fault_line fault ++ behind)))
-and_one roots s (first ∷ rest) fault lines behind (before, more, is, told, text) why = (
+and_one : (assumed : List AssumedRegister) (roots : List ℕ) (s : System) (faults : List Fault) (fault : Fault) (lines behind : List ℕ) → AreReasoned assumed roots s faults lines → IsWhy assumed roots s fault behind
+    → AreReasoned assumed roots s (faults ++ fault ∷ []) (lines ++ (fault_line fault ++ behind))
+and_one assumed roots s [] fault lines behind none why = (behind, [], why, refl, ap (λ l. l ++ (fault_line fault ++ behind)) none ∙ sym (append-nil (fault_line fault ++ behind)))
+and_one assumed roots s (first ∷ rest) fault lines behind (before, more, is, told, text) why = (
   before,
   more ++ (fault_line fault ++ behind),
   is,
-  and_one roots s rest fault more behind told why,
+  and_one assumed roots s rest fault more behind told why,
   ap (λ l. l ++ (fault_line fault ++ behind)) text ∙ append_assoc (fault_line first ++ before) more (fault_line fault ++ behind),
 )
 
-pub none_reasoned : (t : Tree) (old : List ℕ) → AreReasonedTold t [] old old
-none_reasoned t old s has there = record { lines = []; text = sym (append-nil old); are = refl }
+pub none_reasoned : (assumed : List AssumedRegister) (t : Tree) (old : List ℕ) → AreReasonedTold assumed t [] old old
+none_reasoned assumed t old s has there = record { lines = []; text = sym (append-nil old); are = refl }
 
-pub one_more_reasoned : (t : Tree) (faults : List Fault) (fault : Fault) (old now mid new : List ℕ) → AreReasonedTold t faults old now → mid ≡ now ++ fault_line fault
-    → IsWhyTold t fault mid new → AreReasonedTold t (faults ++ fault ∷ []) old new
-one_more_reasoned t faults fault old now mid new before line why s has there =
+pub one_more_reasoned : (assumed : List AssumedRegister) (t : Tree) (faults : List Fault) (fault : Fault) (old now mid new : List ℕ) → AreReasonedTold assumed t faults old now → mid ≡ now ++ fault_line fault
+    → IsWhyTold assumed t fault mid new → AreReasonedTold assumed t (faults ++ fault ∷ []) old new
+one_more_reasoned assumed t faults fault old now mid new before line why s has there =
     let b = before s has (λ f has_f. there f (Contains-append_left faults (fault ∷ []) f has_f)) in
     let w = why s has (there fault (Contains-append_right faults (fault ∷ []) fault (in_head fault []))) in
     record {
       lines = b.lines ++ (fault_line fault ++ w.lines);
       text = w.text ∙ ap (λ x. x ++ w.lines) (line ∙ ap (λ x. x ++ fault_line fault) b.text ∙ append_assoc old b.lines (fault_line fault))
           ∙ append_assoc old (b.lines ++ fault_line fault) w.lines ∙ ap (λ x. old ++ x) (append_assoc b.lines (fault_line fault) w.lines);
-      are = and_one t.roots s faults fault b.lines w.lines b.are w.are;
+      are = and_one assumed t.roots s faults fault b.lines w.lines b.are w.are;
     }
 
 -- the BARs that are off end it
-pub text_reasoned : (t : Tree) (faults : List Fault) (old now new : List ℕ) → old ≡ yes_line faults → AreReasonedTold t faults old now
-    → ((s : System) → HasRecords s t.records → new ≡ now ++ off_lines s) → IsReasonedTextOf t faults new
-text_reasoned t faults old now new begun told off s has there judged =
+pub text_reasoned : (assumed : List AssumedRegister) (t : Tree) (faults : List Fault) (old now new : List ℕ) → old ≡ yes_line faults → AreReasonedTold assumed t faults old now
+    → ((s : System) → HasRecords s t.records → new ≡ now ++ off_lines s) → IsReasonedTextOf assumed t faults new
+text_reasoned assumed t faults old now new begun told off s has there judged =
     let b = told s has there in
     record {
       lines = b.lines;

@@ -12,7 +12,8 @@ use Rattle.pci_spec.specs.System.{System, Function, Space}
 use Rattle.pci_spec.specs.System as system
 use Rattle.pci_spec.specs.Bus.{is_root}
 use Rattle.pci_spec.specs.Decoded.{DecodedBar, HasRecords, record_of}
-use Rattle.pci_spec.specs.Why.{is_wide_part, fits_line, IsFit, IsPlaceFor, IsLeastPlace}
+use Rattle.pci_spec.specs.Mark.{AssumedRegister, is_size_assumed}
+use Rattle.pci_spec.specs.Why.{is_wide_part, fits_line, unknown_line, Region as RegionValue, IsFit, IsFitBehind, IsPlaceFor, IsLeastPlace}
 use Rattle.pci_spec.proofs.Records.{same_truth}
 use Rattle.pci_spec.proofs.BusRanges.{root_means}
 use Rattle.pci_spec.proofs.Ranges.{has_bar-of_decodes}
@@ -108,10 +109,29 @@ wide_is r f part space q wide e is exact = same_truth wide (is_wide_part f part)
 nothing : (old : List ℕ) → old ≡ old ++ []
 nothing old = sym (append-nil old)
 
+-- what is told below a root bus
+abbrev BelowRoot : List AssumedRegister → List ℕ → System → RegionValue → List ℕ → Type 0
+BelowRoot assumed roots s v lines = MatchBool (is_size_assumed assumed v.slot v.register) (lines ≡ unknown_line) (IsFit roots s v lines)
+
+not_on_root : (roots : List ℕ) (s : System) (slot : Slot) (reg : ℕ) (space : Space) (q : Region) → IsFoundIn s slot reg space q → (Contains roots slot.bus → ⊥) → is_root roots q.slot.bus ≡ false
+not_on_root roots s slot reg space q found root = elim (cases_Bool (is_root roots q.slot.bus)) [
+  | inl on ↦ absurd (root (subst (λ (x : Slot). Contains roots x.bus) found.slot_is ((root_means roots q.slot.bus).0 on)))
+  | inr off ↦ off
+]
+
+-- whether its size is assumed is told by the slot and the register that the fault names
+pub same_size : (assumed : List AssumedRegister) (s : System) (slot : Slot) (reg : ℕ) (space : Space) (q : Region) (is : Bool) → IsFoundIn s slot reg space q → is_size_assumed assumed slot reg ≡ is
+    → is_size_assumed assumed q.slot q.reg ≡ is
+same_size assumed s slot reg space q is found e = ap (λ x. is_size_assumed assumed x q.reg) found.slot_is ∙ ap (λ n. is_size_assumed assumed slot n) found.register ∙ e
+
+below_root : (assumed : List AssumedRegister) (roots : List ℕ) (s : System) (q : Region) (part : system.Part) (space : Space) (lines : List ℕ) → is_root roots q.slot.bus ≡ false → BelowRoot assumed roots s (told q part space) lines
+    → IsFitBehind assumed roots s (told q part space) lines
+below_root assumed roots s q part space lines no_root is = subst (λ b. MatchBool b (lines ≡ []) (BelowRoot assumed roots s (told q part space) lines)) (sym no_root) is
+
 -- on a root bus nothing is told
-pub root_told : (roots : List ℕ) (s : System) (slot : Slot) (reg : ℕ) (space : Space) (q : Region) (old : List ℕ) → IsFoundIn s slot reg space q → Contains roots slot.bus
-    → Appends (IsAdviceFor roots s slot reg space) old old
-root_told roots s slot reg space q old found root =
+pub root_told : (assumed : List AssumedRegister) (roots : List ℕ) (s : System) (slot : Slot) (reg : ℕ) (space : Space) (q : Region) (old : List ℕ) → IsFoundIn s slot reg space q → Contains roots slot.bus
+    → Appends (IsAdviceFor assumed roots s slot reg space) old old
+root_told assumed roots s slot reg space q old found root =
     let is : is_root roots q.slot.bus ≡ true = (root_means roots q.slot.bus).1 (subst (λ (x : Slot). Contains roots x.bus) (sym found.slot_is) root) in
     record {
       lines = [];
@@ -120,32 +140,44 @@ root_told roots s slot reg space q old found root =
         told q found.part space,
         (found.slot_is, found.register, refl),
         region_in s found.f found.part space q found.listed found.is,
-        subst (λ b. MatchBool b (◌≡◌ {A = List ℕ} [] []) (IsFit roots s (told q found.part space) [])) (sym is) (refl {a = []}),
+        subst (λ b. MatchBool b (◌≡◌ {A = List ℕ} [] []) (BelowRoot assumed roots s (told q found.part space) [])) (sym is) (refl {a = []}),
       );
     }
 
--- elsewhere the least place is
-pub fit_told : (t : Tree) (s : System) (rs : List Record) (r : Record) (slot : Slot) (reg : ℕ) (space : Space) (q : Region) (wide : Bool) (fit : Option Range) (old new : List ℕ)
-    → t.records ≡ map record_value rs → Has s rs → RiseBySlot rs → Contains rs r → r.slot ≡ slot → IsFoundIn s slot reg space q → (Contains t.roots slot.bus → ⊥) → IsTrue wide ↔ IsWideIn r q
-    → IsFitFor t space q wide fit → new ≡ old ++ fits_line space (option_map decoded_range_of fit) → Appends (IsAdviceFor t.roots s slot reg space) old new
-fit_told t s rs r slot reg space q wide fit old new records is rise has at found root exact fits text =
+-- elsewhere, where its size is assumed, that its place isn't known
+pub unknown_told : (assumed : List AssumedRegister) (roots : List ℕ) (s : System) (slot : Slot) (reg : ℕ) (space : Space) (q : Region) (old new : List ℕ) → IsFoundIn s slot reg space q → (Contains roots slot.bus → ⊥)
+    → is_size_assumed assumed slot reg ≡ true → new ≡ old ++ unknown_line → Appends (IsAdviceFor assumed roots s slot reg space) old new
+unknown_told assumed roots s slot reg space q old new found root is text = record {
+  lines = unknown_line;
+  text = text;
+  are = (
+    told q found.part space,
+    (found.slot_is, found.register, refl),
+    region_in s found.f found.part space q found.listed found.is,
+    below_root assumed roots s q found.part space unknown_line (not_on_root roots s slot reg space q found root)
+        (subst (λ b. MatchBool b (unknown_line ≡ unknown_line) (IsFit roots s (told q found.part space) unknown_line)) (sym (same_size assumed s slot reg space q true found is)) (refl {a = unknown_line})),
+  );
+}
+
+-- and where it isn't, the least place
+pub fit_told : (assumed : List AssumedRegister) (t : Tree) (s : System) (rs : List Record) (r : Record) (slot : Slot) (reg : ℕ) (space : Space) (q : Region) (wide : Bool) (fit : Option Range) (old new : List ℕ)
+    → t.records ≡ map record_value rs → Has s rs → RiseBySlot rs → Contains rs r → r.slot ≡ slot → IsFoundIn s slot reg space q → (Contains t.roots slot.bus → ⊥) → is_size_assumed assumed slot reg ≡ false → IsTrue wide ↔ IsWideIn r q
+    → IsFitFor t space q wide fit → new ≡ old ++ fits_line space (option_map decoded_range_of fit) → Appends (IsAdviceFor assumed t.roots s slot reg space) old new
+fit_told assumed t s rs r slot reg space q wide fit old new records is rise has at found root known exact fits text =
     let v = told q found.part space in
     let own = function_for s rs r is has in
     let same : own.0 ≡ found.f = one_function s rs own.0 found.f is rise own.1 found.listed (sym (same_slot_of r own.0 own.2) ∙ at ∙ sym found.slot_is ∙ found.is.slot) in
     let stands : record_value r ≡ record_of found.f = own.2 ∙ ap record_of same in
     let wide_same : wide ≡ is_wide_part found.f found.part = wide_is r found.f found.part space q wide stands found.is exact in
-    let no_root : is_root t.roots q.slot.bus ≡ false = elim (cases_Bool (is_root t.roots q.slot.bus)) [
-      | inl on ↦ absurd (root (subst (λ (x : Slot). Contains t.roots x.bus) found.slot_is ((root_means t.roots q.slot.bus).0 on)))
-      | inr off ↦ off
-    ] in
+    let told_line = fits_line space (option_map decoded_range_of fit) in
     record {
-      lines = fits_line space (option_map decoded_range_of fit);
+      lines = told_line;
       text = text;
       are = (
         v,
         (found.slot_is, found.register, refl),
         region_in s found.f found.part space q found.listed found.is,
-        subst (λ b. MatchBool b (fits_line space (option_map decoded_range_of fit) ≡ []) (IsFit t.roots s v (fits_line space (option_map decoded_range_of fit)))) (sym no_root) record {
+        below_root assumed t.roots s q found.part space told_line (not_on_root t.roots s slot reg space q found root) (subst (λ b. MatchBool b (told_line ≡ unknown_line) (IsFit t.roots s v told_line)) (sym (same_size assumed s slot reg space q false found known)) record {
           f = found.f;
           listed = found.listed;
           slot = sym found.is.slot;
@@ -153,6 +185,6 @@ fit_told t s rs r slot reg space q wide fit old new records is rise has at found
           exact = subst (λ w. MatchOption (option_map decoded_range_of fit) ((first : ℕ) → IsPlaceFor t.roots s v w first → ⊥) (λ range. IsLeastPlace t.roots s v w range)) wide_same
               (fits s found.f found.part (subst (λ xs. HasRecords s xs) (sym records) is) found.listed found.is);
           text = refl;
-        },
+        }),
       );
     }

@@ -7,6 +7,7 @@ use Rattle.pci_spec.specs.System.{System, Function, Space, Claims}
 use Rattle.pci_spec.specs.System as system
 use Rattle.pci_spec.specs.Fault.{Fault, ClaimsOnBus, IsIn, address_in, named_region}
 use Rattle.pci_spec.specs.Decoded.{HasRecords}
+use Rattle.pci_spec.specs.Mark.{AssumedRegister}
 use Rattle.pci_spec.specs.Why.{Region as RegionValue, IsNamed, IsRegionIn, IsPlaceFor, IsLeastPlace, IsFitBehind, IsAdvice, IsWhy}
 use Rattle.pci_image.specs.declared.bar.Bar.{Bar}
 use Rattle.pci_image.specs.declared.bar.BarKind.TheVariants.{Mem64}
@@ -49,25 +50,28 @@ IsFitFor t space q wide o =
     (λ r. IsLeastPlace t.roots s (told q part space) wide r)
 
 -- the lines that tell where a region would fit
-abbrev pub IsAdviceFor : List ℕ → System → Slot → ℕ → Space → List ℕ → Type 0
-IsAdviceFor roots s slot reg space lines =
-    (q : RegionValue) × IsNamed q slot reg space × IsRegionIn s q × IsFitBehind roots s q lines
+abbrev pub IsAdviceFor :
+    List AssumedRegister → List ℕ → System → Slot → ℕ → Space → List ℕ → Type 0
+IsAdviceFor assumed roots s slot reg space lines =
+    (q : RegionValue) × IsNamed q slot reg space × IsRegionIn s q
+    × IsFitBehind assumed roots s q lines
 
 -- in each system with these records where the region claims some address
-abbrev pub IsFitTold : Tree → Slot → ℕ → Space → List ℕ → List ℕ → Type 0
-IsFitTold t slot reg space old new =
+abbrev pub IsFitTold :
+    List AssumedRegister → Tree → Slot → ℕ → Space → List ℕ → List ℕ → Type 0
+IsFitTold assumed t slot reg space old new =
     (s : System) (a bus : ℕ) → HasRecords s t.records
     → ClaimsOnBus s bus (address_in space a) (named_region slot reg)
-    → Appends (IsAdviceFor t.roots s slot reg space) old new
+    → Appends (IsAdviceFor assumed t.roots s slot reg space) old new
 
 -- in each system with these records where the fault is there, where the region that could be moved would fit
-abbrev pub IsAdviceTold : Tree → Fault → List ℕ → List ℕ → Type 0
-IsAdviceTold t fault old new =
+abbrev pub IsAdviceTold : List AssumedRegister → Tree → Fault → List ℕ → List ℕ → Type 0
+IsAdviceTold assumed t fault old new =
     (s : System) → HasRecords s t.records → IsIn t.roots s fault
-    → Appends (IsAdvice t.roots s fault) old new
+    → Appends (IsAdvice assumed t.roots s fault) old new
 
 -- all lines behind the fault
-abbrev pub IsWhyTold : Tree → Fault → List ℕ → List ℕ → Type 0
-IsWhyTold t fault old new =
+abbrev pub IsWhyTold : List AssumedRegister → Tree → Fault → List ℕ → List ℕ → Type 0
+IsWhyTold assumed t fault old new =
     (s : System) → HasRecords s t.records → IsIn t.roots s fault
-    → Appends (IsWhy t.roots s fault) old new
+    → Appends (IsWhy assumed t.roots s fault) old new

@@ -4,6 +4,8 @@ ghost use Rattle.std.specs.List.{Any};
 ghost use Rattle.std.specs.Option.{option_map};
 ghost use Rattle.pci_base.specs.Ranges.{decoded_range_of};
 ghost use Rattle.std.specs.String.{string_bytes};
+ghost use Rattle.pci_spec.specs.Text.{IsDump};
+ghost use Rattle.pci_spec.specs.Mark.{all_named};
 ghost use Rattle.pci_spec.specs.Why.{place_end, fits_line};
 ghost use Rattle.pci_base.specs.Space.{space_of};
 ghost use Rattle.pci_why.specs.Fits.{IsWideAt, IsWideIn, IsFitFor, IsFitTold};
@@ -15,6 +17,8 @@ use pci_base::memory::OutOfMemory;
 use pci_base::range::Range;
 use pci_base::slot::Slot;
 use pci_base::space::Space;
+use pci_dump::block::Block;
+use pci_dump::mark::is_size_assumed;
 use pci_function::record::Record;
 use pci_image::bar::{Bar, BarKind};
 use pci_tree::bus::record_at;
@@ -114,22 +118,30 @@ pub fn push_fit<A: Allocator>(
 
 /// Appends where the region of a slot and register would fit: the least range of its size whose first address is a
 /// multiple of that, below 4 GB where it is no BAR of 64 bits (of I/O below 64 KB), that each bridge on the way passes
-/// and no other region of its bus claims. On a root bus there is no such line.
+/// and no other region of its bus claims. Where the read back of the register is assumed, as the titles of the probe's
+/// blocks tell it, that isn't known: `fits unknown`. On a root bus there is no such line.
 pub fn push_fits<A: Allocator + Copy, B: Allocator>(
     alloc: A,
     text: &mut String<B>,
     outline: &Outline<A>,
+    probe: &[Block],
     slot: Slot,
     reg: u8,
     space: Space,
 ) -> Result<(), OutOfMemory>
-    ensures { OnOk result (IsFitTold outline.now slot reg (space_of space)
+    // its slots rise, so a block is found by halving
+    requires { IsDump probe.now }
+    ensures { OnOk result (IsFitTold (all_named probe.now) outline.now slot reg (space_of space)
         (string_bytes text.old) (string_bytes text.new)) }
 {
     let Some(region) = region_at(alloc, outline, slot, reg, space)? else {
         return Ok(());
     };
     if outline.roots().has(slot.bus()) {
+        return Ok(());
+    }
+    if is_size_assumed(probe, slot, reg) {
+        text.push_str("  fits unknown\n")?;
         return Ok(());
     }
     let Some(function) = record_at(outline.records(), slot) else {

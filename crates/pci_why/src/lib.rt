@@ -1,7 +1,7 @@
 //! What stands behind a fault of judging, and which BARs are off: the lines that a list of all faults has for them.
 //!
 //! ```text
-//! push_why(alloc, &mut text, &outline, &fault)?; // `needs`, `bridge`, `missed`; `first`, `second`, `shared`; `fits`
+//! push_why(alloc, &mut text, &outline, &probe, &fault)?; // `needs`, `bridge`, `missed`; `first`, `second`, `shared`; `fits`
 //! push_off(&mut text, &outline)?; // a line for each BAR of a space that its function's Command doesn't enable
 //! ```
 #![tactic(auto)]

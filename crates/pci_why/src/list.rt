@@ -2,6 +2,8 @@
 ghost use Rattle.std.specs.Prelude.{◌≡◌, ◌++◌, map, IfOk, OnOk};
 ghost use Rattle.std.specs.List.{flat_map};
 ghost use Rattle.std.specs.String.{string_bytes};
+ghost use Rattle.pci_spec.specs.Text.{IsDump};
+ghost use Rattle.pci_spec.specs.Mark.{all_named};
 ghost use Rattle.pci_spec.specs.FaultsText.{fault_line, yes_line};
 ghost use Rattle.pci_function.specs.Fault.{fault_of};
 ghost use Rattle.pci_why.specs.Lists.{AreReasonedTold, IsReasonedTextOf};
@@ -9,6 +11,7 @@ ghost use Rattle.pci_why.specs.Lists.{AreReasonedTold, IsReasonedTextOf};
 use super::off::push_off;
 use super::why::push_why;
 use pci_base::memory::OutOfMemory;
+use pci_dump::block::Block;
 use pci_function::fault::Fault;
 use pci_tree::outline::Outline;
 use std::alloc::{AllocError, Allocator};
@@ -38,14 +41,17 @@ fn push_reasoned<A: Allocator + Copy, B: Allocator>(
     alloc: A,
     text: &mut String<B>,
     outline: &Outline<A>,
+    probe: &[Block],
     faults: &[Fault],
 ) -> Result<(), OutOfMemory>
-    ensures { OnOk result (AreReasonedTold outline.now (map fault_of faults.now)
+    // its slots rise, so a block is found by halving
+    requires { IsDump probe.now }
+    ensures { OnOk result (AreReasonedTold (all_named probe.now) outline.now (map fault_of faults.now)
         (string_bytes text.old) (string_bytes text.new)) }
 {
     for fault in faults {
         push_fault(text, fault)?;
-        push_why(alloc, text, outline, fault)?;
+        push_why(alloc, text, outline, probe, fault)?;
     }
     Ok(())
 }
@@ -76,13 +82,16 @@ pub fn plain_text<A: Allocator>(alloc: A, faults: &[Fault]) -> Result<String<A>,
 pub fn reasoned_text<A: Allocator + Copy>(
     alloc: A,
     outline: &Outline<A>,
+    probe: &[Block],
     faults: &[Fault],
 ) -> Result<String<A>, OutOfMemory>
-    ensures { IfOk result
-        (λ text. IsReasonedTextOf outline.now (map fault_of faults.now) (string_bytes text)) }
+    // its slots rise, so a block is found by halving
+    requires { IsDump probe.now }
+    ensures { IfOk result (λ text. IsReasonedTextOf (all_named probe.now) outline.now
+        (map fault_of faults.now) (string_bytes text)) }
 {
     let mut text = begun(alloc, faults)?;
-    push_reasoned(alloc, &mut text, outline, faults)?;
+    push_reasoned(alloc, &mut text, outline, probe, faults)?;
     push_off(&mut text, outline)?;
     Ok(text)
 }

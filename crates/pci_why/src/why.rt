@@ -1,6 +1,8 @@
 //! The lines behind a fault of judging.
 ghost use Rattle.std.specs.Prelude.{◌≤◌, ◌↔◌, ℕ, OnOk, MatchOption};
 ghost use Rattle.std.specs.String.{string_bytes};
+ghost use Rattle.pci_spec.specs.Text.{IsDump};
+ghost use Rattle.pci_spec.specs.Mark.{all_named};
 ghost use Rattle.pci_spec.specs.Fault.{named_region, named_regions};
 ghost use Rattle.pci_base.specs.Space.{space_of};
 ghost use Rattle.pci_function.specs.Fault.{fault_of};
@@ -15,6 +17,7 @@ use pci_base::memory::OutOfMemory;
 use pci_base::range::Range;
 use pci_base::slot::Slot;
 use pci_base::space::Space;
+use pci_dump::block::Block;
 use pci_function::fault::Fault;
 use pci_tree::bus::record_at;
 use pci_tree::outline::Outline;
@@ -152,9 +155,12 @@ fn push_advice<A: Allocator + Copy, B: Allocator>(
     alloc: A,
     text: &mut String<B>,
     outline: &Outline<A>,
+    probe: &[Block],
     fault: &Fault,
 ) -> Result<(), OutOfMemory>
-    ensures { OnOk result (IsAdviceTold outline.now (fault_of fault.now)
+    // its slots rise, so a block is found by halving
+    requires { IsDump probe.now }
+    ensures { OnOk result (IsAdviceTold (all_named probe.now) outline.now (fault_of fault.now)
         (string_bytes text.old) (string_bytes text.new)) }
 {
     match *fault {
@@ -163,13 +169,13 @@ fn push_advice<A: Allocator + Copy, B: Allocator>(
             reg,
             space,
             ..
-        } => push_fits(alloc, text, outline, slot, reg, space),
+        } => push_fits(alloc, text, outline, probe, slot, reg, space),
         Fault::Clash {
             space,
             second,
             second_reg,
             ..
-        } => push_fits(alloc, text, outline, second, second_reg, space),
+        } => push_fits(alloc, text, outline, probe, second, second_reg, space),
         // the second region stands on a root bus
         Fault::Split { .. } => Ok(()),
         _ => Ok(()),
@@ -178,18 +184,21 @@ fn push_advice<A: Allocator + Copy, B: Allocator>(
 
 /// Appends the lines behind a fault of judging, each with two spaces before it: those that tell with what ranges it is
 /// there, and after a 60 and a 61 where the region would fit that isn't reached, or is the second of the two. Other
-/// faults have none.
+/// faults have none. The titles of the probe's blocks tell of which regions the size isn't known.
 ///
 /// At want of memory some of the lines may stand in the text.
 pub fn push_why<A: Allocator + Copy, B: Allocator>(
     alloc: A,
     text: &mut String<B>,
     outline: &Outline<A>,
+    probe: &[Block],
     fault: &Fault,
 ) -> Result<(), OutOfMemory>
-    ensures { OnOk result (IsWhyTold outline.now (fault_of fault.now)
+    // its slots rise, so a block is found by halving
+    requires { IsDump probe.now }
+    ensures { OnOk result (IsWhyTold (all_named probe.now) outline.now (fault_of fault.now)
         (string_bytes text.old) (string_bytes text.new)) }
 {
     push_evidence(alloc, text, outline, fault)?;
-    push_advice(alloc, text, outline, fault)
+    push_advice(alloc, text, outline, probe, fault)
 }

@@ -2,6 +2,7 @@ use Rattle.std.proofs.Common.{◌≡◌, ◌+◌, ◌++◌, ◌∷◌, [], List,
 use Rattle.std.proofs.lemmas.List.{map-append, take_more}
 use Rattle.std.specs.String.{string_bytes}
 use Rattle.pci_spec.specs.Fault as faults
+use Rattle.pci_spec.specs.Mark.{all_named}
 use Rattle.pci_function.specs.Fault.{fault_of}
 use Rattle.pci_why.specs.Lists.{AreReasonedTold}
 use Rattle.pci_why.proofs.Reasoned.{one_more_reasoned}
@@ -15,6 +16,6 @@ loop-fault-preserved g c =
     let old = string_bytes c.args.text.now in
     let taken : map fault_of (take (i + 1) all) ≡ map fault_of (take i all) ++ fault_of fault ∷ [] =
     ap (map fault_of) (take_more all i fault c.loop-fault-test.true ∙ ap (λ f. take i all ++ f ∷ []) (sym c.fault-item.is)) ∙ map-append fault_of (take i all) (fault ∷ []) in
-    subst (λ (fs : List faults.Fault). AreReasonedTold c.args.outline.now fs old (string_bytes c.push_why.new.text)) (sym taken)
-    (one_more_reasoned c.args.outline.now (map fault_of (take i all)) (fault_of fault) old (string_bytes c.loop-fault.text) (string_bytes c.push_fault.new.text)
+    subst (λ (fs : List faults.Fault). AreReasonedTold (all_named c.args.probe.now) c.args.outline.now fs old (string_bytes c.push_why.new.text)) (sym taken)
+    (one_more_reasoned (all_named c.args.probe.now) c.args.outline.now (map fault_of (take i all)) (fault_of fault) old (string_bytes c.loop-fault.text) (string_bytes c.push_fault.new.text)
     (string_bytes c.push_why.new.text) c.loop-fault.invariant c.in_ok-push_fault.ensures c.in_ok-push_why.ensures)
