@@ -11,7 +11,8 @@ use Rattle.pci_spec.specs.System as plain
 use Rattle.pci_spec.specs.Bus.{is_root, IsNested}
 use Rattle.pci_spec.specs.Decoded.{record_of}
 use Rattle.pci_spec.specs.Decoded as decoded
-use Rattle.pci_spec.specs.Why.{Region as RegionValue, is_wide_part, fits_line}
+use Rattle.pci_spec.specs.Mark.{AssumedRegister, is_size_assumed}
+use Rattle.pci_spec.specs.Why.{Region as RegionValue, is_wide_part, fits_line, unknown_line}
 use Rattle.pci_spec.specs.Why as why
 use Rattle.pci_spec.specs.Fault.{named_region}
 use Rattle.pci_spec.proofs.BusRanges.{root_means}
@@ -29,7 +30,7 @@ use Rattle.given_spec.specs.Why.{Own, Legacy, IsPlaceFor, IsLeastPlace, IsFit, I
 use Rattle.pci_claims.proofs.RegionClaims.{not_legacy}
 use Rattle.pci_why.specs.Found.{NoneClaims, IsFoundIn}
 use Rattle.pci_why.specs.Fits.{told, IsWideIn}
-use Rattle.pci_why.proofs.WideBars.{wide_is}
+use Rattle.pci_why.proofs.WideBars.{wide_is, same_size}
 use Rattle.pci_given_why.specs.Fits.{IsFitFor, IsFitTold}
 
 -- ---- a root bus to which all of a space is sent
@@ -100,32 +101,52 @@ module _ (s : System) (slot : Slot) (reg : ℕ) (space : Space) where
 
 -- ---- lines
 
-module _ (given : Given) (t : Tree) (slot : Slot) (reg : ℕ) (space : Space) (old : List ℕ) where
+-- what is told of a region that may be moved
+abbrev Movable : List AssumedRegister → Given → List ℕ → System → RegionValue → List ℕ → Type 0
+Movable assumed given roots s v lines = MatchBool (is_size_assumed assumed v.slot v.register) (lines ≡ unknown_line) (IsFit given roots s v lines)
+
+module _ (assumed : List AssumedRegister) (given : Given) (t : Tree) (slot : Slot) (reg : ℕ) (space : Space) (old : List ℕ) where
   nothing : old ≡ old ++ []
   nothing = sym (append-nil old)
 
   -- nothing is told where nothing is found
-  pub told_none : ((s : System) → HasTree t s → NoneClaims s slot reg space) → IsFitTold given t (named_region slot reg) space old old
+  pub told_none : ((s : System) → HasTree t s → NoneClaims s slot reg space) → IsFitTold assumed given t (named_region slot reg) space old old
   told_none none s (Own v) tree named is = absurd (never_named s slot reg space (none s tree) v named is)
   told_none none s (Legacy b of_space) tree named is = record { lines = []; text = nothing; are = refl }
 
+  -- whether the region's bus is a root bus to which all of the space is sent
+  named_bus : (v : RegionValue) → why.IsNamed v slot reg space → (is : Bool) → (is_root t.roots slot.bus && not (is_said given space)) ≡ is → (is_root t.roots v.slot.bus && not (is_said given v.space)) ≡ is
+  named_bus v named is e = ap (λ (x : Slot). is_root t.roots x.bus && not (is_said given v.space)) named.0 ∙ ap (λ sp. is_root t.roots slot.bus && not (is_said given sp)) named.2 ∙ e
+
   -- nothing is told on a root bus to which all of the space is sent
-  pub told_on_root : (is_root t.roots slot.bus && not (is_said given space)) ≡ true → IsFitTold given t (named_region slot reg) space old old
+  pub told_on_root : (is_root t.roots slot.bus && not (is_said given space)) ≡ true → IsFitTold assumed given t (named_region slot reg) space old old
   told_on_root off s (Own v) tree named is =
-      let moved : (is_root t.roots v.slot.bus && not (is_said given v.space)) ≡ true =
-      ap (λ (x : Slot). is_root t.roots x.bus && not (is_said given v.space)) named.0 ∙ ap (λ sp. is_root t.roots slot.bus && not (is_said given sp)) named.2 ∙ off in
+      let moved : (is_root t.roots v.slot.bus && not (is_said given v.space)) ≡ true = named_bus v named true off in
       record {
         lines = [];
         text = nothing;
-        are = subst (λ b. MatchBool b (◌≡◌ {A = List ℕ} [] []) (IsFit given t.roots s v [])) (sym moved) (refl {a = []});
+        are = subst (λ b. MatchBool b (◌≡◌ {A = List ℕ} [] []) (Movable assumed given t.roots s v [])) (sym moved) (refl {a = []});
       }
   told_on_root off s (Legacy b of_space) tree named is = record { lines = []; text = nothing; are = refl }
 
-  -- elsewhere the least place is
+  -- elsewhere, where its size is assumed, that its place isn't known
+  pub told_unknown : (q : outline.Region) (new : List ℕ) → ((s : System) → HasTree t s → IsFoundIn s slot reg space q) → (is_root t.roots slot.bus && not (is_said given space)) ≡ false
+      → is_size_assumed assumed slot reg ≡ true → new ≡ old ++ unknown_line → IsFitTold assumed given t (named_region slot reg) space old new
+  told_unknown q new found on assumed_is text s (Own v) tree named is =
+      let size : is_size_assumed assumed v.slot v.register ≡ true = ap (λ x. is_size_assumed assumed x v.register) named.0 ∙ ap (λ n. is_size_assumed assumed slot n) named.1 ∙ assumed_is in
+      record {
+        lines = unknown_line;
+        text = text;
+        are = subst (λ b. MatchBool b (unknown_line ≡ []) (Movable assumed given t.roots s v unknown_line)) (sym (named_bus v named false on))
+            (subst (λ b. MatchBool b (unknown_line ≡ unknown_line) (IsFit given t.roots s v unknown_line)) (sym size) (refl {a = unknown_line}));
+      }
+  told_unknown q new found on assumed_is text s (Legacy b of_space) tree named is = absurd (no_legacy s slot reg space q (found s tree) named.1)
+
+  -- and where it isn't, the least place
   pub told_fit : (q : outline.Region) (rs : List Record) (r : Record) (wide : Bool) (fit : Option Range) (new : List ℕ) → ((s : System) → HasTree t s → IsFoundIn s slot reg space q) → t.records ≡ map record_value rs
-      → ((s : System) → decoded.HasRecords s t.records → IsNested t.roots s) → RiseBySlot rs → Contains rs r → r.slot ≡ slot → (is_root t.roots slot.bus && not (is_said given space)) ≡ false
-      → IsTrue wide ↔ IsWideIn r q → IsFitFor given t space q wide fit → new ≡ old ++ fits_line space (option_map decoded_range_of fit) → IsFitTold given t (named_region slot reg) space old new
-  told_fit q rs r wide fit new found records nested rise has at on exact fits text s (Own v) tree named is =
+      → ((s : System) → decoded.HasRecords s t.records → IsNested t.roots s) → RiseBySlot rs → Contains rs r → r.slot ≡ slot → (is_root t.roots slot.bus && not (is_said given space)) ≡ false → is_size_assumed assumed slot reg ≡ false
+      → IsTrue wide ↔ IsWideIn r q → IsFitFor given t space q wide fit → new ≡ old ++ fits_line space (option_map decoded_range_of fit) → IsFitTold assumed given t (named_region slot reg) space old new
+  told_fit q rs r wide fit new found records nested rise has at on known exact fits text s (Own v) tree named is =
       let here = found s tree in
       let rs_is : Has s rs = subst (λ xs. decoded.HasRecords s xs) records tree.records in
       let own = function_for s rs r rs_is has in
@@ -145,11 +166,13 @@ module _ (given : Given) (t : Tree) (slot : Slot) (reg : ℕ) (space : Space) (o
             (fits s here.f here.part tree (nested s tree.records) here.listed here.is);
         text = refl;
       } in
-      let behind : IsFitBehind given t.roots s (Own as_told) lines = subst (λ b. MatchBool b (lines ≡ []) (IsFit given t.roots s as_told lines)) (sym off) is_fit in
+      let behind : IsFitBehind assumed given t.roots s (Own as_told) lines =
+      subst (λ b. MatchBool b (lines ≡ []) (Movable assumed given t.roots s as_told lines)) (sym off)
+      (subst (λ b. MatchBool b (lines ≡ unknown_line) (IsFit given t.roots s as_told lines)) (sym (same_size assumed s slot reg space q false here known)) is_fit) in
       record {
         lines = lines;
         text = text;
-        are = subst (λ (x : RegionValue). IsFitBehind given t.roots s (Own x) lines) (named_is s slot reg space q here tree.system v named is) behind;
+        are = subst (λ (x : RegionValue). IsFitBehind assumed given t.roots s (Own x) lines) (named_is s slot reg space q here tree.system v named is) behind;
       }
-  told_fit q rs r wide fit new found records nested rise has at on exact fits text s (Legacy b of_space) tree named is =
+  told_fit q rs r wide fit new found records nested rise has at on known exact fits text s (Legacy b of_space) tree named is =
       absurd (no_legacy s slot reg space q (found s tree) named.1)

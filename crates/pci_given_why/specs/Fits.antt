@@ -5,6 +5,7 @@ use Rattle.std.specs.List.{Contains}
 use Rattle.pci_spec.specs.System.{System, Function, Space}
 use Rattle.pci_spec.specs.System as system
 use Rattle.pci_spec.specs.Bus.{IsNested}
+use Rattle.pci_spec.specs.Mark.{AssumedRegister}
 use Rattle.pci_spec.specs.Fault.{RegionName}
 use Rattle.given_spec.specs.Given.{Given}
 use Rattle.given_spec.specs.Why.{Region, IsNamed, IsRegionIn, IsPlaceFor, IsLeastPlace, IsFitBehind}
@@ -27,8 +28,9 @@ IsFitFor given t space q wide o =
     (λ r. IsLeastPlace given t.roots s (told q part space) wide r)
 
 -- in each system with the tree that has the region, the lines that tell where it would fit
-abbrev pub IsFitTold : Given → Tree → RegionName → Space → List ℕ → List ℕ → Type 0
-IsFitTold given t region space before after =
+abbrev pub IsFitTold :
+    List AssumedRegister → Given → Tree → RegionName → Space → List ℕ → List ℕ → Type 0
+IsFitTold assumed given t region space before after =
     (s : System) (q : Region) → HasTree t s → IsNamed q region.slot region.register space
     → IsRegionIn given s q
-    → Appends (IsFitBehind given t.roots s q) before after
+    → Appends (IsFitBehind assumed given t.roots s q) before after

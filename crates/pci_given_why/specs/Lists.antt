@@ -2,6 +2,7 @@
 use Rattle.std.specs.Prelude.{◌≡◌, ℕ, true, List}
 use Rattle.std.specs.List.{Contains}
 use Rattle.pci_spec.specs.System.{System}
+use Rattle.pci_spec.specs.Mark.{AssumedRegister}
 use Rattle.pci_tree.specs.Outline.{Tree}
 use Rattle.pci_tree.specs.Trees.{HasTree}
 use Rattle.pci_why.specs.Evidence.{Appends}
@@ -15,13 +16,15 @@ AreIn given t s faults =
     (fault : Fault) → Contains faults fault → IsIn given t.roots s fault
 
 -- in each system with the tree where they are there
-abbrev pub AreReasonedTold : Given → Tree → List Fault → List ℕ → List ℕ → Type 0
-AreReasonedTold given t faults old new =
+abbrev pub AreReasonedTold :
+    List AssumedRegister → Given → Tree → List Fault → List ℕ → List ℕ → Type 0
+AreReasonedTold assumed given t faults old new =
     (s : System) → HasTree t s → AreIn given t s faults
-    → Appends (AreReasoned given t.roots s faults) old new
+    → Appends (AreReasoned assumed given t.roots s faults) old new
 
 -- the text of a list of faults of judging, in each such system
-abbrev pub IsReasonedTextOf : Given → Tree → List Fault → List ℕ → Type 0
-IsReasonedTextOf given t faults text =
+abbrev pub IsReasonedTextOf :
+    List AssumedRegister → Given → Tree → List Fault → List ℕ → Type 0
+IsReasonedTextOf assumed given t faults text =
     (s : System) → HasTree t s → AreIn given t s faults → is_judged faults ≡ true
-    → IsReasonedText given t.roots s faults text
+    → IsReasonedText assumed given t.roots s faults text

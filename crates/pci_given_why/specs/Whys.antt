@@ -1,6 +1,7 @@
 -- All lines behind a fault.
 use Rattle.std.specs.Prelude.{ℕ, List}
 use Rattle.pci_spec.specs.System.{System}
+use Rattle.pci_spec.specs.Mark.{AssumedRegister}
 use Rattle.pci_tree.specs.Outline.{Tree}
 use Rattle.pci_tree.specs.Trees.{HasTree}
 use Rattle.pci_why.specs.Evidence.{Appends}
@@ -15,13 +16,15 @@ IsEvidenceTold given t fault old new =
     → Appends (IsEvidence given t.roots s fault) old new
 
 -- where that is told, where the region that could be moved would fit
-abbrev pub IsAdviceTold : Given → Tree → Fault → List ℕ → List ℕ → Type 0
-IsAdviceTold given t fault old new =
+abbrev pub IsAdviceTold :
+    List AssumedRegister → Given → Tree → Fault → List ℕ → List ℕ → Type 0
+IsAdviceTold assumed given t fault old new =
     (s : System) (evidence : List ℕ) → HasTree t s → IsEvidence given t.roots s fault evidence
-    → Appends (IsAdvice given t.roots s fault) old new
+    → Appends (IsAdvice assumed given t.roots s fault) old new
 
 -- both
-abbrev pub IsWhyTold : Given → Tree → Fault → List ℕ → List ℕ → Type 0
-IsWhyTold given t fault old new =
+abbrev pub IsWhyTold :
+    List AssumedRegister → Given → Tree → Fault → List ℕ → List ℕ → Type 0
+IsWhyTold assumed given t fault old new =
     (s : System) → HasTree t s → IsIn given t.roots s fault
-    → Appends (IsWhy given t.roots s fault) old new
+    → Appends (IsWhy assumed given t.roots s fault) old new

@@ -1,6 +1,8 @@
 //! Where a region that isn't sent or reached, or is the second of two, would fit on its bus.
 ghost use Rattle.std.specs.Prelude.{◌≡◌, ◌≤◌, ◌&&◌, not, IfOk, IfSome, OnOk};
 ghost use Rattle.std.specs.String.{string_bytes};
+ghost use Rattle.pci_spec.specs.Text.{IsDump};
+ghost use Rattle.pci_spec.specs.Mark.{all_named};
 ghost use Rattle.pci_spec.specs.Bus.{is_root};
 ghost use Rattle.pci_spec.specs.Fault.{named_region};
 ghost use Rattle.given_spec.specs.Why.{is_said};
@@ -15,6 +17,8 @@ use pci_base::slot::Slot;
 use pci_base::space::Space;
 use pci_claims::given::Given;
 use pci_claims::sent::ranges_said;
+use pci_dump::block::Block;
+use pci_dump::mark::is_size_assumed;
 use pci_tree::bus::record_at;
 use pci_tree::outline::Outline;
 use pci_tree::region::Region;
@@ -60,24 +64,32 @@ fn fit_of<A: Allocator + Copy>(
 
 /// Appends where the region of a slot and register would fit: the least range of its size whose first address is a
 /// multiple of that, below 4 GB where it is no BAR of 64 bits (of I/O below 64 KB), to which accesses start on the root
-/// bus above, that each bridge on the way passes, and that no other region claims which can clash with it. There is no
-/// such line of a legacy part, which can't be moved, and none on a root bus to which all of the space is sent.
+/// bus above, that each bridge on the way passes, and that no other region claims which can clash with it. Where the read
+/// back of the register is assumed, as the titles of the probe's blocks tell it, that isn't known: `fits unknown`. There
+/// is no such line of a legacy part, which can't be moved, and none on a root bus to which all of the space is sent.
 pub fn push_fits<A: Allocator + Copy, B: Allocator>(
     alloc: A,
     text: &mut String<B>,
     given: &Given<'_>,
     outline: &Outline<A>,
+    probe: &[Block],
     slot: Slot,
     reg: u8,
     space: Space,
 ) -> Result<(), OutOfMemory>
-    ensures { OnOk result (IsFitTold (given_value given.now) outline.now (named_region slot reg)
-        (space_of space) (string_bytes text.old) (string_bytes text.new)) }
+    // its slots rise, so a block is found by halving
+    requires { IsDump probe.now }
+    ensures { OnOk result (IsFitTold (all_named probe.now) (given_value given.now) outline.now
+        (named_region slot reg) (space_of space) (string_bytes text.old) (string_bytes text.new)) }
 {
     let Some(region) = region_at(alloc, outline, slot, reg, space)? else {
         return Ok(());
     };
     if is_sent_all(given, outline, slot.bus(), space) {
+        return Ok(());
+    }
+    if is_size_assumed(probe, slot, reg) {
+        text.push_str("  fits unknown\n")?;
         return Ok(());
     }
     let Some(function) = record_at(outline.records(), slot) else {

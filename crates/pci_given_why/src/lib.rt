@@ -2,8 +2,8 @@
 //! reasons.
 //!
 //! ```text
-//! push_why(alloc, &mut text, &given, &outline, &fault)?; // as pci_why's, and `host` behind a 63
-//! reasoned_text(alloc, &given, &outline, &faults)?; // all faults of judging, each with its lines, and the BARs that are off
+//! push_why(alloc, &mut text, &given, &outline, &probe, &fault)?; // as pci_why's, and `host` behind a 63
+//! reasoned_text(alloc, &given, &outline, &probe, &faults)?; // all faults of judging, each with its lines, and the BARs that are off
 //! ```
 #![tactic(auto)]
 

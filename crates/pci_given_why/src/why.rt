@@ -1,6 +1,8 @@
 //! The lines behind a fault of judging.
 ghost use Rattle.std.specs.Prelude.{OnOk};
 ghost use Rattle.std.specs.String.{string_bytes};
+ghost use Rattle.pci_spec.specs.Text.{IsDump};
+ghost use Rattle.pci_spec.specs.Mark.{all_named};
 ghost use Rattle.pci_function.specs.Fault.{fault_of};
 ghost use Rattle.given_spec.specs.Fault.{Known};
 ghost use Rattle.pci_claims.specs.Values.{given_value};
@@ -14,6 +16,7 @@ use super::two::push_two;
 use pci_base::memory::OutOfMemory;
 use pci_claims::given::Given;
 use pci_claims::sent::ranges_said;
+use pci_dump::block::Block;
 use pci_function::fault::Fault;
 use pci_given::any_fault::AnyFault;
 use pci_tree::outline::Outline;
@@ -104,9 +107,12 @@ fn push_known_advice<A: Allocator + Copy, B: Allocator>(
     text: &mut String<B>,
     given: &Given<'_>,
     outline: &Outline<A>,
+    probe: &[Block],
     fault: &Fault,
 ) -> Result<(), OutOfMemory>
-    ensures { OnOk result (IsAdviceTold (given_value given.now) outline.now
+    // its slots rise, so a block is found by halving
+    requires { IsDump probe.now }
+    ensures { OnOk result (IsAdviceTold (all_named probe.now) (given_value given.now) outline.now
         (Known (fault_of fault.now)) (string_bytes text.old) (string_bytes text.new)) }
 {
     match *fault {
@@ -115,20 +121,24 @@ fn push_known_advice<A: Allocator + Copy, B: Allocator>(
             reg,
             space,
             ..
-        } => push_fits(alloc, text, given, outline, slot, reg, space),
+        } => push_fits(alloc, text, given, outline, probe, slot, reg, space),
         Fault::Clash {
             space,
             second,
             second_reg,
             ..
-        } => push_fits(alloc, text, given, outline, second, second_reg, space),
+        } => push_fits(
+            alloc, text, given, outline, probe, second, second_reg, space,
+        ),
         Fault::Split {
             space,
             second,
             second_reg,
             ..
         } => match ranges_said(given, space) {
-            Some(_) => push_fits(alloc, text, given, outline, second, second_reg, space),
+            Some(_) => push_fits(
+                alloc, text, given, outline, probe, second, second_reg, space,
+            ),
             // the second region stands on a root bus, to which all of the space is sent
             None => Ok(()),
         },
@@ -142,21 +152,25 @@ fn push_advice<A: Allocator + Copy, B: Allocator>(
     text: &mut String<B>,
     given: &Given<'_>,
     outline: &Outline<A>,
+    probe: &[Block],
     fault: &AnyFault,
 ) -> Result<(), OutOfMemory>
-    ensures { OnOk result (IsAdviceTold (given_value given.now) outline.now
+    // its slots rise, so a block is found by halving
+    requires { IsDump probe.now }
+    ensures { OnOk result (IsAdviceTold (all_named probe.now) (given_value given.now) outline.now
         (judged_of fault.now) (string_bytes text.old) (string_bytes text.new)) }
 {
     match fault {
         AnyFault::OutsideHost(o) => {
-            push_fits(alloc, text, given, outline, o.slot, o.reg, o.space)
+            push_fits(alloc, text, given, outline, probe, o.slot, o.reg, o.space)
         }
-        AnyFault::Known(fault) => push_known_advice(alloc, text, given, outline, fault),
+        AnyFault::Known(fault) => push_known_advice(alloc, text, given, outline, probe, fault),
     }
 }
 
 /// Appends the lines behind a fault of judging, each with two spaces before it: those that tell with what ranges it is
-/// there, and where the region would fit that isn't sent or reached, or is the second of two. Other faults have none.
+/// there, and where the region would fit that isn't sent or reached, or is the second of two. Other faults have none. The
+/// titles of the probe's blocks tell of which regions the size isn't known.
 ///
 /// At want of memory some of the lines may stand in the text.
 pub fn push_why<A: Allocator + Copy, B: Allocator>(
@@ -164,11 +178,14 @@ pub fn push_why<A: Allocator + Copy, B: Allocator>(
     text: &mut String<B>,
     given: &Given<'_>,
     outline: &Outline<A>,
+    probe: &[Block],
     fault: &AnyFault,
 ) -> Result<(), OutOfMemory>
-    ensures { OnOk result (IsWhyTold (given_value given.now) outline.now (judged_of fault.now)
-        (string_bytes text.old) (string_bytes text.new)) }
+    // its slots rise, so a block is found by halving
+    requires { IsDump probe.now }
+    ensures { OnOk result (IsWhyTold (all_named probe.now) (given_value given.now) outline.now
+        (judged_of fault.now) (string_bytes text.old) (string_bytes text.new)) }
 {
     push_evidence(alloc, text, given, outline, fault)?;
-    push_advice(alloc, text, given, outline, fault)
+    push_advice(alloc, text, given, outline, probe, fault)
 }

@@ -1,6 +1,7 @@
 use Rattle.std.proofs.Common.{◌≡◌, ◌+◌, ◌++◌, ◌∷◌, [], List, map, take, ◌∙◌, ap, sym, subst}
 use Rattle.std.proofs.lemmas.List.{map-append, take_more}
 use Rattle.std.specs.String.{string_bytes}
+use Rattle.pci_spec.specs.Mark.{all_named}
 use Rattle.given_spec.specs.Fault as spec
 use Rattle.pci_claims.specs.Values.{given_value}
 use Rattle.pci_given.specs.AllLines.{judged_of}
@@ -17,6 +18,6 @@ loop-fault-preserved g c =
     let old = string_bytes c.args.text.now in
     let taken : map judged_of (take (i + 1) all) ≡ map judged_of (take i all) ++ judged_of fault ∷ [] =
     ap (map judged_of) (take_more all i fault c.loop-fault-test.true ∙ ap (λ f. take i all ++ f ∷ []) (sym c.fault-item.is)) ∙ map-append judged_of (take i all) (fault ∷ []) in
-    subst (λ (fs : List spec.Fault). AreReasonedTold given c.args.outline.now fs old (string_bytes c.push_why.new.text)) (sym taken)
-    (one_more_reasoned given c.args.outline.now (map judged_of (take i all)) (judged_of fault) old (string_bytes c.loop-fault.text) (string_bytes c.push_fault.new.text)
+    subst (λ (fs : List spec.Fault). AreReasonedTold (all_named c.args.probe.now) given c.args.outline.now fs old (string_bytes c.push_why.new.text)) (sym taken)
+    (one_more_reasoned (all_named c.args.probe.now) given c.args.outline.now (map judged_of (take i all)) (judged_of fault) old (string_bytes c.loop-fault.text) (string_bytes c.push_fault.new.text)
     (string_bytes c.push_why.new.text) c.loop-fault.invariant c.in_ok-push_fault.ensures c.in_ok-push_why.ensures)

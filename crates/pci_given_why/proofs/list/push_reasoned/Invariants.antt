@@ -1,9 +1,10 @@
 use Rattle.std.proofs.Common.{map, take}
 use Rattle.std.specs.String.{string_bytes}
+use Rattle.pci_spec.specs.Mark.{all_named}
 use Rattle.pci_claims.specs.Values.{given_value}
 use Rattle.pci_given.specs.AllLines.{judged_of}
 use Rattle.pci_given_why.specs.Lists.{AreReasonedTold}
 use Rattle.pci_given_why.proofs.list.push_reasoned.Given as goal
 
 abbrev pub invariant-loop-fault : goal.invariant-loop-fault
-invariant-loop-fault g l = AreReasonedTold (given_value l.given) l.outline (map judged_of (take l.fault-index l.faults)) (string_bytes l.initial.text) (string_bytes l.text)
+invariant-loop-fault g l = AreReasonedTold (all_named l.probe) (given_value l.given) l.outline (map judged_of (take l.fault-index l.faults)) (string_bytes l.initial.text) (string_bytes l.text)
