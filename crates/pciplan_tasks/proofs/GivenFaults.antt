@@ -7,6 +7,7 @@ use Rattle.pci_spec.specs.System.{System, system_of}
 use Rattle.pci_spec.specs.Fault.{Unreached, Clash, Split}
 use Rattle.pci_spec.specs.Fault as plain
 use Rattle.pci_spec.specs.Order.{phase_of}
+use Rattle.pci_spec.specs.Mark.{AssumedRegister, all_named}
 use Rattle.pci_spec.specs.Why.{off_lines}
 use Rattle.pci_spec.proofs.Members.{in_head, in_tail}
 use Rattle.pci_tree.specs.Admission.{Admission, IsOutlineFor}
@@ -24,20 +25,20 @@ use Rattle.pciplan_tasks.specs.GivenAnswers.{IsListText, AreToldGiven}
 
 -- ---- of faults before judging nothing more is told
 
-nothing_behind : (given : Given) (roots : List ℕ) (s : System) (f : plain.Fault) → phase_of f < 5 → IsWhy given roots s (Known f) []
-nothing_behind given roots s (Unreached slot register space address bridge) early = absurd (let none : ⊥ = omega (arith, early) in none)
-nothing_behind given roots s (Clash bus space address first fr second sr) early = absurd (let none : ⊥ = omega (arith, early) in none)
-nothing_behind given roots s (Split space address first fr second sr) early = absurd (let none : ⊥ = omega (arith, early) in none)
-nothing_behind given roots s _ early = record { evidence = []; advice = []; told = refl; fits = refl; text = refl }
+nothing_behind : (assumed : List AssumedRegister) (given : Given) (roots : List ℕ) (s : System) (f : plain.Fault) → phase_of f < 5 → IsWhy assumed given roots s (Known f) []
+nothing_behind assumed given roots s (Unreached slot register space address bridge) early = absurd (let none : ⊥ = omega (arith, early) in none)
+nothing_behind assumed given roots s (Clash bus space address first fr second sr) early = absurd (let none : ⊥ = omega (arith, early) in none)
+nothing_behind assumed given roots s (Split space address first fr second sr) early = absurd (let none : ⊥ = omega (arith, early) in none)
+nothing_behind assumed given roots s _ early = record { evidence = []; advice = []; told = refl; fits = refl; text = refl }
 
-lines_alone : (given : Given) (roots : List ℕ) (s : System) (early : List plain.Fault) → ((f : plain.Fault) → Contains early f → phase_of f < 5)
-    → AreReasoned given roots s (map Known early) (flat_map fault_line (map Known early))
-lines_alone given roots s [] low = refl
-lines_alone given roots s (f ∷ rest) low = (
+lines_alone : (assumed : List AssumedRegister) (given : Given) (roots : List ℕ) (s : System) (early : List plain.Fault) → ((f : plain.Fault) → Contains early f → phase_of f < 5)
+    → AreReasoned assumed given roots s (map Known early) (flat_map fault_line (map Known early))
+lines_alone assumed given roots s [] low = refl
+lines_alone assumed given roots s (f ∷ rest) low = (
   [],
   flat_map fault_line (map Known rest),
-  nothing_behind given roots s f (low f (in_head f rest)),
-  lines_alone given roots s rest (λ g has. low g (in_tail f rest g has)),
+  nothing_behind assumed given roots s f (low f (in_head f rest)),
+  lines_alone assumed given roots s rest (λ g has. low g (in_tail f rest g has)),
   ap (λ line. line ++ flat_map fault_line (map Known rest)) (sym (append-nil (fault_line (Known f)))),
 )
 
@@ -49,14 +50,14 @@ told_alone : (early : List plain.Fault) → (early ≡ [] → ⊥) → list_text
 told_alone [] some = absurd (some refl)
 told_alone (f ∷ rest) some = refl
 
-early_text : (given : Given) (roots : List ℕ) (s : System) (early : List plain.Fault) (text : List ℕ) → (early ≡ [] → ⊥) → ((f : plain.Fault) → Contains early f → phase_of f < 5)
-    → text ≡ list_text (map Known early) → IsReasonedText given roots s (map Known early) text
-early_text given roots s early text some low is =
+early_text : (assumed : List AssumedRegister) (given : Given) (roots : List ℕ) (s : System) (early : List plain.Fault) (text : List ℕ) → (early ≡ [] → ⊥) → ((f : plain.Fault) → Contains early f → phase_of f < 5)
+    → text ≡ list_text (map Known early) → IsReasonedText assumed given roots s (map Known early) text
+early_text assumed given roots s early text some low is =
     let faults : List Fault = map Known early in
     let told = yes_line faults ++ flat_map fault_line faults in
     record {
       lines = flat_map fault_line faults;
-      reasoned = lines_alone given roots s early low;
+      reasoned = lines_alone assumed given roots s early low;
       is = is ∙ told_alone early some ∙ sym (append-nil told) ∙ ap (λ j. told ++ (if j then off_lines s else [])) (sym (early_unjudged early some low));
     }
 
@@ -83,22 +84,22 @@ IsJudgedOf given roots dump probe faults judged =
     MatchOption judged (AreEarlier roots dump probe faults) (λ outline. AreJudged given roots dump probe faults × IsOutlineFor (admission roots dump probe) outline)
 
 text_is : (given : Given) (roots : List ℕ) (dump probe : List Block) (faults : List Fault) (judged : Option Tree) (why : Bool) (text : List ℕ)
-    → IsJudgedOf given roots dump probe faults judged → IsListText given judged why faults text → IsFaultsText given roots (system_of dump probe) why faults text
+    → IsJudgedOf given roots dump probe faults judged → IsListText (all_named probe) given judged why faults text → IsFaultsText (all_named probe) given roots (system_of dump probe) why faults text
 text_is given roots dump probe faults None false text early is = is
 text_is given roots dump probe faults (Some t) false text late is = is
 text_is given roots dump probe faults None true text earlier is =
-    subst (λ fs. IsReasonedText given roots (system_of dump probe) fs text) (sym earlier.are)
-    (early_text given roots (system_of dump probe) earlier.early text earlier.some earlier.before (is ∙ ap list_text earlier.are))
+    subst (λ fs. IsReasonedText (all_named probe) given roots (system_of dump probe) fs text) (sym earlier.are)
+    (early_text (all_named probe) given roots (system_of dump probe) earlier.early text earlier.some earlier.before (is ∙ ap list_text earlier.are))
 text_is given roots dump probe faults (Some t) true text (late, outline) is =
     let s = system_of dump probe in
     let reasoned = is s record { system = outline.admitted.system; records = outline.records }
     (λ f has. subst (λ r. IsIn given r s f) (sym outline.roots) (named_there given roots s f (late.all.each f has)).0)
     (all_judged given roots s faults late.all.each) in
-    subst (λ r. IsReasonedText given r s faults text) outline.roots reasoned
+    subst (λ r. IsReasonedText (all_named probe) given r s faults text) outline.roots reasoned
 
 pub given_told : (given : Given) (roots : List ℕ) (dump probe : List Block) (faults : List Fault) (judged : Option Tree) (why : Bool) (text : List ℕ) (answer : Answer)
     → AreAllFaults given roots dump probe faults → (faults ≡ []) ↔ AreSound given roots dump probe → IsJudgedOf given roots dump probe faults judged
-    → IsListText given judged why faults text → answer ≡ list_answer faults text → AreToldGiven given roots why dump probe answer
+    → IsListText (all_named probe) given judged why faults text → answer ≡ list_answer faults text → AreToldGiven given roots why dump probe answer
 given_told given roots dump probe faults judged why text answer all none outline is line = record {
   faults = faults;
   all = all;

@@ -2,6 +2,7 @@
 use Rattle.std.specs.Prelude.{◌≡◌, ◌↔◌, ℕ, Bool, true, List, [], Option, None, Some, option_map, map}
 use Rattle.pci_spec.specs.Text.{Block}
 use Rattle.pci_spec.specs.System.{System, system_of}
+use Rattle.pci_spec.specs.Mark.{AssumedRegister, all_named}
 use Rattle.given_spec.specs.Given.{Given, LegacyBridge}
 use Rattle.given_spec.specs.Fault.{Fault}
 use Rattle.given_spec.specs.FaultLines.{AreAllFaults, AreSound}
@@ -37,18 +38,21 @@ given_of host words dump = record {
 }
 
 -- the text of a list, where it is of what was judged with reasons
-abbrev pub IsListText : Given → Option Tree → Bool → List Fault → List ℕ → Type 0
-IsListText given (Some judged) true faults text = IsReasonedTextOf given judged faults text
-IsListText given _ _ faults text = text ≡ list_text faults
+abbrev pub IsListText :
+    List AssumedRegister → Given → Option Tree → Bool → List Fault → List ℕ → Type 0
+IsListText assumed given (Some judged) true faults text =
+    IsReasonedTextOf assumed given judged faults text
+IsListText assumed given _ _ faults text = text ≡ list_text faults
 
--- all of them, with reasons or without; none exactly where the two are sound
+-- All of them, with reasons or without; none exactly where the two are sound. The titles of the probe tell of which
+-- regions no place is known.
 pub record AreToldGiven (given : Given) (roots : List ℕ) (why : Bool) (dump probe : List Block)
     (answer : Answer) : Type 0 where
   pub faults : List Fault
   pub all : AreAllFaults given roots dump probe faults
   pub none : (faults ≡ []) ↔ AreSound given roots dump probe
   pub text : List ℕ
-  pub is : IsFaultsText given roots (system_of dump probe) why faults text
+  pub is : IsFaultsText (all_named probe) given roots (system_of dump probe) why faults text
   pub line : answer ≡ list_answer faults text
 
 -- what `faults` is asked beside the two texts: how functions are taken, what the host sends and where, and for reasons

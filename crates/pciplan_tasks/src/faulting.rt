@@ -1,6 +1,8 @@
 //! Lists all faults of a dump and its probe.
 ghost use Rattle.std.specs.Prelude.{map, IfOk};
 ghost use Rattle.std.specs.String.{string_bytes};
+ghost use Rattle.pci_spec.specs.Text.{IsDump};
+ghost use Rattle.pci_spec.specs.Mark.{all_named};
 ghost use Rattle.pci_function.specs.Fault.{fault_of};
 ghost use Rattle.pci_tree.specs.Roots.{buses_of};
 ghost use Rattle.pciplan_tasks.specs.Answers.{answer_of};
@@ -10,6 +12,7 @@ ghost use Rattle.pciplan_tasks.specs.TakenAnswers.{IsAnswerBy};
 use crate::reply::{Reply, Text};
 use crate::taking::taken;
 use pci_base::memory::OutOfMemory;
+use pci_dump::block::Block;
 use pci_dump::dump::Dump;
 use pci_faults::every::all_faults;
 use pci_function::fault::Fault;
@@ -23,14 +26,17 @@ use std::alloc::Allocator;
 fn text_of<A: Allocator + Copy>(
     alloc: A,
     judged: &Option<Outline<A>>,
+    probe: &[Block],
     faults: &[Fault],
     why: bool,
 ) -> Result<String<A>, OutOfMemory>
-    ensures { IfOk result
-        (λ text. IsListText judged.now why (map fault_of faults.now) (string_bytes text)) }
+    // its slots rise, so a block is found by halving
+    requires { IsDump probe.now }
+    ensures { IfOk result (λ text. IsListText (all_named probe.now) judged.now why
+        (map fault_of faults.now) (string_bytes text)) }
 {
     match (judged, why) {
-        (Some(outline), true) => reasoned_text(alloc, outline, faults),
+        (Some(outline), true) => reasoned_text(alloc, outline, probe, faults),
         _ => plain_text(alloc, faults),
     }
 }
@@ -48,7 +54,7 @@ fn faults_pair<A: Allocator + Copy>(
 {
     let found = all_faults(alloc, dump, probe, roots)?;
     let faults = found.faults.as_slice();
-    let text = text_of(alloc, &found.judged, faults, why)?;
+    let text = text_of(alloc, &found.judged, probe.blocks(), faults, why)?;
     Ok(Reply {
         refused: !faults.is_empty(),
         text: Text::Lines(text),

@@ -1,7 +1,9 @@
 //! Lists all faults of a dump and its probe, with what is given beside them.
 ghost use Rattle.std.specs.Prelude.{◌≡◌, map, option_map, IfOk};
 ghost use Rattle.std.specs.String.{string_bytes};
+ghost use Rattle.pci_spec.specs.Text.{IsDump};
 ghost use Rattle.pci_spec.specs.System.{system_of};
+ghost use Rattle.pci_spec.specs.Mark.{all_named};
 ghost use Rattle.pci_tree.specs.Roots.{buses_of};
 ghost use Rattle.pci_claims.specs.Values.{given_value, host_value, legacy_value};
 ghost use Rattle.pci_given.specs.AllLines.{judged_of};
@@ -15,6 +17,7 @@ use pci_base::memory::OutOfMemory;
 use pci_base::range::RootRange;
 use pci_claims::given::{Given, LegacyBridge};
 use pci_claims::vga::legacy_bridges;
+use pci_dump::block::Block;
 use pci_dump::dump::Dump;
 use pci_given::any_fault::AnyFault;
 use pci_given::every::all_faults;
@@ -59,14 +62,17 @@ fn text_of<A: Allocator + Copy>(
     alloc: A,
     given: &Given<'_>,
     judged: &Option<Outline<A>>,
+    probe: &[Block],
     faults: &[AnyFault],
     why: bool,
 ) -> Result<String<A>, OutOfMemory>
-    ensures { IfOk result (λ text. IsListText (given_value given.now) judged.now why
-        (map judged_of faults.now) (string_bytes text)) }
+    // its slots rise, so a block is found by halving
+    requires { IsDump probe.now }
+    ensures { IfOk result (λ text. IsListText (all_named probe.now) (given_value given.now) judged.now
+        why (map judged_of faults.now) (string_bytes text)) }
 {
     match (judged, why) {
-        (Some(outline), true) => reasoned_text(alloc, given, outline, faults),
+        (Some(outline), true) => reasoned_text(alloc, given, outline, probe, faults),
         _ => list_text(alloc, faults),
     }
 }
@@ -85,7 +91,7 @@ fn given_pair<A: Allocator + Copy>(
 {
     let found = all_faults(alloc, dump, probe, roots, given)?;
     let faults = found.faults.as_slice();
-    let text = text_of(alloc, given, &found.judged, faults, why)?;
+    let text = text_of(alloc, given, &found.judged, probe.blocks(), faults, why)?;
     Ok(Reply {
         refused: !faults.is_empty(),
         text: Text::Lines(text),
