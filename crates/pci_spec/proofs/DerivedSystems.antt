@@ -14,9 +14,9 @@ use Rattle.pci_spec.specs.Derived.{window_enable, derived_probe}
 use Rattle.pci_spec.specs.NoProbe.{Assuming, Disabled, Any, assumes_enabled, no_probe}
 use Rattle.pci_spec.specs.ToldAlike.{enables_window, IsToldAlike, IsToldAtLeast, IsReadable}
 use Rattle.pci_spec.specs.TrueLines.{IsTrueOf}
-use Rattle.pci_spec.specs.DerivedLaws.{with_derived, IsDerivedOf, DerivedIsToldAlike, DerivedHasTheSameFaults, DerivedHasTheSameFirstFault, DerivedIsSoundWithOwn, LeastIsToldAtMost, FaultsAtLeastSizesStand}
+use Rattle.pci_spec.specs.DerivedLaws.{with_derived, HaveSameBar, IsDerivedOf, DerivedIsToldAlike, DerivedSizesAreOwn, DerivedHasTheSameFaults, DerivedHasTheSameFirstFault, DerivedIsSoundWithOwn, LeastIsToldAtMost, FaultsAtLeastSizesStand}
 use Rattle.pci_spec.proofs.DerivedBytes.{derived_image, none_stray}
-use Rattle.pci_spec.proofs.ToldBars.{derived_bars_fine, same_bars, same_sizes, least_sizes}
+use Rattle.pci_spec.proofs.ToldBars.{all_sizes, derived_bars_fine, same_bars, same_sizes, least_sizes}
 use Rattle.pci_spec.proofs.ToldRoms.{derived_rom_fine, same_rom, least_rom}
 use Rattle.pci_spec.proofs.ToldWindows.{derived_window_fine, same_window}
 use Rattle.pci_spec.proofs.ToldSystems.{greater_have_the_faults, alike_have_the_same_faults, alike_have_the_same_first_fault, alike_are_sound_together}
@@ -71,6 +71,11 @@ derived_is_told_alike f g is readable d =
       with_derived_readable f d.lines is readable d.told Disabled d.derivable,
       with_derived_alike f d.lines is readable d.told Disabled d.derivable refl,
     )
+
+pub derived_sizes_are_own : DerivedSizesAreOwn
+derived_sizes_are_own f g n is readable d less starts some =
+    let same = all_sizes f d.lines is.image readable.decodable d.told Disabled d.derivable refl n less starts some in
+    subst (λ h. HaveSameBar f h n) (sym d.derived) record { own = same.0; derived = same.1; size = same.2 }
 
 abbrev IsLesser : Function → Function → Type 0
 IsLesser f g = IsReadable g × IsToldAtLeast g f

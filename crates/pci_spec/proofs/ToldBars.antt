@@ -375,3 +375,10 @@ module _ (f : Function) (lines : List ResourceLine) (is : IsImage f.image) (good
         | inl b ↦ absurd (both_ways (has_bar own n) (b.gone on) there)
         | inr b ↦ b.size exact ∙ sym (size_new n h.less h.starts b)
       ]
+
+  -- of a BAR that shows something, on or off
+  pub all_sizes : assumes_enabled assuming ≡ false → (n : ℕ) → n < count → starts_bar image n ≡ true → (shown n ≡ 0 → ⊥) → (has_bar own n ≡ true) × (has_bar new n ≡ true) × (bar_size own n ≡ bar_size new n)
+  all_sizes exact n less starts some = elim (choice n less starts) [
+    | inl b ↦ absurd (some b.zeros)
+    | inr b ↦ (own_has n less starts b.there, has_new n less starts b, b.size exact ∙ sym (size_new n less starts b))
+  ]

@@ -1,14 +1,17 @@
 -- Laws of derived probes: where what is told is true, they give the verdict that the machine's own read backs give;
 -- where the least size is assumed of what is enabled, each fault that they show is there with those.
-use Rattle.std.specs.Prelude.{◌≡◌, ◌↔◌, ℕ, IsFalse, List, None}
+use Rattle.std.specs.Prelude.{◌≡◌, ◌<◌, ◌↔◌, ℕ, IsFalse, IsTrue, List, None}
 use Rattle.std.specs.List.{All, AllZip}
+use Rattle.pci_spec.specs.Header.{layout, bar_count}
+use Rattle.pci_spec.specs.Bar.{has_bar, starts_bar}
+use Rattle.pci_spec.specs.Decoded.{bar_size}
 use Rattle.pci_spec.specs.Text.{Block, slots_of}
 use Rattle.pci_spec.specs.System.{System, Function, IsFunction, IsSystem, system_of}
 use Rattle.pci_spec.specs.Fault.{Fault, IsIn}
 use Rattle.pci_spec.specs.Order.{IsFirstIn}
 use Rattle.pci_spec.specs.Sound.{IsSound}
 use Rattle.pci_spec.specs.Resource.{ResourceLine}
-use Rattle.pci_spec.specs.Derived.{derived_probe}
+use Rattle.pci_spec.specs.Derived.{derived_probe, shown_bar}
 use Rattle.pci_spec.specs.NoProbe.{Assuming, Disabled, Any, assumes_enabled, no_probe}
 use Rattle.pci_spec.specs.SizesText.{SizesBlock}
 use Rattle.pci_spec.specs.ProbeOf.{probe_of, probe_fault}
@@ -31,6 +34,19 @@ abbrev pub DerivedIsToldAlike : Type 0
 DerivedIsToldAlike =
     (f g : Function) → IsFunction f → IsReadable f → IsDerivedOf Disabled f g
     → IsReadable g × IsToldAlike f g
+
+-- two functions have the same BAR at register n
+pub record HaveSameBar (f g : Function) (n : ℕ) : Type 0 where
+  pub own : IsTrue (has_bar f.probe n)
+  pub derived : IsTrue (has_bar g.probe n)
+  pub size : bar_size f.probe n ≡ bar_size g.probe n
+
+-- A BAR that shows something, on or off, has the size that it has with the function's own probe: none is assumed.
+abbrev pub DerivedSizesAreOwn : Type 0
+DerivedSizesAreOwn =
+    (f g : Function) (n : ℕ) → IsFunction f → IsReadable f → IsDerivedOf Disabled f g
+    → n < bar_count (layout f.image) → IsTrue (starts_bar f.image n)
+    → (shown_bar f.image n ≡ 0 → ⊥) → HaveSameBar f g n
 
 -- A system with derived probes has the faults that it has with its own,
 abbrev pub DerivedHasTheSameFaults : Type 0

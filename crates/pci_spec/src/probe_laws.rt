@@ -1,7 +1,7 @@
 //! Laws of probes. These functions do nothing: each contract is a law.
 
 ghost use Rattle.pci_spec.specs.ProbeLaws.{ReadableWithoutFaults, AlikeClaimTheSame, GreaterClaimAsMuch, GreaterHaveTheFaults, AlikeHaveTheSameFaults, AlikeHaveTheSameFirstFault, AlikeAreSoundTogether};
-ghost use Rattle.pci_spec.specs.DerivedLaws.{DerivedIsToldAlike, DerivedHasTheSameFaults, DerivedHasTheSameFirstFault, DerivedIsSoundWithOwn, DumpHasTheSameVerdict, LeastIsToldAtMost, FaultsAtLeastSizesStand, FaultsOfDumpStand};
+ghost use Rattle.pci_spec.specs.DerivedLaws.{DerivedIsToldAlike, DerivedSizesAreOwn, DerivedHasTheSameFaults, DerivedHasTheSameFirstFault, DerivedIsSoundWithOwn, DumpHasTheSameVerdict, LeastIsToldAtMost, FaultsAtLeastSizesStand, FaultsOfDumpStand};
 
 /// Functions are readable exactly where none of the faults 20 to 26 and 31 is there.
 pub fn readable_functions_have_no_fault_of_reading()
@@ -29,6 +29,11 @@ pub fn greater_sizes_keep_faults()
 /// A probe that is derived from true lines shows the sizes of what is enabled that the function's own shows.
 pub fn derived_probes_are_told_alike()
     ensures { DerivedIsToldAlike }
+{}
+
+/// On or off, each BAR that shows something has its own size in such a probe.
+pub fn derived_sizes_are_own()
+    ensures { DerivedSizesAreOwn }
 {}
 
 /// So a system has the same faults, the same first one, and the same soundness with derived probes as with its own.
