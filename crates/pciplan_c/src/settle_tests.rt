@@ -39,6 +39,19 @@ const PLUGGED_PROBE: &str = "00:01.0
 02:00.0
 10: 00 c0 ff ff 00 00 00 00 00 00 00 00 00 00 00 00";
 
+/// The probe of the card, the size of whose BAR nobody told.
+const ASSUMED_PROBE: &str = "00:01.0
+20: f0 ff f0 ff 00 00 00 00 00 00 00 00 00 00 00 00
+
+00:02.0
+20: f0 ff f0 ff 00 00 00 00 00 00 00 00 00 00 00 00
+
+01:00.0
+10: 00 c0 ff ff 00 00 00 00 00 00 00 00 00 00 00 00
+
+02:00.0 assumed 10
+10: 00 c0 ff ff 00 00 00 00 00 00 00 00 00 00 00 00";
+
 /// The texts of the board.
 fn plugged_pair(alloc: Global) -> Result<Pair, AllocError> {
     Ok(Pair {
@@ -120,7 +133,7 @@ fn a_settling_is_put_as_a_whole_or_not_at_all(rt: HostRuntime) -> Result<(), Fai
     let texts = plugged_pair(rt.alloc())?;
     let fixed = "no 74 Fixed 02:00.0 10\n";
     let no_room = "no 72 NoRoom mem 00:01.0 20 100000 100000\n";
-    let cases: [Call; 8] = [
+    let cases: [Call; 9] = [
         (b"e0000000-e02fffff", b"", 4, 64, 0, 2, 0, ""),
         (b"e0000000-e02fffff", b"00:01.0,01:00.0", 2, 0, 0, 2, 0, ""),
         (b"e0000000-e02fffff", b"", 1, 64, 4, 2, 0, ""),
@@ -129,10 +142,23 @@ fn a_settling_is_put_as_a_whole_or_not_at_all(rt: HostRuntime) -> Result<(), Fai
         (b"none", b"", 4, 64, 1, 0, 42, no_room),
         (b"0-", b"02:00", 4, 64, 2, 0, 8, "pool mem"),
         (b"none", b"\xff", 4, 64, 2, 0, 5, "fixed"),
+        (b"\xff", b"", 4, 64, 2, 0, 8, "pool mem"),
     ];
     for call in cases {
         assert!(rt; is_as_said(rt.alloc(), &texts, &call), "{call:?}");
     }
+    Ok(())
+}
+
+#[test]
+fn a_settling_by_an_assumed_size_is_refused(rt: HostRuntime) -> Result<(), Fail> {
+    let texts = Pair {
+        dump: whole(rt.alloc(), PLUGGED_DUMP)?,
+        probe: whole(rt.alloc(), ASSUMED_PROBE)?,
+    };
+    let assumed = "no 76 Assumed 02:00.0 10\n";
+    let call: Call = (b"e0000000-e02fffff", b"", 4, 64, 1, 0, 25, assumed);
+    assert!(rt; is_as_said(rt.alloc(), &texts, &call));
     Ok(())
 }
 

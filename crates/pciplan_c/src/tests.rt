@@ -45,8 +45,9 @@ fn each_call_is_answered_as_it_should_be(rt: HostRuntime) -> Result<(), Fail> {
         [] => old_dump,
     };
     let ended = "dump: 9 Ended 198";
-    let cases: [Call; 12] = [
+    let cases: [Call; 13] = [
         (old_dump, old_probe, &[0], 96, 0, "yes\n"),
+        (b"", b"", &[0], 96, 0, "yes\n"),
         (
             desk_dump,
             desk_probe,
