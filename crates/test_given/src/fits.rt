@@ -87,7 +87,16 @@ fn fits(
     let outline = outline_of(alloc, &dump, &probe, roots)?;
     let mut text = String::new(alloc);
     let Named { slot, reg, space } = region;
-    push_fits(alloc, &mut text, given, &outline, slot, reg, space)?;
+    push_fits(
+        alloc,
+        &mut text,
+        given,
+        &outline,
+        probe.blocks(),
+        slot,
+        reg,
+        space,
+    )?;
     if text.as_str() == wanted {
         Ok(())
     } else {

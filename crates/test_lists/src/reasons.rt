@@ -2,6 +2,7 @@
 use crate::boards::{BEHIND_ONE_THAT_IS_OFF, PASSED_IN_TWO_PARTS};
 use pci_base::slot::Slot;
 use pci_base::space::Space;
+use pci_dump::dump::Dump;
 use pci_function::fault::Fault;
 use pci_tree::admit::outline_of;
 use pci_tree::outline::Outline;
@@ -54,11 +55,11 @@ fn fault_of(named: &Named) -> Option<Fault> {
 }
 
 /// What is told behind some faults, and the lines of the BARs that are off.
-fn told(alloc: Global, outline: &Outline, faults: &[Named]) -> Option<String> {
+fn told(alloc: Global, outline: &Outline, probe: &Dump, faults: &[Named]) -> Option<String> {
     let mut text = String::new(alloc);
     for named in faults {
         let fault = fault_of(named)?;
-        push_why(alloc, &mut text, outline, &fault).ok()?;
+        push_why(alloc, &mut text, outline, probe.blocks(), &fault).ok()?;
     }
     push_off(&mut text, outline).ok()?;
     Some(text)
@@ -68,7 +69,7 @@ fn told(alloc: Global, outline: &Outline, faults: &[Named]) -> Option<String> {
 fn told_of(alloc: Global, board: &[Row], faults: &[Named]) -> Option<String> {
     let (dump, probe) = dumps_of_rows(alloc, board)?;
     match outline_of(alloc, &dump, &probe, Roots::host()) {
-        Ok(outline) => told(alloc, &outline, faults),
+        Ok(outline) => told(alloc, &outline, &probe, faults),
         Err(_) => None,
     }
 }
