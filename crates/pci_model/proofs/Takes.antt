@@ -1,5 +1,5 @@
 -- A dump and its probe that are taken block by block.
-use Rattle.std.proofs.Common.{◌≡◌, ℕ, ◌+◌, ◌<◌, ◌≤◌, List, [], ◌∷◌, ◌++◌, length, take, get_or, arith, refl, sym, ◌∙◌, ap, subst}
+use Rattle.std.proofs.Common.{◌≡◌, ℕ, ◌+◌, ◌<◌, ◌≤◌, List, [], ◌∷◌, ◌++◌, length, map, take, get_or, arith, refl, sym, ◌∙◌, ap, subst}
 use Rattle.std.specs.List.{AllZip, Contains}
 use Rattle.std.proofs.lemmas.List.{get_or-map, get_or-take, length-map, length-take-le, map-append, take_all, take_more}
 use Rattle.std.proofs.lemmas.List.Elements.{AllZip-push}
@@ -10,17 +10,18 @@ use Rattle.pci_spec.specs.System.{Function, function_of, system_of}
 use Rattle.pci_spec.proofs.Pairing.{above_all, function-at, length-system_of, same_length, system_last}
 use Rattle.model_spec.specs.Words.{Words}
 use Rattle.model_spec.specs.Taken.{IsTaken}
-use Rattle.model_spec.specs.TakenDumps.{AreTakenAs}
+use Rattle.model_spec.specs.TakenDumps.{titles_of, AreTakenAs}
 use Rattle.pci_model.proofs.Behind.{numbers_rise}
 
 -- the first blocks, as they are taken
 pub record AreTakenSoFar (w : Words) (dump probe : List Block) (i : ℕ) (found found_probe : List Block) : Type 0 where
   pub slots : slots_of found ≡ take i (slots_of dump)
   pub probe_slots : slots_of found_probe ≡ take i (slots_of probe)
+  pub probe_titles : titles_of found_probe ≡ take i (titles_of probe)
   pub each : AllZip (IsTaken w (slots_of dump)) (take i (system_of dump probe)) (system_of found found_probe)
 
 pub none_taken : (w : Words) (dump probe : List Block) → AreTakenSoFar w dump probe 0 [] []
-none_taken w dump probe = record { slots = refl; probe_slots = refl; each = tt }
+none_taken w dump probe = record { slots = refl; probe_slots = refl; probe_titles = refl; each = tt }
 
 count_of : (dump found : List Block) (i : ℕ) → slots_of found ≡ take i (slots_of dump) → i ≤ length dump → length found ≡ i
 count_of dump found i so_far inside =
@@ -54,21 +55,21 @@ room_left dump found i so_far is inside =
     let room = is.room in
     omega (arith, own, room, inside)
 
-slots_more : (dump found : List Block) (i : ℕ) (b c : Block) → slots_of found ≡ take i (slots_of dump) → i < length dump → c ≡ get_or dump i c → b.slot ≡ c.slot
-    → slots_of (found ++ b ∷ []) ≡ take (i + 1) (slots_of dump)
-slots_more dump found i b c so_far inside at same =
-    let slots = length-map dump (λ (d : Block). d.slot) in
-    let slot_at : get_or (slots_of dump) i c.slot ≡ c.slot = get_or-map (λ (d : Block). d.slot) dump i c c.slot inside ∙ ap (λ (d : Block). d.slot) (sym at) in
-    map-append (λ (d : Block). d.slot) found (b ∷ []) ∙ ap (λ (ss : List Slot). ss ++ b.slot ∷ []) so_far
-    ∙ ap (λ (s : Slot). take i (slots_of dump) ++ s ∷ []) (same ∙ sym slot_at)
-    ∙ sym (take_more (slots_of dump) i c.slot (omega (arith, slots, inside)))
+-- slots and titles alike
+field_more : {X : Type 0} (field : Block → X) (dump found : List Block) (i : ℕ) (b c : Block) → map field found ≡ take i (map field dump) → i < length dump → c ≡ get_or dump i c → field b ≡ field c
+    → map field (found ++ b ∷ []) ≡ take (i + 1) (map field dump)
+field_more {X} field dump found i b c so_far inside at same =
+    let size = length-map dump field in
+    let there : get_or (map field dump) i (field c) ≡ field c = get_or-map field dump i c (field c) inside ∙ ap field (sym at) in
+    map-append field found (b ∷ []) ∙ ap (λ (xs : List X). xs ++ field b ∷ []) so_far ∙ ap (λ (x : X). take i (map field dump) ++ x ∷ []) (same ∙ sym there)
+    ∙ sym (take_more (map field dump) i (field c) (omega (arith, size, inside)))
 
 -- one more
 pub next_taken : (w : Words) (dump probe : List Block) (i : ℕ) (found found_probe : List Block) (b p c q : Block) → slots_of dump ≡ slots_of probe
     → AreTakenSoFar w dump probe i found found_probe → i < length dump
-    → c ≡ get_or dump i c → q ≡ get_or probe i q → b.slot ≡ c.slot → p.slot ≡ q.slot → IsTaken w (slots_of dump) (function_of c q) (function_of b p)
+    → c ≡ get_or dump i c → q ≡ get_or probe i q → b.slot ≡ c.slot → p.slot ≡ q.slot → p.title ≡ q.title → IsTaken w (slots_of dump) (function_of c q) (function_of b p)
     → AreTakenSoFar w dump probe (i + 1) (found ++ b ∷ []) (found_probe ++ p ∷ [])
-next_taken w dump probe i found found_probe b p c q same so_far inside c_at q_at slot probe_slot taken =
+next_taken w dump probe i found found_probe b p c q same so_far inside c_at q_at slot probe_slot probe_title taken =
     let count = same_length dump probe same in
     let size = length-system_of dump probe count in
     let in_probe : i < length probe = omega (arith, count, inside) in
@@ -82,8 +83,9 @@ next_taken w dump probe i found found_probe b p c q same so_far inside c_at q_at
     let pushed = AllZip-push R (take i (system_of dump probe)) (system_of found found_probe) (function_of c q) (function_of b p) so_far.each taken in
     let last : system_of (found ++ b ∷ []) (found_probe ++ p ∷ []) ≡ system_of found found_probe ++ function_of b p ∷ [] = system_last found found_probe b p (omega (arith, own, own_probe)) in
     record {
-      slots = slots_more dump found i b c so_far.slots inside c_at slot;
-      probe_slots = slots_more probe found_probe i p q so_far.probe_slots in_probe q_at probe_slot;
+      slots = field_more (λ (d : Block). d.slot) dump found i b c so_far.slots inside c_at slot;
+      probe_slots = field_more (λ (d : Block). d.slot) probe found_probe i p q so_far.probe_slots in_probe q_at probe_slot;
+      probe_titles = field_more (λ (d : Block). d.title) probe found_probe i p q so_far.probe_titles in_probe q_at probe_title;
       each = subst (λ fs. AllZip R fs (system_of (found ++ b ∷ []) (found_probe ++ p ∷ []))) (sym functions)
           (subst (λ fs. AllZip R (take i (system_of dump probe) ++ function_of c q ∷ []) fs) (sym last) pushed);
     }
@@ -95,9 +97,11 @@ all_taken w dump probe i found found_probe same so_far done =
     let count = same_length dump probe same in
     let slots = length-map dump (λ (b : Block). b.slot) in
     let probe_slots = length-map probe (λ (b : Block). b.slot) in
+    let probe_titles = length-map probe (λ (b : Block). b.title) in
     let size = length-system_of dump probe count in
     record {
       slots = so_far.slots ∙ take_all i (slots_of dump) (omega (arith, slots, done));
       probe_slots = so_far.probe_slots ∙ take_all i (slots_of probe) (omega (arith, count, probe_slots, done));
+      probe_titles = so_far.probe_titles ∙ take_all i (titles_of probe) (omega (arith, count, probe_titles, done));
       each = λ e. subst (λ fs. AllZip (IsTaken w (slots_of dump)) fs (system_of found found_probe)) (take_all i (system_of dump probe) (omega (arith, size, done))) so_far.each;
     }

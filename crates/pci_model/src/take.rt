@@ -44,6 +44,7 @@ fn take_blocks(block: &mut Block, probe: &mut Block, blocks: &[Block], words: Wo
         (function_of block.old probe.old) (function_of block.new probe.new) }
     ensures slot { block.new.slot ≡ block.old.slot }
     ensures probe_slot { probe.new.slot ≡ probe.old.slot }
+    ensures probe_title { probe.new.title ≡ probe.old.title }
 {
     take(
         block.slot,

@@ -55,7 +55,8 @@ loop-i-preserved g c =
     let taken = subst (λ b. R b c.index-probes-i.result) c.copy-block.ensures (subst (λ p. R c.copy-block.result p) c.copy-read_backs.ensures c.take_blocks.ensures.taken) in
     let next = next_taken (words_value c.args.words) blocks probes c.loop-i.i c.loop-i.taken.dump c.loop-i.taken.probe c.take_blocks.new.block c.take_blocks.new.probe c.index-blocks-i.result c.index-probes-i.result same
     c.loop-i.invariant c.loop-i-test.true c.index-blocks-i.is c.index-probes-i.is
-    (c.take_blocks.ensures.slot ∙ ap (λ (b : Block). b.slot) c.copy-block.ensures) (c.take_blocks.ensures.probe_slot ∙ ap (λ (b : Block). b.slot) c.copy-read_backs.ensures) taken in
+    (c.take_blocks.ensures.slot ∙ ap (λ (b : Block). b.slot) c.copy-block.ensures) (c.take_blocks.ensures.probe_slot ∙ ap (λ (b : Block). b.slot) c.copy-read_backs.ensures)
+    (c.take_blocks.ensures.probe_title ∙ ap (λ (b : Block). b.title) c.copy-read_backs.ensures) taken in
     subst (λ ds. AreTakenSoFar (words_value c.args.words) blocks probes (c.loop-i.i + 1) ds c.push_next-in-loop-i.new.self) (sym c.in_ok-push_next.ensures)
     (subst (λ ps. AreTakenSoFar (words_value c.args.words) blocks probes (c.loop-i.i + 1) (c.loop-i.taken.dump ++ c.take_blocks.new.block ∷ []) ps) (sym c.in_ok-push_next-2.ensures) next)
 
