@@ -1,28 +1,47 @@
 #!/bin/sh
 # Runs the commands that pages show, as they stand there: in a block that is indented by four spaces, each line that
 # begins with `$ ` is a command, those behind it that begin with `> ` go on with it, and the others are what it prints on
-# both of its outputs. Blocks that don't begin with `$ ` aren't run. The Rattle that docs/APPLYING.md shows is looked for in
-# the crate that proves it. The lines that capture a machine are the same in README.md and in the manual page.
+# both of its outputs. Blocks that don't begin with `$ ` aren't run. Each page begins in a new folder: it has the texts of
+# crates/pciplan/data and the files of machines/, these also below the name `machines`. A page that can't be read fails.
 #
-# Usage: pages_test.sh PROGRAM [PAGE..]; README.md and docs/USING.md if none is said.
+# The Rattle that docs/APPLYING.md shows is looked for in the crate that proves it. The lines that capture a machine are the
+# same in README.md and in the manual page.
+#
+# Usage: pages_test.sh PROGRAM [PAGE..]; README.md and all of docs/*.md if none is said.
 set -u
 
 here=$(CDPATH='' cd -- "$(dirname -- "$0")" && pwd) || exit 1
 made=$(realpath -- "$1") || exit 1
 shift
-[ $# -gt 0 ] || set -- "$here/../../README.md" "$here/../../docs/USING.md"
+[ $# -gt 0 ] || set -- "$here/../../README.md" "$here"/../../docs/*.md
+from=$PWD
 room=$(mktemp -d) || exit 1
 trap 'rm -rf "$room"' EXIT
-mkdir "$room/bin" "$room/texts" "$room/steps" || exit 1
+mkdir "$room/bin" "$room/steps" || exit 1
 printf '#!/bin/sh\nexec "%s" "$@"\n' "$made" >"$room/bin/pciplan"
 chmod 755 "$room/bin/pciplan"
-cp -- "$here"/data/*.txt "$here"/../../machines/*.* "$room/texts" && ln -s . "$room/texts/machines" || exit 1
 PATH=$room/bin:$PATH
-cd "$room/texts" || exit 1
+
+# begin: makes the folder in which a page begins.
+begin() {
+    cd "$room" && rm -rf texts && mkdir texts && cp -- "$here"/data/*.txt "$here"/../../machines/*.* texts &&
+        ln -s . texts/machines
+}
 
 passed=0 failed=0
 for page; do
+    begin || exit 1
+    cd texts || exit 1
     rm -f ../steps/*
+    case $page in
+    /*) ;;
+    *) page=$from/$page ;;
+    esac
+    if ! [ -f "$page" ] || ! [ -r "$page" ]; then
+        echo "FAILED: $page can't be read"
+        failed=$((failed + 1))
+        continue
+    fi
     # steps/N.run has the N-th command of the page, steps/N.wanted what it prints.
     awk -v steps="$room/steps" '
         !/^    / { runs = 0; next }
@@ -64,13 +83,19 @@ flat() {
 proved=$(flat <"$here/../test_stops/src/firmware.rt")
 awk '/^```rust/ { shows = 1; next } /^```/ && shows { shows = 0; print "@" } shows' "$here/../../docs/APPLYING.md" |
     flat | tr '@' '\n' >../shown
+blocks=0
 while read -r block; do
     name="APPLYING.md: $(printf '%.60s' "$block")"
     case $block in '') continue ;; esac
+    blocks=$((blocks + 1))
     case $proved in
     *"$block"*) echo "ok: $name"; passed=$((passed + 1)) ;;
     *) echo "DIFFERS: $name"; failed=$((failed + 1)) ;;
     esac
 done <../shown
+if [ $blocks -eq 0 ]; then
+    echo 'FAILED: APPLYING.md shows no Rattle'
+    failed=$((failed + 1))
+fi
 echo "$passed passed, $failed failed"
 [ "$failed" -eq 0 ]
