@@ -2,7 +2,10 @@
 # Installs the built program, its manual page and its completions for bash, zsh and fish below PREFIX. Folders that
 # aren't there are made; a line is printed for each file. Where one of the files isn't here, nothing is installed.
 #
-# Usage: install.sh PREFIX, which begins with a slash, as /usr/local; with DESTDIR set, below $DESTDIR$PREFIX.
+# With --uninstall the same files below PREFIX are removed, and a line is printed for each that was there. Folders stay.
+# Where none of the files is there, or a folder stands in the place of one, nothing is removed.
+#
+# Usage: install.sh [--uninstall] PREFIX, which begins with a slash, as /usr/local; with DESTDIR set, below $DESTDIR$PREFIX.
 set -u
 umask 022
 
@@ -12,7 +15,14 @@ refuse() {
     exit "$1"
 }
 
-usage='usage: install.sh PREFIX, which begins with a slash'
+usage='usage: install.sh [--uninstall] PREFIX, which begins with a slash'
+uninstalls=
+case ${1-} in
+--uninstall)
+    uninstalls=yes
+    shift
+    ;;
+esac
 [ $# -eq 1 ] || refuse 2 "$usage"
 case $1 in
 /*) below=${DESTDIR-}${1%/} ;;
@@ -52,5 +62,29 @@ put() {
     printf '%s\n' "$place"
 }
 
-each_file look
-each_file put
+# find_put FILE PLACE MODE: counts the file if something stands in its place; ends where that is a folder.
+find_put() {
+    ! [ -d "$below/$2" ] || refuse 1 "$below/$2 is a folder"
+    if [ -e "$below/$2" ] || [ -L "$below/$2" ]; then
+        found=$((found + 1))
+    fi
+}
+
+# take FILE PLACE MODE: removes one file, if it is there.
+take() {
+    place=$below/$2
+    if [ -e "$place" ] || [ -L "$place" ]; then
+        rm -f -- "$place" || refuse 1 "can't remove $place"
+        printf '%s\n' "$place"
+    fi
+}
+
+if [ -n "$uninstalls" ]; then
+    found=0
+    each_file find_put
+    [ $found -gt 0 ] || refuse 1 "nothing is installed below $below/"
+    each_file take
+else
+    each_file look
+    each_file put
+fi

@@ -1,7 +1,8 @@
 #!/bin/sh
-# Installs the program, its page and its completions from a copy of this tree into temporary folders, and looks at what
-# is there then; and whether page, completions and program have the same commands and options, and the page the faults
-# and statuses of docs/FORMATS.md. A line is printed for each case; the status is 1 where one differs.
+# Installs the program, its page and its completions from a copy of this tree into temporary folders, looks at what is
+# there then, and uninstalls them again. It also looks whether page, completions and program have the same commands and
+# options, and whether the page has the faults and statuses of docs/FORMATS.md. A line is printed for each case; the status
+# is 1 where one differs.
 #
 # Usage: install_test.sh [PROGRAM], by default out/pciplan beside this file, which `rt ci` and `rt run` make.
 set -u
@@ -105,6 +106,23 @@ END
     same "$1: modes"
 }
 
+# removed NAME BELOW PREFIX [LEFT]: uninstalls from the prefix, and compares what is said, and which files stand in BELOW
+# then: none but LEFT.
+removed() {
+    tree/install.sh --uninstall "$3" >got 2>&1
+    echo "status $?" >>got
+    {
+        echo "$files" | while read -r _ place; do
+            echo "$2/$place"
+        done
+        echo 'status 0'
+    } >wanted
+    same "$1: what is said"
+    (cd "$2" && find . ! -type d) >got
+    { [ $# -lt 4 ] || echo "$4"; } >wanted
+    same "$1: what is left"
+}
+
 # refused NAME STATUS MESSAGE WORD..: what the last line of standard error and the status are.
 refused() {
     title=$1 message="install.sh: $3
@@ -134,6 +152,20 @@ installed 'DESTDIR' "$room/package$room/elsewhere" "$room/elsewhere"
 unset DESTDIR
 gone 'DESTDIR: nothing elsewhere' elsewhere
 
+removed 'uninstalled' "$room/a hidden one" "$room/a hidden one/"
+modes 'a hidden one' >got
+has 'uninstalled: folders stay' 'drwxr-xr-x .
+drwxr-xr-x ./bin
+drwxr-xr-x ./share
+drwxr-xr-x ./share/bash-completion
+drwxr-xr-x ./share/bash-completion/completions
+drwxr-xr-x ./share/fish
+drwxr-xr-x ./share/fish/vendor_completions.d
+drwxr-xr-x ./share/man
+drwxr-xr-x ./share/man/man1
+drwxr-xr-x ./share/zsh
+drwxr-xr-x ./share/zsh/site-functions'
+
 usr/bin/pciplan check dump.txt probe.txt >got 2>&1
 echo "status $?" >>got
 has 'the installed program' 'yes
@@ -154,13 +186,20 @@ drwx------ ./bin
 -rwxr-xr-x ./bin/pciplan
 other'
 
+removed 'uninstalled beside another file' "$room/old" "$room/old" ./bin/other
+
 # what is refused
-usage='usage: install.sh PREFIX, which begins with a slash'
+usage='usage: install.sh [--uninstall] PREFIX, which begins with a slash'
 refused 'no prefix' 2 "$usage"
 refused 'two prefixes' 2 "$usage" "$room/one" "$room/two"
 refused 'an empty prefix' 2 "$usage" ''
 refused 'a prefix without a slash' 2 "$usage" one
 gone 'nothing is made of them' 'one'
+refused 'uninstall: no prefix' 2 "$usage" --uninstall
+refused 'uninstall: two prefixes' 2 "$usage" --uninstall "$room/usr" "$room/usr"
+refused 'uninstall: a prefix without a slash' 2 "$usage" --uninstall usr
+refused 'uninstall: a prefix first' 2 "$usage" "$room/usr" --uninstall
+refused 'uninstall: nothing is there' 1 "nothing is installed below $room/old/" --uninstall "$room/old"
 : >plain
 refused 'a prefix below a file' 1 "can't make the folder $room/plain/one/bin" "$room/plain/one"
 mkdir -p folders/bin/pciplan
@@ -169,6 +208,23 @@ modes folders >got
 has 'nothing is made there' 'drwxr-xr-x .
 drwxr-xr-x ./bin
 drwxr-xr-x ./bin/pciplan'
+tree/install.sh "$room/part" >/dev/null 2>&1
+rm part/share/man/man1/pciplan.1
+mkdir part/share/man/man1/pciplan.1
+refused 'uninstall: a folder in the place of the page' 1 "$room/part/share/man/man1/pciplan.1 is a folder" \
+    --uninstall "$room/part"
+(cd part && find . ! -type d | sort) >got
+has 'uninstall: nothing is removed there' './bin/pciplan
+./share/bash-completion/completions/pciplan
+./share/fish/vendor_completions.d/pciplan.fish
+./share/zsh/site-functions/_pciplan'
+rmdir part/share/man/man1/pciplan.1
+ln -s nowhere part/share/man/man1/pciplan.1
+rm part/bin/pciplan
+tree/install.sh --uninstall "$room/part" >got 2>&1
+(cd part && find . ! -type d) >>got
+echo "$files" | sed "1d;s,^.* ,$room/part/," >wanted
+same 'uninstall: a file that is missing, and a link'
 mkdir half
 : >half/share
 refused 'a file in the place of a folder' 1 "can't make the folder $room/half/share/man/man1" "$room/half"
@@ -181,6 +237,10 @@ else
     modes locked >got
     has 'nothing is left there' 'dr-xr-xr-x .
 dr-xr-xr-x ./bin'
+    tree/install.sh "$room/kept there" >/dev/null 2>&1
+    chmod 555 'kept there/bin'
+    refused 'uninstall: a folder that may not be written' 1 "can't remove $room/kept there/bin/pciplan" \
+        --uninstall "$room/kept there"
 fi
 mv tree/docs/pciplan.1 kept
 refused 'a page that is missing' 1 'docs/pciplan.1 is missing' "$room/new"
@@ -188,6 +248,10 @@ mv kept tree/docs/pciplan.1
 mv tree/crates/pciplan/out kept
 refused 'a program that is not built' 1 "crates/pciplan/out/pciplan isn't built: \
 (cd crates/pciplan && rt run -- check data/dump.txt data/probe.txt)" "$room/new"
+DESTDIR=$room/package
+export DESTDIR
+removed 'uninstalled from DESTDIR, and nothing is built' "$room/package$room/elsewhere" "$room/elsewhere"
+unset DESTDIR
 mv kept tree/crates/pciplan/out
 gone 'nothing is made without one' new
 
