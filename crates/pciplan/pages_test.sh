@@ -5,7 +5,8 @@
 # crates/pciplan/data and the files of machines/, these also below the name `machines`. A page that can't be read fails.
 #
 # The Rattle that docs/APPLYING.md shows is looked for in the crate that proves it. The lines that capture a machine are the
-# same in README.md and in the manual page.
+# same in README.md and in the manual page. No page has a sentence or a table cell that docs/long_sentences.sh
+# calls too long.
 #
 # Usage: pages_test.sh PROGRAM [PAGE..]; README.md and all of docs/*.md if none is said.
 set -u
@@ -75,6 +76,15 @@ if [ -s ../capture ] && cmp -s ../capture ../capture.page; then
 else
     echo "DIFFERS: $name"
     diff ../capture ../capture.page
+    failed=$((failed + 1))
+fi
+name='README.md and docs/*.md: short sentences'
+if long=$("$here/../../docs/long_sentences.sh" "$here/../../README.md" "$here"/../../docs/*.md) && [ "$long" = '0 places' ]; then
+    echo "ok: $name"
+    passed=$((passed + 1))
+else
+    echo "FAILED: $name"
+    printf '%s\n' "$long"
     failed=$((failed + 1))
 fi
 flat() {
