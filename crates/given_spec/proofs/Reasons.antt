@@ -1,12 +1,12 @@
 -- With nothing given the lines behind a fault are those without it.
-use Rattle.std.proofs.Common.{◌≡◌, ℕ, ◌+◌, ◌<◌, ◌≤◌, List, [], ◌∷◌, ◌++◌, get_or, map, refl, sym, ◌∙◌, ap, subst, arith, Bool, true, false, ◌&&◌, not, append-nil, codes, inl, inr, Option, None, Some}
+use Rattle.std.proofs.Common.{◌≡◌, ℕ, ◌+◌, ◌<◌, ◌≤◌, List, [], ◌∷◌, ◌++◌, get_or, map, refl, sym, ◌∙◌, ap, subst, arith, Bool, true, false, ◌&&◌, ◌||◌, not, append-nil, codes, inl, inr, Option, None, Some}
 use Rattle.std.specs.Prelude.{◌↔◌, MatchOption, MatchBool}
 use Rattle.std.specs.List.{Contains, Any, flat_map}
 use Rattle.std.proofs.lemmas.List.Elements.{All-nil, All-cons}
 use Rattle.std.proofs.lemmas.Bool.{both_ways}
 use Rattle.std.proofs.Math.Bool.{and-true}
 use Rattle.pci_spec.specs.Slot.{Slot}
-use Rattle.pci_spec.specs.System.{System, Function, Space, Io, Memory}
+use Rattle.pci_spec.specs.System.{System, Function, Space, Io, Memory, is_window}
 use Rattle.pci_spec.specs.System as system
 use Rattle.pci_spec.specs.Bus.{is_root}
 use Rattle.pci_spec.specs.Fault.{Unreached, Clash, Split, named_region, named_regions}
@@ -233,6 +233,11 @@ match_same false X Y Z f h = f refl h
 no_root : (roots : List ℕ) (bus : ℕ) → is_root roots bus ≡ false → Contains roots bus → ⊥
 no_root roots bus off has = both_ways (is_root roots bus) off ((root_means roots bus).1 has)
 
+-- neither is a window, so its bus is no root bus
+off_root : (w : Bool) (roots : List ℕ) (bus : ℕ) → w || is_root roots bus ≡ false → Contains roots bus → ⊥
+off_root true roots bus off has = both_ways true off refl
+off_root false roots bus off has = no_root roots bus off has
+
 said_of_none : (space : Space) → is_said nothing_given space ≡ false
 said_of_none Io = refl
 said_of_none Memory = refl
@@ -250,17 +255,17 @@ PlainInner assumed roots s q lines = MatchBool (is_size_assumed assumed q.slot q
 
 fit_behind_plain : (assumed : List AssumedRegister) (roots : List ℕ) (s : System) (q : plain.Region) (lines : List ℕ) → plain.IsRegionIn s q → IsFitBehind assumed nothing_given roots s (Own q) lines → plain.IsFitBehind assumed roots s q lines
 fit_behind_plain assumed roots s q lines is h =
-    match_same (is_root roots q.slot.bus) (lines ≡ []) (GivenInner assumed roots s q lines) (PlainInner assumed roots s q lines)
+    match_same (is_window q.part || is_root roots q.slot.bus) (lines ≡ []) (GivenInner assumed roots s q lines) (PlainInner assumed roots s q lines)
     (λ off. match_same (is_size_assumed assumed q.slot q.register) (lines ≡ plain.unknown_line) (IsFit nothing_given roots s q lines) (plain.IsFit roots s q lines)
-    (λ told fit. record { f = fit.f; listed = fit.listed; slot = fit.slot; place = fit.place; exact = least_plain roots s q is (no_root roots q.slot.bus off) (is_wide_part fit.f q.part) fit.place fit.exact; text = fit.text }))
-    (subst (λ b. MatchBool b (lines ≡ []) (GivenInner assumed roots s q lines)) (root_alone (is_root roots q.slot.bus) q.space) h)
+    (λ told fit. record { f = fit.f; listed = fit.listed; slot = fit.slot; place = fit.place; exact = least_plain roots s q is (off_root (is_window q.part) roots q.slot.bus off) (is_wide_part fit.f q.part) fit.place fit.exact; text = fit.text }))
+    (subst (λ b. MatchBool (is_window q.part || b) (lines ≡ []) (GivenInner assumed roots s q lines)) (root_alone (is_root roots q.slot.bus) q.space) h)
 
 plain_fit_behind : (assumed : List AssumedRegister) (roots : List ℕ) (s : System) (q : plain.Region) (lines : List ℕ) → plain.IsRegionIn s q → plain.IsFitBehind assumed roots s q lines → IsFitBehind assumed nothing_given roots s (Own q) lines
 plain_fit_behind assumed roots s q lines is h =
-    subst (λ b. MatchBool b (lines ≡ []) (GivenInner assumed roots s q lines)) (sym (root_alone (is_root roots q.slot.bus) q.space))
-    (match_same (is_root roots q.slot.bus) (lines ≡ []) (PlainInner assumed roots s q lines) (GivenInner assumed roots s q lines)
+    subst (λ b. MatchBool (is_window q.part || b) (lines ≡ []) (GivenInner assumed roots s q lines)) (sym (root_alone (is_root roots q.slot.bus) q.space))
+    (match_same (is_window q.part || is_root roots q.slot.bus) (lines ≡ []) (PlainInner assumed roots s q lines) (GivenInner assumed roots s q lines)
     (λ off. match_same (is_size_assumed assumed q.slot q.register) (lines ≡ plain.unknown_line) (plain.IsFit roots s q lines) (IsFit nothing_given roots s q lines)
-    (λ told fit. record { f = fit.f; listed = fit.listed; slot = fit.slot; place = fit.place; exact = plain_least roots s q is (no_root roots q.slot.bus off) (is_wide_part fit.f q.part) fit.place fit.exact; text = fit.text }))
+    (λ told fit. record { f = fit.f; listed = fit.listed; slot = fit.slot; place = fit.place; exact = plain_least roots s q is (off_root (is_window q.part) roots q.slot.bus off) (is_wide_part fit.f q.part) fit.place fit.exact; text = fit.text }))
     h)
 
 abbrev PlainAdvice : List AssumedRegister → List ℕ → System → Slot → ℕ → Space → List ℕ → Type 0

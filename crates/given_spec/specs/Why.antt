@@ -1,12 +1,12 @@
 -- What stands behind a fault of judging, with what is given: the lines that pci_spec defines, where a bridge passes what
 -- its legacy part claims, too, and where accesses start as the host sends them.
-use Rattle.std.specs.Prelude.{◌≡◌, ◌⊎◌, ℕ, ◌+◌, ◌<◌, ◌≤◌, ◌%◌, Bool, false, ◌&&◌, not, IsTrue, if◌then◌else◌, List, [], ◌∷◌, ◌++◌, map, codes, Option, Some, MatchOption, MatchBool}
+use Rattle.std.specs.Prelude.{◌≡◌, ◌⊎◌, ℕ, ◌+◌, ◌<◌, ◌≤◌, ◌%◌, Bool, false, ◌&&◌, ◌||◌, not, IsTrue, if◌then◌else◌, List, [], ◌∷◌, ◌++◌, map, codes, Option, Some, MatchOption, MatchBool}
 use Rattle.std.specs.Option.{is_some}
 use Rattle.std.specs.List.{Contains, filter, flat_map, list_any}
 use Rattle.pci_spec.specs.Slot.{Slot, same_slot}
 use Rattle.pci_spec.specs.Registers.{BRIDGE_CONTROL}
 use Rattle.pci_spec.specs.Text.{hex_byte, slot_text}
-use Rattle.pci_spec.specs.System.{System, Function, Space, Io, Memory, Leads, is_space_on}
+use Rattle.pci_spec.specs.System.{System, Function, Space, Io, Memory, Leads, is_space_on, is_window}
 use Rattle.pci_spec.specs.Bus.{is_root}
 use Rattle.pci_spec.specs.Fault.{Unreached, Clash, Split, RegionName, TwoRegions, address_in, named_region, named_regions}
 use Rattle.pci_spec.specs.Fault as faults
@@ -218,11 +218,12 @@ pub record IsFit (given : Given) (roots : List ℕ) (s : System) (q : plain.Regi
 abbrev pub is_said : Given → Space → Bool
 is_said given space = is_some (ranges_said given space)
 
--- On a root bus to which all of the space is sent there is no such line, and a legacy part can't be moved. Where the read
--- back of the region's register is assumed, its size isn't known.
+-- A window has no such line: what is behind its bridge would have to move with it. Neither has a region on a root bus to
+-- which all of the space is sent, nor a legacy part, which can't be moved. Where the read back of the region's register is
+-- assumed, its size isn't known.
 abbrev pub IsFitBehind : List AssumedRegister → Given → List ℕ → System → Region → List ℕ → Type 0
 IsFitBehind assumed given roots s (Own q) lines =
-    MatchBool (is_root roots q.slot.bus && not (is_said given q.space)) (lines ≡ [])
+    MatchBool (is_window q.part || is_root roots q.slot.bus && not (is_said given q.space)) (lines ≡ [])
     (MatchBool (is_size_assumed assumed q.slot q.register) (lines ≡ unknown_line)
     (IsFit given roots s q lines))
 IsFitBehind assumed given roots s (Legacy b space) lines = lines ≡ []

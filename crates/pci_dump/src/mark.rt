@@ -1,7 +1,7 @@
 //! Titles that name the registers of a function whose read backs are assumed, as `assumed 1c,30`.
 //!
 //! A derived probe has such a title where nothing told what a register reads back. A title of any other form names none.
-ghost use Rattle.std.specs.Prelude.{◌≡◌, ◌≤◌, ◌<◌, ◌+◌, ◌++◌, ◌∷◌, ◌==◌, length, drop, map, IfOk, IfSome, MatchOption, OnOk, IsTrue, None, Some};
+ghost use Rattle.std.specs.Prelude.{◌≡◌, ◌≤◌, ◌<◌, ◌+◌, ◌++◌, ◌∷◌, ◌==◌, length, map, IfOk, IfSome, OnOk, None, Some};
 ghost use Rattle.std.specs.List.{AllWithin, list_any};
 ghost use Rattle.pci_spec.specs.Slot.{slot_number};
 ghost use Rattle.arrayvec.specs.ArrayVec.{array_vec_len};

@@ -1,15 +1,15 @@
 //! Of which registers the least size is assumed.
 
-/// Of which registers the least size is assumed where no size is told: 16 addresses of a memory BAR, 4 of an I/O BAR, 2 KB
-/// of a ROM.
+/// Of which registers the least size is assumed where no size is told: 16 addresses of a memory BAR, 4 of an I/O BAR,
+/// 2 KB of a ROM.
 #[derive(Clone, Copy, Debug, PartialEq, Eq)]
 pub enum Assuming {
     /// Of none: the probe is exact.
     Nothing,
     /// Of ROMs that are off.
     Disabled,
-    /// Of BARs and of ROMs that are on, too. A fault that such a probe shows is there whatever the sizes are; where it shows none, there may
-    /// be some.
+    /// Of BARs and of ROMs that are on, too. Where no window is assumed, a fault that such a probe shows is there whatever
+    /// the sizes are. Where it shows none, there may be some.
     Any,
 }
 

@@ -1,5 +1,5 @@
 //! The probe of a whole dump, derived from what its functions show and what Linux tells of them.
-ghost use Rattle.std.specs.Prelude.{◌≡◌, ℕ, List, ◌<◌, ◌++◌, ◌∷◌, [], length, map, None, Some, IfNone, IfSome, IfOk, IfErr, OnOk};
+ghost use Rattle.std.specs.Prelude.{◌≡◌, ℕ, List, ◌<◌, ◌++◌, ◌∷◌, [], length, None, Some, IfNone, IfSome, IfOk, IfErr, OnOk};
 ghost use Rattle.pci_spec.specs.Stops.{IsAboveLast, last_slot};
 ghost use Rattle.pci_spec.specs.NoProbe.{no_probe};
 ghost use Rattle.pci_spec.specs.ProbeOf.{assumed_in, assumed_of, first_of, identity_fault, probe_block, probe_fault};

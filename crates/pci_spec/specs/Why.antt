@@ -1,12 +1,12 @@
 -- What stands behind a fault of judging, as a list of all faults tells it below each: regions, ranges and amounts.
-use Rattle.std.specs.Prelude.{◌≡◌, ℕ, ◌+◌, ◌-◌, ◌/◌, ◌%◌, ◌^◌, ◌<◌, ◌≤◌, ◌↔◌, ◌==◌, Bool, true, false, not, if◌then◌else◌, List, [], ◌∷◌, ◌++◌, codes, Option, None, Some, MatchOption, MatchBool}
+use Rattle.std.specs.Prelude.{◌≡◌, ℕ, ◌+◌, ◌-◌, ◌/◌, ◌%◌, ◌^◌, ◌<◌, ◌≤◌, ◌↔◌, ◌==◌, Bool, true, false, ◌||◌, not, if◌then◌else◌, List, [], ◌∷◌, ◌++◌, codes, Option, None, Some, MatchOption, MatchBool}
 use Rattle.std.specs.List.{All, Any, AllPairs, Contains, filter, flat_map}
 use Rattle.std.specs.Fmt.{decimal}
 use Rattle.pci_spec.specs.Slot.{Slot}
 use Rattle.pci_spec.specs.Bar.{is_wide, bar_at}
 use Rattle.pci_spec.specs.Window.{WindowKind, IoWindow, MemoryWindow, PrefetchWindow}
 use Rattle.pci_spec.specs.Text.{hex_byte, slot_text}
-use Rattle.pci_spec.specs.System.{System, Function, Space, Io, Memory, Part, Bar, Rom, Window, Claims, register_of, is_prefetchable_part, is_space_on, passes, IsPassedTo}
+use Rattle.pci_spec.specs.System.{System, Function, Space, Io, Memory, Part, Bar, Rom, Window, Claims, register_of, is_window, is_prefetchable_part, is_space_on, passes, IsPassedTo}
 use Rattle.pci_spec.specs.Bus.{is_root}
 use Rattle.pci_spec.specs.Fault.{Fault, Unreached, Clash, Split}
 use Rattle.pci_spec.specs.Decoded.{Range, InRange, DecodedBar, DecodedWindows, decoded_bars, decoded_windows}
@@ -215,11 +215,11 @@ pub record IsFit (roots : List ℕ) (s : System) (q : Region) (lines : List ℕ)
 abbrev pub unknown_line : List ℕ
 unknown_line = inner_line (codes "fits" ∷ codes "unknown" ∷ [])
 
--- On a root bus there is no bridge on the way, and no such line. Where the read back of the region's register is
--- assumed, its size isn't known.
+-- A window has no such line: what is behind its bridge would have to move with it. On a root bus there is no bridge on the
+-- way, and no such line. Where the read back of the region's register is assumed, its size isn't known.
 abbrev pub IsFitBehind : List AssumedRegister → List ℕ → System → Region → List ℕ → Type 0
 IsFitBehind assumed roots s q lines =
-    MatchBool (is_root roots q.slot.bus) (lines ≡ [])
+    MatchBool (is_window q.part || is_root roots q.slot.bus) (lines ≡ [])
     (MatchBool (is_size_assumed assumed q.slot q.register) (lines ≡ unknown_line)
     (IsFit roots s q lines))
 

@@ -2,7 +2,8 @@
 use Rattle.std.proofs.Common.{◌≡◌, ℕ, List, [], ◌∷◌, ◌++◌, codes, refl, Bool, true, false, map, lit≤, lit<, inl, inr}
 use Rattle.std.specs.Prelude.{◌↔◌}
 use Rattle.std.proofs.lemmas.Bool.{both_ways}
-use Rattle.pci_spec.specs.System.{Function, Io, Memory, Bar}
+use Rattle.pci_spec.specs.Window.{MemoryWindow}
+use Rattle.pci_spec.specs.System.{Function, Io, Memory, Bar, Window}
 use Rattle.pci_spec.specs.Mark.{assumed_at}
 use Rattle.pci_spec.specs.Why as plain
 use Rattle.pci_spec.proofs.Examples.Samples.{slot, device, bridge, range}
@@ -88,6 +89,16 @@ place_beside_an_assumed_size lines = (λ fit. fit, λ fit. fit)
 -- on a root bus of which nothing is said there is no such line
 nothing_is_told_at_a_root : IsFitBehind (assumed_at (slot 0x40 1 0) 0x10 ∷ []) nothing_given (0x40 ∷ []) (other ∷ []) (Own moved) []
 nothing_is_told_at_a_root = refl
+
+-- nor of a window, on a root bus of which something is said and elsewhere
+abbrev window_moved : plain.Region
+window_moved = record moved { part = Window MemoryWindow; register = 0x20 }
+
+no_window_moves_alone : IsFitBehind [] (sent_memory []) (0x40 ∷ []) (other ∷ []) (Own window_moved) []
+no_window_moves_alone = refl
+
+no_window_moves_alone_behind : IsFitBehind [] nothing_given (0 ∷ []) (other ∷ []) (Own window_moved) []
+no_window_moves_alone_behind = refl
 
 -- nor of a legacy part
 no_legacy_part_moves : IsFitBehind (assumed_at (slot 0 1 0) 0x3e ∷ []) nothing_given (0 ∷ []) (closed ∷ []) (Legacy closed Memory) []

@@ -204,6 +204,13 @@ at_the_root = record { slot = slot 0 3 0; register = 0x10; part = Bar 0; space =
 nothing_is_told_at_a_root : IsFitBehind (assumed_at (slot 0 3 0) 0x10 ∷ []) host three at_the_root []
 nothing_is_told_at_a_root = refl
 
+-- nor of a window behind a bridge, as what is behind it would not move with it
+abbrev window_behind : Region
+window_behind = record of_moved { part = Window MemoryWindow; register = 0x20 }
+
+nothing_is_told_of_a_window : IsFitBehind [] host three window_behind []
+nothing_is_told_of_a_window = refl
+
 -- ---- faults that aren't of judging, and BARs that are off
 
 nothing_behind_an_orphan : IsEvidence [] (Orphan (slot 0 0 0)) []
