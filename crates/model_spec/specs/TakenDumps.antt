@@ -1,9 +1,7 @@
--- A dump and its probe as words take them, and what is wrong with them.
+-- A dump and its probe as words take them.
 use Rattle.std.specs.Prelude.{◌≡◌, ℕ, List, Option, map}
 use Rattle.pci_spec.specs.Text.{Block, slots_of}
 use Rattle.pci_spec.specs.System.{system_of}
-use Rattle.pci_spec.specs.Fault.{Fault}
-use Rattle.pci_spec.specs.FaultLines.{AreAllFaults}
 use Rattle.model_spec.specs.Words.{Words}
 use Rattle.model_spec.specs.Taken.{AreTaken}
 
@@ -18,11 +16,3 @@ pub record AreTakenAs (w : Words) (dump probe taken taken_probe : List Block) : 
   pub probe_titles : titles_of taken_probe ≡ titles_of probe
   pub each : slots_of dump ≡ slots_of probe
       → AreTaken w (slots_of dump) (system_of dump probe) (system_of taken taken_probe)
-
--- all faults of a dump and its probe as words take them
-pub record AreAllFaultsBy (w : Words) (roots : List ℕ) (dump probe : List Block)
-    (faults : List Fault) : Type 0 where
-  pub taken : List Block
-  pub taken_probe : List Block
-  pub are : AreTakenAs w dump probe taken taken_probe
-  pub all : AreAllFaults roots taken taken_probe faults

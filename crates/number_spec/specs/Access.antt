@@ -3,7 +3,6 @@ use Rattle.std.specs.Prelude.{◌≡◌, ℕ, ◌==◌, if◌then◌else◌, Lis
 use Rattle.pci_spec.specs.Slot.{Slot}
 use Rattle.pci_spec.specs.Number.{byte_at}
 use Rattle.number_spec.specs.Board.{Nodes, NoMore, Node, Board, Place, Here, Behind, Next, image_at, answers}
-use Rattle.number_spec.specs.Numbered.{without_numbers}
 
 -- what is read where no node answers
 abbrev pub NOTHING : ℕ
@@ -52,8 +51,3 @@ pub record IsWritten (before : Board) (access : Slot) (offset : ℕ) (after : Bo
   pub nothing : answers before access ≡ [] → after ≡ before
   pub byte : (place : ℕ × Place) → answers before access ≡ place ∷ []
       → (kept : ℕ) × (after ≡ with_byte_of before place offset kept)
-
--- a board with all bus numbers of its bridges taken away
-abbrev pub board_without_numbers : Board → Board
-board_without_numbers board =
-    map (λ root. record { number = root.number; nodes = without_numbers root.nodes }) board

@@ -1,7 +1,7 @@
 -- What accesses read and write, and which bridge is the first without a number.
 use Rattle.std.proofs.Common.{◌≡◌, [], ◌∷◌, refl, map, Some, None}
 use Rattle.number_spec.specs.Board.{Nodes, NoMore, Here, Behind, Next, Board}
-use Rattle.number_spec.specs.Access.{nodes_behind, image_of, with_byte, with_byte_of, board_without_numbers}
+use Rattle.number_spec.specs.Access.{nodes_behind, image_of, with_byte, with_byte_of}
 use Rattle.number_spec.specs.NoBus.{first_without}
 use Rattle.number_spec.proofs.Examples.Boards.{image, device, bridge, slot, one, devices, single_bridge, tree, pair}
 
@@ -37,9 +37,6 @@ byte_behind_a_root = refl
 
 byte_behind_the_first_root : with_byte_of (roots (single_bridge 0) (single_bridge 0)) (0, Here) 0x19 1 ≡ roots (single_bridge 0x000100) (single_bridge 0)
 byte_behind_the_first_root = refl
-
-numbers_of_all_roots : board_without_numbers (roots (single_bridge 0x000102) (single_bridge 0x404141)) ≡ roots (single_bridge 0) (single_bridge 0)
-numbers_of_all_roots = refl
 
 -- ---- the first bridge without a number
 
