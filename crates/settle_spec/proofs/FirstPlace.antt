@@ -1,9 +1,9 @@
 -- The first place in a list of ranges, by each range.
-use Rattle.std.proofs.Common.{◌≡◌, ◌↔◌, ◌||◌, ℕ, ◌+◌, ◌-◌, ◌<◌, ◌≤◌, inl, inr, List, [], ◌∷◌, cond, arith, ap, sym, subst, ◌∙◌, refl, true, false, Bool, Option, None, Some}
+use Rattle.std.proofs.Common.{◌≡◌, ◌↔◌, ℕ, ◌+◌, ◌-◌, ◌<◌, ◌≤◌, inl, inr, List, [], ◌∷◌, cond, arith, ap, sym, subst, ◌∙◌, refl, true, false, Bool, Option, None, Some}
 use Rattle.std.specs.Bool.{IsTrue, nat_le}
 use Rattle.std.specs.List.{Contains}
 use Rattle.std.specs.Option.{is_some, unwrap_or}
-use Rattle.std.proofs.lemmas.Bool.{false≢true, true≢false, and_parts, and_from, or_cases, or_left, or_right, leb-true, le-leb, false_from_ne_true}
+use Rattle.std.proofs.lemmas.Bool.{false≢true, true≢false, and_parts, and_from, leb-true, le-leb, false_from_ne_true}
 use Rattle.pci_spec.specs.Decoded.{Range}
 use Rattle.pci_spec.proofs.Members.{in_nil, in_head, in_tail, in_cons_cases}
 use Rattle.settle_spec.specs.FirstPlace.{Extent, is_spot, ends_in, is_place, first_spot, first_in, first_place, else_at, HasNoPlace, IsFirstIn, IsFirstPlace}
@@ -14,13 +14,11 @@ use Rattle.settle_spec.proofs.FirstSpot.{least_spot}
 -- what ends by an address does so from a lower place too
 ends_below : (r : Range) (e : Extent) (a b : ℕ) → a ≤ b → ends_in r e b ≡ true → ends_in r e a ≡ true
 ends_below r e a b below ends =
-    let parts = and_parts (nat_le (b + (e.size - 1)) r.last) (e.wide || nat_le (b + (e.size - 1)) 0xffff_ffff) ends in
+    let parts = and_parts (nat_le (b + (e.size - 1)) r.last) (nat_le (b + (e.size - 1)) e.highest) ends in
     let last = leb-true (b + (e.size - 1)) r.last parts.0 in
-    and_from (nat_le (a + (e.size - 1)) r.last) (e.wide || nat_le (a + (e.size - 1)) 0xffff_ffff) (le-leb (a + (e.size - 1)) r.last (omega (arith, last, below)))
-    (elim (or_cases e.wide (nat_le (b + (e.size - 1)) 0xffff_ffff) parts.1) [
-      | inl wide ↦ or_left e.wide (nat_le (a + (e.size - 1)) 0xffff_ffff) wide
-      | inr low ↦ (let limit = leb-true (b + (e.size - 1)) 0xffff_ffff low in or_right e.wide (nat_le (a + (e.size - 1)) 0xffff_ffff) (le-leb (a + (e.size - 1)) 0xffff_ffff (omega (arith, limit, below))))
-    ])
+    let highest = leb-true (b + (e.size - 1)) e.highest parts.1 in
+    and_from (nat_le (a + (e.size - 1)) r.last) (nat_le (a + (e.size - 1)) e.highest) (le-leb (a + (e.size - 1)) r.last (omega (arith, last, below)))
+    (le-leb (a + (e.size - 1)) e.highest (omega (arith, highest, below)))
 
 -- a choice that gives something took it
 taken_if : (b : Bool) (s a : ℕ) → cond b (Some s) None ≡ Some a → (b ≡ true) × (s ≡ a)

@@ -1,7 +1,7 @@
 -- When more is taken, what needs no less has no place that wasn't there before.
-use Rattle.std.proofs.Common.{◌≡◌, ◌||◌, ℕ, ◌+◌, ◌-◌, ◌%◌, ◌<◌, ◌≤◌, inl, inr, List, arith, sym, subst, refl, ◌∙◌, true, None}
+use Rattle.std.proofs.Common.{◌≡◌, ℕ, ◌+◌, ◌-◌, ◌%◌, ◌<◌, ◌≤◌, inl, inr, List, arith, sym, subst, refl, ◌∙◌, true, None}
 use Rattle.std.specs.Bool.{IsTrue, nat_le}
-use Rattle.std.proofs.lemmas.Bool.{true≢false, and_parts, and_from, or_cases, or_left, or_right, leb-true, le-leb, false_from_ne_true}
+use Rattle.std.proofs.lemmas.Bool.{true≢false, and_parts, and_from, leb-true, le-leb, false_from_ne_true}
 use Rattle.pci_spec.specs.Decoded.{Range}
 use Rattle.settle_spec.specs.FirstPlace.{Extent, is_spot, ends_in, is_place, first_in, HasNoPlace, IsFirstIn}
 use Rattle.settle_spec.specs.PlacingLaws.{TakesMore, NeedsNoLess}
@@ -9,7 +9,7 @@ use Rattle.settle_spec.proofs.FirstSpot.{spot_gives, spot_from}
 use Rattle.settle_spec.proofs.FirstPlace.{in_none, in_by_none}
 
 pub same_extent : (e : Extent) → NeedsNoLess e e
-same_extent e = record { alignment = refl; size = omega arith; wide = λ wide. wide }
+same_extent e = record { alignment = refl; size = omega arith; highest = omega arith }
 
 pub less_spot : (low : ℕ) (taken more : List Range) (e d : Extent) (b : ℕ) → TakesMore taken more → NeedsNoLess e d → IsTrue (is_spot low more d b) → IsTrue (is_spot low taken e b)
 less_spot low taken more e d b stays needs spot =
@@ -27,13 +27,12 @@ less_spot low taken more e d b stays needs spot =
 less_ends : (r : Range) (e d : Extent) (b : ℕ) → NeedsNoLess e d → ends_in r d b ≡ true → ends_in r e b ≡ true
 less_ends r e d b needs ends =
     let size = needs.size in
-    let parts = and_parts (nat_le (b + (d.size - 1)) r.last) (d.wide || nat_le (b + (d.size - 1)) 0xffff_ffff) ends in
+    let parts = and_parts (nat_le (b + (d.size - 1)) r.last) (nat_le (b + (d.size - 1)) d.highest) ends in
     let last = leb-true (b + (d.size - 1)) r.last parts.0 in
-    and_from (nat_le (b + (e.size - 1)) r.last) (e.wide || nat_le (b + (e.size - 1)) 0xffff_ffff) (le-leb (b + (e.size - 1)) r.last (omega (arith, last, size)))
-    (elim (or_cases d.wide (nat_le (b + (d.size - 1)) 0xffff_ffff) parts.1) [
-      | inl wide ↦ or_left e.wide (nat_le (b + (e.size - 1)) 0xffff_ffff) (needs.wide wide)
-      | inr low ↦ (let limit = leb-true (b + (d.size - 1)) 0xffff_ffff low in or_right e.wide (nat_le (b + (e.size - 1)) 0xffff_ffff) (le-leb (b + (e.size - 1)) 0xffff_ffff (omega (arith, limit, size))))
-    ])
+    let highest = leb-true (b + (d.size - 1)) d.highest parts.1 in
+    let no_lower = needs.highest in
+    and_from (nat_le (b + (e.size - 1)) r.last) (nat_le (b + (e.size - 1)) e.highest) (le-leb (b + (e.size - 1)) r.last (omega (arith, last, size)))
+    (le-leb (b + (e.size - 1)) e.highest (omega (arith, highest, no_lower, size)))
 
 less_place : (r : Range) (taken more : List Range) (e d : Extent) (b : ℕ) → TakesMore taken more → NeedsNoLess e d → IsTrue (is_place r more d b) → IsTrue (is_place r taken e b)
 less_place r taken more e d b stays needs place =

@@ -1,8 +1,8 @@
 -- What is laid out from 0 on is placed in the same way from any multiple of its alignments on.
-use Rattle.std.proofs.Common.{◌≡◌, ◌||◌, ℕ, ◌+◌, ◌-◌, ◌*◌, ◌%◌, ◌<◌, ◌≤◌, inl, inr, ◌⊎◌, List, [], ◌∷◌, map, cond, arith, ap, sym, subst, ◌∙◌, refl, true, None, Some}
+use Rattle.std.proofs.Common.{◌≡◌, ℕ, ◌+◌, ◌-◌, ◌*◌, ◌%◌, ◌<◌, ◌≤◌, inl, inr, List, [], ◌∷◌, map, cond, arith, ap, sym, subst, ◌∙◌, refl, true, None, Some}
 use Rattle.std.specs.Bool.{IsTrue, nat_le}
 use Rattle.std.specs.List.{Contains}
-use Rattle.std.proofs.lemmas.Bool.{and_from, or_left, or_right, le-leb, cases_lt}
+use Rattle.std.proofs.lemmas.Bool.{and_from, le-leb, cases_lt}
 use Rattle.pci_spec.specs.Decoded.{Range}
 use Rattle.pci_spec.proofs.Members.{in_head, in_tail, in_map_to, in_map_from, IsMade}
 use Rattle.plan_spec.specs.Plan.{raised_to}
@@ -85,14 +85,11 @@ module _ (a size : ℕ) where
   abbrev inside : Item → List Range
   inside i = range_from a size ∷ []
 
-  ends : (e : Extent) (f : ℕ) → f + (e.size - 1) + 1 ≤ size → IsTrue e.wide ⊎ (a + (size - 1) ≤ 0xffff_ffff) → ends_in (range_from a size) e (a + f) ≡ true
+  ends : (e : Extent) (f : ℕ) → f + (e.size - 1) + 1 ≤ size → a + (size - 1) ≤ e.highest → ends_in (range_from a size) e (a + f) ≡ true
   ends e f within below =
-      and_from (nat_le (a + f + (e.size - 1)) (a + (size - 1))) (e.wide || nat_le (a + f + (e.size - 1)) 0xffff_ffff)
+      and_from (nat_le (a + f + (e.size - 1)) (a + (size - 1))) (nat_le (a + f + (e.size - 1)) e.highest)
       (le-leb (a + f + (e.size - 1)) (a + (size - 1)) (omega (arith, within)))
-      (elim below [
-        | inl wide ↦ or_left e.wide (nat_le (a + f + (e.size - 1)) 0xffff_ffff) wide
-        | inr low ↦ or_right e.wide (nat_le (a + f + (e.size - 1)) 0xffff_ffff) (le-leb (a + f + (e.size - 1)) 0xffff_ffff (omega (arith, within, low)))
-      ])
+      (le-leb (a + f + (e.size - 1)) e.highest (omega (arith, within, below)))
 
   pub have_room : (taken : List Range) (items : List Item) → end_of (laid_out taken (map (λ (i : Item). i.extent) items)) ≤ size → ((i : Item) → Contains items i → CanBeIn a size i)
       → are_placed (place_all inside (map (further a) taken) items) ≡ true

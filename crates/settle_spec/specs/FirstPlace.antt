@@ -5,11 +5,16 @@ use Rattle.pci_spec.specs.Decoded.{Range}
 use Rattle.plan_spec.specs.Plan.{raised_to}
 use Rattle.plan_spec.specs.Place.{range_from}
 
--- so many addresses from a multiple of an alignment on: anywhere where they are wide, else below 4 GB
+-- so many addresses from a multiple of an alignment on
 pub record Extent : Type 0 where
   pub size : ℕ
   pub alignment : ℕ
-  pub wide : Bool
+  -- the highest address that it may have
+  pub highest : ℕ
+
+-- whether it may lie above 4 GB
+abbrev pub is_high : Extent → Bool
+is_high e = nat_lt 0xffff_ffff e.highest
 
 -- whether two ranges share no address
 abbrev pub are_apart : Range → Range → Bool
@@ -19,11 +24,11 @@ are_apart r q = nat_lt r.last q.first || nat_lt q.last r.first
 abbrev pub is_free : List Range → Extent → ℕ → Bool
 is_free taken e a = list_all (are_apart (range_from a e.size)) taken
 
--- whether they end by the last address of a range
+-- whether they end by the last address of a range, and by the highest that they may have
 abbrev pub ends_in : Range → Extent → ℕ → Bool
 ends_in r e a =
     nat_le (range_from a e.size).last r.last
-    && (e.wide || nat_le (range_from a e.size).last 0xffff_ffff)
+    && nat_le (range_from a e.size).last e.highest
 
 -- whether a is a free multiple of the alignment from an address on
 abbrev pub is_spot : ℕ → List Range → Extent → ℕ → Bool

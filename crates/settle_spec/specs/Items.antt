@@ -1,14 +1,14 @@
 -- What is to be placed: BARs and ROMs that don't keep their places, and new windows around what is behind bridges.
-use Rattle.std.specs.Prelude.{ℕ, zero, suc, ◌+◌, ◌==◌, nat_lt, max, Bool, true, false, ◌&&◌, ◌||◌, not, if◌then◌else◌, List, [], ◌∷◌, ◌++◌, map, Option, None, Some}
+use Rattle.std.specs.Prelude.{ℕ, zero, suc, ◌+◌, ◌==◌, nat_lt, nat_le, max, Bool, true, false, ◌&&◌, ◌||◌, not, if◌then◌else◌, List, [], ◌∷◌, ◌++◌, map, Option, None, Some}
 use Rattle.std.specs.List.{list_any, list_all, filter, flat_map}
-use Rattle.pci_spec.specs.Bar.{bar_at, is_wide}
-use Rattle.pci_spec.specs.Window.{WindowKind, PrefetchWindow, page_size, is_wide_window}
+use Rattle.pci_spec.specs.Bar.{bar_at, is_io, is_wide}
+use Rattle.pci_spec.specs.Window.{WindowKind, IoWindow, MemoryWindow, PrefetchWindow, page_size, is_wide_window}
 use Rattle.pci_spec.specs.Decoded.{Range}
 use Rattle.pci_spec.specs.System.{System, Function, Part, Bar, Window, window_space, is_bridge, is_window}
 use Rattle.pci_spec.specs.Bus.{secondary, is_behind, are_siblings}
 use Rattle.plan_spec.specs.Plan.{bridges_above, greatest, raised_to, same_class, size_of}
 use Rattle.plan_spec.specs.Place.{range_from}
-use Rattle.settle_spec.specs.FirstPlace.{Extent, first_spot, first_place}
+use Rattle.settle_spec.specs.FirstPlace.{Extent, least_of, first_spot, first_place}
 use Rattle.settle_spec.specs.Lists.{Request}
 use Rattle.settle_spec.specs.Parts.{Region, regions, regions_of, addresses, bridge_over, class_in, same_space}
 use Rattle.settle_spec.specs.Stands.{rank, window_region, region_space, stands}
@@ -67,16 +67,23 @@ place_all ranges taken (i ∷ items) =
 
 -- ---- of a bus
 
--- a BAR's size is its alignment, and so is a ROM's
-abbrev pub is_wide_part : Function → Part → Bool
-is_wide_part f (Bar n) = is_wide (bar_at f.probe n)
-is_wide_part f p = false
+-- the highest address that a BAR can have, by the read back of its register: an I/O BAR may have 16 bits
+abbrev pub highest_of_bar : ℕ → ℕ
+highest_of_bar mask =
+    if is_io mask then (if nat_le mask 0xffff then 0xffff else 0xffff_ffff)
+    else if is_wide mask then 0xffff_ffff_ffff_ffff
+    else 0xffff_ffff
 
+abbrev pub highest_of : Function → Part → ℕ
+highest_of f (Bar n) = highest_of_bar (bar_at f.probe n)
+highest_of f p = 0xffff_ffff
+
+-- a BAR's size is its alignment, and so is a ROM's
 abbrev pub own_extent : Region → Extent
 own_extent r = record {
   size = size_of r.function r.part;
   alignment = size_of r.function r.part;
-  wide = is_wide_part r.function r.part;
+  highest = highest_of r.function r.part;
 }
 
 abbrev pub own_item : WindowKind → Region → Item
@@ -116,19 +123,26 @@ laid_out taken (e ∷ extents) =
 abbrev pub end_of : List Range → ℕ
 end_of taken = greatest (map (λ (t : Range). t.last + 1) taken)
 
--- an extent around others: whole pages, as aligned as they are, and wide where they all are
-abbrev pub extent_around : ℕ → Bool → List Extent → Extent
-extent_around page wide extents = record {
+-- an extent around others: whole pages, as aligned as they are, and no higher than any of them may be
+abbrev pub extent_around : ℕ → ℕ → List Extent → Extent
+extent_around page highest extents = record {
   size = raised_to page (end_of (laid_out [] extents));
   alignment = max page (greatest (map (λ (e : Extent). e.alignment) extents));
-  wide = wide && list_all (λ (e : Extent). e.wide) extents;
+  highest = least_of (highest ∷ map (λ (e : Extent). e.highest) extents);
 }
 
--- a new window of a bridge around items: only a prefetchable one with upper halves can be wide
+-- the highest address that a window can hold, by the read backs of its bridge: an I/O or prefetchable one may have
+-- upper halves
+abbrev pub highest_in : WindowKind → List ℕ → ℕ
+highest_in IoWindow probe = if is_wide_window IoWindow probe then 0xffff_ffff else 0xffff
+highest_in MemoryWindow probe = 0xffff_ffff
+highest_in PrefetchWindow probe =
+    if is_wide_window PrefetchWindow probe then 0xffff_ffff_ffff_ffff else 0xffff_ffff
+
+-- a new window of a bridge around items
 abbrev pub window_around : WindowKind → Function → List Item → Extent
 window_around c b items =
-    extent_around (page_size c)
-    (same_class c PrefetchWindow && is_wide_window PrefetchWindow b.probe)
+    extent_around (page_size c) (highest_in c b.probe)
     (map (λ (i : Item). i.extent) items)
 
 abbrev pub nothing : Region → Bool

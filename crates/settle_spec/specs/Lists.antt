@@ -66,4 +66,4 @@ end_above last list = list_any (λ r. nat_lt last r.range.last) list
 abbrev pub are_bad_lists : List ℕ → Lists → Bool
 are_bad_lists roots lists =
     is_bad_list roots lists.io || is_bad_list roots lists.memory || is_bad_list roots lists.prefetch
-    || end_above 0xffff lists.io || end_above 0xffff_ffff lists.memory
+    || end_above 0xffff_ffff lists.io || end_above 0xffff_ffff lists.memory

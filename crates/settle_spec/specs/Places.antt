@@ -5,21 +5,22 @@ use Rattle.pci_spec.specs.Window.{WindowKind, IoWindow, MemoryWindow, PrefetchWi
 use Rattle.pci_spec.specs.Decoded.{Range}
 use Rattle.pci_spec.specs.System.{System, Function, Space, Io, Memory, space_of}
 use Rattle.pci_spec.specs.Bus.{is_root}
+use Rattle.settle_spec.specs.FirstPlace.{is_high}
 use Rattle.settle_spec.specs.Lists.{Request, ranges_of}
 use Rattle.settle_spec.specs.Parts.{Region, addresses, bridge_over}
 use Rattle.settle_spec.specs.Stands.{rank, window_region}
 use Rattle.settle_spec.specs.Items.{Item, Placed, Placing, AllPlaced, Lacks, place_all, taken_by, items_on, taken_on, new_window, stays}
 
--- the further ranges of a wide item
+-- the further ranges of an item that may lie above 4 GB
 abbrev pub wide_ranges : Request → WindowKind → ℕ → List Range
 wide_ranges q MemoryWindow bus = ranges_of q PrefetchWindow bus
 wide_ranges q c bus = []
 
--- the ranges that an item on a root can have: a wide BAR of memory has those of prefetchable memory too
+-- the ranges that an item on a root can have: a BAR of memory that may lie above 4 GB has those of prefetchable memory too
 abbrev pub root_ranges : Request → Item → List Range
 root_ranges q i =
     ranges_of q i.class i.region.function.slot.bus
-    ++ (if i.extent.wide then wide_ranges q i.class i.region.function.slot.bus else [])
+    ++ (if is_high i.extent then wide_ranges q i.class i.region.function.slot.bus else [])
 
 -- the items of a bus in a space: of memory, those of class M come first
 abbrev pub space_items : Request → System → Space → ℕ → List Item

@@ -39,11 +39,11 @@ OrderIsFree =
 abbrev pub TakesMore : List Range → List Range → Type 0
 TakesMore taken more = (t : Range) → Contains taken t → Contains more t
 
--- an extent is as aligned as another, no smaller and no wider
+-- an extent is as aligned as another, no smaller, and may lie no higher
 pub record NeedsNoLess (e d : Extent) : Type 0 where
   pub alignment : d.alignment ≡ e.alignment
   pub size : e.size ≤ d.size
-  pub wide : IsTrue d.wide → IsTrue e.wide
+  pub highest : d.highest ≤ e.highest
 
 -- It has no place before the first one that the other had in a range when less was taken,
 abbrev pub NoPlaceIsBefore : Type 0

@@ -1,6 +1,6 @@
 -- Laws of new windows where nothing stays: what is behind bridges can be gone over from the highest bus down, and has its
 -- places in the windows; and of windows that are as large as all of memory.
-use Rattle.std.specs.Prelude.{◌≡◌, ℕ, ◌+◌, ◌-◌, ◌%◌, ◌^◌, ◌<◌, ◌≤◌, ◌⊎◌, nat_lt, Bool, IsTrue, List, [], ◌∷◌, map, length}
+use Rattle.std.specs.Prelude.{◌≡◌, ℕ, ◌+◌, ◌-◌, ◌%◌, ◌^◌, ◌<◌, ◌≤◌, nat_lt, IsTrue, List, [], ◌∷◌, map, length}
 use Rattle.std.specs.List.{Contains}
 use Rattle.pci_spec.specs.Window.{WindowKind}
 use Rattle.pci_spec.specs.System.{System, Function, IsSystem, is_bridge}
@@ -28,17 +28,17 @@ ItemsAreBehind =
 
 -- ---- room
 
--- an item can be placed in a window from a on: a is one of its multiples, and the window ends below 4 GB where it has to
+-- an item can be placed in a window from a on: a is one of its multiples, and the window ends by its highest address
 pub record CanBeIn (a size : ℕ) (i : Item) : Type 0 where
   pub alignment : 0 < i.extent.alignment
   pub multiple : a % i.extent.alignment ≡ 0
-  pub below : IsTrue i.extent.wide ⊎ (a + (size - 1) ≤ 0xffff_ffff)
+  pub below : a + (size - 1) ≤ i.extent.highest
 
 -- Wherever a new window is placed, all that it was made around has a place in it.
 abbrev pub NewWindowHasRoom : Type 0
 NewWindowHasRoom =
-    (page : ℕ) (wide : Bool) (items : List Item) (a size : ℕ) → 0 < page
-    → size ≡ (extent_around page wide (map (λ (i : Item). i.extent) items)).size
+    (page highest : ℕ) (items : List Item) (a size : ℕ) → 0 < page
+    → size ≡ (extent_around page highest (map (λ (i : Item). i.extent) items)).size
     → ((i : Item) → Contains items i → CanBeIn a size i)
     → IsTrue (are_placed (place_all (λ i. range_from a size ∷ []) [] items))
 

@@ -1,5 +1,5 @@
 -- New windows of small trees, by the bus behind each.
-use Rattle.std.proofs.Common.{◌≡◌, ℕ, [], ◌∷◌, refl, true, false, None, Some}
+use Rattle.std.proofs.Common.{◌≡◌, ℕ, [], ◌∷◌, refl, true, None, Some}
 use Rattle.pci_spec.specs.Window.{IoWindow, MemoryWindow, PrefetchWindow}
 use Rattle.pci_spec.specs.System.{System, Function}
 use Rattle.pci_spec.proofs.Examples.Samples.{slot, device, bridge}
@@ -14,7 +14,7 @@ anew = record request { anew = true }
 abbrev three : System
 three = over 0 0xfff0 ∷ device (slot 1 0 0) 0 [] ((0x10, 0xfff00000) ∷ (0x14, 0xfff00000) ∷ (0x18, 0xfff00000) ∷ []) ∷ []
 
-three_mb : window_to anew three MemoryWindow 1 ≡ Some record { size = 0x300000; alignment = 0x100000; wide = false }
+three_mb : window_to anew three MemoryWindow 1 ≡ Some record { size = 0x300000; alignment = 0x100000; highest = 0xffff_ffff }
 unfolding window_within
 three_mb = refl
 
@@ -40,11 +40,11 @@ abbrev small : ℕ → Function
 small bus = device (slot bus 2 0) 0 ((0x10, 0xc) ∷ []) ((0x10, 0xfffff00c) ∷ (0x14, 0xffffffff) ∷ [])
 
 -- a window around a window is as aligned as that
-half_and_some : window_to anew (wide_over 0 0x20100 ∷ wide_over 1 0x20201 ∷ half 2 ∷ small 2 ∷ []) PrefetchWindow 1 ≡ Some record { size = 0x8000_0000_0010_0000; alignment = 0x8000_0000_0000_0000; wide = true }
+half_and_some : window_to anew (wide_over 0 0x20100 ∷ wide_over 1 0x20201 ∷ half 2 ∷ small 2 ∷ []) PrefetchWindow 1 ≡ Some record { size = 0x8000_0000_0010_0000; alignment = 0x8000_0000_0000_0000; highest = 0xffff_ffff_ffff_ffff }
 unfolding window_within
 half_and_some = refl
 
 -- two halves are all of memory
-two_halves : window_to anew (wide_over 0 0x20100 ∷ wide_over 1 0x20201 ∷ half 1 ∷ half 2 ∷ []) PrefetchWindow 1 ≡ Some record { size = 0x1_0000_0000_0000_0000; alignment = 0x8000_0000_0000_0000; wide = true }
+two_halves : window_to anew (wide_over 0 0x20100 ∷ wide_over 1 0x20201 ∷ half 1 ∷ half 2 ∷ []) PrefetchWindow 1 ≡ Some record { size = 0x1_0000_0000_0000_0000; alignment = 0x8000_0000_0000_0000; highest = 0xffff_ffff_ffff_ffff }
 unfolding window_within
 two_halves = refl

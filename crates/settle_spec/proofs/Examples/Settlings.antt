@@ -1,7 +1,7 @@
 -- What is written to settle small trees.
 use Rattle.std.proofs.Common.{◌≡◌, ℕ, List, [], ◌∷◌, refl, true, false, None, Some}
 use Rattle.pci_spec.specs.Slot.{Slot}
-use Rattle.pci_spec.specs.Window.{MemoryWindow}
+use Rattle.pci_spec.specs.Window.{IoWindow, MemoryWindow}
 use Rattle.pci_spec.specs.System.{Function}
 use Rattle.pci_spec.proofs.Examples.Samples.{slot, device, bridge, write, range, host}
 use Rattle.plan_spec.proofs.Examples.Placed.{start}
@@ -153,6 +153,44 @@ io_is_left_behind : settle request (over 0 0xfff0 ∷ device (slot 1 0 0) 0 ((0x
 unfolding stands_within window_within holds_within placing_within is_live_within
 io_is_left_behind = refl
 
+-- ---- I/O above FFFFh
+
+-- a bridge whose I/O window has upper halves, open from 10000h to 10FFFh, and a sound board behind it
+abbrev sound_over : Function
+sound_over = bridge (slot 0 1 0) 1 0x10100 ((0x1c, 0x0101) ∷ (0x20, 0xfff0) ∷ (0x30, 0x00010001) ∷ []) ((0x1c, 0xf1f1) ∷ (0x30, 0xffffffff) ∷ [])
+
+abbrev sound : Function
+sound = device (slot 1 0 0) 1 ((0x10, 0x10001) ∷ []) ((0x10, 0xffffffc1) ∷ [])
+
+abbrev high_io : RootRange
+high_io = all_roots 0x10000 0x1ffff
+
+io_above_ffff_stays : settle (with_io (high_io ∷ [])) (sound_over ∷ sound ∷ [])
+    ≡ Settled []
+unfolding stands_within window_within holds_within placing_within is_live_within
+io_above_ffff_stays = refl
+
+-- an I/O BAR of 16 bits gets a place below 10000h,
+abbrev low_io : Function
+low_io = device (slot 0 2 0) 0 ((0x10, 1) ∷ []) ((0x10, 0xffc1) ∷ [])
+
+io_of_16_bits : settle (with_io (high_io ∷ all_roots 0x1000 0x1fff ∷ [])) (sound_over ∷ low_io ∷ sound ∷ [])
+    ≡ Settled (write (slot 0 2 0) 0x10 4 0x1001 ∷ write (slot 0 2 0) 0x04 2 0x0001 ∷ [])
+unfolding stands_within window_within holds_within placing_within is_live_within
+io_of_16_bits = refl
+
+-- or none at all,
+no_io_of_16_bits : settle (with_io (high_io ∷ [])) (sound_over ∷ low_io ∷ sound ∷ [])
+    ≡ NoRoom IoWindow (slot 0 2 0) 0x10 0x40 0x40
+unfolding stands_within window_within holds_within placing_within is_live_within
+no_io_of_16_bits = refl
+
+-- and so does a window around one
+no_window_of_16_bits : settle (with_io (high_io ∷ [])) (sound_over ∷ sound ∷ device (slot 1 1 0) 0 ((0x10, 1) ∷ []) ((0x10, 0xffc1) ∷ []) ∷ [])
+    ≡ NoRoom IoWindow (slot 0 1 0) 0x1c 0x1000 0x1000
+unfolding stands_within window_within holds_within placing_within is_live_within
+no_window_of_16_bits = refl
+
 -- what is on is shut while the bridge above it is off
 bridge_is_off : settle request (over 0 0xe000e000 ∷ plain (slot 1 0 0) 2 0xe0000000 0xfffff000 ∷ [])
     ≡ Settled (write (slot 1 0 0) 0x04 2 0x0000 ∷ write (slot 0 1 0) 0x04 2 0x0002 ∷ write (slot 1 0 0) 0x04 2 0x0002 ∷ [])
@@ -190,8 +228,8 @@ refused lists = settle (record request { lists = lists }) []
 backward_range : refused (record lists { memory = all_roots 2 1 ∷ [] }) ≡ BadLists
 backward_range = refl
 
-io_above_16_bits : refused (record lists { io = all_roots 0x1000 0x10000 ∷ [] }) ≡ BadLists
-io_above_16_bits = refl
+io_above_32_bits : refused (record lists { io = all_roots 0x1000 0x100000000 ∷ [] }) ≡ BadLists
+io_above_32_bits = refl
 
 memory_above_32_bits : refused (record lists { memory = all_roots 0x1000 0x100000000 ∷ [] }) ≡ BadLists
 memory_above_32_bits = refl
