@@ -14,7 +14,6 @@ use Rattle.pci_spec.specs.System.{System, Function, Part, Bar, Rom, Window, is_b
 use Rattle.pci_spec.proofs.Ranges as ranges
 use Rattle.plan_spec.specs.Place.{nibble_of}
 use Rattle.plan_spec.specs.Planning.Showing.{bar_value}
-use Rattle.plan_spec.proofs.Planning.BarValues.{size_is, run_here}
 use Rattle.plan_spec.proofs.Planning.Placement.{IsMultiple, multiple_of_mod, multiple_trans, power_multiple}
 use Rattle.settle_spec.specs.Lists.{Request}
 use Rattle.settle_spec.specs.Parts.{Region, header_parts}
@@ -25,8 +24,9 @@ use Rattle.settle_spec.proofs.Anew.{none_stays}
 use Rattle.settle_laws.specs.PlacesLaws.{CanSettle, place_range}
 use Rattle.settle_laws.proofs.Again.{again_alike, settled_alike}
 use Rattle.settle_laws.proofs.AlikePlaces.{IsAlikePlaced}
+use Rattle.settle_laws.proofs.BarReach.{size_is, top_here}
 use Rattle.settle_laws.proofs.Claimed.{bridge_stays, rest_closed}
-use Rattle.settle_laws.proofs.Fits.{decodable}
+use Rattle.settle_laws.proofs.Fits.{was, decodable}
 use Rattle.settle_laws.proofs.HeaderParts.{part_cases}
 use Rattle.settle_laws.proofs.InWindows.{placed_range}
 use Rattle.settle_laws.proofs.Reput.{put_bar, put_four, put_bounds}
@@ -75,8 +75,8 @@ module _ (q : Request) (s : System) (can : CanSettle q s) (anew : IsTrue q.anew)
         let fine = (decodable q s can f listed).bars n inside in
         let has = room q s can f listed n inside there x placed in
         let k = lowest_one (ranges.first_bit (bar_kind (bar_at f.probe n))) (whole_bar f.probe f.probe n) in
-        let size : bar_size f.probe n ≡ 2 ^ k = size_is f.image f.probe n x.at there fine has.0 has.1 in
-        let low = (run_here f.image f.probe n x.at there fine has.0 has.1).low in
+        let size : bar_size f.probe n ≡ 2 ^ k = size_is f.image f.probe n x.at (was q s can f listed).probe there fine has.0 has.1 in
+        let low = (top_here f.image f.probe n x.at (was q s can f listed).probe there fine has.0 has.1).low in
         let multiple : IsMultiple x.at (2 ^ e) =
         multiple_trans x.at (2 ^ k) (2 ^ e) (multiple_of_mod x.at (2 ^ k) (ap (λ m. x.at % m) (sym size) ∙ has.0)) (power_multiple (2 ^ k) (2 ^ e) (k, refl) (e, refl) (pow-le-pow_right (omega arith) low)) in
         let same : bar_value g.image f.probe n y.at ≡ whole_bar f.probe g.image n =

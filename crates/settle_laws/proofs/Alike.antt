@@ -16,7 +16,7 @@ use Rattle.plan_spec.specs.Plan.{Pools, bridges_above, is_served, same_class, si
 use Rattle.settle_spec.specs.Lists.{Request}
 use Rattle.settle_spec.specs.Parts.{Region, is_empty, is_left, is_part, header_parts, regions_of, upper_pools, new_class, is_in_memory, is_in_prefetch, prefetchable_class, class_in}
 use Rattle.settle_spec.specs.Stands.{rank}
-use Rattle.settle_spec.specs.Items.{is_own, is_wide_part, has_of}
+use Rattle.settle_spec.specs.Items.{is_own, highest_of, highest_of_bar, has_of}
 use Rattle.settle_laws.proofs.Zipped.{any_zip, all_zip, filter_zip, cond_zip}
 
 pub record IsAlike (f g : Function) : Type 0 where
@@ -72,10 +72,10 @@ module _ (f g : Function) (is : IsAlike f g) where
   size_alike Rom = (let k = is.kind in let x = is.probe in λ i. 2 ^ lowest_one 0 (number_at (x i) (rom_register (k i)) 4))
   size_alike (Window c) = refl
 
-  pub wide_alike : (p : Part) → is_wide_part f p ≡ is_wide_part g p
-  wide_alike (Bar n) = ap (λ x. is_wide (bar_at x n)) is.probe
-  wide_alike Rom = refl
-  wide_alike (Window c) = refl
+  pub highest_alike : (p : Part) → highest_of f p ≡ highest_of g p
+  highest_alike (Bar n) = ap (λ x. highest_of_bar (bar_at x n)) is.probe
+  highest_alike Rom = refl
+  highest_alike (Window c) = refl
 
   pub rank_alike : (p : Part) → rank record { function = f; part = p } ≡ rank record { function = g; part = p }
   rank_alike p =

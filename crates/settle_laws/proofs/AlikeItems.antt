@@ -3,17 +3,16 @@ use Rattle.std.proofs.Common.{◌≡◌, ℕ, zero, suc, List, [], ◌∷◌, �
 use Rattle.std.specs.Bool.{IsTrue, ◌==◌, nat_lt}
 use Rattle.std.specs.List.{AllZip, filter, flat_map}
 use Rattle.std.proofs.lemmas.Bool.{and_parts}
-use Rattle.pci_spec.specs.Window.{WindowKind, PrefetchWindow, page_size, is_wide_window}
+use Rattle.pci_spec.specs.Window.{WindowKind, page_size}
 use Rattle.pci_spec.specs.System.{System, Function, is_bridge}
 use Rattle.pci_spec.specs.Bus.{secondary, are_siblings}
-use Rattle.plan_spec.specs.Plan.{same_class}
 use Rattle.settle_spec.specs.FirstPlace.{Extent}
 use Rattle.settle_spec.specs.Lists.{Request}
 use Rattle.settle_spec.specs.Parts.{Region, regions_of}
 use Rattle.settle_spec.specs.Stands.{rank, window_region}
-use Rattle.settle_spec.specs.Items.{Item, comes_before, put_in, in_turn, own_extent, own_item, is_own, has_of, items_of, items_on, extent_around, window_within, nothing}
+use Rattle.settle_spec.specs.Items.{Item, comes_before, put_in, in_turn, own_extent, own_item, is_own, has_of, items_of, items_on, extent_around, highest_in, window_within, nothing}
 use Rattle.settle_laws.proofs.Zipped.{cond_zip, append_zip, map_zip, map_same, flat_zip}
-use Rattle.settle_laws.proofs.Alike.{IsAlike, IsAlikeRegion, bus_alike, of_bridges, size_alike, wide_alike, rank_alike, has_of_alike, own_parts_alike}
+use Rattle.settle_laws.proofs.Alike.{IsAlike, IsAlikeRegion, bus_alike, of_bridges, size_alike, highest_alike, rank_alike, has_of_alike, own_parts_alike}
 
 pub record IsAlikeItem (i j : Item) : Type 0 where
   pub region : IsAlikeRegion i.region j.region
@@ -26,8 +25,8 @@ rank_same r t is = rank_alike r.function t.function is.function r.part ∙ ap (�
 extent_same : (r t : Region) → IsAlikeRegion r t → own_extent r ≡ own_extent t
 extent_same r t is =
     let size = size_alike r.function t.function is.function r.part in
-    let wide = wide_alike r.function t.function is.function r.part in
-    let here : own_extent r ≡ own_extent record { function = t.function; part = r.part } = λ i. record { size = size i; alignment = size i; wide = wide i } in
+    let highest = highest_alike r.function t.function is.function r.part in
+    let here : own_extent r ≡ own_extent record { function = t.function; part = r.part } = λ i. record { size = size i; alignment = size i; highest = highest i } in
     here ∙ ap (λ p. own_extent record { function = t.function; part = p }) is.part
 
 -- ---- in turn
@@ -95,8 +94,8 @@ module _ (q : Request) (anew : IsTrue q.anew) (s t : System) (pairs : AllZip IsA
   -- ---- new windows
 
   around_same : (f g : Function) → IsAlike f g → (xs ys : List Extent) → xs ≡ ys
-      → extent_around (page_size c) (same_class c PrefetchWindow && is_wide_window PrefetchWindow f.probe) xs ≡ extent_around (page_size c) (same_class c PrefetchWindow && is_wide_window PrefetchWindow g.probe) ys
-  around_same f g is xs ys same = (let probe = is.probe in λ i. extent_around (page_size c) (same_class c PrefetchWindow && is_wide_window PrefetchWindow (probe i)) (same i))
+      → extent_around (page_size c) (highest_in c f.probe) xs ≡ extent_around (page_size c) (highest_in c g.probe) ys
+  around_same f g is xs ys same = (let probe = is.probe in λ i. extent_around (page_size c) (highest_in c (probe i)) (same i))
 
   pub windows_alike : (depth : ℕ) (f g : Function) → IsAlike f g → is_bridge f ≡ true → window_within q s c depth f ≡ window_within q t c depth g
   unfolding window_within

@@ -12,6 +12,7 @@ use Rattle.settle_spec.specs.Lists.{Request, ranges_of}
 use Rattle.settle_spec.specs.Parts.{Region, addresses, bridge_over}
 use Rattle.settle_spec.specs.Stands.{rank, window_region}
 use Rattle.settle_spec.specs.Items.{Item, Placed, Placing, AllPlaced, Lacks, and_placed, place_next, place_all, taken_by, items_on, new_window, stays}
+use Rattle.settle_spec.specs.FirstPlace.{is_high}
 use Rattle.settle_spec.specs.Places.{wide_ranges, root_ranges, space_items, taken_at, placed_of, place_among, placed_range, window_ranges, ranges_for, placing_within, placing_on, new_place, first_lack, lacking_on, lacking}
 use Rattle.settle_spec.proofs.Anew.{none_stays}
 use Rattle.settle_laws.proofs.Anew.{none_taken}
@@ -105,7 +106,7 @@ module _ (q : Request) (anew : IsTrue q.anew) (s t : System) (pairs : AllZip IsA
         let here : ranges_for q s placed i ≡ (if is_root q.roots i.region.function.slot.bus then root_ranges q i else window_ranges q t others i.class (bridge_over t i.region.function.slot.bus)) =
         ap (λ w. if is_root q.roots i.region.function.slot.bus then root_ranges q i else w) over in
         here ∙ (λ n. if is_root q.roots (bus n)
-        then ranges_of q (class n) (bus n) ++ (if (extent n).wide then wide_ranges q (class n) (bus n) else [])
+        then ranges_of q (class n) (bus n) ++ (if is_high (extent n) then wide_ranges q (class n) (bus n) else [])
         else window_ranges q t others (class n) (bridge_over t (bus n)))
 
   -- ---- the items of a space

@@ -1,34 +1,33 @@
 -- Only roots can lack room: where they have it, each bus has a place for each of its items.
-use Rattle.std.proofs.Common.{◌≡◌, ◌&&◌, ◌||◌, ℕ, zero, suc, ◌+◌, ◌-◌, ◌%◌, ◌<◌, ◌≤◌, ◌⊎◌, inl, inr, max, List, [], ◌∷◌, map, length, Bool, true, false, cond, arith, refl, sym, ◌∙◌, ap, subst, Option, None, Some}
+use Rattle.std.proofs.Common.{◌≡◌, ◌&&◌, ℕ, zero, suc, ◌+◌, ◌-◌, ◌%◌, ◌<◌, ◌≤◌, ◌⊎◌, inl, inr, max, List, [], ◌∷◌, map, length, Bool, true, false, cond, arith, refl, sym, ◌∙◌, ap, subst, Option, None, Some}
 use Rattle.std.specs.Bool.{IsTrue, nat_le, nat_lt}
-use Rattle.std.specs.List.{Contains, list_all}
-use Rattle.std.proofs.lemmas.Bool.{and_parts, and_right, both_ways, cases_Bool, leb-true, lt-ltb, or_cases}
+use Rattle.std.specs.List.{Contains}
+use Rattle.std.proofs.lemmas.Bool.{and_parts, and_right, both_ways, cases_Bool, leb-true, lt-ltb}
 use Rattle.pci_spec.specs.Decoded.{Range}
-use Rattle.pci_spec.specs.Window.{WindowKind, IoWindow, MemoryWindow, PrefetchWindow, page_size, is_wide_window}
+use Rattle.pci_spec.specs.Window.{WindowKind, IoWindow, MemoryWindow, PrefetchWindow, page_size}
 use Rattle.pci_spec.specs.System.{System, Function, Space, Io, Memory, Window, is_bridge, window_space}
 use Rattle.pci_spec.specs.Bus.{is_root, are_siblings, secondary}
 use Rattle.pci_spec.proofs.BusRanges.{root_means}
-use Rattle.pci_spec.proofs.Members.{in_nil, in_head, in_cons_cases, in_map_from}
+use Rattle.pci_spec.proofs.Members.{in_nil, in_head, in_tail, in_cons_cases, in_map_from}
 use Rattle.plan_spec.specs.Plan.{same_class, greatest}
 use Rattle.plan_spec.specs.Place.{range_from}
 use Rattle.plan_spec.specs.Planning.Layout.{LieApart}
 use Rattle.plan_spec.proofs.Planning.AboveBuses.{root_or_led}
-use Rattle.plan_spec.proofs.Planning.Behind.{all_gives}
 use Rattle.plan_spec.proofs.Planning.Placement.{power_pos, step_power}
 use Rattle.plan_spec.proofs.Planning.PlacedItems.{same_class_is}
 use Rattle.plan_spec.proofs.Planning.Safe.{order_of}
 use Rattle.plan_spec.proofs.Planning.Tables.{class_itself}
-use Rattle.settle_spec.specs.FirstPlace.{Extent, is_spot, ends_in, is_place}
+use Rattle.settle_spec.specs.FirstPlace.{Extent, least_of, is_spot, ends_in, is_place}
 use Rattle.settle_spec.specs.Lists.{Request}
 use Rattle.settle_spec.specs.Parts.{Region, addresses, bridge_over, class_in}
 use Rattle.settle_spec.specs.Stands.{stands, window_region}
-use Rattle.settle_spec.specs.Items.{Item, Placed, Placing, AllPlaced, Lacks, are_placed, place_all, taken_by, has_of, holds, items_on, nothing, window_around, new_window, stays, taken_on}
+use Rattle.settle_spec.specs.Items.{Item, Placed, Placing, AllPlaced, Lacks, are_placed, place_all, taken_by, has_of, holds, items_on, nothing, highest_in, window_around, new_window, stays, taken_on}
 use Rattle.settle_spec.specs.Places.{placed_of, place_among, placed_range, root_ranges, window_ranges, ranges_for, space_items, taken_at, placing_on, first_lack, root_lack, lacking_on}
 use Rattle.settle_spec.specs.PlacingLaws.{ArePlaced}
 use Rattle.settle_spec.specs.WindowLaws.{CanBeIn}
 use Rattle.settle_spec.proofs.BridgeOver.{over_is}
 use Rattle.settle_spec.proofs.Buses.{places_by, placing_by_bus, roots_are_one}
-use Rattle.settle_spec.proofs.FirstSpot.{spot_gives}
+use Rattle.settle_spec.proofs.FirstSpot.{least_in, spot_gives}
 use Rattle.settle_spec.proofs.ItemsBehind.{items_are_behind}
 use Rattle.settle_spec.proofs.Nested.{on_it}
 use Rattle.settle_spec.proofs.NewWindows.{window_is_around}
@@ -175,7 +174,7 @@ module _ (q : Request) (s : System) (can : CanSettle q s) where
         -- the window's place is lawful
         record IsLawfulPlace : Type 0 where
           multiple : window_place.at.at % (new_window q s c b).alignment ≡ 0
-          below : ((new_window q s c b).wide ≡ true) ⊎ (window_place.at.at + ((new_window q s c b).size - 1) ≤ 0xffff_ffff)
+          below : window_place.at.at + ((new_window q s c b).size - 1) ≤ (new_window q s c b).highest
 
         lawful_place : IsLawfulPlace
         lawful_place =
@@ -185,13 +184,10 @@ module _ (q : Request) (s : System) (can : CanSettle q s) where
             let same : e ≡ new_window q s c b = ap (λ (i : Item). i.extent) window_place.item in
             let parts = and_parts (is_spot own.0.first (taken_at q s space b.slot.bus) e x.at) (ends_in own.0 e x.at) own.2 in
             let free = spot_gives own.0.first (taken_at q s space b.slot.bus) e x.at parts.0 in
-            let end = and_parts (nat_le (x.at + (e.size - 1)) own.0.last) (e.wide || nat_le (x.at + (e.size - 1)) 0xffff_ffff) parts.1 in
+            let end = and_parts (nat_le (x.at + (e.size - 1)) own.0.last) (nat_le (x.at + (e.size - 1)) e.highest) parts.1 in
             record {
               multiple = ap (λ (d : Extent). x.at % d.alignment) (sym same) ∙ free.multiple;
-              below = elim (or_cases e.wide (nat_le (x.at + (e.size - 1)) 0xffff_ffff) end.1) [
-                | inl wide ↦ inl (ap (λ (d : Extent). d.wide) (sym same) ∙ wide)
-                | inr low ↦ inr (subst (λ (d : Extent). x.at + (d.size - 1) ≤ 0xffff_ffff) same (leb-true (x.at + (e.size - 1)) 0xffff_ffff low))
-              ];
+              below = subst (λ (d : Extent). x.at + (d.size - 1) ≤ d.highest) same (leb-true (x.at + (e.size - 1)) e.highest end.1);
             }
 
         around : new_window q s c b ≡ window_around c b (items q s can c bus)
@@ -206,13 +202,13 @@ module _ (q : Request) (s : System) (can : CanSettle q s) where
             let less : i.extent.alignment ≤ greatest (map (λ (e : Extent). e.alignment) extents) = below_greatest (map (λ (e : Extent). e.alignment) extents) i.extent.alignment (in_map_from (λ (e : Extent). e.alignment) extents i.extent in_e) in
             let whole : (new_window q s c b).alignment ≡ max (page_size c) (greatest (map (λ (e : Extent). e.alignment) extents)) = ap (λ (e : Extent). e.alignment) around in
             let power = item_power q s (new_window q s) c bus i (new_window_power q s c) (items_are q s (new_window q s) c (stays q s) bus i has_i) in
+            let end = law.below in
+            let highest : (new_window q s c b).highest ≡ least_of (highest_in c b.probe ∷ map (λ (e : Extent). e.highest) extents) = ap (λ (e : Extent). e.highest) around in
+            let high = least_in (highest_in c b.probe ∷ map (λ (e : Extent). e.highest) extents) i.extent.highest (in_tail (highest_in c b.probe) (map (λ (e : Extent). e.highest) extents) i.extent.highest (in_map_from (λ (e : Extent). e.highest) extents i.extent in_e)) in
             record {
               alignment = power_pos i.extent.alignment power;
               multiple = multiple_below window_place.at.at (new_window q s c b).alignment i.extent.alignment (new_window_power q s c b) power (omega (arith, less, whole)) law.multiple;
-              below = elim law.below [
-                | inl wide ↦ inl (all_gives (λ (e : Extent). e.wide) extents i.extent (and_parts (same_class c PrefetchWindow && is_wide_window PrefetchWindow b.probe) (list_all (λ (e : Extent). e.wide) extents) (sym (ap (λ (e : Extent). e.wide) around) ∙ wide)).1 in_e)
-                | inr low ↦ inr low
-              ];
+              below = omega (arith, end, high, highest);
             }
 
         new_room : are_placed (place_all (λ i. new_range ∷ []) [] (items q s can c bus)) ≡ true
@@ -302,7 +298,7 @@ module _ (q : Request) (s : System) (can : CanSettle q s) where
     lies_outside r u xs e a place out =
         let parts = and_parts (is_spot u.first xs e a) (ends_in u e a) place in
         let from = (spot_gives u.first xs e a parts.0).from in
-        let end = leb-true (a + (e.size - 1)) u.last (and_parts (nat_le (a + (e.size - 1)) u.last) (e.wide || nat_le (a + (e.size - 1)) 0xffff_ffff) parts.1).0 in
+        let end = leb-true (a + (e.size - 1)) u.last (and_parts (nat_le (a + (e.size - 1)) u.last) (nat_le (a + (e.size - 1)) e.highest) parts.1).0 in
         elim out [ inl under ↦ inr (omega (arith, under, from)) | inr above ↦ inl (omega (arith, above, end)) ]
 
     pub no_item : {P : Type 0} (xs : List Item) (i : Item) → Contains xs i → xs ≡ [] → P

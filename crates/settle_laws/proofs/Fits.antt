@@ -1,11 +1,11 @@
 -- New places can be shown: by a BAR's kind, a ROM's register and a window's pages and upper halves.
-use Rattle.std.proofs.Common.{◌≡◌, ◌&&◌, ◌||◌, ℕ, ◌+◌, ◌-◌, ◌%◌, ◌^◌, ◌<◌, ◌≤◌, inl, inr, max, List, [], ◌∷◌, map, length, true, false, cond, not, arith, refl, sym, ◌∙◌, ap, subst, Some}
-use Rattle.std.specs.Bool.{nat_lt, ◌==◌}
+use Rattle.std.proofs.Common.{◌≡◌, ◌||◌, ℕ, ◌+◌, ◌-◌, ◌%◌, ◌^◌, ◌<◌, ◌≤◌, inl, inr, max, List, [], ◌∷◌, map, length, true, false, not, arith, refl, sym, ◌∙◌, ap, subst, Some}
+use Rattle.std.specs.Bool.{nat_lt}
 use Rattle.std.specs.List.{Contains, list_any}
-use Rattle.std.proofs.lemmas.Bool.{and_parts, both_ways, cases_Bool, eqb-true, le-ltb, lt-ltb, ltb-true, not-false, not-true, or_parts}
+use Rattle.std.proofs.lemmas.Bool.{and_parts, both_ways, eqb-true, le-ltb, lt-ltb, ltb-true, not-false, not-true, or_parts}
 use Rattle.std.proofs.lemmas.List.Elements.{All-contains}
 use Rattle.pci_spec.specs.Header.{layout, bar_count}
-use Rattle.pci_spec.specs.Bar.{BarKind, bar_at, bar_kind, is_io, is_wide, type_bits, has_bar}
+use Rattle.pci_spec.specs.Bar.{bar_at, has_bar}
 use Rattle.pci_spec.specs.Window.{WindowKind, IoWindow, MemoryWindow, PrefetchWindow, bounds_for, closed_bounds, has_window, page_size}
 use Rattle.pci_spec.specs.Decoded.{IsDecodable, bar_size, rom_size}
 use Rattle.pci_spec.specs.System.{System, Function, IsFunction, Part, Bar, Rom, Window, has_part, is_bridge, is_window}
@@ -14,7 +14,6 @@ use Rattle.pci_spec.proofs.Members.{in_head}
 use Rattle.pci_spec.proofs.Records.{memory_window_there}
 use Rattle.plan_spec.specs.Plan.{bridges_above, is_io_part, same_class, greatest, raised_to}
 use Rattle.plan_spec.specs.Place.{nibble_of, range_from}
-use Rattle.plan_spec.specs.Planning.Showing.{reach_of}
 use Rattle.plan_spec.proofs.PlanningLaws.{profile_decodes}
 use Rattle.plan_spec.proofs.Planning.Placement.{step_power}
 use Rattle.plan_spec.proofs.Planning.Room.{raised}
@@ -23,7 +22,7 @@ use Rattle.settle_spec.specs.FirstPlace.{Extent, first_spot}
 use Rattle.settle_spec.specs.Lists.{RootRange, Request, end_above}
 use Rattle.settle_spec.specs.Parts.{is_empty, is_left, is_part, class_in}
 use Rattle.settle_spec.specs.Stands.{window_region}
-use Rattle.settle_spec.specs.Items.{Item, Placed, has_of, items_on, laid_out, end_of, nothing, window_around, new_window}
+use Rattle.settle_spec.specs.Items.{Item, Placed, highest_of_bar, has_of, items_on, laid_out, end_of, nothing, window_around, new_window}
 use Rattle.settle_spec.specs.Places.{new_place}
 use Rattle.settle_spec.proofs.ItemsBehind.{items_are_behind}
 use Rattle.settle_spec.proofs.LaidOut.{laid_keeps, end_behind}
@@ -40,37 +39,6 @@ use Rattle.settle_laws.proofs.PartClasses.{io_of_class, prefetch_windows}
 use Rattle.settle_laws.proofs.PartPlaces.{new_place_is, IsBehindOf, behind_of}
 use Rattle.settle_laws.proofs.PlacesFit.{bar_fine, rom_fine, open_fit, closed_fit}
 use Rattle.settle_laws.proofs.Powers.{multiple_below}
-
--- how far a BAR's kind reaches
-reach_io : (m : ℕ) → is_io m ≡ true → reach_of (bar_kind m) ≡ 16
-reach_io m io = ap reach_of (ap (λ t. cond t BarKind.IoBar (cond (type_bits m == 2) BarKind.Memory64 (cond (type_bits m == 0) BarKind.Memory32 BarKind.Reserved))) io)
-
-reach_wide : (m : ℕ) → is_io m ≡ false → (type_bits m == 2) ≡ true → reach_of (bar_kind m) ≡ 64
-reach_wide m memory wide =
-    ap reach_of (ap (λ t. cond t BarKind.IoBar (cond (type_bits m == 2) BarKind.Memory64 (cond (type_bits m == 0) BarKind.Memory32 BarKind.Reserved))) memory
-    ∙ ap (λ t. cond t BarKind.Memory64 (cond (type_bits m == 0) BarKind.Memory32 BarKind.Reserved)) wide)
-
-reach_narrow : (m : ℕ) → is_io m ≡ false → (type_bits m == 2) ≡ false → reach_of (bar_kind m) ≡ 32
-reach_narrow m memory narrow =
-    ap reach_of (ap (λ t. cond t BarKind.IoBar (cond (type_bits m == 2) BarKind.Memory64 (cond (type_bits m == 0) BarKind.Memory32 BarKind.Reserved))) memory
-    ∙ ap (λ t. cond t BarKind.Memory64 (cond (type_bits m == 0) BarKind.Memory32 BarKind.Reserved)) narrow)
-    ∙ elim (type_bits m == 0) as (λ t. reach_of (cond t BarKind.Memory32 BarKind.Reserved) ≡ 32) [ true ↦ refl | false ↦ refl ]
-
--- one of 64 bits as far as memory goes, any other no further than 4 GB
-pub reach_by : (m : ℕ) → (is_wide m ≡ true → reach_of (bar_kind m) ≡ 64) × (is_wide m ≡ false → reach_of (bar_kind m) ≤ 32)
-reach_by m = elim (cases_Bool (is_io m)) [
-  | inl io ↦ (
-    λ wide. absurd (both_ways (is_wide m) (ap (λ t. not t && type_bits m == 2) io) wide),
-    λ narrow. let e = reach_io m io in omega (arith, e),
-  )
-  | inr memory ↦ elim (cases_Bool (type_bits m == 2)) [
-    | inl wide ↦ (λ is. reach_wide m memory wide, λ narrow. absurd (both_ways (is_wide m) narrow (ap (λ t. not t && type_bits m == 2) memory ∙ wide)))
-    | inr narrow ↦ (
-      λ wide. absurd (both_ways (type_bits m == 2) narrow (and_parts (not (is_io m)) (type_bits m == 2) wide).1),
-      λ is. let e = reach_narrow m memory narrow in omega (arith, e),
-    )
-  ]
-]
 
 module _ (q : Request) (s : System) (can : CanSettle q s) where
   far : end_above 0xffff_ffff_ffff_ffff q.lists.prefetch ≡ false
@@ -152,13 +120,13 @@ module _ (q : Request) (s : System) (can : CanSettle q s) where
   size_of_place f p listed there x shown = ap (λ (i : Item). i.extent) (new_place_is q s can f p listed there x shown).item
 
   pub bar_room : (f : Function) (n : ℕ) → Contains s f → n < bar_count (layout f.image) → has_bar f.probe n ≡ true → (x : Placed) → new_place q s record { function = f; part = Bar n } ≡ Some x
-      → (x.at % bar_size f.probe n ≡ 0) × (x.at + bar_size f.probe n ≤ 2 ^ reach_of (bar_kind (bar_at f.probe n)))
+      → (x.at % bar_size f.probe n ≡ 0) × (x.at + bar_size f.probe n ≤ highest_of_bar (bar_at f.probe n) + 1)
   bar_room f n listed inside there x shown =
-      bar_fine q s can.system can.lists far f listed (was f listed) (decodable f listed) n (is_part_of f (Bar n) (lt-ltb n (bar_count (layout f.image)) inside)) inside there x shown
+      bar_fine q s can.system f listed (was f listed) (decodable f listed) n (is_part_of f (Bar n) (lt-ltb n (bar_count (layout f.image)) inside)) inside there x shown
 
   pub rom_room : (f : Function) → Contains s f → (x : Placed) → new_place q s record { function = f; part = Rom } ≡ Some x
       → (x.at % rom_size f.image f.probe ≡ 0) × (x.at + rom_size f.image f.probe ≤ 2 ^ 32)
-  rom_room f listed x shown = rom_fine q s can.system can.lists far f listed (was f listed) (decodable f listed) x shown
+  rom_room f listed x shown = rom_fine q s can.system f listed (was f listed) (decodable f listed) x shown
 
   has_by : (c : WindowKind) (b : Function) → IsPlaceable q s c b (Window c) → (is_bridge b ≡ true) × (has_of q s c b ≡ true)
   has_by c b (IsOwnPart plain part) = absurd (both_ways true plain refl)
@@ -186,7 +154,7 @@ module _ (q : Request) (s : System) (can : CanSettle q s) where
 
   module _ (b : Function) (c : WindowKind) (listed : Contains s b) (bridge : is_bridge b ≡ true) (there : has_window c b.probe ≡ true) where
     pub shown_fit : (x : Placed) → new_place q s (window_region c b) ≡ Some x → PartsFit b c (bounds_for c (nibble_of c b) x.at (x.at + (x.item.extent.size - 1)))
-    shown_fit x shown = open_fit q s can.system can.lists far b listed (was b listed) (decodable b listed) c (is_part_of b (Window c) bridge) bridge there x shown
+    shown_fit x shown = open_fit q s can.system b listed (was b listed) (decodable b listed) c (is_part_of b (Window c) bridge) bridge there x shown
 
     pub none_fit : PartsFit b c (closed_bounds c (nibble_of c b))
-    none_fit = closed_fit q s can.system can.lists far b listed (was b listed) (decodable b listed) c (is_part_of b (Window c) bridge) bridge there
+    none_fit = closed_fit q s can.system b listed (was b listed) (decodable b listed) c (is_part_of b (Window c) bridge) bridge there

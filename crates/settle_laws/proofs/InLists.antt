@@ -11,6 +11,7 @@ use Rattle.pci_spec.specs.Bus.{is_root}
 use Rattle.pci_spec.proofs.Members.{in_nil}
 use Rattle.plan_spec.specs.Planning.Layout.{IsInside}
 use Rattle.plan_spec.proofs.Planning.Behind.{any_from}
+use Rattle.settle_spec.specs.FirstPlace.{is_high}
 use Rattle.settle_spec.specs.Lists.{Request, ranges_of}
 use Rattle.settle_spec.specs.Parts.{Region, addresses, is_within, bridge_over}
 use Rattle.settle_spec.specs.Stands.{is_listed, is_in_lists}
@@ -44,9 +45,9 @@ module _ (q : Request) (s : System) (can : CanSettle q s) where
   in_range_list i u r has inside =
       let bus = i.region.function.slot.bus in
       let by = λ (c : WindowKind) (listed : Contains (ranges_of q c bus) u). listed_in q bus r c (any_from (is_within r) (ranges_of q c bus) u listed (within_from r u inside)) in
-      elim (Contains-append_cases (ranges_of q i.class bus) (cond i.extent.wide (wide_ranges q i.class bus) []) u has) [
+      elim (Contains-append_cases (ranges_of q i.class bus) (cond (is_high i.extent) (wide_ranges q i.class bus) []) u has) [
         | inl own ↦ by i.class own
-        | inr more ↦ wide i.class (if_wide i.extent.wide (wide_ranges q i.class bus) more) (λ listed. by PrefetchWindow listed)
+        | inr more ↦ wide i.class (if_wide (is_high i.extent) (wide_ranges q i.class bus) more) (λ listed. by PrefetchWindow listed)
       ]
     where
       if_wide : (w : Bool) (xs : List Range) → Contains (cond w xs []) u → Contains xs u

@@ -1,8 +1,8 @@
 -- Items of falling alignments that are placed one by one need no more room than the sum of what is set aside for each.
-use Rattle.std.proofs.Common.{◌≡◌, ◌||◌, ℕ, ◌+◌, ◌-◌, ◌%◌, ◌<◌, ◌≤◌, ◌⊎◌, inl, inr, List, [], ◌∷◌, ◌++◌, map, cond, true, refl, arith, ◌∙◌, ap, subst, Some, None}
+use Rattle.std.proofs.Common.{◌≡◌, ℕ, ◌+◌, ◌-◌, ◌%◌, ◌<◌, ◌≤◌, ◌⊎◌, inl, inr, List, [], ◌∷◌, ◌++◌, map, cond, true, refl, arith, ◌∙◌, ap, subst, Some, None}
 use Rattle.std.specs.Bool.{nat_le}
 use Rattle.std.specs.List.{Contains, AllPairs, sum_by}
-use Rattle.std.proofs.lemmas.Bool.{and_from, or_left, or_right, le-leb}
+use Rattle.std.proofs.lemmas.Bool.{and_from, le-leb}
 use Rattle.std.proofs.lemmas.List.Sums.{sum_by-cons}
 use Rattle.pci_spec.specs.Decoded.{Range}
 use Rattle.pci_spec.proofs.Members.{in_head, in_tail, in_cons_cases, in_map_to, IsMade, pairs_head, pairs_tail}
@@ -31,7 +31,7 @@ pub record IsSetAside (e : Extent) (size : ℕ) : Type 0 where
 pub record HasFirst (ranges : Item → List Range) (r : Range) (i : Item) : Type 0 where
   pub more : List Range
   pub begins : ranges i ≡ r ∷ more
-  pub below : (i.extent.wide ≡ true) ⊎ (r.last ≤ 0xffff_ffff)
+  pub below : r.last ≤ i.extent.highest
 
 module _ (aside : Item → ℕ) where
   -- all items are set aside, and a start is a multiple of their alignments
@@ -119,12 +119,10 @@ module _ (aside : Item → ℕ) where
         let up = (spot_gives r.first taken e a (least_spot r.first taken e (power_pos e.alignment own.aligned)).free).from in
         let first = has i (in_head i items) in
         let ends : ends_in r e a ≡ true =
-        and_from (nat_le (a + (e.size - 1)) r.last) (e.wide || nat_le (a + (e.size - 1)) 0xffff_ffff)
+        let highest = first.below in
+        and_from (nat_le (a + (e.size - 1)) r.last) (nat_le (a + (e.size - 1)) e.highest)
         (le-leb (a + (e.size - 1)) r.last (omega (arith, low, holds, some, room, step)))
-        (elim first.below [
-          | inl wide ↦ or_left e.wide (nat_le (a + (e.size - 1)) 0xffff_ffff) wide
-          | inr lower ↦ or_right e.wide (nat_le (a + (e.size - 1)) 0xffff_ffff) (le-leb (a + (e.size - 1)) 0xffff_ffff (omega (arith, low, holds, some, room, step, lower)))
-        ]) in
+        (le-leb (a + (e.size - 1)) e.highest (omega (arith, low, holds, some, room, step, highest))) in
         let place : first_place (ranges i) taken e ≡ Some a =
         ap (λ rs. first_place rs taken e) first.begins ∙ ap (λ b. else_at (cond b (Some a) None) (first_place first.more taken e)) ends in
         let here : Range = taken_by i a in

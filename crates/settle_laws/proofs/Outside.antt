@@ -1,5 +1,5 @@
 -- Places in a range don't hang on what is taken outside it.
-use Rattle.std.proofs.Common.{◌≡◌, ◌||◌, ℕ, ◌+◌, ◌-◌, ◌<◌, ◌⊎◌, inl, inr, List, [], ◌∷◌, ◌++◌, refl, arith, ◌∙◌, ap, subst, Option, None, Some}
+use Rattle.std.proofs.Common.{◌≡◌, ℕ, ◌+◌, ◌-◌, ◌<◌, ◌⊎◌, inl, inr, List, [], ◌∷◌, ◌++◌, refl, arith, ◌∙◌, ap, subst, Option, None, Some}
 use Rattle.std.specs.Bool.{IsTrue, nat_le}
 use Rattle.std.specs.List.{Contains}
 use Rattle.std.proofs.lemmas.Bool.{and_parts, and_from, both_ways, false_from_ne_true, leb-true}
@@ -29,7 +29,7 @@ place_too r xs ys e b alike place =
     let parts = and_parts (is_spot r.first xs e b) (ends_in r e b) place in
     let free = spot_gives r.first xs e b parts.0 in
     let from = free.from in
-    let end = leb-true (b + (e.size - 1)) r.last (and_parts (nat_le (b + (e.size - 1)) r.last) (e.wide || nat_le (b + (e.size - 1)) 0xffff_ffff) parts.1).0 in
+    let end = leb-true (b + (e.size - 1)) r.last (and_parts (nat_le (b + (e.size - 1)) r.last) (nat_le (b + (e.size - 1)) e.highest) parts.1).0 in
     and_from (is_spot r.first ys e b) (ends_in r e b)
     (spot_from r.first ys e b record {
       multiple = free.multiple;

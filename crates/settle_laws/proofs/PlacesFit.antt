@@ -1,5 +1,5 @@
--- Where lists end in their spaces, settling changes address bits alone in the address registers.
-use Rattle.std.proofs.Common.{◌≡◌, ℕ, suc, ◌+◌, ◌-◌, ◌*◌, ◌/◌, ◌%◌, ◌^◌, ◌<◌, ◌≤◌, inl, inr, List, refl, Bool, true, false, cond, ◌&&◌, not, Option, None, Some, arith, sym, ◌∙◌, ap, subst}
+-- Settling changes address bits alone in the address registers.
+use Rattle.std.proofs.Common.{◌≡◌, ℕ, suc, ◌+◌, ◌-◌, ◌*◌, ◌/◌, ◌%◌, ◌^◌, ◌<◌, ◌≤◌, inl, inr, List, ◌∷◌, map, refl, Bool, true, false, cond, not, Option, None, Some, arith, sym, ◌∙◌, ap, subst}
 use Rattle.std.specs.Bool.{◌==◌, nat_lt, if◌then◌else◌}
 use Rattle.std.specs.Int.{bit_at}
 use Rattle.std.specs.List.{Contains}
@@ -11,26 +11,29 @@ use Rattle.pci_spec.specs.Bar.{IoBar, Memory32, Memory64, Reserved, bar_at, bar_
 use Rattle.pci_spec.specs.Rom.{has_rom}
 use Rattle.pci_spec.specs.Window.{WindowKind, IoWindow, MemoryWindow, PrefetchWindow, Bounds, bounds_for, closed_bounds, breaks_window_rule, has_window, is_wide_window}
 use Rattle.pci_spec.specs.Decoded.{IsDecodable, bar_size, rom_size}
-use Rattle.pci_spec.specs.System.{System, Function, IsSystem, IsFunction, Io, Memory, Part, Bar, Rom, Window, space_of, is_bridge, is_window}
+use Rattle.pci_spec.specs.System.{System, Function, IsSystem, IsFunction, Memory, Part, Bar, Rom, Window, space_of, is_bridge, is_window}
+use Rattle.pci_spec.specs.Bus.{secondary}
 use Rattle.pci_spec.specs.Machine.{in_fields, address_fields, bar_field}
 use Rattle.pci_spec.proofs.Bits.{bit_at-mod}
-use Rattle.plan_spec.specs.Plan.{is_open, same_class}
+use Rattle.pci_spec.proofs.Members.{in_head}
+use Rattle.plan_spec.specs.Plan.{is_open}
 use Rattle.plan_spec.specs.Place.{nibble_of}
-use Rattle.plan_spec.specs.Planning.Showing.{reach_of, bar_value, rom_value}
-use Rattle.plan_spec.proofs.Planning.BarFits.{bar_register_fits, lower_fits, upper_fits}
+use Rattle.plan_spec.specs.Planning.Showing.{bar_value, rom_value}
+use Rattle.plan_spec.proofs.Planning.BarFits.{bar_register_fits}
 use Rattle.plan_spec.proofs.Planning.BitsFit.{BitsFit, fits_joined}
-use Rattle.plan_spec.proofs.Planning.Reach.{IsReached}
 use Rattle.plan_spec.proofs.Planning.Registers.{register_bit, datum_bit_at}
 use Rattle.plan_spec.proofs.Planning.RomFits.{rom_there, rom_number_fits}
-use Rattle.plan_spec.proofs.Planning.WindowFits.{PartsFit, by_closed, few_nibbles, kept_fit, lawful_nibbles, open_kept, window_fits}
+use Rattle.plan_spec.proofs.Planning.WindowFits.{AreKept, PartsFit, by_closed, few_nibbles, kept_fit, lawful_nibbles, open_kept, window_fits}
 use Rattle.settle_spec.specs.FirstPlace.{Extent}
-use Rattle.settle_spec.specs.Lists.{Request, are_bad_lists, end_above}
+use Rattle.settle_spec.specs.Lists.{Request}
 use Rattle.settle_spec.specs.Parts.{Region, header_parts}
-use Rattle.settle_spec.specs.Items.{Placed, new_window, window_within, stays, taken_by}
+use Rattle.settle_spec.specs.Items.{Item, Placed, highest_of_bar, highest_in, items_on, nothing, new_window, window_within, stays, taken_by}
 use Rattle.settle_spec.specs.Places.{new_place}
 use Rattle.settle_spec.specs.Registers.{with_number, with_bounds, closed_if_open, shown, changing, settled_image}
+use Rattle.settle_spec.proofs.FirstSpot.{least_in}
+use Rattle.settle_laws.proofs.BarReach.{lower_fits, upper_fits}
 use Rattle.settle_laws.proofs.HeaderParts.{IsPart, part_cases, few_bars, rom_at_end}
-use Rattle.settle_laws.proofs.NewPlaces.{HasPlace, limit, new_place_is, new_place_ends, size_some}
+use Rattle.settle_laws.proofs.NewPlaces.{HasPlace, new_place_is, size_some}
 use Rattle.settle_laws.proofs.Numbers.{with_elsewhere, with_image, with_inside}
 use Rattle.settle_laws.proofs.RomPlaces.{rom_part}
 use Rattle.settle_laws.proofs.Shown.{IsChanging, can_change, changing_is, can_bar, can_rom, window_bridge, window_there, fold_keeps, upper_there}
@@ -76,18 +79,36 @@ module _ (f : Function) (is : IsImage f.image) where
 
 -- ---- how far places reach
 
-kind_room : (io wide narrow : Bool) (end : ℕ) → end ≤ limit (if io then Io else Memory) + 1 → ((not io && wide) ≡ false → end ≤ 0xffff_ffff + 1)
-    → end ≤ 2 ^ reach_of (if io then IoBar else if wide then Memory64 else if narrow then Memory32 else Reserved)
-kind_room true wide narrow end top low = omega (arith, top)
-kind_room false true narrow end top low = omega (arith, top)
-kind_room false false true end top low = (let l = low refl in omega (arith, l))
-kind_room false false false end top low = (let l = low refl in omega (arith, l))
-
 encoding_width : (io wide narrow : Bool) → (if io then 4 else 16) ≡ 2 ^ first_bit (if io then IoBar else if wide then Memory64 else if narrow then Memory32 else Reserved)
 encoding_width true wide narrow = refl
 encoding_width false true narrow = refl
 encoding_width false false true = refl
 encoding_width false false false = refl
+
+-- the registers of a window that ends by the highest address that it can hold are in keeping with their low nibbles
+bounds_kept : (c : WindowKind) (f : Function) (first last : ℕ) → nibble_of c f ≤ 1 → first ≤ last → last ≤ highest_in c f.probe → AreKept c (nibble_of c f) (bounds_for c (nibble_of c f) first last)
+bounds_kept IoWindow f first last few order low = elim (cases_Bool (is_wide_window IoWindow f.probe)) [
+  | inl wide ↦
+      let n : nibble_of IoWindow f ≡ 1 = ap (λ t. if t then 1 else 0) wide in
+      let h : highest_in IoWindow f.probe ≡ 0xffff_ffff = ap (λ t. if t then 0xffff_ffff else 0xffff) wide in
+      record {
+        base_nibble = omega (arith, few);
+        limit_nibble = omega (arith, few);
+        base_small = omega (arith, few);
+        limit_small = omega (arith, few);
+        base_upper_small = omega (arith, n, h, order, low);
+        limit_upper_small = omega (arith, n, h, low);
+      }
+  | inr narrow ↦ (let h : highest_in IoWindow f.probe ≡ 0xffff = ap (λ t. if t then 0xffff_ffff else 0xffff) narrow in open_kept IoWindow (nibble_of IoWindow f) first last few order (omega (arith, low, h)))
+]
+bounds_kept MemoryWindow f first last few order low = open_kept MemoryWindow (nibble_of MemoryWindow f) first last few order (omega (arith, low))
+bounds_kept PrefetchWindow f first last few order low = open_kept PrefetchWindow (nibble_of PrefetchWindow f) first last few order (elim (cases_Bool (is_wide_window PrefetchWindow f.probe)) [
+  | inl wide ↦
+      let n : nibble_of PrefetchWindow f ≡ 1 = ap (λ t. if t then 1 else 0) wide in
+      let h : highest_in PrefetchWindow f.probe ≡ 0xffff_ffff_ffff_ffff = ap (λ t. if t then 0xffff_ffff_ffff_ffff else 0xffff_ffff) wide in
+      (omega (arith, low, h), λ none. let no : ⊥ = omega (arith, n, none) in absurd no)
+  | inr narrow ↦ (let h : highest_in PrefetchWindow f.probe ≡ 0xffff_ffff = ap (λ t. if t then 0xffff_ffff_ffff_ffff else 0xffff_ffff) narrow in (omega (arith, low, h), λ none. omega (arith, low, h)))
+])
 
 one_bar : (m n : ℕ) → Bar m ≡ Bar n → m ≡ n
 one_bar m n e = cc
@@ -95,8 +116,7 @@ one_bar m n e = cc
 no_bar : (n : ℕ) → Rom ≡ Bar n → ⊥
 no_bar n e = cc
 
-module _ (q : Request) (s : System) (system : IsSystem s) (good : are_bad_lists q.roots q.lists ≡ false) (far : end_above 0xffff_ffff_ffff_ffff q.lists.prefetch ≡ false)
-    (f : Function) (listed : Contains s f) (is : IsFunction f) (decodable : IsDecodable f) where
+module _ (q : Request) (s : System) (system : IsSystem s) (f : Function) (listed : Contains s f) (is : IsFunction f) (decodable : IsDecodable f) where
   abbrev region : Part → Region
   region p = record { function = f; part = p }
 
@@ -109,16 +129,16 @@ module _ (q : Request) (s : System) (system : IsSystem s) (good : are_bad_lists 
     bar_aligned : p.at % bar_size f.probe n ≡ 0
     bar_aligned = ap (λ (x : Extent). p.at % x.alignment) (bar_is.own refl) ∙ bar_is.multiple
 
-    bar_room : p.at + bar_size f.probe n ≤ 2 ^ reach_of (bar_kind (bar_at f.probe n))
+    bar_room : p.at + bar_size f.probe n ≤ highest_of_bar (bar_at f.probe n) + 1
     bar_room =
-        let mask = bar_at f.probe n in
-        let size : bar_size f.probe n ≡ p.item.extent.size = ap (λ (x : Extent). x.size) (bar_is.own refl) in
+        let extent = bar_is.own refl in
+        let size : bar_size f.probe n ≡ p.item.extent.size = ap (λ (x : Extent). x.size) extent in
+        let highest : highest_of_bar (bar_at f.probe n) ≡ p.item.extent.highest = ap (λ (x : Extent). x.highest) extent in
         let some = size_some q s f (Bar n) refl in
-        let end = new_place_ends q s system f listed (Bar n) part good far p e in
-        kind_room (is_io mask) (type_bits mask == 2) (type_bits mask == 0) (p.at + bar_size f.probe n) (omega (arith, end, size, some))
-        (λ narrow. let low = bar_is.low (sym (ap (λ (x : Extent). x.wide) (bar_is.own refl)) ∙ narrow) in omega (arith, low, size, some))
+        let low = bar_is.low in
+        omega (arith, low, size, highest, some)
 
-    pub bar_fine : (p.at % bar_size f.probe n ≡ 0) × (p.at + bar_size f.probe n ≤ 2 ^ reach_of (bar_kind (bar_at f.probe n)))
+    pub bar_fine : (p.at % bar_size f.probe n ≡ 0) × (p.at + bar_size f.probe n ≤ highest_of_bar (bar_at f.probe n) + 1)
     bar_fine = (bar_aligned, bar_room)
 
     width : encodings (bar_at f.probe n) ≡ 2 ^ first_bit (bar_kind (bar_at f.probe n))
@@ -135,7 +155,7 @@ module _ (q : Request) (s : System) (system : IsSystem s) (good : are_bad_lists 
         (bar_register_fits f m (λ r. v) is.image below same).same j i short small plain (and_left (bar_register m + j == 4) (nat_lt i 2) (ne_eqb (bar_register m + j) 4 (λ four. let no : ⊥ = omega (arith, four) in no)))
 
     low_bits : (b : ℕ) → b < 32 → has_bit (bar_field f.probe n).bits b ≡ false → bit_at (value % 2 ^ 32) b ≡ bit_at (bar_at f.image n) b
-    low_bits = lower_fits f is.image is.probe n p.at there starts (decodable.bars n inside) bar_aligned bar_room width
+    low_bits = lower_fits f.image f.probe n p.at is.probe there (decodable.bars n inside) bar_aligned bar_room starts width
 
     narrow_fits : BitsFit f (bar_register n) 4 value
     narrow_fits = bits_of n value inside (λ b low dark. sym (bit_at-mod value 32 b low) ∙ low_bits b low dark)
@@ -146,7 +166,7 @@ module _ (q : Request) (s : System) (system : IsSystem s) (good : are_bad_lists 
         let more = upper_there q s f decodable n inside there wide in
         let upper : starts_bar f.probe (n + 1) ≡ false = ap (starts_bar f.probe) next ∙ ap not (and_from (starts_bar f.probe n) (is_wide (bar_at f.probe n)) starts wide) in
         let high : BitsFit f (bar_register (n + 1)) 4 (value / 2 ^ 32) =
-        bits_of (n + 1) (value / 2 ^ 32) (omega (arith, more)) (λ b low dark. upper_fits f is.image is.probe n p.at there starts (decodable.bars n inside) bar_aligned bar_room width wide b low dark upper) in
+        bits_of (n + 1) (value / 2 ^ 32) (omega (arith, more)) (λ b low dark. upper_fits f.image f.probe n p.at is.probe there (decodable.bars n inside) bar_aligned bar_room is.image wide b low dark upper) in
         let at : bar_register (n + 1) ≡ bar_register n + 4 = omega arith in
         let split = shr_split value 32 in
         let whole : value % 2 ^ 32 + 2 ^ (8 * 4) * (value / 2 ^ 32) ≡ value = omega (arith, split) in
@@ -168,9 +188,10 @@ module _ (q : Request) (s : System) (system : IsSystem s) (good : are_bad_lists 
       let has : HasPlace q s Memory f Rom p = new_place_is q s system f listed Rom (rom_part f) p e in
       let extent = has.own refl in
       let size : rom_size f.image f.probe ≡ p.item.extent.size = ap (λ (x : Extent). x.size) extent in
-      let low = has.low (sym (ap (λ (x : Extent). x.wide) extent)) in
+      let highest : 0xffff_ffff ≡ p.item.extent.highest = ap (λ (x : Extent). x.highest) extent in
+      let low = has.low in
       let some = size_some q s f Rom refl in
-      (ap (λ (x : Extent). p.at % x.alignment) extent ∙ has.multiple, omega (arith, low, size, some))
+      (ap (λ (x : Extent). p.at % x.alignment) extent ∙ has.multiple, omega (arith, low, highest, size, some))
 
   rom_shown : has_rom f.image f.probe ≡ true → (p : Placed) → new_place q s (region Rom) ≡ Some p → (image : List ℕ) → HasBits f image → HasBits f (with_number 4 (rom_register (layout f.image)) (rom_value f.image p.at) image)
   rom_shown there p e image h =
@@ -182,20 +203,18 @@ module _ (q : Request) (s : System) (system : IsSystem s) (good : are_bad_lists 
 
   -- ---- windows
 
-  narrow_window : (c : WindowKind) → (same_class c PrefetchWindow && is_wide_window PrefetchWindow f.probe) ≡ false → (new_window q s c f).wide ≡ false
+  no_higher : (c : WindowKind) → (new_window q s c f).highest ≤ highest_in c f.probe
   unfolding window_within
-  narrow_window c narrow = and_left (same_class c PrefetchWindow && is_wide_window PrefetchWindow f.probe) _ narrow
+  no_higher c =
+      let extents = map (λ (i : Item). i.extent) (items_on q s c nothing (window_within q s c 255) (secondary f)) in
+      least_in (highest_in c f.probe ∷ map (λ (e : Extent). e.highest) extents) (highest_in c f.probe) (in_head (highest_in c f.probe) (map (λ (e : Extent). e.highest) extents))
 
-  window_reached : (c : WindowKind) (p : Placed) → HasPlace q s (space_of f (Window c)) f (Window c) p → (taken_by p.item p.at).last ≤ limit (space_of f (Window c)) → IsReached c (nibble_of c f) ((taken_by p.item p.at).last + 1)
-  window_reached IoWindow p has end = omega (arith, end)
-  window_reached MemoryWindow p has end = (let low = has.low (sym (ap (λ (x : Extent). x.wide) (has.new MemoryWindow refl)) ∙ narrow_window MemoryWindow refl) in omega (arith, low))
-  window_reached PrefetchWindow p has end = (
-    omega (arith, end),
-    λ none. elim (cases_Bool (is_wide_window PrefetchWindow f.probe)) [
-      | inl wide ↦ absurd (let one : nibble_of PrefetchWindow f ≡ 1 = ap (λ t. cond t 1 0) wide in let no : ⊥ = omega (arith, one, none) in no)
-      | inr narrow ↦ (let low = has.low (sym (ap (λ (x : Extent). x.wide) (has.new PrefetchWindow refl)) ∙ narrow_window PrefetchWindow narrow) in omega (arith, low))
-    ],
-  )
+  window_low : (c : WindowKind) (p : Placed) → HasPlace q s (space_of f (Window c)) f (Window c) p → (taken_by p.item p.at).last ≤ highest_in c f.probe
+  window_low c p has =
+      let low = has.low in
+      let same : (new_window q s c f).highest ≡ p.item.extent.highest = ap (λ (x : Extent). x.highest) (has.new c refl) in
+      let most = no_higher c in
+      omega (arith, low, same, most)
 
   module _ (c : WindowKind) (part : IsPart f (Window c)) (bridge : is_bridge f ≡ true) (there : has_window c f.probe ≡ true) where
     rule : breaks_window_rule c f.image f.probe ≡ false
@@ -204,9 +223,8 @@ module _ (q : Request) (s : System) (system : IsSystem s) (good : are_bad_lists 
     pub open_fit : (p : Placed) → new_place q s (region (Window c)) ≡ Some p → PartsFit f c (bounds_for c (nibble_of c f) p.at (p.at + (p.item.extent.size - 1)))
     open_fit p e =
         let has : HasPlace q s (space_of f (Window c)) f (Window c) p = new_place_is q s system f listed (Window c) part p e in
-        let reached = window_reached c p has (new_place_ends q s system f listed (Window c) part good far p e) in
         kept_fit f bridge c (nibble_of c f) _ (few_nibbles f bridge c) (lawful_nibbles f bridge c rule there)
-        (open_kept c (nibble_of c f) p.at (p.at + (p.item.extent.size - 1)) (few_nibbles f bridge c) (omega arith) reached)
+        (bounds_kept c f p.at (p.at + (p.item.extent.size - 1)) (few_nibbles f bridge c) (omega arith) (window_low c p has))
 
     pub closed_fit : PartsFit f c (closed_bounds c (nibble_of c f))
     closed_fit = subst (PartsFit f c) (by_closed f bridge c false 0 0 there refl) (window_fits f bridge is.image c false 0 0 rule (λ opened. absurd (both_ways false refl opened)))

@@ -34,7 +34,7 @@ use Rattle.plan_spec.proofs.Planning.Reach.{AreGood, good_pools, pool_below}
 use Rattle.plan_spec.proofs.Planning.Room.{raised, room_of_fit}
 use Rattle.plan_spec.proofs.Planning.Sizes.{item_sizes, sum_on_roots}
 use Rattle.plan_spec.proofs.Planning.Tables.{class_itself}
-use Rattle.settle_spec.specs.FirstPlace.{Extent}
+use Rattle.settle_spec.specs.FirstPlace.{Extent, is_high}
 use Rattle.settle_spec.specs.Lists.{Request, ranges_of}
 use Rattle.settle_spec.specs.Parts.{class_in, bridge_over}
 use Rattle.settle_spec.specs.Items.{Item, Placed, Placing, AllPlaced, Lacks, place_all, are_placed, items_on, new_window, stays}
@@ -47,7 +47,7 @@ use Rattle.settle_laws.proofs.NoLarger.{window_fits, items_aside, item_aside}
 use Rattle.settle_laws.proofs.OneByOne.{IsSetAside, HasFirst, all_in_first}
 use Rattle.settle_laws.proofs.PlannedSizes.{planned, has_planned_behind, items_below}
 use Rattle.settle_laws.proofs.Powers.{below_greatest, greatest_power, multiple_below}
-use Rattle.settle_laws.proofs.WideWindows.{classes_planned, items_wide}
+use Rattle.settle_laws.proofs.WideWindows.{classes_planned, io_items, memory_items, prefetch_items, wide_items}
 
 placing_step : (q : Request) (s : System) (space : Space) (depth bus : ℕ)
     → placing_within q s space (suc depth) bus
@@ -193,18 +193,18 @@ module _ (roots : List ℕ) (s : System) (pools : Pools) (system : IsSystem s) (
 
     -- ---- the pool comes first
 
-    low_or_wide : (i : Item) → IsItemOf q s (new_window q s) c root i → (i.extent.wide ≡ true) ⊎ (pool.last ≤ 0xffff_ffff)
-    low_or_wide i is = by c (item_high i is)
+    pool_in_reach : (i : Item) → IsItemOf q s (new_window q s) c root i → pool.last ≤ i.extent.highest
+    pool_in_reach i is = by c is
       where
-        item_high : (i : Item) → IsItemOf q s (new_window q s) c root i → c ≡ PrefetchWindow → nat_le pools.prefetch.last 0xffff_ffff ≡ false → i.extent.wide ≡ true
-        item_high i is prefetch high = items_wide q s pools system nested (λ f p. classes_planned roots s pools f p) high root i (subst (λ d. IsItemOf q s (new_window q s) d root i) prefetch is)
-
-        by : (d : WindowKind) → (d ≡ PrefetchWindow → nat_le pools.prefetch.last 0xffff_ffff ≡ false → i.extent.wide ≡ true) → (i.extent.wide ≡ true) ⊎ ((pool_of pools d).last ≤ 0xffff_ffff)
-        by IoWindow wide = let l = good.io in inr (omega (arith, l))
-        by MemoryWindow wide = inr good.memory
-        by PrefetchWindow wide = elim (cases_Bool (nat_le pools.prefetch.last 0xffff_ffff)) [
-          | inl lower ↦ inr (leb-true pools.prefetch.last 0xffff_ffff lower)
-          | inr high ↦ inl (wide refl high)
+        by : (d : WindowKind) → IsItemOf q s (new_window q s) d root i → (pool_of pools d).last ≤ i.extent.highest
+        by IoWindow is = (let top = good.io in let high = io_items q s pools system nested (λ f p. classes_planned roots s pools f p) root i is in omega (arith, top, high))
+        by MemoryWindow is = (let top = good.memory in let high = memory_items q s pools system nested (λ f p. classes_planned roots s pools f p) root i is in omega (arith, top, high))
+        by PrefetchWindow is = elim (cases_Bool (nat_le pools.prefetch.last 0xffff_ffff)) [
+          | inl lower ↦
+              let last = leb-true pools.prefetch.last 0xffff_ffff lower in
+              let high = prefetch_items q s pools system nested (λ f p. classes_planned roots s pools f p) root i is in
+              omega (arith, last, high)
+          | inr over ↦ (let high = wide_items q s pools system nested (λ f p. classes_planned roots s pools f p) over root i is in omega (arith, top, high))
         ]
 
     has_first : (over : ℕ → List Placed) (i : Item) → Contains items i → HasFirst (ranges_for q s over) pool i
@@ -213,14 +213,14 @@ module _ (roots : List ℕ) (s : System) (pools : Pools) (system : IsSystem s) (
         let f = is.f in
         let e = extent_by (new_window q s) f is.p in
         let on_root : is_root roots f.slot.bus ≡ true = sym (beside_root roots root f.slot.bus is_one) ∙ is.beside in
-        let more = cond e.wide (wide_ranges q c f.slot.bus) [] in
+        let more = cond (is_high e) (wide_ranges q c f.slot.bus) [] in
         let begins : ranges_for q s over (item_by (new_window q s) c f is.p) ≡ pool ∷ more =
         ap (λ b. cond b (ranges_of q c f.slot.bus ++ more) (window_ranges q s over c (bridge_over s f.slot.bus))) on_root
         ∙ ap (λ rs. rs ++ more) (ranges_are roots pools c f.slot.bus) in
         record {
           more = more;
           begins = ap (ranges_for q s over) (sym is.is) ∙ begins;
-          below = low_or_wide i is;
+          below = pool_in_reach i is;
         }
 
     -- so the items of a class have room in its pool, whatever is taken outside it

@@ -1,7 +1,7 @@
 -- Lists of one pool each are no worse than the pools.
-use Rattle.std.proofs.Common.{◌≡◌, ◌||◌, ℕ, ◌^◌, ◌<◌, inl, inr, List, [], Bool, true, false, refl, ◌∙◌, ap, subst, None}
+use Rattle.std.proofs.Common.{◌≡◌, ◌||◌, ℕ, ◌^◌, ◌<◌, arith, inl, inr, List, [], Bool, true, false, refl, ◌∙◌, ap, subst, None}
 use Rattle.std.specs.Bool.{nat_lt}
-use Rattle.std.proofs.lemmas.Bool.{or_parts}
+use Rattle.std.proofs.lemmas.Bool.{le-ltb, ltb-false, or_parts}
 use Rattle.pci_spec.proofs.Members.{in_nil, in_cons_cases}
 use Rattle.plan_spec.specs.Plan.{Pools, is_backward, are_bad}
 use Rattle.settle_spec.specs.Lists.{RootRange, is_bad_list, are_bad_lists, end_above}
@@ -25,12 +25,12 @@ lists_fine roots pools good =
     let io = pool_list pools.io in
     let memory = pool_list pools.memory in
     let prefetch = pool_list pools.prefetch in
-    neither (is_bad_list roots io || is_bad_list roots memory || is_bad_list roots prefetch || end_above 0xffff io) (end_above 0xffff_ffff memory)
-    (neither (is_bad_list roots io || is_bad_list roots memory || is_bad_list roots prefetch) (end_above 0xffff io)
+    neither (is_bad_list roots io || is_bad_list roots memory || is_bad_list roots prefetch || end_above 0xffff_ffff io) (end_above 0xffff_ffff memory)
+    (neither (is_bad_list roots io || is_bad_list roots memory || is_bad_list roots prefetch) (end_above 0xffff_ffff io)
     (neither (is_bad_list roots io || is_bad_list roots memory) (is_bad_list roots prefetch)
     (neither (is_bad_list roots io) (is_bad_list roots memory) (bad_by (is_backward pools.io) one.0) (bad_by (is_backward pools.memory) one.1))
     (bad_by (is_backward pools.prefetch) two.1))
-    (nothing_more (nat_lt 0xffff pools.io.last) ∙ three.1))
+    (nothing_more (nat_lt 0xffff_ffff pools.io.last) ∙ le-ltb 0xffff_ffff pools.io.last (let low = ltb-false 0xffff pools.io.last three.1 in omega (arith, low))))
     (nothing_more (nat_lt 0xffff_ffff pools.memory.last) ∙ four.1)
   where
     bad_by : (b : Bool) → b ≡ false → (((b || false) || false) || false) ≡ false

@@ -90,7 +90,7 @@ module _ (q : Request) (s : System) (system : IsSystem s) (profile : IsInProfile
       probe = refl;
       image = new_image;
       same = λ place i inside small plain other.
-          let bits = (image_has_bits q s system good far f listed is reads.decodable).bits place i inside small plain in
+          let bits = (image_has_bits q s system f listed is reads.decodable).bits place i inside small plain in
           let aside = λ (apart : (place < 4) ⊎ (6 ≤ place)). ap (λ b. bit_at b i) (with_elsewhere 2 COMMAND (settled_command q s f) place (settled_image q s f) apart) ∙ bits in
           elim (cases_lt place 4) [
             | inl low ↦ aside (inl low)

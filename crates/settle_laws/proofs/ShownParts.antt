@@ -18,8 +18,8 @@ use Rattle.pci_spec.proofs.Ranges as ranges
 use Rattle.plan_spec.specs.Plan.{is_open, same_class}
 use Rattle.plan_spec.specs.Place.{nibble_of, range_from}
 use Rattle.plan_spec.specs.Planning.Layout.{range_of}
-use Rattle.plan_spec.specs.Planning.Showing.{reach_of, bar_value, rom_value}
-use Rattle.plan_spec.proofs.Planning.BarValues.{size_is, run_here, bar_shows, rom_shows}
+use Rattle.plan_spec.specs.Planning.Showing.{bar_value, rom_value}
+use Rattle.plan_spec.proofs.Planning.BarValues.{rom_shows}
 use Rattle.plan_spec.proofs.Planning.PlacedItems.{same_class_is}
 use Rattle.plan_spec.proofs.Planning.RomFits.{rom_there, rom_number_small}
 use Rattle.plan_spec.proofs.Planning.Shown.{closed_shows}
@@ -29,11 +29,12 @@ use Rattle.plan_spec.proofs.Planning.WindowFits.{few_nibbles}
 use Rattle.settle_spec.specs.FirstPlace.{Extent}
 use Rattle.settle_spec.specs.Lists.{Request}
 use Rattle.settle_spec.specs.Parts.{Region, is_part, header_parts, class_in}
-use Rattle.settle_spec.specs.Items.{Placed, stays, taken_by}
+use Rattle.settle_spec.specs.Items.{Placed, highest_of_bar, stays, taken_by}
 use Rattle.settle_spec.specs.Places.{new_place}
 use Rattle.settle_spec.specs.Registers.{with_number, with_bounds, closed_if_open, shown, changing, settled_image, settled_function, settled_command}
 use Rattle.settle_laws.specs.PlacesLaws.{CanSettle}
-use Rattle.settle_laws.proofs.Fits.{was, decodable, reach_by, window_there, window_has, size_of_place, bar_room, rom_room, window_room, shown_fit, none_fit}
+use Rattle.settle_laws.proofs.BarReach.{size_is, top_here, bar_shows, highest_by}
+use Rattle.settle_laws.proofs.Fits.{was, decodable, window_there, window_has, size_of_place, bar_room, rom_room, window_room, shown_fit, none_fit}
 use Rattle.settle_laws.proofs.HeaderParts.{part_cases, few_bars, rom_at_end, bar_of, rom_of, window_of}
 use Rattle.settle_laws.proofs.Held.{and_second_false}
 use Rattle.settle_laws.proofs.Images.{AgreeAside, same_number, whole_aside, bounds_aside}
@@ -238,16 +239,16 @@ module _ (q : Request) (s : System) (can : CanSettle q s) (f : Function) (listed
       abbrev value : ℕ
       value = bar_value f.image f.probe n x.at
 
-      pub room : (x.at % bar_size f.probe n ≡ 0) × (x.at + bar_size f.probe n ≤ 2 ^ reach_of (bar_kind (bar_at f.probe n)))
+      pub room : (x.at % bar_size f.probe n ≡ 0) × (x.at + bar_size f.probe n ≤ highest_of_bar (bar_at f.probe n) + 1)
       room = bar_room q s can f n listed inside there x placed
 
       -- the encoding is below the size
-      value_reach : value < 2 ^ reach_of (bar_kind (bar_at f.probe n))
+      value_reach : value ≤ highest_of_bar (bar_at f.probe n)
       value_reach =
           let fine = (decodable q s can f listed).bars n inside in
           let e = first_bit (bar_kind (bar_at f.probe n)) in
-          let r = run_here f.image f.probe n x.at there fine room.0 room.1 in
-          let size = size_is f.image f.probe n x.at there fine room.0 room.1 in
+          let r = top_here f.image f.probe n x.at (was q s can f listed).probe there fine room.0 room.1 in
+          let size = size_is f.image f.probe n x.at (was q s can f listed).probe there fine room.0 room.1 in
           let low = mod_below (whole_bar f.probe f.image n) (2 ^ e) (pow_pos e) in
           let up : 2 ^ e ≤ 2 ^ lowest_one (ranges.first_bit (bar_kind (bar_at f.probe n))) (whole_bar f.probe f.probe n) = pow-le-pow_right (omega arith) r.low in
           let end = room.1 in
@@ -259,10 +260,10 @@ module _ (q : Request) (s : System) (can : CanSettle q s) (f : Function) (listed
       sets_bar : (image : List ℕ) → IsImage image → whole_bar f.probe (step image (region (Bar n))) n ≡ value
       sets_bar image is =
           let far = value_reach in
-          let by = reach_by (bar_at f.probe n) in
+          let by = highest_by (bar_at f.probe n) in
           ap (λ o. whole_bar f.probe (shown q s (region (Bar n)) o image) n) placed
-          ∙ whole_shown value (λ wide. subst (λ r. value < 2 ^ r) (by.0 wide) far)
-          (λ narrow. let up : 2 ^ reach_of (bar_kind (bar_at f.probe n)) ≤ 2 ^ 32 = pow-le-pow_right (omega arith) (by.1 narrow) in omega (arith, far, up)) image is
+          ∙ whole_shown value (λ wide. let most = by.0 wide in omega (arith, far, most))
+          (λ narrow. let most = by.1 narrow in omega (arith, far, most)) image is
 
       bar_set : whole_bar f.probe (settled_image q s f) n ≡ value
       bar_set = reaches IsImage (λ image. whole_bar f.probe image n ≡ value) step (changing q s f) (region (Bar n)) step_image sets_bar
@@ -281,7 +282,7 @@ module _ (q : Request) (s : System) (can : CanSettle q s) (f : Function) (listed
       bar_shown =
           let size : x.item.extent.size ≡ bar_size f.probe n = ap (λ (e : Extent). e.size) (size_of_place q s can f (Bar n) listed (lt-ltb n (bar_count (layout f.image)) inside) x placed) in
           ap (λ v. aligned_range v (bar_size f.probe n)) bar_now
-          ∙ bar_shows f.image f.probe n x.at there ((decodable q s can f listed).bars n inside) room.0 room.1
+          ∙ bar_shows f.image f.probe n x.at (was q s can f listed).probe there ((decodable q s can f listed).bars n inside) room.0 room.1
           ∙ ap (range_from x.at) (sym size)
 
   -- ---- the ROM

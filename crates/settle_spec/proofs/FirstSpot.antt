@@ -178,6 +178,15 @@ least_is : (xs : List ℕ) (x : ℕ) → Contains xs x → IsLeastOf xs (least_o
 least_is [] x listed = absurd (in_nil x listed)
 least_is (a ∷ xs) x listed = least_cons a xs
 
+pub least_in : (xs : List ℕ) (x : ℕ) → Contains xs x → least_of xs ≤ x
+least_in xs x listed = (least_is xs x listed).least x listed
+
+pub least_from : (a : ℕ) (xs : List ℕ) (low : ℕ) → low ≤ a → ((x : ℕ) → Contains xs x → low ≤ x) → low ≤ least_of (a ∷ xs)
+least_from a xs low first rest = elim (in_cons_cases a xs (least_of (a ∷ xs)) (least_cons a xs).listed) [
+  | inl here ↦ omega (arith, here, first)
+  | inr later ↦ rest (least_of (a ∷ xs)) later
+]
+
 -- ---- some place is free
 
 abbrev high : ℕ → List Range → ℕ
