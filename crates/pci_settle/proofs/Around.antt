@@ -1,6 +1,6 @@
 -- What is around extents: a walk along them, and that there is an address where there is an extent.
-use Rattle.std.proofs.Common.{◌≡◌, ◌&&◌, ℕ, ◌+◌, ◌^◌, ◌<◌, ◌≤◌, max, List, [], ◌∷◌, map, length, drop, get_or, arith, ap, sym, subst, ◌∙◌, true, false, Bool, Option, Some, SomeIff}
-use Rattle.std.specs.List.{list_all}
+use Rattle.std.proofs.Common.{◌≡◌, ℕ, ◌+◌, ◌^◌, ◌<◌, ◌≤◌, max, min, List, [], ◌∷◌, map, length, drop, get_or, arith, ap, sym, subst, ◌∙◌, Option, Some, SomeIff}
+use Rattle.std.specs.List.{fold}
 use Rattle.std.proofs.lemmas.List.{length-map}
 use Rattle.pci_spec.specs.Decoded.{Range as DecodedRange}
 use Rattle.pci_spec.specs.Window.{WindowKind, IoWindow, MemoryWindow, PrefetchWindow, page_size}
@@ -13,7 +13,7 @@ use Rattle.settle_spec.specs.Items.{laid_out, end_of}
 use Rattle.settle_spec.proofs.LaidOut.{laid_keeps, greatest_more, end_behind}
 use Rattle.pci_settle.specs.declared.extent.Extent.{Extent}
 use Rattle.pci_settle.specs.Spots.{extent_value, IsExtent}
-use Rattle.pci_settle.specs.Windows.{alignments}
+use Rattle.pci_settle.specs.Windows.{alignments, highests}
 use Rattle.pci_settle.proofs.Walks.{left_next, left_none}
 
 -- what is left of the extents, as the definitions have them
@@ -34,22 +34,14 @@ greatest_all extents n a all past is =
     let none : greatest (alignments (left extents n)) ≡ 0 = ap (λ xs. greatest (alignments xs)) (left_none extent_value extents n past) in
     omega (arith, is, none)
 
--- ---- whether all are wide
+-- ---- the least of the highest addresses
 
-abbrev pub is_wide : ExtentValue → Bool
-is_wide e = e.wide
+pub least_next : (extents : List Extent) (n : ℕ) (d : Extent) (a all : ℕ) → n < length extents → fold min a (highests (left extents n)) ≡ all
+    → fold min (min a (get_or extents n d).highest) (highests (left extents (n + 1))) ≡ all
+least_next extents n d a all within is = sym (ap (λ xs. fold min a (highests xs)) (left_next extent_value extents n d within)) ∙ is
 
-pub wide_next : (extents : List Extent) (n : ℕ) (d : Extent) (all : Bool) → n < length extents → list_all is_wide (left extents n) ≡ all → (get_or extents n d).wide ≡ true
-    → list_all is_wide (left extents (n + 1)) ≡ all
-wide_next extents n d all within is wide =
-    sym (ap (λ b. b && list_all is_wide (left extents (n + 1))) wide) ∙ sym (ap (list_all is_wide) (left_next extent_value extents n d within)) ∙ is
-
-pub wide_not : (extents : List Extent) (n : ℕ) (d : Extent) (all : Bool) → n < length extents → list_all is_wide (left extents n) ≡ all → (get_or extents n d).wide ≡ false → false ≡ all
-wide_not extents n d all within is narrow =
-    sym (ap (λ b. b && list_all is_wide (left extents (n + 1))) narrow) ∙ sym (ap (list_all is_wide) (left_next extent_value extents n d within)) ∙ is
-
-pub wide_all : (extents : List Extent) (n : ℕ) (all : Bool) → length extents ≤ n → list_all is_wide (left extents n) ≡ all → true ≡ all
-wide_all extents n all past is = sym (ap (list_all is_wide) (left_none extent_value extents n past)) ∙ is
+pub least_all : (extents : List Extent) (n a all : ℕ) → length extents ≤ n → fold min a (highests (left extents n)) ≡ all → a ≡ all
+least_all extents n a all past is = sym (ap (λ xs. fold min a (highests xs)) (left_none extent_value extents n past)) ∙ is
 
 -- ---- an extent has an address, and so has what is around it
 
@@ -65,11 +57,11 @@ some_end (e ∷ extents) some =
     let end = end_behind (laid_out (first ∷ []) extents) first (laid_keeps (first ∷ []) extents first (in_head first [])) in
     omega (arith, end)
 
-pub around_some : (c : WindowKind) (extents : List Extent) (page size alignment all end : ℕ) (wide : Bool) (o : Option ℕ)
+pub around_some : (c : WindowKind) (extents : List Extent) (page size alignment all end highest : ℕ) (o : Option ℕ)
     → page ≡ page_size c
     → SomeIff o (end_of (laid_out [] (map extent_value extents)) < 2 ^ 64) (end_of (laid_out [] (map extent_value extents))) → o ≡ Some end
-    → size ≡ raised_to page end → alignment ≡ max page all → 0 < length extents → IsExtent (record { size = size; alignment = alignment; wide = wide })
-around_some c extents page size alignment all end wide o page_is told is size_is alignment_is some =
+    → size ≡ raised_to page end → alignment ≡ max page all → 0 < length extents → IsExtent (record { size = size; alignment = alignment; highest = highest })
+around_some c extents page size alignment all end highest o page_is told is size_is alignment_is some =
     let some_one = some_page c in
     let long = length-map extents extent_value in
     let above = some_end (map extent_value extents) (omega (arith, some, long)) in

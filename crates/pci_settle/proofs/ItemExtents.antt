@@ -1,5 +1,5 @@
 -- The extents of items, in the order in which they are placed.
-use Rattle.std.proofs.Common.{◌≡◌, ℕ, ◌+◌, ◌<◌, List, [], ◌∷◌, ◌++◌, map, take, length, false, get_or, arith, ap, sym, subst, ◌∙◌, refl, Bool, Option, Result, Ok, Err, IfOk}
+use Rattle.std.proofs.Common.{◌≡◌, ℕ, ◌+◌, ◌<◌, List, [], ◌∷◌, ◌++◌, map, take, length, get_or, arith, ap, sym, subst, ◌∙◌, refl, Option, Result, Ok, Err, IfOk}
 use Rattle.std.specs.List.{All}
 use Rattle.std.specs.List.Sorted.{IsPermutation}
 use Rattle.std.proofs.lemmas.List.{take_more, get_or-map, length-map}
@@ -15,7 +15,7 @@ use Rattle.pci_settle.specs.Windows.{IsAround}
 
 -- what an index past the end is read as
 abbrev pub no_item : Item
-no_item = record { function = 0; part = Bar 0; extent = record { size = 0; alignment = 0; wide = false } }
+no_item = record { function = 0; part = Bar 0; extent = record { size = 0; alignment = 0; highest = 0 } }
 
 pub extents_more : (items : List Item) (n : ℕ) (done new : List Extent) → n < length items → done ≡ take n (map own_extent items) → new ≡ done ++ (get_or items n no_item).extent ∷ []
     → new ≡ take (n + 1) (map own_extent items)
@@ -48,11 +48,11 @@ module _ (items sorted : List Item) (moved : IsPermutation items sorted) (extent
   same_extents value valued (i ∷ xs) =
       ap (λ e. e ∷ map extent_value (map own_extent xs)) (sym (valued i)) ∙ ap (λ es. (value i).extent ∷ es) (same_extents value valued xs)
 
-  pub around_turn : (page : ℕ) (wide : Bool) (window : Option Extent) → IsAround (extent_around page wide (map extent_value extents)) window
+  pub around_turn : (page highest : ℕ) (window : Option Extent) → IsAround (extent_around page highest (map extent_value extents)) window
       → (value : Item → ItemValue) → IsValued value → map value sorted ≡ in_turn (map value items)
-      → IsAround (extent_around page wide (map item_extent (in_turn (map value items)))) window
-  around_turn page wide window is value valued turn =
-      subst (λ es. IsAround (extent_around page wide es) window)
+      → IsAround (extent_around page highest (map item_extent (in_turn (map value items)))) window
+  around_turn page highest window is value valued turn =
+      subst (λ es. IsAround (extent_around page highest es) window)
       (ap (map extent_value) are ∙ same_extents value valued sorted ∙ ap (map item_extent) turn) is
 
 pub if_ok_by : {X E : Type 0} (P Q : X → Type 0) (r : Result X E) → ((x : X) → P x → Q x) → IfOk r P → IfOk r Q

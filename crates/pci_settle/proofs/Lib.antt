@@ -14,6 +14,7 @@ pub mod Headers
 pub mod Tables
 pub mod OwnItems
 pub mod Ranks
+pub mod Probes
 pub mod Sized
 pub mod Anew
 pub mod OnBus

@@ -1,25 +1,24 @@
 -- The new windows of bridges, in one pass over the records from the highest slot down.
-use Rattle.std.proofs.Common.{◌≡◌, ℕ, ◌+◌, ◌-◌, ◌^◌, ◌<◌, ◌≤◌, inl, inr, List, length, map, set, replicate, get_or, refl, Bool, true, false, cond, ◌&&◌, arith, sym, ◌∙◌, ap, subst, Option, Some, None}
-use Rattle.std.specs.Bool.{nat_lt}
+use Rattle.std.proofs.Common.{◌≡◌, ℕ, ◌+◌, ◌-◌, ◌%◌, ◌^◌, ◌<◌, ◌≤◌, inl, inr, List, length, map, set, replicate, get_or, refl, Bool, true, false, cond, arith, sym, ◌∙◌, ap, subst, Option, Some, None}
+use Rattle.std.specs.Bool.{◌==◌, nat_lt, if◌then◌else◌}
 use Rattle.std.specs.Option.{is_some, IfSome, option_map}
 use Rattle.std.specs.List.{Contains, slice_get}
-use Rattle.std.proofs.lemmas.Bool.{cases_eq, cases_lt, both_ways, lt-ltb, le-ltb}
+use Rattle.std.proofs.lemmas.Bool.{and_parts, cases_Bool, cases_eq, cases_lt, both_ways, eqb-true, lt-ltb, le-ltb, not-false}
 use Rattle.std.proofs.lemmas.List.{length-set, get_or-replicate, get_or-set_same, get_or-set_other, get_or_past}
 use Rattle.std.proofs.lemmas.List.Elements.{All-contains, All-replicate}
 use Rattle.std.proofs.lemmas.Option.{slice_get_within, slice_get-get_or, slice_get_read, get_or_from_slice_get}
 use Rattle.pci_spec.specs.Slot.{slot_number}
-use Rattle.pci_spec.specs.Window.{WindowKind, PrefetchWindow, page_size, is_wide_window}
+use Rattle.pci_spec.specs.Window.{WindowKind, IoWindow, MemoryWindow, PrefetchWindow, bounds_at, has_window, page_size, is_wide_window}
 use Rattle.pci_spec.specs.System.{System, Function, IsFunction, IsSystem, is_bridge}
 use Rattle.pci_spec.specs.Bus.{secondary, IsNested}
-use Rattle.pci_spec.specs.Decoded.{HasRecords}
+use Rattle.pci_spec.specs.Decoded.{HasRecords, decoded_window, optional_window}
 use Rattle.pci_spec.specs.Decoded as decoded
-use Rattle.plan_spec.specs.Plan.{same_class}
 use Rattle.plan_spec.proofs.Planning.Safe.{slots_of, order_of}
 use Rattle.plan_spec.proofs.Planning.AllItems.{slots_rise}
 use Rattle.settle_spec.specs.FirstPlace.{Extent as ExtentValue}
 use Rattle.settle_spec.specs.Lists.{Request}
 use Rattle.settle_spec.specs.Parts.{bridge_over}
-use Rattle.settle_spec.specs.Items.{Item as ItemValue, has_of, items_on, nothing, extent_around, new_window, window_over, window_to}
+use Rattle.settle_spec.specs.Items.{Item as ItemValue, has_of, items_on, nothing, highest_in, extent_around, new_window, window_over, window_to}
 use Rattle.settle_spec.proofs.Nested.{on_it, one_bridge}
 use Rattle.settle_spec.proofs.NewWindows.{window_is_around}
 use Rattle.settle_spec.proofs.ItemsBehind.{items_are_behind}
@@ -32,14 +31,30 @@ use Rattle.pci_tree.proofs.RegionParts.{same_bridge_of}
 use Rattle.pci_place.specs.Above.{is_wide_in}
 use Rattle.pci_place.specs.Items.{function_in, no_function}
 use Rattle.pci_place.specs.Records.{IsRecordOf}
-use Rattle.pci_place.proofs.Aboves.{wide_window}
 use Rattle.pci_place.proofs.Records.{FunctionAt, same_count, function_at}
 use Rattle.pci_settle.specs.declared.extent.Extent.{Extent}
 use Rattle.pci_settle.specs.Spots.{extent_value, IsExtent}
 use Rattle.pci_settle.specs.Placings.{item_extent}
 use Rattle.pci_settle.specs.Own.{IsWindowOf}
 use Rattle.pci_settle.specs.Buses.{AreWindows, AreBehind, Classing, IsLeft}
-use Rattle.pci_settle.specs.NewWindows.{around_bus, IsEntry, IsPut, window_in, AreNewWindows}
+use Rattle.pci_settle.specs.NewWindows.{highest_by, around_bus, IsEntry, IsPut, window_in, AreNewWindows}
+
+-- ---- upper halves
+
+-- a window that isn't there shows no upper halves
+absent_is_narrow : (kind : WindowKind) (probe : List ℕ) → has_window kind probe ≡ false → is_wide_window kind probe ≡ false
+absent_is_narrow kind probe absent =
+    let zero = not-false _ absent in
+    let one = (and_parts _ _ zero).0 in
+    let two = (and_parts _ _ one).0 in
+    let base = eqb-true (bounds_at kind probe).base 0 (and_parts ((bounds_at kind probe).base == 0) _ two).0 in
+    ap (λ n. n % 16 == 1) base
+
+wide_window : (kind : WindowKind) (image probe : List ℕ) → is_wide_in (optional_window kind image probe) ≡ is_wide_window kind probe
+wide_window kind image probe = elim (cases_Bool (has_window kind probe)) [
+  | inl there ↦ rw there refl
+  | inr absent ↦ ap (λ b. is_wide_in (if b then Some (decoded_window kind image probe) else None)) absent ∙ sym (absent_is_narrow kind probe absent)
+]
 
 -- ---- the table
 
@@ -139,11 +154,15 @@ module _ (p : Classing) (system : IsSystem p.system) (nested : IsNested p.roots 
           let later = comes_later p.system system k j f g at at_j (omega (arith, on, order)) in
           was.each q left j g (omega (arith, later)) at_j bridge)
 
-      around_is : (q : Request) (e : Function → ExtentValue) → around_bus q p.system c e b ≡ extent_around (page_size c) (same_class c PrefetchWindow && is_wide_window PrefetchWindow f.probe) (map item_extent (items_on q p.system c nothing e (secondary f)))
+      highest_is : (k : WindowKind) → highest_by k b.windows ≡ highest_in k f.probe
+      highest_is IoWindow = ap (λ w. if w then 0xffff_ffff else 0xffff) (ap (λ (x : decoded.Bridge). is_wide_in x.windows.io) (same_bridge_of r f b is.value there) ∙ wide_window IoWindow f.image f.probe)
+      highest_is MemoryWindow = refl
+      highest_is PrefetchWindow = ap (λ w. if w then 0xffff_ffff_ffff_ffff else 0xffff_ffff) (ap (λ (x : decoded.Bridge). is_wide_in x.windows.prefetch) (same_bridge_of r f b is.value there) ∙ wide_window PrefetchWindow f.image f.probe)
+
+      around_is : (q : Request) (e : Function → ExtentValue) → around_bus q p.system c e b ≡ extent_around (page_size c) (highest_in c f.probe) (map item_extent (items_on q p.system c nothing e (secondary f)))
       around_is q e =
-          ap (λ n. extent_around (page_size c) (same_class c PrefetchWindow && is_wide_in b.windows.pref) (map item_extent (items_on q p.system c nothing e n))) leads_to
-          ∙ ap (λ w. extent_around (page_size c) (same_class c PrefetchWindow && w) (map item_extent (items_on q p.system c nothing e (secondary f))))
-          (ap (λ (x : decoded.Bridge). is_wide_in x.windows.prefetch) (same_bridge_of r f b is.value there) ∙ wide_window f.image f.probe)
+          ap (λ n. extent_around (page_size c) (highest_by c b.windows) (map item_extent (items_on q p.system c nothing e n))) leads_to
+          ∙ ap (λ h. extent_around (page_size c) h (map item_extent (items_on q p.system c nothing e (secondary f)))) (highest_is c)
 
       new_is : (q : Request) → IsLeft p q → around_bus q p.system c (new_window q p.system c) b ≡ new_window q p.system c f
       new_is q left = around_is q (new_window q p.system c) ∙ sym (window_is_around q p.system c system (nested_for q left) f is.listed is_one)

@@ -9,6 +9,7 @@ use Rattle.std.proofs.lemmas.List.Concat.{flat_map-append}
 use Rattle.std.proofs.lemmas.List.Elements.{All-nil, All-cons, All-append, All-map, Contains-append_cases}
 use Rattle.std.proofs.lemmas.List.Sorted.{IsPermutation-refl, IsPermutation-append}
 use Rattle.std.proofs.lemmas.Option.{slice_get_within, slice_get-get_or, get_or_from_slice_get}
+use Rattle.pci_spec.specs.Number.{number_at}
 use Rattle.pci_spec.specs.Slot.{Slot, IsSlot, slot_number}
 use Rattle.pci_spec.specs.Window.{WindowKind, MemoryWindow}
 use Rattle.pci_spec.specs.System.{System, Function, Part, Window, IsSystem, is_bridge}
@@ -21,7 +22,7 @@ use Rattle.plan_spec.proofs.Planning.AllItems.{slots_rise}
 use Rattle.plan_spec.proofs.Planning.Safe.{slots_of}
 use Rattle.settle_spec.specs.FirstPlace.{Extent as ExtentValue}
 use Rattle.settle_spec.specs.Lists.{Request}
-use Rattle.settle_spec.specs.Items.{Item as ItemValue, has_of, items_of}
+use Rattle.settle_spec.specs.Items.{Item as ItemValue, highest_of_bar, has_of, items_of}
 use Rattle.settle_spec.specs.PlacingLaws.{HasLowerRank}
 use Rattle.pci_image.specs.declared.rom.Rom.{Rom as CodeRom}
 use Rattle.pci_function.specs.declared.record.Bridge.{Bridge}
@@ -31,7 +32,6 @@ use Rattle.pci_tree.proofs.Lifting.{same_bridge, same_slot_of}
 use Rattle.pci_tree.proofs.RegionParts.{same_bridge_of}
 use Rattle.pci_place.specs.declared.above.Above.{Above}
 use Rattle.pci_place.specs.Above.{AreAboves}
-use Rattle.pci_place.specs.Classes.{is_wide_kind}
 use Rattle.pci_place.specs.Items.{no_function}
 use Rattle.pci_place.specs.Records.{IsRecordOf}
 use Rattle.pci_place.proofs.Records.{FunctionAt, same_count, function_at}
@@ -99,8 +99,8 @@ later_above s system k j f g at_k at_j up =
 
 -- ---- extents
 
-own_lawful : (first last : ℕ) (wide : Bool) → IsExtent (own_extent first last wide)
-own_lawful first last wide = record { size = omega arith; alignment = omega arith }
+own_lawful : (first last highest : ℕ) → IsExtent (own_extent first last highest)
+own_lawful first last highest = record { size = omega arith; alignment = omega arith }
 
 window_lawful_if : (k : ℕ) (keep : Bool) (e : Extent) → IsExtent e → All HasExtent (cond keep [] (record { function = k; part = parts.Window; extent = e } ∷ []))
 window_lawful_if k true e lawful = All-nil HasExtent
@@ -111,7 +111,7 @@ window_lawful k c kept None lawful = All-nil HasExtent
 window_lawful k c kept (Some e) lawful = window_lawful_if k (kept_of kept (Window c)) e lawful
 
 rom_lawful_if : (k : ℕ) (b : Bool) (rom : CodeRom) → All HasExtent (cond b (rom_item k rom ∷ []) [])
-rom_lawful_if k true rom = All-cons HasExtent (rom_item k rom) [] (own_lawful rom.first rom.last false) (All-nil HasExtent)
+rom_lawful_if k true rom = All-cons HasExtent (rom_item k rom) [] (own_lawful rom.first rom.last 0xffff_ffff) (All-nil HasExtent)
 rom_lawful_if k false rom = All-nil HasExtent
 
 rom_lawful : (k : ℕ) (c : WindowKind) (kept : Kept) (o : Option CodeRom) → All HasExtent (rom_items k c kept o)
@@ -121,8 +121,8 @@ rom_lawful k c kept (Some rom) = rom_lawful_if k (rom.on && same_class c MemoryW
 record_lawful : (o : Situation) (r : Record) → IfSome o.window IsExtent → All HasExtent (record_items o r)
 record_lawful o r lawful =
     let own = filter (is_own_bar o.class o.over o.terms o.kept) r.bars.items in
-    All-append HasExtent (bar_items o.place o.class o.over o.terms o.kept r.bars.items) (window_items o.place o.class o.kept o.window ++ rom_items o.place o.class o.kept r.rom)
-    (All-map HasExtent (bar_item o.place) own (λ n d within. own_lawful (get_or own n d).first (get_or own n d).last (is_wide_kind (get_or own n d).kind)))
+    All-append HasExtent (bar_items o.place o.probe o.class o.over o.terms o.kept r.bars.items) (window_items o.place o.class o.kept o.window ++ rom_items o.place o.class o.kept r.rom)
+    (All-map HasExtent (bar_item o.place o.probe) own (λ n d within. own_lawful (get_or own n d).first (get_or own n d).last (highest_of_bar (number_at o.probe (get_or own n d).reg 4))))
     (All-append HasExtent (window_items o.place o.class o.kept o.window) (rom_items o.place o.class o.kept r.rom) (window_lawful o.place o.class o.kept o.window lawful) (rom_lawful o.place o.class o.kept r.rom))
 
 behind_lawful : (windows : List (Option Extent)) → AreWindows windows → (b : Option Bridge) → IfSome (window_behind windows b) IsExtent
@@ -315,24 +315,25 @@ module _ (l : Listing) (system : IsSystem l.classing.system) (records : List Rec
         (subst (λ d. IsWindowOf (d && has_of q l.classing.system l.class f) (extent f) (get_or l.windows (secondary f) None)) (sym bridge) (behind f found.is.listed beside bridge))
 
     -- a function of the bus
-    pub bus_step : (aboves : List Above) → AreAboves l.classing.system aboves → (other : ℕ) → other ≡ r.slot.bus → (d : Above) (over : Over) → over ≡ record { above = get_or aboves other d; windows = get_or l.classing.overs other no_windows }
+    pub bus_step : (probe : List ℕ) → (get_or l.classing.system k no_function).probe ≡ probe → (aboves : List Above) → AreAboves l.classing.system aboves → (other : ℕ) → other ≡ r.slot.bus → (d : Above) (over : Over) → over ≡ record { above = get_or aboves other d; windows = get_or l.classing.overs other no_windows }
         → (window : Option Extent) → window ≡ window_behind l.windows r.bridge → (keep : Kept) → ((part : Part) → kept_of keep part ≡ kept_of (get_or l.kept k nothing_kept) part)
-        → are_siblings l.classing.roots l.bus other ≡ true → (old next : List Item) → next ≡ old ++ record_items (situation k l.class over l.classing.terms window keep) r
+        → are_siblings l.classing.roots l.bus other ≡ true → (old next : List Item) → next ≡ old ++ record_items (situation k probe l.class over l.classing.terms window keep) r
         → AreOnBusTo l k old → AreOnBusTo l (k + 1) next
-    bus_step aboves are_above other on d over is_over window is_window keep is_kept beside old next e before =
+    bus_step probe is_probe aboves are_above other on d over is_over window is_window keep is_kept beside old next e before =
         let f = found.f in
         let at = same_bus other on in
-        let new = record_items (situation k l.class over l.classing.terms window keep) r in
+        let new = record_items (situation k probe l.class over l.classing.terms window keep) r in
         record {
           all = λ a is. (
               let beside' : are_siblings a.request.roots l.bus f.slot.bus ≡ true = ap (λ xs. are_siblings xs l.bus f.slot.bus) is.left.rooted ∙ ap (are_siblings l.classing.roots l.bus) (sym at) ∙ beside in
               let over_at : IsOver a.request l.classing.system f.slot.bus record { above = get_or aboves f.slot.bus d; windows = get_or l.classing.overs f.slot.bus no_windows } =
               record { above = are_above f d found.is.listed; windows_are = is.left.overs_are f found.is.listed } in
-              let o = situation k l.class over l.classing.terms window keep in
+              let o = situation k probe l.class over l.classing.terms window keep in
               let asked : IsAsked a l.classing.system f o r = record {
                 terms = is.left.terms;
                 is = found.is;
                 here = get_or_from_slice_get l.classing.system k f no_function found.at;
+                probe_is = sym is_probe ∙ ap (λ (x : Function). x.probe) (get_or_from_slice_get l.classing.system k f no_function found.at);
                 over_is = subst (IsOver a.request l.classing.system f.slot.bus) (sym is_over) (subst (λ n. IsOver a.request l.classing.system f.slot.bus record { above = get_or aboves n d; windows = get_or l.classing.overs n no_windows }) (sym at) over_at);
                 new = subst (IsWindowOf (is_bridge f && has_of a.request l.classing.system l.class f) (a.extent f)) (sym is_window) (new_by a.request a.extent is.behind beside' r.bridge refl);
                 keeps_is = λ part there. is_kept part ∙ is.keeps_is k f part found.at there;
@@ -360,5 +361,5 @@ module _ (l : Listing) (system : IsSystem l.classing.system) (records : List Rec
               });
           lawful = λ windows_lawful.
               subst (All HasExtent) (sym e) (All-append HasExtent old new (before.lawful windows_lawful)
-              (record_lawful (situation k l.class over l.classing.terms window keep) r (subst (λ o. IfSome o IsExtent) (sym is_window) (behind_lawful l.windows windows_lawful r.bridge))));
+              (record_lawful (situation k probe l.class over l.classing.terms window keep) r (subst (λ o. IfSome o IsExtent) (sym is_window) (behind_lawful l.windows windows_lawful r.bridge))));
         }

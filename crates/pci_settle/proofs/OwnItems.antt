@@ -10,7 +10,7 @@ use Rattle.std.proofs.lemmas.List.Sorted.{IsPermutation-append_right, IsPermutat
 use Rattle.pci_spec.specs.Header.{layout, bar_count, bar_register}
 use Rattle.pci_spec.specs.Bar.{bar_at, has_bar, is_io, is_prefetchable}
 use Rattle.pci_spec.specs.Rom.{has_rom, rom_is_on}
-use Rattle.pci_spec.specs.Number.{has_bit}
+use Rattle.pci_spec.specs.Number.{has_bit, number_at}
 use Rattle.pci_spec.specs.Window.{WindowKind, IoWindow, MemoryWindow, PrefetchWindow, has_window}
 use Rattle.pci_spec.specs.System.{System, Function, Part, Bar, Rom, Window, is_bridge, is_window}
 use Rattle.pci_spec.specs.Bus.{is_root}
@@ -22,7 +22,7 @@ use Rattle.plan_spec.specs.Planning.Layout.{range_of}
 use Rattle.settle_spec.specs.Lists.{RootRange, Request}
 use Rattle.settle_spec.specs.Parts.{Region, is_empty, is_left, is_part, header_bars, header_parts, parts_of, regions_of, is_within, holds_range, bridge_over, upper_pools, new_class, is_in_memory, class_in}
 use Rattle.settle_spec.specs.Stands.{window_region}
-use Rattle.settle_spec.specs.Items.{Item as ItemValue, own_item, is_own, has_of, items_of}
+use Rattle.settle_spec.specs.Items.{Item as ItemValue, highest_of, highest_of_bar, own_item, is_own, has_of, items_of}
 use Rattle.settle_spec.proofs.Classes.{class_planned}
 use Rattle.settle_spec.proofs.LaidOut.{greatest_more}
 use Rattle.pci_image.specs.declared.bar.Bar.{Bar as CodeBar}
@@ -36,7 +36,7 @@ use Rattle.pci_place.specs.Items.{function_in}
 use Rattle.pci_place.specs.Sizes.{span}
 use Rattle.pci_place.proofs.Mapped.{filter-map, any_fails, kept_same}
 use Rattle.pci_place.proofs.Parts.{bars_in, bars_of, rom_of, bar_span, rom_there, rom_span}
-use Rattle.pci_place.proofs.ClassOf.{kind_io, kind_wide, class_is}
+use Rattle.pci_place.proofs.ClassOf.{kind_io, class_is}
 use Rattle.pci_place.proofs.Owned.{map_twice, no_rom, lacking_above}
 use Rattle.pci_settle.specs.declared.extent.Extent.{Extent}
 use Rattle.pci_base.specs.Ranges.{decoded_range_of}
@@ -83,9 +83,9 @@ one_made : {X Y : Type 0} (make : X → Y) (b : Bool) (x : X) → map make (cond
 one_made make true x = refl
 one_made make false x = refl
 
-value_same : (c : WindowKind) (f g : Function) (p o : Part) (a b m n : ℕ) (v w : Bool) → f ≡ g → p ≡ o → a ≡ b → m ≡ n → v ≡ w
-    → ◌≡◌ {A = ItemValue} record { region = record { function = f; part = p }; class = c; extent = record { size = a; alignment = m; wide = v } }
-    record { region = record { function = g; part = o }; class = c; extent = record { size = b; alignment = n; wide = w } }
+value_same : (c : WindowKind) (f g : Function) (p o : Part) (a b m n v w : ℕ) → f ≡ g → p ≡ o → a ≡ b → m ≡ n → v ≡ w
+    → ◌≡◌ {A = ItemValue} record { region = record { function = f; part = p }; class = c; extent = record { size = a; alignment = m; highest = v } }
+    record { region = record { function = g; part = o }; class = c; extent = record { size = b; alignment = n; highest = w } }
 value_same c f g p o a b m n v w e h i j k = cc
 
 register_place : (register n : ℕ) → register ≡ bar_register n → (register - 0x10) / 4 ≡ n
@@ -231,17 +231,21 @@ module _ (a : Asking) (s : System) (f : Function) (o : Situation) (r : Record) (
       ∙ ap (λ m. not (is_left a.request s f (Bar n)) && same_class o.class (class_in a.request s f (Bar n)) && not (kept_of o.kept (Bar m))) (register_place bar.reg n (ap (λ (x : DecodedBar). x.register) e))
       ∙ and_later (not (is_left a.request s f (Bar n))) (same_class o.class (class_in a.request s f (Bar n))) (not (kept_of o.kept (Bar n)))
 
-  bar_value : (bar : CodeBar) (n : ℕ) → decoded_bar_of bar ≡ decoded_bar f.image f.probe n → item_value s o.class (bar_item o.place bar) ≡ value_of (Bar n)
+  highest_is : (bar : CodeBar) (n : ℕ) → decoded_bar_of bar ≡ decoded_bar f.image f.probe n → highest_of_bar (number_at o.probe bar.reg 4) ≡ highest_of f (Bar n)
+  highest_is bar n e =
+      ap (λ r. highest_of_bar (number_at o.probe r 4)) (ap (λ (x : DecodedBar). x.register) e) ∙ ap (λ p. highest_of_bar (number_at p (bar_register n) 4)) asked.probe_is
+
+  bar_value : (bar : CodeBar) (n : ℕ) → decoded_bar_of bar ≡ decoded_bar f.image f.probe n → item_value s o.class (bar_item o.place o.probe bar) ≡ value_of (Bar n)
   bar_value bar n e =
       let size = (bar_span f bar n e).1 in
       value_same o.class (function_in s o.place) f (Bar ((bar.reg - 0x10) / 4)) (Bar n) (span bar.first bar.last) (size_of f (Bar n)) (span bar.first bar.last) (size_of f (Bar n)) _ _
-      asked.here (ap Bar (register_place bar.reg n (ap (λ (x : DecodedBar). x.register) e))) size size (kind_wide f bar n e)
+      asked.here (ap Bar (register_place bar.reg n (ap (λ (x : DecodedBar). x.register) e))) size size (highest_is bar n e)
 
-  pub bars_are : map (item_value s o.class) (bar_items o.place o.class o.over o.terms o.kept r.bars.items) ≡ map value_of (filter is_mine (filter (is_part a.request s f) (header_bars f)))
+  pub bars_are : map (item_value s o.class) (bar_items o.place o.probe o.class o.over o.terms o.kept r.bars.items) ≡ map value_of (filter is_mine (filter (is_part a.request s f) (header_bars f)))
   bars_are =
       let all = range_with_len 0 (bar_count (layout f.image)) in
-      map_twice (item_value s o.class) (bar_item o.place) (filter (is_own_bar o.class o.over o.terms o.kept) r.bars.items)
-      ∙ kept_same decoded_bar_of (decoded_bar f.image f.probe) (is_own_bar o.class o.over o.terms o.kept) mine_at bar_test (λ bar. item_value s o.class (bar_item o.place bar)) (λ n. value_of (Bar n)) bar_value
+      map_twice (item_value s o.class) (bar_item o.place o.probe) (filter (is_own_bar o.class o.over o.terms o.kept) r.bars.items)
+      ∙ kept_same decoded_bar_of (decoded_bar f.image f.probe) (is_own_bar o.class o.over o.terms o.kept) mine_at bar_test (λ bar. item_value s o.class (bar_item o.place o.probe bar)) (λ n. value_of (Bar n)) bar_value
       r.bars.items (bars_in f) (bars_of s f r asked.is)
       ∙ ap (map (λ n. value_of (Bar n))) (sym (filter_later (has_bar f.probe) (λ n. not (is_left a.request s f (Bar n))) (λ n. same_class o.class (class_in a.request s f (Bar n)) && not (kept_of o.kept (Bar n))) all))
       ∙ sym (map_twice value_of Bar (filter (λ n. is_mine (Bar n)) (filter (λ n. is_part a.request s f (Bar n)) all)))
@@ -269,7 +273,7 @@ module _ (a : Asking) (s : System) (f : Function) (o : Situation) (r : Record) (
   rom_value : (rom : CodeRom) → Some (decoded_rom_of rom) ≡ decoded_rom f.image f.probe → item_value s o.class (rom_item o.place rom) ≡ value_of Rom
   rom_value rom e =
       let size = (rom_span f rom e).1 in
-      value_same o.class (function_in s o.place) f Rom Rom (span rom.first rom.last) (size_of f Rom) (span rom.first rom.last) (size_of f Rom) false false asked.here refl size size refl
+      value_same o.class (function_in s o.place) f Rom Rom (span rom.first rom.last) (size_of f Rom) (span rom.first rom.last) (size_of f Rom) 0xffff_ffff 0xffff_ffff asked.here refl size size refl
 
   roms_are : (rom : Option CodeRom) → option_map decoded_rom_of rom ≡ decoded_rom f.image f.probe
       → map (item_value s o.class) (rom_items o.place o.class o.kept rom) ≡ value_rom (has_rom f.image f.probe && rom_is_on f.image)
@@ -306,7 +310,7 @@ module _ (a : Asking) (s : System) (f : Function) (o : Situation) (r : Record) (
   abbrev mine : List ItemValue
   mine = map (own_item o.class) (filter (λ i. is_own a.request s o.class i && not (noted i)) (regions_of a.request s f))
 
-  mine_are : map (item_value s o.class) (bar_items o.place o.class o.over o.terms o.kept r.bars.items) ++ map (item_value s o.class) (rom_items o.place o.class o.kept r.rom) ≡ mine
+  mine_are : map (item_value s o.class) (bar_items o.place o.probe o.class o.over o.terms o.kept r.bars.items) ++ map (item_value s o.class) (rom_items o.place o.class o.kept r.rom) ≡ mine
   mine_are =
       let found : mine ≡ map value_of (filter is_mine (parts_of a.request s f)) =
       ap (map (own_item o.class)) (filter-map (λ i. is_own a.request s o.class i && not (noted i)) region (parts_of a.request s f))
@@ -321,10 +325,10 @@ module _ (a : Asking) (s : System) (f : Function) (o : Situation) (r : Record) (
       ∙ sym (found ∙ split)
 
   pub values_are : map (item_value s o.class) (record_items o r)
-      ≡ map (item_value s o.class) (bar_items o.place o.class o.over o.terms o.kept r.bars.items) ++ (map (item_value s o.class) (window_items o.place o.class o.kept o.window) ++ map (item_value s o.class) (rom_items o.place o.class o.kept r.rom))
+      ≡ map (item_value s o.class) (bar_items o.place o.probe o.class o.over o.terms o.kept r.bars.items) ++ (map (item_value s o.class) (window_items o.place o.class o.kept o.window) ++ map (item_value s o.class) (rom_items o.place o.class o.kept r.rom))
   values_are =
-      map-append (item_value s o.class) (bar_items o.place o.class o.over o.terms o.kept r.bars.items) (window_items o.place o.class o.kept o.window ++ rom_items o.place o.class o.kept r.rom)
-      ∙ ap (λ xs. map (item_value s o.class) (bar_items o.place o.class o.over o.terms o.kept r.bars.items) ++ xs) (map-append (item_value s o.class) (window_items o.place o.class o.kept o.window) (rom_items o.place o.class o.kept r.rom))
+      map-append (item_value s o.class) (bar_items o.place o.probe o.class o.over o.terms o.kept r.bars.items) (window_items o.place o.class o.kept o.window ++ rom_items o.place o.class o.kept r.rom)
+      ∙ ap (λ xs. map (item_value s o.class) (bar_items o.place o.probe o.class o.over o.terms o.kept r.bars.items) ++ xs) (map-append (item_value s o.class) (window_items o.place o.class o.kept o.window) (rom_items o.place o.class o.kept r.rom))
 
   -- what the table tells is what is to keep its place
   noted_part : (p : Part) → Contains (parts_of a.request s f) p → (is_own a.request s o.class (region p) && not (noted (region p))) ≡ (is_own a.request s o.class (region p) && not (a.keeps (region p)))
@@ -351,7 +355,7 @@ module _ (a : Asking) (s : System) (f : Function) (o : Situation) (r : Record) (
 
   pub items_are : IsPermutation (map (item_value s o.class) (record_items o r)) (items_of a.request s o.class a.keeps a.extent f)
   items_are =
-      let bars = map (item_value s o.class) (bar_items o.place o.class o.over o.terms o.kept r.bars.items) in
+      let bars = map (item_value s o.class) (bar_items o.place o.probe o.class o.over o.terms o.kept r.bars.items) in
       let windows = map (item_value s o.class) (window_items o.place o.class o.kept o.window) in
       let roms = map (item_value s o.class) (rom_items o.place o.class o.kept r.rom) in
       let right : bars ++ (roms ++ windows) ≡ items_of a.request s o.class a.keeps a.extent f =

@@ -1,13 +1,12 @@
 -- The new window of a bridge, by what was listed for the bus behind it.
-use Rattle.std.proofs.Common.{◌≡◌, ℕ, ◌<◌, inl, inr, List, [], length, map, set, Bool, true, false, ◌&&◌, arith, sym, ◌∙◌, subst, refl, Option, Some, None}
+use Rattle.std.proofs.Common.{◌≡◌, ℕ, ◌<◌, inl, inr, List, [], length, map, set, Bool, true, false, arith, sym, ◌∙◌, subst, refl, Option, Some, None}
 use Rattle.std.specs.Bool.{◌==◌}
 use Rattle.std.specs.List.{AllPairs, flat_map}
 use Rattle.std.proofs.lemmas.Bool.{both_ways, cases_lt, eqb-true, eq-eqb}
 use Rattle.std.proofs.lemmas.List.{length-map}
 use Rattle.std.proofs.lemmas.List.Sorted.{length_permutation}
-use Rattle.pci_spec.specs.Window.{WindowKind, PrefetchWindow, page_size}
+use Rattle.pci_spec.specs.Window.{WindowKind, page_size}
 use Rattle.pci_spec.specs.System.{System, Function}
-use Rattle.plan_spec.specs.Plan.{same_class}
 use Rattle.settle_spec.specs.FirstPlace.{Extent as ExtentValue}
 use Rattle.settle_spec.specs.Lists.{Request}
 use Rattle.settle_spec.specs.Items.{Item as ItemValue, in_turn, items_on, nothing, extent_around}
@@ -15,7 +14,6 @@ use Rattle.settle_spec.specs.PlacingLaws.{HasLowerRank}
 use Rattle.settle_spec.proofs.InTurn.{turn_same, ranks_differ}
 use Rattle.settle_spec.proofs.Moved.{turn_moved}
 use Rattle.pci_function.specs.declared.record.Bridge.{Bridge}
-use Rattle.pci_place.specs.Above.{is_wide_in}
 use Rattle.pci_settle.specs.declared.extent.Extent.{Extent}
 use Rattle.pci_settle.specs.declared.item.Item.{Item}
 use Rattle.pci_settle.specs.Kept.{AreKept}
@@ -26,7 +24,7 @@ use Rattle.pci_settle.specs.Turns.{IsValued}
 use Rattle.pci_settle.specs.Windows.{IsAround}
 use Rattle.pci_settle.specs.Own.{Asking, AreByRank, item_value}
 use Rattle.pci_settle.specs.Buses.{AreBehind, Classing, IsLeft, Listing, IsListingOf, items_beside, AreOnBus}
-use Rattle.pci_settle.specs.NewWindows.{around_bus, IsPut}
+use Rattle.pci_settle.specs.NewWindows.{around_bus, highest_by, IsPut}
 
 module _ (l : Listing) (items : List Item) (on : AreOnBus l items) (a : Asking) (is : IsListingOf a l) where
   abbrev values : List ItemValue
@@ -64,10 +62,10 @@ is_some_count len n empty same is off = elim (cases_lt 0 n) [
 ]
 
 -- a window is that around items, whatever they stand for
-abbrev pub IsAroundItems : WindowKind → Bool → List Item → Option Extent → Type 0
-IsAroundItems c upper items window =
+abbrev pub IsAroundItems : WindowKind → ℕ → List Item → Option Extent → Type 0
+IsAroundItems c highest items window =
     (value : Item → ItemValue) → IsValued value → AllPairs HasLowerRank (map value items)
-    → IsAround (extent_around (page_size c) upper (map item_extent (in_turn (map value items)))) window
+    → IsAround (extent_around (page_size c) highest (map item_extent (in_turn (map value items)))) window
 
 module _ (p : Classing) (c : WindowKind) (b : Bridge) (windows : List (Option Extent)) (items : List Item)
     (on : AreOnBus record { classing = p; class = c; bus = b.secondary; windows = windows; kept = [] } items) (new : List (Option Extent)) where
@@ -89,19 +87,19 @@ module _ (p : Classing) (c : WindowKind) (b : Bridge) (windows : List (Option Ex
     is = λ q extent left behind. count_is behind_it items on (of_all q extent) (listed q extent left behind) ∙ empty;
   }
 
-  module _ (some : 0 < length items) (upper : Bool) (is_upper : upper ≡ (same_class c PrefetchWindow && is_wide_in b.windows.pref)) where
-    around_is : (q : Request) (extent : Function → ExtentValue) → IsLeft p q → AreBehind q p.system c extent b.secondary windows → (window : Option Extent) → IsAroundItems c upper items window
+  module _ (some : 0 < length items) (highest : ℕ) (is_highest : highest ≡ highest_by c b.windows) where
+    around_is : (q : Request) (extent : Function → ExtentValue) → IsLeft p q → AreBehind q p.system c extent b.secondary windows → (window : Option Extent) → IsAroundItems c highest items window
         → IsAround (around_bus q p.system c extent b) window
     around_is q extent left behind window around =
-        subst (λ xs. IsAround (extent_around (page_size c) (same_class c PrefetchWindow && is_wide_in b.windows.pref) (map item_extent xs)) window)
+        subst (λ xs. IsAround (extent_around (page_size c) (highest_by c b.windows) (map item_extent xs)) window)
         (turn_is behind_it items on (of_all q extent) (listed q extent left behind))
-        (subst (λ w. IsAround (extent_around (page_size c) w (map item_extent (in_turn (map (item_value p.system c) items)))) window) is_upper
+        (subst (λ w. IsAround (extent_around (page_size c) w (map item_extent (in_turn (map (item_value p.system c) items)))) window) is_highest
         (around (item_value p.system c) (λ i. refl) (values_rise behind_it items on (of_all q extent) (listed q extent left behind))))
 
     some_count : (q : Request) (extent : Function → ExtentValue) → IsLeft p q → AreBehind q p.system c extent b.secondary windows → 0 < length (items_on q p.system c nothing extent b.secondary)
     some_count q extent left behind = let e = count_is behind_it items on (of_all q extent) (listed q extent left behind) in omega (arith, e, some)
 
-    pub some_put : (window : Extent) → IsExtent window → IsAroundItems c upper items (Some window) → new ≡ set windows b.secondary (Some window) → IsPut p c b windows new true
+    pub some_put : (window : Extent) → IsExtent window → IsAroundItems c highest items (Some window) → new ≡ set windows b.secondary (Some window) → IsPut p c b windows new true
     some_put window lawful around put = record {
       entry = Some window;
       put = put;
@@ -109,7 +107,7 @@ module _ (p : Classing) (c : WindowKind) (b : Bridge) (windows : List (Option Ex
       is = λ q extent left behind. (some_count q extent left behind, around_is q extent left behind (Some window) around);
     }
 
-    pub large_put : IsAroundItems c upper items None → new ≡ windows → IsPut p c b windows new false
+    pub large_put : IsAroundItems c highest items None → new ≡ windows → IsPut p c b windows new false
     large_put around put = (
       put,
       λ q extent left behind. record {

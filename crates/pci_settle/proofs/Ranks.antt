@@ -70,7 +70,7 @@ module _ (a : Asking) (s : System) (f : Function) (o : Situation) (r : Record) (
   value_of p = own_item o.class (region p)
 
   abbrev bar_values : List ItemValue
-  bar_values = map (item_value s o.class) (bar_items o.place o.class o.over o.terms o.kept r.bars.items)
+  bar_values = map (item_value s o.class) (bar_items o.place o.probe o.class o.over o.terms o.kept r.bars.items)
 
   bars_here : bar_values ≡ map value_of (filter is_mine bars)
   bars_here = bars_are a s f o r asked

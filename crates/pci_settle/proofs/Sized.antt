@@ -52,6 +52,7 @@ bars_sized s f r is k d within =
     let low' : lowest_one (if is_io (bar_at f.probe n) then 2 else 4) whole ≤ 63 = subst (λ from. lowest_one from whole ≤ 63) (first_bit-of_register (bar_at f.probe n)) low in
     record {
       register = omega (arith, register);
+      aligned = omega (arith, register);
       span = spanned bar.first bar.last (size_of f (Bar n)) size.0 size.1 (pow_low _ low');
     }
 

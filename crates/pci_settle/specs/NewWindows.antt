@@ -1,14 +1,14 @@
 -- The new windows of bridges in a class, by the bus behind each.
-use Rattle.std.specs.Prelude.{◌≡◌, ℕ, ◌<◌, ◌≤◌, ◌^◌, Bool, true, false, ◌&&◌, IsTrue, IfSome, List, map, length, set, Option, None, Some, slice_index_or}
+use Rattle.std.specs.Prelude.{◌≡◌, ℕ, ◌<◌, ◌≤◌, ◌^◌, Bool, true, false, if◌then◌else◌, IsTrue, IfSome, List, map, length, set, Option, None, Some, slice_index_or}
 use Rattle.std.specs.Option.{option_map}
-use Rattle.pci_spec.specs.Window.{WindowKind, PrefetchWindow, page_size}
+use Rattle.pci_spec.specs.Window.{WindowKind, IoWindow, MemoryWindow, PrefetchWindow, page_size}
 use Rattle.pci_spec.specs.System.{System, Function, is_bridge}
 use Rattle.pci_spec.specs.Bus.{secondary}
-use Rattle.plan_spec.specs.Plan.{same_class}
 use Rattle.settle_spec.specs.FirstPlace.{Extent as ExtentValue}
 use Rattle.settle_spec.specs.Lists.{Request}
 use Rattle.settle_spec.specs.Parts.{Region}
 use Rattle.settle_spec.specs.Items.{Item as ItemValue, has_of, items_on, nothing, extent_around, new_window, window_to}
+use Rattle.pci_image.specs.declared.window.Windows.{Windows}
 use Rattle.pci_function.specs.declared.record.Bridge.{Bridge}
 use Rattle.pci_place.specs.Above.{is_wide_in}
 use Rattle.pci_place.specs.Items.{function_in}
@@ -21,10 +21,16 @@ use Rattle.pci_settle.specs.Buses.{AreBehind, Classing, IsLeft}
 
 -- ---- of one bridge
 
+-- the highest address that the window of a class can hold
+abbrev pub highest_by : WindowKind → Windows → ℕ
+highest_by IoWindow w = if is_wide_in w.io then 0xffff_ffff else 0xffff
+highest_by MemoryWindow w = 0xffff_ffff
+highest_by PrefetchWindow w = if is_wide_in w.pref then 0xffff_ffff_ffff_ffff else 0xffff_ffff
+
 -- the extent around the items of the bus behind a bridge
 abbrev pub around_bus : Request → System → WindowKind → (Function → ExtentValue) → Bridge → ExtentValue
 around_bus q s c extent b =
-    extent_around (page_size c) (same_class c PrefetchWindow && is_wide_in b.windows.pref)
+    extent_around (page_size c) (highest_by c b.windows)
     (map item_extent (items_on q s c nothing extent b.secondary))
 
 -- there is an item, and the extent around them has 2^64 addresses or more

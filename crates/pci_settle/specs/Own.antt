@@ -1,8 +1,9 @@
 -- What a record has to place in a class.
-use Rattle.std.specs.Prelude.{◌≡◌, ℕ, ◌+◌, ◌-◌, ◌/◌, ◌<◌, ◌≤◌, ◌^◌, Bool, false, ◌&&◌, not, if◌then◌else◌, IsTrue, List, [], ◌∷◌, ◌++◌, map, Option, None, Some}
+use Rattle.std.specs.Prelude.{◌≡◌, ℕ, ◌+◌, ◌-◌, ◌/◌, ◌%◌, ◌<◌, ◌≤◌, ◌^◌, Bool, false, ◌&&◌, not, if◌then◌else◌, IsTrue, List, [], ◌∷◌, ◌++◌, map, Option, None, Some}
 use Rattle.std.specs.Option.{option_map}
 use Rattle.std.specs.List.{AllPairs, filter}
 use Rattle.std.specs.List.Sorted.{IsPermutation}
+use Rattle.pci_spec.specs.Number.{number_at}
 use Rattle.pci_spec.specs.Registers.{BASE_ADDRESS}
 use Rattle.pci_spec.specs.Window.{WindowKind, IoWindow, MemoryWindow, PrefetchWindow}
 use Rattle.pci_spec.specs.System.{System, Function, Part, Bar, Rom, Window, is_bridge, has_part}
@@ -11,7 +12,7 @@ use Rattle.plan_spec.specs.Plan as plan
 use Rattle.settle_spec.specs.FirstPlace.{Extent as ExtentValue}
 use Rattle.settle_spec.specs.Lists.{RootRange, Lists, Request}
 use Rattle.settle_spec.specs.Parts.{Region, is_empty}
-use Rattle.settle_spec.specs.Items.{Item as ItemValue, has_of, items_of}
+use Rattle.settle_spec.specs.Items.{Item as ItemValue, highest_of_bar, has_of, items_of}
 use Rattle.settle_spec.specs.PlacingLaws.{HasLowerRank}
 use Rattle.pci_base.specs.declared.range.Range.{Range as CodeRange}
 use Rattle.pci_base.specs.Ranges.{decoded_range_of}
@@ -21,7 +22,7 @@ use Rattle.pci_function.specs.declared.record.Record.{Record}
 use Rattle.pci_place.specs.declared.above.Above.{Above}
 use Rattle.pci_place.specs.declared.pools.Pools.{Pools}
 use Rattle.pci_place.specs.Records.{IsRecordOf}
-use Rattle.pci_place.specs.Classes.{is_io_kind, is_wide_kind, bar_class}
+use Rattle.pci_place.specs.Classes.{is_io_kind, bar_class}
 use Rattle.pci_place.specs.Items.{function_in}
 use Rattle.pci_settle.specs.declared.extent.Extent.{Extent}
 use Rattle.pci_settle.specs.declared.item.Item.{Item}
@@ -96,30 +97,32 @@ pub record IsSpanned (first last : ℕ) : Type 0 where
 -- a BAR at a Base Address register
 pub record IsSized (bar : CodeBar) : Type 0 where
   pub register : BASE_ADDRESS ≤ bar.reg
+  pub aligned : bar.reg % 4 ≡ 0
   pub span : IsSpanned bar.first bar.last
 
-abbrev pub own_extent : ℕ → ℕ → Bool → Extent
-own_extent first last wide = record {
+abbrev pub own_extent : ℕ → ℕ → ℕ → Extent
+own_extent first last highest = record {
   size = last - first + 1;
   alignment = last - first + 1;
-  wide = wide;
+  highest = highest;
 }
 
-abbrev pub bar_item : ℕ → CodeBar → Item
-bar_item k bar = record {
+-- with what the registers of its function read back
+abbrev pub bar_item : ℕ → List ℕ → CodeBar → Item
+bar_item k probe bar = record {
   function = k;
   part = parts.Bar (bar_number bar);
-  extent = own_extent bar.first bar.last (is_wide_kind bar.kind);
+  extent = own_extent bar.first bar.last (highest_of_bar (number_at probe bar.reg 4));
 }
 
-abbrev pub bar_items : ℕ → WindowKind → Over → Terms → Kept → List CodeBar → List Item
-bar_items k c over t kept bars = map (bar_item k) (filter (is_own_bar c over t kept) bars)
+abbrev pub bar_items : ℕ → List ℕ → WindowKind → Over → Terms → Kept → List CodeBar → List Item
+bar_items k probe c over t kept bars = map (bar_item k probe) (filter (is_own_bar c over t kept) bars)
 
 -- ---- ROMs and windows
 
 abbrev pub rom_item : ℕ → CodeRom → Item
 rom_item k rom =
-    record { function = k; part = parts.Rom; extent = own_extent rom.first rom.last false }
+    record { function = k; part = parts.Rom; extent = own_extent rom.first rom.last 0xffff_ffff }
 
 abbrev pub rom_items : ℕ → WindowKind → Kept → Option CodeRom → List Item
 rom_items k c kept None = []
@@ -134,24 +137,25 @@ window_items k c kept (Some e) =
 
 -- ---- all of them
 
--- what the items of a record are found by: its place among the records, a class, what is over its bus, what is told of the
--- lists, its new window, and what keeps its place
+-- what the items of a record are found by: its place among the records, what its function reads back, a class, what is over
+-- its bus, what is told of the lists, its new window, and what keeps its place
 pub record Situation : Type 0 where
   pub place : ℕ
+  pub probe : List ℕ
   pub class : WindowKind
   pub over : Over
   pub terms : Terms
   pub window : Option Extent
   pub kept : Kept
 
-abbrev pub situation : ℕ → WindowKind → Over → Terms → Option Extent → Kept → Situation
-situation k c over t window kept =
-    record { place = k; class = c; over = over; terms = t; window = window; kept = kept }
+abbrev pub situation : ℕ → List ℕ → WindowKind → Over → Terms → Option Extent → Kept → Situation
+situation k probe c over t window kept =
+    record { place = k; probe = probe; class = c; over = over; terms = t; window = window; kept = kept }
 
 -- in the order of their registers
 abbrev pub record_items : Situation → Record → List Item
 record_items o r =
-    bar_items o.place o.class o.over o.terms o.kept r.bars.items
+    bar_items o.place o.probe o.class o.over o.terms o.kept r.bars.items
     ++ (window_items o.place o.class o.kept o.window ++ rom_items o.place o.class o.kept r.rom)
 
 -- ---- their values
@@ -184,6 +188,7 @@ pub record IsAsked (a : Asking) (s : System) (f : Function) (o : Situation) (r :
   pub terms : AreTerms a.request.lists o.terms
   pub is : IsRecordOf s f r
   pub here : function_in s o.place ≡ f
+  pub probe_is : o.probe ≡ f.probe
   pub over_is : IsOver a.request s f.slot.bus o.over
   pub new : IsWindowOf (is_bridge f && has_of a.request s o.class f) (a.extent f) o.window
   pub keeps_is : (part : Part) → IsTrue (has_part f part)

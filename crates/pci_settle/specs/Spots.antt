@@ -11,7 +11,7 @@ use Rattle.pci_settle.specs.declared.spot.Start.{Start}
 
 -- the extent as the definitions have it
 abbrev pub extent_value : Extent → ExtentValue
-extent_value e = record { size = e.size; alignment = e.alignment; wide = e.wide }
+extent_value e = record { size = e.size; alignment = e.alignment; highest = e.highest }
 
 -- it has an address, and an alignment
 pub record IsExtent (e : Extent) : Type 0 where

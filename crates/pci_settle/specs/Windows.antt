@@ -24,6 +24,9 @@ IsLaidBy old new e (Some end) =
 abbrev pub alignments : List ExtentValue → List ℕ
 alignments extents = map (λ (e : ExtentValue). e.alignment) extents
 
+abbrev pub highests : List ExtentValue → List ℕ
+highests extents = map (λ (e : ExtentValue). e.highest) extents
+
 -- an extent as the definitions have it, where it has fewer than 2^64 addresses
 abbrev pub IsAround : ExtentValue → Option Extent → Type 0
 IsAround e None = 2 ^ 64 ≤ e.size

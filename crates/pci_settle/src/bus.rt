@@ -65,6 +65,7 @@ fn add_bus<A: Allocator, B: Allocator>(
         (bus + 1) items.new.items) }
 {
     let records = admitted.outline().records();
+    let probes = admitted.probe().blocks();
     let over = Over {
         above: aboves[bus as usize],
         windows: open_over(left.over, bus),
@@ -73,9 +74,20 @@ fn add_bus<A: Allocator, B: Allocator>(
     let end = first_from(records, bus as u16 + 1);
     for function in first..end {
         let record = &records[function];
+        let block = &probes[function];
         let window = window_behind(windows, record.bridge);
         let kept = kept_by(left.kept, function);
-        add_items(items, function, record, class, &over, terms, window, kept)?;
+        add_items(
+            items,
+            function,
+            record,
+            &block.image,
+            class,
+            &over,
+            terms,
+            window,
+            kept,
+        )?;
     }
     Ok(())
 }

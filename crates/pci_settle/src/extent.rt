@@ -1,6 +1,8 @@
 //! What is to be placed: so many addresses from a multiple of an alignment on.
-ghost use Rattle.std.specs.Prelude.{◌-◌, ◌<◌, ◌^◌, SomeIff};
+ghost use Rattle.std.specs.Prelude.{◌≡◌, ◌-◌, ◌<◌, ◌^◌, SomeIff};
 ghost use Rattle.plan_spec.specs.Place.{range_from};
+ghost use Rattle.settle_spec.specs.FirstPlace.{is_high};
+ghost use Rattle.pci_settle.specs.Spots.{extent_value};
 
 /// So many addresses from a multiple of an alignment on.
 #[derive(Clone, Copy, Debug, PartialEq, Eq)]
@@ -9,8 +11,8 @@ pub struct Extent {
     pub size: u64,
     /// What the first address is a multiple of, at least one.
     pub alignment: u64,
-    /// Whether it may lie above 4 GB.
-    pub wide: bool,
+    /// The highest address that it may have.
+    pub highest: u64,
 }
 
 impl Extent {
@@ -22,5 +24,12 @@ impl Extent {
             (range_from at self.size).last }
     {
         at.checked_add(self.size - 1)
+    }
+
+    /// Whether it may lie above 4 GB.
+    pub fn is_high(self) -> bool
+        ensures { result ≡ is_high (extent_value self) }
+    {
+        self.highest > 0xffff_ffff
     }
 }

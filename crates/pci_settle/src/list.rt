@@ -14,10 +14,8 @@ use pci_base::range::{Range, RootRange};
 use pci_tree::roots::Roots;
 use std::alloc::Allocator;
 
-/// The highest address of a range of I/O, and of one of memory.
-const IO_LAST: u64 = 0xffff;
-
-const MEMORY_LAST: u64 = 0xffff_ffff;
+/// The highest address of a range of I/O, and of one of memory that isn't prefetchable.
+const LAST_OF_32_BITS: u64 = 0xffff_ffff;
 
 /// A list of ranges for each class: what comes earlier is taken first.
 #[derive(Clone, Copy, Debug)]
@@ -149,14 +147,14 @@ fn is_bad_list(roots: &Roots, list: &[RootRange]) -> bool
 
 impl Lists<'_> {
     /// Whether the lists are refused: a range is backward or of a bus that is no root, two ranges of one list share an
-    /// address, I/O ends above FFFFh or memory above FFFFFFFFh. Ranges of two lists may share addresses.
+    /// address, or I/O or memory ends above FFFFFFFFh. Ranges of two lists may share addresses.
     pub fn are_bad(&self, roots: &Roots) -> bool
         ensures { result ≡ lists.are_bad_lists (buses_of roots.now) (lists_value self.now) }
     {
         is_bad_list(roots, self.io)
             || is_bad_list(roots, self.mem)
             || is_bad_list(roots, self.pref)
-            || ends_above(IO_LAST, self.io)
-            || ends_above(MEMORY_LAST, self.mem)
+            || ends_above(LAST_OF_32_BITS, self.io)
+            || ends_above(LAST_OF_32_BITS, self.mem)
     }
 }

@@ -1,11 +1,9 @@
 //! The new windows of bridges in a class: each is as large as what is on the bus behind where nothing keeps its place.
-ghost use Rattle.std.specs.Prelude.{◌≡◌, ◌&&◌, IfOk};
-ghost use Rattle.pci_spec.specs.Window.{PrefetchWindow};
-ghost use Rattle.plan_spec.specs.Plan.{same_class};
+ghost use Rattle.std.specs.Prelude.{◌≡◌, IfOk};
 ghost use Rattle.pci_base.specs.WindowKinds.{kind_value};
 ghost use Rattle.pci_place.specs.Above.{AreAboves, system_in, is_wide_in};
 ghost use Rattle.pci_settle.specs.Buses.{AreWindows, classing_of};
-ghost use Rattle.pci_settle.specs.NewWindows.{IsPut, AreNewWindows};
+ghost use Rattle.pci_settle.specs.NewWindows.{highest_by, IsPut, AreNewWindows};
 
 use crate::bus::items_on;
 use crate::extent::Extent;
@@ -16,19 +14,30 @@ use pci_base::memory::OutOfMemory;
 use pci_base::slot::BUSES;
 use pci_base::window_kind::WindowKind;
 use pci_function::record::Bridge;
-use pci_image::window::Windows;
+use pci_image::window::{Window, Windows};
 use pci_place::above::Above;
 use pci_tree::admitted::Admitted;
 use std::alloc::Allocator;
 
-/// Whether the window of a class can lie above 4 GB: a prefetchable one with upper halves.
-fn has_upper_halves(class: WindowKind, windows: &Windows) -> bool
-    ensures { result ≡ (same_class (kind_value class) PrefetchWindow
-        && is_wide_in windows.now.pref) }
+/// Whether a window is there and has upper halves.
+fn has_upper_halves(window: Option<Window>) -> bool
+    ensures { result ≡ is_wide_in window }
 {
-    match windows.pref {
-        Some(window) => class == WindowKind::Prefetchable && window.wide(),
+    match window {
+        Some(window) => window.wide(),
         None => false,
+    }
+}
+
+/// The highest address that the window of a class can hold: one of I/O or prefetchable memory may have upper halves.
+fn highest_in(class: WindowKind, windows: &Windows) -> u64
+    ensures { result ≡ highest_by (kind_value class) windows.now }
+{
+    match class {
+        WindowKind::Io if has_upper_halves(windows.io) => 0xffff_ffff,
+        WindowKind::Io => 0xffff,
+        WindowKind::Prefetchable if has_upper_halves(windows.pref) => u64::MAX,
+        WindowKind::Memory | WindowKind::Prefetchable => 0xffff_ffff,
     }
 }
 
@@ -60,8 +69,8 @@ fn put_window<A: Allocator + Copy, B: Allocator>(
         windows[bus as usize] = None;
         return Ok(true);
     }
-    let upper_halves = has_upper_halves(class, &bridge.windows);
-    match window_around(alloc, class, upper_halves, &mut items)? {
+    let highest = highest_in(class, &bridge.windows);
+    match window_around(alloc, class, highest, &mut items)? {
         Some(window) => {
             windows[bus as usize] = Some(window);
             Ok(true)

@@ -3,6 +3,7 @@
 ghost use Rattle.std.specs.Prelude.{◌≡◌, ◌<◌, ◌++◌, OnOk, IfSome, map};
 ghost use Rattle.std.specs.List.{All};
 ghost use Rattle.plan_spec.specs.Plan.{greatest};
+ghost use Rattle.settle_spec.specs.Items.{highest_of_bar};
 ghost use Rattle.settle_spec.specs.Lists as lists;
 ghost use Rattle.pci_base.specs.WindowKinds.{kind_value};
 ghost use Rattle.pci_place.specs.Pools.{pools_value};
@@ -15,12 +16,13 @@ use crate::kept::Kept;
 use crate::list::Lists;
 use crate::over::{Over, is_held};
 use crate::window::later;
+use pci_base::image::Image;
 use pci_base::memory::OutOfMemory;
 use pci_base::offset::BASE_ADDRESS;
 use pci_base::range::{Range, RootRange};
 use pci_base::window_kind::WindowKind;
 use pci_function::record::Record;
-use pci_image::bar::{Bar, BarKind};
+use pci_image::bar::{Bar, BarKind, is_io, is_wide};
 use pci_image::rom::Rom;
 use pci_place::above::Above;
 use pci_place::class::class_of_bar;
@@ -129,10 +131,23 @@ fn is_own_bar(bar: &Bar, class: WindowKind, over: &Over, terms: Terms, kept: &Ke
         && !kept.bar(bar_number(bar))
 }
 
+/// The highest address that a BAR can have, by what its register reads back: an I/O BAR may have 16 bits.
+fn highest_of_bar(mask: u32) -> u64
+    ensures { result ≡ highest_of_bar mask }
+{
+    if is_io(u64::from(mask)) {
+        if mask <= 0xffff { 0xffff } else { 0xffff_ffff }
+    } else if is_wide(mask) {
+        u64::MAX
+    } else {
+        0xffff_ffff
+    }
+}
+
 /// The item of a BAR, whose size is its alignment.
-fn bar_item(function: usize, bar: &Bar) -> Item
+fn bar_item(function: usize, probe: &Image, bar: &Bar) -> Item
     requires { IsSized bar.now }
-    ensures { result ≡ bar_item function bar.now }
+    ensures { result ≡ bar_item function probe.now.0 bar.now }
 {
     let size = bar.last - bar.first + 1;
     Item {
@@ -141,7 +156,7 @@ fn bar_item(function: usize, bar: &Bar) -> Item
         extent: Extent {
             size,
             alignment: size,
-            wide: bar.kind == BarKind::Mem64,
+            highest: highest_of_bar(probe.u32(bar.reg)),
         },
     }
 }
@@ -158,7 +173,7 @@ fn rom_item(function: usize, rom: &Rom) -> Item
         extent: Extent {
             size,
             alignment: size,
-            wide: false,
+            highest: 0xffff_ffff,
         },
     }
 }
@@ -167,6 +182,7 @@ fn rom_item(function: usize, rom: &Rom) -> Item
 fn add_bars<A: Allocator>(
     items: &mut Vec<Item, A>,
     function: usize,
+    probe: &Image,
     bars: &[Bar],
     class: WindowKind,
     over: &Over,
@@ -175,11 +191,11 @@ fn add_bars<A: Allocator>(
 ) -> Result<(), OutOfMemory>
     requires { All IsSized bars.now }
     ensures { OnOk result (items.new.items ≡ items.old.items
-        ++ bar_items function (kind_value class) over.now terms kept.now bars.now) }
+        ++ bar_items function probe.now.0 (kind_value class) over.now terms kept.now bars.now) }
 {
     for bar in bars {
         if is_own_bar(bar, class, over, terms, kept) {
-            items.push(bar_item(function, bar))?;
+            items.push(bar_item(function, probe, bar))?;
         }
     }
     Ok(())
@@ -229,11 +245,13 @@ fn add_window<A: Allocator>(
 }
 
 /// Adds the items of a function in a class, in the order of their registers: BARs but those of I/O that are left, the new
-/// window that it has as a bridge, and a ROM that is on; none of them where it keeps its place.
+/// window that it has as a bridge, and a ROM that is on; none of them where it keeps its place. `probe` holds what its
+/// registers read back.
 pub fn add_items<A: Allocator>(
     items: &mut Vec<Item, A>,
     function: usize,
     record: &Record,
+    probe: &Image,
     class: WindowKind,
     over: &Over,
     terms: Terms,
@@ -245,15 +263,16 @@ pub fn add_items<A: Allocator>(
     // else its size would be below 0, too
     requires rom { IfSome «record».now.rom (λ rom. IsSpanned rom.first rom.last) }
     ensures items { OnOk result (items.new.items ≡ items.old.items
-        ++ record_items (situation function (kind_value class) over.now terms window kept.now)
+        ++ record_items (situation function probe.now.0 (kind_value class) over.now terms window kept.now)
         «record».now) }
     // they are those of the definitions, whatever system the record is of
-    ensures exact { AreItemsOf (situation function (kind_value class) over.now terms window kept.now)
+    ensures exact { AreItemsOf (situation function probe.now.0 (kind_value class) over.now terms window kept.now)
         «record».now }
 {
     add_bars(
         items,
         function,
+        probe,
         record.bars.as_slice(),
         class,
         over,

@@ -41,7 +41,7 @@ impl Cursor {
             extent: Extent {
                 size: 1,
                 alignment: 1,
-                wide: false,
+                highest: 0,
             },
             start: Start::first(),
         }

@@ -115,14 +115,14 @@ pub fn first_spot(taken: &[Range], low: u64, extent: Extent) -> Option<Spot>
     next_spot(taken, low, Spot::lowest(), extent)
 }
 
-/// Whether an extent from `at` on ends in a range, and below 4 GB where it isn't wide.
+/// Whether an extent from `at` on ends in a range, and by the highest address that it may have.
 fn ends_in(range: Range, extent: Extent, at: u64) -> bool
     requires some { 0 < extent.size }
     requires ends { (range_from at extent.size).last < 2 ^ 64 }
     ensures { result ≡ place_ends_in (decoded_range_of range) (extent_value extent) at }
 {
     let last = at + (extent.size - 1);
-    last <= range.last && (extent.wide || last <= 0xffff_ffff)
+    last <= range.last && last <= extent.highest
 }
 
 /// The first place in a range, of which `from` says that it isn't below it.

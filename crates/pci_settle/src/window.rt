@@ -1,16 +1,17 @@
 //! How large a new window is: as large as what is in it, raised to a page.
-ghost use Rattle.std.specs.Prelude.{◌<◌, ◌+◌, ◌^◌, IfOk, IfSome, SomeIff, [], map, max, length, ◌≡◌};
-ghost use Rattle.std.specs.List.{All, AllPairs, list_all};
+ghost use Rattle.std.specs.Prelude.{◌<◌, ◌+◌, ◌^◌, IfOk, IfSome, SomeIff, [], ◌∷◌, map, max, min, length, ◌≡◌};
+ghost use Rattle.std.specs.List.{All, AllPairs};
 ghost use Rattle.std.specs.List.Sorted.{IsPermutation};
 ghost use Rattle.pci_spec.specs.Window.{page_size};
 ghost use Rattle.plan_spec.specs.Plan.{greatest};
+ghost use Rattle.settle_spec.specs.FirstPlace.{least_of};
 ghost use Rattle.settle_spec.specs.Items.{Item as ItemValue, in_turn, laid_out, end_of as end_behind, extent_around};
 ghost use Rattle.settle_spec.specs.PlacingLaws.{HasLowerRank};
 ghost use Rattle.pci_base.specs.WindowKinds.{kind_value};
 ghost use Rattle.pci_settle.specs.Spots.{extent_value, IsExtent, AreListed};
 ghost use Rattle.pci_settle.specs.Placings.{item_extent};
 ghost use Rattle.pci_settle.specs.Turns.{own_extent, HasExtent, IsValued};
-ghost use Rattle.pci_settle.specs.Windows.{laid_last, IsLaidBy, alignments, IsAround};
+ghost use Rattle.pci_settle.specs.Windows.{laid_last, IsLaidBy, alignments, highests, IsAround};
 
 use crate::extent::Extent;
 use crate::item::{Item, sort_items};
@@ -54,6 +55,13 @@ pub fn later(a: u64, b: u64) -> u64
     if a < b { b } else { a }
 }
 
+/// The lesser of two addresses.
+fn earlier(a: u64, b: u64) -> u64
+    ensures { result ≡ min a b }
+{
+    if a < b { a } else { b }
+}
+
 /// The end of what is laid out from 0 on, each extent off those before it; None where that is above all addresses of
 /// 64 bits.
 fn end_of<A: Allocator>(alloc: A, extents: &[Extent]) -> Result<Option<u64>, OutOfMemory>
@@ -84,30 +92,29 @@ fn alignment_around(page: u64, extents: &[Extent]) -> u64
     alignment
 }
 
-/// Whether all of some extents may lie above 4 GB.
-fn are_wide(extents: &[Extent]) -> bool
-    ensures { result ≡ list_all (λ e. e.wide) (map extent_value extents.now) }
+/// The least of an address and the highest ones that some extents may have.
+fn highest_around(highest: u64, extents: &[Extent]) -> u64
+    ensures { result ≡ least_of (highest ∷ highests (map extent_value extents.now)) }
 {
+    let mut least = highest;
     for extent in extents {
-        if !extent.wide {
-            return false;
-        }
+        least = earlier(least, extent.highest);
     }
-    true
+    least
 }
 
-/// The extent of a new window around others, which may lie above 4 GB where it has upper halves and all of them may;
-/// None where it would have 2^64 addresses or more.
+/// The extent of a new window around others, which lies no higher than `highest`, nor than any of them may; None where it
+/// would have 2^64 addresses or more.
 pub fn extent_around<A: Allocator>(
     alloc: A,
     class: WindowKind,
-    upper_halves: bool,
+    highest: u64,
     extents: &[Extent],
 ) -> Result<Option<Extent>, OutOfMemory>
     // each has addresses, so a window around some has, too
     requires { All IsExtent extents.now }
     ensures around { IfOk result (IsAround
-        (extent_around (page_size (kind_value class)) upper_halves
+        (extent_around (page_size (kind_value class)) highest
         (map extent_value extents.now))) }
     ensures some { 0 < length extents.now → IfOk result (λ window. IfSome window IsExtent) }
 {
@@ -121,7 +128,7 @@ pub fn extent_around<A: Allocator>(
     Ok(Some(Extent {
         size,
         alignment: alignment_around(page, extents),
-        wide: upper_halves && are_wide(extents),
+        highest: highest_around(highest, extents),
     }))
 }
 
@@ -141,7 +148,7 @@ fn extents_of<A: Allocator>(alloc: A, items: &[Item]) -> Result<Vec<Extent, A>, 
 pub fn window_around<A: Allocator + Copy>(
     alloc: A,
     class: WindowKind,
-    upper_halves: bool,
+    highest: u64,
     items: &mut Vec<Item, A>,
 ) -> Result<Option<Extent>, OutOfMemory>
     // a window around what has no extent can't be laid out
@@ -153,12 +160,12 @@ pub fn window_around<A: Allocator + Copy>(
         → map value items.new.items ≡ in_turn (map value items.old.items)) }
     ensures around { IfOk result (λ window. (value : Item → ItemValue) → IsValued value
         → AllPairs HasLowerRank (map value items.old.items)
-        → IsAround (extent_around (page_size (kind_value class)) upper_halves
+        → IsAround (extent_around (page_size (kind_value class)) highest
         (map item_extent (in_turn (map value items.old.items)))) window) }
     ensures some { 0 < length items.old.items
         → IfOk result (λ window. IfSome window IsExtent) }
 {
     sort_items(items)?;
     let extents = extents_of(alloc, items.as_slice())?;
-    extent_around(alloc, class, upper_halves, extents.as_slice())
+    extent_around(alloc, class, highest, extents.as_slice())
 }

@@ -1,4 +1,5 @@
-use Rattle.std.proofs.Common.{◌≡◌, ◌+◌, ◌<◌, ◌≤◌, false, get_or, refl, arith, sym, ap, subst}
+use Rattle.std.proofs.Common.{◌≡◌, ◌+◌, ◌<◌, ◌≤◌, false, get_or, refl, arith, sym, ◌∙◌, ap, subst}
+use Rattle.pci_spec.specs.Text.{Block}
 use Rattle.pci_base.specs.WindowKinds.{kind_value}
 use Rattle.pci_tree.proofs.BusParts.{begins_before}
 use Rattle.pci_place.specs.Above.{system_in}
@@ -7,6 +8,7 @@ use Rattle.pci_place.proofs.Records.{lent}
 use Rattle.pci_settle.specs.declared.over.OpenWindows.{OpenWindows}
 use Rattle.pci_settle.specs.declared.over.Over.{Over}
 use Rattle.pci_settle.specs.Buses.{listing_of, AreOnBusTo}
+use Rattle.pci_settle.proofs.Probes.{probe_count, probe_at}
 use Rattle.pci_settle.proofs.Sized.{bars_sized, rom_sized}
 use Rattle.pci_settle.proofs.OnBus.{slots_in, record_of_place, below_first, below_next, bus_step}
 use Rattle.pci_settle.proofs.bus.add_bus.Goals as goal
@@ -37,6 +39,15 @@ loop-function-init g c = λ on beside below.
     let first = c.first_from-first.ensures in
     below_first (listing_of c.args.admitted.now (kind_value c.args.class) on c.args.terms c.args.windows.now c.args.left.now) c.outline.ensures.admitted.system records has c.args.bus c.first_from-first.result _
     first.bound first.before first.after below
+
+pub bounds-probes-function : goal.bounds-probes-function
+bounds-probes-function g c =
+    let s = system_in c.args.admitted.now in
+    let records = c.records-records.result.now in
+    let has = lent s records c.records-records.ensures.value c.outline.ensures.records in
+    let count = probe_count c.args.admitted.now c.outline.ensures.admitted records has c.blocks-probes.result.now (c.blocks-probes.ensures.value ∙ c.probe.ensures) in
+    let end = c.first_from-end.ensures.bound in
+    omega (arith, count, end)
 
 pub add_items-requires-clause-bars : goal.add_items-requires-clause-bars
 add_items-requires-clause-bars g c =
@@ -69,6 +80,9 @@ loop-function-preserved g c = λ on beside below.
     let low : c.args.bus ≤ r.slot.bus = subst (λ x. c.args.bus ≤ x.slot.bus) (sym c.index-records-function.is) (c.first_from-first.ensures.after k r (omega arith) (omega (arith, end))) in
     let high : r.slot.bus < c.args.bus + 1 = subst (λ x. x.slot.bus < c.args.bus + 1) (sym c.index-records-function.is) (c.first_from-end.ensures.before k r (omega arith) (omega arith)) in
     bus_step (listing_of c.args.admitted.now (kind_value c.args.class) on c.args.terms c.args.windows.now c.args.left.now) c.outline.ensures.admitted.system records has k r (omega (arith, end)) c.index-records-function.is
+    c.block.inside.image.0
+    (probe_at c.args.admitted.now c.outline.ensures.admitted records has c.blocks-probes.result.now (c.blocks-probes.ensures.value ∙ c.probe.ensures) k c.index-probes-function.result (omega (arith, end)) c.index-probes-function.is
+    ∙ sym (ap (λ (b : Block). b.image) c.block.view_is))
     c.args.aboves.now c.requires c.args.bus (omega (arith, low, high)) d record { above = above; windows = c.open_over.result } (ap (over_with above) c.open_over.ensures) c.window_behind-window.result c.window_behind-window.ensures
     c.kept_by-kept.result.now c.kept_by-kept.ensures beside c.loop-function.items.items c.add_items.new.items.items c.in_ok-add_items.ensures.items (c.loop-function.invariant on beside below)
 

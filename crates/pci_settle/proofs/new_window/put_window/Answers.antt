@@ -14,16 +14,16 @@ returns-then-is_empty-clause-put g c =
 pub returns-in-Some-clause-put : goal.returns-in-Some-clause-put
 returns-in-Some-clause-put g c =
     let some : 0 < length c.in_ok-items.items.items = is_some_count c.in_ok-items.items.len _ c.is_empty.result (let long = c.in_ok-items.items.ok.0 in omega (arith, long)) c.is_empty.ensures c.if-is_empty.false in
-    let upper = c.has_upper_halves-upper_halves.result in
-    let around : IsAroundItems (kind_value c.args.class) upper c.in_ok-items.items.items c.in_ok-window.field-0 = c.in_ok-window.ensures.around in
+    let highest = c.highest_in-highest.result in
+    let around : IsAroundItems (kind_value c.args.class) highest c.in_ok-items.items.items c.in_ok-window.field-0 = c.in_ok-window.ensures.around in
     some_put (classing_of c.args.admitted.now c.args.terms c.args.overs.now) (kind_value c.args.class) c.args.bridge.now c.args.windows.now c.in_ok-items.items.items c.in_ok-items.ensures.items _
-    some upper c.has_upper_halves-upper_halves.ensures c.in-Some.window (subst (λ o. IfSome o IsExtent) c.in-Some.is (c.in_ok-window.ensures.some some))
-    (subst (IsAroundItems (kind_value c.args.class) upper c.in_ok-items.items.items) c.in-Some.is around) refl
+    some highest c.highest_in-highest.ensures c.in-Some.window (subst (λ o. IfSome o IsExtent) c.in-Some.is (c.in_ok-window.ensures.some some))
+    (subst (IsAroundItems (kind_value c.args.class) highest c.in_ok-items.items.items) c.in-Some.is around) refl
 
 pub returns-clause-put : goal.returns-clause-put
 returns-clause-put g c =
     let some : 0 < length c.in_ok-items.items.items = is_some_count c.in_ok-items.items.len _ c.is_empty.result (let long = c.in_ok-items.items.ok.0 in omega (arith, long)) c.is_empty.ensures c.if-is_empty.false in
-    let upper = c.has_upper_halves-upper_halves.result in
-    let around : IsAroundItems (kind_value c.args.class) upper c.in_ok-items.items.items c.in_ok-window.field-0 = c.in_ok-window.ensures.around in
+    let highest = c.highest_in-highest.result in
+    let around : IsAroundItems (kind_value c.args.class) highest c.in_ok-items.items.items c.in_ok-window.field-0 = c.in_ok-window.ensures.around in
     large_put (classing_of c.args.admitted.now c.args.terms c.args.overs.now) (kind_value c.args.class) c.args.bridge.now c.args.windows.now c.in_ok-items.items.items c.in_ok-items.ensures.items _
-    some upper c.has_upper_halves-upper_halves.ensures (subst (IsAroundItems (kind_value c.args.class) upper c.in_ok-items.items.items) c.in-None.is around) refl
+    some highest c.highest_in-highest.ensures (subst (IsAroundItems (kind_value c.args.class) highest c.in_ok-items.items.items) c.in-None.is around) refl

@@ -1,4 +1,4 @@
-use Rattle.std.proofs.Common.{◌∙◌, sym, arith, false, Vec}
+use Rattle.std.proofs.Common.{◌∙◌, sym, arith, Vec}
 use Rattle.std.proofs.lemmas.List.{length-map}
 use Rattle.pci_base.specs.declared.range.Range.{Range}
 use Rattle.pci_settle.specs.declared.placing.Wanted.{Wanted}
@@ -8,7 +8,7 @@ use Rattle.pci_settle.proofs.placing.place_all.Goals as goal
 
 -- what an index past the end is read as
 abbrev no_wanted : Wanted
-no_wanted = record { extent = record { size = 0; alignment = 0; wide = false }; list = 0 }
+no_wanted = record { extent = record { size = 0; alignment = 0; highest = 0 }; list = 0 }
 
 pub loop-index-init : goal.loop-index-init
 loop-index-init g c =

@@ -1,4 +1,4 @@
-use Rattle.std.proofs.Common.{◌≡◌, ◌+◌, max, map, sym, subst, false}
+use Rattle.std.proofs.Common.{◌≡◌, ◌+◌, max, map, sym, subst}
 use Rattle.plan_spec.specs.Plan.{greatest}
 use Rattle.pci_settle.specs.declared.extent.Extent.{Extent}
 use Rattle.pci_settle.specs.Spots.{extent_value}
@@ -8,7 +8,7 @@ use Rattle.pci_settle.proofs.window.alignment_around.Goals as goal
 
 -- what an index past the end is read as
 abbrev no_extent : Extent
-no_extent = record { size = 0; alignment = 0; wide = false }
+no_extent = record { size = 0; alignment = 0; highest = 0 }
 
 pub loop-extent-preserved : goal.loop-extent-preserved
 loop-extent-preserved c =

@@ -1,11 +1,10 @@
-use Rattle.std.proofs.Common.{false}
 use Rattle.pci_settle.specs.declared.extent.Extent.{Extent}
 use Rattle.pci_settle.proofs.LaidOut.{laid_some, laid_lacks, laid_all}
 use Rattle.pci_settle.proofs.window.end_of.Goals as goal
 
 -- what an index past the end is read as
 abbrev no_extent : Extent
-no_extent = record { size = 0; alignment = 0; wide = false }
+no_extent = record { size = 0; alignment = 0; highest = 0 }
 
 pub returns-in-None : goal.returns-in-None
 returns-in-None g c =

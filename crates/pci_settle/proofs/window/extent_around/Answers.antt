@@ -2,10 +2,6 @@ use Rattle.pci_base.specs.WindowKinds.{kind_value}
 use Rattle.pci_settle.proofs.Around.{around_some}
 use Rattle.pci_settle.proofs.window.extent_around.Goals as goal
 
-pub returns-then-upper_halves-clause-some : goal.returns-then-upper_halves-clause-some
-returns-then-upper_halves-clause-some g c some =
-    around_some (kind_value c.args.class) c.args.extents.now _ _ _ _ c.in-Some.end _ _ c.page_size-page.ensures c.in_ok-end.ensures c.in-Some.is c.in-Some-raised.ensures.1 c.alignment_around.ensures some
-
-pub returns-else-upper_halves-clause-some : goal.returns-else-upper_halves-clause-some
-returns-else-upper_halves-clause-some g c some =
+pub returns-clause-some : goal.returns-clause-some
+returns-clause-some g c some =
     around_some (kind_value c.args.class) c.args.extents.now _ _ _ _ c.in-Some.end _ _ c.page_size-page.ensures c.in_ok-end.ensures c.in-Some.is c.in-Some-raised.ensures.1 c.alignment_around.ensures some

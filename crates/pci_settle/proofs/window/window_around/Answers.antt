@@ -16,7 +16,7 @@ returns-clause-around g c =
     (λ window is value valued rise.
     around_turn c.args.items.now.items c.sort_items.new.items.items c.sort_items.ensures.permutation c.as_slice-2.result.now
     (c.as_slice-2.ensures.value ∙ c.in_ok-extents.ensures ∙ ap (map own_extent) c.as_slice.ensures.value)
-    (page_size (kind_value c.args.class)) c.args.upper_halves window is value valued (c.in_ok-sort_items.ensures.turn value valued rise))
+    (page_size (kind_value c.args.class)) c.args.highest window is value valued (c.in_ok-sort_items.ensures.turn value valued rise))
     c.extent_around.ensures.around
 
 pub returns-clause-some : goal.returns-clause-some
