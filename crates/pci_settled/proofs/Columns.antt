@@ -8,6 +8,7 @@ use Rattle.pci_spec.specs.System.{System, Space, Io, Memory, IsSystem, window_sp
 use Rattle.pci_spec.specs.Bus.{is_root}
 use Rattle.pci_spec.specs.Decoded.{Range as DecodedRange}
 use Rattle.plan_spec.proofs.Planning.Safe.{slots_of}
+use Rattle.settle_spec.specs.FirstPlace.{is_high}
 use Rattle.settle_spec.specs.Lists.{Lists, Request, ranges_of}
 use Rattle.settle_spec.specs.Parts.{bridge_over}
 use Rattle.settle_spec.specs.Items.{Placed}
@@ -98,5 +99,5 @@ root_lists_for q s l space root lists placed system is_one same are i listed =
     ] in
     let low = (slots_of s system i.region.function of.listed).0 in
     ap (λ b. cond b (root_ranges q i) (window_ranges q s placed i.class (bridge_over s on))) here
-    ∙ column_gives q l same lists on space (are.each on (omega (arith, low)) here) i.class i.extent.wide (in_space q s space root i listed)
-    ∙ ap (λ n. list_at lists (3 * n + kind_number i.class i.extent.wide)) (sym (ap (λ b. cond b on 0) here))
+    ∙ column_gives q l same lists on space (are.each on (omega (arith, low)) here) i.class (is_high i.extent) (in_space q s space root i listed)
+    ∙ ap (λ n. list_at lists (3 * n + kind_number i.class (is_high i.extent))) (sym (ap (λ b. cond b on 0) here))

@@ -13,6 +13,7 @@ use Rattle.pci_spec.specs.Decoded.{Range as DecodedRange}
 use Rattle.plan_spec.specs.Plan.{bridges_above}
 use Rattle.plan_spec.specs.Planning.Layout.{range_of}
 use Rattle.plan_spec.proofs.Planning.Behind.{any_from}
+use Rattle.settle_spec.specs.FirstPlace.{is_high}
 use Rattle.settle_spec.specs.Lists.{Request}
 use Rattle.settle_spec.specs.Parts.{Region, addresses, bridge_over, is_part, class_in}
 use Rattle.settle_spec.specs.Stands.{window_region, stands}
@@ -96,9 +97,9 @@ window_lists_for q s space placed bus plain prefetch windows off plain_is prefet
     ap (λ b. cond b (root_ranges q i) (window_ranges q s placed i.class (bridge_over s on))) off_on
     ∙ ap (λ n. window_ranges q s placed i.class (bridge_over s n)) (sym here)
     ∙ sym (over i.class class)
-    ∙ sym (list_by_class space plain prefetch windows plain_is prefetch_is i.class i.extent.wide class)
-    ∙ ap (list_at (window_lists plain prefetch)) (first_column i.class i.extent.wide)
-    ∙ ap (λ n. list_at (window_lists plain prefetch) (3 * n + kind_number i.class i.extent.wide)) (sym (ap (λ b. cond b on 0) off_on))
+    ∙ sym (list_by_class space plain prefetch windows plain_is prefetch_is i.class (is_high i.extent) class)
+    ∙ ap (list_at (window_lists plain prefetch)) (first_column i.class (is_high i.extent))
+    ∙ ap (λ n. list_at (window_lists plain prefetch) (3 * n + kind_number i.class (is_high i.extent))) (sym (ap (λ b. cond b on 0) off_on))
 
 -- ---- the table, so far
 

@@ -13,6 +13,7 @@ use Rattle.pci_spec.specs.System.{System, Function, Space, IsFunction, IsSystem}
 use Rattle.pci_spec.specs.Bus.{is_root}
 use Rattle.pci_spec.specs.Decoded.{HasRecords}
 use Rattle.plan_spec.proofs.Planning.Safe.{slots_of}
+use Rattle.settle_spec.specs.FirstPlace.{is_high}
 use Rattle.settle_spec.specs.Lists.{Request}
 use Rattle.settle_spec.specs.Items.{Item as ItemValue, Placed}
 use Rattle.settle_spec.specs.Places.{space_items, ranges_for}
@@ -43,11 +44,11 @@ bus_is s records has k r within is =
 
 -- what an index past the end is read as
 abbrev pub no_candidate : Candidate
-no_candidate = record { class = classes.Io; item = record { function = 0; part = Bar 0; extent = record { size = 0; alignment = 0; wide = false } } }
+no_candidate = record { class = classes.Io; item = record { function = 0; part = Bar 0; extent = record { size = 0; alignment = 0; highest = 0 } } }
 
 -- one more is wanted
 pub wanted_more : (roots : List ℕ) (s : System) (records : List Record) → HasRecords s (map record_value records) → (c : Candidate) → c.item.function < length records → (r : Record) → r ≡ get_or records c.item.function r
-    → (bus : ℕ) → bus ≡ r.slot.bus → (m : ℕ) → m ≡ column roots bus → (n : ℕ) → n ≡ kind_number (kind_value c.class) c.item.extent.wide → (old : List Wanted)
+    → (bus : ℕ) → bus ≡ r.slot.bus → (m : ℕ) → m ≡ column roots bus → (n : ℕ) → n ≡ kind_number (kind_value c.class) (is_high (extent_value c.item.extent)) → (old : List Wanted)
     → old ++ record { extent = c.item.extent; list = 3 * m + n } ∷ [] ≡ old ++ wanted_value roots s c ∷ []
 wanted_more roots s records has c within r is bus on m m_is n n_is old =
     ap (λ k. old ++ record { extent = c.item.extent; list = 3 * k + n } ∷ []) (m_is ∙ ap (column roots) (on ∙ bus_is s records has c.item.function r within is))
@@ -88,7 +89,7 @@ module _ (q : Request) (s : System) (system : IsSystem s) (space : Space) (bus :
   number_in count some all i listed =
       let of = of_space q s space bus i listed in
       let on = i.region.function.slot.bus in
-      let few = kind_few i.class i.extent.wide in
+      let few = kind_few i.class (is_high i.extent) in
       elim (cases_Bool (is_root q.roots on)) [
         | inl root ↦
             let low = (slots_of s system i.region.function of.listed).0 in

@@ -1,10 +1,11 @@
--- Lists of ranges by number, three in each column: of what is plain, of what is wide, and of prefetchable memory.
+-- Lists of ranges by number, three in each column: of what is plain, of what may lie above 4 GB, and of prefetchable memory.
 use Rattle.std.specs.Prelude.{◌≡◌, ℕ, ◌+◌, ◌*◌, ◌<◌, Bool, if◌then◌else◌, IsTrue, List, [], ◌∷◌, ◌++◌, map, length, slice_index_or, Option, None, Some}
 use Rattle.std.specs.List.{filter, Contains}
 use Rattle.pci_spec.specs.Decoded.{Range as DecodedRange}
 use Rattle.pci_spec.specs.Window.{WindowKind, IoWindow, MemoryWindow, PrefetchWindow}
 use Rattle.pci_spec.specs.System.{System, Space, Io, Memory}
 use Rattle.pci_spec.specs.Bus.{is_root}
+use Rattle.settle_spec.specs.FirstPlace.{is_high}
 use Rattle.settle_spec.specs.Lists.{RootRange, Lists, Request, is_had_by}
 use Rattle.settle_spec.specs.Items.{Item as ItemValue, Placed}
 use Rattle.settle_spec.specs.Places.{space_items, ranges_for}
@@ -18,9 +19,9 @@ use Rattle.pci_settled.specs.Candidates.{candidate_value}
 
 -- which list of a column it is
 abbrev pub kind_number : WindowKind → Bool → ℕ
-kind_number IoWindow wide = 0
-kind_number MemoryWindow wide = if wide then 1 else 0
-kind_number PrefetchWindow wide = 2
+kind_number IoWindow high = 0
+kind_number MemoryWindow high = if high then 1 else 0
+kind_number PrefetchWindow high = 2
 
 -- a root has a column of its own
 abbrev pub column : List ℕ → ℕ → ℕ
@@ -28,7 +29,7 @@ column roots bus = if is_root roots bus then bus else 0
 
 abbrev pub list_number : List ℕ → ItemValue → ℕ
 list_number roots i =
-    3 * column roots i.region.function.slot.bus + kind_number i.class i.extent.wide
+    3 * column roots i.region.function.slot.bus + kind_number i.class (is_high i.extent)
 
 abbrev pub wanted_value : List ℕ → System → Candidate → Wanted
 wanted_value roots s c =

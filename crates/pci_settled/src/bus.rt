@@ -42,14 +42,14 @@ pub struct BusPlaces<A: Allocator> {
     pub lack: Option<usize>,
 }
 
-/// Which list of a column is for what is of a class, and wide or not.
-fn kind_number(class: WindowKind, wide: bool) -> usize
-    ensures exact { result ≡ kind_number (kind_value class) wide }
+/// Which list of a column is for what is of a class, and may lie above 4 GB or not.
+fn kind_number(class: WindowKind, high: bool) -> usize
+    ensures exact { result ≡ kind_number (kind_value class) high }
     ensures few { result < 3 }
 {
     match class {
         WindowKind::Io => 0,
-        WindowKind::Memory => { if wide { 1 } else { 0 } }
+        WindowKind::Memory => { if high { 1 } else { 0 } }
         WindowKind::Prefetchable => 2,
     }
 }
@@ -81,7 +81,7 @@ fn wanted_of<A: Allocator>(
     for candidate in candidates {
         let item = candidate.item;
         let bus = records[item.function].slot.bus();
-        let list = 3 * column(roots, bus) + kind_number(candidate.class, item.extent.wide);
+        let list = 3 * column(roots, bus) + kind_number(candidate.class, item.extent.is_high());
         wanted.push(Wanted {
             extent: item.extent,
             list,
@@ -112,7 +112,7 @@ pub fn place_bus<A: Allocator + Copy, B: Allocator>(
     // a new window is as large as what is behind it, which is worked out before
     requires known { KnowsWindows
         (pass_of admitted.now (space_of space) terms staying.now windows.now) }
-    // a column has three lists: of plain, wide and prefetchable ranges
+    // a column has three lists: of plain ranges, of those above 4 GB too, and of prefetchable ones
     requires some { 3 ≤ length lists.now }
     // a root has a column of its own, found by its number
     requires roots { IsTrue (is_root admitted.now.roots bus) → length lists.now ≡ 768 }

@@ -99,7 +99,7 @@ fn range_list<A: Allocator>(alloc: A, range: Option<Range>) -> Result<Vec<Range,
     Ok(list)
 }
 
-/// What is behind a bridge can have its windows alone, also where it is wide.
+/// What is behind a bridge can have its windows alone, also where it may lie above 4 GB.
 pub fn column_behind<A: Allocator + Copy>(
     alloc: A,
     plain: Option<Range>,

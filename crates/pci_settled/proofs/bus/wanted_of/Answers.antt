@@ -1,7 +1,8 @@
 use Rattle.std.proofs.Common.{[], get_or, ◌∙◌, ap, sym}
+use Rattle.pci_base.specs.WindowKinds.{kind_value}
 use Rattle.pci_function.specs.declared.record.Record.{Record}
 use Rattle.pci_tree.specs.Roots.{buses_of}
-use Rattle.pci_settled.specs.Columns.{wanted_value}
+use Rattle.pci_settled.specs.Columns.{kind_number, wanted_value}
 use Rattle.pci_settled.proofs.Added.{more_of, all_of}
 use Rattle.pci_settled.proofs.Wanted.{no_candidate, wanted_more}
 use Rattle.pci_settled.proofs.bus.wanted_of.Goals as goal
@@ -12,7 +13,7 @@ loop-candidate-preserved g c = λ s has.
     (c.in_ok-push.ensures.items
     ∙ wanted_more (buses_of c.args.roots.now) s c.args.records.now has (get_or c.args.candidates.now c.loop-candidate.candidate-index no_candidate)
     (c.requires c.loop-candidate.candidate-index no_candidate c.loop-candidate-test.true) c.index-records-item.result c.index-records-item.is c.bus-bus.result (c.bus-bus.ensures ∙ ap (λ (x : Record). x.slot.bus) (sym c.index-records-item.is))
-    c.column.result c.column.ensures.exact c.kind_number.result c.kind_number.ensures.exact c.loop-candidate.wanted.items)
+    c.column.result c.column.ensures.exact c.kind_number.result (c.kind_number.ensures.exact ∙ ap (kind_number (kind_value (get_or c.args.candidates.now c.loop-candidate.candidate-index no_candidate).class)) c.is_high.ensures) c.loop-candidate.wanted.items)
 
 pub returns : goal.returns
 returns g c = λ s has.
