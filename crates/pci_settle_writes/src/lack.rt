@@ -33,8 +33,8 @@ pub struct Lack {
 /// Why nothing is settled.
 #[derive(Clone, Copy, Debug, PartialEq, Eq)]
 pub enum SettleFault {
-    /// 70: a range is backward or of a bus that is no root, two ranges of a list share an address, I/O ends above FFFFh or
-    /// memory above FFFFFFFFh.
+    /// 70: a range is backward or of a bus that is no root, two ranges of a list share an address, or I/O or memory that isn't
+    /// prefetchable ends above FFFFFFFFh.
     BadLists,
     /// 76: the title of the function's block in the probe names this register as assumed. It is that of a BAR, or of a ROM that
     /// is on.
