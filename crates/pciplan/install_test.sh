@@ -459,6 +459,12 @@ if command -v bash >/dev/null; then
     offers "show check probe ''" ''
     offers 'plan --io 0-1 dump.txt --writes --' '--mem --pref --root --why'
     offers 'probe dump.txt --exact s' FILES
+    offers "faults --model ''" 'ide power reset subtractive unnumbered vga vga16 all'
+    offers 'faults --model =' ''
+    offers "map --model = p" 'power'
+    offers 'faults dump.txt probe.txt --model vga,r' 'vga,reset'
+    offers 'faults --model power,vga16,' 'power,vga16,ide power,vga16,reset power,vga16,subtractive power,vga16,unnumbered'
+    offers "faults --model power dump.txt ''" FILES
     offers "judge ''" ''
 else
     echo 'skipped: what bash offers'

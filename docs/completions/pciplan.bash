@@ -1,5 +1,16 @@
 # Completion of pciplan for bash. pciplan(1) says what the words mean.
 
+# Fills COMPREPLY with the words of --model that the list at the cursor doesn't have yet.
+_pciplan_model() {
+    local begun='' each offered=''
+    [[ $1 != *,* ]] || begun=${1%,*},
+    for each in ide power reset subtractive unnumbered vga vga16; do
+        [[ ,$begun == *,$each,* || ($each == vga* && ,$begun == *,vga*) ]] || offered+="$begun$each "
+    done
+    [ -n "$begun" ] || offered+=all
+    mapfile -t COMPREPLY < <(compgen -W "$offered" -- "$1")
+}
+
 # Fills COMPREPLY with what may stand at the cursor: a command, a text's file, or an option that isn't said yet.
 _pciplan() {
     local word=${COMP_WORDS[COMP_CWORD]} options said=' ' texts=0 ended='' at
@@ -32,8 +43,11 @@ _pciplan() {
         *) texts=$((texts + 1)) ;;
         esac
     done
-    # Nothing is offered for an option's own word.
-    [ "$at" -eq "$COMP_CWORD" ] || return
+    # For an option's own word nothing is offered, but for that of --model.
+    if [ "$at" -ne "$COMP_CWORD" ]; then
+        [[ $said != *' --model ' || $word == = ]] || _pciplan_model "$word"
+        return
+    fi
 
     if [[ -z $ended && ($word == -* || $texts -ge 2) ]]; then
         for at in $options; do

@@ -44,7 +44,7 @@ complete -c pciplan -n __pciplan_wants_command -a plan -d 'Plan the addresses of
 complete -c pciplan -n __pciplan_wants_command -a settle -d 'Move what is at fault, within lists of ranges'
 complete -c pciplan -n __pciplan_wants_command -a probe -d 'Derive the probe from what Linux sized'
 complete -c pciplan -n '__pciplan_takes root check faults map plan settle' -l root -x -d 'Buses on which accesses of the host start'
-complete -c pciplan -n '__pciplan_takes model faults map' -l model -x -d 'Words by which functions are taken'
+complete -c pciplan -n '__pciplan_takes model faults map' -l model -x -a '(__fish_append , all ide power reset subtractive unnumbered vga vga16)' -d 'Words by which functions are taken'
 complete -c pciplan -n '__pciplan_takes host-io faults map' -l host-io -x -d 'I/O addresses that the host sends'
 complete -c pciplan -n '__pciplan_takes host-mem faults map' -l host-mem -x -d 'Memory addresses that the host sends'
 complete -c pciplan -n '__pciplan_takes io plan settle' -l io -x -d 'Pool or ranges of I/O addresses'

@@ -1,6 +1,6 @@
 -- The words by which a user says how functions are to be taken.
-use Rattle.std.specs.Prelude.{ℕ, Bool, true, false, List, [], ◌∷◌, ◌++◌, if◌then◌else◌, Option, None, Some, codes}
-use Rattle.std.specs.List.{flat_map}
+use Rattle.std.specs.Prelude.{◌≡◌, ◌≢◌, ◌↔◌, ℕ, Bool, true, false, IsTrue, List, Option, None, Some, codes}
+use Rattle.std.specs.List.{AllPairs, Contains}
 use Rattle.given_spec.specs.Words.{VgaWord, Vga, Vga16}
 
 -- Which of them count.
@@ -28,21 +28,34 @@ all_words =
     record
     { ide = true; power = true; reset = true; subtractive = true; unnumbered = true; vga = Some Vga }
 
-abbrev pub word_if : Bool → List ℕ → List (List ℕ)
-word_if counts word = if counts then word ∷ [] else []
+-- What a word of a list names.
+pub data Name : Type 0 where
+  Ide : Name
+  Power : Name
+  Reset : Name
+  Subtractive : Name
+  Unnumbered : Name
+  Legacy : (vga : VgaWord) → Name
 
-abbrev pub vga_names : Option VgaWord → List (List ℕ)
-vga_names None = []
-vga_names (Some Vga) = codes "vga" ∷ []
-vga_names (Some Vga16) = codes "vga16" ∷ []
+abbrev pub name_text : Name → List ℕ
+name_text Ide = codes "ide"
+name_text Power = codes "power"
+name_text Reset = codes "reset"
+name_text Subtractive = codes "subtractive"
+name_text Unnumbered = codes "unnumbered"
+name_text (Legacy Vga) = codes "vga"
+name_text (Legacy Vga16) = codes "vga16"
 
--- the words that count, in this order
-abbrev pub names_of : Words → List (List ℕ)
-names_of w =
-    word_if w.ide (codes "ide") ++ word_if w.power (codes "power")
-    ++ word_if w.reset (codes "reset") ++ word_if w.subtractive (codes "subtractive")
-    ++ word_if w.unnumbered (codes "unnumbered") ++ vga_names w.vga
+-- what a word names counts
+abbrev pub IsCounted : Words → Name → Type 0
+IsCounted w Ide = IsTrue w.ide
+IsCounted w Power = IsTrue w.power
+IsCounted w Reset = IsTrue w.reset
+IsCounted w Subtractive = IsTrue w.subtractive
+IsCounted w Unnumbered = IsTrue w.unnumbered
+IsCounted w (Legacy vga) = w.vga ≡ Some vga
 
--- each behind a comma
-abbrev pub list_text : Words → List ℕ
-list_text w = flat_map (λ word. 44 ∷ word) (names_of w)
+-- just what these words name counts, and none stands twice
+pub record AreNames (names : List Name) (w : Words) : Type 0 where
+  pub once : AllPairs (λ m n. m ≢ n) names
+  pub counted : (n : Name) → Contains names n ↔ IsCounted w n

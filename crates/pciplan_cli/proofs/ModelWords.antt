@@ -1,243 +1,250 @@
 -- Lists of words: what is read of one, and that nothing else has its text.
-use Rattle.std.proofs.Common.{◌≡◌, ◌≢◌, inl, inr, ℕ, ◌<◌, Bool, true, false, List, [], ◌∷◌, ◌++◌, length, get_or, drop, Option, None, Some, Bor, refl, sym, ◌∙◌, ap, subst, codes, arith}
-use Rattle.std.specs.Prelude.{◌==◌, IsSomeAnd, MatchOption, is_some, not, option_map}
-use Rattle.std.specs.Bool.{then_some}
-use Rattle.std.specs.List.{flat_map}
-use Rattle.std.proofs.lemmas.Bool.{false≢true}
-use Rattle.std.proofs.lemmas.List.{append-nil, append_assoc, append_cancel_left}
+use Rattle.std.proofs.Common.{◌≡◌, ◌≢◌, inl, inr, ℕ, zero, suc, ◌<◌, Bool, true, false, List, [], ◌∷◌, ◌++◌, length, get_or, Option, None, Some, Bor, refl, sym, ◌∙◌, ap, subst, codes, arith, nat_lt}
+use Rattle.std.specs.Prelude.{◌↔◌, IsTrue, MatchOption, option_map, is_some}
+use Rattle.std.specs.List.{AllPairs, Contains, list_all}
+use Rattle.std.proofs.lemmas.Bool.{false≢true, and_parts, ltb-true}
+use Rattle.std.proofs.lemmas.List.{append_assoc, length-append, get_or_append_left, get_or_at, get_or_default}
+use Rattle.std.proofs.lemmas.List.Elements.{Contains-append_left, Contains-append_right, Contains-append_cases}
+use Rattle.std.proofs.lemmas.List.Quantifiers.{all_pairs_push}
 use Rattle.given_spec.specs.Words.{VgaWord, Vga, Vga16}
-use Rattle.model_spec.specs.Words.{Words, all_words, list_text, vga_names, word_if}
-use Rattle.pci_model.specs.WordsValue.{words_value}
+use Rattle.model_spec.specs.Words.{Words, Name, Ide, Power, Reset, Subtractive, Unnumbered, Legacy, name_text, IsCounted, AreNames, no_words}
+use Rattle.pci_model.specs.WordsValue.{vga_value, words_value}
+use Rattle.pci_model.specs.declared.words.VgaWord.{VgaWord as DeclaredVga}
 use Rattle.pci_model.specs.declared.words.Words as declared
-use Rattle.pciplan_cli.specs.ModelWords.{IsModelWord, left_text, text_of, vga_text}
+use Rattle.pciplan_lists.specs.Joined.{AreJoined, behind}
+use Rattle.pciplan_lists.proofs.Joined.{IsRead, read_bad, read_more, read_all, read_only, read_none}
+use Rattle.pciplan_lists.proofs.Without.{Without, without_one}
+use Rattle.pciplan_cli.specs.ModelWords.{IsNameWord, IsWordList, IsModelWord}
+use Rattle.pciplan_cli.specs.NameWords.{IsAdded, IsTooMuch}
 
--- a list that begins with a word has neither its end nor a comma behind it
-pub not_behind : (list name behind : List ℕ) (rest : Option (List ℕ)) → list ≡ name ++ behind → false ≡ length behind == 0
-    → ((others : List ℕ) → behind ≢ 44 ∷ others) → 44 ∷ list ≡ 44 ∷ (name ++ left_text rest) → ⊥
-not_behind list name behind None is more none e =
-    let same : behind ≡ [] = append_cancel_left name behind [] (sym is ∙ ap (λ l. drop 1 l) e) in
-    false≢true (subst (λ (l : List ℕ). false ≡ length l == 0) same more)
-not_behind list name behind (Some others) is more none e =
-    none others (append_cancel_left name behind (44 ∷ others) (sym is ∙ ap (λ l. drop 1 l) e))
+-- ---- a name has no comma
 
--- a word that counts, behind a comma
-abbrev pub item : Bool → List ℕ → List ℕ
-item true name = 44 ∷ name
-item false name = []
+no_comma : (text : List ℕ) → list_all (λ b. nat_lt 44 b) text ≡ true → Without 44 text
+no_comma [] all = λ i inside. absurd (omega (arith, inside))
+no_comma (x ∷ text) all =
+    let parts = and_parts (nat_lt 44 x) (list_all (λ b. nat_lt 44 b) text) all in
+    without_one 44 x text (λ same. omega (arith, same, ltb-true 44 x parts.0)) (no_comma text parts.1)
 
--- what is known of one word that was looked for: the texts before and after
-pub record Looked (result : Bool) (name before after : List ℕ) : Type 0 where
-  pub taken : result ≡ true → before ≡ 44 ∷ (name ++ after)
-  pub kept : result ≡ false → after ≡ before
-  pub found : (rest : Option (List ℕ)) → before ≡ 44 ∷ (name ++ left_text rest) → result ≡ true
+all_above : (n : Name) → list_all (λ b. nat_lt 44 b) (name_text n) ≡ true
+all_above Ide = refl
+all_above Power = refl
+all_above Reset = refl
+all_above Subtractive = refl
+all_above Unnumbered = refl
+all_above (Legacy Vga) = refl
+all_above (Legacy Vga16) = refl
 
--- a text that may be left
-pub record IsLeft (text : List ℕ) : Type 0 where
-  pub left : Option (List ℕ)
-  pub is : text ≡ left_text left
+pub name_without_comma : (word : List ℕ) (n : Name) → IsNameWord word n → Without 44 word
+name_without_comma word n is = subst (λ w. Without 44 w) (sym is) (no_comma (name_text n) (all_above n))
 
-left_more : (counts : Bool) (name text : List ℕ) → IsLeft text → IsLeft (item counts name ++ text)
-left_more true name text left = record { left = Some (name ++ text); is = refl }
-left_more false name text left = left
+-- ---- words are told by what they count
 
--- its first word begins with another letter
-other_letter : (x : ℕ) (counts : Bool) (name text : List ℕ) → 0 < length name → get_or name 0 0 ≢ x → get_or text 1 0 ≢ x
-    → get_or (item counts name ++ text) 1 0 ≢ x
-other_letter x counts [] text some name_other other = absurd (omega arith)
-other_letter x true (y ∷ name) text some name_other other = name_other
-other_letter x false (y ∷ name) text some name_other other = other
+same_flag : (a b : Bool) → (IsTrue a ↔ IsTrue b) → a ≡ b
+same_flag true true h = refl
+same_flag false false h = refl
+same_flag true false h = sym (h.0 refl)
+same_flag false true h = h.1 refl
 
-item_is : (result : Bool) (name before after : List ℕ) → Looked result name before after → before ≡ item result name ++ after
-item_is true name before after looked = looked.taken refl
-item_is false name before after looked = sym (looked.kept refl)
+same_vga : (a b : Option VgaWord) → ((v : VgaWord) → (a ≡ Some v) ↔ (b ≡ Some v)) → a ≡ b
+same_vga None None h = refl
+same_vga None (Some v) h = (h v).1 refl
+same_vga (Some v) b h = sym ((h v).0 refl)
 
--- a word is taken where it counts
-pub record IsSame (result counts : Bool) (after text : List ℕ) : Type 0 where
-  pub taken : result ≡ counts
-  pub left : after ≡ text
+pub same_words : (w v : Words) → ((n : Name) → IsCounted w n ↔ IsCounted v n) → w ≡ v
+same_words w v h = λ i. record {
+  ide = same_flag w.ide v.ide (h Ide) i;
+  power = same_flag w.power v.power (h Power) i;
+  reset = same_flag w.reset v.reset (h Reset) i;
+  subtractive = same_flag w.subtractive v.subtractive (h Subtractive) i;
+  unnumbered = same_flag w.unnumbered v.unnumbered (h Unnumbered) i;
+  vga = same_vga w.vga v.vga (λ x. h (Legacy x)) i;
+}
 
-look_same : (result counts : Bool) (name before after text : List ℕ) → Looked result name before after → 0 < length name
-    → before ≡ item counts name ++ text → IsLeft text → get_or text 1 0 ≢ get_or name 0 0 → IsSame result counts after text
-look_same result counts [] before after text looked some is left other = absurd (omega arith)
-look_same true true (x ∷ name) before after text looked some is left other =
-    record { taken = refl; left = append_cancel_left (44 ∷ x ∷ name) after text (sym (looked.taken refl) ∙ is) }
-look_same false false (x ∷ name) before after text looked some is left other =
-    record { taken = refl; left = looked.kept refl ∙ is }
-look_same false true (x ∷ name) before after text looked some is left other =
-    absurd (false≢true (looked.found left.left (is ∙ ap (λ t. 44 ∷ x ∷ (name ++ t)) left.is)))
-look_same true false (x ∷ name) before after text looked some is left other =
-    absurd (other (ap (λ l. get_or l 1 0) (sym is ∙ looked.taken refl)))
+-- ---- one legacy word alone counts
 
--- ---- the word for bridges with legacy parts, which is the last
+vga_in : Option VgaWord → VgaWord
+vga_in None = Vga
+vga_in (Some v) = v
 
-vga_left : (vga : Option VgaWord) → IsLeft (vga_text vga)
-vga_left None = record { left = None; is = refl }
-vga_left (Some Vga) = record { left = Some (codes "vga"); is = refl }
-vga_left (Some Vga16) = record { left = Some (codes "vga16"); is = refl }
+one_legacy : (w : Words) (x y : VgaWord) → IsCounted w (Legacy x) → IsCounted w (Legacy y) → Legacy x ≡ Legacy y
+unfolding vga_in
+one_legacy w x y is_x is_y = ap (λ o. Legacy (vga_in o)) (sym is_x ∙ is_y)
 
-vga_other : (x : ℕ) (vga : Option VgaWord) → 118 ≢ x → 0 ≢ x → get_or (vga_text vga) 1 0 ≢ x
-vga_other x None v none = none
-vga_other x (Some Vga) v none = v
-vga_other x (Some Vga16) v none = v
+pub legacy_too_much : (w : Words) (vga : Option VgaWord) (y : VgaWord) → w.vga ≡ vga → is_some vga ≡ true → IsTooMuch w (Legacy y)
+legacy_too_much w None y is some = absurd (false≢true some)
+legacy_too_much w (Some x) y is some = record { other = Legacy x; counted = is; never = λ v a b. one_legacy v x y a b }
 
--- nothing that is left begins with a digit
-no_digits : (left : Option (List ℕ)) → left_text left ≡ codes "16" → ⊥
-no_digits None e = absurd (let no : ⊥ = cc in no)
-no_digits (Some list) e = (let first = ap (λ l. get_or l 0 0) e in omega (arith, first))
+some_value : (vga : Option DeclaredVga) → is_some vga ≡ true → is_some (option_map vga_value vga) ≡ true
+some_value None some = some
+some_value (Some v) some = refl
 
-vga_apart : (after : List ℕ) → codes ",vga16" ≡ codes ",vga" ++ after → after ≡ codes "16"
-vga_apart after e = append_cancel_left (codes ",vga") after (codes "16") (sym e)
+pub code_too_much : (w : declared.Words) (y : VgaWord) → is_some w.vga ≡ true → IsTooMuch (words_value w) (Legacy y)
+code_too_much w y some = legacy_too_much (words_value w) (option_map vga_value w.vga) y refl (some_value w.vga some)
 
--- it was looked for: `vga`
-pub vga_found : (left : Option (Bor (List ℕ))) (before : List ℕ) → before ≡ codes ",vga" ++ text_of left
-    → (word : Option VgaWord) → before ≡ vga_text word → (Some Vga ≡ word) × (text_of left ≡ [])
-vga_found left before is None e = absurd (let size = ap length (sym e ∙ is) in omega (arith, size))
-vga_found left before is (Some Vga) e = (refl, append_cancel_left (codes ",vga") (text_of left) [] (sym is ∙ e))
-vga_found left before is (Some Vga16) e = absurd (no_digits (option_map (λ list. list.now) left) (vga_apart (text_of left) (sym e ∙ is)))
+-- ---- names that were read, and the words that count by them
 
-abbrev no_word : Option VgaWord
-no_word = None
+nothing_counts : (n : Name) → IsCounted no_words n → ⊥
+nothing_counts Ide is = false≢true is
+nothing_counts Power is = false≢true is
+nothing_counts Reset is = false≢true is
+nothing_counts Subtractive is = false≢true is
+nothing_counts Unnumbered is = false≢true is
+nothing_counts (Legacy v) is = cc is
 
--- neither of the two
-pub no_vga_found : (before after : List ℕ) → after ≡ before → ((rest : Option (List ℕ)) → before ≡ codes ",vga" ++ left_text rest → false ≡ true)
-    → ((rest : Option (List ℕ)) → before ≡ codes ",vga16" ++ left_text rest → false ≡ true)
-    → (word : Option VgaWord) → before ≡ vga_text word → (no_word ≡ word) × (after ≡ [])
-no_vga_found before after kept none none16 None e = (refl, kept ∙ e)
-no_vga_found before after kept none none16 (Some Vga) e = absurd (false≢true (none None e))
-no_vga_found before after kept none none16 (Some Vga16) e = absurd (false≢true (none16 None e))
+none_counted : AreNames [] no_words
+none_counted = record {
+  once = λ i j d before inside. absurd (omega (arith, inside));
+  counted = λ n. (λ has. absurd (omega (arith, has.1)), λ is. absurd (nothing_counts n is));
+}
 
--- the text of a list by its words
-abbrev from_unnumbered : Words → List ℕ
-from_unnumbered w = item w.unnumbered (codes "unnumbered") ++ vga_text w.vga
+only_last : {n : Name} (m : Name) → Contains (n ∷ []) m → m ≡ n
+only_last m (zero, inside, is) = sym is
+only_last m (suc k, inside, is) = absurd (omega (arith, inside))
 
-abbrev from_subtractive : Words → List ℕ
-from_subtractive w = item w.subtractive (codes "subtractive") ++ from_unnumbered w
+-- an element at an index is one, whatever stands for those that aren't there
+at_index : (xs : List Name) (k : ℕ) (d x : Name) → k < length xs → get_or xs k d ≡ x → Contains xs x
+at_index xs k d x inside is = (k, inside, get_or_default xs k x d inside ∙ is)
 
-abbrev from_reset : Words → List ℕ
-from_reset w = item w.reset (codes "reset") ++ from_subtractive w
+one_counted : (done : List Name) (w v : Words) (n : Name) → AreNames done w → IsAdded w v n → AreNames (done ++ n ∷ []) v
+one_counted done w v n are added = record {
+  once = all_pairs_push (λ m n. m ≢ n) done n are.once
+      (λ k d inside same. added.fresh ((are.counted n).0 (at_index done k d n inside same)));
+  counted = λ m. (
+    λ has. (added.counted m).1 (elim (Contains-append_cases done (n ∷ []) m has) [
+      | inl before ↦ inl ((are.counted m).0 before)
+      | inr last ↦ inr (only_last m last)
+    ]),
+    λ is. elim ((added.counted m).0 is) [
+      | inl before ↦ Contains-append_left done (n ∷ []) m ((are.counted m).1 before)
+      | inr same ↦ Contains-append_right done (n ∷ []) m (subst (λ x. Contains (n ∷ []) x) (sym same) (0, omega arith, refl))
+    ],
+  );
+}
 
-abbrev from_power : Words → List ℕ
-from_power w = item w.power (codes "power") ++ from_reset w
+-- the words by the names that were read so far
+pub record IsTakenTo (whole text : List ℕ) (w : Words) : Type 0 where
+  pub done : List Name
+  pub read : IsRead IsNameWord name_without_comma whole text done
+  pub are : AreNames done w
 
-abbrev from_ide : Words → List ℕ
-from_ide w = item w.ide (codes "ide") ++ from_power w
+pub taken_none : (whole : List ℕ) → IsTakenTo whole whole no_words
+taken_none whole = record { done = []; read = read_none IsNameWord name_without_comma whole; are = none_counted }
 
-item_first : (counts : Bool) (name : List ℕ) (names : List (List ℕ))
-    → flat_map (λ word. 44 ∷ word) (word_if counts name ++ names) ≡ item counts name ++ flat_map (λ word. 44 ∷ word) names
-item_first true name names = refl
-item_first false name names = refl
+-- what a part of the list names, if anything
+abbrev pub IsNamed : List ℕ → Option Name → Type 0
+IsNamed word o = (n : Name) → (o ≡ Some n) ↔ (word ≡ name_text n)
 
-names_right : (a b c d e f : List (List ℕ)) → a ++ b ++ c ++ d ++ e ++ f ≡ a ++ (b ++ (c ++ (d ++ (e ++ f))))
-names_right a b c d e f = append_assoc (a ++ b ++ c ++ d) e f ∙ append_assoc (a ++ b ++ c) d (e ++ f) ∙ append_assoc (a ++ b) c (d ++ (e ++ f)) ∙ append_assoc a b (c ++ (d ++ (e ++ f)))
+name_in : Option Name → Name
+name_in None = Ide
+name_in (Some n) = n
 
-text_of_items : (w : Words) → list_text w ≡ from_ide w
-text_of_items w =
-    ap (λ names. flat_map (λ word. 44 ∷ word) names) (names_right (word_if w.ide (codes "ide")) (word_if w.power (codes "power"))
-    (word_if w.reset (codes "reset")) (word_if w.subtractive (codes "subtractive")) (word_if w.unnumbered (codes "unnumbered")) (vga_names w.vga))
-    ∙ item_first w.ide (codes "ide") _
-    ∙ ap (λ t. item w.ide (codes "ide") ++ t) (item_first w.power (codes "power") _
-    ∙ ap (λ t. item w.power (codes "power") ++ t) (item_first w.reset (codes "reset") _
-    ∙ ap (λ t. item w.reset (codes "reset") ++ t) (item_first w.subtractive (codes "subtractive") _
-    ∙ ap (λ t. item w.subtractive (codes "subtractive") ++ t) (item_first w.unnumbered (codes "unnumbered") _))))
+only_name : (word : List ℕ) (o : Option Name) (n m : Name) → IsNamed word o → o ≡ Some n → IsNameWord word m → n ≡ m
+unfolding name_in
+only_name word o n m named is word_is = ap name_in (sym is ∙ (named m).1 word_is)
 
--- all words were looked for in a list, and what is left of it
-pub record AreLooked (list : List ℕ) (w : Words) (last : List ℕ) : Type 0 where
-  pub after_ide : List ℕ
-  pub after_power : List ℕ
-  pub after_reset : List ℕ
-  pub after_subtractive : List ℕ
-  pub after_unnumbered : List ℕ
-  pub ide : Looked w.ide (codes "ide") (44 ∷ list) after_ide
-  pub power : Looked w.power (codes "power") after_ide after_power
-  pub reset : Looked w.reset (codes "reset") after_power after_reset
-  pub subtractive : Looked w.subtractive (codes "subtractive") after_reset after_subtractive
-  pub unnumbered : Looked w.unnumbered (codes "unnumbered") after_subtractive after_unnumbered
-  pub vga : after_unnumbered ≡ vga_text w.vga ++ last
-  pub vga_found : (word : Option VgaWord) → after_unnumbered ≡ vga_text word → (w.vga ≡ word) × (last ≡ [])
+pub read_name : (whole text first : List ℕ) (left : Option (Bor (List ℕ))) (done : List Name) (o : Option Name) (n : Name)
+    → IsRead IsNameWord name_without_comma whole text done → text ≡ 44 ∷ (first ++ behind left) → Without 44 first
+    → IsNamed first o → o ≡ Some n → IsRead IsNameWord name_without_comma whole (behind left) (done ++ n ∷ [])
+read_name whole text first left done o n read is none named named_is =
+    read_more IsNameWord name_without_comma whole text first left done n read is none ((named n).0 named_is) (λ m. only_name first o n m named named_is)
 
--- where nothing is left, the words that were taken are those of the list
-pub looked_is : (list : List ℕ) (w : Words) (last : List ℕ) → AreLooked list w last → last ≡ [] → 44 ∷ list ≡ list_text w
-looked_is list w last looked none =
-    item_is w.ide (codes "ide") _ _ looked.ide
-    ∙ ap (λ t. item w.ide (codes "ide") ++ t) (item_is w.power (codes "power") _ _ looked.power
-    ∙ ap (λ t. item w.power (codes "power") ++ t) (item_is w.reset (codes "reset") _ _ looked.reset
-    ∙ ap (λ t. item w.reset (codes "reset") ++ t) (item_is w.subtractive (codes "subtractive") _ _ looked.subtractive
-    ∙ ap (λ t. item w.subtractive (codes "subtractive") ++ t) (item_is w.unnumbered (codes "unnumbered") _ _ looked.unnumbered
-    ∙ ap (λ t. item w.unnumbered (codes "unnumbered") ++ t) (looked.vga ∙ ap (λ l. vga_text w.vga ++ l) none ∙ append-nil (vga_text w.vga))))))
-    ∙ sym (text_of_items w)
+-- one more
+pub taken_more : (whole text first : List ℕ) (left : Option (Bor (List ℕ))) (o : Option Name) (n : Name) (w v : Words)
+    → IsTakenTo whole text w → text ≡ 44 ∷ (first ++ behind left) → Without 44 first → IsNamed first o → o ≡ Some n
+    → IsAdded w v n → IsTakenTo whole (behind left) v
+taken_more whole text first left o n w v taken is none named named_is added = record {
+  done = taken.done ++ n ∷ [];
+  read = read_name whole text first left taken.done o n taken.read is none named named_is;
+  are = one_counted taken.done w v n taken.are added;
+}
 
--- of a list of words each is taken, and nothing is left
-pub record AreAll (w words : Words) (last : List ℕ) : Type 0 where
-  pub same : w ≡ words
-  pub none : last ≡ []
+-- a part that names nothing is in no list
+pub no_name : (word text first : List ℕ) (left : Option (Bor (List ℕ))) (o : Option Name) (w : Words)
+    → IsTakenTo (44 ∷ word) text w → text ≡ 44 ∷ (first ++ behind left) → Without 44 first → IsNamed first o → o ≡ None
+    → (v : Words) → IsWordList word v → ⊥
+no_name word text first left o w taken is none named named_is v list =
+    read_bad IsNameWord name_without_comma (44 ∷ word) text first left taken.done taken.read is none
+    (λ n word_is. cc (named_is, (named n).1 word_is)) list.names list.joined
 
-first_other : (words : Words) (x : ℕ) → 105 ≢ x → 112 ≢ x → 114 ≢ x → 115 ≢ x → 117 ≢ x → 118 ≢ x → 0 ≢ x → get_or (from_ide words) 1 0 ≢ x
-first_other words x i p r s u v none =
-    other_letter x words.ide (codes "ide") (from_power words) (omega arith) i (other_letter x words.power (codes "power") (from_reset words) (omega arith) p
-    (other_letter x words.reset (codes "reset") (from_subtractive words) (omega arith) r (other_letter x words.subtractive (codes "subtractive") (from_unnumbered words) (omega arith) s
-    (other_letter x words.unnumbered (codes "unnumbered") (vga_text words.vga) (omega arith) u (vga_other x words.vga v none)))))
+-- a name that was read stands twice where it comes again
+twice : (names done more : List Name) (n : Name) → AllPairs (λ m n. m ≢ n) names → names ≡ (done ++ n ∷ []) ++ more → Contains done n → ⊥
+twice names done more n once parts has =
+    let pairs : AllPairs (λ m n. m ≢ n) (done ++ (n ∷ more)) = subst (λ l. AllPairs (λ m n. m ≢ n) l) (parts ∙ append_assoc done (n ∷ []) more) once in
+    pairs has.0 (length done) n has.1 (omega (arith, length-append done (n ∷ more)))
+    (get_or_append_left done (n ∷ more) n has.0 has.1 ∙ has.2 ∙ sym (get_or_at done n more n (length done) refl))
 
-pub looked_all : (list : List ℕ) (w : Words) (last : List ℕ) → AreLooked list w last → (words : Words) → 44 ∷ list ≡ list_text words → AreAll w words last
-looked_all list w last looked words is =
-    let unnumbered_left = left_more words.unnumbered (codes "unnumbered") (vga_text words.vga) (vga_left words.vga) in
-    let subtractive_left = left_more words.subtractive (codes "subtractive") (from_unnumbered words) unnumbered_left in
-    let reset_left = left_more words.reset (codes "reset") (from_subtractive words) subtractive_left in
-    let power_left = left_more words.power (codes "power") (from_reset words) reset_left in
-    let unnumbered_other : (x : ℕ) → 117 ≢ x → 118 ≢ x → 0 ≢ x → get_or (from_unnumbered words) 1 0 ≢ x
-    = λ x u v none. other_letter x words.unnumbered (codes "unnumbered") (vga_text words.vga) (omega arith) u (vga_other x words.vga v none) in
-    let subtractive_other : (x : ℕ) → 115 ≢ x → 117 ≢ x → 118 ≢ x → 0 ≢ x → get_or (from_subtractive words) 1 0 ≢ x
-    = λ x s u v none. other_letter x words.subtractive (codes "subtractive") (from_unnumbered words) (omega arith) s (unnumbered_other x u v none) in
-    let reset_other : (x : ℕ) → 114 ≢ x → 115 ≢ x → 117 ≢ x → 118 ≢ x → 0 ≢ x → get_or (from_reset words) 1 0 ≢ x
-    = λ x r s u v none. other_letter x words.reset (codes "reset") (from_subtractive words) (omega arith) r (subtractive_other x s u v none) in
-    let power_other : (x : ℕ) → 112 ≢ x → 114 ≢ x → 115 ≢ x → 117 ≢ x → 118 ≢ x → 0 ≢ x → get_or (from_power words) 1 0 ≢ x
-    = λ x p r s u v none. other_letter x words.power (codes "power") (from_reset words) (omega arith) p (reset_other x r s u v none) in
-    let ide = look_same w.ide words.ide (codes "ide") (44 ∷ list) looked.after_ide (from_power words) looked.ide (omega arith)
-    (is ∙ text_of_items words) power_left (power_other 105 (omega arith) (omega arith) (omega arith) (omega arith) (omega arith) (omega arith)) in
-    let power = look_same w.power words.power (codes "power") looked.after_ide looked.after_power (from_reset words) looked.power (omega arith)
-    ide.left reset_left (reset_other 112 (omega arith) (omega arith) (omega arith) (omega arith) (omega arith)) in
-    let reset = look_same w.reset words.reset (codes "reset") looked.after_power looked.after_reset (from_subtractive words) looked.reset (omega arith)
-    power.left subtractive_left (subtractive_other 114 (omega arith) (omega arith) (omega arith) (omega arith)) in
-    let subtractive = look_same w.subtractive words.subtractive (codes "subtractive") looked.after_reset looked.after_subtractive (from_unnumbered words)
-    looked.subtractive (omega arith) reset.left unnumbered_left (unnumbered_other 115 (omega arith) (omega arith) (omega arith)) in
-    let unnumbered = look_same w.unnumbered words.unnumbered (codes "unnumbered") looked.after_subtractive looked.after_unnumbered (vga_text words.vga) looked.unnumbered (omega arith)
-    subtractive.left (vga_left words.vga) (vga_other 117 words.vga (omega arith) (omega arith)) in
-    let vga = looked.vga_found words.vga unnumbered.left in
-    record {
-      same = λ i. record { ide = ide.taken i; power = power.taken i; reset = reset.taken i; subtractive = subtractive.taken i; unnumbered = unnumbered.taken i; vga = vga.0 i };
-      none = vga.1;
-    }
+-- a name among those that were read is among those of each list with this text, and so is the next one behind it
+not_once : (names done more : List Name) (w v : Words) (n : Name) → AreNames done w → AreNames names v → names ≡ (done ++ n ∷ []) ++ more
+    → IsTooMuch w n → ⊥
+not_once names done more w v n before are parts much =
+    let has : Contains done much.other = (before.counted much.other).1 much.counted in
+    let in_front : Contains (done ++ n ∷ []) much.other = Contains-append_left done (n ∷ []) much.other has in
+    let other_in : Contains names much.other = subst (λ l. Contains l much.other) (sym parts) (Contains-append_left (done ++ n ∷ []) more much.other in_front) in
+    let last_in : Contains names n = subst (λ l. Contains l n) (sym parts) (Contains-append_left (done ++ n ∷ []) more n (Contains-append_right done (n ∷ []) n (0, omega arith, refl))) in
+    let same : much.other ≡ n = much.never v ((are.counted much.other).0 other_in) ((are.counted n).0 last_in) in
+    twice names done more n are.once parts (subst (λ x. Contains done x) same has)
 
--- `all` is no list of words
-not_all : (words : Words) → 44 ∷ codes "all" ≡ list_text words → ⊥
-not_all words is =
-    let other : get_or (from_ide words) 1 0 ≢ 97 = first_other words 97 (omega arith) (omega arith) (omega arith) (omega arith) (omega arith) (omega arith) (omega arith) in
-    other (ap (λ l. get_or l 1 0) (sym (is ∙ text_of_items words)))
+-- what would count twice is in no list
+pub too_much : (word text first : List ℕ) (left : Option (Bor (List ℕ))) (o : Option Name) (n : Name) (w : Words)
+    → IsTakenTo (44 ∷ word) text w → text ≡ 44 ∷ (first ++ behind left) → Without 44 first → IsNamed first o → o ≡ Some n
+    → IsTooMuch w n → (v : Words) → IsWordList word v → ⊥
+too_much word text first left o n w taken is none named named_is much v list =
+    let read = read_name (44 ∷ word) text first left taken.done o n taken.read is none named named_is in
+    let rest = read.back list.names list.joined in
+    not_once list.names taken.done rest.more w v n taken.are list.are rest.parts much
 
--- ---- the words that were read of a list, which isn't `all`
+-- ---- the whole list
 
-list_of : (list : List ℕ) (words : Words) → (list ≡ codes "all" → ⊥) → IsModelWord list words → 44 ∷ list ≡ list_text words
-list_of list words other (inl all) = absurd (other all.0)
-list_of list words other (inr is) = is
+pub words_are : (word : List ℕ) (w : Words) → IsTakenTo (44 ∷ word) [] w → IsWordList word w
+words_are word w taken = record { names = taken.done; joined = read_all IsNameWord name_without_comma word taken.done taken.read; are = taken.are }
 
-pub words_read : (list : List ℕ) (words : declared.Words) (left : Option (Bor (List ℕ))) (ended : Bool) → (list ≡ codes "all" → ⊥) → AreLooked list (words_value words) (text_of left)
-    → is_some left ≡ not ended
-    → MatchOption (then_some ended words) ((w : Words) → IsModelWord list w → ⊥) (λ w. IsModelWord list (words_value w))
-words_read list words None true other looked e = inr (looked_is list (words_value words) [] looked refl)
-words_read list words None false other looked e = absurd (false≢true e)
-words_read list words (Some text) true other looked e = absurd (false≢true (sym e))
-words_read list words (Some text) false other looked e = λ w is.
-    omega (arith, ap length (looked_all list (words_value words) (44 ∷ text.now) looked w (list_of list w other is)).none)
+both_ways_counted : (names : List Name) (w v : Words) → AreNames names w → AreNames names v → (n : Name) → IsCounted w n ↔ IsCounted v n
+both_ways_counted names w v of_w of_v n = (λ is. (of_v.counted n).0 ((of_w.counted n).1 is), λ is. (of_w.counted n).0 ((of_v.counted n).1 is))
 
-pub words_only : (list : List ℕ) (words : declared.Words) (left : Option (Bor (List ℕ))) (ended : Bool) → (list ≡ codes "all" → ⊥) → AreLooked list (words_value words) (text_of left)
-    → is_some left ≡ not ended
-    → (w : Words) → IsModelWord list w → IsSomeAnd (then_some ended words) (λ found. words_value found ≡ w)
-words_only list words None true other looked e w is = (looked_all list (words_value words) [] looked w (list_of list w other is)).same
-words_only list words None false other looked e w is = absurd (false≢true e)
-words_only list words (Some text) true other looked e w is = absurd (false≢true (sym e))
-words_only list words (Some text) false other looked e w is =
-    omega (arith, ap length (looked_all list (words_value words) (44 ∷ text.now) looked w (list_of list w other is)).none)
+pub words_only : (word : List ℕ) (w : Words) → IsTakenTo (44 ∷ word) [] w → (v : Words) → IsWordList word v → w ≡ v
+words_only word w taken v list =
+    let same = read_only IsNameWord name_without_comma word taken.done taken.read list.names list.joined in
+    same_words w v (both_ways_counted list.names w v (subst (λ l. AreNames l w) same taken.are) list.are)
 
--- and those of `all`
-pub all_only : (list : List ℕ) → list ≡ codes "all" → (w : Words) → IsModelWord list w → all_words ≡ w
-all_only list all w (inl is) = sym is.1
-all_only list all w (inr is) = absurd (not_all w (ap (λ (l : List ℕ). 44 ∷ l) (sym all) ∙ is))
+-- ---- `all` is no list of words
+
+-- each name has another first letter
+first_letter : (n : Name) → get_or (name_text n) 0 0 ≢ 97
+first_letter Ide = omega arith
+first_letter Power = omega arith
+first_letter Reset = omega arith
+first_letter Subtractive = omega arith
+first_letter Unnumbered = omega arith
+first_letter (Legacy Vga) = omega arith
+first_letter (Legacy Vga16) = omega arith
+
+some_letter : (n : Name) (rest : List ℕ) → get_or (name_text n ++ rest) 0 0 ≡ get_or (name_text n) 0 0
+some_letter Ide rest = refl
+some_letter Power rest = refl
+some_letter Reset rest = refl
+some_letter Subtractive rest = refl
+some_letter Unnumbered rest = refl
+some_letter (Legacy Vga) rest = refl
+some_letter (Legacy Vga16) rest = refl
+
+no_all : (n : Name) (word rest : List ℕ) → IsNameWord word n → 44 ∷ codes "all" ≡ 44 ∷ (word ++ rest) → ⊥
+no_all n word rest is parts =
+    first_letter n (sym (some_letter n rest) ∙ ap (λ t. get_or (t ++ rest) 0 0) (sym is) ∙ ap (λ t. get_or t 1 0) (sym parts))
+
+first_is_all : (names : List Name) (w : Words) → AreJoined IsNameWord (44 ∷ codes "all") names → ⊥
+first_is_all [] w are = omega (arith, ap length are)
+first_is_all (n ∷ names) w are = no_all n are.1.word are.0 are.1.is are.1.parts
+
+pub not_all : (w : Words) → IsWordList (codes "all") w → ⊥
+not_all w list = first_is_all list.names w list.joined
+
+list_of : (list : List ℕ) (w : Words) → (list ≡ codes "all" → ⊥) → IsModelWord list w → IsWordList list w
+list_of list w other (inl all) = absurd (other all.0)
+list_of list w other (inr is) = is
+
+-- a list that isn't `all` has just its own words
+pub listed_alone : (list : List ℕ) (found : Option declared.Words) → (list ≡ codes "all" → ⊥)
+    → MatchOption found ((w : Words) → IsWordList list w → ⊥) (λ words. IsWordList list (words_value words))
+    → MatchOption found ((w : Words) → IsModelWord list w → ⊥) (λ words. IsModelWord list (words_value words))
+listed_alone list None other none = λ w is. none w (list_of list w other is)
+listed_alone list (Some words) other is = inr is

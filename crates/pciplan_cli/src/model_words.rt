@@ -1,56 +1,115 @@
 //! The words by which functions are taken, among the words.
-ghost use Rattle.std.specs.Prelude.{◌≡◌, ◌∷◌, ◌++◌, [], ℕ, List, Option, true, false, option_map, IsSomeAnd, MatchOption};
-ghost use Rattle.given_spec.specs.Words as vga;
+ghost use Rattle.std.specs.Prelude.{◌≡◌, ◌↔◌, Some, true, false, option_map, IsSomeAnd, IsTrue, IsFalse, MatchOption};
 ghost use Rattle.model_spec.specs.Words as model;
-ghost use Rattle.pci_model.specs.WordsValue.{vga_value, words_value};
-ghost use Rattle.pciplan_cli.specs.ModelWords.{IsModelWord, left_text, text_of, vga_text};
+ghost use Rattle.pci_model.specs.WordsValue.{words_value};
+ghost use Rattle.pciplan_cli.specs.ModelWords.{IsModelWord, IsWordList};
+ghost use Rattle.pciplan_cli.specs.NameWords.{name_value, IsAdded, IsTooMuch};
 
 use pci_model::words::{VgaWord, Words};
+use pciplan_lists::part::first_of;
 
 /// The word for every word but `vga16`.
 const ALL: &str = "all";
 
-/// Takes a word from the front of what is left of a list, with the comma behind it where more follow. It answers whether
-/// the word was there.
-fn takes(left: &mut Option<&str>, name: &str) -> bool
-    ensures taken { result ≡ true → text_of left.old ≡ 44 ∷ name.now ++ text_of left.new }
-    ensures kept { result ≡ false → text_of left.new ≡ text_of left.old }
-    ensures found { (rest : Option (List ℕ)) → text_of left.old ≡ 44 ∷ name.now ++ left_text rest
-        → result ≡ true }
-{
-    let Some(list) = *left else {
-        return false;
-    };
-    let Some(behind) = list.strip_prefix(name) else {
-        return false;
-    };
-    if behind.is_empty() {
-        *left = None;
-        return true;
-    }
-    let Some(others) = behind.strip_prefix(',') else {
-        return false;
-    };
-    *left = Some(others);
-    true
+/// What one word of a list names.
+#[derive(Clone, Copy)]
+enum Name {
+    Ide,
+    Power,
+    Reset,
+    Subtractive,
+    Unnumbered,
+    Legacy(VgaWord),
 }
 
-/// Takes the word for bridges with legacy parts from what is left of a list, whose last word it is.
-fn takes_vga(left: &mut Option<&str>) -> Option<VgaWord>
-    ensures taken { text_of left.old ≡ vga_text (option_map vga_value result) ++ text_of left.new }
-    ensures found { (word : Option vga.VgaWord) → text_of left.old ≡ vga_text word
-        → (option_map vga_value result ≡ word) × (text_of left.new ≡ []) }
+/// What a word names; None of any other word.
+fn name_of(word: &str) -> Option<Name>
+    ensures { (n : model.Name) → (option_map name_value result ≡ Some n)
+        ↔ (word.now ≡ model.name_text n) }
 {
-    if takes(left, "vga") {
-        Some(VgaWord::Vga)
-    } else if takes(left, "vga16") {
-        Some(VgaWord::Vga16)
+    if word == "ide" {
+        Some(Name::Ide)
+    } else if word == "power" {
+        Some(Name::Power)
+    } else if word == "reset" {
+        Some(Name::Reset)
+    } else if word == "subtractive" {
+        Some(Name::Subtractive)
+    } else if word == "unnumbered" {
+        Some(Name::Unnumbered)
+    } else if word == "vga" {
+        Some(Name::Legacy(VgaWord::Vga))
+    } else if word == "vga16" {
+        Some(Name::Legacy(VgaWord::Vga16))
     } else {
         None
     }
 }
 
-/// The words of a list such as `power,reset`: one or more of them in this order, joined by commas, none twice, of `vga` and
+/// Sets a flag that isn't set. It answers whether it could.
+fn sets(flag: &mut bool) -> bool
+    ensures could { result ≡ true → flag.old ≡ false }
+    ensures not { result ≡ false → flag.old ≡ true }
+    ensures set { flag.new ≡ true }
+{
+    let was = *flag;
+    *flag = true;
+    !was
+}
+
+/// Has what is named count, too. It answers whether it could: nothing counts twice, and of `vga` and `vga16` only one does.
+fn adds(words: &mut Words, name: Name) -> bool
+    ensures added { IsTrue result
+        → IsAdded (words_value words.old) (words_value words.new) (name_value name) }
+    ensures much { IsFalse result → IsTooMuch (words_value words.old) (name_value name) }
+{
+    match name {
+        Name::Ide => sets(&mut words.ide),
+        Name::Power => sets(&mut words.power),
+        Name::Reset => sets(&mut words.reset),
+        Name::Subtractive => sets(&mut words.subtractive),
+        Name::Unnumbered => sets(&mut words.unnumbered),
+        Name::Legacy(vga) => {
+            let is_none = words.vga.is_none();
+            if is_none {
+                words.vga = Some(vga);
+            }
+            is_none
+        }
+    }
+}
+
+/// The words of a list that isn't `all`.
+fn listed_words(list: &str) -> Option<Words>
+    ensures word { MatchOption result
+        ((words : model.Words) → IsWordList list.now words → ⊥)
+        (λ words. IsWordList list.now (words_value words)) }
+    ensures only { (words : model.Words) → IsWordList list.now words
+        → IsSomeAnd result (λ found. words_value found ≡ words) }
+{
+    let mut words = Words {
+        ide: false,
+        power: false,
+        reset: false,
+        subtractive: false,
+        unnumbered: false,
+        vga: None,
+    };
+    let mut left = Some(list);
+    'parts: while let Some(text) = left {
+        let (first, more) = first_of(text);
+        let Some(name) = name_of(first) else {
+            return None;
+        };
+        if !adds(&mut words, name) {
+            return None;
+        }
+        left = more;
+    }
+    Some(words)
+}
+
+/// The words of a list such as `power,reset`: one or more of them in any order, joined by commas, none twice, of `vga` and
 /// `vga16` one alone; or all but `vga16`, by the word `all`. There are none of any other word.
 pub fn words_of_list(list: &str) -> Option<Words>
     ensures word { MatchOption result
@@ -69,14 +128,5 @@ pub fn words_of_list(list: &str) -> Option<Words>
             vga: Some(VgaWord::Vga),
         });
     }
-    let mut left = Some(list);
-    let words = Words {
-        ide: takes(&mut left, "ide"),
-        power: takes(&mut left, "power"),
-        reset: takes(&mut left, "reset"),
-        subtractive: takes(&mut left, "subtractive"),
-        unnumbered: takes(&mut left, "unnumbered"),
-        vga: takes_vga(&mut left),
-    };
-    left.is_none().then_some(words)
+    listed_words(list)
 }

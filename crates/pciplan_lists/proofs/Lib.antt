@@ -1,8 +1,8 @@
 mod HexWords
 mod PoolWords
-mod Without
+pub mod Without
 mod RangeWords
-mod Joined
+pub mod Joined
 mod ListWords
 mod SlotWords
 mod HostLists

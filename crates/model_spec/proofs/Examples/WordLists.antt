@@ -1,19 +1,8 @@
--- The lists of words.
-use Rattle.std.proofs.Common.{◌≡◌, [], ◌∷◌, refl, true, Some, codes}
-use Rattle.given_spec.specs.Words.{Vga16}
-use Rattle.model_spec.specs.Words.{all_words, no_words, names_of, list_text}
+-- The names in lists of words.
+use Rattle.std.proofs.Common.{◌≡◌, [], ◌∷◌, map, refl, codes}
+use Rattle.given_spec.specs.Words.{Vga, Vga16}
+use Rattle.model_spec.specs.Words.{Ide, Power, Reset, Subtractive, Unnumbered, Legacy, name_text}
 
-none : list_text no_words ≡ []
-none = refl
-
-one : list_text (record no_words { reset = true }) ≡ codes ",reset"
-one = refl
-
-all : list_text all_words ≡ codes ",ide,power,reset,subtractive,unnumbered,vga"
-all = refl
-
-wide : list_text (record all_words { vga = Some Vga16 }) ≡ codes ",ide,power,reset,subtractive,unnumbered,vga16"
-wide = refl
-
-wide_alone : names_of (record no_words { vga = Some Vga16 }) ≡ codes "vga16" ∷ []
-wide_alone = refl
+all_names : map name_text (Ide ∷ Power ∷ Reset ∷ Subtractive ∷ Unnumbered ∷ Legacy Vga ∷ Legacy Vga16 ∷ [])
+    ≡ codes "ide" ∷ codes "power" ∷ codes "reset" ∷ codes "subtractive" ∷ codes "unnumbered" ∷ codes "vga" ∷ codes "vga16" ∷ []
+all_names = refl

@@ -1,0 +1,25 @@
+-- What a word of `--model` names, as the code has it, and words with one more.
+use Rattle.std.specs.Prelude.{◌≡◌, ◌⊎◌, ◌↔◌}
+use Rattle.model_spec.specs.Words as model
+use Rattle.pci_model.specs.WordsValue.{vga_value}
+use Rattle.pciplan_cli.specs.declared.model_words.Name.{Name}
+use Rattle.pciplan_cli.specs.declared.model_words.Name.TheVariants as names
+
+abbrev pub name_value : Name → model.Name
+name_value names.Ide = model.Ide
+name_value names.Power = model.Power
+name_value names.Reset = model.Reset
+name_value names.Subtractive = model.Subtractive
+name_value names.Unnumbered = model.Unnumbered
+name_value (names.Legacy vga) = model.Legacy (vga_value vga)
+
+-- what is named counts, too, and didn't before
+pub record IsAdded (old new : model.Words) (name : model.Name) : Type 0 where
+  pub fresh : model.IsCounted old name → ⊥
+  pub counted : (n : model.Name) → model.IsCounted new n ↔ (model.IsCounted old n ⊎ (n ≡ name))
+
+-- no words count what is named beside these
+pub record IsTooMuch (old : model.Words) (name : model.Name) : Type 0 where
+  pub other : model.Name
+  pub counted : model.IsCounted old other
+  pub never : (w : model.Words) → model.IsCounted w other → model.IsCounted w name → other ≡ name
