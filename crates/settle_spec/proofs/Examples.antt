@@ -1,3 +1,5 @@
 -- Worked examples: what the definitions of settling say of small trees, one module a subject.
 pub mod Settlings
 pub mod NewWindows
+pub mod Lists
+pub mod Stands

@@ -222,7 +222,7 @@ other_root_is_no_help = refl
 
 -- ---- lists that are refused
 
-abbrev refused : Lists → Settling
+abbrev pub refused : Lists → Settling
 refused lists = settle (record request { lists = lists }) []
 
 backward_range : refused (record lists { memory = all_roots 2 1 ∷ [] }) ≡ BadLists

@@ -1,0 +1,111 @@
+-- What stays where it stands: which of two that clash comes first, and in which ranges and windows a part can stand.
+use Rattle.std.proofs.Common.{◌≡◌, ℕ, [], ◌∷◌, refl, true, false, None, Some}
+use Rattle.pci_spec.specs.Slot.{Slot}
+use Rattle.pci_spec.specs.System.{Function}
+use Rattle.pci_spec.proofs.Examples.Samples.{slot, device, bridge, write}
+use Rattle.settle_spec.specs.Lists.{Lists, Request}
+use Rattle.settle_spec.specs.Stands.{stands_within}
+use Rattle.settle_spec.specs.Items.{window_within, holds_within}
+use Rattle.settle_spec.specs.Places.{placing_within}
+use Rattle.settle_spec.specs.Registers.{is_live_within}
+use Rattle.settle_spec.specs.Writes.{Settled, settle}
+use Rattle.settle_spec.proofs.Examples.Settlings.{all_roots, lists, request, with_memory, plain, over}
+
+-- ---- which comes first
+
+-- a BAR that is on comes before a larger one that is off
+on_before_larger : settle (with_memory (all_roots 0xe0000000 0xe03fffff ∷ [])) (plain (slot 0 1 0) 0 0xe0000000 0xffe00000 ∷ plain (slot 0 2 0) 2 0xe0000000 0xfff00000 ∷ [])
+    ≡ Settled (write (slot 0 1 0) 0x10 4 0xe0200000 ∷ write (slot 0 1 0) 0x04 2 0x0002 ∷ [])
+unfolding stands_within window_within holds_within placing_within is_live_within
+on_before_larger = refl
+
+-- what is fixed comes before what is on, and before what is larger
+fixed_before_on : settle (record request { fixed = slot 0 2 0 ∷ [] }) (plain (slot 0 1 0) 2 0xe0000000 0xfff00000 ∷ plain (slot 0 2 0) 0 0xe0000000 0xfff00000 ∷ [])
+    ≡ Settled (write (slot 0 1 0) 0x04 2 0x0000 ∷ write (slot 0 1 0) 0x10 4 0xe0100000 ∷ write (slot 0 1 0) 0x04 2 0x0002 ∷ [])
+unfolding stands_within window_within holds_within placing_within is_live_within
+fixed_before_on = refl
+
+fixed_before_larger : settle (record request { lists = record lists { memory = all_roots 0xe0000000 0xe03fffff ∷ [] }; fixed = slot 0 2 0 ∷ [] }) (plain (slot 0 1 0) 2 0xe0000000 0xffe00000 ∷ plain (slot 0 2 0) 2 0xe0000000 0xfff00000 ∷ [])
+    ≡ Settled (write (slot 0 1 0) 0x04 2 0x0000 ∷ write (slot 0 1 0) 0x10 4 0xe0200000 ∷ write (slot 0 1 0) 0x04 2 0x0002 ∷ [])
+unfolding stands_within window_within holds_within placing_within is_live_within
+fixed_before_larger = refl
+
+-- of one function the lower register stays
+lower_register_stays : settle request (device (slot 0 1 0) 2 ((0x10, 0xe0000000) ∷ (0x14, 0xe0000000) ∷ []) ((0x10, 0xfff00000) ∷ (0x14, 0xfff00000) ∷ []) ∷ [])
+    ≡ Settled (write (slot 0 1 0) 0x04 2 0x0000 ∷ write (slot 0 1 0) 0x14 4 0xe0100000 ∷ write (slot 0 1 0) 0x04 2 0x0002 ∷ [])
+unfolding stands_within window_within holds_within placing_within is_live_within
+lower_register_stays = refl
+
+-- one that clashes only with one that moves stays
+clash_with_one_that_moves : settle (with_memory (all_roots 0xe0000000 0xe07fffff ∷ [])) (plain (slot 0 1 0) 2 0xe0000000 0xffc00000 ∷ plain (slot 0 2 0) 2 0xe0200000 0xffe00000 ∷ plain (slot 0 3 0) 2 0xe0300000 0xfff00000 ∷ [])
+    ≡ Settled (write (slot 0 3 0) 0x04 2 0x0000 ∷ write (slot 0 2 0) 0x04 2 0x0000 ∷ write (slot 0 2 0) 0x10 4 0xe0400000 ∷ write (slot 0 3 0) 0x10 4 0xe0600000 ∷ write (slot 0 2 0) 0x04 2 0x0002 ∷ write (slot 0 3 0) 0x04 2 0x0002 ∷ [])
+unfolding stands_within window_within holds_within placing_within is_live_within
+clash_with_one_that_moves = refl
+
+-- ---- on two roots
+
+abbrev two_roots : Request
+two_roots = record request { roots = 0 ∷ 0x40 ∷ [] }
+
+-- all roots are one bus: of two with one address on two roots, one moves
+roots_are_one_bus : settle two_roots (plain (slot 0 1 0) 2 0xe0000000 0xfff00000 ∷ plain (slot 0x40 1 0) 2 0xe0000000 0xfff00000 ∷ [])
+    ≡ Settled (write (slot 0x40 1 0) 0x04 2 0x0000 ∷ write (slot 0x40 1 0) 0x10 4 0xe0100000 ∷ write (slot 0x40 1 0) 0x04 2 0x0002 ∷ [])
+unfolding stands_within window_within holds_within placing_within is_live_within
+roots_are_one_bus = refl
+
+-- the larger one stays, on whichever root it is
+larger_on_other_root : settle two_roots (plain (slot 0 1 0) 2 0xe0000000 0xfff00000 ∷ plain (slot 0x40 1 0) 2 0xe0000000 0xffe00000 ∷ [])
+    ≡ Settled (write (slot 0 1 0) 0x04 2 0x0000 ∷ write (slot 0 1 0) 0x10 4 0xe0200000 ∷ write (slot 0 1 0) 0x04 2 0x0002 ∷ [])
+unfolding stands_within window_within holds_within placing_within is_live_within
+larger_on_other_root = refl
+
+-- what is plugged in on one root leaves free what stands on another
+plugged_in_on_other_root : settle two_roots (plain (slot 0 1 0) 2 0xe0000000 0xfff00000 ∷ plain (slot 0x40 1 0) 0 0 0xfff00000 ∷ [])
+    ≡ Settled (write (slot 0x40 1 0) 0x10 4 0xe0100000 ∷ write (slot 0x40 1 0) 0x04 2 0x0002 ∷ [])
+unfolding stands_within window_within holds_within placing_within is_live_within
+plugged_in_on_other_root = refl
+
+-- ---- in another space, on another bus
+
+-- I/O and memory have nothing to do with each other
+io_at_the_same_number : settle (record request { lists = record lists { memory = all_roots 0x1000 0xffff ∷ [] } }) (plain (slot 0 1 0) 2 0x1000 0xfffff000 ∷ plain (slot 0 2 0) 1 0x1001 0xffffff01 ∷ [])
+    ≡ Settled []
+unfolding stands_within window_within holds_within placing_within is_live_within
+io_at_the_same_number = refl
+
+-- ---- in lists and windows
+
+-- a memory BAR that stands in a range of prefetchable memory stays there
+memory_in_prefetchable_range : settle request (device (slot 0 1 0) 2 ((0x10, 4) ∷ (0x14, 1) ∷ []) ((0x10, 0xfff00004) ∷ (0x14, 0xffffffff) ∷ []) ∷ [])
+    ≡ Settled []
+unfolding stands_within window_within holds_within placing_within is_live_within
+memory_in_prefetchable_range = refl
+
+-- and a prefetchable one in a range of memory
+prefetchable_in_memory_range : settle request (device (slot 0 1 0) 2 ((0x10, 0xe000000c) ∷ []) ((0x10, 0xfff0000c) ∷ (0x14, 0xffffffff) ∷ []) ∷ [])
+    ≡ Settled []
+unfolding stands_within window_within holds_within placing_within is_live_within
+prefetchable_in_memory_range = refl
+
+-- a BAR that lies partly outside the ranges moves, at either end
+partly_below : settle (with_memory (all_roots 0xe0100000 0xe05fffff ∷ [])) (plain (slot 0 1 0) 2 0xe0000000 0xffe00000 ∷ [])
+    ≡ Settled (write (slot 0 1 0) 0x04 2 0x0000 ∷ write (slot 0 1 0) 0x10 4 0xe0200000 ∷ write (slot 0 1 0) 0x04 2 0x0002 ∷ [])
+unfolding stands_within window_within holds_within placing_within is_live_within
+partly_below = refl
+
+partly_above : settle request (plain (slot 0 1 0) 2 0xe0200000 0xffe00000 ∷ [])
+    ≡ Settled (write (slot 0 1 0) 0x04 2 0x0000 ∷ write (slot 0 1 0) 0x10 4 0xe0000000 ∷ write (slot 0 1 0) 0x04 2 0x0002 ∷ [])
+unfolding stands_within window_within holds_within placing_within is_live_within
+partly_above = refl
+
+-- and one that lies outside the window over it, though in a range
+outside_its_window : settle request (over 2 0xe000e000 ∷ plain (slot 1 0 0) 2 0xe0100000 0xfffff000 ∷ [])
+    ≡ Settled (write (slot 1 0 0) 0x04 2 0x0000 ∷ write (slot 1 0 0) 0x10 4 0xe0000000 ∷ write (slot 1 0 0) 0x04 2 0x0002 ∷ [])
+unfolding stands_within window_within holds_within placing_within is_live_within
+outside_its_window = refl
+
+-- a window outside the ranges moves with what is behind it
+window_outside_the_ranges : settle request (over 2 0xd000d000 ∷ plain (slot 1 0 0) 2 0xd0000000 0xfffff000 ∷ [])
+    ≡ Settled (write (slot 1 0 0) 0x04 2 0x0000 ∷ write (slot 0 1 0) 0x04 2 0x0000 ∷ write (slot 0 1 0) 0x20 4 0xe000e000 ∷ write (slot 1 0 0) 0x10 4 0xe0000000 ∷ write (slot 0 1 0) 0x04 2 0x0002 ∷ write (slot 1 0 0) 0x04 2 0x0002 ∷ [])
+unfolding stands_within window_within holds_within placing_within is_live_within
+window_outside_the_ranges = refl
