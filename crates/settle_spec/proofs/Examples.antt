@@ -3,3 +3,6 @@ pub mod Settlings
 pub mod NewWindows
 pub mod Lists
 pub mod Stands
+pub mod Places
+pub mod Writes
+pub mod Assumed

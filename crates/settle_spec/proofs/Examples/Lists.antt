@@ -1,6 +1,5 @@
 -- Lists of ranges: which are refused, which root has a range, and which range is used first.
-use Rattle.std.proofs.Common.{◌≡◌, List, [], ◌∷◌, refl, true, false, None, Some}
-use Rattle.pci_spec.specs.Window.{MemoryWindow, PrefetchWindow}
+use Rattle.std.proofs.Common.{◌≡◌, List, [], ◌∷◌, refl}
 use Rattle.pci_spec.specs.System.{System}
 use Rattle.pci_spec.proofs.Examples.Samples.{slot, device, write}
 use Rattle.settle_spec.specs.Lists.{Lists, RootRange, Request}
@@ -8,7 +7,7 @@ use Rattle.settle_spec.specs.Stands.{stands_within}
 use Rattle.settle_spec.specs.Items.{window_within, holds_within}
 use Rattle.settle_spec.specs.Places.{placing_within}
 use Rattle.settle_spec.specs.Registers.{is_live_within}
-use Rattle.settle_spec.specs.Writes.{Settled, NoRoom, BadLists, settle}
+use Rattle.settle_spec.specs.Writes.{Settled, BadLists, settle}
 use Rattle.settle_spec.proofs.Examples.Settlings.{all_roots, of_root, lists, request, with_memory, plain, refused}
 
 -- ---- of one root alone

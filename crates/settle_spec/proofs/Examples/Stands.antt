@@ -1,9 +1,7 @@
 -- What stays where it stands: which of two that clash comes first, and in which ranges and windows a part can stand.
-use Rattle.std.proofs.Common.{◌≡◌, ℕ, [], ◌∷◌, refl, true, false, None, Some}
-use Rattle.pci_spec.specs.Slot.{Slot}
-use Rattle.pci_spec.specs.System.{Function}
-use Rattle.pci_spec.proofs.Examples.Samples.{slot, device, bridge, write}
-use Rattle.settle_spec.specs.Lists.{Lists, Request}
+use Rattle.std.proofs.Common.{◌≡◌, [], ◌∷◌, refl}
+use Rattle.pci_spec.proofs.Examples.Samples.{slot, device, write}
+use Rattle.settle_spec.specs.Lists.{Request}
 use Rattle.settle_spec.specs.Stands.{stands_within}
 use Rattle.settle_spec.specs.Items.{window_within, holds_within}
 use Rattle.settle_spec.specs.Places.{placing_within}
