@@ -1,15 +1,17 @@
 -- Bridges without bus numbers.
-use Rattle.std.proofs.Common.{◌≡◌, ℕ, List, [], ◌∷◌, refl, true, false, None, Some, map}
+use Rattle.std.proofs.Common.{◌≡◌, ℕ, List, [], ◌∷◌, refl, true, false, None, Some, map, inl, inr, lit<, subst, ◌∙◌}
+use Rattle.std.specs.Bool.{IsTrue}
 use Rattle.pci_spec.specs.System.{Function, is_bridge}
 use Rattle.pci_spec.specs.Bar.{Memory32}
 use Rattle.pci_spec.specs.Decoded.{record_of}
 use Rattle.pci_spec.specs.Registers.{VGA_ENABLE}
-use Rattle.pci_spec.specs.Fault.{controls_bridge, is_stray}
+use Rattle.pci_spec.specs.Fault.{IsIn, IsaEnable, controls_bridge, fault_number, is_stray}
+use Rattle.pci_spec.specs.Order.{Place}
 use Rattle.std.specs.List.{list_any, range_with_len}
-use Rattle.pci_spec.proofs.Examples.Samples.{bridge, device, slot, range}
+use Rattle.pci_spec.proofs.Examples.Samples.{bridge, device, slot, range, host}
 use Rattle.given_spec.specs.Words.{Vga}
 use Rattle.model_spec.specs.Words.{Words, no_words}
-use Rattle.model_spec.specs.Taken.{bridge_aside, has_legacy_by, is_unnumbered, parts_aside, vga_aside_by, without_buses}
+use Rattle.model_spec.specs.Taken.{HasNoneBefore, IsTaken, IsWhere, bridge_aside, has_legacy_by, is_unnumbered, may_have_parts_by, parts_aside, vga_aside_by, without_buses}
 
 abbrev unnumbered_counts : Words
 unnumbered_counts = record no_words { unnumbered = true }
@@ -81,3 +83,29 @@ without_vga_word = refl
 
 has_no_vga_enable : map (λ w. controls_bridge (taken_by w (adapter_behind 3)).image VGA_ENABLE) (with_vga ∷ no_words ∷ []) ≡ false ∷ true ∷ []
 has_no_vga_enable = refl
+
+-- ---- with ISA Enable, which is a fault of the bridge by itself
+
+abbrev with_isa_enable : Function
+with_isa_enable = bridge (slot 0 1 0) 7 0 ((0x3c, 0x00040000) ∷ closed) []
+
+looks_unnumbered : is_unnumbered false with_isa_enable ≡ true
+looks_unnumbered = refl
+
+left_where : (Condition : Type 0) (f changed g : Function) → IsWhere Condition f changed g → (Condition → changed ≡ f) → g ≡ f
+left_where Condition f changed g (inl (holds, is)) same = is ∙ same holds
+left_where Condition f changed g (inr (fails, is)) same = is
+
+has_isa_enable : IsIn host (with_isa_enable ∷ []) (IsaEnable (slot 0 1 0))
+has_isa_enable = (with_isa_enable, (0, lit< tt, refl), refl, refl)
+
+-- `unnumbered` leaves the bridge as it is, with that fault
+unnumbered_leaves_it : (h : Function) → IsTaken unnumbered_counts [] with_isa_enable h → h ≡ with_isa_enable
+unnumbered_leaves_it h taken =
+    let same : taken.g ≡ with_isa_enable = left_where _ with_isa_enable _ taken.g taken.power (λ holds. cc holds.0) in
+    left_where _ with_isa_enable _ h
+    (subst (λ g. IsWhere (IsTrue (may_have_parts_by unnumbered_counts (bridge_aside unnumbered_counts [] g)) × HasNoneBefore Place (bridge_aside unnumbered_counts [] g)) (bridge_aside unnumbered_counts [] g) (parts_aside unnumbered_counts (has_legacy_by unnumbered_counts with_isa_enable) (bridge_aside unnumbered_counts [] g)) h) same taken.parts)
+    (λ holds. absurd (holds.1 (IsaEnable (slot 0 1 0)) (lit< tt) has_isa_enable))
+
+number_of_isa_enable : fault_number (IsaEnable (slot 0 1 0)) ≡ 53
+number_of_isa_enable = refl
