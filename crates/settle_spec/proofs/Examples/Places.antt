@@ -9,7 +9,7 @@ use Rattle.settle_spec.specs.Items.{window_within, holds_within}
 use Rattle.settle_spec.specs.Places.{placing_within}
 use Rattle.settle_spec.specs.Registers.{is_live_within}
 use Rattle.settle_spec.specs.Writes.{Settled, NoRoom, settle}
-use Rattle.settle_spec.proofs.Examples.Settlings.{all_roots, of_root, lists, request, with_io, plain, over}
+use Rattle.settle_spec.proofs.Examples.Settlings.{all_roots, of_root, lists, request, with_io, with_memory, with_prefetch, plain, over}
 
 -- ---- I/O
 
@@ -71,7 +71,7 @@ unfolding stands_within window_within holds_within placing_within is_live_within
 wide_memory_with_room = refl
 
 -- one of 32 bits gets none of them, not even below 4 GB
-narrow_memory : settle (record request { lists = record lists { prefetch = all_roots 0xf0000000 0xf0ffffff ∷ [] } }) (plain (slot 0 1 0) 0 0 0xffc00000 ∷ [])
+narrow_memory : settle (with_prefetch (all_roots 0xf0000000 0xf0ffffff ∷ [])) (plain (slot 0 1 0) 0 0 0xffc00000 ∷ [])
     ≡ NoRoom MemoryWindow (slot 0 1 0) 0x10 0x400000 0x400000
 unfolding stands_within window_within holds_within placing_within is_live_within
 narrow_memory = refl
@@ -89,19 +89,19 @@ unfolding stands_within window_within holds_within placing_within is_live_within
 narrow_prefetchable = refl
 
 -- and gets one of them where they don't
-narrow_prefetchable_below : settle (record request { lists = record lists { prefetch = all_roots 0xf0000000 0xf0ffffff ∷ [] } }) (plain (slot 0 1 0) 0 8 0xfff00008 ∷ [])
+narrow_prefetchable_below : settle (with_prefetch (all_roots 0xf0000000 0xf0ffffff ∷ [])) (plain (slot 0 1 0) 0 8 0xfff00008 ∷ [])
     ≡ Settled (write (slot 0 1 0) 0x10 4 0xf0000008 ∷ write (slot 0 1 0) 0x04 2 0x0002 ∷ [])
 unfolding stands_within window_within holds_within placing_within is_live_within
 narrow_prefetchable_below = refl
 
 -- without ranges of prefetchable memory it is memory
-without_prefetchable_ranges : settle (record request { lists = record lists { prefetch = [] } }) (device (slot 0 1 0) 0 ((0x10, 0xc) ∷ []) ((0x10, 0xfff0000c) ∷ (0x14, 0xffffffff) ∷ []) ∷ [])
+without_prefetchable_ranges : settle (with_prefetch []) (device (slot 0 1 0) 0 ((0x10, 0xc) ∷ []) ((0x10, 0xfff0000c) ∷ (0x14, 0xffffffff) ∷ []) ∷ [])
     ≡ Settled (write (slot 0 1 0) 0x10 4 0xe000000c ∷ write (slot 0 1 0) 0x04 2 0x0002 ∷ [])
 unfolding stands_within window_within holds_within placing_within is_live_within
 without_prefetchable_ranges = refl
 
 -- prefetchable memory gets no range of memory where its own are full
-full_prefetchable : settle (record request { lists = record lists { prefetch = all_roots 0xf0000000 0xf00fffff ∷ [] } }) (plain (slot 0 1 0) 0 8 0xfff00008 ∷ plain (slot 0 2 0) 0 8 0xfff00008 ∷ [])
+full_prefetchable : settle (with_prefetch (all_roots 0xf0000000 0xf00fffff ∷ [])) (plain (slot 0 1 0) 0 8 0xfff00008 ∷ plain (slot 0 2 0) 0 8 0xfff00008 ∷ [])
     ≡ NoRoom PrefetchWindow (slot 0 2 0) 0x10 0x100000 0x100000
 unfolding stands_within window_within holds_within placing_within is_live_within
 full_prefetchable = refl
@@ -156,3 +156,84 @@ wide_memory_behind : settle request (over 0 0xfff0 ∷ device (slot 1 0 0) 0 ((0
     ≡ NoRoom MemoryWindow (slot 0 1 0) 0x20 0x400000 0x400000
 unfolding stands_within window_within holds_within placing_within is_live_within
 wide_memory_behind = refl
+
+-- ---- at the ends of lists
+
+-- a range may be used up to the last address below 4 GB
+up_to_the_last_address : settle (with_memory (all_roots 0xfff00000 0xffffffff ∷ [])) (plain (slot 0 1 0) 0 0 0xfff00000 ∷ [])
+    ≡ Settled (write (slot 0 1 0) 0x10 4 0xfff00000 ∷ write (slot 0 1 0) 0x04 2 0x0002 ∷ [])
+unfolding stands_within window_within holds_within placing_within is_live_within
+up_to_the_last_address = refl
+
+-- a prefetchable BAR of 32 bits gets no range that ends above 4 GB, wherever that begins
+range_across_4_gb : settle (with_prefetch (all_roots 0xf0000000 0x1ffffffff ∷ [])) (plain (slot 0 1 0) 0 8 0xfff00008 ∷ [])
+    ≡ Settled (write (slot 0 1 0) 0x10 4 0xe0000008 ∷ write (slot 0 1 0) 0x04 2 0x0002 ∷ [])
+unfolding stands_within window_within holds_within placing_within is_live_within
+range_across_4_gb = refl
+
+-- prefetchable memory of 64 bits gets no range of memory either
+full_wide_prefetchable : settle (with_prefetch (all_roots 0x100000000 0x1000fffff ∷ [])) (device (slot 0 1 0) 0 ((0x10, 0xc) ∷ []) ((0x10, 0xfff0000c) ∷ (0x14, 0xffffffff) ∷ []) ∷ device (slot 0 2 0) 0 ((0x10, 0xc) ∷ []) ((0x10, 0xfff0000c) ∷ (0x14, 0xffffffff) ∷ []) ∷ [])
+    ≡ NoRoom PrefetchWindow (slot 0 2 0) 0x10 0x100000 0x100000
+unfolding stands_within window_within holds_within placing_within is_live_within
+full_wide_prefetchable = refl
+
+-- of two lists with the same addresses, memory is placed before prefetchable memory
+memory_comes_first : settle (with_prefetch (all_roots 0xe0000000 0xe02fffff ∷ [])) (plain (slot 0 1 0) 0 8 0xfff00008 ∷ plain (slot 0 2 0) 0 0 0xfff00000 ∷ [])
+    ≡ Settled (write (slot 0 1 0) 0x10 4 0xe0100008 ∷ write (slot 0 2 0) 0x10 4 0xe0000000 ∷ write (slot 0 1 0) 0x04 2 0x0002 ∷ write (slot 0 2 0) 0x04 2 0x0002 ∷ [])
+unfolding stands_within window_within holds_within placing_within is_live_within
+memory_comes_first = refl
+
+-- what stands in the prefetchable list is off limits to memory
+memory_beside_prefetchable : settle (with_prefetch (all_roots 0xe0000000 0xe02fffff ∷ [])) (plain (slot 0 1 0) 2 0xe0000008 0xfff00008 ∷ plain (slot 0 2 0) 0 0 0xfff00000 ∷ [])
+    ≡ Settled (write (slot 0 2 0) 0x10 4 0xe0100000 ∷ write (slot 0 2 0) 0x04 2 0x0002 ∷ [])
+unfolding stands_within window_within holds_within placing_within is_live_within
+memory_beside_prefetchable = refl
+
+-- I/O takes no addresses of memory, nor memory ports
+io_takes_no_memory : settle (with_memory (all_roots 0x1000 0xffff ∷ [])) (ports (slot 0 1 0) 1 0x1001 ∷ plain (slot 0 2 0) 0 0 0xfffff000 ∷ [])
+    ≡ Settled (write (slot 0 2 0) 0x10 4 0x00001000 ∷ write (slot 0 2 0) 0x04 2 0x0002 ∷ [])
+unfolding stands_within window_within holds_within placing_within is_live_within
+io_takes_no_memory = refl
+
+memory_takes_no_io : settle (with_memory (all_roots 0x1000 0xffff ∷ [])) (ports (slot 0 1 0) 0 1 ∷ plain (slot 0 2 0) 2 0x1000 0xfffff000 ∷ [])
+    ≡ Settled (write (slot 0 1 0) 0x10 4 0x00001001 ∷ write (slot 0 1 0) 0x04 2 0x0001 ∷ [])
+unfolding stands_within window_within holds_within placing_within is_live_within
+memory_takes_no_io = refl
+
+-- the second root has a range of prefetchable memory of its own, and wide memory gets that one
+wide_memory_on_the_second_root : settle (record request { roots = 0 ∷ 0x40 ∷ []; lists = record lists { prefetch = of_root 0 0x100000000 0x1ffffffff ∷ of_root 0x40 0x200000000 0x2ffffffff ∷ [] } }) (device (slot 0x40 1 0) 0 ((0x10, 4) ∷ []) ((0x10, 0xffc00004) ∷ (0x14, 0xffffffff) ∷ []) ∷ [])
+    ≡ Settled (write (slot 0x40 1 0) 0x14 4 0x00000002 ∷ write (slot 0x40 1 0) 0x04 2 0x0002 ∷ [])
+unfolding stands_within window_within holds_within placing_within is_live_within
+wide_memory_on_the_second_root = refl
+
+-- ---- windows that are wide, or aren't
+
+-- a memory window is never wide, also on a bridge whose prefetchable one is
+wide_memory_behind_wide_bridge : settle request (bridge (slot 0 1 0) 0 0x10100 ((0x20, 0xfff0) ∷ (0x24, 0x1fff1) ∷ []) ((0x24, 0xfff1fff1) ∷ (0x28, 0xffffffff) ∷ (0x2c, 0xffffffff) ∷ []) ∷ device (slot 1 0 0) 0 ((0x10, 4) ∷ []) ((0x10, 0xffc00004) ∷ (0x14, 0xffffffff) ∷ []) ∷ [])
+    ≡ NoRoom MemoryWindow (slot 0 1 0) 0x20 0x400000 0x400000
+unfolding stands_within window_within holds_within placing_within is_live_within
+wide_memory_behind_wide_bridge = refl
+
+-- nor is a prefetchable one around a BAR of 32 bits, though another has 64: they stand in a window that is in no range
+window_around_narrow : settle request (bridge (slot 0 1 0) 2 0x10100 ((0x20, 0xfff0) ∷ (0x24, 0xf001f001) ∷ []) ((0x24, 0xfff1fff1) ∷ (0x28, 0xffffffff) ∷ (0x2c, 0xffffffff) ∷ []) ∷ plain (slot 1 0 0) 2 0xf0000008 0xfffff008 ∷ device (slot 1 1 0) 2 ((0x10, 0xf001000c) ∷ []) ((0x10, 0xfffff00c) ∷ (0x14, 0xffffffff) ∷ []) ∷ [])
+    ≡ NoRoom PrefetchWindow (slot 0 1 0) 0x24 0x100000 0x100000
+unfolding stands_within window_within holds_within placing_within is_live_within
+window_around_narrow = refl
+
+-- nor one without upper halves around a BAR of 64 bits
+window_without_upper_halves : settle request (bridge (slot 0 1 0) 2 0x10100 ((0x20, 0xfff0) ∷ (0x24, 0xf000f000) ∷ []) ((0x24, 0xfff0fff0) ∷ []) ∷ device (slot 1 0 0) 2 ((0x10, 0xf000000c) ∷ []) ((0x10, 0xfffff00c) ∷ (0x14, 0xffffffff) ∷ []) ∷ [])
+    ≡ NoRoom PrefetchWindow (slot 0 1 0) 0x24 0x100000 0x100000
+unfolding stands_within window_within holds_within placing_within is_live_within
+window_without_upper_halves = refl
+
+-- nor may such a window lie across 4 GB
+window_across_4_gb : settle (with_prefetch (all_roots 0xffe00000 0x1ffffffff ∷ [])) (bridge (slot 0 1 0) 2 0x10100 ((0x20, 0xfff0) ∷ (0x24, 0xd020d000) ∷ []) ((0x24, 0xfff0fff0) ∷ []) ∷ device (slot 1 0 0) 2 ((0x10, 0xd0000008) ∷ (0x14, 0xd0100008) ∷ (0x18, 0xd0200008) ∷ []) ((0x10, 0xfff00008) ∷ (0x14, 0xfff00008) ∷ (0x18, 0xfff00008) ∷ []) ∷ [])
+    ≡ NoRoom PrefetchWindow (slot 0 1 0) 0x24 0x300000 0x100000
+unfolding stands_within window_within holds_within placing_within is_live_within
+window_across_4_gb = refl
+
+-- a window that is open, with nothing behind it, asks for no window above it
+nothing_behind_two : settle request (outer 0 0xfff0 ∷ inner 0 0 ∷ [])
+    ≡ Settled (write (slot 1 0 0) 0x20 4 0x0000fff0 ∷ [])
+unfolding stands_within window_within holds_within placing_within is_live_within
+nothing_behind_two = refl

@@ -31,6 +31,9 @@ with_io list = record request { lists = record lists { io = list } }
 abbrev pub with_memory : List RootRange → Request
 with_memory list = record request { lists = record lists { memory = list } }
 
+abbrev pub with_prefetch : List RootRange → Request
+with_prefetch list = record request { lists = record lists { prefetch = list } }
+
 -- a memory BAR of 32 bits behind or beside a bridge that leads to bus 1 and has no window but that of memory
 abbrev pub plain : Slot → ℕ → ℕ → ℕ → Function
 plain s command value mask = device s command ((0x10, value) ∷ []) ((0x10, mask) ∷ [])

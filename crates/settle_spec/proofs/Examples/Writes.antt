@@ -30,6 +30,12 @@ fixed_that_do_not_stand_first : settle (record request { fixed = slot 1 0 0 ∷ 
 unfolding stands_within window_within holds_within placing_within is_live_within
 fixed_that_do_not_stand_first = refl
 
+-- nothing stands in a window that doesn't
+window_that_does_not_stand : settle (record request { fixed = slot 1 0 0 ∷ slot 2 0 0 ∷ [] }) (over 2 0xe000e000 ∷ bridge (slot 0 2 0) 2 0x20200 ((0x20, 0xd000d000) ∷ []) [] ∷ plain (slot 1 0 0) 2 0xe0000000 0xfffff000 ∷ plain (slot 1 1 0) 0 0 0xfff00000 ∷ plain (slot 2 0 0) 2 0xd0000000 0xfffff000 ∷ [])
+    ≡ Fixed (slot 2 0 0) 0x10
+unfolding stands_within window_within holds_within placing_within is_live_within
+window_that_does_not_stand = refl
+
 -- a fixed bridge that is off would have to be opened,
 fixed_bridge_is_off : settle (record request { fixed = slot 0 1 0 ∷ [] }) (over 0 0xe000e000 ∷ plain (slot 1 0 0) 2 0xe0000000 0xfffff000 ∷ [])
     ≡ Fixed (slot 0 1 0) 0x04
@@ -120,3 +126,71 @@ prefetchable_of_two_pages : settle (record request { lists = record lists { pref
     ≡ Settled (write (slot 0 1 0) 0x24 4 0xfff1ffe1 ∷ write (slot 0 1 0) 0x28 4 0x00000001 ∷ write (slot 0 1 0) 0x2c 4 0x00000001 ∷ write (slot 1 0 0) 0x10 4 0xffe0000c ∷ write (slot 1 0 0) 0x14 4 0x00000001 ∷ write (slot 0 1 0) 0x04 2 0x0002 ∷ write (slot 1 0 0) 0x04 2 0x0002 ∷ [])
 unfolding stands_within window_within holds_within placing_within is_live_within
 prefetchable_of_two_pages = refl
+
+-- a ROM of a bridge stands in another register, and moves alike
+rom_of_a_bridge_moves : settle request (bridge (slot 0 1 0) 2 0x10100 ((0x20, 0xfff0) ∷ (0x38, 0xd0000001) ∷ []) ((0x38, 0xffff0000) ∷ []) ∷ [])
+    ≡ Settled (write (slot 0 1 0) 0x04 2 0x0000 ∷ write (slot 0 1 0) 0x38 4 0xe0000001 ∷ write (slot 0 1 0) 0x04 2 0x0002 ∷ [])
+unfolding stands_within window_within holds_within placing_within is_live_within
+rom_of_a_bridge_moves = refl
+
+-- a closed window stays as it is, however it is closed
+closed_otherwise : settle request (over 2 0x10002000 ∷ [])
+    ≡ Settled []
+unfolding stands_within window_within holds_within placing_within is_live_within
+closed_otherwise = refl
+
+-- ---- spaces
+
+-- what gets a place in one space is opened there, and in the other it stays off
+io_alone_is_opened : settle request (device (slot 0 1 0) 0 ((0x10, 1) ∷ (0x14, 0xe0000000) ∷ []) ((0x10, 0xffffff01) ∷ (0x14, 0xfffff000) ∷ []) ∷ [])
+    ≡ Settled (write (slot 0 1 0) 0x10 4 0x00001001 ∷ write (slot 0 1 0) 0x04 2 0x0001 ∷ [])
+unfolding stands_within window_within holds_within placing_within is_live_within
+io_alone_is_opened = refl
+
+-- what is off in a space is not shut for a bridge that is off there
+off_in_that_space : settle request (bridge (slot 0 1 0) 1 0x10100 ((0x1c, 0x2020) ∷ (0x20, 0xe000e000) ∷ []) ((0x1c, 0xf0f0) ∷ []) ∷ device (slot 1 0 0) 1 ((0x10, 0x2001) ∷ (0x14, 0xe0000000) ∷ []) ((0x10, 0xffffff01) ∷ (0x14, 0xfffff000) ∷ []) ∷ [])
+    ≡ Settled []
+unfolding stands_within window_within holds_within placing_within is_live_within
+off_in_that_space = refl
+
+-- an I/O BAR that is left is switched off before registers are written
+left_is_switched_off_first : settle (with_io []) (plain (slot 0 1 0) 0 0 0xfff00000 ∷ device (slot 0 2 0) 1 ((0x10, 0x1001) ∷ []) ((0x10, 0xffffff01) ∷ []) ∷ [])
+    ≡ Settled (write (slot 0 2 0) 0x04 2 0x0000 ∷ write (slot 0 1 0) 0x10 4 0xe0000000 ∷ write (slot 0 1 0) 0x04 2 0x0002 ∷ [])
+unfolding stands_within window_within holds_within placing_within is_live_within
+left_is_switched_off_first = refl
+
+-- a fixed bridge that is off and whose window would be opened: its first write is told
+fixed_bridge_would_open_a_window : settle (record request { fixed = slot 0 1 0 ∷ [] }) (over 0 0xfff0 ∷ plain (slot 1 0 0) 0 0 0xfffff000 ∷ [])
+    ≡ Fixed (slot 0 1 0) 0x20
+unfolding stands_within window_within holds_within placing_within is_live_within
+fixed_bridge_would_open_a_window = refl
+
+-- two functions behind one bridge that moves are shut from the highest slot down, and opened from the lowest up
+shut_from_above : settle request (over 2 0xd000d000 ∷ plain (slot 1 0 0) 6 0xd0000000 0xfffff000 ∷ plain (slot 1 1 0) 2 0xd0001000 0xfffff000 ∷ [])
+    ≡ Settled (write (slot 1 1 0) 0x04 2 0x0000 ∷ write (slot 1 0 0) 0x04 2 0x0004 ∷ write (slot 0 1 0) 0x04 2 0x0000 ∷ write (slot 0 1 0) 0x20 4 0xe000e000 ∷ write (slot 1 0 0) 0x10 4 0xe0000000 ∷ write (slot 1 1 0) 0x10 4 0xe0001000 ∷ write (slot 0 1 0) 0x04 2 0x0002 ∷ write (slot 1 0 0) 0x04 2 0x0006 ∷ write (slot 1 1 0) 0x04 2 0x0002 ∷ [])
+unfolding stands_within window_within holds_within placing_within is_live_within
+shut_from_above = refl
+
+-- what stays behind a bridge that moves in another space is shut all the same
+shut_for_its_bridge : settle request (bridge (slot 0 1 0) 3 0x10100 ((0x1c, 0x2020) ∷ (0x20, 0xd000d000) ∷ []) ((0x1c, 0xf0f0) ∷ []) ∷ plain (slot 1 0 0) 2 0xd0000000 0xfffff000 ∷ device (slot 1 1 0) 1 ((0x10, 0x2001) ∷ []) ((0x10, 0xffffff01) ∷ []) ∷ [])
+    ≡ Settled (write (slot 1 1 0) 0x04 2 0x0000 ∷ write (slot 1 0 0) 0x04 2 0x0000 ∷ write (slot 0 1 0) 0x04 2 0x0000 ∷ write (slot 0 1 0) 0x20 4 0xe000e000 ∷ write (slot 1 0 0) 0x10 4 0xe0000000 ∷ write (slot 0 1 0) 0x04 2 0x0003 ∷ write (slot 1 0 0) 0x04 2 0x0002 ∷ write (slot 1 1 0) 0x04 2 0x0001 ∷ [])
+unfolding stands_within window_within holds_within placing_within is_live_within
+shut_for_its_bridge = refl
+
+-- a bridge two levels up that changes shuts what is behind, also what keeps its place
+shut_two_levels_down : settle request (bridge (slot 0 1 0) 2 0x20100 ((0x20, 0xe000e000) ∷ (0x38, 0xd0000001) ∷ []) ((0x38, 0xffff0000) ∷ []) ∷ bridge (slot 1 0 0) 2 0x20201 ((0x20, 0xe000e000) ∷ []) [] ∷ plain (slot 2 0 0) 2 0xe0000000 0xfffff000 ∷ [])
+    ≡ Settled (write (slot 2 0 0) 0x04 2 0x0000 ∷ write (slot 1 0 0) 0x04 2 0x0000 ∷ write (slot 0 1 0) 0x04 2 0x0000 ∷ write (slot 0 1 0) 0x38 4 0xe0100001 ∷ write (slot 0 1 0) 0x04 2 0x0002 ∷ write (slot 1 0 0) 0x04 2 0x0002 ∷ write (slot 2 0 0) 0x04 2 0x0002 ∷ [])
+unfolding stands_within window_within holds_within placing_within is_live_within
+shut_two_levels_down = refl
+
+-- a closed window of a fixed bridge needs no place
+closed_window_of_a_fixed_bridge : settle (record request { fixed = slot 0 1 0 ∷ [] }) (over 2 0x10002000 ∷ [])
+    ≡ Settled []
+unfolding stands_within window_within holds_within placing_within is_live_within
+closed_window_of_a_fixed_bridge = refl
+
+-- the upper half of a BAR of 64 bits reads back ones, bit 0 too, and is no I/O BAR that is left
+upper_half_is_no_io : settle (with_io []) (device (slot 0 1 0) 3 ((0x10, 0xe0000004) ∷ []) ((0x10, 0xfff00004) ∷ (0x14, 0xffffffff) ∷ []) ∷ [])
+    ≡ Settled []
+unfolding stands_within window_within holds_within placing_within is_live_within
+upper_half_is_no_io = refl
