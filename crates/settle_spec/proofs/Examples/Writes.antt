@@ -87,6 +87,12 @@ nothing_in_the_space : settle request (over 0 0xfff0 ∷ device (slot 1 0 0) 3 [
 unfolding stands_within window_within holds_within placing_within is_live_within
 nothing_in_the_space = refl
 
+-- nor does it open that space in the bridge above
+no_ports_behind : settle request (over 2 0xe000e000 ∷ plain (slot 1 0 0) 3 0xe0000000 0xfffff000 ∷ [])
+    ≡ Settled []
+unfolding stands_within window_within holds_within placing_within is_live_within
+no_ports_behind = refl
+
 -- an I/O BAR is shut while I/O is off in the bridge above, where memory is on in both
 io_is_off_above : settle request (bridge (slot 0 1 0) 2 0x10100 ((0x1c, 0x2020) ∷ (0x20, 0xfff0) ∷ []) ((0x1c, 0xf0f0) ∷ []) ∷ device (slot 1 0 0) 1 ((0x10, 0x2001) ∷ []) ((0x10, 0xffffff01) ∷ []) ∷ [])
     ≡ Settled (write (slot 1 0 0) 0x04 2 0x0000 ∷ write (slot 0 1 0) 0x04 2 0x0003 ∷ write (slot 1 0 0) 0x04 2 0x0001 ∷ [])
@@ -108,6 +114,12 @@ unfolding stands_within window_within holds_within placing_within is_live_within
 left_two_levels_down = refl
 
 -- ---- registers
+
+-- a BAR of 32 bits has one register: the next one stays as it is
+next_register_stays : settle request (device (slot 0 1 0) 2 ((0x10, 0xd0000000) ∷ (0x14, 0xe0100000) ∷ []) ((0x10, 0xfff00000) ∷ (0x14, 0xfff00000) ∷ []) ∷ [])
+    ≡ Settled (write (slot 0 1 0) 0x04 2 0x0000 ∷ write (slot 0 1 0) 0x10 4 0xe0000000 ∷ write (slot 0 1 0) 0x04 2 0x0002 ∷ [])
+unfolding stands_within window_within holds_within placing_within is_live_within
+next_register_stays = refl
 
 -- both halves of a BAR of 64 bits are written
 both_halves : settle request (device (slot 0 1 0) 0 ((0x10, 0xd000000c) ∷ (0x14, 7) ∷ []) ((0x10, 0xfff0000c) ∷ (0x14, 0xffffffff) ∷ []) ∷ [])
