@@ -27,8 +27,8 @@ unfolding stands_within window_within holds_within placing_within is_live_within
 io_behind = refl
 
 -- or in the one that stands, beside what stands there
-io_in_standing_window : settle request (over_io 1 0x2020 ∷ ports (slot 1 0 0) 1 0x2001 ∷ ports (slot 1 1 0) 0 1 ∷ [])
-    ≡ Settled (write (slot 1 1 0) 0x10 4 0x2101 ∷ write (slot 1 1 0) 0x04 2 0x0001 ∷ [])
+io_in_standing_window : settle request (over_io 1 0x2020 ∷ ports (slot 1 0 0) 1 0x2101 ∷ ports (slot 1 1 0) 0 1 ∷ [])
+    ≡ Settled (write (slot 1 1 0) 0x10 4 0x2001 ∷ write (slot 1 1 0) 0x04 2 0x0001 ∷ [])
 unfolding stands_within window_within holds_within placing_within is_live_within
 io_in_standing_window = refl
 
