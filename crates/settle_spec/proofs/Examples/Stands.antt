@@ -111,8 +111,8 @@ window_outside_the_ranges = refl
 -- ---- with windows
 
 -- a window that clashes with a larger BAR moves, and a BAR that clashes with that window alone stays
-clash_with_one_that_moves : settle (with_memory (all_roots 0xe0000000 0xe08fffff ∷ [])) (plain (slot 0 1 0) 2 0xe0000000 0xffc00000 ∷ bridge (slot 0 2 0) 2 0x10100 ((0x20, 0xe050e030) ∷ []) [] ∷ plain (slot 0 3 0) 2 0xe0400000 0xffe00000 ∷ plain (slot 1 0 0) 2 0xe0300000 0xfff00000 ∷ [])
-    ≡ Settled (write (slot 1 0 0) 0x04 2 0x0000 ∷ write (slot 0 2 0) 0x04 2 0x0000 ∷ write (slot 0 2 0) 0x20 4 0xe060e060 ∷ write (slot 1 0 0) 0x10 4 0xe0600000 ∷ write (slot 0 2 0) 0x04 2 0x0002 ∷ write (slot 1 0 0) 0x04 2 0x0002 ∷ [])
+clash_with_one_that_moves : settle (with_memory (all_roots 0xe0000000 0xe0bfffff ∷ [])) (plain (slot 0 1 0) 2 0xe0400000 0xffc00000 ∷ bridge (slot 0 2 0) 2 0x10100 ((0x20, 0xe090e070) ∷ []) [] ∷ plain (slot 0 3 0) 2 0xe0800000 0xffe00000 ∷ plain (slot 1 0 0) 2 0xe0700000 0xfff00000 ∷ [])
+    ≡ Settled (write (slot 1 0 0) 0x04 2 0x0000 ∷ write (slot 0 2 0) 0x04 2 0x0000 ∷ write (slot 0 2 0) 0x20 4 0xe000e000 ∷ write (slot 1 0 0) 0x10 4 0xe0000000 ∷ write (slot 0 2 0) 0x04 2 0x0002 ∷ write (slot 1 0 0) 0x04 2 0x0002 ∷ [])
 unfolding stands_within window_within holds_within placing_within is_live_within
 clash_with_one_that_moves = refl
 
@@ -153,7 +153,7 @@ unfolding stands_within window_within holds_within placing_within is_live_within
 narrow_in_wide_list = refl
 
 -- registers of a device that look like bus numbers make no bridge of it
-device_is_no_bridge : settle request (device (slot 0 0 0) 2 ((0x18, 0xe0111100) ∷ []) ((0x18, 0xffffff00) ∷ []) ∷ bridge (slot 0 1 0) 2 0x111100 ((0x20, 0xe000e000) ∷ []) [] ∷ plain (slot 0x11 0 0) 2 0xe0000000 0xfffff000 ∷ [])
-    ≡ Settled []
+device_is_no_bridge : settle request (device (slot 0 0 0) 2 ((0x18, 0xe0111100) ∷ []) ((0x18, 0xffffff00) ∷ []) ∷ bridge (slot 0 1 0) 2 0x111100 ((0x20, 0xe000e000) ∷ []) [] ∷ plain (slot 0x11 0 0) 2 0xe0000000 0xfffff000 ∷ plain (slot 0x11 1 0) 0 0 0xfffff000 ∷ [])
+    ≡ Settled (write (slot 0x11 1 0) 0x10 4 0xe0001000 ∷ write (slot 0x11 1 0) 0x04 2 0x0002 ∷ [])
 unfolding stands_within window_within holds_within placing_within is_live_within
 device_is_no_bridge = refl
