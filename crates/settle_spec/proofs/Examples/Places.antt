@@ -76,6 +76,12 @@ narrow_memory : settle (with_prefetch (all_roots 0xf0000000 0xf0ffffff ∷ [])) 
 unfolding stands_within window_within holds_within placing_within is_live_within
 narrow_memory = refl
 
+-- nor does a ROM
+rom_has_32_bits : settle request (device (slot 0 1 0) 2 ((0x30, 1) ∷ []) ((0x30, 0xffc00000) ∷ []) ∷ [])
+    ≡ NoRoom MemoryWindow (slot 0 1 0) 0x30 0x400000 0x400000
+unfolding stands_within window_within holds_within placing_within is_live_within
+rom_has_32_bits = refl
+
 -- a prefetchable BAR of 64 bits gets a range of prefetchable memory, even above 4 GB
 wide_prefetchable : settle request (device (slot 0 1 0) 0 ((0x10, 0xc) ∷ []) ((0x10, 0xfff0000c) ∷ (0x14, 0xffffffff) ∷ []) ∷ [])
     ≡ Settled (write (slot 0 1 0) 0x14 4 0x00000001 ∷ write (slot 0 1 0) 0x04 2 0x0002 ∷ [])
