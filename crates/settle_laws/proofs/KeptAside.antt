@@ -18,7 +18,7 @@ pub each_by : (R : Function → Function → Type 0) (g : Function → Function)
 each_by R g [] each = tt
 each_by R g (f ∷ t) each = (each f (in_head f t), each_by R g t (λ h has. each h (in_tail f t h has)))
 
-enables_alone : (old : ℕ) (io memory : Bool) → without_low 4 (command_by old io memory) ≡ without_low 4 old
+pub enables_alone : (old : ℕ) (io memory : Bool) → without_low 4 (command_by old io memory) ≡ without_low 4 old
 enables_alone old true true = omega arith
 enables_alone old true false = omega arith
 enables_alone old false true = omega arith

@@ -48,6 +48,7 @@ pub mod PlannedSizes
 pub mod PoolLists
 pub mod Powers
 pub mod Reput
+pub mod Resting
 pub mod RomPlaces
 pub mod SettledAlready
 pub mod SettledMoved

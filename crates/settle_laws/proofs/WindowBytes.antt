@@ -86,7 +86,7 @@ bounds_by_bytes PrefetchWindow a b same = λ i. record {
 
 -- ---- what is put there is shown
 
-number_elsewhere : (w o v p n : ℕ) (image : List ℕ) → (p + n ≤ o) ⊎ (o + w ≤ p) → number_at (with_number w o v image) p n ≡ number_at image p n
+pub number_elsewhere : (w o v p n : ℕ) (image : List ℕ) → (p + n ≤ o) ⊎ (o + w ≤ p) → number_at (with_number w o v image) p n ≡ number_at image p n
 number_elsewhere w o v p n image apart = same_number (with_number w o v image) image p n (λ j less. with_elsewhere w o v (p + j) image (elim apart [ inl low ↦ inl (omega (arith, low, less)) | inr high ↦ inr (omega (arith, high)) ]))
 
 four_same : (v : Bounds) (base limit base_upper limit_upper : ℕ) → base ≡ v.base → limit ≡ v.limit → base_upper ≡ v.base_upper → limit_upper ≡ v.limit_upper

@@ -1,5 +1,6 @@
 pub mod AgainLaws
 pub mod PlacesLaws
 pub mod PlanLaws
+pub mod RestLaws
 pub mod SoundLaws
 pub mod WriteLaws

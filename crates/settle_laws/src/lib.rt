@@ -8,5 +8,6 @@
 pub mod again_laws;
 pub mod places_laws;
 pub mod plan_laws;
+pub mod rest_laws;
 pub mod sound_laws;
 pub mod write_laws;

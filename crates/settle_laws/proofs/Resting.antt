@@ -1,0 +1,190 @@
+-- A function whose parts stay, and those of the bridges above it, is neither shut nor written but for Command's enables.
+use Rattle.std.proofs.Common.{◌≡◌, ℕ, zero, suc, inl, inr, List, Bool, true, false, cond, ◌||◌, not, Option, None, Some, arith, refl, sym, ◌∙◌, ap, subst}
+use Rattle.std.specs.Bool.{◌==◌, nat_le}
+use Rattle.std.specs.Int.{bit_at}
+use Rattle.std.specs.List.{Contains, list_all, list_any}
+use Rattle.std.proofs.lemmas.Bool.{both_ways, cases_Bool, eq-eqb, eqb-true, leb-true, not_from_true, or_from}
+use Rattle.pci_spec.specs.Number.{has_bit, number_at, byte_at}
+use Rattle.pci_spec.specs.Registers.{COMMAND}
+use Rattle.pci_spec.specs.Header.{command, layout, address_registers, registers_by}
+use Rattle.pci_spec.specs.Window.{WindowKind, closed_bounds}
+use Rattle.pci_spec.specs.System.{System, Function, IsSystem, Space, Io, Memory, Part, Bar, Rom, Window, has_part, is_window, space_of}
+use Rattle.pci_spec.specs.Machine.{without_low}
+use Rattle.pci_spec.proofs.Bits.{bit_at-without_low}
+use Rattle.pci_spec.proofs.Members.{in_filter_from, in_map_from, in_nil}
+use Rattle.plan_spec.specs.Plan.{bridges_above}
+use Rattle.plan_spec.specs.Place.{nibble_of}
+use Rattle.plan_spec.proofs.Planning.AboveBuses.{above_to}
+use Rattle.plan_spec.proofs.Planning.Behind.{all_gives}
+use Rattle.plan_spec.proofs.Planning.Kept.{images_of}
+use Rattle.settle_spec.specs.Lists.{Request}
+use Rattle.settle_spec.specs.Parts.{Region, header_parts, is_part, class_in}
+use Rattle.settle_spec.specs.Stands.{rank}
+use Rattle.settle_spec.specs.Items.{Item, Placed, Placing, AllPlaced, Lacks, new_window, stays}
+use Rattle.settle_spec.specs.Places.{new_place, placed_of, placing_on, placing_within, ranges_for, space_items, taken_at}
+use Rattle.settle_spec.specs.Registers.{closed_if_open, is_enabled_in, settled_command, settled_function, settled_image, shown, changing, with_bounds}
+use Rattle.settle_spec.specs.Writes.{is_changed, is_cut_off_in, is_shut, is_shut_itself}
+use Rattle.settle_spec.specs.PlacingLaws.{ArePlaced}
+use Rattle.settle_spec.proofs.Placed.{are_placed}
+use Rattle.settle_laws.specs.RestLaws.{HasAllOf, IsLeftAlone, KeepsParts}
+use Rattle.settle_laws.proofs.Commands.{settled_is}
+use Rattle.settle_laws.proofs.Few.{stays_on}
+use Rattle.settle_laws.proofs.Finding.{found}
+use Rattle.settle_laws.proofs.HeaderParts.{part_cases}
+use Rattle.settle_laws.proofs.Held.{none_by}
+use Rattle.settle_laws.proofs.ItemForms.{IsItemIn, IsNewWindow, IsOwnPart, IsPlaceable, header_has, item_by, item_moves, item_positive, same_rank, space_items_are}
+use Rattle.settle_laws.proofs.KeptAside.{enables_alone}
+use Rattle.settle_laws.proofs.Numbers.{with_elsewhere}
+use Rattle.settle_laws.proofs.Shown.{IsChanging, can_change, changing_is, fold_keeps, settled_image_is, window_bridge}
+use Rattle.settle_laws.proofs.WindowBytes.{number_elsewhere}
+
+module _ (q : Request) (s : System) (system : IsSystem s) where
+  -- ---- what gets a place
+
+  -- what is placed on a bus is an item of it
+  is_item : (space : Space) (bus : ℕ) (placing : Placing) → placing_on q s space bus ≡ placing → (x : Placed) → Contains (placed_of placing) x → Contains (space_items q s space bus) x.item
+  unfolding placing_within
+  is_item space bus (Lacks i) e x has = absurd (in_nil x has)
+  is_item space bus (AllPlaced placed) e x has =
+      let ranges = ranges_for q s (λ over. placed_of (placing_within q s space 255 over)) in
+      let are : ArePlaced ranges (taken_at q s space bus) (space_items q s space bus) placed = are_placed ranges (taken_at q s space bus) (space_items q s space bus) placed (item_positive q s space bus) e in
+      subst (λ items. Contains items x.item) are.all (in_map_from (λ (y : Placed). y.item) placed x has)
+
+  record GetsPlace (f : Function) (p : Part) : Type 0 where
+    placeable : IsPlaceable q s (class_in q s f p) f p
+    moves : stays q s record { function = f; part = p } ≡ false
+
+  gets_place : (f : Function) (p : Part) → Contains s f → has_part f p ≡ true → (x : Placed) → new_place q s record { function = f; part = p } ≡ Some x → GetsPlace f p
+  gets_place f p listed there x e =
+      let space = space_of f p in
+      let bus = f.slot.bus in
+      let r : Region = record { function = f; part = p } in
+      let at = found (λ (y : Placed). rank y.item.region == rank r) (placed_of (placing_on q s space bus)) x e in
+      let is : IsItemIn q s space bus x.item = space_items_are q s space bus x.item (is_item space bus (placing_on q s space bus) refl x at.0) in
+      let item : x.item ≡ item_by (new_window q s) (class_in q s f p) f p = same_rank q s system space bus x.item is f p listed there (eqb-true (rank x.item.region) (rank r) at.1) in
+      let region : record { function = is.of.f; part = is.of.p } ≡ r = ap (λ (i : Item). i.region) (is.of.is ∙ item) in
+      let function : is.of.f ≡ f = ap (λ (z : Region). z.function) region in
+      let part : is.of.p ≡ p = ap (λ (z : Region). z.part) region in
+      let class : is.c ≡ class_in q s f p = ap (λ (i : Item). i.class) (is.of.is ∙ item) in
+      record {
+        placeable = subst (λ o. IsPlaceable q s (class_in q s f p) f o) part (subst (λ g. IsPlaceable q s (class_in q s f p) g is.of.p) function (subst (λ c. IsPlaceable q s c is.of.f is.of.p) class is.of.can));
+        moves = ap (λ (i : Item). stays q s i.region) (sym item) ∙ item_moves q s (new_window q s) is.c (stays q s) bus x.item is.has;
+      }
+
+  -- ---- registers
+
+  -- what can change is a part of the header's layout
+  changing_part : (f : Function) (r : Region) (c : IsChanging q s f r) → has_part f c.p ≡ true
+  changing_part f r c = elim (part_cases f c.p c.there) [
+    | inl bar ↦ header_has f c.p c.there (sym (ap is_window bar.is))
+    | inr (inl window) ↦ subst (λ o. has_part f o ≡ true) window.is (window_bridge q s f window.kind (ap (can_change q s f) window.is ∙ c.can))
+    | inr (inr rom) ↦ subst (λ o. has_part f o ≡ true) rom refl
+  ]
+
+  module _ (f : Function) (listed : Contains s f) (keeps : KeepsParts q s f) where
+    abbrev region : Part → Region
+    region p = record { function = f; part = p }
+
+    part_stays : (p : Part) → Contains (header_parts f) p → is_part q s f p ≡ true → stays q s (region p) ≡ true
+    part_stays p there part = keeps.parts p (in_filter_from (is_part q s f) (header_parts f) p there part)
+
+    no_place : (p : Part) → Contains (header_parts f) p → has_part f p ≡ true → new_place q s (region p) ≡ None
+    no_place p there has = by (new_place q s (region p)) refl
+      where
+        stays_though : (c : WindowKind) → GetsPlace f p → IsPlaceable q s c f p → is_part q s f p ≡ true
+        stays_though c gets (IsOwnPart plain part) = part
+        stays_though c gets (IsNewWindow window bridge needed) = subst (λ o. is_part q s f o ≡ true) (sym window) (keeps.windows c bridge needed)
+
+        by : (o : Option Placed) → new_place q s (region p) ≡ o → new_place q s (region p) ≡ None
+        by None e = e
+        by (Some x) e =
+            let gets = gets_place f p listed has x e in
+            absurd (both_ways (stays q s (region p)) gets.moves (part_stays p there (stays_though (class_in q s f p) gets gets.placeable)))
+
+    -- a step of the settled image
+    step_leaves : (p : Part) → Contains (header_parts f) p → has_part f p ≡ true → (image : List ℕ) → shown q s (region p) (new_place q s (region p)) image ≡ image
+    step_leaves p there has image =
+        ap (λ o. shown q s (region p) o image) (no_place p there has)
+        ∙ elim (cases_Bool (is_part q s f p)) [
+          | inl part ↦ ap (λ t. cond t image (closed_if_open f p image)) (part_stays p there part)
+          | inr none ↦ ap (cond (stays q s (region p)) image) (not_open p none) ∙ cond_itself (stays q s (region p))
+        ]
+      where
+        not_open : (p : Part) → is_part q s f p ≡ false → closed_if_open f p image ≡ image
+        not_open (Bar n) none = refl
+        not_open Rom none = refl
+        not_open (Window c) none = ap (λ t. cond t (with_bounds c (closed_bounds c (nibble_of c f)) image) image) none
+
+        cond_itself : (b : Bool) → cond b image image ≡ image
+        cond_itself true = refl
+        cond_itself false = refl
+
+    image_rests : settled_image q s f ≡ f.image
+    image_rests = fold_keeps (λ x. x ≡ f.image) (λ x r. shown q s r (new_place q s r) x) (changing q s f)
+        (λ r has x same.
+        let c : IsChanging q s f r = changing_is q s f r has in
+        subst (λ (t : Region). shown q s t (new_place q s t) x ≡ f.image) c.is (step_leaves c.p c.there (changing_part f r c) x ∙ same)) f.image refl
+
+    -- no address register is where Command is
+    above_command : (bridge : Bool) → list_all (λ (r : ℕ × ℕ). nat_le 6 r.0) (registers_by bridge) ≡ true
+    above_command true = refl
+    above_command false = refl
+
+    not_changed : is_changed q s f ≡ false
+    not_changed = none_by (λ (r : ℕ × ℕ). not (number_at (settled_function q s f).image r.0 r.1 == number_at f.image r.0 r.1)) (address_registers (layout f.image))
+        (λ r has.
+        let high = leb-true 6 r.0 (all_gives (λ (r : ℕ × ℕ). nat_le 6 r.0) (registers_by (layout f.image == 1)) r (above_command (layout f.image == 1)) has) in
+        let same : number_at (settled_function q s f).image r.0 r.1 ≡ number_at f.image r.0 r.1 =
+        number_elsewhere 2 COMMAND (settled_command q s f) r.0 r.1 (settled_image q s f) (inr (omega (arith, high))) ∙ ap (λ x. number_at x r.0 r.1) image_rests in
+        not_from_true (number_at (settled_function q s f).image r.0 r.1 == number_at f.image r.0 r.1) (eq-eqb (number_at (settled_function q s f).image r.0 r.1) (number_at f.image r.0 r.1) same))
+
+    not_shut_itself : is_shut_itself q s f ≡ false
+    not_shut_itself =
+        or_from (is_changed q s f || is_cut_off_in q s f Io) (is_cut_off_in q s f Memory) (or_from (is_changed q s f) (is_cut_off_in q s f Io) not_changed (keeps.reached Io)) (keeps.reached Memory)
+
+  -- ---- the laws
+
+  module _ (f : Function) (listed : Contains s f) (alone : IsLeftAlone q s f) where
+    pub not_shut : is_shut q s f ≡ false
+    not_shut =
+        or_from (is_shut_itself q s f) (list_any (is_shut_itself q s) (bridges_above s f.slot.bus)) (not_shut_itself f listed alone.itself)
+        (none_by (is_shut_itself q s) (bridges_above s f.slot.bus) (λ b has. not_shut_itself b (above_to s f.slot.bus b has).listed (alone.above b has)))
+
+    abbrev now : Function
+    now = settled_function q s f
+
+    command_now : command now.image ≡ settled_command q s f
+    command_now = let is = images_of s system f listed in settled_is q s f is (settled_image_is q s f is)
+
+    others_same : without_low 4 (command now.image) ≡ without_low 4 (command f.image)
+    others_same = ap (without_low 4) command_now ∙ enables_alone (command f.image) (is_enabled_in q s Io f) (is_enabled_in q s Memory f)
+
+    -- each bit of Command stays set
+    bit_stays : (i : ℕ) → has_bit (command f.image) i ≡ true → has_bit (command now.image) i ≡ true
+    bit_stays zero on = stays_on q s system f listed not_shut alone.unleft Io on
+    bit_stays (suc zero) on = stays_on q s system f listed not_shut alone.unleft Memory on
+    bit_stays (suc (suc i)) on =
+        ap (λ n. n == 1)
+        (sym (bit_at-without_low (command now.image) 2 (suc (suc i)) (omega arith)) ∙ ap (λ n. bit_at n (suc (suc i))) others_same ∙ bit_at-without_low (command f.image) 2 (suc (suc i)) (omega arith))
+        ∙ on
+
+    pub written_on : (i : ℕ) → has_bit (command f.image) i ≡ true → has_bit (settled_command q s f) i ≡ true
+    written_on i on = subst (λ n. has_bit n i ≡ true) command_now (bit_stays i on)
+
+    pub has_all : HasAllOf f now
+    has_all = record {
+      slot = refl;
+      probe = refl;
+      bytes = λ place apart. with_elsewhere 2 COMMAND (settled_command q s f) place (settled_image q s f) apart ∙ ap (λ x. byte_at x place) (image_rests f listed alone.itself);
+      others = others_same;
+      enables = bit_stays;
+    }
+
+    pub has_itself : HasAllOf f f
+    has_itself = record {
+      slot = refl;
+      probe = refl;
+      bytes = λ place apart. refl;
+      others = refl;
+      enables = λ i on. on;
+    }

@@ -1,0 +1,10 @@
+//! Laws of what settling leaves alone. These functions do nothing: each contract is a law.
+
+ghost use Rattle.settle_laws.specs.RestLaws.{LeftAloneIsNeverOff, LeftAloneIsOnlySwitchedOn};
+
+/// A function whose parts stay, as those of the bridges above it do, is only switched on: it loses no bit at
+/// any stop, and no register but Command is written.
+pub fn what_stays_is_never_off()
+    ensures writes { LeftAloneIsOnlySwitchedOn }
+    ensures stops { LeftAloneIsNeverOff }
+{}
