@@ -11,7 +11,7 @@ use Rattle.settle_laws.proofs.InLists.{within_from}
 use Rattle.settle_laws.proofs.PoolLists.{can_settle_where_planned}
 use Rattle.planned_laws.specs.SettledPlans.{HasPools, PlannedIsSettled, PlannedIsSettledInItsPools, just_in}
 use Rattle.planned_laws.specs.Switching.{PlannedIsStanding}
-use Rattle.planned_laws.proofs.Settled.{nothing_settled}
+use Rattle.settle_laws.proofs.NothingSettled.{nothing_settled}
 use Rattle.planned_laws.proofs.ShownPlaces.{plan_is_laid_out}
 use Rattle.planned_laws.proofs.Standing.{all_stand, leaves_nothing}
 

@@ -2,7 +2,6 @@ mod Examples
 mod JustPools
 mod Placed
 mod RootRanges
-mod Settled
 mod SettledStands
 mod ShownPlaces
 mod Standing

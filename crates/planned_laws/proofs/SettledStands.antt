@@ -17,7 +17,7 @@ use Rattle.settle_laws.proofs.Commands.{enabled_unleft}
 use Rattle.settle_laws.proofs.Moves.{new_chains, new_nested, new_profile, new_system}
 use Rattle.settle_laws.proofs.SettledSound.{settled_sound}
 use Rattle.planned_laws.specs.Switching.{IsStandingSystem, keeping}
-use Rattle.planned_laws.proofs.Settled.{nothing_settled}
+use Rattle.settle_laws.proofs.NothingSettled.{nothing_settled}
 
 module _ (q : Request) (s : System) (can : CanSettle q s) (fixed : List Slot) where
   abbrev k : Request

@@ -1,13 +1,13 @@
 -- Where each part stands, a system is sound if what is on has all bridges above on, and I/O is off where an I/O BAR is left.
-use Rattle.std.proofs.Common.{◌≡◌, ◌&&◌, ℕ, ◌<◌, inl, inr, Bool, true, false, not, arith, refl, sym, ◌∙◌, ap, subst}
-use Rattle.std.specs.Bool.{nat_le, nat_lt, ◌==◌, if◌then◌else◌}
+use Rattle.std.proofs.Common.{◌≡◌, ◌&&◌, ℕ, ◌<◌, inl, inr, Bool, true, false, not, refl, sym, ◌∙◌, ap, subst}
+use Rattle.std.specs.Bool.{nat_lt, ◌==◌, if◌then◌else◌}
 use Rattle.std.specs.List.{Contains, list_any}
-use Rattle.std.proofs.lemmas.Bool.{and_from, and_parts, both_ways, cases_Bool, eq-eqb, leb-true, ltb-true, not-false, not_from_false, or_left, or_right}
+use Rattle.std.proofs.lemmas.Bool.{and_from, and_parts, both_ways, cases_Bool, eq-eqb, ltb-true, not-false, not_from_false, or_left, or_right}
 use Rattle.std.proofs.lemmas.List.Elements.{All-contains}
 use Rattle.pci_spec.specs.Header.{layout, bar_count}
 use Rattle.pci_spec.specs.Bar.{bar_at, has_bar, is_io}
 use Rattle.pci_spec.specs.Rom.{has_rom, rom_is_on}
-use Rattle.pci_spec.specs.Decoded.{Range, InRange, IsDecodable}
+use Rattle.pci_spec.specs.Decoded.{InRange, IsDecodable}
 use Rattle.pci_spec.specs.Window.{WindowKind, IoWindow, MemoryWindow, PrefetchWindow, has_window, holds, is_closed}
 use Rattle.pci_spec.specs.System.{System, Function, Space, Io, Memory, Part, Bar, Rom, Window, Claims, is_bridge, is_implemented, is_prefetchable_part, is_space_on, is_window, passes, window_claims, window_space}
 use Rattle.pci_spec.specs.Bus.{are_siblings, is_root, LeadsTo}
@@ -24,7 +24,7 @@ use Rattle.plan_spec.proofs.Planning.Home.{home_by_known}
 use Rattle.plan_spec.proofs.Planning.LaidOut.{opening, place_of_claim}
 use Rattle.plan_spec.proofs.Planning.Single.{single_by_ranges}
 use Rattle.settle_spec.specs.Lists.{Request}
-use Rattle.settle_spec.specs.Parts.{Region, regions, addresses, has_left, header_bars, is_left, is_part, is_within, class_in, same_space}
+use Rattle.settle_spec.specs.Parts.{Region, regions, addresses, has_left, header_bars, is_left, is_part, class_in, same_space}
 use Rattle.settle_spec.specs.Stands.{region_space, window_region}
 use Rattle.settle_spec.specs.Registers.{has_own}
 use Rattle.settle_spec.proofs.Nested.{at_secondary}
@@ -34,6 +34,7 @@ use Rattle.settle_laws.proofs.After.{none_passes}
 use Rattle.settle_laws.proofs.AllInPlace.{looked, two_ranks}
 use Rattle.settle_laws.proofs.HeaderParts.{header_of}
 use Rattle.settle_laws.proofs.Held.{above_above, and_second_false, bar_listed, claim_on, own_by, same_itself}
+use Rattle.settle_laws.proofs.InPlace.{within_has}
 use Rattle.settle_laws.proofs.Kept.{in_regions, lie_apart, off_roots}
 use Rattle.settle_laws.proofs.PartClasses.{prefetch_of_class, space_of_class}
 use Rattle.settle_laws.proofs.SettledSound.{passed_by}
@@ -47,13 +48,6 @@ passes_by c space prefetchable a b at may h = subst (λ sp. passes sp prefetchab
     by IoWindow may h = h
     by MemoryWindow may h = or_left (window_claims b MemoryWindow a) (prefetchable && window_claims b PrefetchWindow a) h
     by PrefetchWindow may h = or_right (window_claims b MemoryWindow a) (prefetchable && window_claims b PrefetchWindow a) (and_from prefetchable (window_claims b PrefetchWindow a) (may refl) h)
-
-in_window : (r w : Range) (a : ℕ) → is_within r w ≡ true → InRange r a → InRange w a
-in_window r w a within (low, high) =
-    let parts = and_parts (nat_le w.first r.first) (nat_le r.last w.last) within in
-    let first = leb-true w.first r.first parts.0 in
-    let last = leb-true r.last w.last parts.1 in
-    (omega (arith, first, low), omega (arith, last, high))
 
 module _ (q : Request) (s : System) (is : IsStandingSystem q s) (uncut : IsUncut q s) where
   decodable : (f : Function) → Contains s f → IsDecodable f
@@ -147,7 +141,7 @@ module _ (q : Request) (s : System) (is : IsStandingSystem q s) (uncut : IsUncut
       let over = in_window_over q s is.nested r in_r (is.stand r in_r) b is.system off leads in
       let opened : is_open b c ≡ true = (stands_by_itself q s is.nested).only (window_region c b) leads.0 over.1 in
       and_from (is_space_on b (window_space c)) (holds c b.image b.probe a) (ap (is_space_on b) (space_of_class q s r.function r.part) ∙ on)
-      ((window_holds_its_pages c b.image b.probe a (opening b c opened).there).1 (in_window (addresses r) (range_of b (Window c)) a over.0 inside))
+      ((window_holds_its_pages c b.image b.probe a (opening b c opened).there).1 (within_has (addresses r) (range_of b (Window c)) a over.0 inside))
 
   part_prefetch : (f : Function) (p : Part) → is_window p ≡ false → class_in q s f p ≡ PrefetchWindow → is_prefetchable_part f p ≡ true
   part_prefetch f (Bar n) plain e = prefetch_of_class q s f n e

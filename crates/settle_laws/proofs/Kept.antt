@@ -32,7 +32,7 @@ one_space Memory Io same = absurd (both_ways (same_space Memory Io) refl same)
 one_space Memory Memory same = refl
 
 -- what is beside one bus is beside one another
-siblings_through : (roots : List ℕ) (bus a b : ℕ) → are_siblings roots bus a ≡ true → are_siblings roots bus b ≡ true → are_siblings roots a b ≡ true
+pub siblings_through : (roots : List ℕ) (bus a b : ℕ) → are_siblings roots bus a ≡ true → are_siblings roots bus b ≡ true → are_siblings roots a b ≡ true
 siblings_through roots bus a b with_a with_b = elim (or_cases (bus == a) (is_root roots bus && is_root roots a) with_a) [
   | inl same ↦ subst (λ n. are_siblings roots n b ≡ true) (eqb-true bus a same) with_b
   | inr both ↦

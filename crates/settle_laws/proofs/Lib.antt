@@ -25,6 +25,7 @@ pub mod HeaderParts
 pub mod Held
 pub mod Images
 pub mod InLists
+pub mod InPlace
 pub mod InWindows
 pub mod ItemForms
 pub mod Kept
@@ -34,10 +35,12 @@ pub mod NewPlaces
 pub mod NoLarger
 pub mod Lives
 pub mod Moves
+pub mod NothingSettled
 pub mod Numbers
 pub mod OneByOne
 pub mod NumbersPut
 pub mod Outside
+pub mod PartClaims
 pub mod PartClasses
 pub mod PartPlaces
 pub mod Pieces

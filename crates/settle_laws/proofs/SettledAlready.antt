@@ -1,22 +1,19 @@
 -- A sound system is settled already where registers are as they are to be, and what gets a place is enabled.
-use Rattle.std.proofs.Common.{◌≡◌, ◌&&◌, ◌||◌, ℕ, zero, suc, ◌+◌, ◌^◌, ◌<◌, ◌≤◌, inl, inr, [], ◌∷◌, map, Bool, true, false, not, arith, refl, sym, ◌∙◌, ap, subst}
-use Rattle.std.specs.Bool.{◌==◌, if◌then◌else◌}
+use Rattle.std.proofs.Common.{◌≡◌, ◌&&◌, ◌||◌, ℕ, zero, suc, ◌+◌, ◌≤◌, inl, inr, [], ◌∷◌, map, Bool, true, false, not, arith, refl, sym, ◌∙◌, ap, subst}
+use Rattle.std.specs.Bool.{◌==◌}
 use Rattle.std.specs.List.{Contains, filter, list_any}
-use Rattle.std.proofs.lemmas.Bool.{and_from, and_parts, both_ways, cases_Bool, eqb-true, false_from_ne_true, not-true, or_cases, ltb-true}
+use Rattle.std.proofs.lemmas.Bool.{and_parts, both_ways, cases_Bool, eqb-true, false_from_ne_true, not-true, or_cases}
 use Rattle.std.proofs.lemmas.List.Elements.{All-contains}
 use Rattle.pci_spec.specs.Number.{IsImage}
 use Rattle.pci_spec.specs.Registers.{COMMAND}
-use Rattle.pci_spec.specs.Header.{command, layout, bar_count}
-use Rattle.pci_spec.specs.Bar.{IoBar, Memory32, Memory64, Reserved, bar_at, has_bar, is_io, type_bits}
-use Rattle.pci_spec.specs.Rom.{has_rom, rom_is_on}
+use Rattle.pci_spec.specs.Header.{command}
 use Rattle.pci_spec.specs.Decoded.{IsDecodable}
-use Rattle.pci_spec.specs.System.{System, Function, IsSystem, Space, Io, Memory, Part, Bar, Rom, Window, Claims, IsAddress, has_part, is_bridge, is_prefetchable_part, is_space_on, is_window, passes, space_of, window_space}
+use Rattle.pci_spec.specs.System.{System, Function, IsSystem, Space, Io, Memory, Part, Claims, has_part, is_bridge, is_prefetchable_part, is_space_on, is_window, passes, space_of, window_space}
 use Rattle.pci_spec.specs.Bus.{secondary, is_behind}
 use Rattle.pci_spec.specs.Sound.{IsSound}
 use Rattle.pci_spec.proofs.BusRanges.{all_gives}
 use Rattle.pci_spec.proofs.Members.{in_head, in_tail, in_filter_to, in_map_to, IsMade}
 use Rattle.pci_spec.proofs.Nesting.{one_function}
-use Rattle.pci_spec.proofs.Ranges.{width_of, decoded_bar-decodes, decoded_bar-order, decoded_bar-fits, rom_range-decodes, rom_range-order, rom_range-fits}
 use Rattle.pci_spec.proofs.Ways.{behind_is_on_the_way}
 use Rattle.plan_spec.specs.Planning.Layout.{range_of}
 use Rattle.plan_spec.proofs.PlanningLaws.{profile_decodes}
@@ -25,7 +22,7 @@ use Rattle.plan_spec.proofs.Planning.CommandFits.{command_by}
 use Rattle.plan_spec.proofs.Planning.Kept.{images_of}
 use Rattle.plan_spec.proofs.Planning.Safe.{slots_of, order_of}
 use Rattle.settle_spec.specs.Lists.{Request}
-use Rattle.settle_spec.specs.Parts.{Region, regions_of, is_left, is_part, header_parts, has_left, same_space}
+use Rattle.settle_spec.specs.Parts.{Region, regions_of, is_part, header_parts, has_left, same_space}
 use Rattle.settle_spec.specs.Stands.{region_space}
 use Rattle.settle_spec.specs.LiveLaws.{is_live, has_live_behind}
 use Rattle.settle_spec.specs.Registers.{with_number, got_place, has_own, is_enabled_in, settled, settled_image, settled_command, settled_function}
@@ -34,46 +31,15 @@ use Rattle.settle_spec.proofs.Nested.{at_secondary, behind_outer}
 use Rattle.settle_laws.proofs.Commands.{as_it_is}
 use Rattle.settle_laws.proofs.ItemForms.{header_has}
 use Rattle.settle_laws.proofs.Kept.{one_space}
+use Rattle.settle_laws.proofs.PartClaims.{claims_at, part_order}
 use Rattle.settle_laws.proofs.Reput.{put_two}
 use Rattle.settle_laws.proofs.SettledSound.{passed_by}
 
 -- ---- a part claims its first address
 
-kind_address : (io wide narrow : Bool) (a : ℕ) → a < 2 ^ width_of (if io then IoBar else if wide then Memory64 else if narrow then Memory32 else Reserved) → IsAddress (if io then Io else Memory) a
-kind_address true wide narrow a small = small
-kind_address false true narrow a small = small
-kind_address false false true a small = omega (arith, small)
-kind_address false false false a small = omega (arith, small)
-
-claims_first : (q : Request) (s : System) (f : Function) (p : Part) → IsImage f.image → IsDecodable f → has_part f p ≡ true → is_part q s f p ≡ true → is_window p ≡ false → is_space_on f (space_of f p) ≡ true
+claims_first : (q : Request) (s : System) (f : Function) (p : Part) → IsImage f.image → IsDecodable f → has_part f p ≡ true → is_part q s f p ≡ true → is_space_on f (space_of f p) ≡ true
     → Claims f p (space_of f p) (range_of f p).first
-claims_first q s f (Bar n) image fine there part plain on =
-    let has = (and_parts (has_bar f.probe n) (not (is_left q s f (Bar n))) part).0 in
-    let rule = fine.bars n (ltb-true n (bar_count (layout f.image)) there) in
-    let first = (range_of f (Bar n)).first in
-    let order = decoded_bar-order f.image f.probe n in
-    let fits = decoded_bar-fits f.image f.probe n image has rule in
-    let mask = bar_at f.probe n in
-    record {
-      there = there;
-      enabled = on;
-      maps = refl;
-      address = kind_address (is_io mask) (type_bits mask == 2) (type_bits mask == 0) first (omega (arith, order, fits));
-      decodes = (decoded_bar-decodes f.image f.probe n has rule first).0 (omega arith, order);
-    }
-claims_first q s f Rom image fine there part plain on =
-    let parts = and_parts (has_rom f.image f.probe) (rom_is_on f.image) part in
-    let first = (range_of f Rom).first in
-    let order = rom_range-order f.image f.probe in
-    let fits = rom_range-fits f.image f.probe image parts.0 fine.rom in
-    record {
-      there = there;
-      enabled = and_from (is_space_on f Memory) (rom_is_on f.image) on parts.1;
-      maps = refl;
-      address = omega (arith, order, fits);
-      decodes = (rom_range-decodes f.image f.probe parts.0 fine.rom first).0 (omega arith, order);
-    }
-claims_first q s f (Window c) image fine there part plain on = absurd (both_ways true plain refl)
+claims_first q s f p image fine there part on = claims_at q s f image fine p there part on (range_of f p).first (omega arith, part_order q s f p part)
 
 module _ (q : Request) (s : System) (system : IsSystem s) (sound : IsSound q.roots s) (off : (f : Function) → Contains s f → has_left q s f ≡ true → is_space_on f Io ≡ false)
     (got : (space : Space) (f : Function) → Contains s f → not (same_space space Io && has_left q s f) ≡ true → got_place q s space f ≡ true → is_space_on f space ≡ true) where
@@ -114,7 +80,7 @@ module _ (q : Request) (s : System) (system : IsSystem s) (sound : IsSound q.roo
         a = (range_of f p).first;
         listed = listed;
         plain = plain;
-        claims = subst (λ sp. Claims f p sp (range_of f p).first) (sym at) (claims_first q s f p (images_of s system f listed) fine (header_has f p part.0 plain) part.1 plain (ap (is_space_on f) (sym at) ∙ on));
+        claims = subst (λ sp. Claims f p sp (range_of f p).first) (sym at) (claims_first q s f p (images_of s system f listed) fine (header_has f p part.0 plain) part.1 (ap (is_space_on f) (sym at) ∙ on));
         behind = λ b in_b bridge is. is;
       }
 

@@ -3,4 +3,5 @@ pub mod PlacesLaws
 pub mod PlanLaws
 pub mod RestLaws
 pub mod SoundLaws
+pub mod StartLaws
 pub mod WriteLaws

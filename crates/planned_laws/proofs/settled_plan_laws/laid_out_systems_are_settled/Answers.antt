@@ -1,4 +1,4 @@
-use Rattle.planned_laws.proofs.Settled.{nothing_settled}
+use Rattle.settle_laws.proofs.NothingSettled.{nothing_settled}
 use Rattle.planned_laws.proofs.Standing.{all_stand, leaves_nothing}
 use Rattle.std.proofs.lemmas.Bool.{both_ways}
 use Rattle.settle_spec.specs.Parts.{has_left}

@@ -1,4 +1,4 @@
-use Rattle.planned_laws.proofs.Settled.{nothing_settled}
+use Rattle.settle_laws.proofs.NothingSettled.{nothing_settled}
 use Rattle.planned_laws.proofs.StandingSound.{standing_sound}
 use Rattle.planned_laws.proofs.Uncut.{sound_is_uncut}
 use Rattle.planned_laws.proofs.switching_laws.standing_systems_are_sound.Goals as goal
