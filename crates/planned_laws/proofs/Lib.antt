@@ -1,7 +1,10 @@
+mod ClaimedParts
 mod Examples
+mod HostSound
 mod JustPools
 mod Placed
 mod RootRanges
+mod SentLists
 mod SettledStands
 mod ShownPlaces
 mod Standing

@@ -1,15 +1,11 @@
 -- Where each part stands, a system is sound if what is on has all bridges above on, and I/O is off where an I/O BAR is left.
-use Rattle.std.proofs.Common.{◌≡◌, ◌&&◌, ℕ, ◌<◌, inl, inr, Bool, true, false, not, refl, sym, ◌∙◌, ap, subst}
-use Rattle.std.specs.Bool.{nat_lt, ◌==◌, if◌then◌else◌}
+use Rattle.std.proofs.Common.{◌≡◌, ◌&&◌, ℕ, inl, inr, Bool, true, false, not, refl, sym, ◌∙◌, ap, subst}
+use Rattle.std.specs.Bool.{◌==◌}
 use Rattle.std.specs.List.{Contains, list_any}
-use Rattle.std.proofs.lemmas.Bool.{and_from, and_parts, both_ways, cases_Bool, eq-eqb, ltb-true, not-false, not_from_false, or_left, or_right}
-use Rattle.std.proofs.lemmas.List.Elements.{All-contains}
-use Rattle.pci_spec.specs.Header.{layout, bar_count}
-use Rattle.pci_spec.specs.Bar.{bar_at, has_bar, is_io}
-use Rattle.pci_spec.specs.Rom.{has_rom, rom_is_on}
-use Rattle.pci_spec.specs.Decoded.{InRange, IsDecodable}
+use Rattle.std.proofs.lemmas.Bool.{and_from, and_parts, both_ways, cases_Bool, eq-eqb, not-false, not_from_false, or_left, or_right}
+use Rattle.pci_spec.specs.Decoded.{InRange}
 use Rattle.pci_spec.specs.Window.{WindowKind, IoWindow, MemoryWindow, PrefetchWindow, has_window, holds, is_closed}
-use Rattle.pci_spec.specs.System.{System, Function, Space, Io, Memory, Part, Bar, Rom, Window, Claims, is_bridge, is_implemented, is_prefetchable_part, is_space_on, is_window, passes, window_claims, window_space}
+use Rattle.pci_spec.specs.System.{System, Function, Space, Part, Bar, Rom, Window, Claims, is_bridge, is_prefetchable_part, is_space_on, is_window, passes, window_claims, window_space}
 use Rattle.pci_spec.specs.Bus.{are_siblings, is_root, LeadsTo}
 use Rattle.pci_spec.specs.Sound.{IsHome, IsSingle, IsSound}
 use Rattle.pci_spec.proofs.BusRanges.{root_means}
@@ -17,14 +13,12 @@ use Rattle.pci_spec.proofs.WindowLaws.{closed_window_holds_nothing, held, window
 use Rattle.plan_spec.specs.Plan.{bridges_above, is_open, same_class}
 use Rattle.plan_spec.specs.Planning.Layout.{range_of, AreBeside, AreTwo, LieApart}
 use Rattle.plan_spec.specs.Planning.Ranges.{Ranges}
-use Rattle.plan_spec.proofs.PlanningLaws.{profile_decodes}
 use Rattle.plan_spec.proofs.Planning.AboveBuses.{above_from}
-use Rattle.plan_spec.proofs.Planning.Behind.{any_from}
 use Rattle.plan_spec.proofs.Planning.Home.{home_by_known}
-use Rattle.plan_spec.proofs.Planning.LaidOut.{opening, place_of_claim}
+use Rattle.plan_spec.proofs.Planning.LaidOut.{opening}
 use Rattle.plan_spec.proofs.Planning.Single.{single_by_ranges}
 use Rattle.settle_spec.specs.Lists.{Request}
-use Rattle.settle_spec.specs.Parts.{Region, regions, addresses, has_left, header_bars, is_left, is_part, class_in, same_space}
+use Rattle.settle_spec.specs.Parts.{Region, regions, addresses, class_in, same_space}
 use Rattle.settle_spec.specs.Stands.{region_space, window_region}
 use Rattle.settle_spec.specs.Registers.{has_own}
 use Rattle.settle_spec.proofs.Nested.{at_secondary}
@@ -33,12 +27,13 @@ use Rattle.stand_laws.proofs.Standing.{stands_by_itself}
 use Rattle.settle_laws.proofs.After.{none_passes}
 use Rattle.settle_laws.proofs.AllInPlace.{looked, two_ranks}
 use Rattle.settle_laws.proofs.HeaderParts.{header_of}
-use Rattle.settle_laws.proofs.Held.{above_above, and_second_false, bar_listed, claim_on, own_by, same_itself}
+use Rattle.settle_laws.proofs.Held.{above_above, and_second_false, claim_on, own_by, same_itself}
 use Rattle.settle_laws.proofs.InPlace.{within_has}
 use Rattle.settle_laws.proofs.Kept.{in_regions, lie_apart, off_roots}
 use Rattle.settle_laws.proofs.PartClasses.{prefetch_of_class, space_of_class}
 use Rattle.settle_laws.proofs.SettledSound.{passed_by}
 use Rattle.planned_laws.specs.Switching.{IsStandingSystem, IsUncut}
+use Rattle.planned_laws.proofs.ClaimedParts.{claimed, claimed_part, in_range}
 
 -- a window of this class passes what may use it
 passes_by : (c : WindowKind) (space : Space) (prefetchable : Bool) (a : ℕ) (b : Function) → window_space c ≡ space → (c ≡ PrefetchWindow → prefetchable ≡ true) → window_claims b c a ≡ true → passes space prefetchable a b ≡ true
@@ -50,37 +45,6 @@ passes_by c space prefetchable a b at may h = subst (λ sp. passes sp prefetchab
     by PrefetchWindow may h = or_right (window_claims b MemoryWindow a) (prefetchable && window_claims b PrefetchWindow a) (and_from prefetchable (window_claims b PrefetchWindow a) (may refl) h)
 
 module _ (q : Request) (s : System) (is : IsStandingSystem q s) (uncut : IsUncut q s) where
-  decodable : (f : Function) → Contains s f → IsDecodable f
-  decodable f listed = All-contains IsDecodable s f (profile_decodes q.roots s is.profile) listed
-
-  -- ---- what claims is a part
-
-  unleft : (f : Function) (n : ℕ) (space : Space) (a : ℕ) → Contains s f → n < bar_count (layout f.image) → has_bar f.probe n ≡ true → Claims f (Bar n) space a → is_left q s f (Bar n) ≡ false
-  unleft f n space a listed inside there claim = elim (cases_Bool (is_left q s f (Bar n))) [
-    | inr fine ↦ fine
-    | inl left ↦
-        let io : is_io (bar_at f.probe n) ≡ true = (and_parts (is_io (bar_at f.probe n)) _ left).0 in
-        let at : space ≡ Io = sym claim.maps ∙ ap (λ t. if t then Io else Memory) io in
-        let has : has_left q s f ≡ true =
-        any_from (λ p. is_implemented f p && is_left q s f p) (header_bars f) (Bar n) (bar_listed q s is.system is.nested f listed n inside) (and_from (has_bar f.probe n) (is_left q s f (Bar n)) there left) in
-        absurd (both_ways (is_space_on f Io) (uncut.left f listed has) (subst (λ sp. is_space_on f sp ≡ true) at (claim_on f (Bar n) space a claim)))
-  ]
-
-  claimed_part : (f : Function) (p : Part) (space : Space) (a : ℕ) → Contains s f → Claims f p space a → is_part q s f p ≡ true
-  claimed_part f (Bar n) space a listed claim =
-      let item = (place_of_claim f (Bar n) space a (decodable f listed) claim).item in
-      let parts = and_parts (nat_lt n (bar_count (layout f.image))) (has_bar f.probe n) item in
-      and_from (has_bar f.probe n) (not (is_left q s f (Bar n))) parts.1 (not_from_false (is_left q s f (Bar n)) (unleft f n space a listed (ltb-true n (bar_count (layout f.image)) parts.0) parts.1 claim))
-  claimed_part f Rom space a listed claim =
-      and_from (has_rom f.image f.probe) (rom_is_on f.image) (place_of_claim f Rom space a (decodable f listed) claim).item (and_parts (is_space_on f Memory) (rom_is_on f.image) claim.enabled).1
-  claimed_part f (Window c) space a listed claim = (place_of_claim f (Window c) space a (decodable f listed) claim).item
-
-  claimed : (f : Function) (p : Part) (space : Space) (a : ℕ) → Contains s f → Claims f p space a → Contains (regions q s) record { function = f; part = p }
-  claimed f p space a listed claim = in_regions q s f p listed (header_of f p claim.there) (claimed_part f p space a listed claim)
-
-  in_range : (f : Function) (p : Part) (space : Space) (a : ℕ) → Contains s f → Claims f p space a → InRange (range_of f p) a
-  in_range f p space a listed claim = (place_of_claim f p space a (decodable f listed) claim).range
-
   -- ---- single
 
   beside_test : (f g : Function) → AreBeside q.roots f g → are_siblings q.roots f.slot.bus g.slot.bus ≡ true
@@ -94,8 +58,8 @@ module _ (q : Request) (s : System) (is : IsStandingSystem q s) (uncut : IsUncut
   claims_apart f g p r space a in_f in_g beside claim_f claim_g two =
       let x : Region = record { function = f; part = p } in
       let y : Region = record { function = g; part = r } in
-      let in_x = claimed f p space a in_f claim_f in
-      let in_y = claimed g r space a in_g claim_g in
+      let in_x = claimed q s is.system is.nested is.profile uncut.left f p space a in_f claim_f in
+      let in_y = claimed q s is.system is.nested is.profile uncut.left g r space a in_g claim_g in
       lie_apart (addresses x) (addresses y)
       (apart_where_beside q s x y is.nested in_x in_y (is.stand x in_x) (is.stand y in_y)
       (and_from (are_siblings q.roots f.slot.bus g.slot.bus) (same_space (region_space x) (region_space y)) (beside_test f g beside)
@@ -103,7 +67,7 @@ module _ (q : Request) (s : System) (is : IsStandingSystem q s) (uncut : IsUncut
       (two_ranks q s is.system x y (looked q s x in_x) (looked q s y in_y) two))
 
   single : IsSingle q.roots s
-  single = single_by_ranges q.roots s ranges (λ f p space a listed claim. in_range f p space a listed claim) claims_apart
+  single = single_by_ranges q.roots s ranges (λ f p space a listed claim. in_range q s is.system is.nested is.profile uncut.left f p space a listed claim) claims_apart
     where
       ranges : Ranges
       ranges = record { first = λ f p space. (range_of f p).first; last = λ f p space. (range_of f p).last }
@@ -121,7 +85,7 @@ module _ (q : Request) (s : System) (is : IsStandingSystem q s) (uncut : IsUncut
   -- what claims has all bridges above on
   claim_above : (f : Function) (p : Part) (space : Space) (a : ℕ) → Contains s f → is_window p ≡ false → Claims f p space a → (d : Function) → Contains (bridges_above s f.slot.bus) d → is_space_on d space ≡ true
   claim_above f p space a listed plain claim d above =
-      let own = own_by q s is.system is.nested f listed p space (header_of f p claim.there) (claimed_part f p space a listed claim) plain claim.maps in
+      let own = own_by q s is.system is.nested f listed p space (header_of f p claim.there) (claimed_part q s is.system is.nested is.profile uncut.left f p space a listed claim) plain claim.maps in
       let dark = λ (b : Function). not (is_space_on b space) in
       not-false (is_space_on d space)
       (none_passes dark (bridges_above s f.slot.bus)
@@ -153,7 +117,7 @@ module _ (q : Request) (s : System) (is : IsStandingSystem q s) (uncut : IsUncut
       let on = on_by_leader f b space leads (claim_above f p space a listed plain claim) in (
         on,
         passes_by (class_in q s f p) space (is_prefetchable_part f p) a b (space_of_class q s f p ∙ claim.maps) (part_prefetch f p plain)
-            (window_over record { function = f; part = p } b a (claimed f p space a listed claim) (in_range f p space a listed claim) leads (ap (is_space_on b) claim.maps ∙ on.on)),
+            (window_over record { function = f; part = p } b a (claimed q s is.system is.nested is.profile uncut.left f p space a listed claim) (in_range q s is.system is.nested is.profile uncut.left f p space a listed claim) leads (ap (is_space_on b) claim.maps ∙ on.on)),
       )
 
   -- a window that holds an address is open

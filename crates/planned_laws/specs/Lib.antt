@@ -1,3 +1,4 @@
+pub mod HostLaws
 pub mod InLists
 pub mod SettledPlans
 pub mod Switching

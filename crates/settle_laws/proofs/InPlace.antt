@@ -76,18 +76,18 @@ all_push test (y ∷ ys) x all one =
     and_from (test y) (list_all test (ys ++ x ∷ [])) parts.0 (all_push test ys x parts.1 one)
 
 -- what a window claims is forwarded
-claimed_forwards : (c : WindowKind) (a : ℕ) (b : Function) → window_claims b c a ≡ true → forwards (window_space c) a b ≡ true
+pub claimed_forwards : (c : WindowKind) (a : ℕ) (b : Function) → window_claims b c a ≡ true → forwards (window_space c) a b ≡ true
 claimed_forwards IoWindow a b h = h
 claimed_forwards MemoryWindow a b h = or_left (window_claims b MemoryWindow a) (window_claims b PrefetchWindow a) h
 claimed_forwards PrefetchWindow a b h = or_right (window_claims b MemoryWindow a) (window_claims b PrefetchWindow a) h
 
 -- where a part is enabled, its space is
-enabled_on : (f : Function) (p : Part) → is_enabled f p ≡ true → is_space_on f (space_of f p) ≡ true
+pub enabled_on : (f : Function) (p : Part) → is_enabled f p ≡ true → is_space_on f (space_of f p) ≡ true
 enabled_on f (Bar n) on = on
 enabled_on f Rom on = (and_parts (is_space_on f Memory) (rom_is_on f.image) on).0
 enabled_on f (Window c) on = on
 
-looked_part : (q : Request) (s : System) (r : Region) → IsLookedAt q s r → has_part r.function r.part ≡ true
+pub looked_part : (q : Request) (s : System) (r : Region) → IsLookedAt q s r → has_part r.function r.part ≡ true
 looked_part q s r is = elim (part_cases r.function r.part is.there) [
   | inl bar ↦ header_has r.function r.part is.there (sym (ap is_window bar.is))
   | inr (inl window) ↦ subst (λ o. has_part r.function o ≡ true) window.is (opening r.function window.kind (subst (λ o. looked_at q s record { function = r.function; part = o } ≡ true) (sym window.is) is.part)).bridge

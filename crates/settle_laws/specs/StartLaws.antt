@@ -11,15 +11,18 @@ use Rattle.settle_spec.specs.Parts.{Region, regions, addresses, is_within, class
 use Rattle.settle_spec.specs.Stands.{rank, is_on, region_space, are_beside, is_in_lists, window_region, stands}
 use Rattle.settle_spec.specs.Writes.{Settled, settle}
 
--- Each part on a root lies whole in a range of the lists of its space that the root has, and each behind a bridge in the window
--- of its class there, which is open.
+-- Each part behind a bridge lies whole in the window of its class there, which is open.
+abbrev pub PartsLieInWindows : Request → System → Type 0
+PartsLieInWindows q s =
+    (r : Region) (b : Function) → Contains (regions q s) r → LeadsTo s b r.function.slot.bus
+    → IsTrue (is_open b (class_in q s r.function r.part))
+    × IsTrue (is_within (addresses r) (addresses (window_region (class_in q s r.function r.part) b)))
+
+-- So it is, and each part on a root lies whole in a range of the lists of its space that the root has.
 pub record LieInPlace (q : Request) (s : System) : Type 0 where
   pub lists : (r : Region) → Contains (regions q s) r → IsTrue (is_root q.roots r.function.slot.bus)
       → IsTrue (is_in_lists q r.function.slot.bus (addresses r) (region_space r))
-  pub windows : (r : Region) (b : Function) → Contains (regions q s) r
-      → LeadsTo s b r.function.slot.bus
-      → IsTrue (is_open b (class_in q s r.function r.part))
-      × IsTrue (is_within (addresses r) (addresses (window_region (class_in q s r.function r.part) b)))
+  pub windows : PartsLieInWindows q s
 
 -- Command enables a part, and on each bridge above it the part's space.
 abbrev pub is_on_from_above : System → Region → Bool
