@@ -15,7 +15,7 @@ unchanged : (Condition : Type 0) (f changed g : Function) → IsWhere Condition 
 unchanged Condition f changed g (inl (holds, is)) same = is ∙ same holds
 unchanged Condition f changed g (inr (fails, is)) same = is
 
-taken_same : (slots : List Slot) (f h : Function) → IsTaken no_words slots f h → h ≡ f
+pub taken_same : (slots : List Slot) (f h : Function) → IsTaken no_words slots f h → h ≡ f
 taken_same slots f h taken =
     unchanged _ taken.g taken.g h taken.parts (λ holds. refl)
     ∙ unchanged _ f _ taken.g taken.power (λ holds. cc holds.0)

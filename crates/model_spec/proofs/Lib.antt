@@ -2,3 +2,4 @@ pub mod Changes
 pub mod Examples
 pub mod Kept
 pub mod NoVga
+mod Others

@@ -43,7 +43,7 @@ start_off image is = cond_both (controls_bridge image VGA_ENABLE) _ image (λ x.
     record { full = length-set image BRIDGE_CONTROL _ ∙ full; off = rw none (and-false _) })
     (λ off. record { full = is.full; off = off })
 
-off_at : (image : List ℕ) (k : ℕ) → (k ≡ COMMAND → ⊥) → (k ≡ STATUS → ⊥) → byte_at (switched_off image) k ≡ byte_at image k
+pub off_at : (image : List ℕ) (k : ℕ) → (k ≡ COMMAND → ⊥) → (k ≡ STATUS → ⊥) → byte_at (switched_off image) k ≡ byte_at image k
 off_at image k command status =
     get_or-set_other (set image COMMAND (byte_at image COMMAND / 4 * 4)) STATUS k _ 0 status ∙ get_or-set_other image COMMAND k _ 0 command
 

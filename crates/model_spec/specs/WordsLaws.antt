@@ -1,13 +1,14 @@
 -- Laws of what words take.
-use Rattle.std.specs.Prelude.{◌≡◌, ℕ, Bool, IsTrue, IsFalse, List, map, is_some}
+use Rattle.std.specs.Prelude.{◌≡◌, ◌↔◌, ℕ, Bool, true, false, ◌&&◌, not, IsTrue, IsFalse, List, map, is_some}
 use Rattle.pci_spec.specs.Slot.{Slot}
 use Rattle.pci_spec.specs.Number.{IsImage}
 use Rattle.pci_spec.specs.Registers.{SECONDARY_BUS_RESET, VGA_ENABLE}
 use Rattle.pci_spec.specs.System.{System, Function, Space, Part, Claims, is_bridge}
+use Rattle.pci_spec.specs.Decoded.{bridge_of}
 use Rattle.pci_spec.specs.Fault.{IsNotInD0, controls_bridge, is_subtractive_bridge}
 use Rattle.model_spec.specs.Words.{Words, no_words}
 use Rattle.model_spec.specs.Bytes.{out_of_reset, positive, switched_off}
-use Rattle.model_spec.specs.Taken.{AreTaken, IsTaken, may_have_parts_by, parts_aside, with_image, without_buses}
+use Rattle.model_spec.specs.Taken.{AreTaken, IsTaken, has_legacy_by, has_numbers, is_ide, is_unnumbered, may_have_parts_by, parts_aside, with_image, without_buses}
 
 -- Without words a system is taken as it is.
 abbrev pub NoWordsChangeNothing : Type 0
@@ -57,3 +58,38 @@ abbrev pub NoPartsChangeNothing : Type 0
 NoPartsChangeNothing =
     (w : Words) (legacy : Bool) (f : Function) → IsFalse (may_have_parts_by w f)
     → parts_aside w legacy f ≡ f
+
+-- ---- what a word leaves alone
+
+-- A function that is no IDE controller is taken with `ide` as without it, whatever other words count.
+abbrev pub IdeLeavesOthers : Type 0
+IdeLeavesOthers =
+    (w : Words) (slots : List Slot) (f h : Function) → IsImage f.image → IsFalse (is_ide f.image)
+    → IsTaken w slots f h ↔ IsTaken (record w { ide = false }) slots f h
+
+-- What is taken with `unnumbered` is taken so without it, unless it is an unnumbered bridge as the other words take it.
+abbrev pub UnnumberedLeavesOthers : Type 0
+UnnumberedLeavesOthers =
+    (w : Words) (slots : List Slot) (f h : Function) → IsTaken w slots f h
+    → ((k : Function) → IsTaken (record w { unnumbered = false }) slots f k
+    → IsFalse (is_unnumbered (has_legacy_by w f) k))
+    → IsTaken (record w { unnumbered = false }) slots f h
+
+-- So it is with what is no bridge, and with each bridge that has a bus number.
+abbrev pub UnnumberedLeavesNumbers : Type 0
+UnnumberedLeavesNumbers =
+    (w : Words) (slots : List Slot) (f h : Function) → IsTaken w slots f h
+    → IsFalse (is_bridge f && not (has_numbers (bridge_of f.image f.probe)))
+    → IsTaken (record w { unnumbered = false }) slots f h
+
+-- By `ide` alone what is no IDE controller is taken as it is,
+abbrev pub IdeAloneLeavesOthers : Type 0
+IdeAloneLeavesOthers =
+    (slots : List Slot) (f h : Function) → IsImage f.image → IsFalse (is_ide f.image)
+    → IsTaken (record no_words { ide = true }) slots f h → h ≡ f
+
+-- and by `unnumbered` alone what is no unnumbered bridge.
+abbrev pub UnnumberedAloneLeavesOthers : Type 0
+UnnumberedAloneLeavesOthers =
+    (slots : List Slot) (f h : Function) → IsFalse (is_unnumbered false f)
+    → IsTaken (record no_words { unnumbered = true }) slots f h → h ≡ f

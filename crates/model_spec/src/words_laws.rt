@@ -1,6 +1,6 @@
 //! Laws of words. These functions do nothing: each contract is a law.
 
-ghost use Rattle.model_spec.specs.WordsLaws.{NoWordsChangeNothing, SlotsAreKept, OffClaimsNothing, OffShowsNoState, OutOfResetIs, PositiveIs, DeviceLeadsNowhere, TakenHasNoVgaEnable, NoPartsChangeNothing};
+ghost use Rattle.model_spec.specs.WordsLaws.{NoWordsChangeNothing, SlotsAreKept, OffClaimsNothing, OffShowsNoState, OutOfResetIs, PositiveIs, DeviceLeadsNowhere, TakenHasNoVgaEnable, NoPartsChangeNothing, IdeLeavesOthers, UnnumberedLeavesOthers, UnnumberedLeavesNumbers, IdeAloneLeavesOthers, UnnumberedAloneLeavesOthers};
 
 /// Without words a system is taken as it is.
 pub fn no_words_change_nothing()
@@ -30,4 +30,14 @@ pub fn taken_functions_have_no_vga_enable()
 /// A function that can have no part for which a word counts is left as it is, whatever is wrong with it.
 pub fn functions_without_parts_are_kept()
     ensures kept { NoPartsChangeNothing }
+{}
+
+/// The words `ide` and `unnumbered` leave each function alone that is no IDE controller, or no bridge without bus
+/// numbers, whatever other words count.
+pub fn words_leave_others_alone()
+    ensures ide { IdeLeavesOthers }
+    ensures unnumbered { UnnumberedLeavesOthers }
+    ensures numbers { UnnumberedLeavesNumbers }
+    ensures ide_alone { IdeAloneLeavesOthers }
+    ensures unnumbered_alone { UnnumberedAloneLeavesOthers }
 {}
