@@ -15,9 +15,11 @@ use Rattle.settle_spec.specs.Registers.{settled}
 use Rattle.settle_spec.specs.Stands.{stands_within}
 use Rattle.settle_spec.proofs.Examples.Settlings.{all_roots, request}
 use Rattle.settle_laws.specs.PlacesLaws.{CanSettle}
+use Rattle.settle_laws.specs.StartLaws.{LieInPlace, OffLieApart}
 use Rattle.settle_laws.proofs.AgainKept.{all_stand}
 use Rattle.settle_laws.proofs.AgainSettled.{settled_again}
 use Rattle.settle_laws.proofs.AllStand.{all_stay}
+use Rattle.settle_laws.proofs.InPlace.{standing_apart, standing_lies}
 use Rattle.settle_laws.proofs.Moves.{new_system, new_nested}
 use Rattle.settle_laws.proofs.SettledSound.{settled_sound}
 
@@ -55,3 +57,10 @@ its_parts_stay : (r : Region) → Contains (regions request (settled request sta
 its_parts_stay r listed =
     let can = tree_can_settle false in
     all_stay request (settled request start) (new_system request start can) (new_nested request start can) (all_stand request start can refl) r listed
+
+-- so the hypotheses of the laws of a sound start are met
+its_parts_lie : LieInPlace request (settled request start)
+its_parts_lie = standing_lies request (settled request start) (new_system request start (tree_can_settle false)) (tree_is_settled false) (all_stand request start (tree_can_settle false) refl)
+
+what_is_off_lies_apart : OffLieApart request (settled request start)
+what_is_off_lies_apart = standing_apart request (settled request start) (new_system request start (tree_can_settle false)) (tree_is_settled false) (all_stand request start (tree_can_settle false) refl)
