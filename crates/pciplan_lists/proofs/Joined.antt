@@ -28,6 +28,11 @@ module _ {X : Type 0} (Is : List ℕ → X → Type 0) (clean : (word : List ℕ
   pub read_none : (whole : List ℕ) → IsRead whole whole []
   read_none whole = record { on = λ more are. are; back = λ list are. record { more = list; parts = refl; are = are } }
 
+  -- something was read so
+  pub record HasRead (whole text : List ℕ) : Type 0 where
+    pub done : List X
+    pub read : IsRead whole text done
+
   -- the first thing of what is left is that of the first part
   pub record IsFirst (first rest : List ℕ) (x : X) (more : List X) : Type 0 where
     pub is : Is first x

@@ -5,4 +5,5 @@ mod RangeWords
 pub mod Joined
 mod ListWords
 mod SlotWords
+mod RisingSlots
 mod HostLists

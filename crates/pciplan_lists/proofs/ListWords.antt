@@ -3,12 +3,10 @@ use Rattle.std.proofs.Common.{◌≡◌, ◌≢◌, ℕ, List, [], ◌∷◌, �
 use Rattle.std.proofs.lemmas.List.{append_assoc}
 use Rattle.pci_base.specs.declared.range.RootRange.{RootRange}
 use Rattle.pciplan_lists.specs.Joined.{AreJoined}
-use Rattle.pciplan_lists.specs.ListWords.{IsRangeWord, IsListWord, bus_text}
-use Rattle.pciplan_lists.proofs.Joined.{IsRead, read_all, read_only}
-use Rattle.pciplan_lists.proofs.RangeWords.{without_comma}
+use Rattle.pciplan_lists.specs.ListWords.{HasRanges, IsRangeWord, IsListWord, bus_text}
 use Rattle.pciplan_lists.proofs.Without.{Without, without_one, not_without}
 
-of_ranges : (word : List ℕ) (list : List RootRange) → AreJoined IsRangeWord (44 ∷ word) list → IsListWord word list
+pub of_ranges : (word : List ℕ) (list : List RootRange) → AreJoined IsRangeWord (44 ∷ word) list → IsListWord word list
 of_ranges word [] are = absurd (omega (arith, ap length are))
 of_ranges word (r ∷ more) are = are
 
@@ -16,13 +14,9 @@ pub to_ranges : (word : List ℕ) (list : List RootRange) → word ≢ codes "no
 to_ranges word [] other is = absurd (other is)
 to_ranges word (r ∷ more) other is = is
 
-pub ranges_read : (word : List ℕ) (done : List RootRange) → IsRead IsRangeWord without_comma (44 ∷ word) [] done → IsListWord word done
-ranges_read word done read = of_ranges word done (read_all IsRangeWord without_comma word done read)
-
-pub ranges_only : (word : List ℕ) (done : List RootRange) → IsRead IsRangeWord without_comma (44 ∷ word) [] done → word ≢ codes "none"
-    → (list : List RootRange) → IsListWord word list → done ≡ list
-ranges_only word done read other list is =
-    read_only IsRangeWord without_comma word done read list (to_ranges word list other is)
+pub some_ranges : (word : List ℕ) (list : List RootRange) → AreJoined IsRangeWord (44 ∷ word) list → HasRanges word
+some_ranges word [] are = absurd (omega (arith, ap length are))
+some_ranges word (r ∷ more) are = (r, more, are)
 
 -- no range is in the word of the list that has none
 regroup : (bus first last rest : List ℕ) → (bus ++ (first ++ 45 ∷ last)) ++ rest ≡ (bus ++ first) ++ 45 ∷ (last ++ rest)

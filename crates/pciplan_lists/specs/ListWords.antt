@@ -21,3 +21,7 @@ pub record IsRangeWord (word : List ℕ) (r : RootRange) : Type 0 where
 abbrev pub IsListWord : List ℕ → List RootRange → Type 0
 IsListWord word [] = word ≡ codes "none"
 IsListWord word (r ∷ more) = AreJoined IsRangeWord (44 ∷ word) (r ∷ more)
+
+-- the word is a list that has a range
+abbrev pub HasRanges : List ℕ → Type 0
+HasRanges word = (first : RootRange) × (more : List RootRange) × IsListWord word (first ∷ more)

@@ -16,3 +16,7 @@ AreSlots word slots = AreJoined IsSlotWord (44 ∷ word) slots
 pub record IsSlotListWord (word : List ℕ) (slots : List Slot) : Type 0 where
   pub joined : AreSlots word slots
   pub rising : IsRising slots
+
+-- the word is a list of slots
+abbrev pub HasSlots : List ℕ → Type 0
+HasSlots word = (slots : List Slot) × IsSlotListWord word slots

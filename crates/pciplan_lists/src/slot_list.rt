@@ -1,7 +1,7 @@
 //! Lists of slots among the words.
-ghost use Rattle.std.specs.Prelude.{◌≡◌, ◌↔◌, List, Some, IsTrue, IfOk, IfSome, IsSomeAnd};
-ghost use Rattle.pci_spec.specs.Slot.{Slot as SlotValue, IsRising};
-ghost use Rattle.pciplan_lists.specs.SlotWords.{IsSlotWord, AreSlots, IsSlotListWord};
+ghost use Rattle.std.specs.Prelude.{◌≡◌, ◌↔◌, List, Some, IsTrue, IfErr, IfOk, IfSome, IsSomeAnd};
+ghost use Rattle.pci_spec.specs.Slot.{Slot as SlotValue};
+ghost use Rattle.pciplan_lists.specs.SlotWords.{IsSlotWord, AreSlots, HasSlots, IsSlotListWord};
 
 use crate::part::first_of;
 use pci_base::memory::OutOfMemory;
@@ -24,14 +24,23 @@ fn slot_of_word(word: &str) -> Option<Slot>
     slot_of(bytes)
 }
 
-/// Whether each slot is above the one before it.
-fn is_rising(slots: &[Slot]) -> bool
-    ensures { IsTrue result ↔ IsRising slots.now }
+/// Whether a word is of slots that are joined by commas, each above the one before it. It is looked at before memory is
+/// asked for.
+fn is_slot_list(word: &str) -> bool
+    ensures { IsTrue result ↔ HasSlots word.now }
 {
-    for i in 1..slots.len() {
-        if slots[i - 1].number() >= slots[i].number() {
+    let mut last = None;
+    let mut left = Some(word);
+    'parts: while let Some(text) = left {
+        let (first, more) = first_of(text);
+        let Some(slot) = slot_of_word(first) else {
+            return false;
+        };
+        if !slot.may_follow(last) {
             return false;
         }
+        last = Some(slot);
+        left = more;
     }
     true
 }
@@ -58,7 +67,7 @@ fn joined_slots<A: Allocator>(alloc: A, word: &str) -> Result<Option<Vec<Slot, A
 /// The slots of a list such as `00:02.0,01:00.0`: joined by commas, each above the one before it. There are none of any
 /// other word.
 ///
-/// Errors: 2 `OutOfMemory` where a growth was refused.
+/// Errors: 2 `OutOfMemory` where a growth was refused. It comes only of a word that is such a list.
 pub fn slots_of_word<A: Allocator>(
     alloc: A,
     word: &str,
@@ -66,9 +75,12 @@ pub fn slots_of_word<A: Allocator>(
     ensures word { IfOk result (λ found. IfSome found (λ slots. IsSlotListWord word.now slots.items)) }
     ensures only { (slots : List SlotValue) → IsSlotListWord word.now slots
         → IfOk result (λ found. IsSomeAnd found (λ v. v.items ≡ slots)) }
+    // so a word that is no list is answered whatever memory is there
+    ensures memory { IfErr result (λ _. HasSlots word.now) }
 {
-    match joined_slots(alloc, word)? {
-        Some(slots) if is_rising(&slots) => Ok(Some(slots)),
-        _ => Ok(None),
+    if is_slot_list(word) {
+        joined_slots(alloc, word)
+    } else {
+        Ok(None)
     }
 }

@@ -1,12 +1,12 @@
 use Rattle.std.proofs.Common.{◌∷◌, length}
 use Rattle.pciplan_lists.specs.Joined.{behind}
 use Rattle.pciplan_lists.specs.ListWords.{IsRangeWord}
-use Rattle.pciplan_lists.proofs.Joined.{IsRead}
+use Rattle.pciplan_lists.proofs.Joined.{HasRead}
 use Rattle.pciplan_lists.proofs.RangeWords.{without_comma}
-use Rattle.pciplan_lists.proofs.list_word.list_of_word.Given as goal
+use Rattle.pciplan_lists.proofs.list_word.has_ranges.Given as goal
 
 abbrev pub invariant-parts : goal.invariant-parts
-invariant-parts g l = IsRead IsRangeWord without_comma (44 ∷ l.fn.word) (behind l.left) l.list.items
+invariant-parts l = HasRead IsRangeWord without_comma (44 ∷ l.fn.word) (behind l.left)
 
 abbrev pub decreases-parts : goal.decreases-parts
-decreases-parts g l = length (behind l.left)
+decreases-parts l = length (behind l.left)
