@@ -1,5 +1,5 @@
 -- The words of what is said beside the two texts: what they say, and which of them is the first that says nothing.
-use Rattle.std.specs.Prelude.{ℕ, List, Option}
+use Rattle.std.specs.Prelude.{◌⊎◌, ℕ, List, Option}
 use Rattle.std.specs.Borrow.{Bor}
 use Rattle.std.specs.Global.{Vec}
 use Rattle.pci_base.specs.declared.range.RootRange.{RootRange}
@@ -8,7 +8,7 @@ use Rattle.pci_model.specs.declared.words.Words.{Words}
 use Rattle.pci_tree.specs.Roots.{buses_of}
 use Rattle.pci_tree.specs.declared.roots.Roots.{Roots}
 use Rattle.pciplan_cli.specs.declared.beside.Beside.{Beside}
-use Rattle.pciplan_cli.specs.OptionWords.{AreRootsOf, AreWordsOf, AreRangesOf, HasNoRoots, HasNoWords, HasNoRanges}
+use Rattle.pciplan_cli.specs.OptionWords.{AreRootsOf, AreWordsOf, AreRangesOf, HasNoRoots, HasNoWords, HasNoRanges, SpellsRanges}
 use Rattle.pciplan_tasks.specs.declared.failure.Failure.{Failure}
 use Rattle.pciplan_tasks.specs.declared.failure.Failure.TheVariants.{Root, Model, Host, Memory}
 
@@ -51,12 +51,29 @@ pub record IsNoHostMem (asked : BesideWords) : Type 0 where
   pub io : AreRangesOf asked.host_io (buses_of roots) ranges
   pub none : HasNoRanges asked.host_mem (buses_of roots)
 
+-- a growth was refused for the ranges that `--host-io` spells: the words before them say something
+pub record IsHostIoWant (asked : BesideWords) : Type 0 where
+  pub roots : Roots
+  pub words : Option Words
+  pub are_roots : AreRootsOf asked.root roots
+  pub are_words : AreWordsOf asked.model words
+  pub ranges : SpellsRanges asked.host_io
+
+-- the same of `--host-mem`
+pub record IsHostMemWant (asked : BesideWords) : Type 0 where
+  pub roots : Roots
+  pub words : Option Words
+  pub ranges : Option (Vec RootRange)
+  pub are_roots : AreRootsOf asked.root roots
+  pub are_words : AreWordsOf asked.model words
+  pub io : AreRangesOf asked.host_io (buses_of roots) ranges
+  pub mem : SpellsRanges asked.host_mem
+
 -- the first of them that says nothing
 abbrev pub IsRefusedBeside : BesideWords → Failure → Type 0
 IsRefusedBeside asked Root = HasNoRoots asked.root
 IsRefusedBeside asked Model = IsNoModel asked
 IsRefusedBeside asked (Host Io) = IsNoHostIo asked
 IsRefusedBeside asked (Host Mem) = IsNoHostMem asked
--- a want of memory can come at any list
-IsRefusedBeside asked Memory = Unit {0}
+IsRefusedBeside asked Memory = IsHostIoWant asked ⊎ IsHostMemWant asked
 IsRefusedBeside _ _ = ⊥

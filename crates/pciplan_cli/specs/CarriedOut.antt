@@ -1,7 +1,14 @@
 -- A command line that was carried out.
-use Rattle.std.specs.Prelude.{ℕ, List, Option}
+use Rattle.std.specs.Prelude.{◌≡◌, ◌⊎◌, ◌+◌, ℕ, List, Option}
 use Rattle.std.specs.String.{string_bytes}
-use Rattle.pciplan_tasks.specs.Tasks.{IsAnswered, IsBegun}
+use Rattle.pci_dump.specs.ReadFault.{IsTextFault}
+use Rattle.pci_dump.specs.declared.read_fault.ReadFault.{ReadFault}
+use Rattle.pci_dump.specs.declared.read_fault.ReadFault.TheVariants as faults
+use Rattle.pciplan_tasks.specs.Tasks.{HasDump, IsAnswered, IsBegun, IsFaultOfLeft}
+use Rattle.pciplan_tasks.specs.declared.failure.Failure.{Failure}
+use Rattle.pciplan_tasks.specs.declared.failure.Failure.TheVariants.{Dump, Probe, Sizes}
+use Rattle.pciplan_tasks.specs.declared.task.Task.{Task}
+use Rattle.pciplan_tasks.specs.declared.task.Task.TheVariants as task
 use Rattle.pciplan_cli.specs.declared.invocation.Invocation.{Invocation}
 
 -- texts by their paths: which paths stand for one, and the bytes of each
@@ -26,3 +33,22 @@ abbrev pub IsCarriedOutBegun : Invocation → (List ℕ → Option (List ℕ)) �
 IsCarriedOutBegun line dump_at second_at before after =
     IsBegun line.task (dump_at (string_bytes line.dump))
     (second_at (string_bytes line.probe)) before after
+
+-- ---- a text can't be opened
+
+-- the failure that names the second text of a task
+abbrev pub second_unread : Task → Failure
+second_unread (task.Probe assuming) = Sizes faults.Io
+second_unread _ = Probe faults.Io
+
+-- the dump isn't read, by this fault: by 1 only where a read or an opening of it failed
+pub record IsDumpUnread (left : Option (List ℕ)) (before after : ℕ)
+    (fault : ReadFault) : Type 0 where
+  pub fault_of : IsFaultOfLeft IsTextFault left fault
+  pub failed : fault ≡ faults.Io → after ≡ before + 1
+
+-- the failure where the second text can't be opened: it names that text, unless the dump isn't read
+abbrev pub IsSecondUnopened : Task → Option (List ℕ) → ℕ → ℕ → Failure → Type 0
+IsSecondUnopened task dump_left before after failure =
+    (HasDump dump_left × (failure ≡ second_unread task))
+    ⊎ ((fault : ReadFault) × IsDumpUnread dump_left before after fault × (failure ≡ Dump fault))

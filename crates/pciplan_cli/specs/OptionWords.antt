@@ -9,7 +9,7 @@ use Rattle.pci_model.specs.declared.words.Words.{Words}
 use Rattle.pci_model.specs.WordsValue.{words_value}
 use Rattle.pci_tree.specs.Roots.{buses_of}
 use Rattle.pci_tree.specs.declared.roots.Roots.{Roots}
-use Rattle.pciplan_lists.specs.ListWords.{IsListWord}
+use Rattle.pciplan_lists.specs.ListWords.{HasRanges, IsListWord}
 use Rattle.pciplan_lists.specs.HostLists.{IsGoodHostList}
 use Rattle.pciplan_cli.specs.ModelWords.{IsModelWord}
 use Rattle.pciplan_cli.specs.RootWords.{IsRootWord}
@@ -47,7 +47,13 @@ HasNoRanges None roots = ⊥
 HasNoRanges (Some word) roots =
     (list : List RootRange) → IsListWord word.now list → IsGoodHostList roots list → ⊥
 
--- why there are no ranges: the word is no such list, or a growth was refused
+-- the word is a list with ranges, for which memory is asked
+abbrev pub SpellsRanges : Option (Bor (List ℕ)) → Type 0
+SpellsRanges None = ⊥
+SpellsRanges (Some word) = HasRanges word.now
+
+-- why there are no ranges: the word is no such list, or a growth was refused for the ranges that it spells
 abbrev pub IsNoListFor : Option (Bor (List ℕ)) → List ℕ → Space → Failure → Type 0
 IsNoListFor word roots space failure =
-    (failure ≡ Memory) ⊎ ((failure ≡ Host space) × HasNoRanges word roots)
+    ((failure ≡ Memory) × SpellsRanges word)
+    ⊎ ((failure ≡ Host space) × HasNoRanges word roots)

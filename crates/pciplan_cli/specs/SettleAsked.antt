@@ -1,12 +1,12 @@
 -- The settling that a command line asks for.
-use Rattle.std.specs.Prelude.{◌≡◌, ℕ, List, [], Option, None, Some}
+use Rattle.std.specs.Prelude.{◌≡◌, ◌⊎◌, ℕ, List, [], Option, None, Some}
 use Rattle.std.specs.Borrow.{Bor}
 use Rattle.std.specs.Global.{Vec}
 use Rattle.pci_spec.specs.Slot.{Slot}
 use Rattle.pci_base.specs.declared.range.RootRange.{RootRange}
 use Rattle.pci_tree.specs.declared.roots.Roots.{Roots}
-use Rattle.pciplan_lists.specs.ListWords.{IsListWord}
-use Rattle.pciplan_lists.specs.SlotWords.{IsSlotListWord}
+use Rattle.pciplan_lists.specs.ListWords.{HasRanges, IsListWord}
+use Rattle.pciplan_lists.specs.SlotWords.{HasSlots, IsSlotListWord}
 use Rattle.pciplan_words.specs.declared.asked.SettleWords.{SettleWords}
 use Rattle.pciplan_cli.specs.OptionWords.{AreRootsOf, HasNoRoots}
 use Rattle.pciplan_tasks.specs.declared.task.SettleRequest.{SettleRequest}
@@ -61,6 +61,17 @@ HasMem asked = HasIo asked × HasList asked.mem
 abbrev pub HasPref : SettleWords → Type 0
 HasPref asked = HasMem asked × HasList asked.pref
 
+-- the word of `--fixed` is a list of slots, for which memory is asked
+abbrev pub SpellsSlots : Option (Bor (List ℕ)) → Type 0
+SpellsSlots None = ⊥
+SpellsSlots (Some word) = HasSlots word.now
+
+-- a growth was refused for what a word spells: the words before it have their meaning
+abbrev pub IsSettlingWant : SettleWords → Type 0
+IsSettlingWant asked =
+    (HasRoots asked × HasRanges asked.io.now) ⊎ (HasIo asked × HasRanges asked.mem.now)
+    ⊎ (HasMem asked × HasRanges asked.pref.now) ⊎ (HasPref asked × SpellsSlots asked.fixed)
+
 -- the root list is looked at, then the lists of I/O, memory and prefetchable memory, then the fixed slots
 abbrev pub IsSettlingRefused : SettleWords → Failure → Type 0
 IsSettlingRefused asked Root = HasNoRoots asked.root
@@ -68,6 +79,5 @@ IsSettlingRefused asked (Pool Io) = HasRoots asked × HasNoList asked.io
 IsSettlingRefused asked (Pool Mem) = HasIo asked × HasNoList asked.mem
 IsSettlingRefused asked (Pool Pref) = HasMem asked × HasNoList asked.pref
 IsSettlingRefused asked Fixed = HasPref asked × HasNoSlots asked.fixed
--- a want of memory can come at any list
-IsSettlingRefused asked Memory = Unit {0}
+IsSettlingRefused asked Memory = IsSettlingWant asked
 IsSettlingRefused _ _ = ⊥

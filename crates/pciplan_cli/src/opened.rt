@@ -12,6 +12,9 @@ pub trait Opening: Source {
     // Whether a text stands at a path.
     ghost stands: { Self → List ℕ → Type 0 };
 
+    // Whether it is told that no text can be opened at a path.
+    ghost lacks: { Self → List ℕ → Type 0 } = { λ _ _. ⊥ };
+
     // The bytes of the text at a path, where they are told.
     ghost bytes_at: { Self → List ℕ → Option (List ℕ) };
 
@@ -19,6 +22,7 @@ pub trait Opening: Source {
     fn open(&mut self, path: &str) -> Result<(), Failed>
         // an answer is one to two texts that were there
         ensures stands { OnOk result (stands self.old path.now) }
+        ensures lacks { OnOk result (lacks self.old path.now → ⊥) }
         // from its first byte on: an answer speaks of the whole text
         ensures bytes { OnOk result (Self.left self.new ≡ bytes_at self.old path.now) }
         // not to be opened counts as not to be read, and both end with status 4

@@ -1,11 +1,14 @@
 //! The program, from its words to its status.
-ghost use Rattle.std.specs.Prelude.{◌≡◌, ◌≢◌, ◌⊎◌, ◌<◌, ◌≤◌, ◌+◌, ℕ, List, Option, IfErr, IfOk, MatchResult, map, string_bytes};
+ghost use Rattle.std.specs.Prelude.{◌≡◌, ◌≢◌, ◌⊎◌, ◌<◌, ◌≤◌, ◌+◌, Err, IfErr, IfOk, OnOk, MatchResult, map, string_bytes};
 ghost use Rattle.std.specs.IoError.{error_kind};
 ghost use Rattle.std.specs.Io.KnownBytes.{Appends};
 ghost use Rattle.pciplan_cli.specs.Invocations.{IsInvocationOf, HasBadWords};
-ghost use Rattle.pciplan_cli.specs.CarriedOut.{IsCarriedOut, IsCarriedOutBegun, texts};
+ghost use Rattle.pci_dump.specs.declared.read_fault.ReadFault.{ReadFault};
+ghost use Rattle.pciplan_cli.specs.CarriedOut.{IsCarriedOut, IsCarriedOutBegun, IsSecondUnopened, second_unread, texts};
 ghost use Rattle.pciplan_tasks.specs.Answers.{AreRemarked};
-ghost use Rattle.pciplan_tasks.specs.Tasks.{HasDump, HasFailed, IsFailureOf, IsTaskRefused};
+ghost use Rattle.pciplan_tasks.specs.Statuses.{status_of};
+ghost use Rattle.pciplan_tasks.specs.Tasks.{HasFailed, IsTaskRefused};
+ghost use Rattle.pciplan_tasks.specs.declared.failure.Failure.{Failure};
 
 use crate::invocation::{Invocation, start};
 use crate::opened::Opening;
@@ -74,8 +77,7 @@ fn line_of<E: Sink>(
 
 /// The second text of a task can't be read.
 fn unread(task: &Task) -> Failure
-    ensures { (dump_left probe_left : Option (List ℕ)) → HasDump dump_left
-        → IsFailureOf task.now dump_left probe_left result }
+    ensures { result ≡ second_unread task.now }
 {
     match task {
         Task::Probe { .. } => Failure::Sizes(ReadFault::Io),
@@ -92,13 +94,50 @@ fn unread(task: &Task) -> Failure
 
 /// Why there is no answer where the second text couldn't be opened: that, unless the dump has a failure.
 fn without_second<A: Allocator, D: Source>(alloc: A, task: &Task, dump: &mut D) -> Failure
-    ensures { (probe_left : Option (List ℕ))
-        → IsFailureOf task.now (D.left dump.old) probe_left result }
+    ensures { IsSecondUnopened task.now (D.left dump.old) (D.failures dump.old)
+        (D.failures dump.new) result }
 {
     match read_dump(alloc, dump) {
         Ok(_) => unread(task),
         Err(fault) => Failure::Dump(fault),
     }
+}
+
+/// Opens the two texts of a line, the dump first. The failure names the first that can't be opened, unless that is the
+/// second text and the dump isn't read.
+fn open_texts<A: Allocator, D: Opening, P: Opening>(
+    alloc: A,
+    line: &Invocation,
+    dump: &mut D,
+    probe: &mut P,
+) -> Result<(), Failure>
+    ensures stands { OnOk result (D.stands dump.old (string_bytes line.now.dump)
+        × P.stands probe.old (string_bytes line.now.probe)) }
+    ensures lacks { OnOk result ((D.lacks dump.old (string_bytes line.now.dump) → ⊥)
+        × (P.lacks probe.old (string_bytes line.now.probe) → ⊥)) }
+    ensures bytes { OnOk result
+        ((D.left dump.new ≡ D.bytes_at dump.old (string_bytes line.now.dump))
+        × (P.left probe.new ≡ P.bytes_at probe.old (string_bytes line.now.probe))) }
+    ensures fine { OnOk result ((D.failures dump.new ≡ D.failures dump.old)
+        × (P.failures probe.new ≡ P.failures probe.old)) }
+    // the second text isn't looked for where the dump can't be opened
+    ensures named { IfErr result (λ failure.
+        (failure ≡ Failure.Dump ReadFault.Io) × (D.failures dump.new ≡ D.failures dump.old + 1)
+        × (probe.new ≡ probe.old)
+        ⊎ D.stands dump.old (string_bytes line.now.dump)
+        × (P.failures probe.new ≡ P.failures probe.old + 1)
+        × IsSecondUnopened line.now.task (D.bytes_at dump.old (string_bytes line.now.dump))
+        (D.failures dump.old) (D.failures dump.new) failure) }
+    ensures dump { D.lacks dump.old (string_bytes line.now.dump)
+        → result ≡ Err (Failure.Dump ReadFault.Io) }
+{
+    if dump.open(line.dump.as_str()).is_err() {
+        return Err(Failure::Dump(ReadFault::Io));
+    }
+    if probe.open(line.probe.as_str()).is_err() {
+        return Err(without_second(alloc, &line.task, dump));
+    }
+    Ok(())
 }
 
 /// Opens the two texts of a line, the dump first, and carries out its task. A text that can't be opened is one
@@ -128,15 +167,18 @@ pub fn carry_out<A: Allocator + Copy, D: Opening, P: Opening, O: Sink, E: Sink>(
         (P.bytes_at probe.old (string_bytes line.now.probe)) }
     ensures failed { result ≡ 4 → HasFailed (D.failures dump.old) (D.failures dump.new)
         (P.failures probe.old) (P.failures probe.new) (O.failures out.old) (O.failures out.new) }
+    ensures unopened { D.lacks dump.old (string_bytes line.now.dump) → result ≡ 4 }
+    // where the dump isn't read its own failure is told
+    ensures second { P.lacks probe.old (string_bytes line.now.probe) → (failure : Failure)
+        × (result ≡ status_of failure)
+        × IsSecondUnopened line.now.task (D.bytes_at dump.old (string_bytes line.now.dump))
+        (D.failures dump.old) (D.failures dump.new) failure }
     ensures known { result ≤ 4 }
 {
-    if dump.open(line.dump.as_str()).is_err() {
-        return report(err, Failure::Dump(ReadFault::Io));
+    match open_texts(alloc, line, dump, probe) {
+        Ok(()) => run(alloc, &line.task, dump, probe, out, err),
+        Err(failure) => report(err, failure),
     }
-    if probe.open(line.probe.as_str()).is_err() {
-        return report(err, without_second(alloc, &line.task, dump));
-    }
-    run(alloc, &line.task, dump, probe, out, err)
 }
 
 /// Does what the words ask for: writes the answer to `out` or a message to `err`, and answers the status. 0 or 1

@@ -2,7 +2,8 @@
 ghost use Rattle.std.specs.Prelude.{◌≡◌, ◌⊎◌, MatchResult};
 ghost use Rattle.pciplan_words.specs.declared.asked.Asked.{Asked};
 ghost use Rattle.pciplan_cli.specs.Asked.{IsTaskOf, IsRefusedFor};
-ghost use Rattle.pciplan_cli.specs.SettleAsked.{AreFixed, IsListOf, HasNoList, HasNoSlots};
+ghost use Rattle.pciplan_cli.specs.SettleAsked.{AreFixed, IsListOf, HasNoList, HasNoSlots, SpellsSlots};
+ghost use Rattle.pciplan_lists.specs.ListWords.{HasRanges};
 ghost use Rattle.pciplan_tasks.specs.declared.failure.Failure.{Failure};
 
 use crate::option_words::roots_of;
@@ -18,7 +19,7 @@ use std::alloc::Global;
 /// The list of the word of an option.
 fn list_of(alloc: Global, word: &str, option: PoolOption) -> Result<Vec<RootRange>, Failure>
     ensures { MatchResult result (IsListOf word.entry)
-        (λ failure. (failure ≡ Failure.Memory)
+        (λ failure. ((failure ≡ Failure.Memory) × HasRanges word.now)
         ⊎ ((failure ≡ Failure.Pool option) × HasNoList word.entry)) }
 {
     list_of_word(alloc, word)?.ok_or(Failure::Pool(option))
@@ -27,7 +28,7 @@ fn list_of(alloc: Global, word: &str, option: PoolOption) -> Result<Vec<RootRang
 /// The slots of the word of `--fixed`, none where there is no word.
 fn fixed_of(alloc: Global, word: Option<&str>) -> Result<Vec<Slot>, Failure>
     ensures { MatchResult result (AreFixed word.entry)
-        (λ failure. (failure ≡ Failure.Memory)
+        (λ failure. ((failure ≡ Failure.Memory) × SpellsSlots word.entry)
         ⊎ ((failure ≡ Failure.Fixed) × HasNoSlots word.entry)) }
 {
     match word {
