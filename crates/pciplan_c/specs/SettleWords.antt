@@ -1,5 +1,5 @@
 -- What words ask of settling.
-use Rattle.std.specs.Prelude.{◌≡◌, ℕ, ◌==◌, Bool, not, List, [], ◌∷◌, map}
+use Rattle.std.specs.Prelude.{◌≡◌, ◌⊎◌, ℕ, ◌==◌, Bool, not, List, [], ◌∷◌, map}
 use Rattle.pci_spec.specs.Slot.{Slot}
 use Rattle.settle_spec.specs.Lists.{Lists, Request}
 use Rattle.pci_base.specs.declared.memory.Refused.{Refused}
@@ -7,8 +7,8 @@ use Rattle.pci_base.specs.declared.memory.Refused.TheVariants as refused
 use Rattle.pci_base.specs.declared.range.RootRange.{RootRange}
 use Rattle.pci_settle.specs.Lists.{root_range_value}
 use Rattle.pci_settle_writes.specs.Requests.{request}
-use Rattle.pciplan_lists.specs.ListWords.{IsListWord}
-use Rattle.pciplan_lists.specs.SlotWords.{IsSlotListWord}
+use Rattle.pciplan_lists.specs.ListWords.{HasRanges, IsListWord}
+use Rattle.pciplan_lists.specs.SlotWords.{HasSlots as SpellsSlots, IsSlotListWord}
 use Rattle.pciplan_c.specs.declared.settle_words.Asked.{Asked}
 use Rattle.pciplan_c.specs.declared.settle_words.SettleWord.{SettleWord}
 use Rattle.pciplan_c.specs.declared.settle_words.SettleWord.TheVariants.{Io, Mem, Pref, Fixed}
@@ -76,20 +76,28 @@ HaveMeaning words =
 
 -- ---- what is read of them
 
--- a list has no meaning, or there was no memory
+-- a list has no meaning, or a growth was refused for its ranges
 abbrev pub IsNoList : SettleWord → List ℕ → Refused SettleWord → Type 0
 IsNoList named word (refused.Fault bad) = (bad ≡ named) × HasNoList word
-IsNoList named word refused.Memory = Unit {0}
+IsNoList named word refused.Memory = HasRanges word
 
 abbrev pub AreNoSlots : List ℕ → Refused SettleWord → Type 0
 AreNoSlots word (refused.Fault bad) = (bad ≡ Fixed) × HasNoSlots word
-AreNoSlots word refused.Memory = Unit {0}
+AreNoSlots word refused.Memory = SpellsSlots word
 
 -- what they ask for
 pub record IsAskedBy {A : Type 0} (words : SettleWords) (asked : Asked A) : Type 0 where
   pub said : AreSaid words asked.io.items asked.mem.items asked.pref.items asked.fixed.items
   pub anew : asked.anew ≡ is_anew words.anew
 
+-- a growth was refused for what a word spells: those before it have a meaning
+abbrev pub IsWordWant : SettleWords → Type 0
+IsWordWant words =
+    HasRanges words.io.now ⊎ (HasList words.io.now × HasRanges words.mem.now)
+    ⊎ (HasList words.io.now × HasList words.mem.now × HasRanges words.pref.now)
+    ⊎ (HasList words.io.now × HasList words.mem.now × HasList words.pref.now
+    × SpellsSlots words.fixed.now)
+
 abbrev pub IsNotAsked : SettleWords → Refused SettleWord → Type 0
 IsNotAsked words (refused.Fault bad) = IsBadWord words bad
-IsNotAsked words refused.Memory = Unit {0}
+IsNotAsked words refused.Memory = IsWordWant words

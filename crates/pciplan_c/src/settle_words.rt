@@ -102,7 +102,7 @@ fn fixed_of<A: Allocator>(alloc: A, word: &[u8]) -> Result<Vec<Slot, A>, Refused
 ///
 /// # Errors
 ///
-/// `Memory` where a growth was refused, else the first word that has no meaning, in their order.
+/// The first word that has no meaning, in their order, unless a growth was refused for a word before it: then `Memory`.
 pub fn asked_of<A: Allocator + Copy>(
     alloc: A,
     words: &SettleWords<'_>,
