@@ -5,3 +5,5 @@ pub mod Judging
 pub mod Naming
 pub mod Taken
 pub mod Numbers
+pub mod OneList
+pub mod Determined

@@ -10,3 +10,4 @@ pub mod FaultLines
 pub mod Why
 pub mod FaultsText
 pub mod Laws
+pub mod DeterminedLaws

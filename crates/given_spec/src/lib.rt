@@ -5,5 +5,6 @@
 //! Architecture Specification 1.2.
 #![tactic(auto)]
 
+pub mod determined_laws;
 pub mod given_laws;
 pub mod list_laws;

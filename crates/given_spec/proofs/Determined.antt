@@ -1,0 +1,210 @@
+-- The lines behind a fault are one text.
+use Rattle.std.proofs.Common.{◌≡◌, ℕ, List, [], ◌++◌, refl, sym, ◌∙◌, ap, subst, arith, Bool, true, false, codes, Option, None, Some}
+use Rattle.std.specs.Prelude.{IsTrue, MatchOption, MatchBool}
+use Rattle.std.specs.List.{Contains, flat_map}
+use Rattle.pci_spec.specs.Slot.{Slot, slot_number}
+use Rattle.pci_spec.specs.System.{System, Function, Space, Part, IsSystem, Claims, Leads, has_part, is_window, is_prefetchable_part}
+use Rattle.pci_spec.specs.System as system
+use Rattle.pci_spec.specs.Bus.{IsNested}
+use Rattle.pci_spec.specs.Fault.{Unreached, Clash, Split, RegionName, TwoRegions, named_region, named_regions}
+use Rattle.pci_spec.specs.Fault as faults
+use Rattle.pci_spec.specs.Decoded.{Range}
+use Rattle.pci_spec.specs.Mark.{AssumedRegister, is_size_assumed}
+use Rattle.pci_spec.specs.Why.{AreRuns, range_line, fits_line, unknown_line, is_wide_part}
+use Rattle.pci_spec.specs.Why as plain
+use Rattle.pci_spec.proofs.Nesting.{one_function}
+use Rattle.pci_spec.proofs.Regions.{part_same}
+use Rattle.pci_spec.proofs.Ways.{one_way}
+use Rattle.given_spec.specs.Given.{Given, HostRange, nothing_given}
+use Rattle.given_spec.specs.Fault.{Known, Outside}
+use Rattle.given_spec.specs.DeterminedLaws.{WhyIsDetermined, KnownWhyIsDetermined, PlainWhyIsDetermined}
+use Rattle.given_spec.specs.Why.{Region, Own, Legacy, Holds, IsRegionIn, IsNamed, region_line, ranges_for, host_line, bridge_line, Misses, IsBehindOutside, IsBehindUnreached, IsBehindTwo, AreNamedTwo, IsKnownEvidence, IsPlaceFor, IsLeastPlace, IsFit, is_said, IsFitBehind, IsAdviceFor, IsKnownAdvice, IsWhy}
+use Rattle.given_spec.proofs.Nothing.{not_at_control}
+use Rattle.given_spec.proofs.Reasons.{same_why}
+use Rattle.given_spec.proofs.OneList.{range_from, same_range, same_runs}
+
+abbrev said_or_none : Option (List HostRange) → List HostRange
+said_or_none None = []
+said_or_none (Some ranges) = ranges
+
+module _ (s : System) (is_system : IsSystem s) where
+  at_slot : (f g : Function) (slot : Slot) → Contains s f → Contains s g → f.slot ≡ slot → g.slot ≡ slot → f ≡ g
+  at_slot f g slot in_f in_g at other = one_function s is_system f g in_f in_g (ap slot_number (at ∙ sym other))
+
+  -- ---- regions
+
+  -- a region claims its first address
+  first_claimed : (q : plain.Region) (is : plain.IsRegionIn s q) → Claims is.f q.part q.space q.range.first
+  first_claimed q is = (is.claims q.range.first).0 (omega arith, is.some)
+
+  moved : (f g : Function) (p q : Part) (sp sq : Space) (a : ℕ) → f ≡ g → p ≡ q → sp ≡ sq → Claims f p sp a → Claims g q sq a
+  moved f g p q sp sq a of part space claims =
+      subst (λ (x : Space). Claims g q x a) space (subst (λ (x : Part). Claims g x sp a) part (subst (λ (x : Function). Claims x p sp a) of claims))
+
+  same_parts : (f g : Function) (p q : Part) → f ≡ g → IsTrue (has_part f p) → IsTrue (has_part g q) → system.register_of f p ≡ system.register_of g q → p ≡ q
+  same_parts f g p q same there_p there_q registers =
+      part_same g p q (subst (λ (x : Function). IsTrue (has_part x p)) same there_p) there_q (ap (λ (x : Function). system.register_of x p) (sym same) ∙ registers)
+
+  region_from : (p q : plain.Region) → p.slot ≡ q.slot → p.register ≡ q.register → p.part ≡ q.part → p.space ≡ q.space → p.prefetchable ≡ q.prefetchable → p.range ≡ q.range → p ≡ q
+  region_from p q slot register part space prefetchable range = λ i. record {
+    slot = slot i;
+    register = register i;
+    part = part i;
+    space = space i;
+    prefetchable = prefetchable i;
+    range = range i;
+  }
+
+  -- a slot, a register and a space name one region
+  pub same_own : (p q : plain.Region) → plain.IsRegionIn s p → plain.IsRegionIn s q → p.slot ≡ q.slot → p.register ≡ q.register → p.space ≡ q.space → p ≡ q
+  same_own p q is other slot register space =
+      let of : is.f ≡ other.f = at_slot is.f other.f q.slot is.listed other.listed (is.slot ∙ slot) other.slot in
+      let part : p.part ≡ q.part = same_parts is.f other.f p.part q.part of (first_claimed p is).there (first_claimed q other).there (is.register ∙ register ∙ sym other.register) in
+      let prefetchable : p.prefetchable ≡ q.prefetchable =
+      sym is.prefetchable ∙ ap (λ (f : Function). is_prefetchable_part f p.part) of ∙ ap (λ part. is_prefetchable_part other.f part) part ∙ other.prefetchable in
+      let range : p.range ≡ q.range = same_range p.range q.range is.some other.some
+      (λ a held. (other.claims a).1 (moved is.f other.f p.part q.part p.space q.space a of part space ((is.claims a).0 held)))
+      (λ a held. (is.claims a).1 (moved other.f is.f q.part p.part q.space p.space a (sym of) (sym part) (sym space) ((other.claims a).0 held))) in
+      region_from p q slot register part space prefetchable range
+
+  named_own : (p q : plain.Region) (slot : Slot) (register : ℕ) (space : Space) → plain.IsNamed p slot register space → plain.IsNamed q slot register space
+      → plain.IsRegionIn s p → plain.IsRegionIn s q → p ≡ q
+  named_own p q slot register space named other is also =
+      same_own p q is also (named.0 ∙ sym other.0) (named.1 ∙ sym other.1) (named.2 ∙ sym other.2)
+
+  -- no region of address registers is named as a legacy part
+  own_not_legacy : (q : plain.Region) (register : ℕ) → plain.IsRegionIn s q → q.register ≡ register → 0x3e ≡ register → ⊥
+  own_not_legacy q register is at control = not_at_control is.f q.part (is.register ∙ at ∙ sym control)
+
+  module _ (given : Given) where
+    named_one : (p q : Region) (slot : Slot) (register : ℕ) (space : Space) → IsNamed p slot register space → IsNamed q slot register space
+        → IsRegionIn given s p → IsRegionIn given s q → p ≡ q
+    named_one (Own p) (Own q) slot register space named other is also = ap Own (named_own p q slot register space named other is also)
+    named_one (Own p) (Legacy c sp) slot register space named other is also = absurd (own_not_legacy p register is named.1 other.1)
+    named_one (Legacy b sp) (Own q) slot register space named other is also = absurd (own_not_legacy q register also other.1 named.1)
+    named_one (Legacy b sp) (Legacy c sq) slot register space named other is also =
+        ap (λ (f : Function). Legacy f sp) (at_slot b c slot is.0 also.0 named.0 other.0) ∙ ap (λ sp. Legacy c sp) (named.2 ∙ sym other.2)
+
+    -- ---- what tells that a fault is there
+
+    abbrev unreached_lines : plain.Region → Function → List Range → List ℕ
+    unreached_lines q b missed =
+        plain.region_line (codes "needs") q ++ (bridge_line given b q.space q.prefetchable ++ flat_map (range_line (codes "missed") q.space) missed)
+
+    one_unreached : (q : plain.Region) (bridge : Slot) (lines others : List ℕ) → IsBehindUnreached given s q bridge lines → IsBehindUnreached given s q bridge others → lines ≡ others
+    one_unreached q bridge lines others h k =
+        let of : h.b ≡ k.b = at_slot h.b k.b bridge h.listed k.listed h.named k.named in
+        let missed : h.missed ≡ k.missed = same_runs (Misses given q k.b) h.missed k.missed (subst (λ (b : Function). AreRuns (Misses given q b) h.missed) of h.runs) k.runs in
+        h.text ∙ ap (λ (b : Function). unreached_lines q b h.missed) of ∙ ap (λ (rs : List Range). unreached_lines q k.b rs) missed ∙ sym k.text
+
+    abbrev two_lines : Space → Region → Region → List Range → List ℕ
+    two_lines space p q shared =
+        region_line given (codes "first") p ++ (region_line given (codes "second") q ++ flat_map (range_line (codes "shared") space) shared)
+
+    one_two : (space : Space) (p q : Region) (lines others : List ℕ) → IsBehindTwo given s space p q lines → IsBehindTwo given s space p q others → lines ≡ others
+    one_two space p q lines others h k =
+        h.text ∙ ap (λ (rs : List Range). two_lines space p q rs) (same_runs (λ a. Holds given p a × Holds given q a) h.shared k.shared h.runs k.runs) ∙ sym k.text
+
+    one_named_two : (space : Space) (two : TwoRegions) (lines others : List ℕ) → AreNamedTwo given s space two lines → AreNamedTwo given s space two others → lines ≡ others
+    one_named_two space two lines others (p, q, np, nq, h) (v, w, nv, nw, k) =
+        let first : v ≡ p = named_one v p two.first.slot two.first.register space nv np k.first h.first in
+        let second : w ≡ q = named_one w q two.second.slot two.second.register space nw nq k.second h.second in
+        one_two space p q lines others h
+        (subst (λ (x : Region). IsBehindTwo given s space p x others) second (subst (λ (x : Region). IsBehindTwo given s space x w others) first k))
+
+    one_known_evidence : (fault : faults.Fault) (lines others : List ℕ) → IsKnownEvidence given s fault lines → IsKnownEvidence given s fault others → lines ≡ others
+    one_known_evidence fault lines others = elim fault as (λ fault. IsKnownEvidence given s fault lines → IsKnownEvidence given s fault others → lines ≡ others) [
+      | Unreached slot register space a bridge ↦ λ h k.
+          let same : k.0 ≡ h.0 = named_own k.0 h.0 slot register space k.1 h.1 k.2.is h.2.is in
+          one_unreached h.0 bridge lines others h.2 (subst (λ (q : plain.Region). IsBehindUnreached given s q bridge others) same k.2)
+      | Clash bus space a first fr second sr ↦ one_named_two space (named_regions first fr second sr) lines others
+      | Split space a first fr second sr ↦ one_named_two space (named_regions first fr second sr) lines others
+      | _ ↦ λ h k. h ∙ sym k
+    ]
+
+    module _ (roots : List ℕ) where
+      abbrev outside_lines : plain.Region → ℕ → List HostRange → List ℕ
+      outside_lines q root ranges = plain.region_line (codes "needs") q ++ host_line q.space (ranges_for root ranges)
+
+      one_outside : IsNested roots s → (q : plain.Region) (lines others : List ℕ) → IsBehindOutside given roots s q lines → IsBehindOutside given roots s q others → lines ≡ others
+      one_outside nested q lines others h k =
+          let root : h.root ≡ k.root = (one_way roots s nested (one_function s is_system) h.root k.root h.bridges k.bridges q.slot.bus h.is_root k.is_root h.leads k.leads).0 in
+          let ranges : h.ranges ≡ k.ranges = ap said_or_none (sym h.said ∙ k.said) in
+          h.text ∙ ap (λ root. outside_lines q root h.ranges) root ∙ ap (λ (rs : List HostRange). outside_lines q k.root rs) ranges ∙ sym k.text
+
+      -- ---- where a region would fit
+
+      one_place : (q : plain.Region) (wide : Bool) (o p : Option Range)
+          → MatchOption o ((first : ℕ) → IsPlaceFor given roots s q wide first → ⊥) (λ r. IsLeastPlace given roots s q wide r)
+          → MatchOption p ((first : ℕ) → IsPlaceFor given roots s q wide first → ⊥) (λ r. IsLeastPlace given roots s q wide r) → o ≡ p
+      one_place q wide None None h k = refl
+      one_place q wide None (Some t) h k = absurd (h t.first k.is)
+      one_place q wide (Some r) None h k = absurd (k r.first h.is)
+      one_place q wide (Some r) (Some t) h k =
+          let low = h.least t.first k.is in
+          let high = k.least r.first h.is in
+          let size = h.size in
+          let other = k.size in
+          ap (λ (x : Range). Some x) (range_from r t (let e : r.first ≡ t.first = omega (arith, low, high) in e) (let e : r.last ≡ t.last = omega (arith, low, high, size, other) in e))
+
+      one_fit : (q : plain.Region) (lines others : List ℕ) → IsFit given roots s q lines → IsFit given roots s q others → lines ≡ others
+      one_fit q lines others h k =
+          let of : h.f ≡ k.f = at_slot h.f k.f q.slot h.listed k.listed h.slot k.slot in
+          let exact = subst (λ (f : Function). MatchOption h.place ((first : ℕ) → IsPlaceFor given roots s q (is_wide_part f q.part) first → ⊥) (λ r. IsLeastPlace given roots s q (is_wide_part f q.part) r)) of h.exact in
+          h.text ∙ ap (λ o. fits_line q.space o) (one_place q (is_wide_part k.f q.part) h.place k.place exact k.exact) ∙ sym k.text
+
+      one_of_match : (b : Bool) (X Y V W Z : Type 0) → (X → V → Z) → (Y → W → Z) → MatchBool b X Y → MatchBool b V W → Z
+      one_of_match true X Y V W Z on off h k = on h k
+      one_of_match false X Y V W Z on off h k = off h k
+
+      module _ (assumed : List AssumedRegister) where
+        one_fit_behind : (q : Region) (lines others : List ℕ) → IsFitBehind assumed given roots s q lines → IsFitBehind assumed given roots s q others → lines ≡ others
+        one_fit_behind (Legacy b space) lines others h k = h ∙ sym k
+        one_fit_behind (Own q) lines others h k =
+            one_of_match _ (lines ≡ []) _ (others ≡ []) _ (lines ≡ others) (λ x y. x ∙ sym y)
+            (one_of_match (is_size_assumed assumed q.slot q.register) (lines ≡ unknown_line) (IsFit given roots s q lines) (others ≡ unknown_line) (IsFit given roots s q others) (lines ≡ others)
+            (λ x y. x ∙ sym y) (one_fit q lines others))
+            h k
+
+        one_advice_for : (region : RegionName) (space : Space) (lines others : List ℕ) → IsAdviceFor assumed given roots s region space lines → IsAdviceFor assumed given roots s region space others → lines ≡ others
+        one_advice_for region space lines others (q, named, is, fit) (w, other, also, fits) =
+            let same : w ≡ q = named_one w q region.slot region.register space other named also is in
+            one_fit_behind q lines others fit (subst (λ (x : Region). IsFitBehind assumed given roots s x others) same fits)
+
+        one_known_advice : (fault : faults.Fault) (lines others : List ℕ) → IsKnownAdvice assumed given roots s fault lines → IsKnownAdvice assumed given roots s fault others → lines ≡ others
+        one_known_advice fault lines others = elim fault as (λ fault. IsKnownAdvice assumed given roots s fault lines → IsKnownAdvice assumed given roots s fault others → lines ≡ others) [
+          | Unreached slot register space a bridge ↦ one_advice_for (named_region slot register) space lines others
+          | Clash bus space a first fr second sr ↦ one_advice_for (named_region second sr) space lines others
+          | Split space a first fr second sr ↦
+              one_of_match (is_said given space) (IsAdviceFor assumed given roots s (named_region second sr) space lines) (lines ≡ [])
+              (IsAdviceFor assumed given roots s (named_region second sr) space others) (others ≡ []) (lines ≡ others)
+              (one_advice_for (named_region second sr) space lines others) (λ x y. x ∙ sym y)
+          | _ ↦ λ h k. h ∙ sym k
+        ]
+
+        two_texts : (evidence advice told fits : List ℕ) → evidence ≡ told → advice ≡ fits → evidence ++ advice ≡ told ++ fits
+        two_texts evidence advice told fits e a = ap (λ xs. xs ++ advice) e ∙ ap (λ xs. told ++ xs) a
+
+        one_known_why : (fault : faults.Fault) (lines others : List ℕ) → IsWhy assumed given roots s (Known fault) lines → IsWhy assumed given roots s (Known fault) others → lines ≡ others
+        one_known_why fault lines others h k =
+            h.text ∙ two_texts h.evidence h.advice k.evidence k.advice (one_known_evidence fault h.evidence k.evidence h.told k.told) (one_known_advice fault h.advice k.advice h.fits k.fits) ∙ sym k.text
+
+        one_outside_why : IsNested roots s → (slot : Slot) (register : ℕ) (space : Space) (a : ℕ) (lines others : List ℕ)
+            → IsWhy assumed given roots s (Outside slot register space a) lines → IsWhy assumed given roots s (Outside slot register space a) others → lines ≡ others
+        one_outside_why nested slot register space a lines others h k =
+            let same : k.told.0 ≡ h.told.0 = named_own k.told.0 h.told.0 slot register space k.told.1 h.told.1 k.told.2.is h.told.2.is in
+            let told : h.evidence ≡ k.evidence = one_outside nested h.told.0 h.evidence k.evidence h.told.2 (subst (λ (q : plain.Region). IsBehindOutside given roots s q k.evidence) same k.told.2) in
+            h.text ∙ two_texts h.evidence h.advice k.evidence k.advice told (one_advice_for (named_region slot register) space h.advice k.advice h.fits k.fits) ∙ sym k.text
+
+pub known_why_is_determined : KnownWhyIsDetermined
+known_why_is_determined assumed given roots s fault lines others is_system h k = one_known_why s is_system given roots assumed fault lines others h k
+
+pub why_is_determined : WhyIsDetermined
+why_is_determined assumed given roots s (Known fault) lines others is_system nested h k = one_known_why s is_system given roots assumed fault lines others h k
+why_is_determined assumed given roots s (Outside slot register space a) lines others is_system nested h k =
+    one_outside_why s is_system given roots assumed nested slot register space a lines others h k
+
+-- with nothing given the lines are those
+pub plain_why_is_determined : PlainWhyIsDetermined
+plain_why_is_determined assumed roots s fault lines others is_system h k =
+    one_known_why s is_system nothing_given roots assumed fault lines others ((same_why assumed roots s fault lines).1 h) ((same_why assumed roots s fault others).1 k)
