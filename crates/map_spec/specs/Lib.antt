@@ -2,3 +2,4 @@ pub mod Lines
 pub mod Map
 pub mod MapText
 pub mod MapLaws
+pub mod DeterminedLaws

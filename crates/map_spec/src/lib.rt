@@ -4,4 +4,5 @@
 //! In their comments "Bridge 1.2" is the PCI-to-PCI Bridge Architecture Specification 1.2.
 #![tactic(auto)]
 
+pub mod determined_laws;
 pub mod map_laws;
