@@ -3,7 +3,7 @@ use Rattle.std.proofs.Common.{◌≡◌, ℕ, List, [], ◌++◌, refl, sym, ◌
 use Rattle.std.specs.Prelude.{IsTrue, MatchOption, MatchBool}
 use Rattle.std.specs.List.{Contains, flat_map}
 use Rattle.pci_spec.specs.Slot.{Slot, slot_number}
-use Rattle.pci_spec.specs.System.{System, Function, Space, Part, IsSystem, Claims, Leads, has_part, is_window, is_prefetchable_part}
+use Rattle.pci_spec.specs.System.{System, Function, Space, Part, IsSystem, Claims, has_part, is_prefetchable_part}
 use Rattle.pci_spec.specs.System as system
 use Rattle.pci_spec.specs.Bus.{IsNested}
 use Rattle.pci_spec.specs.Fault.{Unreached, Clash, Split, RegionName, TwoRegions, named_region, named_regions}

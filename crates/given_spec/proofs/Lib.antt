@@ -7,3 +7,4 @@ pub mod Taken
 pub mod Numbers
 pub mod OneList
 pub mod Determined
+pub mod DeterminedTexts

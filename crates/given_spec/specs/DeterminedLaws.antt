@@ -1,13 +1,18 @@
 -- Laws: a relation that defines a text has at most one.
-use Rattle.std.specs.Prelude.{◌≡◌, ℕ, List}
-use Rattle.pci_spec.specs.System.{System, IsSystem}
+use Rattle.std.specs.Prelude.{◌≡◌, ℕ, Bool, List}
+use Rattle.pci_spec.specs.Text.{Block, IsDump}
+use Rattle.pci_spec.specs.System.{System, IsSystem, system_of}
 use Rattle.pci_spec.specs.Bus.{IsNested}
 use Rattle.pci_spec.specs.Fault as plain
+use Rattle.pci_spec.specs.FaultLines as plain_lines
 use Rattle.pci_spec.specs.Mark.{AssumedRegister}
 use Rattle.pci_spec.specs.Why as why
+use Rattle.pci_spec.specs.FaultsText as plain_text
 use Rattle.given_spec.specs.Given.{Given}
 use Rattle.given_spec.specs.Fault.{Fault, Known}
+use Rattle.given_spec.specs.FaultLines.{AreAllFaults}
 use Rattle.given_spec.specs.Why.{IsWhy}
+use Rattle.given_spec.specs.FaultsText.{IsFaultsText}
 
 -- ---- the lines behind a fault
 
@@ -27,9 +32,54 @@ KnownWhyIsDetermined =
     → IsWhy assumed given roots s (Known fault) lines
     → IsWhy assumed given roots s (Known fault) others → lines ≡ others
 
--- The same with nothing given.
+-- The same without what is given.
 abbrev pub PlainWhyIsDetermined : Type 0
 PlainWhyIsDetermined =
     (assumed : List AssumedRegister) (roots : List ℕ) (s : System) (fault : plain.Fault)
     (lines others : List ℕ) → IsSystem s → why.IsWhy assumed roots s fault lines
     → why.IsWhy assumed roots s fault others → lines ≡ others
+
+-- ---- the list of all faults, and its text
+
+-- Two lists of all faults of a dump and its probe are equal.
+abbrev pub ListIsDetermined : Type 0
+ListIsDetermined =
+    (given : Given) (roots : List ℕ) (dump probe : List Block) (faults others : List Fault)
+    → AreAllFaults given roots dump probe faults → AreAllFaults given roots dump probe others
+    → faults ≡ others
+
+-- The same without what is given.
+abbrev pub PlainListIsDetermined : Type 0
+PlainListIsDetermined =
+    (roots : List ℕ) (dump probe : List Block) (faults others : List plain.Fault)
+    → plain_lines.AreAllFaults roots dump probe faults
+    → plain_lines.AreAllFaults roots dump probe others → faults ≡ others
+
+-- a text of the list of all faults of a dump and its probe, with reasons or without
+pub record IsTextOfAll (assumed : List AssumedRegister) (given : Given) (roots : List ℕ)
+    (dump probe : List Block) (why : Bool) (text : List ℕ) : Type 0 where
+  pub faults : List Fault
+  pub all : AreAllFaults given roots dump probe faults
+  pub is : IsFaultsText assumed given roots (system_of dump probe) why faults text
+
+-- Two such texts are equal.
+abbrev pub TextIsDetermined : Type 0
+TextIsDetermined =
+    (assumed : List AssumedRegister) (given : Given) (roots : List ℕ) (dump probe : List Block)
+    (why : Bool) (text other : List ℕ) → IsDump dump → IsDump probe
+    → IsTextOfAll assumed given roots dump probe why text
+    → IsTextOfAll assumed given roots dump probe why other → text ≡ other
+
+-- the same without what is given
+pub record IsPlainTextOfAll (assumed : List AssumedRegister) (roots : List ℕ)
+    (dump probe : List Block) (why : Bool) (text : List ℕ) : Type 0 where
+  pub faults : List plain.Fault
+  pub all : plain_lines.AreAllFaults roots dump probe faults
+  pub is : plain_text.IsFaultsText assumed roots (system_of dump probe) why faults text
+
+abbrev pub PlainTextIsDetermined : Type 0
+PlainTextIsDetermined =
+    (assumed : List AssumedRegister) (roots : List ℕ) (dump probe : List Block) (why : Bool)
+    (text other : List ℕ) → IsDump dump → IsDump probe
+    → IsPlainTextOfAll assumed roots dump probe why text
+    → IsPlainTextOfAll assumed roots dump probe why other → text ≡ other
