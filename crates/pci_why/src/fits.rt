@@ -119,7 +119,8 @@ pub fn push_fit<A: Allocator>(
 /// Appends where the region of a slot and register would fit: the least range of its size whose first address is a
 /// multiple of that, below 4 GB where it is no BAR of 64 bits (of I/O below 64 KB), that each bridge on the way passes
 /// and no other region of its bus claims. Where the read back of the register is assumed, as the titles of the probe's
-/// blocks tell it, that isn't known: `fits unknown`. On a root bus there is no such line.
+/// blocks tell it, that isn't known: `fits unknown`. There is no such line of a window, since what is behind its bridge
+/// would have to move with it, and none on a root bus.
 pub fn push_fits<A: Allocator + Copy, B: Allocator>(
     alloc: A,
     text: &mut String<B>,
@@ -137,6 +138,9 @@ pub fn push_fits<A: Allocator + Copy, B: Allocator>(
     let Some(region) = region_at(alloc, outline, slot, reg, space)? else {
         return Ok(());
     };
+    if region.part == Part::Window {
+        return Ok(());
+    }
     if outline.roots().has(slot.bus()) {
         return Ok(());
     }
