@@ -1,7 +1,7 @@
 #!/bin/sh
 # Tests the scripts that read dumps and sizes: machines/capture.sh over sysfs made of files, machines/convert.sh and
 # machines/sizes_of_lspci.sh over what lspci prints, all made from the texts of machines/, and the lines of README.md and
-# docs/FORMATS.md that do the same. A line is printed for each case; the status is 1 where one differs.
+# docs/BUG_REPORT.md that do the same. A line is printed for each case; the status is 1 where one differs.
 #
 # Usage: capture_test.sh [PROGRAM], by default out/pciplan beside this file, which `rt ci` and `rt run` make.
 set -u
@@ -14,7 +14,7 @@ case $program in
     *) program=$PWD/$program ;;
 esac
 machines=$here/../../machines
-formats=$here/../../docs/FORMATS.md
+report=$here/../../docs/BUG_REPORT.md
 room=$(mktemp -d) || exit 1
 trap 'rm -rf "$room"' EXIT
 cd "$room" || exit 1
@@ -821,15 +821,15 @@ told_of roots >roots.wanted
 sizes 'several domains: the first' roots.wanted
 sizes 'several domains: the second' old.wanted 0001
 
-# The two lines of docs/FORMATS.md: the first for texts of one domain, the second for domain 0001 of several; and what
+# The two lines of docs/BUG_REPORT.md: the first for texts of one domain, the second for domain 0001 of several; and what
 # stands before the first for -vm and -vmm.
-sed -n 's/^    \(sed -n .* lspci.txt | .*\) > dump.txt$/\1/p' "$formats" >lines
+sed -n 's/^    \(sed -n .* lspci.txt | .*\) > dump.txt$/\1/p' "$report" >lines
 [ "$(wc -l <lines)" -eq 2 ]
-told 'FORMATS.md: two lines' $?
+told 'BUG_REPORT.md: two lines' $?
 one=$(sed -n 1p lines) of_several=$(sed -n 2p lines)
-sed -n "s/^| \`-vm\`, \`-vmm\`.* after \`\(sed [^\`]*\)\`.*/\1/p" "$formats" >lines
+sed -n "s/^| \`-vm\`, \`-vmm\`.* after \`\(sed [^\`]*\)\`.*/\1/p" "$report" >lines
 [ "$(wc -l <lines)" -eq 1 ]
-told 'FORMATS.md: a line for -vm and -vmm' $?
+told 'BUG_REPORT.md: a line for -vm and -vmm' $?
 slots=$(cat lines)
 for machine in desk old port roots; do
     titled $machine | kernel | verbose | extended | remarked | sed '$d' >text
@@ -837,18 +837,18 @@ for machine in desk old port roots; do
     for form in cat 'of_domain 0000'; do
         $form <text >lspci.txt
         sh -c "$one" >out && cmp -s out titled.txt
-        told "FORMATS.md: $machine, one domain: $form" $?
+        told "BUG_REPORT.md: $machine, one domain: $form" $?
     done
     for word in Device Slot; do
         titled $machine | records $word | kernel | extended >text
         sh -c "$slots" <text >lspci.txt
         sh -c "$one" >out && cmp -s out "$machines/$machine.dump"
-        told "FORMATS.md: $machine, -vm and -vmm: $word" $?
+        told "BUG_REPORT.md: $machine, -vm and -vmm: $word" $?
     done
     titled $machine | kernel | verbose | extended | remarked | sed '$d' >text
     { of_domain 0000 <text; of_domain 0001 <text; of_domain 10000 <text; } >lspci.txt
     sh -c "$of_several" >out && cmp -s out titled.txt
-    told "FORMATS.md: $machine, a domain of several" $?
+    told "BUG_REPORT.md: $machine, a domain of several" $?
 done
 
 echo "$passed passed, $failed failed"
