@@ -118,6 +118,12 @@ in_turn_by_size : settle request (device (slot 0 1 0) 0 [] ((0x10, 0xfffff000) �
 unfolding stands_within window_within holds_within placing_within is_live_within
 in_turn_by_size = refl
 
+-- of one alignment the larger one comes first: a window of 3 MB before a BAR of 1 MB
+larger_of_one_alignment : settle (with_memory (all_roots 0xe0000000 0xe03fffff ∷ [])) (plain (slot 0 0 0) 0 0 0xfff00000 ∷ over 0 0xfff0 ∷ device (slot 1 0 0) 0 [] ((0x10, 0xfff00000) ∷ (0x14, 0xfff00000) ∷ (0x18, 0xfff00000) ∷ []) ∷ [])
+    ≡ Settled (write (slot 0 0 0) 0x10 4 0xe0300000 ∷ write (slot 0 1 0) 0x20 4 0xe020e000 ∷ write (slot 1 0 0) 0x10 4 0xe0000000 ∷ write (slot 1 0 0) 0x14 4 0xe0100000 ∷ write (slot 1 0 0) 0x18 4 0xe0200000 ∷ write (slot 0 0 0) 0x04 2 0x0002 ∷ write (slot 0 1 0) 0x04 2 0x0002 ∷ write (slot 1 0 0) 0x04 2 0x0002 ∷ [])
+unfolding stands_within window_within holds_within placing_within is_live_within
+larger_of_one_alignment = refl
+
 -- ---- windows
 
 -- a bridge to buses 2 on behind one to bus 1, and windows of prefetchable memory with upper halves
