@@ -157,3 +157,9 @@ device_is_no_bridge : settle request (device (slot 0 0 0) 2 ((0x18, 0xe0111100) 
     ≡ Settled (write (slot 0x11 1 0) 0x10 4 0xe0001000 ∷ write (slot 0x11 1 0) 0x04 2 0x0002 ∷ [])
 unfolding stands_within window_within holds_within placing_within is_live_within
 device_is_no_bridge = refl
+
+-- the inner window has no room for what is plugged in behind it, nor has the outer one for a larger inner one: both go
+both_windows_go : settle request (bridge (slot 0 1 0) 2 0x20100 ((0x20, 0xe000e000) ∷ []) [] ∷ bridge (slot 1 0 0) 2 0x20201 ((0x20, 0xe000e000) ∷ []) [] ∷ plain (slot 2 0 0) 2 0xe0000000 0xfffff000 ∷ plain (slot 2 1 0) 0 0 0xfff00000 ∷ [])
+    ≡ Settled (write (slot 2 0 0) 0x04 2 0x0000 ∷ write (slot 1 0 0) 0x04 2 0x0000 ∷ write (slot 0 1 0) 0x04 2 0x0000 ∷ write (slot 0 1 0) 0x20 4 0xe010e000 ∷ write (slot 1 0 0) 0x20 4 0xe010e000 ∷ write (slot 2 0 0) 0x10 4 0xe0100000 ∷ write (slot 2 1 0) 0x10 4 0xe0000000 ∷ write (slot 0 1 0) 0x04 2 0x0002 ∷ write (slot 1 0 0) 0x04 2 0x0002 ∷ write (slot 2 0 0) 0x04 2 0x0002 ∷ write (slot 2 1 0) 0x04 2 0x0002 ∷ [])
+unfolding stands_within window_within holds_within placing_within is_live_within
+both_windows_go = refl
