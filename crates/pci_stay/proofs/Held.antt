@@ -121,7 +121,7 @@ module _ (q : Request) (s : System) (system : IsSystem s) (nested : IsNested q.r
     pub other_holds : (c : WindowKind) → is_bridge f ≡ false → IsHolding q s old f c false
     other_holds c other = closed_holds c (false_from_ne_true (is_open f c) (λ opens. both_ways (is_bridge f) other (open_bridge f c opens)))
 
-    noted_stands : (c : WindowKind) → is_bridge f ≡ true → kept_of (get_or old k nothing_kept) (Window c) ≡ stands q s (window_region c f)
+    pub noted_stands : (c : WindowKind) → is_bridge f ≡ true → kept_of (get_or old k nothing_kept) (Window c) ≡ stands q s (window_region c f)
     noted_stands c bridge = was.rest k f (Window c) (omega arith) at bridge
 
     pub unnoted_holds : (c : WindowKind) → kept_of (get_or old k nothing_kept) (Window c) ≡ false → IsHolding q s old f c false

@@ -3,3 +3,4 @@ pub mod Rows
 pub mod Rooms
 pub mod Held
 pub mod Stays
+pub mod Asked

@@ -20,6 +20,12 @@ use Rattle.pci_stand.specs.Boards.{AreOpen}
 use Rattle.pci_stand.specs.Known.{AreParts}
 use Rattle.pci_stand.specs.Tables.{stands_in}
 
+-- a table has the new windows of a class, where a window of it stands
+abbrev pub HasNewWhereStands : Request → Classing → CodeKind → List (Option Extent) → Type 0
+HasNewWhereStands q p class windows =
+    (f : Function) → IsTrue (stands q p.system (window_region (kind_value class) f))
+    → HasNewWindows q p.system (kind_value class) p.terms windows
+
 -- what is asked for of a lawful system, with the parts, the open windows and the new ones
 pub record IsAsking (p : Classing) (windows : ByKind (List (Option Extent))) (regions : List CodeRegion)
     (q : Request) : Type 0 where
@@ -27,8 +33,12 @@ pub record IsAsking (p : Classing) (windows : ByKind (List (Option Extent))) (re
   pub nested : IsNested q.roots p.system
   pub left : IsLeft p q
   pub parts : AreParts q p.system regions
-  pub new : (class : CodeKind)
-      → HasNewWindows q p.system (kind_value class) p.terms (by_kind windows class)
+  pub new : (class : CodeKind) → HasNewWhereStands q p class (by_kind windows class)
+
+-- a request leaves the open windows over each bus, and these are the new ones of each class of which a window stands
+pub record IsKnowing (p : Classing) (windows : ByKind (List (Option Extent))) (q : Request) : Type 0 where
+  pub left : IsLeft p q
+  pub new : (class : CodeKind) → HasNewWhereStands q p class (by_kind windows class)
 
 -- what a table tells of a part that its function has; of another one, whether it stands
 abbrev pub told_in : Request → System → List Kept → Region → Bool

@@ -1,19 +1,23 @@
 -- What a table tells of parts that stay.
-use Rattle.std.specs.Prelude.{◌≡◌, ℕ, ◌<◌, ◌≤◌, false, IsTrue, List, length, Some, slice_get, slice_index_or, ⊤}
+use Rattle.std.specs.Prelude.{◌≡◌, ℕ, ◌<◌, ◌≤◌, false, IsTrue, List, [], length, map, Some, slice_get, slice_index_or, ⊤}
 use Rattle.std.specs.List.{Contains}
+use Rattle.pci_spec.specs.Slot.{Slot}
+use Rattle.pci_spec.specs.Window.{IoWindow}
 use Rattle.pci_spec.specs.System.{System, Function, Part, has_part}
 use Rattle.settle_spec.specs.Lists.{Request}
 use Rattle.settle_spec.specs.Parts.{Region, regions}
 use Rattle.settle_spec.specs.Items.{holds, stays}
 use Rattle.pci_base.specs.declared.memory.Refused.{Refused}
 use Rattle.pci_base.specs.declared.memory.Refused.TheVariants as refused
+use Rattle.pci_base.specs.declared.range.RootRange.{RootRange}
 use Rattle.pci_base.specs.WindowKinds.{kind_value}
 use Rattle.pci_settle.specs.declared.kept.Kept.{Kept}
+use Rattle.pci_settle.specs.Lists.{root_range_value}
 use Rattle.pci_settle.specs.Kept.{kept_of, nothing_kept}
 use Rattle.pci_settle.specs.NewWindows.{IsTooLarge}
 use Rattle.pci_stand.specs.declared.region.Region.{Region as CodeRegion}
 use Rattle.pci_stand.specs.Boards.{AreOpen}
-use Rattle.pci_stand.specs.Known.{region_value}
+use Rattle.pci_stand.specs.Known.{asked, region_value}
 use Rattle.pci_stand.specs.Tables.{stands_in}
 use Rattle.pci_stay.specs.declared.windows.TooLarge.{TooLarge}
 
@@ -38,6 +42,17 @@ pub record AreStaying (q : Request) (s : System) (table : List Kept) : Type 0 wh
       → IsTrue (has_part f part)
       → kept_of (slice_index_or table k nothing_kept) part
       ≡ stays q s record { function = f; part = part }
+
+-- what is asked for in lists of I/O alone
+abbrev pub asked_in_io : List ℕ → List RootRange → List Slot → Request
+asked_in_io roots io fixed =
+    asked roots record { io = map root_range_value io; memory = []; prefetch = [] } fixed
+
+-- a new window of I/O is too large, or there was no memory
+abbrev pub IsTooLargeInIo : Request → System → Refused TooLarge → Type 0
+IsTooLargeInIo q s refused.Memory = ⊤
+IsTooLargeInIo q s (refused.Fault x) =
+    (kind_value x.class ≡ IoWindow) × IsTooLarge q s IoWindow x.function
 
 -- a new window of some class is too large, or there was no memory
 abbrev pub IsTooLargeFor : Request → System → Refused TooLarge → Type 0

@@ -4,22 +4,28 @@ ghost use Rattle.std.specs.List.{All};
 ghost use Rattle.pci_spec.specs.System.{System};
 ghost use Rattle.settle_spec.specs.Lists.{Request};
 ghost use Rattle.pci_tree.specs.Ways.{IsBridgeToBus};
-ghost use Rattle.pci_place.specs.Above.{system_in};
+ghost use Rattle.pci_place.specs.Above.{AreAboves, system_in};
+ghost use Rattle.pci_settle.specs.Buses.{classing_of};
 ghost use Rattle.pci_settle.specs.Lists.{lists_value};
 ghost use Rattle.pci_stand.specs.Boards.{IsBoard};
 ghost use Rattle.pci_stand.specs.Known.{asked, AreParts};
 ghost use Rattle.pci_stand.specs.Passing.{IsReady};
-ghost use Rattle.pci_stay.specs.Holding.{AreHolding};
-ghost use Rattle.pci_stay.specs.Staying.{IsStayedTo, AreStaying, IsTooLargeFor};
+ghost use Rattle.pci_stay.specs.Windows.{AreAllLawful};
+ghost use Rattle.pci_stay.specs.Holding.{IsKnowing, AreHolding};
+ghost use Rattle.pci_stay.specs.Staying.{IsStayedTo, AreStaying, IsTooLargeFor, IsTooLargeInIo, asked_in_io};
 
 use crate::holding::hold_all;
-use crate::windows::{TooLarge, all_windows, open_windows};
-use pci_base::memory::Refused;
+use crate::windows::{TooLarge, all_windows, io_windows, open_windows};
+use pci_base::memory::{OutOfMemory, Refused};
+use pci_base::range::RootRange;
 use pci_base::slot::{BUSES, Slot};
+use pci_base::window_kind::ByKind;
 use pci_function::record::Record;
-use pci_place::above::aboves;
+use pci_place::above::{Above, aboves};
+use pci_settle::extent::Extent;
 use pci_settle::kept::Kept;
 use pci_settle::list::Lists;
+use pci_settle::over::OpenWindows;
 use pci_settle::own::Terms;
 use pci_stand::collect::regions;
 use pci_stand::pass::standing;
@@ -71,6 +77,36 @@ fn stay_all(
     }
 }
 
+/// Which parts of each function stay, by the open windows over each bus and the new ones of each class.
+fn stay_by<A: Allocator + Copy, B: Allocator>(
+    alloc: A,
+    admitted: &Admitted<B>,
+    lists: &Lists,
+    fixed: &[Slot],
+    aboves: &[Above; BUSES],
+    terms: Terms,
+    opened: &[OpenWindows],
+    windows: &ByKind<[Option<Extent>; BUSES]>,
+) -> Result<Vec<Kept, A>, OutOfMemory>
+    requires above { AreAboves (system_in admitted.now) aboves.now }
+    requires lawful { AreAllLawful windows.now }
+    ensures { IfOk result (λ table. IsKnowing (classing_of admitted.now terms opened.now) windows.now
+        (asked admitted.now.roots (lists_value lists.now) fixed.now)
+        → AreStaying (asked admitted.now.roots (lists_value lists.now) fixed.now)
+        (system_in admitted.now) table.items) }
+{
+    let records = admitted.outline().records();
+    let regions = regions(alloc, admitted, lists, fixed)?;
+    let mut table = standing(alloc, admitted, lists, fixed)?;
+    let regions = regions.as_slice();
+    let entries = table.as_mut_slice();
+    hold_all(
+        alloc, admitted, aboves, terms, opened, windows, regions, entries,
+    )?;
+    stay_all(records, &bridges_over(records), lists, regions, entries);
+    Ok(table)
+}
+
 /// Which parts of each function stay where they are, in slot order: they stand, a window has room for what is behind it,
 /// and so does each window above. `fixed` are the slots of functions whose registers may not be written.
 ///
@@ -87,18 +123,41 @@ pub fn staying<A: Allocator + Copy, B: Allocator>(
     ensures fault { IfErr result (IsTooLargeFor
         (asked admitted.now.roots (lists_value lists.now) fixed.now) (system_in admitted.now)) }
 {
-    let records = admitted.outline().records();
     let aboves = aboves(admitted);
     let terms = Terms::of(lists);
-    let opened = open_windows(records);
+    let opened = open_windows(admitted.outline().records());
     let windows = all_windows(alloc, admitted, &aboves, terms, &opened)?;
-    let regions = regions(alloc, admitted, lists, fixed)?;
-    let mut table = standing(alloc, admitted, lists, fixed)?;
-    let regions = regions.as_slice();
-    let entries = table.as_mut_slice();
-    hold_all(
-        alloc, admitted, &aboves, terms, &opened, &windows, regions, entries,
+    let table = stay_by(
+        alloc, admitted, lists, fixed, &aboves, terms, &opened, &windows,
     )?;
-    stay_all(records, &bridges_over(records), lists, regions, entries);
+    Ok(table)
+}
+
+/// The same in lists of I/O alone, where no part in memory stands: how large new windows of memory are makes no difference.
+///
+/// A bridge is named whose new window of I/O would have 2^64 addresses or more.
+pub fn staying_in_io<A: Allocator + Copy, B: Allocator>(
+    alloc: A,
+    admitted: &Admitted<B>,
+    io: &[RootRange],
+    fixed: &[Slot],
+) -> Result<Vec<Kept, A>, Refused<TooLarge>>
+    ensures stay { IfOk result (λ table. AreStaying (asked_in_io admitted.now.roots io.now fixed.now)
+        (system_in admitted.now) table.items) }
+    ensures fault { IfErr result (IsTooLargeInIo (asked_in_io admitted.now.roots io.now fixed.now)
+        (system_in admitted.now)) }
+{
+    let lists = Lists {
+        io,
+        mem: &[],
+        pref: &[],
+    };
+    let aboves = aboves(admitted);
+    let terms = Terms::of(&lists);
+    let opened = open_windows(admitted.outline().records());
+    let windows = io_windows(alloc, admitted, &aboves, terms, &opened)?;
+    let table = stay_by(
+        alloc, admitted, &lists, fixed, &aboves, terms, &opened, &windows,
+    )?;
     Ok(table)
 }

@@ -5,6 +5,7 @@ ghost use Rattle.settle_spec.specs.Lists.{Request};
 ghost use Rattle.pci_base.specs.WindowKinds.{kind_value};
 ghost use Rattle.pci_place.specs.Above.{AreAboves, system_in};
 ghost use Rattle.pci_settle.specs.Buses.{AreWindows, classing_of};
+ghost use Rattle.pci_spec.specs.Window.{IoWindow};
 ghost use Rattle.pci_stay.specs.Windows.{AreOpenFor, HasWindowsOf, IsTooLargeOf, HasAllWindows, AreAllLawful, IsTooLargeIn};
 
 use pci_base::memory::Refused;
@@ -94,5 +95,30 @@ pub fn all_windows<A: Allocator + Copy, B: Allocator>(
         io,
         memory,
         prefetchable,
+    })
+}
+
+/// The new windows of I/O over each bus, and none of memory.
+pub fn io_windows<A: Allocator + Copy, B: Allocator>(
+    alloc: A,
+    admitted: &Admitted<B>,
+    aboves: &[Above; BUSES],
+    terms: Terms,
+    over: &[OpenWindows],
+) -> Result<ByKind<[Option<Extent>; BUSES]>, Refused<TooLarge>>
+    // which windows lead to a BAR decides its class
+    requires { AreAboves (system_in admitted.now) aboves.now }
+    ensures windows { IfOk result (λ windows. HasWindowsOf
+        (classing_of admitted.now terms over.now) IoWindow windows.io) }
+    ensures lawful { IfOk result AreAllLawful }
+    ensures fault { IfErr result (IsTooLargeOf (classing_of admitted.now terms over.now) IoWindow) }
+{
+    let mut io = [None; BUSES];
+    let class = WindowKind::Io;
+    class_windows(alloc, admitted, class, aboves, terms, over, &mut io)?;
+    Ok(ByKind {
+        io,
+        memory: [None; BUSES],
+        prefetchable: [None; BUSES],
     })
 }

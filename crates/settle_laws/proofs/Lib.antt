@@ -27,6 +27,7 @@ pub mod Images
 pub mod InLists
 pub mod InPlace
 pub mod InWindows
+pub mod IoAlone
 pub mod ItemForms
 pub mod Kept
 pub mod KeptAside

@@ -18,7 +18,7 @@ use Rattle.pci_place.proofs.Records.{lent}
 use Rattle.pci_settle.specs.Buses.{AreBehind}
 use Rattle.pci_stand.proofs.OfRecord.{window_is}
 use Rattle.pci_stay.specs.Holding.{told_in}
-use Rattle.pci_stay.proofs.Held.{record_at, none_closed, some_range, told_kept, unnoted_holds, other_holds, closed_holds, noted_holds}
+use Rattle.pci_stay.proofs.Held.{record_at, none_closed, some_range, told_kept, unnoted_holds, other_holds, closed_holds, noted_stands, noted_holds}
 use Rattle.pci_stay.proofs.holding.window_holds.Goals as goal
 
 pub returns-then-not-window : goal.returns-then-not-window
@@ -52,13 +52,14 @@ returns g c = λ q f asking at held.
     let class = kind_value c.args.class in
     let bridge : is_bridge f ≡ true = sym (same_bridge r f is.value) ∙ ap is_some b_is in
     let to : secondary f ≡ b.secondary = sym (ap (λ (x : decoded.Bridge). x.secondary) (same_bridge_of r f b is.value b_is)) in
+    let stand = sym (noted_stands q s asking.system asking.nested c.args.function f at c.args.table.now held class bridge) ∙ sym c.window.ensures ∙ c.if-not-window.false in
     noted_holds q s asking.system asking.nested c.args.function f at c.args.table.now held class c.in_ok-room.room bridge (sym c.window.ensures ∙ c.if-not-window.false)
     (c.in_ok-room.ensures q (told_in q s c.args.table.now) f record {
       system = asking.system;
       listed = record {
         left = asking.left;
         keeps_is = told_kept q s asking.system asking.nested c.args.table.now;
-        behind = subst (AreBehind q s class (new_window q s class) b.secondary) (sym c.get.ensures) ((asking.new c.args.class).behind b.secondary);
+        behind = subst (AreBehind q s class (new_window q s class) b.secondary) (sym c.get.ensures) ((asking.new c.args.class f stand).behind b.secondary);
       };
       parts = asking.parts;
       bus_is = to;

@@ -1,0 +1,60 @@
+use Rattle.std.proofs.Common.{◌≡◌, map, length, refl, arith, sym, ◌∙◌, ap, subst}
+use Rattle.std.specs.List.{All}
+use Rattle.std.specs.List.Sorted.{IsNonDecreasingBy}
+use Rattle.std.proofs.lemmas.List.Sorted.{IsPermutation-refl}
+use Rattle.pci_place.specs.Above.{system_in}
+use Rattle.pci_place.proofs.Records.{lent, same_count}
+use Rattle.pci_settle.specs.Lists.{lists_value}
+use Rattle.pci_stand.specs.Known.{asked, AreParts}
+use Rattle.pci_stand.specs.Passing.{IsReady, AreStanding}
+use Rattle.pci_stand.proofs.Whole.{ready, slice_back}
+use Rattle.pci_stay.specs.Rooms.{region_bus}
+use Rattle.pci_stay.specs.Staying.{AreStaying}
+use Rattle.pci_stay.proofs.Stays.{buses_rise}
+use Rattle.pci_stay.proofs.staying.stay_by.Goals as goal
+
+pub hold_all-requires-clause-order : goal.hold_all-requires-clause-order
+hold_all-requires-clause-order g c =
+    let s = system_in c.args.admitted.now in
+    let q = asked c.args.admitted.now.roots (lists_value c.args.lists.now) c.args.fixed.now in
+    let admitted = c.outline.ensures.admitted in
+    subst (IsNonDecreasingBy region_bus) (sym c.as_slice-regions.ensures.value) (buses_rise q s admitted.system admitted.nested c.in_ok-regions.regions.items c.in_ok-regions.ensures)
+
+pub hold_all-requires-clause-ready : goal.hold_all-requires-clause-ready
+hold_all-requires-clause-ready g c =
+    let s = system_in c.args.admitted.now in
+    let q = asked c.args.admitted.now.roots (lists_value c.args.lists.now) c.args.fixed.now in
+    let rs = c.in_ok-regions.regions.items in
+    let entries = c.as_mut_slice-entries.result.now in
+    let are : AreStanding q s c.in_ok-table.table.items = c.in_ok-table.ensures in
+    subst (All (IsReady (length entries))) (sym c.as_slice-regions.ensures.value)
+    (ready q s rs c.in_ok-regions.ensures rs (IsPermutation-refl rs) (length entries) (ap length c.as_mut_slice-entries.ensures.value ∙ are.count))
+
+pub stay_all-requires-clause-ready : goal.stay_all-requires-clause-ready
+stay_all-requires-clause-ready g c =
+    let s = system_in c.args.admitted.now in
+    let q = asked c.args.admitted.now.roots (lists_value c.args.lists.now) c.args.fixed.now in
+    let rs = c.in_ok-regions.regions.items in
+    let records = c.records-records.result.now in
+    let has = lent s records c.records-records.ensures.value c.outline.ensures.records in
+    subst (All (IsReady (length records))) (sym c.as_slice-regions.ensures.value)
+    (ready q s rs c.in_ok-regions.ensures rs (IsPermutation-refl rs) (length records) (sym (same_count s records has)))
+
+pub returns : goal.returns
+returns g c = λ knowing.
+    let s = system_in c.args.admitted.now in
+    let q = asked c.args.admitted.now.roots (lists_value c.args.lists.now) c.args.fixed.now in
+    let admitted = c.outline.ensures.admitted in
+    let parts : AreParts q s c.as_slice-regions.result.now = subst (AreParts q s) (sym c.as_slice-regions.ensures.value) c.in_ok-regions.ensures in
+    let stand : AreStanding q s c.as_mut_slice-entries.result.now = subst (AreStanding q s) (sym c.as_mut_slice-entries.ensures.value) c.in_ok-table.ensures in
+    let holding = c.in_ok-hold_all.ensures q record {
+      system = admitted.system;
+      nested = admitted.nested;
+      left = knowing.left;
+      parts = parts;
+      new = knowing.new;
+    } stand in
+    let long = c.in_ok-table.table.ok.0 in
+    subst (AreStaying q s)
+    (sym (slice_back c.in_ok-table.table.len c.stay_all.new.table c.in_ok-table.table.items (c.stay_all.auto.table ∙ c.hold_all.auto.table ∙ ap length c.as_mut_slice-entries.ensures.value) (omega (arith, long))))
+    (c.stay_all.ensures q s record { has = lent s c.records-records.result.now c.records-records.ensures.value c.outline.ensures.records; system = admitted.system; nested = admitted.nested; same = refl; stands = refl } parts holding)

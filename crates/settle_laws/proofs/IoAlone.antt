@@ -1,0 +1,279 @@
+-- What settling says of I/O hangs on no list of memory: it is the same with the lists of I/O alone, and then no part in memory stands.
+use Rattle.std.proofs.Common.{◌≡◌, ℕ, zero, suc, inl, inr, List, [], ◌∷◌, ◌++◌, ◌&&◌, map, cond, not, length, refl, Bool, true, false, sym, ◌∙◌, ap, Option, None, Some}
+use Rattle.std.specs.Bool.{◌==◌, if◌then◌else◌}
+use Rattle.std.specs.List.{Contains, filter, flat_map, list_any, list_all}
+use Rattle.std.proofs.lemmas.Bool.{cases_Bool, and_parts, and_left, and_right}
+use Rattle.pci_spec.specs.Window.{WindowKind, IoWindow, MemoryWindow, PrefetchWindow}
+use Rattle.pci_spec.specs.Decoded.{Range}
+use Rattle.pci_spec.specs.System.{System, Function, Space, Io, Memory, Part, Bar, Rom, Window, space_of, window_space, is_bridge, is_window}
+use Rattle.pci_spec.specs.Bus.{secondary, is_behind, is_root, are_siblings}
+use Rattle.plan_spec.specs.Plan.{bridges_above, same_class}
+use Rattle.plan_spec.proofs.Planning.PlacedItems.{same_class_is}
+use Rattle.settle_spec.specs.FirstPlace.{Extent}
+use Rattle.settle_spec.specs.Lists.{Request, ranges_of}
+use Rattle.settle_spec.specs.Parts.{Region, addresses, is_part, header_parts, regions_of, regions, class_in, bridge_over, same_space}
+use Rattle.settle_spec.specs.Stands.{window_region, region_space, is_in_lists, is_in_window, is_in_place, takes_from, are_beside, precedes, stands_within, stands}
+use Rattle.settle_spec.specs.FirstPlace.{are_apart}
+use Rattle.settle_spec.specs.Items.{Item, Placed, Placing, in_turn, own_item, is_own, has_of, items_of, items_on, window_around, window_within, new_window, nothing, are_placed, taken_on, place_all, has_places, has_room, holds_within, holds, stays}
+use Rattle.settle_spec.specs.Places.{wide_ranges, root_ranges, space_items, taken_at, placed_of, place_among, placed_range, window_ranges, ranges_for, placing_within, placing_on}
+use Rattle.settle_spec.proofs.ItemsOn.{each_in}
+use Rattle.settle_spec.proofs.Buses.{places_by}
+use Rattle.settle_laws.proofs.PartClasses.{space_of_class}
+
+-- the same, with the lists of I/O alone
+abbrev pub io_alone : Request → Request
+io_alone q = record {
+  roots = q.roots;
+  lists = record { io = q.lists.io; memory = []; prefetch = [] };
+  fixed = q.fixed;
+  anew = q.anew;
+}
+
+io_class : (c : WindowKind) → window_space c ≡ Io → c ≡ IoWindow
+io_class IoWindow is = refl
+io_class MemoryWindow is = absurd (let no : ⊥ = cc in no)
+io_class PrefetchWindow is = absurd (let no : ⊥ = cc in no)
+
+beside_io : (a b : Space) → b ≡ Io → same_space a b ≡ true → a ≡ Io
+beside_io Io b is same = refl
+beside_io Memory Io is same = absurd (let no : ⊥ = cc in no)
+beside_io Memory Memory is same = absurd (let no : ⊥ = cc in no)
+
+by_space : (space : Space) (k o : Bool) → (space ≡ Io → k ≡ o) → (same_space Io space && k) ≡ (same_space Io space && o)
+by_space Io k o same = same refl
+by_space Memory k o same = refl
+
+by_on : (on : Bool) (space : Space) (k o : Bool) → (space ≡ Io → k ≡ o) → (on && same_space Io space && k) ≡ (on && same_space Io space && o)
+by_on true space k o same = by_space space k o same
+by_on false space k o same = refl
+
+by_own : (b k o : Bool) → (b ≡ true → k ≡ o) → (b && not k) ≡ (b && not o)
+by_own true k o same = ap not (same refl)
+by_own false k o same = refl
+
+by_taken : (b k o : Bool) → (b ≡ true → k ≡ o) → not (b && k) ≡ not (b && o)
+by_taken true k o same = ap not (same refl)
+by_taken false k o same = refl
+
+module _ (q : Request) (s : System) where
+  abbrev p : Request
+  p = io_alone q
+
+  -- ---- parts, and those of I/O
+
+  part_same : (f : Function) (x : Part) → is_part p s f x ≡ is_part q s f x
+  part_same f (Bar n) = refl
+  part_same f Rom = refl
+  part_same f (Window c) = refl
+
+  parts_same : (f : Function) → regions_of p s f ≡ regions_of q s f
+  parts_same f = λ i. map (λ x. record { function = f; part = x }) (filter (λ x. part_same f x i) (header_parts f))
+
+  regions_same : regions p s ≡ regions q s
+  regions_same = λ i. flat_map (λ f. parts_same f i) s
+
+  of_io : (r : Request) (f : Function) (x : Part) → space_of f x ≡ Io → class_in r s f x ≡ IoWindow
+  of_io r f x io = io_class (class_in r s f x) (space_of_class r s f x ∙ io)
+
+  -- a class is of I/O by either
+  io_or_not : (r t : Request) (f : Function) (x : Part) → same_class IoWindow (class_in r s f x) ≡ true → same_class IoWindow (class_in t s f x) ≡ true
+  io_or_not r t f x is =
+      let class : class_in r s f x ≡ IoWindow = same_class_is IoWindow (class_in r s f x) is in
+      let space : space_of f x ≡ Io = sym (space_of_class r s f x) ∙ ap window_space class in
+      ap (same_class IoWindow) (of_io t f x space)
+
+  class_same : (f : Function) (x : Part) → same_class IoWindow (class_in p s f x) ≡ same_class IoWindow (class_in q s f x)
+  class_same f x = elim (cases_Bool (same_class IoWindow (class_in q s f x))) [
+    | inl is ↦ io_or_not q p f x is ∙ sym is
+    | inr off ↦ elim (cases_Bool (same_class IoWindow (class_in p s f x))) [
+      | inl is ↦ absurd (let other = io_or_not p q f x is in let no : ⊥ = cc in no)
+      | inr out ↦ out ∙ sym off
+    ]
+  ]
+
+  own_same : (r : Region) → is_own p s IoWindow r ≡ is_own q s IoWindow r
+  own_same r = ap (λ b. not (is_window r.part) && b) (class_same r.function r.part)
+
+  own_space : (r : Region) → is_own q s IoWindow r ≡ true → region_space r ≡ Io
+  own_space r is =
+      let class : class_in q s r.function r.part ≡ IoWindow = same_class_is IoWindow (class_in q s r.function r.part) (and_parts (not (is_window r.part)) (same_class IoWindow (class_in q s r.function r.part)) is).1 in
+      sym (space_of_class q s r.function r.part) ∙ ap window_space class
+
+  has_same : (b : Function) → has_of p s IoWindow b ≡ has_of q s IoWindow b
+  has_same b = λ i. list_any (λ f. is_behind b f.slot.bus && list_any (λ r. own_same r i) (parts_same f i)) s
+
+  -- ---- the items of a bus
+
+  module _ (keeps other : Region → Bool) (same : (r : Region) → region_space r ≡ Io → keeps r ≡ other r) where
+    moves_same : (r : Region) → (is_own p s IoWindow r && not (keeps r)) ≡ (is_own q s IoWindow r && not (other r))
+    moves_same r = ap (λ b. b && not (keeps r)) (own_same r) ∙ by_own (is_own q s IoWindow r) (keeps r) (other r) (λ is. same r (own_space r is))
+
+    taken_same : (bus : ℕ) → taken_on p s IoWindow keeps bus ≡ taken_on q s IoWindow other bus
+    taken_same bus =
+        let each = λ (r : Region). by_on (are_siblings q.roots bus r.function.slot.bus) (region_space r) (keeps r) (other r) (same r) in
+        λ i. map addresses (filter (λ r. each r i) (regions_same i))
+
+    module _ (extent outer : Function → Extent) (are : (f : Function) → extent f ≡ outer f) where
+      function_same : (f : Function) → items_of p s IoWindow keeps extent f ≡ items_of q s IoWindow other outer f
+      function_same f =
+          let window = same (window_region IoWindow f) refl in
+          λ i. map (own_item IoWindow) (filter (λ r. moves_same r i) (parts_same f i))
+          ++ (if is_bridge f && has_same f i && not (window i) then record { region = window_region IoWindow f; class = IoWindow; extent = are f i } ∷ [] else [])
+
+      items_same : (bus : ℕ) → items_on p s IoWindow keeps extent bus ≡ items_on q s IoWindow other outer bus
+      items_same bus = λ i. in_turn (flat_map (λ f. if are_siblings q.roots bus f.slot.bus then function_same f i else []) s)
+
+  window_same : (depth : ℕ) (b : Function) → window_within p s IoWindow depth b ≡ window_within q s IoWindow depth b
+  unfolding window_within
+  window_same zero b = refl
+  window_same (suc depth) b = ap (window_around IoWindow b)
+      (items_same nothing nothing (λ r io. refl) (window_within p s IoWindow depth) (window_within q s IoWindow depth) (window_same depth) (secondary b))
+
+  pub has_alone : (b : Function) → has_of p s IoWindow b ≡ has_of q s IoWindow b
+  has_alone b = has_same b
+
+  pub window_alone : (b : Function) → new_window p s IoWindow b ≡ new_window q s IoWindow b
+  window_alone b = window_same 256 b
+
+  -- ---- what stands
+
+  in_lists_same : (bus : ℕ) (r : Range) (space : Space) → space ≡ Io → is_in_lists p bus r space ≡ is_in_lists q bus r space
+  in_lists_same bus r Io io = refl
+  in_lists_same bus r Memory io = absurd (let no : ⊥ = cc in no)
+
+  module _ (test other : Region → Bool) (same : (r : Region) → region_space r ≡ Io → test r ≡ other r) where
+    over_same : (r : Range) (o : Option Function) → is_in_window test IoWindow r o ≡ is_in_window other IoWindow r o
+    over_same r None = refl
+    over_same r (Some b) = ap (λ x. is_in_window (λ t. x) IoWindow r (Some b)) (same (window_region IoWindow b) refl)
+
+    in_window_same : (r : Region) → region_space r ≡ Io → is_in_window test (class_in p s r.function r.part) (addresses r) (bridge_over s r.function.slot.bus)
+        ≡ is_in_window other (class_in q s r.function r.part) (addresses r) (bridge_over s r.function.slot.bus)
+    in_window_same r io =
+        ap (λ c. is_in_window test c (addresses r) (bridge_over s r.function.slot.bus)) (of_io p r.function r.part io)
+        ∙ over_same (addresses r) (bridge_over s r.function.slot.bus)
+        ∙ sym (ap (λ c. is_in_window other c (addresses r) (bridge_over s r.function.slot.bus)) (of_io q r.function r.part io))
+
+    in_place_same : (r : Region) → region_space r ≡ Io → is_in_place p s test r ≡ is_in_place q s other r
+    in_place_same r io =
+        let lists = in_lists_same r.function.slot.bus (addresses r) (region_space r) io in
+        let window = in_window_same r io in
+        λ i. if is_root q.roots r.function.slot.bus then lists i else window i
+
+    apart_same : (r : Region) → region_space r ≡ Io → (t : Region) → not (takes_from p t r && test t) ≡ not (takes_from q t r && other t)
+    apart_same r io t = by_taken (takes_from q t r) (test t) (other t) (λ takes.
+        let both = and_parts (are_beside q t r && precedes q t r) (not (are_apart (addresses t) (addresses r))) takes in
+        let beside = and_parts (are_beside q t r) (precedes q t r) both.0 in
+        let space = and_parts (are_siblings q.roots t.function.slot.bus r.function.slot.bus) (same_space (region_space t) (region_space r)) beside.0 in
+        same t (beside_io (region_space t) (region_space r) io space.1))
+
+  stand_same : (others : ℕ) (r : Region) → region_space r ≡ Io → stands_within p s others r ≡ stands_within q s others r
+  unfolding stands_within
+  stand_same zero r io = refl
+  stand_same (suc others) r io =
+      let part = part_same r.function r.part in
+      let place = in_place_same (stands_within p s others) (stands_within q s others) (stand_same others) r io in
+      let apart = apart_same (stands_within p s others) (stands_within q s others) (stand_same others) r io in
+      λ i. not q.anew && part i && place i && list_all (λ t. apart t i) (regions_same i)
+
+  pub stands_alone : (r : Region) → region_space r ≡ Io → stands p s r ≡ stands q s r
+  stands_alone r io = ap (λ rs. stands_within p s (length rs) r) regions_same ∙ stand_same (length (regions q s)) r io
+
+  -- ---- what holds, and stays
+
+  places_same : (keeps other : Region → Bool) → ((r : Region) → region_space r ≡ Io → keeps r ≡ other r) → (b : Function) → has_places p s keeps b IoWindow ≡ has_places q s other b IoWindow
+  places_same keeps other same b =
+      let taken = taken_same keeps other same (secondary b) in
+      let items = items_same keeps other same (new_window p s IoWindow) (new_window q s IoWindow) (window_same 256) (secondary b) in
+      λ i. are_placed (place_all (λ x. addresses (window_region IoWindow b) ∷ []) (taken i) (items i))
+
+  room_same : (keeps other : Region → Bool) → ((r : Region) → region_space r ≡ Io → keeps r ≡ other r) → (f : Function) (x : Part) → space_of f x ≡ Io → has_room p s keeps f x ≡ has_room q s other f x
+  room_same keeps other same f (Bar n) io = refl
+  room_same keeps other same f Rom io = refl
+  room_same keeps other same f (Window IoWindow) io = places_same keeps other same f
+  room_same keeps other same f (Window MemoryWindow) io = absurd (let no : ⊥ = cc in no)
+  room_same keeps other same f (Window PrefetchWindow) io = absurd (let no : ⊥ = cc in no)
+
+  hold_same : (depth : ℕ) (r : Region) → region_space r ≡ Io → holds_within p s depth r ≡ holds_within q s depth r
+  unfolding holds_within
+  hold_same zero r io = stands_alone r io
+  hold_same (suc depth) r io =
+      let stand = stands_alone r io in
+      let room = room_same (holds_within p s depth) (holds_within q s depth) (hold_same depth) r.function r.part io in
+      λ i. stand i && room i
+
+  stay_same : (r : Region) → region_space r ≡ Io → stays p s r ≡ stays q s r
+  stay_same r io =
+      let hold = hold_same 256 r io in
+      let above : (b : Function) → holds p s (window_region (class_in p s r.function r.part) b) ≡ holds q s (window_region (class_in q s r.function r.part) b)
+      = λ b. ap (λ c. holds p s (window_region c b)) (of_io p r.function r.part io) ∙ hold_same 256 (window_region IoWindow b) refl ∙ sym (ap (λ c. holds q s (window_region c b)) (of_io q r.function r.part io)) in
+      λ i. hold i && list_all (λ b. above b i) (bridges_above s r.function.slot.bus)
+
+  -- ---- places
+
+  on_root : (bus : ℕ) (wide : Bool) (c : WindowKind) → c ≡ IoWindow
+      → (ranges_of p c bus ++ (if wide then wide_ranges p c bus else [])) ≡ (ranges_of q c bus ++ (if wide then wide_ranges q c bus else []))
+  on_root bus wide IoWindow io = refl
+  on_root bus wide MemoryWindow io = absurd (let no : ⊥ = cc in no)
+  on_root bus wide PrefetchWindow io = absurd (let no : ⊥ = cc in no)
+
+  module _ (d e : ℕ → List Placed) (same : (bus : ℕ) → d bus ≡ e bus) where
+    behind_same : (c : WindowKind) → c ≡ IoWindow → (o : Option Function) → window_ranges p s d c o ≡ window_ranges q s e c o
+    behind_same c io None = refl
+    behind_same IoWindow io (Some b) =
+        let stay = stay_same (window_region IoWindow b) refl in
+        let placed = same b.slot.bus in
+        λ i. if stay i then addresses (window_region IoWindow b) ∷ [] else placed_range (place_among (window_region IoWindow b) (placed i))
+    behind_same MemoryWindow io (Some b) = absurd (let no : ⊥ = cc in no)
+    behind_same PrefetchWindow io (Some b) = absurd (let no : ⊥ = cc in no)
+
+    ranges_same : (x : Item) → x.class ≡ IoWindow → ranges_for p s d x ≡ ranges_for q s e x
+    ranges_same x io =
+        let bus = x.region.function.slot.bus in
+        let root = on_root bus x.extent.wide x.class io in
+        let behind = behind_same x.class io (bridge_over s bus) in
+        λ i. if is_root q.roots bus then root i else behind i
+
+  place_same : (depth bus : ℕ) → placing_within p s Io depth bus ≡ placing_within q s Io depth bus
+  unfolding placing_within
+  place_same zero bus = refl
+  place_same (suc depth) bus =
+      let d = λ (over : ℕ). placed_of (placing_within p s Io depth over) in
+      let e = λ (over : ℕ). placed_of (placing_within q s Io depth over) in
+      let taken = taken_same (stays p s) (stays q s) stay_same bus in
+      let items = items_same (stays p s) (stays q s) stay_same (new_window p s IoWindow) (new_window q s IoWindow) (window_same 256) bus in
+      (λ i. place_all (ranges_for p s d) (taken i) (items i))
+      ∙ places_by (ranges_for p s d) (ranges_for q s e) (taken_at q s Io bus) (space_items q s Io bus)
+      (λ x listed. ranges_same d e (λ over. ap placed_of (place_same depth over)) x
+      (each_in q s Io bus (λ x. x.class ≡ IoWindow) (λ c of f on part is. io_class c of) (λ c of f on is. io_class c of) x listed))
+
+  pub placing_alone : (bus : ℕ) → placing_on p s Io bus ≡ placing_on q s Io bus
+  placing_alone bus = place_same 256 bus
+
+  -- ---- nothing stands in memory
+
+  memory_class : (f : Function) (x : Part) → space_of f x ≡ Memory → window_space (class_in p s f x) ≡ Memory
+  memory_class f x memory = space_of_class p s f x ∙ memory
+
+  no_list : (bus : ℕ) (r : Range) (space : Space) → space ≡ Memory → is_in_lists p bus r space ≡ false
+  no_list bus r Memory memory = refl
+  no_list bus r Io memory = absurd (let no : ⊥ = cc in no)
+
+  no_window : (test : Region → Bool) → ((r : Region) → region_space r ≡ Memory → test r ≡ false) → (c : WindowKind) → window_space c ≡ Memory → (r : Range) (o : Option Function) → is_in_window test c r o ≡ false
+  no_window test none c memory r None = refl
+  no_window test none c memory r (Some b) = and_right _ (test (window_region c b)) (none (window_region c b) memory)
+
+  none_within : (others : ℕ) (r : Region) → region_space r ≡ Memory → stands_within p s others r ≡ false
+  unfolding stands_within
+  none_within zero r memory = refl
+  none_within (suc others) r memory =
+      let lists = no_list r.function.slot.bus (addresses r) (region_space r) memory in
+      let window = no_window (stands_within p s others) (none_within others) (class_in p s r.function r.part) (memory_class r.function r.part memory) (addresses r) (bridge_over s r.function.slot.bus) in
+      let place : is_in_place p s (stands_within p s others) r ≡ false = (λ i. if is_root q.roots r.function.slot.bus then lists i else window i) ∙ both_off (is_root q.roots r.function.slot.bus) in
+      and_left _ _ (and_right _ _ place)
+    where
+      both_off : (b : Bool) → (if b then false else false) ≡ false
+      both_off true = refl
+      both_off false = refl
+
+  pub none_in_memory : (r : Region) → region_space r ≡ Memory → stands p s r ≡ false
+  none_in_memory r memory = none_within (length (regions p s)) r memory
