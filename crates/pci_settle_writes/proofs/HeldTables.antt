@@ -1,6 +1,7 @@
 -- Tables of what stands and stays: where all is placed anew nothing does, and else as they were made.
-use Rattle.std.proofs.Common.{◌≡◌, ◌<◌, Bool, List, [], map, length, false, slice_index_or, refl, sym, ◌∙◌, ap, subst}
+use Rattle.std.proofs.Common.{◌≡◌, ◌<◌, Bool, List, [], map, length, false, slice_index_or, None, refl, sym, ◌∙◌, ap, subst}
 use Rattle.std.specs.Bool.{IsTrue}
+use Rattle.std.specs.Option.{option_map}
 use Rattle.std.proofs.lemmas.List.{get_or_default}
 use Rattle.std.proofs.lemmas.Option.{slice_get_within}
 use Rattle.pci_spec.specs.Slot.{Slot}
@@ -28,7 +29,10 @@ use Rattle.pci_settled.specs.Placed.{IsLeaving, CanBeLeft}
 use Rattle.pci_settled.proofs.NothingLeft.{leaves}
 use Rattle.pci_settle_writes.specs.Requests.{IsAskedOf}
 use Rattle.pci_settle_writes.specs.Told.{IsTableOf}
-use Rattle.pci_settle_writes.specs.Endings.{AreTold}
+use Rattle.settle_spec.specs.Writes.{fixed_without}
+use Rattle.pci_settle_writes.specs.Fixed.{fixed_part}
+use Rattle.pci_settle_writes.specs.Endings.{AreFixedKept, AreTold}
+use Rattle.pci_settle_writes.proofs.Refusals.{fixed_kept}
 
 -- a table that has nothing, of a test that nothing passes
 table_of_none : (s : System) (test : Region → Bool) (table : List Kept) → ((r : Region) → test r ≡ false) → length table ≡ length s → AreNone table
@@ -51,20 +55,38 @@ table_of_staying q s table are = record {
 
 module _ (a : Admission) (l : Lists) where
   -- where all is placed anew
-  pub told_anew : (left : Left) → left.over.now ≡ [] → left.kept.now ≡ [] → (table : List Kept) → length table ≡ length (system_in a) → AreNone table
-      → (q : Request) → IsAskedOf q a.roots l → IsTrue q.anew → AreTold q a l left table table
-  told_anew left no_windows none_kept table count none q is anew = record {
-    asked = is;
-    leaving = leaves a.roots (system_in a) l left no_windows none_kept q record { rooted = is.roots_are; anew = anew; lists = is.lists_are };
-    stand = table_of_none (system_in a) (stands q (system_in a)) table (none_stands q (system_in a) anew (length (regions q (system_in a)))) count none;
-    stay = table_of_none (system_in a) (stays q (system_in a)) table (none_stays q (system_in a) anew) count none;
-  }
+  module _ (table : List Kept) (count : length table ≡ length (system_in a)) (none : AreNone table) (q : Request) (is : IsAskedOf q a.roots l) (anew : IsTrue q.anew) where
+    pub stand_anew : IsTableOf (system_in a) (stands q (system_in a)) table
+    stand_anew = table_of_none (system_in a) (stands q (system_in a)) table (none_stands q (system_in a) anew (length (regions q (system_in a)))) count none
+
+    stay_anew : IsTableOf (system_in a) (stays q (system_in a)) table
+    stay_anew = table_of_none (system_in a) (stays q (system_in a)) table (none_stays q (system_in a) anew) count none
+
+    -- the table says no to nothing that is fixed
+    pub told_anew : (left : Left) → left.over.now ≡ [] → left.kept.now ≡ [] → ((test : Region → Bool) → IsTableOf (system_in a) test table → None ≡ option_map fixed_part (fixed_without test q (system_in a)))
+        → AreTold q a l left table
+    told_anew left no_windows none_kept found = record {
+      asked = is;
+      leaving = leaves a.roots (system_in a) l left no_windows none_kept q record { rooted = is.roots_are; anew = anew; lists = is.lists_are };
+      kept = fixed_kept a q (found (stands q (system_in a)) stand_anew) (found (stays q (system_in a)) stay_anew);
+      stay = stay_anew;
+    }
 
   -- where something may stay
+  pub asked_is : (fixed : List Slot) → IsAskedOf (asked a.roots l fixed) a.roots l
+  asked_is fixed = record { roots_are = refl; lists_are = refl }
+
+  module _ (fixed : List Slot) (table : List Kept) {made : List Kept} (is : table ≡ made) where
+    pub table_stand : AreStanding (asked a.roots l fixed) (system_in a) made → IsTableOf (system_in a) (stands (asked a.roots l fixed) (system_in a)) table
+    table_stand stand = subst (IsTableOf (system_in a) (stands (asked a.roots l fixed) (system_in a))) (sym is) record { count = stand.count; each = stand.each }
+
+    pub table_stay : AreStaying (asked a.roots l fixed) (system_in a) made → IsTableOf (system_in a) (stays (asked a.roots l fixed) (system_in a)) table
+    table_stay stay = subst (IsTableOf (system_in a) (stays (asked a.roots l fixed) (system_in a))) (sym is) (table_of_staying (asked a.roots l fixed) (system_in a) made stay)
+
   module _ (fixed : List Slot) (admitted : IsAdmitted a) (records : List Record) {values : List decoded.Record} (same : map record_value records ≡ values) (has : HasRecords (system_in a) values)
-      (left : Left) (opened : (q : Request) (s : System) → AreOpenFor q s records left.over.now) (standing staying : List Kept) {stood stayed : List Kept} (stood_is : standing ≡ stood) (stayed_is : staying ≡ stayed)
-      (kept_is : left.kept.now ≡ stayed) (stand : AreStanding (asked a.roots l fixed) (system_in a) stood) (stay : AreStaying (asked a.roots l fixed) (system_in a) stayed) where
-    leaving_rest : IsLeaving (asked a.roots l fixed) a.roots (system_in a) l left
+      (left : Left) (opened : (q : Request) (s : System) → AreOpenFor q s records left.over.now) (staying : List Kept) {stayed : List Kept} (stayed_is : staying ≡ stayed)
+      (kept_is : left.kept.now ≡ stayed) (stay : AreStaying (asked a.roots l fixed) (system_in a) stayed) where
+    pub leaving_rest : IsLeaving (asked a.roots l fixed) a.roots (system_in a) l left
     leaving_rest = record {
       rooted = refl;
       lists = refl;
@@ -75,10 +97,10 @@ module _ (a : Admission) (l : Lists) where
     pub rest_can_be_left : CanBeLeft a.roots (system_in a) l left
     rest_can_be_left = record { request = asked a.roots l fixed; leaving = leaving_rest }
 
-    pub told_rest : AreTold (asked a.roots l fixed) a l left standing staying
-    told_rest = record {
-      asked = record { roots_are = refl; lists_are = refl };
+    pub told_rest : AreFixedKept (asked a.roots l fixed) (system_in a) → AreTold (asked a.roots l fixed) a l left staying
+    told_rest kept = record {
+      asked = asked_is fixed;
       leaving = leaving_rest;
-      stand = subst (IsTableOf (system_in a) (stands (asked a.roots l fixed) (system_in a))) (sym stood_is) record { count = stand.count; each = stand.each };
-      stay = subst (IsTableOf (system_in a) (stays (asked a.roots l fixed) (system_in a))) (sym stayed_is) (table_of_staying (asked a.roots l fixed) (system_in a) stayed stay);
+      kept = kept;
+      stay = table_stay fixed staying stayed_is stay;
     }

@@ -58,17 +58,16 @@ placing_step : (q : Request) (s : System) (space : Space) (bus : ℕ)
 unfolding placing_within
 placing_step q s space bus = refl
 
-first_cases : (p : Placing) (other : Option Item) (i : Item) → first_lack p other ≡ Some i → (p ≡ Lacks i) ⊎ (other ≡ Some i)
+pub first_cases : (p : Placing) (other : Option Item) (i : Item) → first_lack p other ≡ Some i → (p ≡ Lacks i) ⊎ (other ≡ Some i)
 first_cases (AllPlaced placed) other i e = inr e
 first_cases (Lacks j) other i e = inl cc
 
 module _ (q : Request) (s : System) where
+  pub space_has : (space : Space) (bus : ℕ) (i : Item) → placing_on q s space bus ≡ Lacks i → Contains (space_items q s space bus) i
+  space_has space bus i e = lacks_in (ranges_for q s (λ over. placed_of (placing_within q s space 255 over))) (taken_at q s space bus) (space_items q s space bus) i (sym (placing_step q s space bus) ∙ e)
+
   on_bus : (space : Space) (bus : ℕ) (i : Item) → placing_on q s space bus ≡ Lacks i → IsItem q s i
-  on_bus space bus i e = record {
-    space = space;
-    bus = bus;
-    has = lacks_in (ranges_for q s (λ over. placed_of (placing_within q s space 255 over))) (taken_at q s space bus) (space_items q s space bus) i (sym (placing_step q s space bus) ∙ e);
-  }
+  on_bus space bus i e = record { space = space; bus = bus; has = space_has space bus i e }
 
   on_roots : (roots : List ℕ) (i : Item) → lacking_on q s roots ≡ Some i → IsItem q s i
   on_roots [] i e = absurd (let no : ⊥ = cc in no)

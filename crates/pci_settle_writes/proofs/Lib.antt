@@ -5,9 +5,10 @@ pub mod States
 pub mod Closings
 pub mod SettledDumps
 pub mod Lacking
+pub mod IoFirst
 pub mod Endings
-pub mod HeldTables
 pub mod Refusals
+pub mod HeldTables
 pub mod Firsts
 pub mod FixedParts
 pub mod FixedFunctions

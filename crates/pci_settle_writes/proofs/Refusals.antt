@@ -1,19 +1,20 @@
 -- What lacks a place is named, and settling ends so.
-use Rattle.std.proofs.Common.{◌≡◌, ℕ, List, Option, None, Some, false, refl, sym, ◌∙◌, ap, subst}
+use Rattle.std.proofs.Common.{◌≡◌, ℕ, inl, inr, List, [], ◌∷◌, ◌&&◌, Bool, cond, not, Option, None, Some, false, refl, sym, ◌∙◌, ap, subst}
 use Rattle.std.specs.Option.{option_map}
+use Rattle.std.specs.List.{find, list_any}
 use Rattle.std.proofs.lemmas.Bool.{false≢true}
 use Rattle.std.proofs.lemmas.Option.{none-some, same_Some}
 use Rattle.pci_spec.specs.Machine.{Write}
-use Rattle.pci_spec.specs.System.{System, IsSystem, Memory, window_space}
+use Rattle.pci_spec.specs.Slot.{same_slot}
+use Rattle.pci_spec.specs.System.{System, IsSystem, Io, Memory, window_space}
 use Rattle.settle_spec.specs.Lists.{Lists, Request, are_bad_lists}
-use Rattle.settle_spec.specs.Parts.{Region}
-use Rattle.settle_spec.specs.Stands.{stands}
+use Rattle.settle_spec.specs.Parts.{Region, regions}
+use Rattle.settle_spec.specs.Stands.{is_fixed, stands}
 use Rattle.settle_spec.specs.Items.{stays}
 use Rattle.settle_spec.specs.Places.{lacking}
 use Rattle.settle_spec.specs.Writes.{Settled, or_lack, fixed_without, fixed_write, settle_writes}
 use Rattle.pci_base.specs.declared.memory.Refused.{Refused}
 use Rattle.pci_base.specs.declared.memory.Refused.TheVariants as refused
-use Rattle.pci_base.specs.declared.window_kind.WindowKind.{WindowKind as Class}
 use Rattle.pci_base.specs.WindowKinds.{kind_value}
 use Rattle.pci_tree.specs.Admission.{Admission}
 use Rattle.pci_place.specs.Above.{system_in}
@@ -21,12 +22,14 @@ use Rattle.pci_settle.specs.declared.over.Left.{Left}
 use Rattle.pci_settle.specs.NewWindows.{IsTooLarge}
 use Rattle.pci_settled.specs.declared.anew.Unplaced.{Unplaced}
 use Rattle.pci_settled.specs.declared.anew.Unplaced.TheVariants as unplaced
+use Rattle.pci_settled.specs.Spaces.{space_lack}
 use Rattle.pci_settled.specs.Placed.{CanBeLeft, IsUnplacedOff}
+use Rattle.pci_stay.specs.declared.windows.TooLarge.{TooLarge}
 use Rattle.pci_settle_writes.specs.declared.lack.SettleFault.{SettleFault}
 use Rattle.pci_settle_writes.specs.declared.lack.SettleFault.TheVariants as fault
-use Rattle.pci_settle_writes.specs.Lacks.{IsNamed, IsFaultOf}
+use Rattle.pci_settle_writes.specs.Lacks.{IsNamed, IsFaultOf, too_large}
 use Rattle.pci_settle_writes.specs.Fixed.{fixed_part, fixed_register}
-use Rattle.pci_settle_writes.specs.Endings.{then_writes, after_lists, IsTooLargeAsked, IsLack, IsLackOff, IsEndedBy, IsRefusal, IsSized}
+use Rattle.pci_settle_writes.specs.Endings.{then_writes, after_lists, AreFixedKept, IsTooLargeAsked, IsLack, IsLackOff, IsEndedBy, IsRefusal, IsSized}
 use Rattle.pci_settle_writes.proofs.Lacking.{lack_named}
 use Rattle.pci_settle_writes.proofs.Endings.{ends_fine, ends_unstanding, ends_unstaying, ends_written, ends_settled, past_fixed}
 
@@ -40,6 +43,10 @@ pub none_found : {X Z : Type 0} (f : X → Z) (o : Option X) → None ≡ option
 none_found f None e = refl
 none_found f (Some x) e = absurd (none-some (f x) e)
 
+none_in : {X : Type 0} (p : X → Bool) → ((x : X) → p x ≡ false) → (xs : List X) → find p xs ≡ None
+none_in p none [] = refl
+none_in p none (x ∷ xs) = ap (λ b. cond b (Some x) (find p xs)) (none x) ∙ none_in p none xs
+
 module _ (a : Admission) (l : Lists) (left : Left) where
   pub lack_of_fault : (u : Unplaced) (f : SettleFault) → IsUnplacedOff a.roots (system_in a) l left (refused.Fault u) → IsFaultOf (system_in a) u f
       → IsLackOff a l left (refused.Fault f)
@@ -52,35 +59,63 @@ module _ (a : Admission) (l : Lists) (left : Left) where
   lack_of_fault (unplaced.TooLarge class k) fault.BadLists is of = absurd of
   lack_of_fault (unplaced.TooLarge class k) (fault.Assumed slot reg) is of = absurd of
   lack_of_fault (unplaced.TooLarge class k) (fault.NoRoom lack) is of = absurd of
-  lack_of_fault (unplaced.TooLarge class k) (fault.TooLarge name slot) is of = λ q leaving. record {
-    function = k;
-    is = of.1;
-    large = subst (λ c. IsTooLarge q (system_in a) (kind_value c) k) (sym of.0) (is q leaving).large;
-    io = λ anew memory. (is q leaving).io (subst (λ c. window_space (kind_value c) ≡ Memory) of.0 memory);
-  }
+  lack_of_fault (unplaced.TooLarge class k) (fault.TooLarge name slot) is of = λ q leaving. (
+    record {
+      function = k;
+      is = of.1;
+      large = subst (λ c. IsTooLarge q (system_in a) (kind_value c) k) (sym of.0) (is q leaving).large;
+    },
+    λ memory. (is q leaving).io (subst (λ c. window_space (kind_value c) ≡ Memory) of.0 memory),
+  )
 
 module _ (a : Admission) (q : Request) where
-  -- a bridge whose new window is too large, where something may stay
-  pub asked_too_large : (class : Class) (k : ℕ) (f : SettleFault) → q.anew ≡ false → IsTooLarge q (system_in a) (kind_value class) k
-      → IsFaultOf (system_in a) (unplaced.TooLarge class k) f → IsTooLargeAsked a q (refused.Fault f)
-  asked_too_large class k fault.BadLists stands large of = absurd of
-  asked_too_large class k (fault.Assumed slot reg) stands large of = absurd of
-  asked_too_large class k (fault.NoRoom lack) stands large of = absurd of
-  asked_too_large class k (fault.Fixed slot reg) stands large of = absurd of
-  asked_too_large class k (fault.TooLarge name slot) stands large of = record {
-    function = k;
-    is = of.1;
-    large = subst (λ c. IsTooLarge q (system_in a) (kind_value c) k) (sym of.0) large;
-    io = λ anew. absurd (false≢true (sym stands ∙ anew));
-  }
+  -- where nothing is fixed, each fixed part stays
+  no_fixed : (test : Region → Bool) → q.fixed ≡ [] → fixed_without test q (system_in a) ≡ None
+  no_fixed test none = none_in (λ r. is_fixed q r && not (test r)) (λ r. ap (λ slots. list_any (same_slot r.function.slot) slots && not (test r)) none) (regions q (system_in a))
 
-  pub ended_too_large : (e : Refused SettleFault) → IsTooLargeAsked a q e → IsEndedBy a q e
-  ended_too_large refused.Memory is = tt
-  ended_too_large (refused.Fault fault.BadLists) is = absurd is
-  ended_too_large (refused.Fault (fault.Assumed slot reg)) is = absurd is
-  ended_too_large (refused.Fault (fault.NoRoom lack)) is = absurd is
-  ended_too_large (refused.Fault (fault.TooLarge class slot)) is = is
-  ended_too_large (refused.Fault (fault.Fixed slot reg)) is = absurd is
+  -- a bridge whose new window is too large, and nothing is fixed only where nothing lacks a place in I/O
+  pub asked_too_large : (w : TooLarge) (f : SettleFault) → IsTooLarge q (system_in a) (kind_value w.class) w.function
+      → IsFaultOf (system_in a) (too_large w) f → (q.fixed ≡ [] → space_lack q (system_in a) Io q.roots ≡ None) → IsTooLargeAsked a q (refused.Fault f)
+  asked_too_large w fault.BadLists large of room = absurd of
+  asked_too_large w (fault.Assumed slot reg) large of room = absurd of
+  asked_too_large w (fault.NoRoom lack) large of room = absurd of
+  asked_too_large w (fault.Fixed slot reg) large of room = absurd of
+  asked_too_large w (fault.TooLarge name slot) large of room = (
+    record {
+      function = w.function;
+      is = of.1;
+      large = subst (λ c. IsTooLarge q (system_in a) (kind_value c) w.function) (sym of.0) large;
+    },
+    λ none memory. room none,
+  )
+
+  -- where nothing is fixed, what lacks a place in I/O is named
+  pub asked_io : q.fixed ≡ [] → (e : Refused SettleFault) → IsLack a q e → IsTooLargeAsked a q e
+  asked_io none refused.Memory is = tt
+  asked_io none (refused.Fault fault.BadLists) is = absurd is
+  asked_io none (refused.Fault (fault.Assumed slot reg)) is = absurd is
+  asked_io none (refused.Fault (fault.NoRoom lack)) is = (none, is)
+  asked_io none (refused.Fault (fault.TooLarge class slot)) is = (is.0, λ fixed. is.1)
+  asked_io none (refused.Fault (fault.Fixed slot reg)) is = absurd is
+
+  -- the same, where something may stay and each fixed part stands
+  pub ended_too_large : q.anew ≡ false → None ≡ option_map fixed_part (fixed_without (stands q (system_in a)) q (system_in a)) → (e : Refused SettleFault) → IsTooLargeAsked a q e → IsEndedBy a q e
+  ended_too_large left stand refused.Memory is = tt
+  ended_too_large left stand (refused.Fault fault.BadLists) is = absurd is
+  ended_too_large left stand (refused.Fault (fault.Assumed slot reg)) is = absurd is
+  ended_too_large left stand (refused.Fault (fault.NoRoom lack)) is =
+      past_fixed q (system_in a) (none_found fixed_part (fixed_without (stands q (system_in a)) q (system_in a)) stand) (no_fixed (stays q (system_in a)) is.0)
+      ∙ is.1 (then_writes q (settle_writes q (system_in a)))
+  ended_too_large left stand (refused.Fault (fault.TooLarge class slot)) is = record {
+    at = is.0;
+    stand = none_found fixed_part (fixed_without (stands q (system_in a)) q (system_in a)) stand;
+    stay = λ anew. absurd (false≢true (sym left ∙ anew));
+    io = λ either. elim either [
+      | inl anew ↦ absurd (false≢true (sym left ∙ anew))
+      | inr none ↦ is.1 none
+    ];
+  }
+  ended_too_large left stand (refused.Fault (fault.Fixed slot reg)) is = absurd is
 
   -- something fixed is in the way
   ended_fixed : (f : SettleFault) (r : Region) → Some f ≡ Some (fixed_part r) → IsEndedBy a q (refused.Fault (fixed_part r)) → IsEndedBy a q (refused.Fault f)
@@ -101,33 +136,35 @@ module _ (a : Admission) (q : Request) where
     pub unstaying : (f : SettleFault) → Some f ≡ option_map fixed_part (fixed_without (stays q (system_in a)) q (system_in a)) → IsEndedBy a q (refused.Fault f)
     unstaying f e = unstaying_by f (fixed_without (stays q (system_in a)) q (system_in a)) refl e
 
-    module _ (stay : None ≡ option_map fixed_part (fixed_without (stays q (system_in a)) q (system_in a))) where
-      stand_none : fixed_without (stands q (system_in a)) q (system_in a) ≡ None
-      stand_none = none_found fixed_part (fixed_without (stands q (system_in a)) q (system_in a)) stand
+    pub fixed_kept : None ≡ option_map fixed_part (fixed_without (stays q (system_in a)) q (system_in a)) → AreFixedKept q (system_in a)
+    fixed_kept stay = record {
+      stand = none_found fixed_part (fixed_without (stands q (system_in a)) q (system_in a)) stand;
+      stay = none_found fixed_part (fixed_without (stays q (system_in a)) q (system_in a)) stay;
+    }
 
-      stay_none : fixed_without (stays q (system_in a)) q (system_in a) ≡ None
-      stay_none = none_found fixed_part (fixed_without (stays q (system_in a)) q (system_in a)) stay
+  -- nothing fixed is
+  module _ (kept : AreFixedKept q (system_in a)) where
+    pub ended_of_lack : (e : Refused SettleFault) → IsLack a q e → IsEndedBy a q e
+    ended_of_lack refused.Memory is = tt
+    ended_of_lack (refused.Fault fault.BadLists) is = absurd is
+    ended_of_lack (refused.Fault (fault.Assumed slot reg)) is = absurd is
+    ended_of_lack (refused.Fault (fault.NoRoom lack)) is =
+        past_fixed q (system_in a) kept.stand kept.stay ∙ is (then_writes q (settle_writes q (system_in a)))
+    ended_of_lack (refused.Fault (fault.TooLarge class slot)) is =
+        record { at = is.0; stand = kept.stand; stay = λ anew. kept.stay; io = λ either. is.1 }
+    ended_of_lack (refused.Fault (fault.Fixed slot reg)) is = absurd is
 
-      pub ended_of_lack : (e : Refused SettleFault) → IsLack a q e → IsEndedBy a q e
-      ended_of_lack refused.Memory is = tt
-      ended_of_lack (refused.Fault fault.BadLists) is = absurd is
-      ended_of_lack (refused.Fault (fault.Assumed slot reg)) is = absurd is
-      ended_of_lack (refused.Fault (fault.NoRoom lack)) is =
-          past_fixed q (system_in a) stand_none stay_none ∙ is (then_writes q (settle_writes q (system_in a)))
-      ended_of_lack (refused.Fault (fault.TooLarge class slot)) is = is
-      ended_of_lack (refused.Fault (fault.Fixed slot reg)) is = absurd is
+    module _ (room : lacking q (system_in a) ≡ None) (writes : List Write) (are : writes ≡ settle_writes q (system_in a)) where
+      written_by : (f : SettleFault) (o : Option Write) → fixed_write q writes ≡ o → Some f ≡ option_map fixed_register o → IsEndedBy a q (refused.Fault f)
+      written_by f None at e = absurd (none-some f (sym e))
+      written_by f (Some w) at e = subst (λ x. IsEndedBy a q (refused.Fault x)) (sym (same_Some f (fixed_register w) e))
+          (ends_written q (system_in a) kept.stand kept.stay room writes are w at)
 
-      module _ (room : lacking q (system_in a) ≡ None) (writes : List Write) (are : writes ≡ settle_writes q (system_in a)) where
-        written_by : (f : SettleFault) (o : Option Write) → fixed_write q writes ≡ o → Some f ≡ option_map fixed_register o → IsEndedBy a q (refused.Fault f)
-        written_by f None at e = absurd (none-some f (sym e))
-        written_by f (Some w) at e = subst (λ x. IsEndedBy a q (refused.Fault x)) (sym (same_Some f (fixed_register w) e))
-            (ends_written q (system_in a) stand_none stay_none room writes are w at)
+      pub written : (f : SettleFault) → Some f ≡ option_map fixed_register (fixed_write q writes) → IsEndedBy a q (refused.Fault f)
+      written f e = written_by f (fixed_write q writes) refl e
 
-        pub written : (f : SettleFault) → Some f ≡ option_map fixed_register (fixed_write q writes) → IsEndedBy a q (refused.Fault f)
-        written f e = written_by f (fixed_write q writes) refl e
-
-        pub ended_settled : None ≡ option_map fixed_register (fixed_write q writes) → after_lists q (system_in a) ≡ Settled writes
-        ended_settled none = ends_settled q (system_in a) stand_none stay_none room writes are (none_found fixed_register (fixed_write q writes) none)
+      pub ended_settled : None ≡ option_map fixed_register (fixed_write q writes) → after_lists q (system_in a) ≡ Settled writes
+      ended_settled none = ends_settled q (system_in a) kept.stand kept.stay room writes are (none_found fixed_register (fixed_write q writes) none)
 
   -- where the lists are fine, and no read back is assumed
   pub refusal_of_ended : are_bad_lists q.roots q.lists ≡ false → IsSized a → (e : Refused SettleFault) → IsEndedBy a q e → IsRefusal a q e

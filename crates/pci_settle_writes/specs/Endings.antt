@@ -1,10 +1,10 @@
 -- How settling ends once its lists are fine, and why nothing is settled.
-use Rattle.std.specs.Prelude.{◌≡◌, ℕ, IsTrue, IsFalse, List, None, Some, ⊤}
+use Rattle.std.specs.Prelude.{◌≡◌, ℕ, ◌⊎◌, IsTrue, IsFalse, List, [], None, Some, ⊤}
 use Rattle.std.specs.Option.{option_map}
 use Rattle.pci_spec.specs.Mark.{all_named}
 use Rattle.pci_spec.specs.Slot.{Slot}
 use Rattle.pci_spec.specs.Text.{Block}
-use Rattle.pci_spec.specs.Window.{WindowKind}
+use Rattle.pci_spec.specs.Window.{WindowKind, IoWindow}
 use Rattle.pci_spec.specs.System.{System, Io, Memory, window_space}
 use Rattle.pci_spec.specs.Machine.{Write}
 use Rattle.settle_spec.specs.Lists.{Lists, Request, are_bad_lists}
@@ -44,13 +44,28 @@ after_lists q s =
     or_fixed (fixed_without (stands q s) q s) (or_fixed (fixed_without (stays q s) q s)
     (or_lack (lacking q s) (then_writes q (settle_writes q s))))
 
--- the function at a slot has a new window of a class with 2^64 addresses or more; where all is placed anew, and it is one of
--- memory, nothing lacks a place in I/O
-pub record IsTooLargeAt (a : Admission) (q : Request) (c : WindowKind) (slot : Slot) : Type 0 where
+-- each fixed part stands and stays
+pub record AreFixedKept (q : Request) (s : System) : Type 0 where
+  pub stand : fixed_without (stands q s) q s ≡ None
+  pub stay : fixed_without (stays q s) q s ≡ None
+
+-- the function at a slot has a new window of a class with 2^64 addresses or more
+pub record IsLargeAt (a : Admission) (q : Request) (c : WindowKind) (slot : Slot) : Type 0 where
   pub function : ℕ
   pub is : slot ≡ (function_in (system_in a) function).slot
   pub large : IsTooLarge q (system_in a) c function
-  pub io : IsTrue q.anew → window_space c ≡ Memory → space_lack q (system_in a) Io q.roots ≡ None
+
+-- where a window is one of memory, nothing lacks a place in I/O
+abbrev pub IsAfterIo : Request → System → WindowKind → Type 0
+IsAfterIo q s c = window_space c ≡ Memory → space_lack q s Io q.roots ≡ None
+
+-- the function at a slot has such a window, and each fixed part stands; where all is placed anew, each fixed part stays too;
+-- and where the window is one of memory, and all is placed anew or nothing is fixed, nothing lacks a place in I/O
+pub record IsTooLargeAt (a : Admission) (q : Request) (c : WindowKind) (slot : Slot) : Type 0 where
+  pub at : IsLargeAt a q c slot
+  pub stand : fixed_without (stands q (system_in a)) q (system_in a) ≡ None
+  pub stay : IsTrue q.anew → fixed_without (stays q (system_in a)) q (system_in a) ≡ None
+  pub io : IsTrue q.anew ⊎ (q.fixed ≡ []) → IsAfterIo q (system_in a) c
 
 -- something has no place
 abbrev pub IsLack : Admission → Request → Refused SettleFault → Type 0
@@ -59,31 +74,46 @@ IsLack a q (refused.Fault fault.BadLists) = ⊥
 IsLack a q (refused.Fault (fault.Assumed slot reg)) = ⊥
 IsLack a q (refused.Fault (fault.NoRoom lack)) =
     (other : Settling) → or_lack (lacking q (system_in a)) other ≡ no_room lack
-IsLack a q (refused.Fault (fault.TooLarge class slot)) = IsTooLargeAt a q (kind_value class) slot
+IsLack a q (refused.Fault (fault.TooLarge class slot)) =
+    IsLargeAt a q (kind_value class) slot × IsAfterIo q (system_in a) (kind_value class)
 IsLack a q (refused.Fault (fault.Fixed slot reg)) = ⊥
 
--- a new window is too large, or there was no memory
+-- a new window of I/O is too large, or there was no memory
+abbrev pub IsLargeInIo : Admission → Request → Refused SettleFault → Type 0
+IsLargeInIo a q refused.Memory = ⊤
+IsLargeInIo a q (refused.Fault fault.BadLists) = ⊥
+IsLargeInIo a q (refused.Fault (fault.Assumed slot reg)) = ⊥
+IsLargeInIo a q (refused.Fault (fault.NoRoom lack)) = ⊥
+IsLargeInIo a q (refused.Fault (fault.TooLarge class slot)) =
+    (kind_value class ≡ IoWindow) × IsLargeAt a q IoWindow slot
+IsLargeInIo a q (refused.Fault (fault.Fixed slot reg)) = ⊥
+
+-- a new window is too large; where nothing is fixed, what has no place in I/O is named before one of memory; or there was no
+-- memory
 abbrev pub IsTooLargeAsked : Admission → Request → Refused SettleFault → Type 0
 IsTooLargeAsked a q refused.Memory = ⊤
 IsTooLargeAsked a q (refused.Fault fault.BadLists) = ⊥
 IsTooLargeAsked a q (refused.Fault (fault.Assumed slot reg)) = ⊥
-IsTooLargeAsked a q (refused.Fault (fault.NoRoom lack)) = ⊥
+IsTooLargeAsked a q (refused.Fault (fault.NoRoom lack)) =
+    (q.fixed ≡ [])
+    × ((other : Settling) → or_lack (lacking q (system_in a)) other ≡ no_room lack)
 IsTooLargeAsked a q (refused.Fault (fault.TooLarge class slot)) =
-    IsTooLargeAt a q (kind_value class) slot
+    IsLargeAt a q (kind_value class) slot
+    × (q.fixed ≡ [] → IsAfterIo q (system_in a) (kind_value class))
 IsTooLargeAsked a q (refused.Fault (fault.Fixed slot reg)) = ⊥
 
 -- something has no place of whatever leaves these windows and parts where they stand
 abbrev pub IsLackOff : Admission → Lists → Left → Refused SettleFault → Type 0
 IsLackOff a l left e = (q : Request) → IsLeaving q a.roots (system_in a) l left → IsLack a q e
 
--- ---- with tables of what stands and stays
+-- ---- with a table of what stays
 
--- they are those of what is asked for
+-- it is that of what is asked for, and nothing fixed is in the way
 pub record AreTold (q : Request) (a : Admission) (l : Lists) (left : Left)
-    (standing staying : List Kept) : Type 0 where
+    (staying : List Kept) : Type 0 where
   pub asked : IsAskedOf q a.roots l
   pub leaving : IsLeaving q a.roots (system_in a) l left
-  pub stand : IsTableOf (system_in a) (stands q (system_in a)) standing
+  pub kept : AreFixedKept q (system_in a)
   pub stay : IsTableOf (system_in a) (stays q (system_in a)) staying
 
 -- it ends with the writes to the dump, and nothing lacks a place

@@ -5,6 +5,7 @@ use Rattle.pci_spec.specs.Header.{bar_register, rom_place}
 use Rattle.pci_spec.specs.Window.{WindowKind, window_register}
 use Rattle.pci_spec.specs.System.{System}
 use Rattle.settle_spec.specs.Writes.{Settling, NoRoom, or_lack}
+use Rattle.pci_base.specs.declared.window_kind.WindowKind.{WindowKind as CodeKind}
 use Rattle.pci_base.specs.WindowKinds.{kind_value}
 use Rattle.pci_function.specs.declared.record.Record.{Record}
 use Rattle.pci_place.specs.Items.{function_in}
@@ -15,6 +16,7 @@ use Rattle.pci_settled.specs.declared.anew.Unplaced.{Unplaced}
 use Rattle.pci_settled.specs.declared.anew.Unplaced.TheVariants as unplaced
 use Rattle.pci_settled.specs.Candidates.{candidate_value}
 use Rattle.pci_settled.specs.Places.{IsPart}
+use Rattle.pci_stay.specs.declared.windows.TooLarge.{TooLarge}
 use Rattle.pci_settle_writes.specs.declared.lack.Lack.{Lack}
 use Rattle.pci_settle_writes.specs.declared.lack.SettleFault.{SettleFault}
 use Rattle.pci_settle_writes.specs.declared.lack.SettleFault.TheVariants as fault
@@ -44,6 +46,15 @@ lack_by r x = record {
 abbrev pub IsNamed : System → Unplaced → Type 0
 IsNamed s (unplaced.Lacks x) = (x.item.function < length s) × IsPart x.item.part
 IsNamed s (unplaced.TooLarge class k) = k < length s
+
+-- the class of what can't be placed
+abbrev pub unplaced_class : Unplaced → CodeKind
+unplaced_class (unplaced.Lacks x) = x.class
+unplaced_class (unplaced.TooLarge class k) = class
+
+-- a bridge whose new window is too large
+abbrev pub too_large : TooLarge → Unplaced
+too_large w = unplaced.TooLarge w.class w.function
 
 -- as settling ends where this has no place
 abbrev pub no_room : Lack → Settling

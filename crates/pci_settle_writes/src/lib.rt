@@ -4,6 +4,7 @@
 pub mod assumed;
 pub mod dump;
 pub mod fixed;
+pub mod io;
 pub mod lack;
 pub mod settle;
 pub mod shut;

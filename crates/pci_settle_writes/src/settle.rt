@@ -23,6 +23,7 @@ ghost use Rattle.pci_settle_writes.specs.Endings.{IsLackOff, IsTooLargeAsked, Ar
 use crate::assumed::first_assumed;
 use crate::dump::settled_dump;
 use crate::fixed::{fixed_without, fixed_write};
+use crate::io::{fault_of_window, place_io_unfixed};
 use crate::lack::{SettleFault, fault_of};
 use crate::writes::{Writes, writes_to};
 use pci_base::memory::{OutOfMemory, Refused};
@@ -32,7 +33,6 @@ use pci_dump::dump::Dump;
 use pci_settle::kept::{Kept, nothing_kept};
 use pci_settle::list::Lists;
 use pci_settle::over::Left;
-use pci_settled::anew::Unplaced;
 use pci_settled::place::place;
 use pci_settled::places::Places;
 use pci_stand::fixed::flags_of;
@@ -100,37 +100,29 @@ pub fn settled_at<A: Allocator + Copy, B: Allocator>(
     Ok(Settled { dump, writes })
 }
 
-/// Settles once it is known what stands and what stays, by function in slot order, where nothing fixed is in the way.
+/// Settles once it is known what stays, by function in slot order, where each fixed part stands and stays.
 fn settle_held<A: Allocator + Copy, B: Allocator>(
     alloc: A,
     admitted: &Admitted<B>,
     lists: &Lists,
     fixed: &[bool],
     left: &Left,
-    standing: &[Kept],
     staying: &[Kept],
 ) -> Result<Settled<A>, Refused<SettleFault>>
     requires flags { length fixed.now ≡ 65536 }
-    requires standing { length standing.now ≡ length (system_in admitted.now) }
     requires staying { length staying.now ≡ length (system_in admitted.now) }
     requires left { CanBeLeft admitted.now.roots (system_in admitted.now) (lists_value lists.now) left.now }
     ensures titles { IfOk result
         (λ x. map (λ b. b.title) x.dump ≡ map (λ b. b.title) admitted.now.dump) }
     ensures ends { IfOk result (λ x. (q : Request)
         → AreFlags q.fixed fixed.now
-        → AreTold q admitted.now (lists_value lists.now) left.now standing.now staying.now
+        → AreTold q admitted.now (lists_value lists.now) left.now staying.now
         → IsEnded q admitted.now x.dump (map write_value x.writes.all.items) x.writes.closings) }
     ensures refusal { IfErr result (λ e. (q : Request)
         → AreFlags q.fixed fixed.now
-        → AreTold q admitted.now (lists_value lists.now) left.now standing.now staying.now
+        → AreTold q admitted.now (lists_value lists.now) left.now staying.now
         → IsEndedBy admitted.now q e) }
 {
-    if let Some(fault) = fixed_without(admitted, lists, fixed, standing) {
-        return Err(Refused::Fault(fault));
-    }
-    if let Some(fault) = fixed_without(admitted, lists, fixed, staying) {
-        return Err(Refused::Fault(fault));
-    }
     let table = places(alloc, admitted, lists, left)?;
     let settled = settled_at(alloc, admitted, lists, table.as_slice(), staying)?;
     if let Some(fault) = fixed_write(fixed, settled.writes.all.as_slice()) {
@@ -160,14 +152,19 @@ fn settle_all<A: Allocator + Copy, B: Allocator>(
     let outline = admitted.outline();
     let none = nothing_kept(alloc, outline.records().len())?;
     let kept = none.as_slice();
+    // what doesn't stand doesn't stay
+    if let Some(fault) = fixed_without(admitted, lists, fixed, kept) {
+        return Err(Refused::Fault(fault));
+    }
     let left = Left {
         over: &[],
         kept: &[],
     };
-    settle_held(alloc, admitted, lists, fixed, &left, kept, kept)
+    settle_held(alloc, admitted, lists, fixed, &left, kept)
 }
 
-/// Which parts stay, or the bridge whose new window would be too large.
+/// Which parts stay, or the bridge whose new window would be too large. Where nothing is fixed, what has no place in I/O is
+/// named before such a bridge.
 fn staying_parts<A: Allocator + Copy, B: Allocator>(
     alloc: A,
     admitted: &Admitted<B>,
@@ -184,11 +181,8 @@ fn staying_parts<A: Allocator + Copy, B: Allocator>(
         Ok(table) => Ok(table),
         Err(Refused::Memory) => Err(Refused::Memory),
         Err(Refused::Fault(window)) => {
-            let unplaced = Unplaced::TooLarge {
-                class: window.class,
-                function: window.function,
-            };
-            Err(Refused::Fault(fault_of(admitted, unplaced)))
+            place_io_unfixed(alloc, admitted, lists, fixed)?;
+            Err(Refused::Fault(fault_of_window(admitted, window)))
         }
     }
 }
@@ -213,20 +207,19 @@ fn settle_rest<A: Allocator + Copy, B: Allocator>(
     let outline = admitted.outline();
     let over = open_windows(outline.records());
     let stand = standing(alloc, admitted, lists, fixed)?;
-    let stay = staying_parts(alloc, admitted, lists, fixed)?;
+    if let Some(fault) = fixed_without(admitted, lists, flags, stand.as_slice()) {
+        return Err(Refused::Fault(fault));
+    }
+    let table = staying_parts(alloc, admitted, lists, fixed)?;
+    let stay = table.as_slice();
+    if let Some(fault) = fixed_without(admitted, lists, flags, stay) {
+        return Err(Refused::Fault(fault));
+    }
     let left = Left {
         over: &over,
-        kept: stay.as_slice(),
+        kept: stay,
     };
-    settle_held(
-        alloc,
-        admitted,
-        lists,
-        flags,
-        &left,
-        stand.as_slice(),
-        stay.as_slice(),
-    )
+    settle_held(alloc, admitted, lists, flags, &left, stay)
 }
 
 /// Settles in lists that are fine.
@@ -273,11 +266,14 @@ fn end_in_64_bits(list: &[RootRange])
 /// placed in the lists. Answers the dump that shows the places and the writes that lead there. That dump is sound, and so is
 /// what stands after the first writes, once all that close are made, and from a sound start at any time.
 ///
-/// Errors: 70 `BadLists` where the lists are refused; else 76 `Assumed` with the first BAR, or ROM that is on, whose read back
-/// is assumed, as the titles of the probe tell; 74 `Fixed` with the first part of a function of `fixed` that
-/// doesn't stand, or doesn't stay; 72 `NoRoom` with the first part on the roots that has no place; 74 `Fixed` with the first
-/// write to a function of `fixed`; 72 `TooLarge` where a new window would have 2^64 addresses or more; 2 `Memory` where a
-/// growth was refused.
+/// Errors, the first of these that is there: 70 `BadLists` where the lists are refused; 76 `Assumed` with the first BAR, or
+/// ROM that is on, whose read back is assumed, as the titles of the probe tell; 74 `Fixed` with the first part of a function of
+/// `fixed` that doesn't stand; 74 `Fixed` with the first that doesn't stay; 72 `NoRoom` with the first part on the roots that
+/// has no place in I/O; 72 `TooLarge` where a new window would have 2^64 addresses or more; 72 `NoRoom` with the first part
+/// that has no place in memory; 74 `Fixed` with the first write to a function of `fixed`. 2 `Memory` where a growth was refused.
+///
+/// Where a function is fixed and not all is placed anew, 72 `TooLarge` comes right after 74 of what doesn't stand: beside a
+/// window of that size it isn't known what stays.
 pub fn settle<A: Allocator + Copy, B: Allocator>(
     alloc: A,
     admitted: &Admitted<B>,

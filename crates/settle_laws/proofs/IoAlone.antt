@@ -1,7 +1,7 @@
 -- What settling says of I/O hangs on no list of memory: it is the same with the lists of I/O alone, and then no part in memory stands.
 use Rattle.std.proofs.Common.{◌≡◌, ℕ, zero, suc, inl, inr, List, [], ◌∷◌, ◌++◌, ◌&&◌, map, cond, not, length, refl, Bool, true, false, sym, ◌∙◌, ap, Option, None, Some}
-use Rattle.std.specs.Bool.{◌==◌, if◌then◌else◌}
-use Rattle.std.specs.List.{Contains, filter, flat_map, list_any, list_all}
+use Rattle.std.specs.Bool.{if◌then◌else◌}
+use Rattle.std.specs.List.{filter, flat_map, list_any, list_all}
 use Rattle.std.proofs.lemmas.Bool.{cases_Bool, and_parts, and_left, and_right}
 use Rattle.pci_spec.specs.Window.{WindowKind, IoWindow, MemoryWindow, PrefetchWindow}
 use Rattle.pci_spec.specs.Decoded.{Range}
@@ -9,13 +9,12 @@ use Rattle.pci_spec.specs.System.{System, Function, Space, Io, Memory, Part, Bar
 use Rattle.pci_spec.specs.Bus.{secondary, is_behind, is_root, are_siblings}
 use Rattle.plan_spec.specs.Plan.{bridges_above, same_class}
 use Rattle.plan_spec.proofs.Planning.PlacedItems.{same_class_is}
-use Rattle.settle_spec.specs.FirstPlace.{Extent}
+use Rattle.settle_spec.specs.FirstPlace.{Extent, is_high, are_apart}
 use Rattle.settle_spec.specs.Lists.{Request, ranges_of}
 use Rattle.settle_spec.specs.Parts.{Region, addresses, is_part, header_parts, regions_of, regions, class_in, bridge_over, same_space}
 use Rattle.settle_spec.specs.Stands.{window_region, region_space, is_in_lists, is_in_window, is_in_place, takes_from, are_beside, precedes, stands_within, stands}
-use Rattle.settle_spec.specs.FirstPlace.{are_apart}
-use Rattle.settle_spec.specs.Items.{Item, Placed, Placing, in_turn, own_item, is_own, has_of, items_of, items_on, window_around, window_within, new_window, nothing, are_placed, taken_on, place_all, has_places, has_room, holds_within, holds, stays}
-use Rattle.settle_spec.specs.Places.{wide_ranges, root_ranges, space_items, taken_at, placed_of, place_among, placed_range, window_ranges, ranges_for, placing_within, placing_on}
+use Rattle.settle_spec.specs.Items.{Item, Placed, in_turn, own_item, is_own, has_of, items_of, items_on, window_around, window_within, new_window, nothing, are_placed, taken_on, place_all, has_places, has_room, holds_within, holds, stays}
+use Rattle.settle_spec.specs.Places.{wide_ranges, space_items, taken_at, placed_of, place_among, placed_range, window_ranges, ranges_for, placing_within, placing_on}
 use Rattle.settle_spec.proofs.ItemsOn.{each_in}
 use Rattle.settle_spec.proofs.Buses.{places_by}
 use Rattle.settle_laws.proofs.PartClasses.{space_of_class}
@@ -229,7 +228,7 @@ module _ (q : Request) (s : System) where
     ranges_same : (x : Item) → x.class ≡ IoWindow → ranges_for p s d x ≡ ranges_for q s e x
     ranges_same x io =
         let bus = x.region.function.slot.bus in
-        let root = on_root bus x.extent.wide x.class io in
+        let root = on_root bus (is_high x.extent) x.class io in
         let behind = behind_same x.class io (bridge_over s bus) in
         λ i. if is_root q.roots bus then root i else behind i
 

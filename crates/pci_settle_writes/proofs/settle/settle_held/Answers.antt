@@ -1,45 +1,31 @@
 use Rattle.std.proofs.Common.{◌∙◌, length, map, sym, ap, subst}
 use Rattle.std.specs.Option.{option_map}
 use Rattle.std.proofs.lemmas.Result.{err_from_is_err_and}
-use Rattle.settle_spec.specs.Stands.{stands}
-use Rattle.settle_spec.specs.Items.{stays}
 use Rattle.settle_spec.specs.Writes.{fixed_write}
 use Rattle.pci_place.specs.Above.{system_in}
 use Rattle.pci_plan.specs.Writes.{write_value}
 use Rattle.pci_settling.specs.Live.{HasAllPlaces}
 use Rattle.pci_settle_writes.specs.Fixed.{fixed_register}
-use Rattle.pci_settle_writes.proofs.Refusals.{unstanding, unstaying, ended_of_lack, written, ended_settled}
+use Rattle.pci_settle_writes.proofs.Refusals.{ended_of_lack, written, ended_settled}
 use Rattle.pci_settle_writes.proofs.settle.settle_held.Goals as goal
-
-pub returns-in-Some-clause-refusal : goal.returns-in-Some-clause-refusal
-returns-in-Some-clause-refusal g c = λ q flags told.
-    unstanding c.args.admitted.now q c.in-Some.fault (c.in-Some.ensures q (stands q (system_in c.args.admitted.now)) told.asked flags told.stand)
-
-pub returns-in-Some-fixed_without-clause-refusal : goal.returns-in-Some-fixed_without-clause-refusal
-returns-in-Some-fixed_without-clause-refusal g c = λ q flags told.
-    unstaying c.args.admitted.now q (c.in_default.ensures q (stands q (system_in c.args.admitted.now)) told.asked flags told.stand) c.in-Some-fixed_without.fault
-    (c.in-Some-fixed_without.ensures q (stays q (system_in c.args.admitted.now)) told.asked flags told.stay)
 
 pub returns-in_err-table-clause-refusal : goal.returns-in_err-table-clause-refusal
 returns-in_err-table-clause-refusal g c =
     let p = err_from_is_err_and c.from_residual.result c.from_residual.ensures.1 in
-    rw (p.1, p.2) (λ q flags told.
-    ended_of_lack c.args.admitted.now q (c.in_default.ensures q (stands q (system_in c.args.admitted.now)) told.asked flags told.stand)
-    (c.in_default-fixed_without.ensures q (stays q (system_in c.args.admitted.now)) told.asked flags told.stay) c.in_err-table.field-0.0 (c.in_err-table.ensures.fault q told.leaving))
+    rw (p.1, p.2) (λ q flags told. ended_of_lack c.args.admitted.now q told.kept c.in_err-table.field-0.0 (c.in_err-table.ensures.fault q told.leaving))
 
 pub settled_at-requires-clause-places : goal.settled_at-requires-clause-places
 settled_at-requires-clause-places g c =
     ap length c.as_slice.ensures.value ∙ (c.in_ok-table.ensures.places c.requires.left.request c.requires.left.leaving).count
 
-pub returns-in-Some-fixed_write-clause-refusal : goal.returns-in-Some-fixed_write-clause-refusal
-returns-in-Some-fixed_write-clause-refusal g c = λ q flags told.
+pub returns-in-Some-clause-refusal : goal.returns-in-Some-clause-refusal
+returns-in-Some-clause-refusal g c = λ q flags told.
     let s = system_in c.args.admitted.now in
     let placed = c.in_ok-table.ensures.places q told.leaving in
     let places = subst (HasAllPlaces q s) (sym c.as_slice.ensures.value) record { count = placed.count; each = placed.each } in
     let by = c.in_ok-settled.ensures.settled q told.asked places told.stay in
-    written c.args.admitted.now q (c.in_default.ensures q (stands q s) told.asked flags told.stand) (c.in_default-fixed_without.ensures q (stays q s) told.asked flags told.stay)
-    placed.lack (map write_value c.in_ok-settled.settled.writes.all.items) by.writes_are c.in-Some-fixed_write.fault
-    (c.in-Some-fixed_write.ensures q flags ∙ ap (λ ws. option_map fixed_register (fixed_write q (map write_value ws))) c.as_slice-2.ensures.value)
+    written c.args.admitted.now q told.kept placed.lack (map write_value c.in_ok-settled.settled.writes.all.items) by.writes_are c.in-Some.fault
+    (c.in-Some.ensures q flags ∙ ap (λ ws. option_map fixed_register (fixed_write q (map write_value ws))) c.as_slice-2.ensures.value)
 
 pub returns-clause-ends : goal.returns-clause-ends
 returns-clause-ends g c = λ q flags told.
@@ -50,7 +36,6 @@ returns-clause-ends g c = λ q flags told.
     record {
       by = by;
       room = placed.lack;
-      ends = ended_settled c.args.admitted.now q (c.in_default.ensures q (stands q s) told.asked flags told.stand) (c.in_default-fixed_without.ensures q (stays q s) told.asked flags told.stay)
-          placed.lack (map write_value c.in_ok-settled.settled.writes.all.items) by.writes_are
-          (c.in_default-fixed_write.ensures q flags ∙ ap (λ ws. option_map fixed_register (fixed_write q (map write_value ws))) c.as_slice-2.ensures.value);
+      ends = ended_settled c.args.admitted.now q told.kept placed.lack (map write_value c.in_ok-settled.settled.writes.all.items) by.writes_are
+          (c.in_default.ensures q flags ∙ ap (λ ws. option_map fixed_register (fixed_write q (map write_value ws))) c.as_slice-2.ensures.value);
     }

@@ -1,5 +1,4 @@
 use Rattle.std.proofs.lemmas.Result.{err_from_is_err_and}
-use Rattle.pci_place.specs.Above.{system_in}
 use Rattle.pci_settle.specs.Lists.{lists_value}
 use Rattle.pci_stay.proofs.Asked.{left_of, too_large}
 use Rattle.pci_stay.proofs.staying.staying.Goals as goal

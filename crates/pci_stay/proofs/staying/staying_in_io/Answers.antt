@@ -1,6 +1,5 @@
 use Rattle.std.proofs.Common.{[], map}
 use Rattle.std.proofs.lemmas.Result.{err_from_is_err_and}
-use Rattle.pci_place.specs.Above.{system_in}
 use Rattle.pci_settle.specs.Lists.{root_range_value}
 use Rattle.pci_stay.proofs.Asked.{left_of, too_large_in_io, new_in_io}
 use Rattle.pci_stay.proofs.staying.staying_in_io.Goals as goal

@@ -1,0 +1,130 @@
+//! What has no place in I/O, where new windows of memory are too large to tell what stays there.
+ghost use Rattle.std.specs.Prelude.{◌≡◌, [], None, IfOk, IfErr, OnOk};
+ghost use Rattle.pci_spec.specs.Window.{IoWindow};
+ghost use Rattle.pci_spec.specs.System.{Io};
+ghost use Rattle.plan_spec.specs.Plan.{same_class};
+ghost use Rattle.pci_base.specs.WindowKinds.{kind_value};
+ghost use Rattle.pci_place.specs.Above.{system_in};
+ghost use Rattle.pci_settle.specs.Lists.{lists_value};
+ghost use Rattle.pci_settled.specs.Spaces.{space_lack};
+ghost use Rattle.pci_stand.specs.Known.{asked};
+ghost use Rattle.pci_stay.specs.Staying.{AreStaying, asked_in_io};
+ghost use Rattle.pci_settle_writes.specs.Lacks.{IsNamed, IsFaultOf, too_large, unplaced_class};
+ghost use Rattle.pci_settle_writes.specs.Endings.{IsLack, IsLargeInIo, IsTooLargeAsked};
+
+use crate::lack::{SettleFault, fault_of};
+use pci_base::memory::Refused;
+use pci_base::range::RootRange;
+use pci_base::slot::Slot;
+use pci_base::window_kind::WindowKind;
+use pci_settle::kept::Kept;
+use pci_settle::list::Lists;
+use pci_settle::over::Left;
+use pci_settled::anew::Unplaced;
+use pci_settled::place::place;
+use pci_stay::staying::staying_in_io;
+use pci_stay::windows::{TooLarge, open_windows};
+use pci_tree::admitted::Admitted;
+use std::alloc::Allocator;
+
+/// The fault of a bridge whose new window is too large.
+pub fn fault_of_window<A: Allocator>(admitted: &Admitted<A>, window: TooLarge) -> SettleFault
+    // the fault names a function that is there
+    requires { IsNamed (system_in admitted.now) (too_large window) }
+    ensures { IsFaultOf (system_in admitted.now) (too_large window) result }
+{
+    let unplaced = Unplaced::TooLarge {
+        class: window.class,
+        function: window.function,
+    };
+    fault_of(admitted, unplaced)
+}
+
+/// Which parts of I/O stay.
+fn io_staying<A: Allocator + Copy, B: Allocator>(
+    alloc: A,
+    admitted: &Admitted<B>,
+    io: &[RootRange],
+    fixed: &[Slot],
+) -> Result<Vec<Kept, A>, Refused<SettleFault>>
+    ensures stay { IfOk result (λ table. AreStaying (asked_in_io admitted.now.roots io.now fixed.now)
+        (system_in admitted.now) table.items) }
+    ensures fault { IfErr result (IsLargeInIo admitted.now
+        (asked_in_io admitted.now.roots io.now fixed.now)) }
+{
+    match staying_in_io(alloc, admitted, io, fixed) {
+        Ok(table) => Ok(table),
+        Err(Refused::Memory) => Err(Refused::Memory),
+        Err(Refused::Fault(window)) => Err(Refused::Fault(fault_of_window(admitted, window))),
+    }
+}
+
+/// Whether what can't be placed is of I/O.
+fn is_of_io(unplaced: Unplaced) -> bool
+    ensures { result ≡ same_class (kind_value (unplaced_class unplaced)) IoWindow }
+{
+    let class = match unplaced {
+        Unplaced::Lacks(candidate) => candidate.class,
+        Unplaced::TooLarge { class, function: _ } => class,
+    };
+    class == WindowKind::Io
+}
+
+/// Whether all of I/O has its place on the roots, or the fault where something has none. The lists of memory are left out: what
+/// has a place in I/O hangs on none of them, and without them no part in memory stands.
+fn place_io<A: Allocator + Copy, B: Allocator>(
+    alloc: A,
+    admitted: &Admitted<B>,
+    lists: &Lists,
+    fixed: &[Slot],
+) -> Result<(), Refused<SettleFault>>
+    ensures room { OnOk result (space_lack
+        (asked admitted.now.roots (lists_value lists.now) fixed.now) (system_in admitted.now) Io
+        admitted.now.roots ≡ None) }
+    ensures fault { IfErr result (IsLack admitted.now
+        (asked admitted.now.roots (lists_value lists.now) fixed.now)) }
+{
+    let outline = admitted.outline();
+    let table = io_staying(alloc, admitted, lists.io, fixed)?;
+    let over = open_windows(outline.records());
+    let left = Left {
+        over: &over,
+        kept: table.as_slice(),
+    };
+    let alone = Lists {
+        io: lists.io,
+        mem: &[],
+        pref: &[],
+    };
+    match place(alloc, admitted, &alone, &left) {
+        Ok(_) => Ok(()),
+        Err(Refused::Memory) => Err(Refused::Memory),
+        Err(Refused::Fault(unplaced)) => {
+            if is_of_io(unplaced) {
+                return Err(Refused::Fault(fault_of(admitted, unplaced)));
+            }
+            Ok(())
+        }
+    }
+}
+
+/// Where nothing is fixed, what has no place in I/O is the fault. Where something is, a part of it that doesn't stay would come
+/// before, and isn't known.
+pub fn place_io_unfixed<A: Allocator + Copy, B: Allocator>(
+    alloc: A,
+    admitted: &Admitted<B>,
+    lists: &Lists,
+    fixed: &[Slot],
+) -> Result<(), Refused<SettleFault>>
+    ensures room { OnOk result (fixed.now ≡ [] → space_lack
+        (asked admitted.now.roots (lists_value lists.now) fixed.now) (system_in admitted.now) Io
+        admitted.now.roots ≡ None) }
+    ensures fault { IfErr result (IsTooLargeAsked admitted.now
+        (asked admitted.now.roots (lists_value lists.now) fixed.now)) }
+{
+    if !fixed.is_empty() {
+        return Ok(());
+    }
+    place_io(alloc, admitted, lists, fixed)?;
+    Ok(())
+}
