@@ -21,11 +21,20 @@ use pci_dump::block::Block;
 use pci_dump::mark::is_size_assumed;
 use pci_tree::bus::record_at;
 use pci_tree::outline::Outline;
-use pci_tree::region::Region;
+use pci_tree::region::{Part, Region};
 use pci_why::find::region_at;
 use pci_why::fits::{end_of_places, is_wide, push_fit};
 use pci_why::place::least_from;
 use std::alloc::Allocator;
+
+/// A region as a fault names it.
+#[derive(Clone, Copy, Debug, PartialEq, Eq)]
+pub struct RegionName {
+    pub slot: Slot,
+    /// The byte offset of its register.
+    pub reg: u8,
+    pub space: Space,
+}
 
 /// Whether a bus is a root bus to which all of a space is sent.
 fn is_sent_all<A: Allocator>(given: &Given<'_>, outline: &Outline<A>, bus: u8, space: Space) -> bool
@@ -62,29 +71,33 @@ fn fit_of<A: Allocator + Copy>(
     }
 }
 
-/// Appends where the region of a slot and register would fit: the least range of its size whose first address is a
-/// multiple of that, below 4 GB where it is no BAR of 64 bits (of I/O below 64 KB), to which accesses start on the root
-/// bus above, that each bridge on the way passes, and that no other region claims which can clash with it. Where the read
-/// back of the register is assumed, as the titles of the probe's blocks tell it, that isn't known: `fits unknown`. There
-/// is no such line of a legacy part, which can't be moved, and none on a root bus to which all of the space is sent.
+/// Appends where the region that is named would fit: the least range of its size whose first address is a multiple of
+/// that, below 4 GB where it is no BAR of 64 bits (of I/O below 64 KB), to which accesses start on the root bus above,
+/// that each bridge on the way passes, and that no other region claims which can clash with it. Where the read back of
+/// the register is assumed, as the titles of the probe's blocks tell it, that isn't known: `fits unknown`. There is no
+/// such line of a window, since what is behind its bridge would have to move with it, nor of a legacy part, which can't
+/// be moved, and none on a root bus to which all of the space is sent.
 pub fn push_fits<A: Allocator + Copy, B: Allocator>(
     alloc: A,
     text: &mut String<B>,
     given: &Given<'_>,
     outline: &Outline<A>,
     probe: &[Block],
-    slot: Slot,
-    reg: u8,
-    space: Space,
+    name: RegionName,
 ) -> Result<(), OutOfMemory>
     // its slots rise, so a block is found by halving
     requires { IsDump probe.now }
     ensures { OnOk result (IsFitTold (all_named probe.now) (given_value given.now) outline.now
-        (named_region slot reg) (space_of space) (string_bytes text.old) (string_bytes text.new)) }
+        (named_region name.slot name.reg) (space_of name.space)
+        (string_bytes text.old) (string_bytes text.new)) }
 {
+    let RegionName { slot, reg, space } = name;
     let Some(region) = region_at(alloc, outline, slot, reg, space)? else {
         return Ok(());
     };
+    if region.part == Part::Window {
+        return Ok(());
+    }
     if is_sent_all(given, outline, slot.bus(), space) {
         return Ok(());
     }
@@ -95,14 +108,8 @@ pub fn push_fits<A: Allocator + Copy, B: Allocator>(
     let Some(function) = record_at(outline.records(), slot) else {
         return Ok(());
     };
-    let fit = fit_of(
-        alloc,
-        given,
-        outline,
-        &region,
-        space,
-        is_wide(function, &region),
-    )?;
+    let wide = is_wide(function, &region);
+    let fit = fit_of(alloc, given, outline, &region, space, wide)?;
     push_fit(text, space, fit)?;
     Ok(())
 }

@@ -10,7 +10,7 @@ ghost use Rattle.pci_given.specs.AllLines.{judged_of};
 ghost use Rattle.pci_given_why.specs.Whys.{IsEvidenceTold, IsAdviceTold, IsWhyTold};
 
 use super::bridge::push_unreached;
-use super::fits::push_fits;
+use super::fits::{RegionName, push_fits};
 use super::host::push_outside;
 use super::two::push_two;
 use pci_base::memory::OutOfMemory;
@@ -121,24 +121,37 @@ fn push_known_advice<A: Allocator + Copy, B: Allocator>(
             reg,
             space,
             ..
-        } => push_fits(alloc, text, given, outline, probe, slot, reg, space),
+        } => {
+            let name = RegionName { slot, reg, space };
+            push_fits(alloc, text, given, outline, probe, name)
+        }
         Fault::Clash {
             space,
             second,
             second_reg,
             ..
-        } => push_fits(
-            alloc, text, given, outline, probe, second, second_reg, space,
-        ),
+        } => {
+            let name = RegionName {
+                slot: second,
+                reg: second_reg,
+                space,
+            };
+            push_fits(alloc, text, given, outline, probe, name)
+        }
         Fault::Split {
             space,
             second,
             second_reg,
             ..
         } => match ranges_said(given, space) {
-            Some(_) => push_fits(
-                alloc, text, given, outline, probe, second, second_reg, space,
-            ),
+            Some(_) => {
+                let name = RegionName {
+                    slot: second,
+                    reg: second_reg,
+                    space,
+                };
+                push_fits(alloc, text, given, outline, probe, name)
+            }
             // the second region stands on a root bus, to which all of the space is sent
             None => Ok(()),
         },
@@ -162,7 +175,12 @@ fn push_advice<A: Allocator + Copy, B: Allocator>(
 {
     match fault {
         AnyFault::OutsideHost(o) => {
-            push_fits(alloc, text, given, outline, probe, o.slot, o.reg, o.space)
+            let name = RegionName {
+                slot: o.slot,
+                reg: o.reg,
+                space: o.space,
+            };
+            push_fits(alloc, text, given, outline, probe, name)
         }
         AnyFault::Known(fault) => push_known_advice(alloc, text, given, outline, probe, fault),
     }

@@ -1,4 +1,4 @@
-use Rattle.std.proofs.Common.{◌≡◌, ◌&&◌, true, false, sym, subst, ◌∙◌, List, Option}
+use Rattle.std.proofs.Common.{rules, ◌≡◌, ◌&&◌, true, false, sym, subst, ◌∙◌, List, Option}
 use Rattle.std.specs.Prelude.{MatchOption, not}
 use Rattle.std.specs.String.{string_bytes}
 use Rattle.pci_spec.specs.Bus.{is_root}
@@ -7,43 +7,53 @@ use Rattle.pci_spec.specs.Mark.{all_named}
 use Rattle.given_spec.specs.Why.{is_said}
 use Rattle.pci_base.specs.Space.{space_of}
 use Rattle.pci_tree.specs.declared.region.Region.{Region}
+use Rattle.pci_tree.specs.declared.region.Part.TheVariants.{Window}
 use Rattle.pci_claims.specs.Values.{given_value}
 use Rattle.pci_why.specs.Found.{NoneClaims, IsFoundIn}
 use Rattle.pci_why.proofs.Founds.{none_without_record}
-use Rattle.pci_given_why.proofs.FitsTold.{told_none, told_on_root, told_unknown, told_fit}
+use Rattle.pci_given_why.proofs.FitsTold.{told_none, told_window, told_on_root, told_unknown, told_fit}
 use Rattle.pci_given_why.proofs.fits.push_fits.Goals as goal
 
 pub returns-in_default : goal.returns-in_default
 returns-in_default g c =
-    told_none (all_named c.args.probe.now) (given_value c.args.given.now) c.args.outline.now c.args.slot c.args.reg (space_of c.args.space) (string_bytes c.args.text.now)
-    (λ s tree. subst (λ (o : Option Region). MatchOption o (NoneClaims s c.args.slot c.args.reg (space_of c.args.space)) (λ q. IsFoundIn s c.args.slot c.args.reg (space_of c.args.space) q)) c.in_default.is
+    told_none (all_named c.args.probe.now) (given_value c.args.given.now) c.args.outline.now c.args.name.slot c.args.name.reg (space_of c.args.name.space) (string_bytes c.args.text.now)
+    (λ s tree. subst (λ (o : Option Region). MatchOption o (NoneClaims s c.args.name.slot c.args.name.reg (space_of c.args.name.space)) (λ q. IsFoundIn s c.args.name.slot c.args.name.reg (space_of c.args.name.space) q)) c.in_default.is
     (c.in_ok-region.ensures.found s tree.records))
+
+pub returns-then-eq : goal.returns-then-eq
+returns-then-eq g c =
+    let window : c.in-Some.region.part ≡ Window = search rules in
+    told_window (all_named c.args.probe.now) (given_value c.args.given.now) c.args.outline.now c.args.name.slot c.args.name.reg (space_of c.args.name.space) (string_bytes c.args.text.now) c.in-Some.region
+    (λ s tree. subst (λ (o : Option Region). MatchOption o (NoneClaims s c.args.name.slot c.args.name.reg (space_of c.args.name.space)) (λ q. IsFoundIn s c.args.name.slot c.args.name.reg (space_of c.args.name.space) q)) c.in-Some.is
+    (c.in_ok-region.ensures.found s tree.records)) window
 
 pub returns-then-is_sent_all : goal.returns-then-is_sent_all
 returns-then-is_sent_all g c =
-    told_on_root (all_named c.args.probe.now) (given_value c.args.given.now) c.args.outline.now c.args.slot c.args.reg (space_of c.args.space) (string_bytes c.args.text.now)
-    (subst (λ n. (is_root c.args.outline.now.roots n && not (is_said (given_value c.args.given.now) (space_of c.args.space))) ≡ true) c.bus.ensures (sym c.is_sent_all.ensures ∙ c.if-is_sent_all.true))
+    told_on_root (all_named c.args.probe.now) (given_value c.args.given.now) c.args.outline.now c.args.name.slot c.args.name.reg (space_of c.args.name.space) (string_bytes c.args.text.now)
+    (subst (λ n. (is_root c.args.outline.now.roots n && not (is_said (given_value c.args.given.now) (space_of c.args.name.space))) ≡ true) c.bus.ensures (sym c.is_sent_all.ensures ∙ c.if-is_sent_all.true))
 
 pub returns-then-is_size_assumed : goal.returns-then-is_size_assumed
 returns-then-is_size_assumed g c =
-    told_unknown (all_named c.args.probe.now) (given_value c.args.given.now) c.args.outline.now c.args.slot c.args.reg (space_of c.args.space) (string_bytes c.args.text.now) c.in-Some.region (string_bytes c.push_str.new.self)
-    (λ s tree. subst (λ (o : Option Region). MatchOption o (NoneClaims s c.args.slot c.args.reg (space_of c.args.space)) (λ q. IsFoundIn s c.args.slot c.args.reg (space_of c.args.space) q)) c.in-Some.is
+    let not_window : c.in-Some.region.part ≡ Window → ⊥ = λ window. search (rules, window) in
+    told_unknown (all_named c.args.probe.now) (given_value c.args.given.now) c.args.outline.now c.args.name.slot c.args.name.reg (space_of c.args.name.space) (string_bytes c.args.text.now) c.in-Some.region (string_bytes c.push_str.new.self)
+    (λ s tree. subst (λ (o : Option Region). MatchOption o (NoneClaims s c.args.name.slot c.args.name.reg (space_of c.args.name.space)) (λ q. IsFoundIn s c.args.name.slot c.args.name.reg (space_of c.args.name.space) q)) c.in-Some.is
     (c.in_ok-region.ensures.found s tree.records))
-    (subst (λ n. (is_root c.args.outline.now.roots n && not (is_said (given_value c.args.given.now) (space_of c.args.space))) ≡ false) c.bus.ensures (sym c.is_sent_all.ensures ∙ c.if-is_sent_all.false))
+    not_window (subst (λ n. (is_root c.args.outline.now.roots n && not (is_said (given_value c.args.given.now) (space_of c.args.name.space))) ≡ false) c.bus.ensures (sym c.is_sent_all.ensures ∙ c.if-is_sent_all.false))
     (sym c.is_size_assumed.ensures ∙ c.if-is_size_assumed.true) c.in_ok-push_str.ensures.bytes
 
 pub returns-in_default-record_at : goal.returns-in_default-record_at
 returns-in_default-record_at g c =
-    told_none (all_named c.args.probe.now) (given_value c.args.given.now) c.args.outline.now c.args.slot c.args.reg (space_of c.args.space) (string_bytes c.args.text.now)
-    (λ s tree. none_without_record s c.records.result.now c.args.slot c.args.reg (space_of c.args.space) (subst (λ (rs : List Record). HasRecords s rs) (sym c.records.ensures.value) tree.records)
+    told_none (all_named c.args.probe.now) (given_value c.args.given.now) c.args.outline.now c.args.name.slot c.args.name.reg (space_of c.args.name.space) (string_bytes c.args.text.now)
+    (λ s tree. none_without_record s c.records.result.now c.args.name.slot c.args.name.reg (space_of c.args.name.space) (subst (λ (rs : List Record). HasRecords s rs) (sym c.records.ensures.value) tree.records)
     c.in_default-record_at.ensures)
 
 pub returns : goal.returns
 returns g c =
-    told_fit (all_named c.args.probe.now) (given_value c.args.given.now) c.args.outline.now c.args.slot c.args.reg (space_of c.args.space) (string_bytes c.args.text.now) c.in-Some.region c.records.result.now
-    c.in-Some-record_at.function.now c.is_wide.result c.in_ok-fit.fit (string_bytes c.push_fit.new.text)
-    (λ s tree. subst (λ (o : Option Region). MatchOption o (NoneClaims s c.args.slot c.args.reg (space_of c.args.space)) (λ q. IsFoundIn s c.args.slot c.args.reg (space_of c.args.space) q)) c.in-Some.is
+    let not_window : c.in-Some.region.part ≡ Window → ⊥ = λ window. search (rules, window) in
+    told_fit (all_named c.args.probe.now) (given_value c.args.given.now) c.args.outline.now c.args.name.slot c.args.name.reg (space_of c.args.name.space) (string_bytes c.args.text.now) c.in-Some.region c.records.result.now
+    c.in-Some-record_at.function.now c.is_wide-wide.result c.in_ok-fit.fit (string_bytes c.push_fit.new.text)
+    (λ s tree. subst (λ (o : Option Region). MatchOption o (NoneClaims s c.args.name.slot c.args.name.reg (space_of c.args.name.space)) (λ q. IsFoundIn s c.args.name.slot c.args.name.reg (space_of c.args.name.space) q)) c.in-Some.is
     (c.in_ok-region.ensures.found s tree.records))
-    (sym c.records.ensures.value) c.records.ensures.nested c.records.ensures.rising c.in-Some-record_at.ensures.0 c.in-Some-record_at.ensures.1
-    (subst (λ n. (is_root c.args.outline.now.roots n && not (is_said (given_value c.args.given.now) (space_of c.args.space))) ≡ false) c.bus.ensures (sym c.is_sent_all.ensures ∙ c.if-is_sent_all.false))
-    (sym c.is_size_assumed.ensures ∙ c.if-is_size_assumed.false) c.is_wide.ensures c.in_ok-fit.ensures.exact c.in_ok-push_fit.ensures
+    not_window (sym c.records.ensures.value) c.records.ensures.nested c.records.ensures.rising c.in-Some-record_at.ensures.0 c.in-Some-record_at.ensures.1
+    (subst (λ n. (is_root c.args.outline.now.roots n && not (is_said (given_value c.args.given.now) (space_of c.args.name.space))) ≡ false) c.bus.ensures (sym c.is_sent_all.ensures ∙ c.if-is_sent_all.false))
+    (sym c.is_size_assumed.ensures ∙ c.if-is_size_assumed.false) c.is_wide-wide.ensures c.in_ok-fit.ensures.exact c.in_ok-push_fit.ensures
