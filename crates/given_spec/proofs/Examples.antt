@@ -3,3 +3,4 @@ pub mod Legacy
 pub mod Clashes
 pub mod Lines
 pub mod Reasons
+pub mod Moved

@@ -8,3 +8,5 @@ pub mod Numbers
 pub mod OneList
 pub mod Determined
 pub mod DeterminedTexts
+pub mod Moving
+pub mod Writing

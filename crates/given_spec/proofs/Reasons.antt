@@ -177,7 +177,7 @@ evidence_same roots s fault lines = elim fault as (λ fault. IsKnownEvidence not
 
 -- ---- where a region would fit
 
-taken_plain : (roots : List ℕ) (s : System) (q : plain.Region) (a : ℕ) (f : Function) (part : Part) → (Contains roots q.slot.bus → ⊥) → Contains s f → IsBeside nothing_given roots q a f
+pub taken_plain : (roots : List ℕ) (s : System) (q : plain.Region) (a : ℕ) (f : Function) (part : Part) → (Contains roots q.slot.bus → ⊥) → Contains s f → IsBeside nothing_given roots q a f
     → ((f.slot ≡ q.slot) × (register_of f part ≡ q.register) → ⊥) → Claims nothing_given f part q.space a → plain.IsTaken s q a
 taken_plain roots s q a f (OwnPart part) below listed (inl on) other claims = record { f = f; part = part; listed = listed; on_bus = on; other = other; claims = claims }
 taken_plain roots s q a f (OwnPart part) below listed (inr roots_both) other claims = absurd (below roots_both.0)
@@ -230,7 +230,7 @@ match_same : (b : Bool) (X Y Z : Type 0) → (b ≡ false → Y → Z) → Match
 match_same true X Y Z f h = h
 match_same false X Y Z f h = f refl h
 
-no_root : (roots : List ℕ) (bus : ℕ) → is_root roots bus ≡ false → Contains roots bus → ⊥
+pub no_root : (roots : List ℕ) (bus : ℕ) → is_root roots bus ≡ false → Contains roots bus → ⊥
 no_root roots bus off has = both_ways (is_root roots bus) off ((root_means roots bus).1 has)
 
 -- neither is a window, so its bus is no root bus

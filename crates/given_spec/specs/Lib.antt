@@ -9,5 +9,6 @@ pub mod Numbered
 pub mod FaultLines
 pub mod Why
 pub mod FaultsText
+pub mod Moved
 pub mod Laws
 pub mod DeterminedLaws

@@ -8,3 +8,4 @@
 pub mod determined_laws;
 pub mod given_laws;
 pub mod list_laws;
+pub mod moved_laws;
