@@ -5,7 +5,7 @@ use pci_base::space::Space;
 use pci_claims::given::{Given, LegacyBridge};
 use pci_dump::reader::read_dump;
 use pci_dump::std_streams::Incoming;
-use pci_given_why::fits::push_fits;
+use pci_given_why::fits::{RegionName, push_fits};
 use pci_tree::admit::outline_of;
 use pci_tree::roots::Roots;
 use std::test::Fail;
@@ -52,17 +52,9 @@ fn nothing() -> Given<'static> {
     }
 }
 
-/// A region by its names.
-#[derive(Clone, Copy)]
-struct Named {
-    slot: Slot,
-    reg: u8,
-    space: Space,
-}
-
 /// The first BAR of a device, of memory.
-fn memory_bar(bus: u8, device: u8) -> Result<Named, Fail> {
-    Ok(Named {
+fn memory_bar(bus: u8, device: u8) -> Result<RegionName, Fail> {
+    Ok(RegionName {
         slot: slot(bus, device)?,
         reg: 0x10,
         space: Space::Mem,
@@ -74,7 +66,7 @@ fn fits(
     rt: &HostRuntime,
     board: &[Function],
     given: &Given<'_>,
-    region: Named,
+    name: RegionName,
     wanted: &str,
 ) -> Result<(), Fail> {
     let alloc = rt.alloc();
@@ -86,17 +78,7 @@ fn fits(
     };
     let outline = outline_of(alloc, &dump, &probe, roots)?;
     let mut text = String::new(alloc);
-    let Named { slot, reg, space } = region;
-    push_fits(
-        alloc,
-        &mut text,
-        given,
-        &outline,
-        probe.blocks(),
-        slot,
-        reg,
-        space,
-    )?;
+    push_fits(alloc, &mut text, given, &outline, probe.blocks(), name)?;
     if text.as_str() == wanted {
         Ok(())
     } else {
@@ -192,39 +174,55 @@ fn a_bar_fits_in_what_a_legacy_part_passes(rt: HostRuntime) -> Result<(), Fail> 
 }
 
 #[test]
-fn a_legacy_part_is_in_the_way_of_others_and_not_of_its_bridge(
-    rt: HostRuntime,
-) -> Result<(), Fail> {
+fn a_legacy_part_is_in_the_way_and_has_no_place_of_its_own(rt: HostRuntime) -> Result<(), Fail> {
     let board = [
         bridge("00:01.0", 2, (0, 1, 1), &[(0x20, 0xe000_e000, 0xfff0_fff0)]),
         device("00:02.0", 2, &[(0x10, 0xe000_0000, 0xffff_0000)]),
     ];
     let legacy = [vga(0, 1)?];
-    let memory = [to_each(0xa_0000, 0xf_ffff), to_each(0, 0x9_ffff)];
+    let memory = [to_each(0xa_0000, 0xf_ffff)];
     let given = Given {
-        memory: Some(&memory[..1]),
+        memory: Some(&memory),
         legacy: &legacy,
         ..nothing()
     };
     let line = "  fits 00000000000c0000-00000000000cffff 64K\n";
     fits(&rt, &board, &given, memory_bar(0, 2)?, line)?;
-    let given = Given {
-        memory: Some(&memory),
-        ..given
-    };
-    let window = Named {
-        slot: slot(0, 1)?,
-        reg: 0x20,
-        space: Space::Mem,
-    };
-    let line = "  fits 0000000000000000-00000000000fffff 1M\n";
-    fits(&rt, &board, &given, window, line)?;
-    let part = Named {
+    let part = RegionName {
         slot: slot(0, 1)?,
         reg: 0x3e,
         space: Space::Mem,
     };
     fits(&rt, &board, &given, part, "")
+}
+
+#[test]
+fn of_a_window_nothing_is_told(rt: HostRuntime) -> Result<(), Fail> {
+    let board = [
+        bridge("00:01.0", 2, (0, 1, 2), &[(0x20, 0xe010_e000, 0xfff0_fff0)]),
+        bridge("01:00.0", 2, (1, 2, 2), &[(0x20, 0xe000_e000, 0xfff0_fff0)]),
+        device("01:01.0", 2, &[(0x10, 0xe000_0000, 0xfff0_0000)]),
+    ];
+    let memory = [to_each(0, 0xffff_ffff)];
+    let given = Given {
+        memory: Some(&memory),
+        ..nothing()
+    };
+    let outer = RegionName {
+        slot: slot(0, 1)?,
+        reg: 0x20,
+        space: Space::Mem,
+    };
+    fits(&rt, &board, &given, outer, "")?;
+    let inner = RegionName {
+        slot: slot(1, 0)?,
+        ..outer
+    };
+    fits(&rt, &board, &nothing(), inner, "")?;
+    fits(&rt, &board, &given, inner, "")?;
+    // the BAR of the same addresses has a line
+    let line = "  fits 00000000e0100000-00000000e01fffff 1M\n";
+    fits(&rt, &board, &nothing(), memory_bar(1, 1)?, line)
 }
 
 #[test]
@@ -244,7 +242,7 @@ fn ports_of_each_1k_are_in_the_way_where_10_bits_are_decoded(rt: HostRuntime) ->
         legacy: &narrow,
         ..nothing()
     };
-    let ports = Named {
+    let ports = RegionName {
         slot: slot(0, 2)?,
         reg: 0x10,
         space: Space::Io,
