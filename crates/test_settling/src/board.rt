@@ -28,6 +28,8 @@ pub struct Part {
     pub class: WindowKind,
     /// Whether it has 64 bits, or is a window with upper halves.
     pub wide: bool,
+    /// Whether it is an I/O BAR of 16 bits.
+    pub short: bool,
     /// Bit 0 of a ROM.
     pub on: bool,
     /// The addresses of a BAR or ROM; 0 of a window.
@@ -108,6 +110,15 @@ impl Part {
         Space::of(self.class)
     }
 
+    /// The last address that its registers can show.
+    pub fn reach(&self) -> u64 {
+        match self.class {
+            WindowKind::Io if self.short || (self.kind == Kind::Window && !self.wide) => 0xffff,
+            WindowKind::Memory | WindowKind::Prefetchable if self.wide => u64::MAX,
+            _ => 0xffff_ffff,
+        }
+    }
+
     /// The bits that show no address.
     fn encoding(&self) -> u32 {
         let wide = u32::from(self.wide);
@@ -146,7 +157,8 @@ impl Part {
 
     /// What all ones read back as: bit 0 of a ROM as 0.
     fn masks(&self) -> [Register; 3] {
-        let ones = !self.size.saturating_sub(1);
+        let bits = if self.short { 0xffff } else { u64::MAX };
+        let ones = !self.size.saturating_sub(1) & bits;
         let mut off = *self;
         off.on = false;
         off.registers(Range {

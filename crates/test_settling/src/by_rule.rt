@@ -23,6 +23,14 @@ const IO_RANGES: Table = [
     (0x6000, 0xffff),
 ];
 
+/// As of a processor with 32 bits of I/O.
+const HIGH_IO_RANGES: Table = [
+    (0x1000, 0x1fff),
+    (0x6000, 0x1_0fff),
+    (0x1_1010, 0x1_5fff),
+    (0x2000, 0x27ff),
+];
+
 const MEMORY_RANGES: Table = [
     (0xe000_0000, 0xe01f_ffff),
     (0xe020_0000, 0xe02f_ffff),
@@ -126,8 +134,13 @@ impl Rule {
     /// A range for a part in the crowd; of no page at times where it is a window.
     fn crowd(&mut self, part: &Part) -> Range {
         let page = part.class.page_size();
-        let is_high = part.wide && self.one_in(3);
+        let low_end = match part.class {
+            WindowKind::Io => 0xffff,
+            WindowKind::Memory | WindowKind::Prefetchable => 0xffff_ffff,
+        };
+        let is_high = low_end < part.reach() && self.one_in(3);
         let base: u64 = match part.class {
+            WindowKind::Io if is_high => 0x10,
             WindowKind::Io => 1,
             WindowKind::Memory | WindowKind::Prefetchable if is_high => 0x1000,
             WindowKind::Memory | WindowKind::Prefetchable => 0xe00,
@@ -202,6 +215,7 @@ impl Rule {
             kind,
             class,
             wide: has_upper && self.one_in(2),
+            short: kind == Kind::Bar && class == WindowKind::Io && self.one_in(3),
             on: kind != Kind::Rom || self.one_in(2),
             size: self.size(kind, class),
             range: Range { first: 0, last: 0 },
@@ -366,6 +380,11 @@ impl Rule {
         board: &Board,
         last_root: u8,
     ) -> Result<Asked, AllocError> {
+        let io = if self.one_in(2) {
+            IO_RANGES
+        } else {
+            HIGH_IO_RANGES
+        };
         let pref = if self.one_in(2) {
             LOW_RANGES
         } else {
@@ -379,7 +398,7 @@ impl Rule {
             }
         }
         Ok(Asked {
-            io: self.list(alloc, &IO_RANGES, last_root)?,
+            io: self.list(alloc, &io, last_root)?,
             mem: self.list(alloc, &MEMORY_RANGES, last_root)?,
             pref: self.list(alloc, &pref, last_root)?,
             fixed,

@@ -197,7 +197,7 @@ impl<'a> Settler<'a> {
         let extent = Extent {
             size: part.size,
             alignment: part.size,
-            wide: part.wide,
+            reach: part.reach(),
         };
         Piece {
             part: *part,

@@ -4,12 +4,12 @@ use pci_base::slot::Slot;
 use pci_base::window_kind::WindowKind;
 use std::alloc::{AllocError, Global};
 
-/// So many addresses from a multiple of an alignment on, below 4 GB where they aren't wide.
+/// So many addresses from a multiple of an alignment on, none of them above a last one.
 #[derive(Clone, Copy)]
 pub struct Extent {
     pub size: u64,
     pub alignment: u64,
-    pub wide: bool,
+    pub reach: u64,
 }
 
 /// What is to be placed.
@@ -20,7 +20,7 @@ pub struct Item {
     pub extent: Extent,
 }
 
-/// Where items are placed: in a list, and what is wide in a further one.
+/// Where items are placed: in a list, and what may lie above 4 GB in a further one.
 #[derive(Clone, Copy)]
 pub struct Site<'a> {
     pub list: &'a [RootRange],
@@ -65,7 +65,7 @@ fn first_in(range: Range, taken: &[Range], extent: Extent) -> Option<Range> {
     let mut first = raised(range.first, extent.alignment)?;
     for _ in 0..=taken.len() {
         let last = first.checked_add(extent.size.checked_sub(1)?)?;
-        if range.last < last || (!extent.wide && 0xffff_ffff < last) {
+        if range.last < last || extent.reach < last {
             return None;
         }
         match in_the_way(taken, Range { first, last }) {
@@ -101,7 +101,7 @@ fn rank(item: &Item) -> (u64, u64, u16, u8) {
 impl Site<'_> {
     fn place_of(&self, taken: &[Range], item: &Item) -> Option<Range> {
         match first_place(self.list, taken, item) {
-            None if item.extent.wide => first_place(self.further, taken, item),
+            None if 0xffff_ffff < item.extent.reach => first_place(self.further, taken, item),
             place => place,
         }
     }
@@ -128,19 +128,20 @@ impl Site<'_> {
     }
 }
 
-/// The least window of a class around items: each is placed from 0 on, at any address.
+/// The least window of a class around items: each is placed from 0 on, at any address. It lies no higher than any of them
+/// may, nor than its own registers show.
 pub fn window_around(
     alloc: Global,
     items: Vec<Item>,
     class: WindowKind,
-    wide: bool,
+    reach: u64,
 ) -> Result<Extent, AllocError> {
     let page = class.page_size();
-    let (mut items, mut all_wide, mut alignment) = (items, wide, page);
+    let (mut items, mut least, mut alignment) = (items, reach, page);
     for item in items.iter_mut() {
-        all_wide = all_wide && item.extent.wide;
+        least = least.min(item.extent.reach);
         alignment = alignment.max(item.extent.alignment);
-        item.extent.wide = true;
+        item.extent.reach = u64::MAX;
     }
     let everywhere = [shared(0, u64::MAX)];
     let site = Site {
@@ -154,6 +155,6 @@ pub fn window_around(
     Ok(Extent {
         size: raised(end, page).unwrap_or(u64::MAX),
         alignment,
-        wide: all_wide,
+        reach: least,
     })
 }

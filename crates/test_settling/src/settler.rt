@@ -76,8 +76,8 @@ impl<'a> Settler<'a> {
             return Ok(None);
         }
         let items = self.items_on(bus, window.class, Keep::Nothing)?;
-        let wide = window.part.wide && window.class == WindowKind::Prefetchable;
-        Ok(Some(window_around(self.alloc, items, window.class, wide)?))
+        let reach = window.part.reach();
+        Ok(Some(window_around(self.alloc, items, window.class, reach)?))
     }
 
     /// Whether each item on the bus behind a window has its place there.
