@@ -13,6 +13,9 @@ const MEMORY_SIZES: [u64; 8] = [
     0x10, 0x100, 0x1000, 0x1000, 0x1_0000, 0x10_0000, 0x10_0000, 0x20_0000,
 ];
 
+/// Half of all addresses.
+const HALF: u64 = 0x8000_0000_0000_0000;
+
 /// Ranges of which lists are made.
 type Table = [(u64, u64); 4];
 
@@ -88,6 +91,8 @@ type Way = (u8, u8, u8);
 #[derive(Drop)]
 pub struct Rule {
     seed: u64,
+    /// Whether a device with two BARs of 2^63 addresses is on bus 01, where that is there.
+    has_large: bool,
 }
 
 /// Whether a bus is there where there are these bridges.
@@ -108,7 +113,14 @@ impl Rule {
     pub fn new(seed: u64) -> Rule {
         Rule {
             seed: seed.wrapping_mul(0x9e37_79b9_7f4a_7c15),
+            has_large: false,
         }
+    }
+
+    pub fn with_large(seed: u64) -> Rule {
+        let mut rule = Rule::new(seed);
+        rule.has_large = true;
+        rule
     }
 
     /// A number below a bound.
@@ -309,7 +321,39 @@ impl Rule {
             dev = dev.saturating_add(1);
         }
         self.add_device(board, bus, 8)?;
-        self.add_device(board, bus, 9)
+        self.add_device(board, bus, 9)?;
+        if self.has_large && bus == 1 {
+            self.add_large(board)?;
+        }
+        Ok(())
+    }
+
+    /// Adds a device with two BARs of 2^63 addresses each.
+    fn add_large(&mut self, board: &mut Board) -> Result<(), AllocError> {
+        let Some(slot) = Slot::new(1, 0x1f, 0) else {
+            return Ok(());
+        };
+        let command = self.command();
+        board.functions.push(Function {
+            slot,
+            command,
+            buses: None,
+        })?;
+        for (register, first) in [(0x10, 0), (0x18, HALF)] {
+            let last = first | (HALF - 1);
+            board.parts.push(Part {
+                slot,
+                register,
+                kind: Kind::Bar,
+                class: WindowKind::Prefetchable,
+                wide: true,
+                short: false,
+                on: true,
+                size: HALF,
+                range: Range { first, last },
+            })?;
+        }
+        Ok(())
     }
 
     /// A board.

@@ -4,6 +4,9 @@ use pci_base::slot::Slot;
 use pci_base::window_kind::WindowKind;
 use std::alloc::{AllocError, Global};
 
+/// The size of what has 2^64 addresses or more: no part has so many.
+pub const TOO_LARGE: u64 = u64::MAX;
+
 /// So many addresses from a multiple of an alignment on, none of them above a last one.
 #[derive(Clone, Copy)]
 pub struct Extent {
@@ -62,6 +65,9 @@ fn in_the_way(taken: &[Range], range: Range) -> Option<Range> {
 
 /// The first place in a range: from the first multiple on, past each range that is taken.
 fn first_in(range: Range, taken: &[Range], extent: Extent) -> Option<Range> {
+    if extent.size == TOO_LARGE {
+        return None;
+    }
     let mut first = raised(range.first, extent.alignment)?;
     for _ in 0..=taken.len() {
         let last = first.checked_add(extent.size.checked_sub(1)?)?;
@@ -148,12 +154,16 @@ pub fn window_around(
         list: &everywhere,
         further: &[],
     };
-    let mut end = 0u64;
-    for (_, place) in &site.place(alloc, items, Vec::new(alloc))?.placed {
+    let placing = site.place(alloc, items, Vec::new(alloc))?;
+    let mut end = match placing.lacking {
+        None => 0u64,
+        Some(_) => TOO_LARGE,
+    };
+    for (_, place) in &placing.placed {
         end = end.max(place.last.saturating_add(1));
     }
     Ok(Extent {
-        size: raised(end, page).unwrap_or(u64::MAX),
+        size: raised(end, page).unwrap_or(TOO_LARGE),
         alignment,
         reach: least,
     })

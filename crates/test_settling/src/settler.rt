@@ -12,11 +12,22 @@ use std::alloc::{AllocError, Global};
 
 const CLASSES: [WindowKind; 3] = [WindowKind::Io, WindowKind::Memory, WindowKind::Prefetchable];
 
+/// What is looked for in turn, and last of all nothing.
+#[derive(Clone, Copy, PartialEq, Eq, PartialOrd, Ord)]
+pub enum Stage {
+    Standing,
+    Staying,
+    Io,
+    Memory,
+    Writing,
+    Settled,
+}
+
 /// What settling comes to.
 #[derive(Drop)]
 pub enum Answer {
     Settled(Outcome),
-    Refused(SettleFault),
+    Refused(Stage, SettleFault),
 }
 
 impl<'a> Settler<'a> {
@@ -151,15 +162,15 @@ impl<'a> Settler<'a> {
     }
 
     /// The first fixed part that doesn't stand, or else that doesn't stay.
-    fn fixed_without(&self) -> Option<SettleFault> {
+    fn fixed_without(&self) -> Option<(Stage, SettleFault)> {
         let mut moved = None;
         for piece in &self.pieces {
             let (slot, reg) = (piece.part.slot, piece.part.register);
             if piece.is_fixed_part() && !piece.stands {
-                return Some(SettleFault::Fixed { slot, reg });
+                return Some((Stage::Standing, SettleFault::Fixed { slot, reg }));
             }
             if piece.is_fixed_part() && !piece.stays && moved.is_none() {
-                moved = Some(SettleFault::Fixed { slot, reg });
+                moved = Some((Stage::Staying, SettleFault::Fixed { slot, reg }));
             }
         }
         moved
@@ -186,7 +197,7 @@ impl<'a> Settler<'a> {
     }
 
     /// Places all on the roots; the first that has no place.
-    fn place_roots(&mut self) -> Result<Option<SettleFault>, AllocError> {
+    fn place_roots(&mut self) -> Result<Option<(Stage, SettleFault)>, AllocError> {
         let lists = self.request.lists;
         let none: &[RootRange] = &[];
         for class in CLASSES {
@@ -195,9 +206,12 @@ impl<'a> Settler<'a> {
                 WindowKind::Memory => (lists.mem, lists.pref),
                 WindowKind::Prefetchable => (lists.pref, none),
             };
-            let fault = self.place(0, class, &Site { list, further })?;
-            if fault.is_some() {
-                return Ok(fault);
+            let stage = match class {
+                WindowKind::Io => Stage::Io,
+                WindowKind::Memory | WindowKind::Prefetchable => Stage::Memory,
+            };
+            if let Some(fault) = self.place(0, class, &Site { list, further })? {
+                return Ok(Some((stage, fault)));
             }
         }
         Ok(None)
@@ -220,7 +234,7 @@ impl<'a> Settler<'a> {
     }
 
     /// Places all, a bridge before what is behind it; the first on the roots that has no place.
-    fn place_all(&mut self) -> Result<Option<SettleFault>, AllocError> {
+    fn place_all(&mut self) -> Result<Option<(Stage, SettleFault)>, AllocError> {
         let fault = self.place_roots()?;
         for bridge in &self.board.functions {
             if let Some((bus, _)) = bridge.buses {
@@ -247,17 +261,18 @@ pub fn settle_slowly(alloc: Global, board: &Board, request: Request) -> Result<A
     settler.find_standing();
     settler.find_holding()?;
     settler.find_staying();
-    if let Some(fault) = settler.fixed_without() {
-        return Ok(Answer::Refused(fault));
+    if let Some((stage, fault)) = settler.fixed_without() {
+        return Ok(Answer::Refused(stage, fault));
     }
-    if let Some(fault) = settler.place_all()? {
-        return Ok(Answer::Refused(fault));
+    if let Some((stage, fault)) = settler.place_all()? {
+        return Ok(Answer::Refused(stage, fault));
     }
     let outcome = settler.outcome()?;
     for write in &outcome.writes {
         let (slot, reg) = (write.slot, write.off);
         if request.fixed.contains(&slot) {
-            return Ok(Answer::Refused(SettleFault::Fixed { slot, reg }));
+            let fault = SettleFault::Fixed { slot, reg };
+            return Ok(Answer::Refused(Stage::Writing, fault));
         }
     }
     Ok(Answer::Settled(outcome))

@@ -2,7 +2,7 @@
 use crate::board::Board;
 use crate::by_rule::{Asked, Rule};
 use crate::pieces::Request;
-use crate::settler::{Answer, settle_slowly};
+use crate::settler::{Answer, Stage, settle_slowly};
 use crate::writes::Outcome;
 use pci_base::memory::Refused;
 use pci_dump::dump::Dump;
@@ -141,6 +141,39 @@ fn compare_refused(
     }
 }
 
+/// Before what a new window of 2^64 addresses or more may be told: where something is fixed and may stay, it isn't known what
+/// stays, so it is told early.
+fn first_after_large(request: &Request) -> Stage {
+    if request.anew || request.fixed.is_empty() {
+        Stage::Memory
+    } else {
+        Stage::Staying
+    }
+}
+
+/// Whether the fast one agrees, or tells a new window that is too large no earlier than it may. Whether it tells one.
+fn compare_large(alloc: Global, board: &Board, request: Request) -> Result<bool, &'static str> {
+    let slow = settle_slowly(alloc, board, request).map_err(|_| "no memory")?;
+    let stage = match &slow {
+        Answer::Settled(_) => Stage::Settled,
+        Answer::Refused(stage, _) => *stage,
+    };
+    match settle_fast(alloc, board, request)?.err() {
+        Some(Refused::Fault(SettleFault::TooLarge { .. })) => {
+            if stage < first_after_large(&request) {
+                return Err("too large too early");
+            }
+            return Ok(true);
+        }
+        _ => {}
+    }
+    match slow {
+        Answer::Settled(slow) => compare_settled(alloc, board, request, &slow)?,
+        Answer::Refused(_, fault) => compare_refused(alloc, board, request, &fault)?,
+    }
+    Ok(false)
+}
+
 /// Settles a board by both, which have to agree. What it comes to: the board as it was, where it is refused.
 fn settle_both(
     alloc: Global,
@@ -154,7 +187,7 @@ fn settle_both(
             compare_settled(alloc, &board, request, &slow)?;
             Ok(slow.board)
         }
-        Answer::Refused(fault) => {
+        Answer::Refused(_, fault) => {
             tally.and_refused(&fault);
             compare_refused(alloc, &board, request, &fault)?;
             Ok(board)
@@ -204,6 +237,43 @@ fn settle_all(alloc: Global, first: u64, end: u64) -> Result<(), Fail> {
         }
     }
     if !tally.has_each(50) {
+        return Err(Fail::new(format_args!("boards are lacking")));
+    }
+    Ok(())
+}
+
+/// Settles the board of a seed, with two BARs of half of all addresses behind a bridge.
+fn settle_large(alloc: Global, seed: u64) -> Result<bool, &'static str> {
+    let mut rule = Rule::with_large(seed);
+    let board = rule.board(alloc).map_err(|_| "no memory")?;
+    let root = last_root(&board);
+    let asked = rule.asked(alloc, &board, root).map_err(|_| "no memory")?;
+    let lists = Lists {
+        io: &asked.io,
+        mem: &asked.mem,
+        pref: &asked.pref,
+    };
+    let request = Request {
+        lists,
+        fixed: &asked.fixed,
+        anew: asked.anew,
+    };
+    compare_large(alloc, &board, request)
+}
+
+#[test]
+fn windows_that_are_too_large_are_told_in_turn(rt: HostRuntime) -> Result<(), Fail> {
+    let mut told = 0u32;
+    for seed in 0..62 {
+        match settle_large(rt.alloc(), seed) {
+            Ok(true) => told = told.saturating_add(1),
+            Ok(false) => {}
+            Err(what) => {
+                return Err(Fail::new(format_args!("the board of {seed}: {what}")));
+            }
+        }
+    }
+    if told < 11 {
         return Err(Fail::new(format_args!("boards are lacking")));
     }
     Ok(())
