@@ -1,3 +1,4 @@
 pub mod Lengths
 pub mod WordBytes
 pub mod Settlings
+pub mod Wants

@@ -7,6 +7,8 @@ use Rattle.pci_settle_writes.specs.FaultText.{settle_fault_text}
 use Rattle.pci_settle_writes.specs.declared.lack.SettleFault.{SettleFault}
 use Rattle.pci_settle_writes.specs.declared.lack.SettleFault.TheVariants as settle
 use Rattle.pciplan_held.specs.Texts.{unread_line, unread_status, unread_text}
+use Rattle.pciplan_held.specs.declared.refusal.Refusal.TheVariants.{Root, Dump, Probe}
+use Rattle.pciplan_held.specs.declared.unread.Unread.TheVariants as unread
 use Rattle.pciplan_c.specs.declared.no_writes.NoWrites.{NoWrites}
 use Rattle.pciplan_c.specs.declared.no_writes.NoWrites.TheVariants.{BadWord, Unread, NotPlanned, NotSettled}
 use Rattle.pciplan_c.specs.declared.settle_words.SettleWord.{SettleWord}
@@ -35,6 +37,16 @@ no_writes_status (BadWord bad) = 2
 no_writes_status (Unread unread) = unread_status unread
 no_writes_status (NotPlanned fault) = 1
 no_writes_status (NotSettled fault) = 1
+
+-- its text is put together in memory; that of a root list, or of a word, is a constant
+abbrev pub IsMade : NoWrites → Type 0
+IsMade (BadWord bad) = ⊥
+IsMade (Unread (unread.Refused Root)) = ⊥
+IsMade (Unread (unread.Refused (Dump fault))) = Unit {0}
+IsMade (Unread (unread.Refused (Probe fault))) = Unit {0}
+IsMade (Unread (unread.NotAdmitted fault)) = Unit {0}
+IsMade (NotPlanned fault) = Unit {0}
+IsMade (NotSettled fault) = Unit {0}
 
 -- the size and the alignment of what has no room
 abbrev pub settle_fault_numbers : SettleFault → ℕ × ℕ

@@ -16,7 +16,7 @@ use Rattle.pciplan_held.specs.declared.refusal.Refusal.TheVariants.{Root}
 use Rattle.pciplan_held.specs.declared.register_write.RegisterWrite.{RegisterWrite}
 use Rattle.pciplan_held.specs.declared.unread.Unread.{Unread as UnreadOfCode}
 use Rattle.pciplan_held.specs.declared.unread.Unread.TheVariants as unread
-use Rattle.pciplan_c.specs.SettleWords.{IsRequestOf, IsBadWord, HaveMeaning}
+use Rattle.pciplan_c.specs.SettleWords.{IsRequestOf, IsBadWord, IsWordWant, HaveMeaning}
 use Rattle.pciplan_c.specs.declared.no_writes.NoWrites.{NoWrites}
 use Rattle.pciplan_c.specs.declared.no_writes.NoWrites.TheVariants.{BadWord, Unread, NotPlanned, NotSettled}
 use Rattle.pciplan_c.specs.declared.settle_words.SettleWords.{SettleWords}
@@ -71,3 +71,7 @@ IsNoSettlingOf roots dump probe words (Unread unread) =
 IsNoSettlingOf roots dump probe words (NotPlanned fault) = ⊥
 IsNoSettlingOf roots dump probe words (NotSettled fault) =
     IsNotSettled roots dump probe words fault
+
+-- where memory may be wanted: the root list is one, and what a word spells takes memory or all words have a meaning
+abbrev pub MayWant : List ℕ → SettleWords → Type 0
+MayWant roots words = IsRootList roots × (IsWordWant words ⊎ HaveMeaning words)

@@ -2,6 +2,9 @@
 use pci_check::outcome::Outcome;
 use pciplan_held::refusal::Refusal;
 
+/// The message where the list of root buses is none.
+pub const ROOT_MESSAGE: &str = "root";
+
 /// The verdict on two texts, or why there is none.
 #[derive(Clone, Copy, Debug, PartialEq, Eq)]
 pub enum Answer {

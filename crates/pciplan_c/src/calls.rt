@@ -3,6 +3,7 @@ ghost use Rattle.std.specs.Prelude.{◌≡◌, ◌⊎◌, ◌≤◌, ◌<◌, le
 ghost use Rattle.std.specs.List.{slice_get};
 ghost use Rattle.pci_dump.specs.ReadFault.{IsTextFault};
 ghost use Rattle.pci_dump.specs.declared.read_fault.ReadFault.{ReadFault};
+ghost use Rattle.pci_tree.specs.Roots.{IsRootList};
 ghost use Rattle.pci_steps.specs.Steps.{judged, steps_of};
 ghost use Rattle.pci_function.specs.declared.fault.Fault.{Fault};
 ghost use Rattle.pci_check.specs.declared.outcome.Outcome.TheVariants.{Yes, No};
@@ -10,7 +11,7 @@ ghost use Rattle.pciplan_c.specs.Answers.{IsAnswerOf, IsTold, IsTooLong};
 ghost use Rattle.pciplan_held.specs.RegisterWrites.{value_of};
 ghost use Rattle.pciplan_c.specs.Endings.{ArePut, AreTooMany, IsNoneTold, IsNoneTooLong};
 ghost use Rattle.pciplan_c.specs.PlanAnswers.{ArePlanned, IsNoPlanOf, pools_of};
-ghost use Rattle.pciplan_c.specs.SettleAnswers.{AreSettled, IsNoSettlingOf};
+ghost use Rattle.pciplan_c.specs.SettleAnswers.{AreSettled, IsNoSettlingOf, MayWant};
 ghost use Rattle.pciplan_c.specs.Stepping.{IsStartPut, IsStartTooLong, answer_number, said_of, shown_by, step_value};
 ghost use Rattle.pciplan_c.specs.declared.answer.Answer.TheVariants.{Verdict, Refused};
 ghost use Rattle.pciplan_held.specs.declared.refusal.Refusal.{Refusal};
@@ -36,8 +37,9 @@ use std::alloc::Global;
 /// else where the dump's text has a fault, else where the probe's has. The text stands at the front of `line`, and
 /// `line_used` is its length.
 ///
-/// It answers 3 where a growth was refused; then nothing was changed. It answers 4 where `line` is too short; then `line`
-/// wasn't changed, and `line_used` is the length that is needed. With 96 bytes of `line` or more it isn't answered.
+/// It answers 3 where a growth was refused; then `roots` is a list of root buses, and nothing was changed. It answers 4
+/// where `line` is too short; then `line` wasn't changed, and `line_used` is the length that is needed. With 96 bytes of
+/// `line` or more it isn't answered.
 #[unsafe(no_mangle)]
 pub extern "C" fn pciplan_check(
     alloc: Global,
@@ -59,6 +61,8 @@ pub extern "C" fn pciplan_check(
         × IsTold (IsAnswerOf roots.now dump.now probe.now)
         (Refused refusal) line.old line.new line_used.new }
     ensures memory { result ≡ 3 → (line.new ≡ line.old) × (line_used.new ≡ line_used.old) }
+    // no memory helps a list that is none
+    ensures wanted { result ≡ 3 → IsRootList roots.now }
     ensures room { result ≡ 4
         → (line.new ≡ line.old) × IsTooLong roots.now dump.now probe.now line.old line_used.new }
     ensures enough { 96 ≤ length line.old → result ≤ 3 }
@@ -89,9 +93,9 @@ pub extern "C" fn pciplan_check(
 /// line `no ..` where the texts or the plan have a fault, and 2 and a message as `pciplan_check` does; `line_used` is its
 /// length, and `writes_used` is 0.
 ///
-/// It answers 3 where a growth was refused; then nothing was changed. It answers 4 where `writes` or `line` has no room;
-/// then both are as they were, and `writes_used` or `line_used` is what is needed, and the other one 0. With 96 bytes of
-/// `line` or more it is `writes` that has none. `safe_from` is changed at 0 alone.
+/// It answers 3 where a growth was refused; then `roots` is a list of root buses, and nothing was changed. It answers 4
+/// where `writes` or `line` has no room; then both are as they were, and `writes_used` or `line_used` is what is needed,
+/// and the other one 0. With 96 bytes of `line` or more it is `writes` that has none. `safe_from` is changed at 0 alone.
 #[unsafe(no_mangle)]
 pub extern "C" fn pciplan_plan(
     alloc: Global,
@@ -119,6 +123,8 @@ pub extern "C" fn pciplan_plan(
         → (writes.new ≡ writes.old) × (line.new ≡ line.old) }
     ensures memory { result ≡ 3
         → (writes_used.new ≡ writes_used.old) × (line_used.new ≡ line_used.old) }
+    // no memory helps a list that is none
+    ensures wanted { result ≡ 3 → IsRootList roots.now }
     ensures room { result ≡ 4
         → AreTooMany (ArePlanned roots.now dump.now probe.now (pools_of pools.now)) writes.old
         writes_used.new
@@ -173,9 +179,10 @@ pub extern "C" fn pciplan_plan(
 /// 2 and a message where `roots` is empty or doesn't rise, else where a word has no meaning (`pool io`, `pool mem`, `pool
 /// pref`, `fixed`), else as `pciplan_check` does. `line_used` is its length, and `writes_used` is 0.
 ///
-/// It answers 3 where a growth was refused; then nothing was changed. It answers 4 where `writes` or `line` has no room;
-/// then both are as they were, and `writes_used` or `line_used` is what is needed, and the other one 0. With 96 bytes of
-/// `line` or more it is `writes` that has none. `safe_from` is changed at 0 alone.
+/// It answers 3 where a growth was refused; then nothing was changed. `roots` is a list of root buses then. Each word has a
+/// meaning, or one has ranges or slots and those before it have a meaning. It answers 4 where `writes` or `line` has no
+/// room; then both are as they were, and `writes_used` or `line_used` is what is needed, and the other one 0. With 96 bytes
+/// of `line` or more it is `writes` that has none. `safe_from` is changed at 0 alone.
 #[unsafe(no_mangle)]
 pub extern "C" fn pciplan_settle(
     alloc: Global,
@@ -203,6 +210,8 @@ pub extern "C" fn pciplan_settle(
         → (writes.new ≡ writes.old) × (line.new ≡ line.old) }
     ensures memory { result ≡ 3
         → (writes_used.new ≡ writes_used.old) × (line_used.new ≡ line_used.old) }
+    // no memory helps a list or a word that is none
+    ensures wanted { result ≡ 3 → MayWant roots.now words.now }
     ensures room { result ≡ 4
         → AreTooMany (AreSettled roots.now dump.now probe.now words.now) writes.old writes_used.new
         × (line_used.new ≡ 0)

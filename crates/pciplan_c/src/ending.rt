@@ -1,6 +1,7 @@
 //! What planning or settling ends with.
-ghost use Rattle.std.specs.Prelude.{◌≡◌, ◌≤◌, ℕ, IfOk, IfErr};
+ghost use Rattle.std.specs.Prelude.{◌≡◌, ◌≢◌, ◌≤◌, ℕ, length, IfOk, IfErr};
 ghost use Rattle.pciplan_c.specs.Endings.{IsToldOf, IsTooLongFor};
+ghost use Rattle.pciplan_c.specs.NoWrites.{IsMade, no_writes_text};
 
 use crate::no_writes::NoWrites;
 use pciplan_held::put::{Withheld, put};
@@ -44,6 +45,24 @@ pub enum HeldBack {
     Line(usize),
 }
 
+/// Puts the text of why there are no writes into a line.
+fn put_text(why: NoWrites, text: &[u8], line: &mut [u8]) -> Result<Ending, HeldBack>
+    requires text { text.now ≡ no_writes_text why }
+    requires short { length text.now ≤ 96 }
+    ensures told { IfOk result (IsToldOf why line.old line.new) }
+    ensures quiet { IfErr result (λ _. line.new ≡ line.old) }
+    ensures room { IfErr result (IsTooLongFor why line.old) }
+    ensures short { IfErr result
+        (λ held. (needed : ℕ) → held ≡ HeldBack.Line needed → needed ≤ 96) }
+    ensures memory { IfErr result (λ held. held ≢ HeldBack.Memory) }
+{
+    match put(text, line) {
+        Ok(used) => Ok(Ending::NoWrites { why, used }),
+        Err(Withheld::Memory) => Err(HeldBack::Memory),
+        Err(Withheld::NoRoom(needed)) => Err(HeldBack::Line(needed)),
+    }
+}
+
 /// Puts why there are no writes into a line.
 #[tactic(auto, using(crate::proofs::Lengths::no_writes_short))]
 pub fn tell<A: Allocator>(alloc: A, why: NoWrites, line: &mut [u8]) -> Result<Ending, HeldBack>
@@ -54,16 +73,17 @@ pub fn tell<A: Allocator>(alloc: A, why: NoWrites, line: &mut [u8]) -> Result<En
     // so 96 bytes always have room
     ensures short { IfErr result
         (λ held. (needed : ℕ) → held ≡ HeldBack.Line needed → needed ≤ 96) }
+    // a constant text takes no memory
+    ensures memory { IfErr result (λ held. held ≡ HeldBack.Memory → IsMade why) }
 {
     // Read for their ranges: a line number has at most 20 digits, a size at most 16.
     let (_first, _second) = why.numbers();
+    if let Some(text) = why.constant_text() {
+        return put_text(why, text.as_bytes(), line);
+    }
     let text = match format!(in alloc; "{why}") {
         Ok(text) => text,
         Err(_) => return Err(HeldBack::Memory),
     };
-    match put(text.as_bytes(), line) {
-        Ok(used) => Ok(Ending::NoWrites { why, used }),
-        Err(Withheld::Memory) => Err(HeldBack::Memory),
-        Err(Withheld::NoRoom(needed)) => Err(HeldBack::Line(needed)),
-    }
+    put_text(why, text.as_bytes(), line)
 }

@@ -2,9 +2,11 @@
 ghost use Rattle.std.specs.Prelude.{◌≡◌, Some};
 ghost use Rattle.pciplan_c.specs.NoWrites.{settle_fault_numbers};
 
+use crate::answer::ROOT_MESSAGE;
 use crate::settle_words::SettleWord;
 use pci_plan::plan_fault::PlanFault;
 use pci_settle_writes::lack::SettleFault;
+use pciplan_held::refusal::Refusal;
 use pciplan_held::unread::Unread;
 use std::fmt;
 
@@ -35,7 +37,8 @@ fn sizes_of(fault: SettleFault) -> (u64, u64)
 }
 
 impl NoWrites {
-    ghost use Rattle.pciplan_c.specs.NoWrites.{no_writes_numbers, no_writes_status};
+    ghost use Rattle.std.specs.Prelude.{MatchOption};
+    ghost use Rattle.pciplan_c.specs.NoWrites.{IsMade, no_writes_numbers, no_writes_status, no_writes_text};
 
     /// 1 where the texts, their plan or their settling have a fault, 2 where they or a word are refused.
     pub fn status(self) -> u8
@@ -58,6 +61,17 @@ impl NoWrites {
             NoWrites::Unread(unread) => (unread.line(), 0),
             NoWrites::NotPlanned(_) => (0, 0),
             NoWrites::NotSettled(fault) => sizes_of(fault),
+        }
+    }
+
+    /// The message, where it is a constant text: of a word, and of the list of root buses.
+    pub fn constant_text(self) -> Option<&'static str>
+        ensures { MatchOption result (IsMade self) (λ text. text.now ≡ no_writes_text self) }
+    {
+        match self {
+            NoWrites::BadWord(word) => Some(word.message()),
+            NoWrites::Unread(Unread::Refused(Refusal::Root)) => Some(ROOT_MESSAGE),
+            NoWrites::Unread(_) | NoWrites::NotPlanned(_) | NoWrites::NotSettled(_) => None,
         }
     }
 }

@@ -1,5 +1,6 @@
 //! The plan of two texts that lie in memory.
 ghost use Rattle.std.specs.Prelude.{◌≡◌, ◌≤◌, ℕ, List, IfOk, IfErr};
+ghost use Rattle.pci_tree.specs.Roots.{IsRootList};
 ghost use Rattle.pciplan_held.specs.Texts.{AreTexts};
 ghost use Rattle.pciplan_c.specs.PlanAnswers.{ArePlanned, IsNoPlanOf, pools_of};
 ghost use Rattle.pciplan_c.specs.Endings.{ArePut, IsEnding, IsHeldBack, IsNotPut, lent};
@@ -64,6 +65,7 @@ fn plan_texts<A: Allocator + Copy>(
     ensures why { IfErr result
         (IsNotPut (ArePlanned roots.now dump.now probe.now (pools_of pools.now))
         (IsNoPlanOf roots.now dump.now probe.now (pools_of pools.now)) writes.old) }
+    ensures memory { IfErr result (λ why. why ≡ NotPut.Memory → IsRootList roots.now) }
 {
     let Some(roots) = Roots::of(roots) else {
         return Err(NotPut::NoWrites(NoWrites::Unread(Unread::Refused(Refusal::Root))));
@@ -90,8 +92,9 @@ fn plan_texts<A: Allocator + Copy>(
 ///
 /// # Errors
 ///
-/// `Memory` where a growth was refused, `Writes` and `Line` where `writes` or `line` has no room. Then both stay as they
-/// were.
+/// `Memory` where a growth was refused, which is asked for only where `roots` is a list of root buses. `Writes` and `Line`
+/// where `writes` or `line` has no room. Then both stay as they were.
+#[tactic(auto, using(crate::proofs::Wants::plan_wants))]
 pub fn plan_into<A: Allocator + Copy>(
     alloc: A,
     dump: &[u8],
@@ -114,6 +117,8 @@ pub fn plan_into<A: Allocator + Copy>(
     // so 96 bytes always have room
     ensures short { IfErr result
         (λ held. (needed : ℕ) → held ≡ HeldBack.Line needed → needed ≤ 96) }
+    // no memory helps a list that is none
+    ensures memory { IfErr result (λ held. held ≡ HeldBack.Memory → IsRootList roots.now) }
 {
     match plan_texts(alloc, dump, probe, roots, pools, writes) {
         Ok(Steps { count, safe_from }) => Ok(Ending::Writes { count, safe_from }),

@@ -36,6 +36,23 @@ pub enum SettleWord {
     Fixed,
 }
 
+impl SettleWord {
+    ghost use Rattle.std.specs.Prelude.{◌≡◌};
+    ghost use Rattle.pciplan_c.specs.NoWrites.{settle_word_text};
+
+    /// The message where it has no meaning.
+    pub fn message(self) -> &'static str
+        ensures { result.now ≡ settle_word_text self }
+    {
+        match self {
+            SettleWord::Io => "pool io",
+            SettleWord::Mem => "pool mem",
+            SettleWord::Pref => "pool pref",
+            SettleWord::Fixed => "fixed",
+        }
+    }
+}
+
 /// The message where it has no meaning.
 impl fmt::Display for SettleWord {
     ghost use Rattle.std.specs.Prelude.{Some};
@@ -44,12 +61,8 @@ impl fmt::Display for SettleWord {
     ghost output = { λ w. Some (settle_word_text w) };
 
     fn fmt<W: fmt::Write>(&self, f: &mut fmt::Formatter<W>) -> fmt::Result {
-        match *self {
-            SettleWord::Io => write!(f, "pool io"),
-            SettleWord::Mem => write!(f, "pool mem"),
-            SettleWord::Pref => write!(f, "pool pref"),
-            SettleWord::Fixed => write!(f, "fixed"),
-        }
+        let message = self.message();
+        write!(f, "{message}")
     }
 }
 

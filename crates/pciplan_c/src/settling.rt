@@ -2,7 +2,7 @@
 ghost use Rattle.std.specs.Prelude.{◌≡◌, ◌≤◌, ℕ, List, IfOk, IfErr};
 ghost use Rattle.pciplan_held.specs.Texts.{AreTexts};
 ghost use Rattle.pciplan_c.specs.SettleWords.{IsAskedBy};
-ghost use Rattle.pciplan_c.specs.SettleAnswers.{AreSettled, IsNoSettlingOf, IsSafeFrom};
+ghost use Rattle.pciplan_c.specs.SettleAnswers.{AreSettled, IsNoSettlingOf, IsSafeFrom, MayWant};
 ghost use Rattle.pciplan_c.specs.Endings.{ArePut, IsEnding, IsHeldBack, IsNotPut, lent};
 ghost use Rattle.pciplan_c.specs.declared.settle_words.SettleWords.{SettleWords as WordsValue};
 
@@ -92,6 +92,7 @@ fn settle_texts<A: Allocator + Copy>(
     ensures why { IfErr result
         (IsNotPut (AreSettled roots.now dump.now probe.now words.now)
         (IsNoSettlingOf roots.now dump.now probe.now words.now) writes.old) }
+    ensures memory { IfErr result (λ why. why ≡ NotPut.Memory → MayWant roots.now words.now) }
 {
     let Some(roots) = Roots::of(roots) else {
         return Err(NotPut::NoWrites(NoWrites::Unread(Unread::Refused(Refusal::Root))));
@@ -123,8 +124,10 @@ fn settle_texts<A: Allocator + Copy>(
 ///
 /// # Errors
 ///
-/// `Memory` where a growth was refused, `Writes` and `Line` where `writes` or `line` has no room. Then both stay as they
-/// were.
+/// `Memory` where a growth was refused. One is asked for only where `roots` is a list of root buses, for the ranges and the
+/// slots of words, and then where each word has a meaning. `Writes` and `Line` where `writes` or `line` has no room. Then
+/// both stay as they were.
+#[tactic(auto, using(crate::proofs::Wants::settle_wants))]
 pub fn settle_into<A: Allocator + Copy>(
     alloc: A,
     dump: &[u8],
@@ -147,6 +150,8 @@ pub fn settle_into<A: Allocator + Copy>(
     // so 96 bytes always have room
     ensures short { IfErr result
         (λ held. (needed : ℕ) → held ≡ HeldBack.Line needed → needed ≤ 96) }
+    // no memory helps a list or a word that is none
+    ensures memory { IfErr result (λ held. held ≡ HeldBack.Memory → MayWant roots.now words.now) }
 {
     match settle_texts(alloc, dump, probe, roots, words, writes) {
         Ok(Steps { count, safe_from }) => Ok(Ending::Writes { count, safe_from }),

@@ -1,8 +1,9 @@
 //! The verdict on two texts that lie in memory.
-ghost use Rattle.std.specs.Prelude.{◌≡◌, ◌≤◌, ℕ, length, IfOk, IfErr};
+ghost use Rattle.std.specs.Prelude.{◌≡◌, ◌≤◌, ℕ, List, length, IfOk, IfErr};
+ghost use Rattle.pci_tree.specs.Roots.{IsRootList, buses_of};
 ghost use Rattle.pciplan_c.specs.Answers.{IsAnswerOf, IsTold, IsTooLong, answer_text};
 
-use crate::answer::Answer;
+use crate::answer::{Answer, ROOT_MESSAGE};
 use pci_base::memory::OutOfMemory;
 use pci_check::audit::audit_with;
 use pci_check::outcome::AuditFault;
@@ -37,21 +38,20 @@ fn refused<A: Allocator>(alloc: A, refusal: Refusal) -> Result<Told<A>, OutOfMem
     }
 }
 
-/// The answer to two texts and a list of root buses, with its text.
+/// The answer to two texts with these root buses, with its text.
 #[tactic(auto, using(crate::proofs::Lengths::line_short))]
 fn answer_to<A: Allocator + Copy>(
     alloc: A,
     dump: &[u8],
     probe: &[u8],
-    roots: &[u8],
+    roots: Roots,
 ) -> Result<Told<A>, OutOfMemory>
-    ensures answer { IfOk result (λ told. IsAnswerOf roots.now dump.now probe.now told.answer) }
+    // of the list of which the roots were made
+    ensures answer { IfOk result (λ told. (buses : List ℕ) → buses_of roots ≡ buses → IsRootList buses
+        → IsAnswerOf buses dump.now probe.now told.answer) }
     ensures text { IfOk result (λ told. told.text.items ≡ answer_text told.answer) }
     ensures short { IfOk result (λ told. length told.text.items ≤ 96) }
 {
-    let Some(roots) = Roots::of(roots) else {
-        return refused(alloc, Refusal::Root);
-    };
     let mut dump = Bytes::of(dump);
     let mut probe = Bytes::of(probe);
     let mut line = Written::none(alloc);
@@ -79,8 +79,8 @@ pub struct Line {
 ///
 /// # Errors
 ///
-/// `Memory` where a growth was refused, `NoRoom` where `line` is shorter than what is to be put there. Then it stays as
-/// it was.
+/// `Memory` where a growth was refused, which is asked for only where `roots` is a list of root buses; `NoRoom` where
+/// `line` is shorter than what is to be put there. Then it stays as it was.
 pub fn check_into<A: Allocator + Copy>(
     alloc: A,
     dump: &[u8],
@@ -97,7 +97,18 @@ pub fn check_into<A: Allocator + Copy>(
     // so 96 bytes always have room
     ensures short { IfErr result
         (λ why. (needed : ℕ) → why ≡ Withheld.NoRoom needed → needed ≤ 96) }
+    // no memory helps a list that is none
+    ensures memory { IfErr result (λ why. why ≡ Withheld.Memory → IsRootList roots.now) }
 {
+    let Some(roots) = Roots::of(roots) else {
+        return match put(ROOT_MESSAGE.as_bytes(), line) {
+            Ok(used) => Ok(Line {
+                answer: Answer::Refused(Refusal::Root),
+                used,
+            }),
+            Err(why) => Err(why),
+        };
+    };
     let told = match answer_to(alloc, dump, probe, roots) {
         Ok(told) => told,
         Err(OutOfMemory) => return Err(Withheld::Memory),
