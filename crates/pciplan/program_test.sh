@@ -54,14 +54,14 @@ awk 'BEGIN {
 }' >cases/deep.txt
 
 # Boards written as text, with what the program answers about each, run beside what follows, each file in a folder of its
-# own: it prints `FILE: N passed, M failed`. So do the scripts around the program: capture and conversion of texts, what
-# is installed, and the commands that pages show.
+# own: it prints `FILE: N passed, M failed`. So do the scripts around the program: writes on a running Linux, capture and
+# conversion of texts, what is installed, and the commands that pages show.
 for cases in cases/*.txt; do
     mkdir "$cases.d"
     ln -s ../../pciplan ../../cases "$cases.d"
     (cd "$cases.d" && exec awk -f ../../cases.awk "$cases" >"../../$cases.told") &
 done
-scripts='assumed capture install pages'
+scripts='apply assumed capture install pages'
 for script in $scripts; do
     "$here/${script}_test.sh" "$made" >$script.told &
 done
