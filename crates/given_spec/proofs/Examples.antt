@@ -4,3 +4,4 @@ pub mod Clashes
 pub mod Lines
 pub mod Reasons
 pub mod Moved
+pub mod CutBodies
