@@ -5,3 +5,4 @@ pub mod Lines
 pub mod Reasons
 pub mod Moved
 pub mod CutBodies
+pub mod Fits
