@@ -2,3 +2,4 @@ pub mod Samples
 pub mod Texts
 pub mod FirstWindows
 pub mod Places
+pub mod InsideWindows
