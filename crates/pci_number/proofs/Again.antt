@@ -16,8 +16,8 @@ use Rattle.number_spec.specs.Reached.{reached}
 use Rattle.number_spec.proofs.Kept.{same_walk}
 use Rattle.number_spec.proofs.SameRoom.{last_reached, roomy_numbers_are_one, all_roomy_numbers_are_one}
 use Rattle.number_spec.proofs.Spare.{spare_stays}
-use Rattle.pci_number.specs.Answer.{named_by, highest_of, IsAnswer}
-use Rattle.pci_number.specs.Again.{IsStanding, NumbersStand}
+use Rattle.pci_number.specs.Answer.{named_by, highest_bus_of, IsAnswer}
+use Rattle.pci_number.specs.Again.{IsSameNumbering, NumbersStand}
 use Rattle.pci_number.specs.declared.number.Numbering.{Numbering}
 use Rattle.pci_number.specs.declared.number.Numbering.TheVariants.{Numbered, NoBus}
 use Rattle.pci_number.proofs.RootView.{same_nodes, all_same}
@@ -47,13 +47,13 @@ first_reached bus (Node d f image behind others) = elim (cases_Bool (has_bus ima
   | inr none ↦ rw (none, first_reached bus others) refl
 ]
 
-same_numbering : (a b : Numbering) → named_by a ≡ named_by b → highest_of a ≡ highest_of b → a ≡ b
+same_numbering : (a b : Numbering) → named_by a ≡ named_by b → highest_bus_of a ≡ highest_bus_of b → a ≡ b
 same_numbering (Numbered n) (Numbered m) named highest = ap Numbered highest
 same_numbering (Numbered n) (NoBus slot m) named highest = absurd (cc named)
 same_numbering (NoBus slot n) (Numbered m) named highest = absurd (cc named)
 same_numbering (NoBus slot n) (NoBus other m) named highest = cc
 
-stands : (spare root last : ℕ) (before after again : Board) (first second : Numbering) → IsReady after root last → IsAnswer spare before root last first after → IsAnswer spare after root last second again → IsStanding root first after second again
+stands : (spare root last : ℕ) (before after again : Board) (first second : Numbering) → IsReady after root last → IsAnswer spare before root last first after → IsAnswer spare after root last second again → IsSameNumbering root first after second again
 stands spare root last before after again first second ready a b =
     let nodes = nodes_behind after root in
     let more = nodes_behind again root in

@@ -2,7 +2,7 @@
 use Rattle.std.proofs.Common.{◌≡◌, ℕ, ◌+◌, ◌<◌, ◌≤◌, Bool, true, false, arith, subst, List}
 use Rattle.pci_spec.specs.Slot.{Slot}
 use Rattle.number_spec.specs.Board.{Board, IsSingle}
-use Rattle.pci_number.specs.Steps.{IsOpened}
+use Rattle.pci_number.specs.Steps.{IsBusOpened}
 use Rattle.pci_number.specs.Few.{IsOpenFew, IsBusFew}
 use Rattle.pci_number.specs.Walked.{IsBusNumbered, outset}
 use Rattle.pci_number.specs.Stood.{Adds}
@@ -22,8 +22,8 @@ pub record Behind (spare : ℕ) (now far : Board) (slot : Slot) (last : ℕ) (wa
 
 -- a bridge that was opened on the board as it was looked at
 module _ (now seen_on : Board) (slot : Slot) (bus last : ℕ) (same : seen_on ≡ now) where
-  pub is_open : (later : Board) (b answer : Bool) → b ≡ answer → IsOpened seen_on slot bus last b later → IsOpened now slot bus last answer later
-  is_open later b answer is gets = subst (λ x. IsOpened x slot bus last answer later) same (subst (λ x. IsOpened seen_on slot bus last x later) is gets)
+  pub is_open : (later : Board) (b answer : Bool) → b ≡ answer → IsBusOpened seen_on slot bus last b later → IsBusOpened now slot bus last answer later
+  is_open later b answer is gets = subst (λ x. IsBusOpened x slot bus last answer later) same (subst (λ x. IsBusOpened seen_on slot bus last x later) is gets)
 
   -- the writes that it took
   pub few_from : (total made opened_by : ℕ) → made ≡ total → IsOpenFew seen_on slot bus last made opened_by → IsOpenFew now slot bus last total opened_by
@@ -37,7 +37,7 @@ module _ (now seen_on : Board) (slot : Slot) (bus last : ℕ) (same : seen_on �
   open_end stood old new same_history ends = subst (λ h. IsOpenEnd now slot bus last h new) same_history (subst (λ b. IsOpenEnd b slot bus last old new) same ends)
 
 module _ (spare : ℕ) (now mid : Board) (slot : Slot) (last : ℕ) (walk : Walk) (total opened_by : ℕ) (old new newer : List Board) (more : Bool) (failed : ℕ) (left : walk.taken < last) (opened_few : IsOpenFew now slot (walk.taken + 1) last total opened_by) (opened_ok : IsOpenOk now slot (walk.taken + 1) last new newer) where
-  pub behind_alone : (opened_failed : ℕ) → IsOpened now slot (walk.taken + 1) last false mid → opened_failed ≡ failed → Behind spare now mid slot last walk (one_more walk) total opened_by old new newer more failed opened_failed
+  pub behind_alone : (opened_failed : ℕ) → IsBusOpened now slot (walk.taken + 1) last false mid → opened_failed ≡ failed → Behind spare now mid slot last walk (one_more walk) total opened_by old new newer more failed opened_failed
   behind_alone opened_failed gets none_failed = record {
     begun = begun_alone spare now mid slot last walk left gets;
     few = begun_few_alone now slot last walk total opened_by left opened_few;
@@ -46,7 +46,7 @@ module _ (spare : ℕ) (now mid : Board) (slot : Slot) (last : ℕ) (walk : Walk
     counted = none_failed;
   }
 
-  pub behind_wide : (far : Board) (after : Walk) (far_by far_failed : ℕ) (newest : List Board) → IsOpened now slot (walk.taken + 1) last true mid → IsBusNumbered mid (outset (walk.taken + 1) last spare (one_more walk)) after far → walk.taken + 1 ≤ after.taken → IsBusFew mid (outset (walk.taken + 1) last spare (one_more walk)) opened_by far_by → IsBusOk mid (walk.taken + 1) last (one_more walk) newer newest → far_failed ≡ failed → Behind spare now far slot last walk after total far_by old new newest more failed far_failed
+  pub behind_wide : (far : Board) (after : Walk) (far_by far_failed : ℕ) (newest : List Board) → IsBusOpened now slot (walk.taken + 1) last true mid → IsBusNumbered mid (outset (walk.taken + 1) last spare (one_more walk)) after far → walk.taken + 1 ≤ after.taken → IsBusFew mid (outset (walk.taken + 1) last spare (one_more walk)) opened_by far_by → IsBusOk mid (walk.taken + 1) last (one_more walk) newer newest → far_failed ≡ failed → Behind spare now far slot last walk after total far_by old new newest more failed far_failed
   behind_wide far after far_by far_failed newest gets bus up bus_few bus_ok none_failed = record {
     begun = begun_wide spare now mid far slot last walk after left gets bus up;
     few = begun_few_wide spare now mid slot last walk total opened_by far_by left gets opened_few bus_few;

@@ -6,10 +6,10 @@ use Rattle.number_spec.specs.Board.{Nodes, Node, Board, is_type_1}
 use Rattle.number_spec.specs.Walk.{all_after}
 use Rattle.number_spec.proofs.Roomy.{shown}
 use Rattle.pci_number.specs.Seen.{View, code, IsSeen}
-use Rattle.pci_number.specs.Steps.{IsPut, IsAlike, IsLooked, IsShownAt}
+use Rattle.pci_number.specs.Steps.{IsNumberPut, IsAlike, IsLooked, IsShownAt}
 use Rattle.pci_number.specs.Hushing.{Rest}
 use Rattle.pci_number.specs.Less.{IsLess, IsLessOf, IsLessStep, Wrap, IsCloseStood, IsHushStood, IsHushStanding}
-use Rattle.pci_number.specs.Stood.{AddsSteps, EndsSteps, IsOneMore, Moment, moment}
+use Rattle.pci_number.specs.Stood.{AddsSteps, EndsSteps, IsOneMore, BoardMoment, board_moment}
 use Rattle.pci_number.specs.declared.look.Found.{Found}
 use Rattle.pci_number.proofs.Bytes.{other_byte, alike_primary, alike_secondary, alike_subordinate, alike_then}
 use Rattle.pci_number.proofs.Passing.{OfBus, rest, Came, came_first, came_past, at_bridge, came_beyond}
@@ -39,10 +39,10 @@ OfBridge before slot P = (v : View) (high last : ℕ) (image : List ℕ) (behind
 
 -- such boards stood while it was closed, where that was done and where it stopped
 abbrev pub IsCloseOk : Board → Slot → List Board → Board → List Board → Type 0
-IsCloseOk before slot old now new = OfBridge before slot (λ v node. AddsSteps (IsLessStep v node) (moment before old) (moment now new))
+IsCloseOk before slot old now new = OfBridge before slot (λ v node. AddsSteps (IsLessStep v node) (board_moment before old) (board_moment now new))
 
 abbrev pub IsCloseEnd : Board → Slot → List Board → List Board → Type 0
-IsCloseEnd before slot old new = OfBridge before slot (λ v node. EndsSteps (IsLessStep v node) (moment before old) new)
+IsCloseEnd before slot old new = OfBridge before slot (λ v node. EndsSteps (IsLessStep v node) (board_moment before old) new)
 
 -- a byte of it was written
 less_step : (v : View) (d f : ℕ) (image first second : List ℕ) (behind others : Nodes) (was now : Board) → is_type_1 first ≡ true → was ≡ v.fill (Node d f first behind others) → now ≡ v.fill (Node d f second behind others) → IsLessOf (Node d f image behind others) (Node d f first behind others) → IsAlike first second → IsLess first second → IsLessStep v (Node d f image behind others) was now
@@ -55,24 +55,24 @@ less_step v d f image first second behind others was now bridge was_it is start 
   less = less_node d f first second behind others others bridge alike less (less_itself others);
 }
 
-pub close_first : {T E : Type 0} → (before first : Board) (slot : Slot) (old one : List Board) (r : Result T E) → IsErr r → IsOneMore (moment before old) (moment first one) → IsCloseStood (moment before old) slot r (moment first one)
+pub close_first : {T E : Type 0} → (before first : Board) (slot : Slot) (old one : List Board) (r : Result T E) → IsErr r → IsOneMore (board_moment before old) (board_moment first one) → IsCloseStood (board_moment before old) slot r (board_moment first one)
 close_first before first slot old one r err more = λ v high last image behind others is seen alone bridge.
     let R = IsLessStep v (Node slot.device slot.function image behind others) in
     stopped R r before old first one err (stops_one R before old before old first one (steps_none R before old) more)
 
-module _ (before first second third : Board) (slot : Slot) (old one two three : List Board) (p : IsPut before slot 0x1a 0 first) (p_stood : IsOneMore (moment before old) (moment first one)) where
+module _ (before first second third : Board) (slot : Slot) (old one two three : List Board) (p : IsNumberPut before slot 0x1a 0 first) (p_stood : IsOneMore (board_moment before old) (board_moment first one)) where
   first_stood : IsCloseOk before slot old first one
   first_stood = λ v high last image behind others is seen alone bridge.
       let a = p v high last image behind others is seen alone in
       steps_one (IsLessStep v (Node slot.device slot.function image behind others)) before old first one p_stood
       (less_step v slot.device slot.function image image a.0 behind others before first bridge is a.1 (less_itself (Node slot.device slot.function image behind others)) (alike_subordinate image a.0 a.2) (a.3, inl (other_byte 0x1a image a.0 a.2 0x19 s_not_u)))
 
-  pub close_second : {T E : Type 0} → (r : Result T E) → IsErr r → IsOneMore (moment first one) (moment second two) → IsCloseStood (moment before old) slot r (moment second two)
+  pub close_second : {T E : Type 0} → (r : Result T E) → IsErr r → IsOneMore (board_moment first one) (board_moment second two) → IsCloseStood (board_moment before old) slot r (board_moment second two)
   close_second r err more = λ v high last image behind others is seen alone bridge.
       let R = IsLessStep v (Node slot.device slot.function image behind others) in
       stopped R r before old second two err (stops_one R before old first one second two (first_stood v high last image behind others is seen alone bridge) more)
 
-  module _ (q : IsPut first slot 0x19 0 second) (q_stood : IsOneMore (moment first one) (moment second two)) where
+  module _ (q : IsNumberPut first slot 0x19 0 second) (q_stood : IsOneMore (board_moment first one) (board_moment second two)) where
     second_stood : IsCloseOk before slot old second two
     second_stood = λ v high last image behind others is seen alone bridge.
         let R = IsLessStep v (Node slot.device slot.function image behind others) in
@@ -86,12 +86,12 @@ module _ (before first second third : Board) (slot : Slot) (old one two three : 
         (less_node slot.device slot.function image a.0 behind others others bridge alike (a.3, inl (other_byte 0x1a image a.0 a.2 0x19 s_not_u)) (less_itself others))
         (alike_secondary a.0 b.0 b.2) (zero, inr b.3)))
 
-    pub close_third : {T E : Type 0} → (r : Result T E) → IsErr r → IsOneMore (moment second two) (moment third three) → IsCloseStood (moment before old) slot r (moment third three)
+    pub close_third : {T E : Type 0} → (r : Result T E) → IsErr r → IsOneMore (board_moment second two) (board_moment third three) → IsCloseStood (board_moment before old) slot r (board_moment third three)
     close_third r err more = λ v high last image behind others is seen alone bridge.
         let R = IsLessStep v (Node slot.device slot.function image behind others) in
         stopped R r before old third three err (stops_one R before old second two third three (second_stood v high last image behind others is seen alone bridge) more)
 
-    pub close_done : IsPut second slot 0x18 0 third → IsOneMore (moment second two) (moment third three) → IsCloseOk before slot old third three
+    pub close_done : IsNumberPut second slot 0x18 0 third → IsOneMore (board_moment second two) (board_moment third three) → IsCloseOk before slot old third three
     close_done t t_stood = λ v high last image behind others is seen alone bridge.
         let R = IsLessStep v (Node slot.device slot.function image behind others) in
         let a = p v high last image behind others is seen alone in
@@ -108,14 +108,14 @@ module _ (before first second third : Board) (slot : Slot) (old one two three : 
 -- ---- all on a bus
 
 -- what is known of the nodes from a place on
-abbrev StoodUpTo : View → Nodes → Moment → Moment → View → Nodes → Type 0
+abbrev StoodUpTo : View → Nodes → BoardMoment → BoardMoment → View → Nodes → Type 0
 StoodUpTo v nodes from to view left = Wrap v nodes (rest view left) × AddsSteps (IsLessStep v nodes) from to
 
 wrapped : (v : View) (nodes : Nodes) (left : Rest) (device : ℕ) → Wrap v nodes left → Wrap v nodes (record { view = left.view; nodes = left.nodes; device = device })
 wrapped v nodes left device w = record { wrap = w.wrap; fills = w.fills; less = w.less; start = w.start }
 
 -- with that as one fact, and taken apart
-module _ (from to : Moment) (bus place : ℕ) (more : Bool) where
+module _ (from to : BoardMoment) (bus place : ℕ) (more : Bool) where
   came_of : IsHushStanding from bus place more to → OfBus from.board bus (λ v nodes. Came to.board bus place 0 0 more (StoodUpTo v nodes from to))
   came_of standing v high last nodes is seen walkable =
       let h = standing v high last nodes is seen walkable in
@@ -126,18 +126,18 @@ module _ (from to : Moment) (bus place : ℕ) (more : Bool) where
       let h = came v high last nodes is seen walkable in
       (h.0, h.1, h.2, wrapped v nodes (rest h.0.view h.0.nodes) h.0.device h.3.0, h.3.1)
 
-pub standing_start : (before : Board) (bus : ℕ) (old : List Board) → IsHushStanding (moment before old) bus 0 false (moment before old)
-standing_start before bus old = standing_of (moment before old) (moment before old) bus 0 false (λ v high last nodes is seen walkable.
-    came_first before bus 0 0 (StoodUpTo v nodes (moment before old) (moment before old)) v nodes is (seen_alone v bus 0 high last seen) walkable (
+pub standing_start : (before : Board) (bus : ℕ) (old : List Board) → IsHushStanding (board_moment before old) bus 0 false (board_moment before old)
+standing_start before bus old = standing_of (board_moment before old) (board_moment before old) bus 0 false (λ v high last nodes is seen walkable.
+    came_first before bus 0 0 (StoodUpTo v nodes (board_moment before old) (board_moment before old)) v nodes is (seen_alone v bus 0 high last seen) walkable (
       record { wrap = λ after. after; fills = λ after. refl; less = λ a b less. less; start = less_itself nodes },
       steps_none (IsLessStep v nodes) before old,
     ))
 
-pub standing_pass : (before now : Board) (slot : Slot) (bus place : ℕ) (old new : List Board) (more : Bool) (found : Found) → IsPlaceOf slot bus place → IsLooked now slot more found → found.bridge ≡ false → IsHushStanding (moment before old) bus place more (moment now new) → IsHushStanding (moment before old) bus (place + 1) found.more (moment now new)
-standing_pass before now slot bus place old new more found at looked none standing = standing_of (moment before old) (moment now new) bus (place + 1) found.more (λ v high last nodes is seen walkable.
+pub standing_pass : (before now : Board) (slot : Slot) (bus place : ℕ) (old new : List Board) (more : Bool) (found : Found) → IsPlaceOf slot bus place → IsLooked now slot more found → found.bridge ≡ false → IsHushStanding (board_moment before old) bus place more (board_moment now new) → IsHushStanding (board_moment before old) bus (place + 1) found.more (board_moment now new)
+standing_pass before now slot bus place old new more found at looked none standing = standing_of (board_moment before old) (board_moment now new) bus (place + 1) found.more (λ v high last nodes is seen walkable.
     let d = slot.device in
     let f = slot.function in
-    came_past now slot bus place 0 0 more found (StoodUpTo v nodes (moment before old) (moment now new)) at looked none (came_of (moment before old) (moment now new) bus place more standing v high last nodes is seen walkable) (λ view image behind others plain so_far. (
+    came_past now slot bus place 0 0 more found (StoodUpTo v nodes (board_moment before old) (board_moment now new)) at looked none (came_of (board_moment before old) (board_moment now new) bus place more standing v high last nodes is seen walkable) (λ view image behind others plain so_far. (
       record {
         wrap = λ after. so_far.0.wrap (Node d f image behind after);
         fills = λ after. so_far.0.fills (Node d f image behind after);
@@ -158,10 +158,10 @@ step_of_bus v nodes view node w was now step = record {
   less = w.less step.from step.to step.less;
 }
 
-pub standing_close : (before now after : Board) (slot : Slot) (bus place : ℕ) (old mid new : List Board) (more : Bool) (found : Found) → IsPlaceOf slot bus place → IsLooked now slot more found → found.bridge ≡ true → IsShownAt now slot 0 0 0 after → IsCloseOk now slot mid after new → IsHushStanding (moment before old) bus place more (moment now mid) → IsHushStanding (moment before old) bus (place + 1) found.more (moment after new)
-standing_close before now after_it slot bus place old mid new more found at looked one shown_0 stood standing = standing_of (moment before old) (moment after_it new) bus (place + 1) found.more (λ v high last nodes is seen walkable.
-    let So_far = StoodUpTo v nodes (moment before old) (moment now mid) in
-    let b = at_bridge now slot bus place 0 0 more found So_far at looked one (came_of (moment before old) (moment now mid) bus place more standing v high last nodes is seen walkable) in
+pub standing_close : (before now after : Board) (slot : Slot) (bus place : ℕ) (old mid new : List Board) (more : Bool) (found : Found) → IsPlaceOf slot bus place → IsLooked now slot more found → found.bridge ≡ true → IsShownAt now slot 0 0 0 after → IsCloseOk now slot mid after new → IsHushStanding (board_moment before old) bus place more (board_moment now mid) → IsHushStanding (board_moment before old) bus (place + 1) found.more (board_moment after new)
+standing_close before now after_it slot bus place old mid new more found at looked one shown_0 stood standing = standing_of (board_moment before old) (board_moment after_it new) bus (place + 1) found.more (λ v high last nodes is seen walkable.
+    let So_far = StoodUpTo v nodes (board_moment before old) (board_moment now mid) in
+    let b = at_bridge now slot bus place 0 0 more found So_far at looked one (came_of (board_moment before old) (board_moment now mid) bus place more standing v high last nodes is seen walkable) in
     let w = b.known.0 in
     let d = slot.device in
     let f = slot.function in
@@ -169,7 +169,7 @@ standing_close before now after_it slot bus place old mid new more found at look
     let s = shown_0 b.view 0 0 b.image b.behind b.others b.is b.seen b.alone in
     let numbers = shown s.0 0 0 0 s.3 in
     let less : IsLess b.image s.0 = (numbers.subordinate, inr numbers.secondary) in
-    came_beyond now after_it slot bus place 0 0 0 found.more So_far (StoodUpTo v nodes (moment before old) (moment after_it new)) b s.0 b.behind 0 0 0 at s.1 s.3 (omega arith) (omega arith) (omega arith) (
+    came_beyond now after_it slot bus place 0 0 0 found.more So_far (StoodUpTo v nodes (board_moment before old) (board_moment after_it new)) b s.0 b.behind 0 0 0 at s.1 s.3 (omega arith) (omega arith) (omega arith) (
       record {
         wrap = λ after. w.wrap (Node d f s.0 b.behind after);
         fills = λ after. w.fills (Node d f s.0 b.behind after);
@@ -184,18 +184,18 @@ standing_close before now after_it slot bus place old mid new more found at look
 
 -- ---- where it stops
 
-pub standing_left : {T E : Type 0} → (before now after : Board) (bus place : ℕ) (old mid new : List Board) (more : Bool) (r : Result T E) → IsErr r → new ≡ mid → IsHushStanding (moment before old) bus place more (moment now mid) → IsHushStood (moment before old) bus r (moment after new)
+pub standing_left : {T E : Type 0} → (before now after : Board) (bus place : ℕ) (old mid new : List Board) (more : Bool) (r : Result T E) → IsErr r → new ≡ mid → IsHushStanding (board_moment before old) bus place more (board_moment now mid) → IsHushStood (board_moment before old) bus r (board_moment after new)
 standing_left before now after bus place old mid new more r err same standing = λ v high last nodes is seen walkable.
     let h = standing v high last nodes is seen walkable in
-    stopped (IsLessStep v nodes) r before old after new err (moment now mid, h.4, inl same)
+    stopped (IsLessStep v nodes) r before old after new err (board_moment now mid, h.4, inl same)
 
-pub standing_left_close : {T E : Type 0} → (before now after : Board) (slot : Slot) (bus place : ℕ) (old mid new : List Board) (more : Bool) (found : Found) (r : Result T E) → IsErr r → IsPlaceOf slot bus place → IsLooked now slot more found → found.bridge ≡ true → IsCloseEnd now slot mid new → IsHushStanding (moment before old) bus place more (moment now mid) → IsHushStood (moment before old) bus r (moment after new)
+pub standing_left_close : {T E : Type 0} → (before now after : Board) (slot : Slot) (bus place : ℕ) (old mid new : List Board) (more : Bool) (found : Found) (r : Result T E) → IsErr r → IsPlaceOf slot bus place → IsLooked now slot more found → found.bridge ≡ true → IsCloseEnd now slot mid new → IsHushStanding (board_moment before old) bus place more (board_moment now mid) → IsHushStood (board_moment before old) bus r (board_moment after new)
 standing_left_close before now after slot bus place old mid new more found r err at looked one stood standing = λ v high last nodes is seen walkable.
-    let b = at_bridge now slot bus place 0 0 more found (StoodUpTo v nodes (moment before old) (moment now mid)) at looked one (came_of (moment before old) (moment now mid) bus place more standing v high last nodes is seen walkable) in
+    let b = at_bridge now slot bus place 0 0 more found (StoodUpTo v nodes (board_moment before old) (board_moment now mid)) at looked one (came_of (board_moment before old) (board_moment now mid) bus place more standing v high last nodes is seen walkable) in
     let node = Node slot.device slot.function b.image b.behind b.others in
     stopped (IsLessStep v nodes) r before old after new err (stops_then (IsLessStep v nodes) before old now mid new b.known.1
     (stops_as (IsLessStep b.view node) (IsLessStep v nodes) (step_of_bus v nodes b.view node b.known.0) now mid new
     (stood b.view 0 0 b.image b.behind b.others b.is b.seen b.alone b.bridge)))
 
-pub standing_done : (before now : Board) (bus place : ℕ) (old new : List Board) (more : Bool) → IsHushStanding (moment before old) bus place more (moment now new) → OfBus before bus (λ v nodes. AddsSteps (IsLessStep v nodes) (moment before old) (moment now new))
+pub standing_done : (before now : Board) (bus place : ℕ) (old new : List Board) (more : Bool) → IsHushStanding (board_moment before old) bus place more (board_moment now new) → OfBus before bus (λ v nodes. AddsSteps (IsLessStep v nodes) (board_moment before old) (board_moment now new))
 standing_done before now bus place old new more standing v high last nodes is seen walkable = (standing v high last nodes is seen walkable).4

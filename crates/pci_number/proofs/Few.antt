@@ -9,7 +9,7 @@ use Rattle.number_spec.specs.Numbered.{without_numbers}
 use Rattle.number_spec.specs.NoBus.{bridges}
 use Rattle.number_spec.proofs.Kept.{kind_stays}
 use Rattle.pci_number.specs.Seen.{View, code, IsSeen, IsClosed}
-use Rattle.pci_number.specs.Steps.{IsPut, IsLooked, IsShownAt, IsHushed, IsOpened}
+use Rattle.pci_number.specs.Steps.{IsNumberPut, IsLooked, IsShownAt, IsHushed, IsBusOpened}
 use Rattle.pci_number.specs.Few.{bridges_on, IsFew, IsHushFew, IsOpenFew, IsBusFew}
 use Rattle.pci_number.specs.declared.look.Found.{Found}
 use Rattle.pci_number.specs.declared.walk.Walk.{Walk}
@@ -122,13 +122,13 @@ pub begun_few_alone : (now : Board) (slot : Slot) (last : ℕ) (walk : Walk) (to
 begun_few_alone now slot last walk total opened_by left few = λ view image behind others is seen alone bridge closed walkable.
     omega (arith, few view walk.taken image behind others is seen alone bridge closed walkable (omega arith) (omega (arith, left)), some_on behind)
 
-pub begun_few_wide : (spare : ℕ) (now mid : Board) (slot : Slot) (last : ℕ) (walk : Walk) (total opened_by far_by : ℕ) → walk.taken < last → IsOpened now slot (walk.taken + 1) last true mid → IsOpenFew now slot (walk.taken + 1) last total opened_by → IsBusFew mid (outset (walk.taken + 1) last spare (one_more walk)) opened_by far_by → IsBegunFew now slot last walk.taken total far_by
+pub begun_few_wide : (spare : ℕ) (now mid : Board) (slot : Slot) (last : ℕ) (walk : Walk) (total opened_by far_by : ℕ) → walk.taken < last → IsBusOpened now slot (walk.taken + 1) last true mid → IsOpenFew now slot (walk.taken + 1) last total opened_by → IsBusFew mid (outset (walk.taken + 1) last spare (one_more walk)) opened_by far_by → IsBegunFew now slot last walk.taken total far_by
 begun_few_wide spare now mid slot last walk total opened_by far_by left gets few bus = λ view image behind others is seen alone bridge closed walkable.
     let o = opened_inside now mid slot (walk.taken + 1) last gets view walk.taken image behind others is seen alone bridge closed walkable (omega arith) (omega (arith, left)) in
     let behind_it = bus (inside view slot.device slot.function o.new others) o.nodes o.is o.seen o.walkable o.closed in
     omega (arith, few view walk.taken image behind others is seen alone bridge closed walkable (omega arith) (omega (arith, left)), behind_it, same_bridges o.nodes behind o.same, same_on o.nodes behind o.same)
 
-pub walk_count_led : (before now far later : Board) (slot : Slot) (bus place spare last : ℕ) (start walk after_behind after : Walk) (more : Bool) (found : Found) (made total far_by put_by : ℕ) → IsPlaceOf slot bus place → IsLooked now slot more found → found.bridge ≡ true → walk.taken < last → IsBegun spare now far slot last walk after_behind → IsPut far slot 0x1a after.taken later → after_behind.taken ≤ after.taken → IsBegunFew now slot last walk.taken total far_by → put_by ≤ far_by + 1 → IsWalkCounted before bus last start place more walk now made total → IsWalkCounted before bus last start (place + 1) found.more after later made put_by
+pub walk_count_led : (before now far later : Board) (slot : Slot) (bus place spare last : ℕ) (start walk after_behind after : Walk) (more : Bool) (found : Found) (made total far_by put_by : ℕ) → IsPlaceOf slot bus place → IsLooked now slot more found → found.bridge ≡ true → walk.taken < last → IsBegun spare now far slot last walk after_behind → IsNumberPut far slot 0x1a after.taken later → after_behind.taken ≤ after.taken → IsBegunFew now slot last walk.taken total far_by → put_by ≤ far_by + 1 → IsWalkCounted before bus last start place more walk now made total → IsWalkCounted before bus last start (place + 1) found.more after later made put_by
 walk_count_led before now far later slot bus place spare last start walk after_behind after more found made total far_by put_by at looked one left begun put above far_few put_few counted = λ v nodes is seen walkable closed.
     let b = at_bridge now slot bus place walk.taken last more found (WalkCount nodes made total) at looked one (counted v nodes is seen walkable closed) in
     let a = begun b.view b.image b.behind b.others b.is b.seen b.alone b.bridge b.known.0.1 b.inner in

@@ -8,7 +8,7 @@ use Rattle.number_spec.specs.Board.{Nodes, NoMore, Node, Board, Here, on_bus, an
 use Rattle.number_spec.specs.Access.{IsRead, IsWritten, image_of, with_byte_of}
 use Rattle.number_spec.specs.Walk.{all_after}
 use Rattle.number_spec.proofs.Single.{none_before}
-use Rattle.pci_number.specs.Seen.{View, code, IsSeen, IsRest}
+use Rattle.pci_number.specs.Seen.{View, code, IsSeen, AreLastNodes}
 
 -- on a bus
 alone : (access : Slot) (image : List ℕ) (behind others : Nodes) → all_after access.device access.function others ≡ true → on_bus (Node access.device access.function image behind others) access ≡ Here ∷ []
@@ -17,7 +17,7 @@ alone access image behind others after =
     let same_function : (access.function == access.function) ≡ true = eq-eqb access.function access.function refl in
     rw (same, same_function, none_before access.device access.function others after access refl refl) refl
 
-pub none_at : (place device : ℕ) (more : Bool) (nodes : Nodes) (access : Slot) → access.function ≤ 7 → code access < place → IsRest place device more nodes → on_bus nodes access ≡ []
+pub none_at : (place device : ℕ) (more : Bool) (nodes : Nodes) (access : Slot) → access.function ≤ 7 → code access < place → AreLastNodes place device more nodes → on_bus nodes access ≡ []
 none_at place device more NoMore access low before rest = refl
 none_at place device more (Node d f image behind others) access low before rest =
     let apart : (d == access.device && f == access.function) ≡ false = false_from_ne_true _ (λ meets.
@@ -47,6 +47,6 @@ module _ (v : View) (high last : ℕ) (access : Slot) (seen : IsSeen v access.bu
       let w = write.byte (v.at Here) (answers_here image behind others is after) in
       (w.0, w.1 ∙ ap (λ b. with_byte_of b (v.at Here) offset w.0) is ∙ seen.byte (node image behind others) Here offset w.0)
 
-  pub read_nothing : (device : ℕ) (more : Bool) (rest : Nodes) → board ≡ v.fill rest → access.function ≤ 7 → IsRest (code access + 1) device more rest → (offset value : ℕ) → IsRead board access offset value → value ≡ 0xff
+  pub read_nothing : (device : ℕ) (more : Bool) (rest : Nodes) → board ≡ v.fill rest → access.function ≤ 7 → AreLastNodes (code access + 1) device more rest → (offset value : ℕ) → IsRead board access offset value → value ≡ 0xff
   read_nothing device more rest is low none offset value read =
       read.nothing (ap (λ b. answers b access) is ∙ seen.here rest access refl (omega arith) ∙ ap (map v.at) (none_at (code access + 1) device more rest access low (omega arith) none))

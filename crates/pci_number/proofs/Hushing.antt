@@ -5,7 +5,7 @@ use Rattle.std.proofs.Math.Bool.{or-true, or-false}
 use Rattle.pci_spec.specs.Slot.{Slot}
 use Rattle.number_spec.specs.Board.{Nodes, NoMore, Node, Board, is_type_1}
 use Rattle.number_spec.specs.Numbered.{without_numbers}
-use Rattle.pci_number.specs.Seen.{View, IsRest, has_bridges}
+use Rattle.pci_number.specs.Seen.{View, AreLastNodes, has_bridges}
 use Rattle.pci_number.specs.Steps.{IsLooked, IsShownAt, IsLeftAt, IsHushed, IsHushLeft}
 use Rattle.pci_number.specs.Hushing.{ClosedUpTo, KeptUpTo, IsHushing}
 use Rattle.pci_number.specs.declared.look.Found.{Found}
@@ -70,7 +70,7 @@ hush_left before now after bus place more bridges kept hushing = λ v high last 
     (w.0, kept ∙ h.1.is ∙ w.1, w.2)
 
 -- a bus has 256 places
-pub no_more : (device : ℕ) (more : Bool) (nodes : Nodes) → IsRest 256 device more nodes → nodes ≡ NoMore
+pub no_more : (device : ℕ) (more : Bool) (nodes : Nodes) → AreLastNodes 256 device more nodes → nodes ≡ NoMore
 no_more device more NoMore rest = refl
 no_more device more (Node d f image behind others) rest = absurd (omega (arith, rest.0, rest.1, rest.6))
 

@@ -5,12 +5,12 @@ use Rattle.number_spec.specs.NoBus.{bridges}
 use Rattle.number_spec.specs.Spare.{spare_room}
 use Rattle.number_spec.proofs.Among.{among_roots_answers_once}
 use Rattle.number_spec.proofs.Enough.{enough_for_all}
-use Rattle.pci_number.specs.Left.{NoneFreeRunOut, FoundAnswersOnce}
+use Rattle.pci_number.specs.Left.{NoneFreeRunOut, FoundAnswersOnceOnBoard}
 use Rattle.pci_number.proofs.Again.{ready_stays}
 use Rattle.pci_number.proofs.Few.{same_bridges}
 use Rattle.pci_number.proofs.Left.{none_free_in_order}
 
-pub found_answers_once : FoundAnswersOnce
+pub found_answers_once : FoundAnswersOnceOnBoard
 found_answers_once spare root last before after answer ready answers =
     let a = answers ready in
     among_roots_answers_once (spare_room spare) after root last (ready_stays before after root last ready a.others a.numbered.same) (record { same = refl; numbers = a.numbered.numbers })

@@ -8,7 +8,7 @@ use Rattle.number_spec.specs.Room.{shows}
 use Rattle.number_spec.proofs.Kept.{same_walk}
 use Rattle.number_spec.proofs.Roomy.{shown}
 use Rattle.pci_number.specs.Seen.{View, code, IsSeen, IsClosed, IsKeptBut}
-use Rattle.pci_number.specs.Steps.{IsPut, IsTouched, IsAlike, IsShownAt, IsLeftAt, IsHushed, IsHushLeft, OfOpening, IsOpened, IsOpenLeft}
+use Rattle.pci_number.specs.Steps.{IsNumberPut, IsTouched, IsAlike, IsShownAt, IsLeftAt, IsHushed, IsHushLeft, OfOpening, IsBusOpened, IsOpenLeft}
 use Rattle.pci_number.proofs.Bytes.{other_byte, alike_subordinate, alike_then, shows_from}
 use Rattle.pci_number.proofs.Views.{inside, seen_inside}
 use Rattle.pci_spec.specs.Number.{byte_at}
@@ -41,13 +41,13 @@ open_left_third before first second after slot bus last bridges show hush touche
     let p = touched v high last s.0 h.0 others h.1 seen alone in
     (p.0, h.0, p.1, alike_then image s.0 p.0 s.2 (alike_subordinate s.0 p.0 p.2), h.2)
 
-pub opened_alone : (before first second : Board) (slot : Slot) (bus last : ℕ) → IsShownAt before slot slot.bus bus bus first → IsHushed first bus false second → IsOpened before slot bus last false second
+pub opened_alone : (before first second : Board) (slot : Slot) (bus last : ℕ) → IsShownAt before slot slot.bus bus bus first → IsHushed first bus false second → IsBusOpened before slot bus last false second
 opened_alone before first second slot bus last show hush = λ v high image behind others is seen alone bridge closed walkable over within.
     let s = show v high last image behind others is seen alone in
     let h = hush (inside v slot.device slot.function s.0 others) bus bus behind s.1 (open_hushed v high last slot bus s.0 others seen (s.2.kind ∙ bridge) s.3 over within closed) walkable in
     (s.0, h.0, h.1, s.2, h.2, s.3, h.3, h.4)
 
-pub opened_wide : (before first second after : Board) (slot : Slot) (bus last : ℕ) → IsShownAt before slot slot.bus bus bus first → IsHushed first bus true second → IsPut second slot 0x1a last after → IsOpened before slot bus last true after
+pub opened_wide : (before first second after : Board) (slot : Slot) (bus last : ℕ) → IsShownAt before slot slot.bus bus bus first → IsHushed first bus true second → IsNumberPut second slot 0x1a last after → IsBusOpened before slot bus last true after
 opened_wide before first second after slot bus last show hush put = λ v high image behind others is seen alone bridge closed walkable over within.
     let s = show v high last image behind others is seen alone in
     let h = hush (inside v slot.device slot.function s.0 others) bus bus behind s.1 (open_hushed v high last slot bus s.0 others seen (s.2.kind ∙ bridge) s.3 over within closed) walkable in
@@ -66,7 +66,7 @@ pub record Inside (slot : Slot) (bus : ℕ) (last : ℕ) (v : View) (image : Lis
   pub walkable : is_walkable nodes ≡ true
   pub closed : IsClosed nodes
 
-pub opened_inside : (before now : Board) (slot : Slot) (bus last : ℕ) → IsOpened before slot bus last true now → OfOpening before slot bus last (λ v image behind others. Inside slot bus last v image behind others now)
+pub opened_inside : (before now : Board) (slot : Slot) (bus last : ℕ) → IsBusOpened before slot bus last true now → OfOpening before slot bus last (λ v image behind others. Inside slot bus last v image behind others now)
 opened_inside before now slot bus last opened = λ v high image behind others is seen alone bridge closed walkable over within.
     let o = opened v high image behind others is seen alone bridge closed walkable over within in
     record {

@@ -6,7 +6,7 @@ use Rattle.number_spec.specs.Board.{Nodes, Node, Board, is_type_1}
 use Rattle.number_spec.specs.Walk.{is_walkable, all_after}
 use Rattle.number_spec.specs.Room.{shows}
 use Rattle.number_spec.proofs.Single.{device_is_idle}
-use Rattle.pci_number.specs.Seen.{View, code, IsSeen, IsRest, IsClosed}
+use Rattle.pci_number.specs.Seen.{View, code, IsSeen, AreLastNodes, IsClosed}
 use Rattle.pci_number.specs.Steps.{IsLooked, Absent, There}
 use Rattle.pci_number.specs.Hushing.{Rest, IsRestOf}
 use Rattle.pci_number.specs.declared.look.Found.{Found}
@@ -67,7 +67,7 @@ pub record AtBridge (now : Board) (slot : Slot) (taken : ℕ) (last : ℕ) (more
   pub inner : is_walkable behind ≡ true
   pub alone : all_after slot.device slot.function others ≡ true
   pub past : more ≡ true → device * 8 ≤ code slot
-  pub has : IsRest (code slot + 1) device more others
+  pub has : AreLastNodes (code slot + 1) device more others
   pub known : P view (Node slot.device slot.function image behind others)
 
 pub at_bridge : (now : Board) (slot : Slot) (bus place taken last : ℕ) (more : Bool) (found : Found) (P : View → Nodes → Type 0) → IsPlaceOf slot bus place → IsLooked now slot more found → found.bridge ≡ true → Came now bus place taken last more P → AtBridge now slot taken last found.more P

@@ -8,7 +8,7 @@ use Rattle.pci_spec.specs.Header.{vendor_id}
 use Rattle.pci_spec.proofs.BusRanges.{second_side}
 use Rattle.number_spec.specs.Board.{Nodes, NoMore, Node}
 use Rattle.number_spec.specs.Walk.{has_more, is_found, comes_before, all_after, is_rising, is_all_found, is_walkable}
-use Rattle.pci_number.specs.Seen.{IsRest}
+use Rattle.pci_number.specs.Seen.{AreLastNodes}
 
 before : (device function d f : ℕ) → comes_before device function d f ≡ true → (device < d) ⊎ ((device ≡ d) × (function < f))
 before device function d f comes = elim (or_cases (nat_lt device d) (device == d && nat_lt function f) comes) [
@@ -75,7 +75,7 @@ parts_of all d f image behind others rising found =
       others_found = a.1;
     }
 
-reached : (all nodes : Nodes) (device function : ℕ) (more : Bool) → function < 8 → all_after device function nodes ≡ true → is_rising nodes ≡ true → is_all_found all nodes ≡ true → ((d : ℕ) → device < d → has_more all d ≡ has_more nodes d) → has_more all device ≡ more → IsRest (device * 8 + function + 1) device more nodes
+reached : (all nodes : Nodes) (device function : ℕ) (more : Bool) → function < 8 → all_after device function nodes ≡ true → is_rising nodes ≡ true → is_all_found all nodes ≡ true → ((d : ℕ) → device < d → has_more all d ≡ has_more nodes d) → has_more all device ≡ more → AreLastNodes (device * 8 + function + 1) device more nodes
 reached all NoMore device function more low after rising found same own = tt
 reached all (Node d f image behind others) device function more low after rising found same own =
     let p = parts_of all d f image behind others rising found in
@@ -99,11 +99,11 @@ reached all (Node d f image behind others) device function more low after rising
           let more_are : more ≡ true = sym own ∙ ap (has_more all) (sym here) ∙ has in
           let rest = reached all others device f more p.function (subst (λ x. all_after x f others ≡ true) here p.after) p.rising p.others_found
           (λ x above. same x above ∙ of_another d f x image behind others (λ is. omega (arith, is, above, here))) own in
-          (from, p.function, p.vendor, (λ n. (here, more_are)), p.inside, p.after, p.device, rw test (subst (λ x. IsRest (x * 8 + f + 1) device more others) (sym here) rest))
+          (from, p.function, p.vendor, (λ n. (here, more_are)), p.inside, p.after, p.device, rw test (subst (λ x. AreLastNodes (x * 8 + f + 1) device more others) (sym here) rest))
     ]
 
 -- all of a bus
-pub rest_of : (nodes : Nodes) → is_walkable nodes ≡ true → IsRest 0 0 false nodes
+pub rest_of : (nodes : Nodes) → is_walkable nodes ≡ true → AreLastNodes 0 0 false nodes
 rest_of NoMore walkable = tt
 rest_of (Node d f image behind others) walkable =
     let all = Node d f image behind others in

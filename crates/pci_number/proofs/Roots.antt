@@ -17,7 +17,7 @@ use Rattle.number_spec.proofs.Roots.{with_root}
 use Rattle.pci_number.specs.Seen.{View, IsSeen, IsClosed}
 use Rattle.pci_number.specs.Steps.{IsHushed, IsHushLeft}
 use Rattle.pci_number.specs.Walked.{IsBusNumbered, IsBusLeft, outset}
-use Rattle.pci_number.specs.Answer.{named_by, highest_of, IsAnswer, IsBoardKept}
+use Rattle.pci_number.specs.Answer.{named_by, highest_bus_of, IsAnswer, IsBoardKept}
 use Rattle.pci_number.specs.declared.number.Numbering.{Numbering}
 use Rattle.pci_number.specs.declared.walk.Walk.{Walk}
 use Rattle.pci_number.proofs.RootView.{only_there, nodes_there, nodes_twice, same_nodes}
@@ -89,7 +89,7 @@ kept_at_walk spare before mid after root last bridges hushed left = λ ready.
     let w = left (root_view before root) h.nodes h.is h.seen h.walkable h.closed in
     kept before after root last w.0 ready w.1 (w.2 ∙ h.same)
 
-pub answer_of : (spare : ℕ) (before mid after : Board) (root last : ℕ) (bridges : Bool) (walk : Walk) (answer : Numbering) → IsHushed before root bridges mid → IsBusNumbered mid (outset root last spare (start root)) walk after → named_by answer ≡ walk.without → highest_of answer ≡ walk.taken → IsReady before root last → IsAnswer spare before root last answer after
+pub answer_of : (spare : ℕ) (before mid after : Board) (root last : ℕ) (bridges : Bool) (walk : Walk) (answer : Numbering) → IsHushed before root bridges mid → IsBusNumbered mid (outset root last spare (start root)) walk after → named_by answer ≡ walk.without → highest_bus_of answer ≡ walk.taken → IsReady before root last → IsAnswer spare before root last answer after
 answer_of spare before mid after root last bridges walk answer hushed numbered names highest = λ ready.
     let h = at_root_now before mid root last bridges hushed ready in
     let n = numbered (root_view before root) h.nodes h.is h.seen h.walkable h.closed in

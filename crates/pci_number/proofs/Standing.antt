@@ -9,10 +9,10 @@ use Rattle.number_spec.specs.Room.{shows}
 use Rattle.number_spec.specs.Spare.{spare_room}
 use Rattle.number_spec.specs.Spread.{IsSpread}
 use Rattle.pci_number.specs.Seen.{View, IsClosed}
-use Rattle.pci_number.specs.Steps.{IsPut, IsLooked, IsAlike, IsOpened}
+use Rattle.pci_number.specs.Steps.{IsNumberPut, IsLooked, IsAlike, IsBusOpened}
 use Rattle.pci_number.specs.Spare.{IsLed}
 use Rattle.pci_number.specs.Single.{IsApart, IsBusStood, IsWalkStanding}
-use Rattle.pci_number.specs.Stood.{Adds, Ends, IsOneMore, moment}
+use Rattle.pci_number.specs.Stood.{Adds, Ends, IsOneMore, board_moment}
 use Rattle.pci_number.specs.declared.look.Found.{Found}
 use Rattle.pci_number.specs.declared.walk.Walk.{Walk}
 use Rattle.pci_number.specs.Walked.{outset}
@@ -36,18 +36,18 @@ StoodUpTo last walk old new view left = IsClosed left × IsApart view left walk.
 
 -- with that as one fact, and taken apart
 module _ (spare : ℕ) (before now : Board) (bus place last : ℕ) (start walk : Walk) (old new : List Board) (more : Bool) where
-  came_of : IsWalkStanding (moment before old) (outset bus last spare start) place more walk (moment now new) → OfApart before bus last start (Came now bus place walk.taken last more (StoodUpTo last walk old new))
+  came_of : IsWalkStanding (board_moment before old) (outset bus last spare start) place more walk (board_moment now new) → OfApart before bus last start (Came now bus place walk.taken last more (StoodUpTo last walk old new))
   came_of standing v nodes is seen walkable closed apart = let h = standing v nodes is seen walkable closed apart in (h.0, h.1, h.2, (h.3, h.4, h.5))
 
-  standing_of : OfApart before bus last start (Came now bus place walk.taken last more (StoodUpTo last walk old new)) → IsWalkStanding (moment before old) (outset bus last spare start) place more walk (moment now new)
+  standing_of : OfApart before bus last start (Came now bus place walk.taken last more (StoodUpTo last walk old new)) → IsWalkStanding (board_moment before old) (outset bus last spare start) place more walk (board_moment now new)
   standing_of came = λ v nodes is seen walkable closed apart. let h = came v nodes is seen walkable closed apart in (h.0, h.1, h.2, h.3.0, h.3.1, h.3.2)
 
-pub stand_start : (spare : ℕ) (before : Board) (bus last : ℕ) (start : Walk) (old : List Board) → IsWalkStanding (moment before old) (outset bus last spare start) 0 false start (moment before old)
+pub stand_start : (spare : ℕ) (before : Board) (bus last : ℕ) (start : Walk) (old : List Board) → IsWalkStanding (board_moment before old) (outset bus last spare start) 0 false start (board_moment before old)
 stand_start spare before bus last start old = standing_of spare before before bus 0 last start start old old false (λ v nodes is seen walkable closed apart.
     came_first before bus start.taken last (StoodUpTo last start old old) v nodes is seen walkable (closed, apart, adds_none IsSingle old))
 
 -- a device
-pub stand_pass : (spare : ℕ) (before now : Board) (slot : Slot) (bus place last : ℕ) (start walk : Walk) (old new : List Board) (more : Bool) (found : Found) → IsPlaceOf slot bus place → IsLooked now slot more found → found.bridge ≡ false → IsWalkStanding (moment before old) (outset bus last spare start) place more walk (moment now new) → IsWalkStanding (moment before old) (outset bus last spare start) (place + 1) found.more walk (moment now new)
+pub stand_pass : (spare : ℕ) (before now : Board) (slot : Slot) (bus place last : ℕ) (start walk : Walk) (old new : List Board) (more : Bool) (found : Found) → IsPlaceOf slot bus place → IsLooked now slot more found → found.bridge ≡ false → IsWalkStanding (board_moment before old) (outset bus last spare start) place more walk (board_moment now new) → IsWalkStanding (board_moment before old) (outset bus last spare start) (place + 1) found.more walk (board_moment now new)
 stand_pass spare before now slot bus place last start walk old new more found at looked none standing = standing_of spare before now bus (place + 1) last start walk old new found.more (λ v nodes is seen walkable closed apart.
     let d = slot.device in
     let f = slot.function in
@@ -61,12 +61,12 @@ stand_pass spare before now slot bus place last start walk old new more found at
 abbrev pub Bridge : Board → Slot → ℕ → Walk → List Board → List Board → Bool → Type 0
 Bridge now slot last walk old new more = AtBridge now slot walk.taken last more (StoodUpTo last walk old new)
 
-bridge_there : (spare : ℕ) (before now : Board) (slot : Slot) (bus place last : ℕ) (start walk : Walk) (old new : List Board) (more : Bool) (found : Found) → IsPlaceOf slot bus place → IsLooked now slot more found → found.bridge ≡ true → IsWalkStanding (moment before old) (outset bus last spare start) place more walk (moment now new) → OfApart before bus last start (Bridge now slot last walk old new found.more)
+bridge_there : (spare : ℕ) (before now : Board) (slot : Slot) (bus place last : ℕ) (start walk : Walk) (old new : List Board) (more : Bool) (found : Found) → IsPlaceOf slot bus place → IsLooked now slot more found → found.bridge ≡ true → IsWalkStanding (board_moment before old) (outset bus last spare start) place more walk (board_moment now new) → OfApart before bus last start (Bridge now slot last walk old new found.more)
 bridge_there spare before now slot bus place last start walk old new more found at looked one standing v nodes is seen walkable closed apart =
     at_bridge now slot bus place walk.taken last more found (StoodUpTo last walk old new) at looked one (came_of spare before now bus place last start walk old new more standing v nodes is seen walkable closed apart)
 
 -- numbers ran out
-pub stand_without : (spare : ℕ) (before now : Board) (slot : Slot) (bus place last : ℕ) (start walk after : Walk) (old new : List Board) (more : Bool) (found : Found) → IsPlaceOf slot bus place → IsLooked now slot more found → found.bridge ≡ true → after.taken ≡ walk.taken → IsWalkStanding (moment before old) (outset bus last spare start) place more walk (moment now new) → IsWalkStanding (moment before old) (outset bus last spare start) (place + 1) found.more after (moment now new)
+pub stand_without : (spare : ℕ) (before now : Board) (slot : Slot) (bus place last : ℕ) (start walk after : Walk) (old new : List Board) (more : Bool) (found : Found) → IsPlaceOf slot bus place → IsLooked now slot more found → found.bridge ≡ true → after.taken ≡ walk.taken → IsWalkStanding (board_moment before old) (outset bus last spare start) place more walk (board_moment now new) → IsWalkStanding (board_moment before old) (outset bus last spare start) (place + 1) found.more after (board_moment now new)
 stand_without spare before now slot bus place last start walk walk_after old new more found at looked one same_taken standing = standing_of spare before now bus (place + 1) last start walk_after old new found.more (λ v nodes is seen walkable closed apart.
     let b = bridge_there spare before now slot bus place last start walk old new more found at looked one standing v nodes is seen walkable closed apart in
     let d = slot.device in
@@ -92,7 +92,7 @@ record Stands (slot : Slot) (last : ℕ) (walk after : Walk) (view : View) (imag
   inner : IsSpread (walk.taken + 1) after.taken nodes
   stood : Adds IsSingle old new
 
-stand_given : (spare : ℕ) (before now later : Board) (slot : Slot) (bus place last : ℕ) (start walk after : Walk) (old new newer : List Board) (more : Bool) (found : Found) → IsPlaceOf slot bus place → IsLooked now slot more found → found.bridge ≡ true → walk.taken < last → IsWalkStanding (moment before old) (outset bus last spare start) place more walk (moment now new) → ((b : Bridge now slot last walk old new found.more) → Stands slot last walk after b.view b.image b.behind b.others later old newer) → IsWalkStanding (moment before old) (outset bus last spare start) (place + 1) found.more after (moment later newer)
+stand_given : (spare : ℕ) (before now later : Board) (slot : Slot) (bus place last : ℕ) (start walk after : Walk) (old new newer : List Board) (more : Bool) (found : Found) → IsPlaceOf slot bus place → IsLooked now slot more found → found.bridge ≡ true → walk.taken < last → IsWalkStanding (board_moment before old) (outset bus last spare start) place more walk (board_moment now new) → ((b : Bridge now slot last walk old new found.more) → Stands slot last walk after b.view b.image b.behind b.others later old newer) → IsWalkStanding (board_moment before old) (outset bus last spare start) (place + 1) found.more after (board_moment later newer)
 stand_given spare before now later slot bus place last start walk walk_after old new newer more found at looked one left standing given = standing_of spare before later bus (place + 1) last start walk_after old newer found.more (λ v nodes is seen walkable closed apart.
     let b = bridge_there spare before now slot bus place last start walk old new more found at looked one standing v nodes is seen walkable closed apart in
     let n = given b in
@@ -111,7 +111,7 @@ stood_here now slot last walk old new newer more b left gets =
     adds_then IsSingle old new newer b.known.2 (gets b.view walk.taken b.image b.behind b.others b.is b.seen b.alone b.bridge (b.known.0.0 b.bridge) b.known.0.1 b.inner (omega arith) (omega (arith, left)) b.known.1)
 
 -- what is said of such a bus is said of the one behind a bridge
-pub bus_there : (now mid : Board) (slot : Slot) (last : ℕ) (walk : Walk) (old new : List Board) (more : Bool) (b : Bridge now slot last walk old new more) (P : Type 0) → walk.taken < last → IsOpened now slot (walk.taken + 1) last true mid → OfApart mid (walk.taken + 1) last (one_more walk) P → P
+pub bus_there : (now mid : Board) (slot : Slot) (last : ℕ) (walk : Walk) (old new : List Board) (more : Bool) (b : Bridge now slot last walk old new more) (P : Type 0) → walk.taken < last → IsBusOpened now slot (walk.taken + 1) last true mid → OfApart mid (walk.taken + 1) last (one_more walk) P → P
 bus_there now mid slot last walk old new more b P left gets said =
     let o = opened_inside now mid slot (walk.taken + 1) last gets b.view walk.taken b.image b.behind b.others b.is b.seen b.alone b.bridge b.known.0.1 b.inner (omega arith) (omega (arith, left)) in
     said (inside b.view slot.device slot.function o.new b.others) o.nodes o.is o.seen o.walkable o.closed
@@ -125,32 +125,32 @@ IsBusOk before bus last start old new = OfApart before bus last start (Adds IsSi
 abbrev pub IsBusEnd : Board → ℕ → ℕ → Walk → List Board → List Board → Type 0
 IsBusEnd before bus last start old new = OfApart before bus last start (Ends IsSingle old new)
 
-pub stood_wide : (now mid : Board) (slot : Slot) (last : ℕ) (walk : Walk) (old new newer newest : List Board) (more : Bool) (b : Bridge now slot last walk old new more) → walk.taken < last → IsOpened now slot (walk.taken + 1) last true mid → IsOpenOk now slot (walk.taken + 1) last new newer → IsBusOk mid (walk.taken + 1) last (one_more walk) newer newest → Adds IsSingle old newest
+pub stood_wide : (now mid : Board) (slot : Slot) (last : ℕ) (walk : Walk) (old new newer newest : List Board) (more : Bool) (b : Bridge now slot last walk old new more) → walk.taken < last → IsBusOpened now slot (walk.taken + 1) last true mid → IsOpenOk now slot (walk.taken + 1) last new newer → IsBusOk mid (walk.taken + 1) last (one_more walk) newer newest → Adds IsSingle old newest
 stood_wide now mid slot last walk old new newer newest more b left gets open_stood stood =
     adds_then IsSingle old newer newest (stood_here now slot last walk old new newer more b left open_stood) (bus_there now mid slot last walk old new more b (Adds IsSingle newer newest) left gets stood)
 
-module _ (spare : ℕ) (before now : Board) (slot : Slot) (bus place last : ℕ) (start walk : Walk) (old new newer : List Board) (more : Bool) (found : Found) (at : IsPlaceOf slot bus place) (looked : IsLooked now slot more found) (one : found.bridge ≡ true) (left : walk.taken < last) (standing : IsWalkStanding (moment before old) (outset bus last spare start) place more walk (moment now new)) where
-  pub stand_left_open : {T E : Type 0} → (r : Result T E) → IsErr r → IsOpenEnd now slot (walk.taken + 1) last new newer → IsBusStood (moment before old) (outset bus last spare start) r newer
+module _ (spare : ℕ) (before now : Board) (slot : Slot) (bus place last : ℕ) (start walk : Walk) (old new newer : List Board) (more : Bool) (found : Found) (at : IsPlaceOf slot bus place) (looked : IsLooked now slot more found) (one : found.bridge ≡ true) (left : walk.taken < last) (standing : IsWalkStanding (board_moment before old) (outset bus last spare start) place more walk (board_moment now new)) where
+  pub stand_left_open : {T E : Type 0} → (r : Result T E) → IsErr r → IsOpenEnd now slot (walk.taken + 1) last new newer → IsBusStood (board_moment before old) (outset bus last spare start) r newer
   stand_left_open r err gets = λ v nodes is seen walkable closed apart.
       let b = bridge_there spare before now slot bus place last start walk old new more found at looked one standing v nodes is seen walkable closed apart in
       ended IsSingle r old newer err (ends_then IsSingle old new newer b.known.2
       (gets b.view walk.taken b.image b.behind b.others b.is b.seen b.alone b.bridge (b.known.0.0 b.bridge) b.known.0.1 b.inner (omega arith) (omega (arith, left)) b.known.1))
 
-  module _ (mid : Board) (gets : IsOpened now slot (walk.taken + 1) last true mid) (stood : IsOpenOk now slot (walk.taken + 1) last new newer) (newest : List Board) where
-    pub stand_left_bus : {T E : Type 0} → (r : Result T E) → IsErr r → IsBusEnd mid (walk.taken + 1) last (one_more walk) newer newest → IsBusStood (moment before old) (outset bus last spare start) r newest
+  module _ (mid : Board) (gets : IsBusOpened now slot (walk.taken + 1) last true mid) (stood : IsOpenOk now slot (walk.taken + 1) last new newer) (newest : List Board) where
+    pub stand_left_bus : {T E : Type 0} → (r : Result T E) → IsErr r → IsBusEnd mid (walk.taken + 1) last (one_more walk) newer newest → IsBusStood (board_moment before old) (outset bus last spare start) r newest
     stand_left_bus r err ends = λ v nodes is seen walkable closed apart.
         let b = bridge_there spare before now slot bus place last start walk old new more found at looked one standing v nodes is seen walkable closed apart in
         ended IsSingle r old newest err (ends_then IsSingle old newer newest (stood_here now slot last walk old new newer found.more b left stood)
         (bus_there now mid slot last walk old new found.more b (Ends IsSingle newer newest) left gets ends))
 
   -- the bridge leads on
-  module _ (far : Board) (newest : List Board) (far_stood : (b : Bridge now slot last walk old new found.more) → Adds IsSingle old newest) (later : Board) (final : List Board) (put_stood : IsOneMore (moment far newest) (moment later final)) where
-    pub stand_left_led : {T E : Type 0} → (r : Result T E) → IsErr r → IsBusStood (moment before old) (outset bus last spare start) r final
+  module _ (far : Board) (newest : List Board) (far_stood : (b : Bridge now slot last walk old new found.more) → Adds IsSingle old newest) (later : Board) (final : List Board) (put_stood : IsOneMore (board_moment far newest) (board_moment later final)) where
+    pub stand_left_led : {T E : Type 0} → (r : Result T E) → IsErr r → IsBusStood (board_moment before old) (outset bus last spare start) r final
     stand_left_led r err = λ v nodes is seen walkable closed apart.
         let b = bridge_there spare before now slot bus place last start walk old new more found at looked one standing v nodes is seen walkable closed apart in
         ended IsSingle r old final err (ends_one IsSingle far old newest later final (far_stood b) put_stood)
 
-    pub stand_led : (inside after : Walk) → IsBegun spare now far slot last walk inside → IsPut far slot 0x1a after.taken later → IsLed far slot inside.taken last spare after.taken → inside.taken ≤ after.taken → IsWalkStanding (moment before old) (outset bus last spare start) (place + 1) found.more after (moment later final)
+    pub stand_led : (inside after : Walk) → IsBegun spare now far slot last walk inside → IsNumberPut far slot 0x1a after.taken later → IsLed far slot inside.taken last spare after.taken → inside.taken ≤ after.taken → IsWalkStanding (board_moment before old) (outset bus last spare start) (place + 1) found.more after (board_moment later final)
     stand_led inside after begun put led above = stand_given spare before now later slot bus place last start walk after old new final more found at looked one left standing (λ b.
         let a = begun b.view b.image b.behind b.others b.is b.seen b.alone b.bridge b.known.0.1 b.inner in
         let p = put b.view walk.taken last a.new a.nodes b.others a.is b.seen b.alone in
@@ -176,10 +176,10 @@ module _ (spare : ℕ) (before now : Board) (slot : Slot) (bus place last : ℕ)
 
 -- ---- where it stops, or is done
 
-pub stand_left : {T E : Type 0} → (spare : ℕ) (before now : Board) (bus place last : ℕ) (start walk : Walk) (old mid new : List Board) (more : Bool) (r : Result T E) → IsErr r → new ≡ mid → IsWalkStanding (moment before old) (outset bus last spare start) place more walk (moment now mid) → IsBusStood (moment before old) (outset bus last spare start) r new
+pub stand_left : {T E : Type 0} → (spare : ℕ) (before now : Board) (bus place last : ℕ) (start walk : Walk) (old mid new : List Board) (more : Bool) (r : Result T E) → IsErr r → new ≡ mid → IsWalkStanding (board_moment before old) (outset bus last spare start) place more walk (board_moment now mid) → IsBusStood (board_moment before old) (outset bus last spare start) r new
 stand_left spare before now bus place last start walk old mid new more r err same standing = λ v nodes is seen walkable closed apart.
     let h = standing v nodes is seen walkable closed apart in
     ended IsSingle r old new err (ends_same IsSingle old mid new h.5 same)
 
-pub stand_done : (spare : ℕ) (before now : Board) (bus place last : ℕ) (start walk : Walk) (old new : List Board) (more : Bool) → IsWalkStanding (moment before old) (outset bus last spare start) place more walk (moment now new) → IsBusOk before bus last start old new
+pub stand_done : (spare : ℕ) (before now : Board) (bus place last : ℕ) (start walk : Walk) (old new : List Board) (more : Bool) → IsWalkStanding (board_moment before old) (outset bus last spare start) place more walk (board_moment now new) → IsBusOk before bus last start old new
 stand_done spare before now bus place last start walk old new more standing = λ v nodes is seen walkable closed apart. (standing v nodes is seen walkable closed apart).5

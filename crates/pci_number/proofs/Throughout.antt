@@ -11,7 +11,7 @@ use Rattle.number_spec.specs.Room.{last_behind}
 use Rattle.number_spec.specs.Spare.{spare_room}
 use Rattle.pci_number.specs.Walked.{IsBusNumbered, outset}
 use Rattle.pci_number.specs.declared.walk.Walk.{Walk}
-use Rattle.pci_number.specs.Stood.{Adds, Ends, AddsSteps, moment}
+use Rattle.pci_number.specs.Stood.{Adds, Ends, AddsSteps, board_moment}
 use Rattle.pci_number.proofs.RootView.{same_nodes}
 use Rattle.pci_number.proofs.Roots.{root_view, seen_root, behind_it, at_root_now, start}
 use Rattle.pci_number.proofs.Apart.{shut_spread, closed_shut, numbered_spread}
@@ -48,7 +48,7 @@ stopped_there nodes (Ok x) hushed new err ends = cc err
 stopped_there nodes (Err e) hushed new err ends = inr ends
 
 -- the closing of the bridges on the root bus stopped
-pub throughout_hush : {T E : Type 0} → (before : Board) (root last : ℕ) (old new : List Board) (r : Result T E) → IsErr r → IsHushEnd before root old new → IsReady before root last → IsSingleThroughout (moment before old) root r new
+pub throughout_hush : {T E : Type 0} → (before : Board) (root last : ℕ) (old new : List Board) (r : Result T E) → IsErr r → IsHushEnd before root old new → IsReady before root last → IsSingleThroughout (board_moment before old) root r new
 throughout_hush before root last old new r err hush = λ ready.
     let R = IsLessStep (root_view before root) (nodes_behind before root) in
     let ends = hush (root_view before root) root last (nodes_behind before root) (sym (same_nodes root before ready.one)) (seen_root before root last ready) ready.walkable in
@@ -61,7 +61,7 @@ throughout_hush before root last old new r err hush = λ ready.
     }
 
 module _ (before mid : Board) (root last : ℕ) (bridges : Bool) (old hushed new : List Board) (hush : IsHushed before root bridges mid) (stood : IsHushOk before root old mid hushed) where
-  less_stood : IsReady before root last → AddsSteps (IsLessStep (root_view before root) (nodes_behind before root)) (moment before old) (moment mid hushed)
+  less_stood : IsReady before root last → AddsSteps (IsLessStep (root_view before root) (nodes_behind before root)) (board_moment before old) (board_moment mid hushed)
   less_stood ready = stood (root_view before root) root last (nodes_behind before root) (sym (same_nodes root before ready.one)) (seen_root before root last ready) ready.walkable
 
   shut_there : IsReady before root last → AreShut (nodes_behind mid root)
@@ -69,26 +69,26 @@ module _ (before mid : Board) (root last : ℕ) (bridges : Bool) (old hushed new
       let h = at_root_now before mid root last bridges hush ready in
       subst AreShut (sym (behind_it before mid root last h.nodes ready h.is)) (closed_shut h.nodes h.closed)
 
-  pub throughout_left : {T E : Type 0} → (r : Result T E) → IsErr r → IsBusEnd mid root last (start root) hushed new → IsReady before root last → IsSingleThroughout (moment before old) root r new
+  pub throughout_left : {T E : Type 0} → (r : Result T E) → IsErr r → IsBusEnd mid root last (start root) hushed new → IsReady before root last → IsSingleThroughout (board_moment before old) root r new
   throughout_left r err walk = λ ready.
       let R = IsLessStep (root_view before root) (nodes_behind before root) in
       let h = at_root_now before mid root last bridges hush ready in
       let ends : IsSingleBeside before root → Ends IsSingle hushed new = λ beside. walk (root_view before root) h.nodes h.is h.seen h.walkable h.closed (apart_at_root before root last ready h.nodes h.same beside) in
       record {
-        closed = moment mid hushed;
+        closed = board_moment mid hushed;
         hushing = steps_as R (IsHushStep before root) (hush_step before root last ready) before old mid hushed (less_stood ready);
         done = closed_there (nodes_behind mid root) r hushed new (shut_there ready);
         later = λ beside. ended IsSingle r hushed new err (ends beside);
         always = λ single. ended IsSingle r old new err (ends_then IsSingle old hushed new (steps_add R IsSingle (still_single before root last ready single) before old mid hushed (less_stood ready)) (ends (single_beside before root last ready single)));
       }
 
-  pub throughout_done : {T E : Type 0} → (x : T) → IsBusOk mid root last (start root) hushed new → IsReady before root last → IsSingleThroughout {T = T} {E = E} (moment before old) root (Ok x) new
+  pub throughout_done : {T E : Type 0} → (x : T) → IsBusOk mid root last (start root) hushed new → IsReady before root last → IsSingleThroughout {T = T} {E = E} (board_moment before old) root (Ok x) new
   throughout_done x walk = λ ready.
       let R = IsLessStep (root_view before root) (nodes_behind before root) in
       let h = at_root_now before mid root last bridges hush ready in
       let adds : IsSingleBeside before root → Adds IsSingle hushed new = λ beside. walk (root_view before root) h.nodes h.is h.seen h.walkable h.closed (apart_at_root before root last ready h.nodes h.same beside) in
       record {
-        closed = moment mid hushed;
+        closed = board_moment mid hushed;
         hushing = steps_as R (IsHushStep before root) (hush_step before root last ready) before old mid hushed (less_stood ready);
         done = shut_there ready;
         later = adds;

@@ -15,7 +15,7 @@ use Rattle.number_spec.proofs.Spare.{spare_stays}
 use Rattle.number_spec.proofs.Roomy.{closed as shut_of}
 use Rattle.number_spec.proofs.Roomy.{shown, opened, within_last}
 use Rattle.pci_number.specs.Seen.{View, code, IsSeen, IsClosed, has_bridges}
-use Rattle.pci_number.specs.Steps.{IsPut, IsLooked, IsAlike, IsTouched, IsOpened, IsOpenLeft}
+use Rattle.pci_number.specs.Steps.{IsNumberPut, IsLooked, IsAlike, IsTouched, IsBusOpened, IsOpenLeft}
 use Rattle.pci_number.specs.Hushing.{KeptUpTo}
 use Rattle.pci_number.specs.Spare.{IsLed}
 use Rattle.pci_number.specs.Walked.{IsBusNumbered, IsBusLeft, named, outset}
@@ -205,7 +205,7 @@ module _ (spare : ℕ) where
   IsBegun now far slot last walk inside = (view : View) (image : List ℕ) (behind others : Nodes) → now ≡ view.fill (Node slot.device slot.function image behind others) → IsSeen view slot.bus (code slot) walk.taken last → all_after slot.device slot.function others ≡ true → is_type_1 image ≡ true → IsClosed others → is_walkable behind ≡ true → Begun slot last walk inside view image behind others far
 
   -- there are no bridges behind it
-  pub begun_alone : (now mid : Board) (slot : Slot) (last : ℕ) (walk : Walk) → walk.taken < last → IsOpened now slot (walk.taken + 1) last false mid → IsBegun now mid slot last walk (one_more walk)
+  pub begun_alone : (now mid : Board) (slot : Slot) (last : ℕ) (walk : Walk) → walk.taken < last → IsBusOpened now slot (walk.taken + 1) last false mid → IsBegun now mid slot last walk (one_more walk)
   begun_alone now mid slot last walk left gets = λ view image behind others is seen alone bridge closed walkable.
       let o = gets view walk.taken image behind others is seen alone bridge closed walkable (omega arith) (omega (arith, left)) in
       record {
@@ -224,7 +224,7 @@ module _ (spare : ℕ) where
       }
 
   -- the bridges behind it have their numbers
-  pub begun_wide : (now mid far : Board) (slot : Slot) (last : ℕ) (walk after : Walk) → walk.taken < last → IsOpened now slot (walk.taken + 1) last true mid → IsBusNumbered mid (outset (walk.taken + 1) last spare (one_more walk)) after far → walk.taken + 1 ≤ after.taken → IsBegun now far slot last walk after
+  pub begun_wide : (now mid far : Board) (slot : Slot) (last : ℕ) (walk after : Walk) → walk.taken < last → IsBusOpened now slot (walk.taken + 1) last true mid → IsBusNumbered mid (outset (walk.taken + 1) last spare (one_more walk)) after far → walk.taken + 1 ≤ after.taken → IsBegun now far slot last walk after
   begun_wide now mid far slot last walk after left gets bus above = λ view image behind others is seen alone bridge closed walkable.
       let o = opened_inside now mid slot (walk.taken + 1) last gets view walk.taken image behind others is seen alone bridge closed walkable (omega arith) (omega (arith, left)) in
       let r = bus (inside view slot.device slot.function o.new others) o.nodes o.is o.seen o.walkable o.closed in
@@ -247,7 +247,7 @@ module _ (spare : ℕ) where
   room_stays : (image new : List ℕ) → IsAlike image new → spare_room spare new ≡ spare_room spare image
   room_stays image new alike = sym (spare_stays spare new 0 0 0) ∙ ap (spare_room spare) alike.cleared ∙ spare_stays spare image 0 0 0
 
-  pub walk_led : (before now far later : Board) (slot : Slot) (bus place last : ℕ) (start walk inside after : Walk) (more : Bool) (found : Found) → IsPlaceOf slot bus place → IsLooked now slot more found → found.bridge ≡ true → walk.taken < last → IsBegun now far slot last walk inside → IsPut far slot 0x1a after.taken later → IsLed far slot inside.taken last spare after.taken → inside.taken ≤ after.taken → after.without ≡ inside.without → IsWalking before (outset bus last spare start) place more walk now → IsWalking before (outset bus last spare start) (place + 1) found.more after later
+  pub walk_led : (before now far later : Board) (slot : Slot) (bus place last : ℕ) (start walk inside after : Walk) (more : Bool) (found : Found) → IsPlaceOf slot bus place → IsLooked now slot more found → found.bridge ≡ true → walk.taken < last → IsBegun now far slot last walk inside → IsNumberPut far slot 0x1a after.taken later → IsLed far slot inside.taken last spare after.taken → inside.taken ≤ after.taken → after.without ≡ inside.without → IsWalking before (outset bus last spare start) place more walk now → IsWalking before (outset bus last spare start) (place + 1) found.more after later
   walk_led before now far later slot bus place last start walk inside after more found at looked one left begun put led above names walking = walk_given before now later slot bus place last start walk after more found at looked one left walking (λ v nodes b.
       let a = begun b.view b.image b.behind b.others b.is b.seen b.alone b.bridge b.known.0.1 b.inner in
       let p = put b.view walk.taken last a.new a.nodes b.others a.is b.seen b.alone in
@@ -285,7 +285,7 @@ module _ (spare : ℕ) where
       let o = gets b.view walk.taken b.image b.behind b.others b.is b.seen b.alone b.bridge b.known.0.1 b.inner (omega arith) (omega (arith, left)) in
       left_there now after slot bus last start walk found.more v nodes b o.0 o.1 o.2 o.3 o.4
 
-  pub walk_left_bus : (before now mid after : Board) (slot : Slot) (bus place last : ℕ) (start walk : Walk) (more : Bool) (found : Found) → IsPlaceOf slot bus place → IsLooked now slot more found → found.bridge ≡ true → walk.taken < last → IsOpened now slot (walk.taken + 1) last true mid → IsBusLeft mid (outset (walk.taken + 1) last spare (one_more walk)) after → IsWalking before (outset bus last spare start) place more walk now → IsBusLeft before (outset bus last spare start) after
+  pub walk_left_bus : (before now mid after : Board) (slot : Slot) (bus place last : ℕ) (start walk : Walk) (more : Bool) (found : Found) → IsPlaceOf slot bus place → IsLooked now slot more found → found.bridge ≡ true → walk.taken < last → IsBusOpened now slot (walk.taken + 1) last true mid → IsBusLeft mid (outset (walk.taken + 1) last spare (one_more walk)) after → IsWalking before (outset bus last spare start) place more walk now → IsBusLeft before (outset bus last spare start) after
   walk_left_bus before now mid after slot bus place last start walk more found at looked one left gets left_behind walking = λ v nodes is seen walkable closed.
       let b = bridge_there before now slot bus place last start walk more found at looked one walking v nodes is seen walkable closed in
       let o = opened_inside now mid slot (walk.taken + 1) last gets b.view walk.taken b.image b.behind b.others b.is b.seen b.alone b.bridge b.known.0.1 b.inner (omega arith) (omega (arith, left)) in

@@ -4,10 +4,10 @@ use Rattle.number_spec.specs.Board.{Board}
 use Rattle.number_spec.specs.Access.{nodes_behind}
 use Rattle.number_spec.specs.Reached.{reached, only_bridges_lead}
 use Rattle.number_spec.specs.Ready.{IsReady}
-use Rattle.pci_number.specs.Answer.{named_by, Answers}
+use Rattle.pci_number.specs.Answer.{named_by, AnswersWhereReady}
 use Rattle.pci_number.specs.declared.number.Numbering.{Numbering}
 
-pub record IsStanding (root : ℕ) (first : Numbering) (after : Board) (second : Numbering)
+pub record IsSameNumbering (root : ℕ) (first : Numbering) (after : Board) (second : Numbering)
     (again : Board) : Type 0 where
   pub answer : second ≡ first
   -- each node that a walk comes to has the image that it had
@@ -20,5 +20,5 @@ pub record IsStanding (root : ℕ) (first : Numbering) (after : Board) (second :
 abbrev pub NumbersStand : Type 0
 NumbersStand =
     (spare root last : ℕ) (before after again : Board) (first second : Numbering)
-    → IsReady before root last → Answers spare before root last first after
-    → Answers spare after root last second again → IsStanding root first after second again
+    → IsReady before root last → AnswersWhereReady spare before root last first after
+    → AnswersWhereReady spare after root last second again → IsSameNumbering root first after second again

@@ -16,9 +16,9 @@ abbrev pub named_by : Numbering → Option Slot
 named_by (Numbered highest) = None
 named_by (NoBus slot highest) = Some slot
 
-abbrev pub highest_of : Numbering → ℕ
-highest_of (Numbered highest) = highest
-highest_of (NoBus slot highest) = highest
+abbrev pub highest_bus_of : Numbering → ℕ
+highest_bus_of (Numbered highest) = highest
+highest_bus_of (NoBus slot highest) = highest
 
 -- Behind the root the bridges are numbered, with so many numbers kept free behind each that has a
 -- hot-plug slot; behind the others all is kept.
@@ -30,11 +30,11 @@ pub record IsAnswer (spare : ℕ) (before : Board) (root : ℕ) (last : ℕ) (an
   -- the first bridge without a number is the one that is named
   pub without : named_by answer ≡ first_without root (nodes_behind after root)
   -- the greatest number is the last bus that a bridge leads to, or the root
-  pub highest : highest_of answer ≡ last_behind root (nodes_behind after root)
+  pub highest : highest_bus_of answer ≡ last_behind root (nodes_behind after root)
 
 -- the same as long as the board is one that can be numbered
-abbrev pub Answers : ℕ → Board → ℕ → ℕ → Numbering → Board → Type 0
-Answers spare before root last answer after = IsReady before root last
+abbrev pub AnswersWhereReady : ℕ → Board → ℕ → ℕ → Numbering → Board → Type 0
+AnswersWhereReady spare before root last answer after = IsReady before root last
     → IsAnswer spare before root last answer after
 
 -- Behind the root all but bus numbers is kept, and behind the others all.

@@ -9,7 +9,7 @@ use Rattle.number_spec.specs.Board.{Root, Board, Place, answers, access_of, IsSi
 use Rattle.number_spec.specs.Walk.{is_walkable, walk}
 use Rattle.number_spec.specs.Spare.{spare_room}
 use Rattle.number_spec.specs.Listed.{IsListing, HasRoomyNumbers}
-use Rattle.pci_number.specs.Answer.{named_by, Answers}
+use Rattle.pci_number.specs.Answer.{named_by, AnswersWhereReady}
 use Rattle.pci_number.specs.declared.number.Numbering.{Numbering}
 
 -- The last bus of each root is below the next root, and a walk over each bus behind them finds all
@@ -24,7 +24,7 @@ pub record AreReady (last : ℕ → ℕ) (board : Board) : Type 0 where
 abbrev pub AreNumbered : ℕ → (ℕ → ℕ) → List ℕ → Board → Board → Type 0
 AreNumbered spare last [] before after = after ≡ before
 AreNumbered spare last (root ∷ roots) before after =
-    (mid : Board) × (answer : Numbering) × Answers spare before root (last root) answer mid
+    (mid : Board) × (answer : Numbering) × AnswersWhereReady spare before root (last root) answer mid
     × (named_by answer ≡ None) × AreNumbered spare last roots mid after
 
 -- these are the roots of a board, in whatever order

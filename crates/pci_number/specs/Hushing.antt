@@ -3,7 +3,7 @@ use Rattle.std.specs.Prelude.{◌≡◌, ℕ, ◌+◌, ◌*◌, ◌≤◌, Bool,
 use Rattle.number_spec.specs.Board.{Nodes, Board}
 use Rattle.number_spec.specs.Walk.{is_walkable}
 use Rattle.number_spec.specs.Numbered.{without_numbers}
-use Rattle.pci_number.specs.Seen.{View, IsSeen, IsRest, IsClosed, has_bridges}
+use Rattle.pci_number.specs.Seen.{View, IsSeen, AreLastNodes, IsClosed, has_bridges}
 
 -- the nodes on a bus from a place on, on a board
 pub record Rest : Type 0 where
@@ -14,7 +14,7 @@ pub record Rest : Type 0 where
 pub record IsRestOf (now : Board) (place : ℕ) (more : Bool) (rest : Rest) : Type 0 where
   pub is : now ≡ rest.view.fill rest.nodes
   pub past : more ≡ true → rest.device * 8 + 1 ≤ place
-  pub has : IsRest place rest.device more rest.nodes
+  pub has : AreLastNodes place rest.device more rest.nodes
 
 -- the nodes up to there are closed
 abbrev pub ClosedUpTo : View → Nodes → Bool → Rest → Type 0

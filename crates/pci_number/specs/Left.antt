@@ -13,7 +13,7 @@ use Rattle.number_spec.specs.NoBus.{first_without, bridges}
 use Rattle.number_spec.specs.Access.{nodes_behind}
 use Rattle.number_spec.specs.Ready.{IsReady}
 use Rattle.number_spec.specs.Listed.{IsListing}
-use Rattle.pci_number.specs.Answer.{named_by, Answers}
+use Rattle.pci_number.specs.Answer.{named_by, AnswersWhereReady}
 use Rattle.pci_number.specs.declared.number.Numbering.{Numbering}
 
 -- each bridge behind a root has its numbers
@@ -25,7 +25,7 @@ pub record IsRootNumbered (spare last : ℕ) (root : Root) : Type 0 where
 abbrev pub OneRootIsNumbered : Type 0
 OneRootIsNumbered =
     (spare root last : ℕ) (before after : Board) (answer : Numbering) → IsReady before root last
-    → Answers spare before root last answer after → named_by answer ≡ None
+    → AnswersWhereReady spare before root last answer after → named_by answer ≡ None
     → (r : Root) → Contains after r
     → ((r.number ≡ root) × IsRootNumbered spare last r) ⊎ ((r.number ≢ root) × Contains before r)
 
@@ -34,29 +34,29 @@ abbrev pub AloneHasNoBusFault : Type 0
 AloneHasNoBusFault =
     (spare root last : ℕ) (nodes : Nodes) (after : Board) (answer : Numbering) (s : System)
     → IsReady (record { number = root; nodes = nodes } ∷ []) root last
-    → Answers spare (record { number = root; nodes = nodes } ∷ []) root last answer after
+    → AnswersWhereReady spare (record { number = root; nodes = nodes } ∷ []) root last answer after
     → named_by answer ≡ None → IsListing after s → HasNoBusFault (root ∷ []) s
 
 -- Where none are kept free, the n-th bridge behind the root has the n-th number.
 abbrev pub NoneFreeInOrder : Type 0
 NoneFreeInOrder =
     (root last : ℕ) (before after : Board) (answer : Numbering) → IsReady before root last
-    → Answers 0 before root last answer after
+    → AnswersWhereReady 0 before root last answer after
     → IsNumbered root last (nodes_behind before root) (nodes_behind after root)
 
 -- With none kept free, a bridge is without one exactly where there are more bridges than numbers.
 abbrev pub NoneFreeRunOut : Type 0
 NoneFreeRunOut =
     (root last : ℕ) (before after : Board) (answer : Numbering) → root ≤ last
-    → IsReady before root last → Answers 0 before root last answer after
+    → IsReady before root last → AnswersWhereReady 0 before root last answer after
     → (named_by answer ≡ None) ↔ (root + bridges (nodes_behind before root) ≤ last)
 
 -- Each node that the walk finds behind the root answers one access, that to its bus, device and
 -- function, and no other, whatever is behind other roots.
-abbrev pub FoundAnswersOnce : Type 0
-FoundAnswersOnce =
+abbrev pub FoundAnswersOnceOnBoard : Type 0
+FoundAnswersOnceOnBoard =
     (spare root last : ℕ) (before after : Board) (answer : Numbering) → IsReady before root last
-    → Answers spare before root last answer after
+    → AnswersWhereReady spare before root last answer after
     → (place : Place) → Contains (walk (nodes_behind after root) (nodes_behind after root)) place
     → (access : Slot)
     → Contains (answers after access) (root, place)

@@ -8,7 +8,7 @@ use Rattle.number_spec.specs.Numbered.{with_numbers, without_numbers}
 use Rattle.number_spec.specs.Spread.{IsShut}
 use Rattle.pci_number.specs.Seen.{View, code, IsSeen}
 use Rattle.pci_number.specs.Hushing.{Rest, IsRestOf}
-use Rattle.pci_number.specs.Stood.{Moment, AddsSteps, StepsOrEnds}
+use Rattle.pci_number.specs.Stood.{BoardMoment, AddsSteps, StepsOrEnds}
 
 -- the nodes with the bus numbers of the bridges on this bus alone taken away
 abbrev pub without_own_numbers : Nodes → Nodes
@@ -46,7 +46,7 @@ pub record IsLessStep (v : View) (nodes : Nodes) (was : Board) (now : Board) : T
   pub less : IsLessOf from to
 
 -- While a bridge is closed it forwards less at each write.
-abbrev pub IsCloseStood : {T E : Type 0} → Moment → Slot → Result T E → Moment → Type 0
+abbrev pub IsCloseStood : {T E : Type 0} → BoardMoment → Slot → Result T E → BoardMoment → Type 0
 IsCloseStood from slot result to =
     (v : View) (high last : ℕ) (image : List ℕ) (behind others : Nodes)
     → from.board ≡ v.fill (Node slot.device slot.function image behind others)
@@ -56,7 +56,7 @@ IsCloseStood from slot result to =
     from to
 
 -- While the bridges on a bus are closed they forward less at each write.
-abbrev pub IsHushStood : {T E : Type 0} → Moment → ℕ → Result T E → Moment → Type 0
+abbrev pub IsHushStood : {T E : Type 0} → BoardMoment → ℕ → Result T E → BoardMoment → Type 0
 IsHushStood from bus result to =
     (v : View) (high last : ℕ) (nodes : Nodes) → from.board ≡ v.fill nodes
     → IsSeen v bus 0 high last → is_walkable nodes ≡ true
@@ -70,7 +70,7 @@ pub record Wrap (v : View) (nodes : Nodes) (rest : Rest) : Type 0 where
   pub start : IsLessOf nodes (wrap rest.nodes)
 
 -- the closing of the bridges on a bus under way
-abbrev pub IsHushStanding : Moment → ℕ → ℕ → Bool → Moment → Type 0
+abbrev pub IsHushStanding : BoardMoment → ℕ → ℕ → Bool → BoardMoment → Type 0
 IsHushStanding from bus place more to =
     (v : View) (high last : ℕ) (nodes : Nodes) → from.board ≡ v.fill nodes
     → IsSeen v bus 0 high last → is_walkable nodes ≡ true

@@ -37,13 +37,13 @@ IsKeptBut offset image after = (after ≡ image) ⊎ ((kept : ℕ) × (after ≡
 
 -- The last nodes of a bus from a place on, each found by a walk: a function above 0 is one of the
 -- device that had function 0, and had it as the first of more.
-abbrev pub IsRest : ℕ → ℕ → Bool → Nodes → Type 0
-IsRest place device more NoMore = Unit {0}
-IsRest place device more (Node d f image behind others) =
+abbrev pub AreLastNodes : ℕ → ℕ → Bool → Nodes → Type 0
+AreLastNodes place device more NoMore = Unit {0}
+AreLastNodes place device more (Node d f image behind others) =
     (place ≤ d * 8 + f) × (f < 8) × (vendor_id image ≢ 0xffff)
     × (f ≢ 0 → (d ≡ device) × (more ≡ true)) × (is_walkable behind ≡ true)
     × (all_after d f others ≡ true) × (d < 32)
-    × IsRest (d * 8 + f + 1) (if f == 0 then d else device)
+    × AreLastNodes (d * 8 + f + 1) (if f == 0 then d else device)
     (if f == 0 then has_bit (byte_at image HEADER_TYPE) 7 else more) others
 
 -- the bridges on a bus show 0 in all three numbers

@@ -12,7 +12,7 @@ use Rattle.pci_number.specs.Seen.{View, code, IsSeen, IsClosed}
 use Rattle.pci_number.specs.Hushing.{Rest, IsRestOf}
 use Rattle.pci_number.specs.Less.{without_own_numbers, AreShut}
 use Rattle.pci_number.specs.Walked.{Outset}
-use Rattle.pci_number.specs.Stood.{Adds, AddsOrEnds, Moment, AddsSteps}
+use Rattle.pci_number.specs.Stood.{Adds, AddsOrEnds, BoardMoment, AddsSteps}
 use Rattle.pci_number.specs.declared.stop.Stop.{Stop}
 use Rattle.pci_number.specs.declared.walk.Walk.{Walk}
 
@@ -24,7 +24,7 @@ IsApart v nodes high last =
     → IsSingle (v.fill after)
 
 -- A bridge that forwards nothing gets a bus.
-abbrev pub IsShowStood : {T E : Type 0} → Moment → Slot → ℕ → Result T E → List Board → Type 0
+abbrev pub IsShowStood : {T E : Type 0} → BoardMoment → Slot → ℕ → Result T E → List Board → Type 0
 IsShowStood from slot bus result new =
     (v : View) (high last : ℕ) (image : List ℕ) (behind others : Nodes)
     → from.board ≡ v.fill (Node slot.device slot.function image behind others)
@@ -35,7 +35,7 @@ IsShowStood from slot bus result new =
     → AddsOrEnds IsSingle result from.history new
 
 -- The same, and the bridges on that bus are closed.
-abbrev pub IsOpenStood : Moment → Slot → ℕ → ℕ → Result Bool Stop → List Board → Type 0
+abbrev pub IsOpenStood : BoardMoment → Slot → ℕ → ℕ → Result Bool Stop → List Board → Type 0
 IsOpenStood from slot bus last result new =
     (v : View) (high : ℕ) (image : List ℕ) (behind others : Nodes)
     → from.board ≡ v.fill (Node slot.device slot.function image behind others)
@@ -46,14 +46,14 @@ IsOpenStood from slot bus last result new =
     → AddsOrEnds IsSingle result from.history new
 
 -- The bridges on a bus, which are closed, and those behind them get their numbers.
-abbrev pub IsBusStood : {T E : Type 0} → Moment → Outset → Result T E → List Board → Type 0
+abbrev pub IsBusStood : {T E : Type 0} → BoardMoment → Outset → Result T E → List Board → Type 0
 IsBusStood from o result new =
     (v : View) (nodes : Nodes) → from.board ≡ v.fill nodes
     → IsSeen v o.bus 0 o.start.taken o.last → is_walkable nodes ≡ true → IsClosed nodes
     → IsApart v nodes o.start.taken o.last → AddsOrEnds IsSingle result from.history new
 
 -- the walk over a bus under way
-abbrev pub IsWalkStanding : Moment → Outset → ℕ → Bool → Walk → Moment → Type 0
+abbrev pub IsWalkStanding : BoardMoment → Outset → ℕ → Bool → Walk → BoardMoment → Type 0
 IsWalkStanding from o place more walk to =
     (v : View) (nodes : Nodes) → from.board ≡ v.fill nodes
     → IsSeen v o.bus 0 o.start.taken o.last → is_walkable nodes ≡ true → IsClosed nodes
@@ -91,10 +91,10 @@ ClosedOrStopped nodes (Err stop) hushed new =
 
 -- The boards that stood after each write. Where numbering stopped with an error, nothing is said of
 -- the one after its last write: that may have left another number.
-pub record IsSingleThroughout {T E : Type 0} (from : Moment) (root : ℕ) (answer : Result T E)
+pub record IsSingleThroughout {T E : Type 0} (from : BoardMoment) (root : ℕ) (answer : Result T E)
     (new : List Board) : Type 0 where
   -- the moment at which the bridges on the root bus were closed
-  pub closed : Moment
+  pub closed : BoardMoment
   pub hushing : AddsSteps (IsHushStep from.board root) from closed
   pub done : ClosedOrStopped (nodes_behind closed.board root) answer closed.history new
   -- each board after that is single,

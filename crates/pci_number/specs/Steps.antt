@@ -6,12 +6,12 @@ use Rattle.number_spec.specs.Board.{Nodes, Node, Board, is_type_1}
 use Rattle.number_spec.specs.Walk.{all_after, is_walkable}
 use Rattle.number_spec.specs.Room.{shows}
 use Rattle.number_spec.specs.Numbered.{with_numbers, without_numbers}
-use Rattle.pci_number.specs.Seen.{View, code, IsSeen, IsKeptBut, IsRest, IsClosed, has_bridges}
+use Rattle.pci_number.specs.Seen.{View, code, IsSeen, IsKeptBut, AreLastNodes, IsClosed, has_bridges}
 use Rattle.pci_number.specs.declared.look.Found.{Found}
 
 -- A byte of the node at a slot shows a number, and all else is kept.
-abbrev pub IsPut : Board → Slot → ℕ → ℕ → Board → Type 0
-IsPut before slot offset number after =
+abbrev pub IsNumberPut : Board → Slot → ℕ → ℕ → Board → Type 0
+IsNumberPut before slot offset number after =
     (v : View) (high last : ℕ) (image : List ℕ) (behind others : Nodes)
     → before ≡ v.fill (Node slot.device slot.function image behind others)
     → IsSeen v slot.bus (code slot) high last → all_after slot.device slot.function others ≡ true
@@ -31,19 +31,19 @@ IsTouched before slot offset after =
 pub data IsLook (slot : Slot) (found : Found) (rest : Nodes) : Type 0 where
   Absent : (device : ℕ) → found.bridge ≡ false
       → (found.more ≡ true → device * 8 ≤ code slot)
-      → IsRest (code slot + 1) device found.more rest → IsLook slot found rest
+      → AreLastNodes (code slot + 1) device found.more rest → IsLook slot found rest
   There : (image : List ℕ) (behind others : Nodes) (device : ℕ)
       → rest ≡ Node slot.device slot.function image behind others → is_type_1 image ≡ found.bridge
       → is_walkable behind ≡ true → all_after slot.device slot.function others ≡ true
       → (found.more ≡ true → device * 8 ≤ code slot)
-      → IsRest (code slot + 1) device found.more others → IsLook slot found rest
+      → AreLastNodes (code slot + 1) device found.more others → IsLook slot found rest
 
 -- what a look finds
 abbrev pub IsLooked : Board → Slot → Bool → Found → Type 0
 IsLooked board slot more found =
     (v : View) (high last device : ℕ) (rest : Nodes) → board ≡ v.fill rest
     → IsSeen v slot.bus (code slot) high last → slot.function ≤ 7
-    → (more ≡ true → device * 8 + 1 ≤ code slot) → IsRest (code slot) device more rest
+    → (more ≡ true → device * 8 + 1 ≤ code slot) → AreLastNodes (code slot) device more rest
     → IsLook slot found rest
 
 -- an image is as it was but for bus numbers
@@ -95,8 +95,8 @@ OfOpening before slot bus last P =
     → high + 1 ≤ bus → bus ≤ last → P v image behind others
 
 -- A bridge has a bus behind it, on which no bridge forwards anything.
-abbrev pub IsOpened : Board → Slot → ℕ → ℕ → Bool → Board → Type 0
-IsOpened before slot bus last bridges after =
+abbrev pub IsBusOpened : Board → Slot → ℕ → ℕ → Bool → Board → Type 0
+IsBusOpened before slot bus last bridges after =
     OfOpening before slot bus last (λ v image behind others.
     (new : List ℕ) × (nodes : Nodes)
     × (after ≡ v.fill (Node slot.device slot.function new nodes others)) × IsAlike image new

@@ -24,15 +24,15 @@ AddsOrEnds P (Ok x) old new = Adds P old new
 AddsOrEnds P (Err e) old new = Ends P old new
 
 -- the board that stands at a moment, and those that stood after each write up to then
-pub record Moment : Type 0 where
+pub record BoardMoment : Type 0 where
   pub board : Board
   pub history : List Board
 
-abbrev pub moment : Board → List Board → Moment
-moment board history = record { board = board; history = history }
+abbrev pub board_moment : Board → List Board → BoardMoment
+board_moment board history = record { board = board; history = history }
 
 -- from one moment to another one write at most was made
-abbrev pub IsOneMore : Moment → Moment → Type 0
+abbrev pub IsOneMore : BoardMoment → BoardMoment → Type 0
 IsOneMore from to =
     ((to.board ≡ from.board) × (to.history ≡ from.history))
     ⊎ (to.history ≡ to.board ∷ from.history)
@@ -51,18 +51,18 @@ EachStep R before (board ∷ boards) = R (latest before boards) board × EachSte
 
 -- From one moment to another boards have come to those that stood, and this is said of each that has
 -- and of the one before it.
-abbrev pub AddsSteps : (Board → Board → Type 0) → Moment → Moment → Type 0
+abbrev pub AddsSteps : (Board → Board → Type 0) → BoardMoment → BoardMoment → Type 0
 AddsSteps R from to =
     (added : List Board) × (to.history ≡ added ++ from.history) × EachStep R from.board added
     × (latest from.board added ≡ to.board)
 
 -- The same, but that of one last board nothing is said.
-abbrev pub EndsSteps : (Board → Board → Type 0) → Moment → List Board → Type 0
+abbrev pub EndsSteps : (Board → Board → Type 0) → BoardMoment → List Board → Type 0
 EndsSteps R from new =
-    (last : Moment) × AddsSteps R from last
+    (last : BoardMoment) × AddsSteps R from last
     × ((new ≡ last.history) ⊎ ((board : Board) × (new ≡ board ∷ last.history)))
 
-abbrev pub StepsOrEnds : {T E : Type 0} → (Board → Board → Type 0) → Result T E → Moment → Moment
+abbrev pub StepsOrEnds : {T E : Type 0} → (Board → Board → Type 0) → Result T E → BoardMoment → BoardMoment
     → Type 0
 StepsOrEnds R (Ok x) from to = AddsSteps R from to
 StepsOrEnds R (Err e) from to = EndsSteps R from to.history

@@ -8,19 +8,19 @@ use Rattle.pci_number.specs.declared.stop.Stop.{Stop}
 use Rattle.pci_number.specs.declared.stop.Stop.TheVariants.{Stuck, Port}
 
 -- how many failures an access counts as
-abbrev pub failures_of : {T E : Type 0} → Result T E → ℕ
-failures_of (Ok x) = 0
-failures_of (Err e) = 1
+abbrev pub failures_of_access : {T E : Type 0} → Result T E → ℕ
+failures_of_access (Ok x) = 0
+failures_of_access (Err e) = 1
 
 -- how many failures a stop counts as
-abbrev pub failures_of_stop : Stop → ℕ
-failures_of_stop (Stuck written) = 0
-failures_of_stop Port = 1
+abbrev pub failures_of_numbering_stop : Stop → ℕ
+failures_of_numbering_stop (Stuck written) = 0
+failures_of_numbering_stop Port = 1
 
 -- the same of an outcome
 abbrev pub failures_at : {T : Type 0} → Result T Stop → ℕ
 failures_at (Ok x) = 0
-failures_at (Err stop) = failures_of_stop stop
+failures_at (Err stop) = failures_of_numbering_stop stop
 
 -- a bus number that is written
 abbrev pub number_write : Slot → ℕ → ℕ → Write
@@ -29,8 +29,8 @@ number_write slot offset number =
 
 -- what a stop says of the board and of the last write: the number was written last, and is not what
 -- is read there
-abbrev pub IsStop : Board → Option Write → Stop → Type 0
-IsStop board last_write Port = Unit {0}
-IsStop board last_write (Stuck told) =
+abbrev pub IsNumberingStop : Board → Option Write → Stop → Type 0
+IsNumberingStop board last_write Port = Unit {0}
+IsNumberingStop board last_write (Stuck told) =
     (last_write ≡ Some (number_write told.slot told.offset told.number))
     × (found : ℕ) × IsRead board told.slot told.offset found × (found ≢ told.number)

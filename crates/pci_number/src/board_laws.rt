@@ -2,7 +2,7 @@
 
 ghost use Rattle.pci_number.specs.Again.{NumbersStand};
 ghost use Rattle.pci_number.specs.Calls.{RootsGetNumbers, RootsHaveNoBusFault, RootsGetSingle, RootsAnswerOnce};
-ghost use Rattle.pci_number.specs.Left.{OneRootIsNumbered, AloneHasNoBusFault, NoneFreeInOrder, NoneFreeRunOut, FoundAnswersOnce};
+ghost use Rattle.pci_number.specs.Left.{OneRootIsNumbered, AloneHasNoBusFault, NoneFreeInOrder, NoneFreeRunOut, FoundAnswersOnceOnBoard};
 
 /// Numbered again up to the same last bus, the same is answered and the same numbers stand.
 pub fn numbers_stand()
@@ -27,7 +27,7 @@ pub fn numbers_are_in_order()
 /// Where numbering answers, each node that a walk finds behind the root answers one access, and no
 /// other, whatever is behind other roots.
 pub fn nodes_that_are_found_answer_once()
-    ensures once { FoundAnswersOnce }
+    ensures once { FoundAnswersOnceOnBoard }
 {}
 
 /// Where the last bus of each root is below the next root, and numbering answers `Numbered` for one

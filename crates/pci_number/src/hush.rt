@@ -1,10 +1,10 @@
 //! Bridges that forward nothing.
 ghost use Rattle.std.specs.Prelude.{◌≡◌, ◌+◌, ◌≤◌, IfOk, IfErr, OnOk, OnErr};
-ghost use Rattle.pci_number.specs.Stops.{failures_at, IsStop};
+ghost use Rattle.pci_number.specs.Stops.{failures_at, IsNumberingStop};
 ghost use Rattle.pci_number.specs.Steps.{IsShownAt, IsLeftAt, IsHushed, IsHushLeft};
 ghost use Rattle.pci_number.specs.Few.{IsHushFew};
 ghost use Rattle.pci_number.specs.Less.{IsCloseStood, IsHushStood};
-ghost use Rattle.pci_number.specs.Stood.{moment};
+ghost use Rattle.pci_number.specs.Stood.{board_moment};
 
 use crate::look::{PLACES, look, slot_at};
 use crate::port::BoardPort;
@@ -18,9 +18,9 @@ use pci_base::slot::Slot;
 fn close<P: BoardPort>(port: &mut P, slot: Slot) -> Result<(), Stop>
     ensures closed { OnOk result (IsShownAt (P.board port.old) slot 0 0 0 (P.board port.new)) }
     ensures left { OnErr result (IsLeftAt (P.board port.old) slot (P.board port.new)) }
-    ensures stood { IsCloseStood (moment (P.board port.old) (P.history port.old)) slot result
-        (moment (P.board port.new) (P.history port.new)) }
-    ensures stop { IfErr result (IsStop (P.board port.new) (P.last_write port.new)) }
+    ensures stood { IsCloseStood (board_moment (P.board port.old) (P.history port.old)) slot result
+        (board_moment (P.board port.new) (P.history port.new)) }
+    ensures stop { IfErr result (IsNumberingStop (P.board port.new) (P.last_write port.new)) }
     ensures counted { P.failures port.new ≡ P.failures port.old + failures_at result }
     ensures few { P.writes port.new ≤ P.writes port.old + 3 }
 {
@@ -37,9 +37,9 @@ pub fn hush<P: BoardPort>(port: &mut P, bus: u8) -> Result<bool, Stop>
     // what an error leaves is all that numbering can say of a board that stopped
     ensures left { OnErr result (IsHushLeft (P.board port.old) bus (P.board port.new)) }
     // a board may lose its port at any write, so each state on the way counts
-    ensures stood { IsHushStood (moment (P.board port.old) (P.history port.old)) bus result
-        (moment (P.board port.new) (P.history port.new)) }
-    ensures stop { IfErr result (IsStop (P.board port.new) (P.last_write port.new)) }
+    ensures stood { IsHushStood (board_moment (P.board port.old) (P.history port.old)) bus result
+        (board_moment (P.board port.new) (P.history port.new)) }
+    ensures stop { IfErr result (IsNumberingStop (P.board port.new) (P.last_write port.new)) }
     ensures counted { P.failures port.new ≡ P.failures port.old + failures_at result }
     // a bound for the whole board is the sum of these
     ensures few { IsHushFew (P.board port.old) bus (P.writes port.old) (P.writes port.new) }

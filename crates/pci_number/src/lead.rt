@@ -1,8 +1,8 @@
 //! A bridge behind which all have their numbers.
 ghost use Rattle.std.specs.Prelude.{◌≡◌, ◌+◌, ◌≤◌, IfOk, IfErr, OnErr};
-ghost use Rattle.pci_number.specs.Stops.{failures_at, IsStop};
-ghost use Rattle.pci_number.specs.Steps.{IsPut, IsTouched};
-ghost use Rattle.pci_number.specs.Stood.{IsOneMore, moment};
+ghost use Rattle.pci_number.specs.Stops.{failures_at, IsNumberingStop};
+ghost use Rattle.pci_number.specs.Steps.{IsNumberPut, IsTouched};
+ghost use Rattle.pci_number.specs.Stood.{IsOneMore, board_moment};
 ghost use Rattle.pci_number.specs.Spare.{IsLed};
 
 use crate::port::BoardPort;
@@ -21,15 +21,15 @@ pub fn lead_to<P: BoardPort>(
     last: u8,
     spare: u8,
 ) -> Result<u8, Stop>
-    ensures put { IfOk result (λ end. IsPut (P.board port.old) slot 26 end (P.board port.new)) }
+    ensures put { IfOk result (λ end. IsNumberPut (P.board port.old) slot 26 end (P.board port.new)) }
     ensures led { IfOk result (λ end. IsLed (P.board port.old) slot taken last spare end) }
     ensures above { IfOk result (λ end. taken ≤ end) }
     // what an error leaves is all that numbering can say of a board that stopped
     ensures left { OnErr result (IsTouched (P.board port.old) slot 26 (P.board port.new)) }
     // a board may lose its port at any write, so each state on the way counts
-    ensures stood { IsOneMore (moment (P.board port.old) (P.history port.old))
-        (moment (P.board port.new) (P.history port.new)) }
-    ensures stop { IfErr result (IsStop (P.board port.new) (P.last_write port.new)) }
+    ensures stood { IsOneMore (board_moment (P.board port.old) (P.history port.old))
+        (board_moment (P.board port.new) (P.history port.new)) }
+    ensures stop { IfErr result (IsNumberingStop (P.board port.new) (P.last_write port.new)) }
     ensures counted { P.failures port.new ≡ P.failures port.old + failures_at result }
     // a bound for the whole board is the sum of these
     ensures few { P.writes port.new ≤ P.writes port.old + 1 }

@@ -1,6 +1,6 @@
 //! What is at a place of a bus.
 ghost use Rattle.std.specs.Prelude.{◌≡◌, ◌+◌, ◌/◌, ◌%◌, ◌<◌, IfOk};
-ghost use Rattle.pci_number.specs.Stops.{failures_of};
+ghost use Rattle.pci_number.specs.Stops.{failures_of_access};
 ghost use Rattle.pci_number.specs.Steps.{IsLooked};
 
 use crate::port::{AccessFailed, BoardPort};
@@ -40,7 +40,7 @@ pub fn look<P: BoardPort>(port: &mut P, slot: Slot, more: bool) -> Result<Found,
     ensures same { P.board port.new ≡ P.board port.old }
     ensures same_history { P.history port.new ≡ P.history port.old }
     ensures no_write { P.last_write port.new ≡ P.last_write port.old }
-    ensures counted { P.failures port.new ≡ P.failures port.old + failures_of result }
+    ensures counted { P.failures port.new ≡ P.failures port.old + failures_of_access result }
     ensures no_more { P.writes port.new ≡ P.writes port.old }
 {
     let first = slot.fun() == 0;

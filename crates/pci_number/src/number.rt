@@ -1,11 +1,11 @@
 //! Bus numbers for what is behind a root bus.
 ghost use Rattle.std.specs.Prelude.{◌≡◌, ◌+◌, IfOk, IfErr};
-ghost use Rattle.pci_number.specs.Stops.{failures_at, IsStop};
+ghost use Rattle.pci_number.specs.Stops.{failures_at, IsNumberingStop};
 ghost use Rattle.number_spec.specs.Ready.{IsReady};
-ghost use Rattle.pci_number.specs.Answer.{Answers, Keeps, named_by, highest_of};
+ghost use Rattle.pci_number.specs.Answer.{AnswersWhereReady, Keeps, named_by, highest_bus_of};
 ghost use Rattle.pci_number.specs.Few.{IsFew};
 ghost use Rattle.pci_number.specs.Single.{IsSingleThroughout, EndsSingle};
-ghost use Rattle.pci_number.specs.Stood.{moment};
+ghost use Rattle.pci_number.specs.Stood.{board_moment};
 
 use crate::hush::hush;
 use crate::port::BoardPort;
@@ -40,17 +40,17 @@ pub enum Numbering {
 /// bridge may have kept another number, with which two nodes answer an access.
 pub fn number<P: BoardPort>(port: &mut P, root: u8, last: u8, spare: u8) -> Result<Numbering, Stop>
     ensures answer { IfOk result
-        (λ answer. Answers spare (P.board port.old) root last answer (P.board port.new)) }
+        (λ answer. AnswersWhereReady spare (P.board port.old) root last answer (P.board port.new)) }
     // whatever happens, bytes 18h to 1Ah of bridges behind this root alone are changed
     ensures kept { Keeps (P.board port.old) root last (P.board port.new) }
     // each board that stood is single, from when the bridges on the root bus are closed, or from
     // the start
     ensures single { IsReady (P.board port.old) root last
-        → IsSingleThroughout (moment (P.board port.old) (P.history port.old)) root result
+        → IsSingleThroughout (board_moment (P.board port.old) (P.history port.old)) root result
         (P.history port.new) }
     ensures end { IfOk result
         (λ _. EndsSingle (P.board port.old) root last (P.board port.new)) }
-    ensures stop { IfErr result (IsStop (P.board port.new) (P.last_write port.new)) }
+    ensures stop { IfErr result (IsNumberingStop (P.board port.new) (P.last_write port.new)) }
     ensures counted { P.failures port.new ≡ P.failures port.old + failures_at result }
     // whatever happens, at most 8 writes are made for each bridge behind this root
     ensures few { IsFew (P.board port.old) root last (P.writes port.old) (P.writes port.new) }
@@ -67,7 +67,7 @@ pub fn number<P: BoardPort>(port: &mut P, root: u8, last: u8, spare: u8) -> Resu
 /// What a walk over the whole root bus comes to.
 fn answer(walk: Walk) -> Numbering
     ensures without { named_by result ≡ walk.without }
-    ensures highest { highest_of result ≡ walk.taken }
+    ensures highest { highest_bus_of result ≡ walk.taken }
 {
     let highest = walk.taken;
     match walk.without {

@@ -3,7 +3,7 @@ ghost use Rattle.std.specs.Prelude.{◌≡◌, ◌+◌, ℕ, List, ◌∷◌, Op
 ghost use Rattle.pci_spec.specs.Machine.{Write};
 ghost use Rattle.number_spec.specs.Board.{Board};
 ghost use Rattle.number_spec.specs.Access.{IsRead, IsWritten};
-ghost use Rattle.pci_number.specs.Stops.{failures_of, number_write};
+ghost use Rattle.pci_number.specs.Stops.{failures_of_access, number_write};
 
 use pci_base::slot::Slot;
 
@@ -36,7 +36,7 @@ pub trait BoardPort {
         ensures same { board self.new ≡ board self.old }
         ensures same_history { history self.new ≡ history self.old }
         ensures no_write { last_write self.new ≡ last_write self.old }
-        ensures counted { failures self.new ≡ failures self.old + failures_of result }
+        ensures counted { failures self.new ≡ failures self.old + failures_of_access result }
         ensures no_more { writes self.new ≡ writes self.old };
 
     /// Writes one of the three bus numbers of a bridge, bytes 18h to 1Ah. The byte may keep bits.
@@ -49,7 +49,7 @@ pub trait BoardPort {
         ensures kept { OnErr result (board self.new ≡ board self.old) }
         ensures none_stood { OnErr result (history self.new ≡ history self.old) }
         ensures not_made { OnErr result (last_write self.new ≡ last_write self.old) }
-        ensures counted { failures self.new ≡ failures self.old + failures_of result }
+        ensures counted { failures self.new ≡ failures self.old + failures_of_access result }
         ensures one_more { OnOk result (writes self.new ≡ writes self.old + 1) }
         ensures none_more { OnErr result (writes self.new ≡ writes self.old) };
 }

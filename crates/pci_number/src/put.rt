@@ -1,8 +1,8 @@
 //! One bus number of a bridge.
 ghost use Rattle.std.specs.Prelude.{◌≡◌, ◌+◌, ◌≤◌, IfErr, OnOk, OnErr};
-ghost use Rattle.pci_number.specs.Stops.{failures_at, IsStop};
-ghost use Rattle.pci_number.specs.Steps.{IsPut, IsTouched};
-ghost use Rattle.pci_number.specs.Stood.{IsOneMore, moment};
+ghost use Rattle.pci_number.specs.Stops.{failures_at, IsNumberingStop};
+ghost use Rattle.pci_number.specs.Steps.{IsNumberPut, IsTouched};
+ghost use Rattle.pci_number.specs.Stood.{IsOneMore, board_moment};
 
 use crate::port::BoardPort;
 use crate::stop::{NotTaken, Stop};
@@ -14,13 +14,13 @@ use pci_base::slot::Slot;
 ///
 /// `Stuck` where it reads back otherwise.
 pub fn put<P: BoardPort>(port: &mut P, slot: Slot, offset: u8, number: u8) -> Result<(), Stop>
-    ensures put { OnOk result (IsPut (P.board port.old) slot offset number (P.board port.new)) }
+    ensures put { OnOk result (IsNumberPut (P.board port.old) slot offset number (P.board port.new)) }
     // what an error leaves is all that numbering can say of a board that stopped
     ensures left { OnErr result (IsTouched (P.board port.old) slot offset (P.board port.new)) }
     // a board may lose its port at any write, so each state on the way counts
-    ensures stood { IsOneMore (moment (P.board port.old) (P.history port.old))
-        (moment (P.board port.new) (P.history port.new)) }
-    ensures stop { IfErr result (IsStop (P.board port.new) (P.last_write port.new)) }
+    ensures stood { IsOneMore (board_moment (P.board port.old) (P.history port.old))
+        (board_moment (P.board port.new) (P.history port.new)) }
+    ensures stop { IfErr result (IsNumberingStop (P.board port.new) (P.last_write port.new)) }
     ensures counted { P.failures port.new ≡ P.failures port.old + failures_at result }
     // a bound for the whole board is the sum of these
     ensures few { P.writes port.new ≤ P.writes port.old + 1 }

@@ -3,7 +3,7 @@
 ghost use Rattle.std.specs.Prelude.{◌≡◌, ◌+◌, ◌*◌, ◌/◌, ◌<◌, ◌&&◌, IfOk};
 ghost use Rattle.pci_spec.specs.Number.{byte_at, has_bit};
 ghost use Rattle.number_spec.specs.Spare.{is_hot_plug, has_hot_plug_slot, spare_room};
-ghost use Rattle.pci_number.specs.Stops.{failures_of};
+ghost use Rattle.pci_number.specs.Stops.{failures_of_access};
 ghost use Rattle.pci_number.specs.Spare.{IsSaidThere};
 
 use crate::port::{AccessFailed, BoardPort};
@@ -46,7 +46,7 @@ fn has_slot<P: BoardPort>(port: &mut P, slot: Slot, place: u8) -> Result<bool, A
     ensures same { P.board port.new ≡ P.board port.old }
     ensures same_history { P.history port.new ≡ P.history port.old }
     ensures no_write { P.last_write port.new ≡ P.last_write port.old }
-    ensures counted { P.failures port.new ≡ P.failures port.old + failures_of result }
+    ensures counted { P.failures port.new ≡ P.failures port.old + failures_of_access result }
     ensures no_more { P.writes port.new ≡ P.writes port.old }
 {
     let express = port.read(slot, place + EXPRESS_CAPABILITIES_HIGH)?;
@@ -61,7 +61,7 @@ fn is_hot_plug<P: BoardPort>(port: &mut P, slot: Slot, place: u8) -> Result<bool
     ensures same { P.board port.new ≡ P.board port.old }
     ensures same_history { P.history port.new ≡ P.history port.old }
     ensures no_write { P.last_write port.new ≡ P.last_write port.old }
-    ensures counted { P.failures port.new ≡ P.failures port.old + failures_of result }
+    ensures counted { P.failures port.new ≡ P.failures port.old + failures_of_access result }
     ensures no_more { P.writes port.new ≡ P.writes port.old }
 {
     let id = port.read(slot, place)?;
@@ -82,7 +82,7 @@ fn has_hot_plug_slot<P: BoardPort>(port: &mut P, slot: Slot) -> Result<bool, Acc
     ensures same { P.board port.new ≡ P.board port.old }
     ensures same_history { P.history port.new ≡ P.history port.old }
     ensures no_write { P.last_write port.new ≡ P.last_write port.old }
-    ensures counted { P.failures port.new ≡ P.failures port.old + failures_of result }
+    ensures counted { P.failures port.new ≡ P.failures port.old + failures_of_access result }
     ensures no_more { P.writes port.new ≡ P.writes port.old }
 {
     let status = port.read(slot, STATUS)?;
@@ -110,7 +110,7 @@ pub fn room_of<P: BoardPort>(port: &mut P, slot: Slot, spare: u8) -> Result<u8, 
     ensures same { P.board port.new ≡ P.board port.old }
     ensures same_history { P.history port.new ≡ P.history port.old }
     ensures no_write { P.last_write port.new ≡ P.last_write port.old }
-    ensures counted { P.failures port.new ≡ P.failures port.old + failures_of result }
+    ensures counted { P.failures port.new ≡ P.failures port.old + failures_of_access result }
     ensures no_more { P.writes port.new ≡ P.writes port.old }
 {
     if spare == 0 {

@@ -1,10 +1,10 @@
 //! The walk that gives numbers.
 ghost use Rattle.std.specs.Prelude.{◌≡◌, ◌+◌, ◌≤◌, IfOk, IfErr, OnErr};
-ghost use Rattle.pci_number.specs.Stops.{failures_at, IsStop};
+ghost use Rattle.pci_number.specs.Stops.{failures_at, IsNumberingStop};
 ghost use Rattle.pci_number.specs.Walked.{IsBusNumbered, IsBusLeft, named, outset};
 ghost use Rattle.pci_number.specs.Few.{IsBusFew};
 ghost use Rattle.pci_number.specs.Single.{IsBusStood};
-ghost use Rattle.pci_number.specs.Stood.{moment};
+ghost use Rattle.pci_number.specs.Stood.{board_moment};
 
 use crate::lead::lead_to;
 use crate::look::{PLACES, look, slot_at};
@@ -55,9 +55,9 @@ pub fn number_bus<P: BoardPort>(
     ensures left { OnErr result (IsBusLeft (P.board port.old) (outset bus last spare start)
         (P.board port.new)) }
     // a board may lose its port at any write, so each state on the way counts
-    ensures stood { IsBusStood (moment (P.board port.old) (P.history port.old))
+    ensures stood { IsBusStood (board_moment (P.board port.old) (P.history port.old))
         (outset bus last spare start) result (P.history port.new) }
-    ensures stop { IfErr result (IsStop (P.board port.new) (P.last_write port.new)) }
+    ensures stop { IfErr result (IsNumberingStop (P.board port.new) (P.last_write port.new)) }
     ensures counted { P.failures port.new ≡ P.failures port.old + failures_at result }
     // a bound for the whole board is the sum of these
     ensures few { IsBusFew (P.board port.old) (outset bus last spare start) (P.writes port.old)

@@ -4,7 +4,7 @@ use Rattle.number_spec.specs.Board.{Board, answers}
 use Rattle.number_spec.specs.Access.{nodes_behind}
 use Rattle.number_spec.proofs.Examples.Boards.{slot, board, pair}
 use Rattle.pci_number.specs.Less.{AreShut}
-use Rattle.pci_number.specs.Stood.{latest, moment}
+use Rattle.pci_number.specs.Stood.{latest, board_moment}
 use Rattle.pci_number.specs.Single.{IsSingleBeside, IsSingleThroughout}
 
 -- at the start, and once the first bridge leads to no bus above its own
@@ -42,7 +42,7 @@ closed_is closed (b ∷ bs) [] hushed is last all shut =
 closed_is closed (b ∷ bs) (y ∷ []) hushed is last all shut = let none : [] ≡ b ∷ (bs ++ []) = cc (all, is) in cc none
 closed_is closed (b ∷ bs) (y ∷ z ∷ zs) hushed is last all shut = cc all
 
-not_answered : IsSingleBeside start 0 → (answer : ℕ) → IsSingleThroughout {T = ℕ} {E = ℕ} (moment start []) 0 (Ok answer) (first ∷ []) → ⊥
+not_answered : IsSingleBeside start 0 → (answer : ℕ) → IsSingleThroughout {T = ℕ} {E = ℕ} (board_moment start []) 0 (Ok answer) (first ∷ []) → ⊥
 not_answered beside answer all =
     let later = all.later beside in
     closed_is all.closed.board all.hushing.0 later.0 all.closed.history all.hushing.1 all.hushing.3 later.1 all.done
