@@ -1,0 +1,166 @@
+"""The slow judge: verdicts and lists of all faults, from the definitions of docs/FORMATS.md.
+
+It asks of each region, bus and bridge at each address at which an answer may change. What is asked of an address is a
+combination of ranges, so the least address with an answer is where a range begins, or behind one's end.
+
+- `faults(functions, probe_slots, given, words)`: the text that `faults` prints.
+- `verdict(functions, probe_slots, roots)`: the text that `check` prints.
+
+`functions` are those of the dump with their probes; `probe_slots` are the slots of the probe, None where they are the same.
+"""
+
+from early import early_lines, slot_lines
+from model import IO, MEM, slot_text
+from regions import Given, System, may_share
+from words import legacy_parts, names_of, taken
+
+
+def address_words(space, address):
+    """A space and an address of it, as faults tell them."""
+    return '%s %0*x' % (space, 8 if space == IO else 16, address)
+
+
+def name_words(region):
+    """A region, as faults name it."""
+    return '%s %02x' % (slot_text(region.slot), region.register)
+
+
+class Fault:
+    """A fault of judging: its line, the order in which it is looked for, and the regions that it names."""
+
+    def __init__(self, number, key, line, region, other=None, bridge=None, address=None):
+        self.number = number
+        self.key = key
+        self.line = line
+        self.region = region
+        self.other = other
+        self.bridge = bridge
+        self.address = address
+
+
+def outside(system, turns):
+    """63: each BAR and ROM with its least address that the host doesn't send to the root above."""
+    found = []
+    for region in system.regions:
+        if not region.is_home:
+            continue
+        for address in turns[region.space]:
+            if region.claims(address) and not all(
+                    system.given.starts(region.space, root, address) for root, _ in system.ways(region.bus)):
+                line = '63 Outside %s %s' % (name_words(region), address_words(region.space, address))
+                found.append(Fault(63, (0, region.name, address), line, region, address=address))
+                break
+    return found
+
+
+def missing_bridge(system, region, addresses):
+    """The first bridge on the way to a region that misses one of its addresses, and the least that it misses."""
+    missed = []
+    for root, bridges in system.ways(region.bus):
+        for b in bridges:
+            missed += [(b.slot, address) for address in addresses
+                       if system.given.starts(region.space, root, address)
+                       and not system.passes(b, region, address)]
+    return min(missed) if missed else None
+
+
+def unreached(system, turns):
+    """60: each BAR and ROM that a bridge on its way doesn't pass."""
+    found = []
+    for region in system.regions:
+        if not region.is_home:
+            continue
+        missed = missing_bridge(system, region, [a for a in turns[region.space] if region.claims(a)])
+        if missed:
+            bridge, address = missed
+            line = '60 Unreached %s %s bridge %s' % (
+                name_words(region), address_words(region.space, address), slot_text(bridge))
+            found.append(Fault(60, (1, 0, region.name, bridge, address), line, region, bridge=bridge, address=address))
+    return found
+
+
+def clash_at(first, second, address):
+    """The fault 61 of two regions at an address."""
+    space = second.space
+    line = '61 Clash bus %02x %s %s %s' % (
+        second.bus, address_words(space, address), name_words(first), name_words(second))
+    key = (1, 1, second.bus, 0 if space == IO else 1, address, first.name, second.name)
+    return Fault(61, key, line, second, other=first, address=address)
+
+
+def split_at(first, second, address):
+    """The fault 62 of two regions at an address."""
+    space = second.space
+    line = '62 Split %s %s %s' % (address_words(space, address), name_words(first), name_words(second))
+    key = (1, 2, 0 if space == IO else 1, address, first.name, second.name)
+    return Fault(62, key, line, second, other=first, address=address)
+
+
+def pairs(system, turns):
+    """All faults 61 and 62 at addresses where something begins or ends, the earlier region first."""
+    found = []
+    roots = system.given.roots
+    for space in (IO, MEM):
+        for address in turns[space]:
+            there = [region for region in system.regions if region.space == space and region.claims(address)]
+            gets = {region.bus: system.gets(space, address, region.bus) for region in there}
+            starts = {root: system.given.starts(space, root, address) for root in roots}
+            for place, second in enumerate(there):
+                for first in there[:place]:
+                    if first.bus == second.bus and gets[first.bus] and not may_share(first, second):
+                        found.append(clash_at(first, second, address))
+                    if (first.bus != second.bus and first.bus in roots and second.bus in roots
+                            and starts[first.bus] and starts[second.bus]):
+                        found.append(split_at(first, second, address))
+    return found
+
+
+def least_of_each_second(faults):
+    """Of each second region, space and number the fault at the least address, with the least first region."""
+    least = {}
+    for fault in faults:
+        subject = (fault.number, fault.region.name, fault.region.space)
+        told = least.get(subject)
+        if told is None or (fault.address, fault.other.name) < (told.address, told.other.name):
+            least[subject] = fault
+    return list(least.values())
+
+
+def judging(system):
+    """The list of all faults of judging, in their order."""
+    turns = {space: system.turns(space) for space in (IO, MEM)}
+    found = outside(system, turns) + unreached(system, turns) + least_of_each_second(pairs(system, turns))
+    return sorted(found, key=lambda fault: fault.key)
+
+
+def faults(functions, probe_slots, given, words=None):
+    """What `faults` prints, without reasons."""
+    lines = early_faults(functions, probe_slots, given.roots, words)
+    if not lines:
+        lines = [fault.line for fault in judging(system_of(functions, given, words))]
+    return '\n'.join(lines or ['yes']) + '\n'
+
+
+def early_faults(functions, probe_slots, roots, words=None):
+    """The lines of the earliest phase before judging that has any."""
+    if probe_slots is not None and probe_slots != [f.slot for f in functions]:
+        return slot_lines([f.slot for f in functions], probe_slots)
+    return early_lines(taken(functions, names_of(words)), roots)
+
+
+def system_of(functions, given, words=None):
+    """The system as words take it, with its legacy parts."""
+    names = names_of(words)
+    given = Given(given.roots, given.host[IO], given.host[MEM], legacy_parts(functions, names))
+    return System(taken(functions, names), given)
+
+
+def verdict(functions, probe_slots, roots):
+    """What `check` prints."""
+    lines = early_faults(functions, probe_slots, roots)
+    if not lines:
+        system = system_of(functions, Given(roots))
+        turns = {space: system.turns(space) for space in (IO, MEM)}
+        found = unreached(system, turns) + pairs(system, turns)
+        lines = [min(found, key=lambda fault: fault.key).line] if found else []
+    return 'no %s\n' % lines[0] if lines else 'yes\n'

@@ -1,0 +1,102 @@
+"""The words of `--model`: how functions are taken by a user's words, and which bridges have legacy parts."""
+
+from early import decoding_lines, identity_lines, is_asleep, profile_lines
+from model import BRIDGE_CONTROL, CLASS, COMMAND, HEADER, STATUS, IO, bit, number_at
+
+NAMES = ('ide', 'power', 'reset', 'subtractive', 'unnumbered', 'vga', 'vga16')
+
+
+def names_of(words):
+    """The names that the words of `--model` are."""
+    if words is None:
+        return set()
+    return set(NAMES) - {'vga16'} if words == 'all' else set(words.split(','))
+
+
+def has_vga_enable(f):
+    """Whether it is a bridge with VGA Enable."""
+    return f.is_bridge and bit(f.bridge_control, 3)
+
+
+def legacy_parts(functions, names):
+    """The slots of bridges with legacy parts, and whether each decodes 16 bits of a port."""
+    if not names & {'vga', 'vga16'}:
+        return {}
+    return {f.slot: 'vga16' in names or bit(f.bridge_control, 4) for f in functions if has_vga_enable(f)}
+
+
+def is_anyone_behind(functions, b):
+    """Whether a function is listed on a bus of a bridge's range."""
+    return any(b.secondary <= f.slot[0] <= b.subordinate for f in functions)
+
+
+def clear(image, offset, width):
+    """Clears some bytes."""
+    image[offset:offset + width] = bytes(width)
+
+
+def take_sleeping(f, names):
+    """`power`: what sleeps decodes nothing, and has no list of capabilities."""
+    if 'power' in names and not identity_lines(f) and not decoding_lines(f) and is_asleep(f.image):
+        f.image[COMMAND] &= ~3 & 0xFF
+        f.image[STATUS] &= ~0x10 & 0xFF
+
+
+def take_bridge(functions, f, names):
+    """`reset` and `subtractive`: of a bridge with nothing listed behind it."""
+    if not f.is_bridge or is_anyone_behind(functions, f):
+        return
+    if 'reset' in names:
+        f.image[BRIDGE_CONTROL] &= ~0x40 & 0xFF
+    if 'subtractive' in names and number_at(f.image, CLASS, 3) == 0x060401:
+        f.image[CLASS] = 0
+
+
+def take_channels(f):
+    """`ide`: the BARs of channels in compatibility mode are left out."""
+    interface = f.image[CLASS]
+    for bar in f.bars():
+        first_channel = bar.register < 0x18 and not bit(interface, 0)
+        second_channel = 0x18 <= bar.register < 0x20 and not bit(interface, 2)
+        if first_channel or second_channel:
+            width = 8 if bar.wide else 4
+            clear(f.image, bar.register, width)
+            clear(f.probe, bar.register, width)
+
+
+def is_unnumbered(f, has_legacy):
+    """Whether a bridge has no bus numbers, claims nothing by a window or legacy part, and has its ROM off."""
+    if not f.is_bridge or f.primary or f.secondary or f.subordinate:
+        return False
+    if any(window.enabled and not window.is_closed for window in f.windows()):
+        return False
+    if has_legacy and (f.is_on(IO) or f.is_on('mem')):
+        return False
+    return not any(bit(rom.value, 0) for rom in f.rom())
+
+
+def take_unnumbered(f):
+    """`unnumbered`: the bridge is a device with its two BARs."""
+    f.image[HEADER] &= 0x80
+    clear(f.image, 0x18, 0x1C)
+    clear(f.probe, 0x18, 0x1C)
+    clear(f.probe, 0x38, 4)
+
+
+def taken(functions, names):
+    """The functions as the words take them."""
+    all_taken = []
+    for listed in functions:
+        f = listed.copy()
+        has_legacy = bool(names & {'vga', 'vga16'}) and has_vga_enable(f)
+        if has_legacy:
+            f.image[BRIDGE_CONTROL] &= ~8 & 0xFF
+        take_sleeping(f, names)
+        take_bridge(functions, f, names)
+        if not identity_lines(f) and not decoding_lines(f) and not profile_lines(f):
+            if 'ide' in names and f.layout == 0 and number_at(f.image, CLASS + 1, 2) == 0x0101:
+                take_channels(f)
+            elif 'unnumbered' in names and is_unnumbered(f, has_legacy):
+                take_unnumbered(f)
+        all_taken.append(f)
+    return all_taken
