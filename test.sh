@@ -12,16 +12,11 @@ room=$(mktemp -d) || exit 1
 trap 'rm -rf "$room"' EXIT
 boards=${BOARDS:-50}
 
-# A copy, so that what checks keep stays as it is. The slow planner's and settler's boards have to be of each sort: there
-# are more of the planner's, and fewer of a sort will do of the settler's.
+# A copy, so that what checks keep stays as it is.
 mkdir "$room/tree" "$room/told"
 tar -C "$top" --exclude=out --exclude=.git -cf - . | tar -C "$room/tree" -xf - || exit 1
 cd "$room/tree" || exit 1
-sed -i -e "s/in 0\.\.[0-9]*u64 {/in 0..${boards}u64 {/" \
-    -e "s/plan_all(rt.alloc(), \([0-9]*\), [0-9]*)/plan_all(rt.alloc(), \1, \1 + 4 * $boards)/" \
-    -e "s/settle_all(rt.alloc(), \([0-9]*\), [0-9]*)/settle_all(rt.alloc(), \1, \1 + $boards)/" \
-    -e "s/has_each([0-9][0-9]*)/has_each($((boards / 5)))/" \
-    crates/*/src/by_rule.rt crates/*/src/slow_*.rt
+sed -i "s/in 0\.\.[0-9]*u64 {/in 0..${boards}u64 {/" crates/*/src/by_rule.rt
 
 # program: builds pciplan, with checks compiled in. `rt try` keeps no file, so it is copied while it waits for its first
 # text, which is a pipe; the words before `check` are how it was started.
@@ -63,7 +58,7 @@ tests_of() {
 }
 
 whole_program() {
-    program && crates/pciplan/program_test.sh "$room/pciplan"
+    program && BOARDS=$((8 * boards)) crates/pciplan/program_test.sh "$room/pciplan"
 }
 
 c_side() {
@@ -73,7 +68,7 @@ c_side() {
 }
 
 export -f named tests_of whole_program program c_side
-export room
+export room boards
 {
     echo whole_program
     # the crates with the most text first, as they take longest

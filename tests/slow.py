@@ -4,11 +4,16 @@
 Usage: slow.py KIND COUNT [FIRST [PROGRAM]]
        slow.py KIND show SEED
 
-KIND is `judge`, or `all`. COUNT boards of each kind are made, of the seeds from FIRST on (0 if not said). PROGRAM is the
-built program, by default crates/pciplan/out/pciplan. A line is printed for each board on which program and model differ,
-with what differs; how many boards of each sort there were, where there are 1,000 or more a line for each sort that is
-lacking; and at last `N boards, M disagree`. The status is 1 where boards disagree or a sort is lacking. `show` prints the
-board of a seed.
+KIND is `judge`, `plan`, `settle`, or `all`. COUNT seeds are taken from FIRST on (0 if not said), of `all` a quarter of
+these for `plan` and `settle`, of which a seed has several boards. PROGRAM is the built program, by default
+crates/pciplan/out/pciplan. What is printed:
+
+- a line for each board on which program and model differ, and below it what differs;
+- for each kind of how many seeds boards were of each sort, and of 1,000 seeds or more a line for each sort that lacks;
+- at last `N boards, M disagree`, counted by seeds.
+
+The status is 1 where boards disagree or a sort is lacking. `show` prints the board of a seed. RT_JOBS sets how many
+processes run at a time (as many as there are cores if not said).
 """
 
 import collections
@@ -22,12 +27,17 @@ HERE = os.path.dirname(os.path.abspath(__file__))
 sys.path.insert(0, os.path.join(HERE, 'slow'))
 
 import judged  # noqa: E402  (the modules beside this file)
+import moving  # noqa: E402
 
 # of each kind what compares the board of a seed, what prints it, and which sorts of boards there have to be among many
 KINDS = {
     'judge': (judged.compare, judged.show, judged.SORTS),
+    'plan': (moving.compare_plans, moving.show_plans, moving.PLAN_SORTS),
+    'settle': (moving.compare_settling, moving.show_settling, moving.SETTLE_SORTS),
 }
 MANY = 1000
+# of how many seeds for `all` each kind takes one, by what its boards cost
+SHARES = {'judge': 1, 'plan': 4, 'settle': 4}
 
 
 class Task:
@@ -49,7 +59,7 @@ def compare_all(jobs, program, sorts):
     disagree = 0
     room = tempfile.mkdtemp()
     try:
-        with multiprocessing.Pool() as pool:
+        with multiprocessing.Pool(int(os.environ.get('RT_JOBS', '0')) or None) as pool:
             for kind, seed, difference, told in pool.imap_unordered(Task(program, room), jobs, 20):
                 sorts[kind].update(told)
                 if difference is not None:
@@ -82,11 +92,11 @@ def main(words):
     count, first = int(words[1]), int(words[2]) if len(words) > 2 else 0
     built = os.path.join(HERE, '..', 'crates', 'pciplan', 'out', 'pciplan')
     program = os.path.abspath(words[3] if len(words) > 3 else built)
-    kinds = list(KINDS) if words[0] == 'all' else [words[0]]
-    jobs = [(kind, seed) for seed in range(first, first + count) for kind in kinds]
-    sorts = {kind: collections.Counter() for kind in kinds}
+    counts = {kind: count // SHARES[kind] for kind in KINDS} if words[0] == 'all' else {words[0]: count}
+    jobs = [(kind, seed) for kind, many in counts.items() for seed in range(first, first + many)]
+    sorts = {kind: collections.Counter() for kind in counts}
     disagree = compare_all(jobs, program, sorts)
-    missing = sum(lacking(kind, count, sorts[kind]) for kind in kinds)
+    missing = sum(lacking(kind, many, sorts[kind]) for kind, many in counts.items())
     print('%d boards, %d disagree' % (len(jobs), disagree))
     return 1 if disagree or missing else 0
 

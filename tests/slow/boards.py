@@ -1,10 +1,11 @@
-"""Boards made by rule from a seed: trees of bridges on one to three root buses, with BARs, ROMs and windows of all kinds.
+"""Boards made by rule from a seed: trees of bridges on one to three root buses, with BARs, ROMs and windows.
 
 `board(seed)` is a `Board`: `functions`, `roots`, `words` of `--model` or None, `host_io` and `host_mem` (lists of
-(root or None, first, last), or None), `dump` and `probe` (the texts), `probe_slots`, `options()` (words of the command line).
+(root or None, first, last), or None), `dump` and `probe` (the texts), `probe_slots`, `options()` (of the command line).
 
-Of the boards one half is crowded: all addresses are taken from a few around the ends of windows, of 64 KB, 1 MB and 4 GB,
-and of what a VGA adapter answers. The other half is placed as firmware does it. Most are spoilt afterwards: spoiling.py.
+One half of the boards is crowded: all addresses are taken from a few around the ends of windows, of 64 KB, 1 MB and
+4 GB, and of what a VGA adapter answers. The other half is placed as firmware does it. Most are spoilt afterwards, as
+spoiling.py says.
 """
 
 import random
@@ -125,7 +126,7 @@ class Maker:
                 return
             if given < last and depth < 5 and self.one_in(2):
                 secondary = given + 1
-                given = self.draw.randrange(secondary, last + 1)
+                given = last if depth and self.one_in(3) else self.draw.randrange(secondary, last + 1)
                 self.add_bridge((bus, device, 0), secondary, given)
                 self.fill(secondary, given, depth + 1)
             else:
@@ -214,7 +215,9 @@ class Maker:
 
     def crowd_window(self, f, window):
         """Pages of a window from a few, which may be crossed."""
-        pages = {'io': IO_PAGES, 'mem': MEMORY_PAGES, 'pref': HIGH_PAGES if window.wide else MEMORY_PAGES}[window.window]
+        pages = {'io': IO_PAGES, 'mem': MEMORY_PAGES, 'pref': MEMORY_PAGES}[window.window]
+        if window.window == 'pref' and window.wide:
+            pages = HIGH_PAGES
         if window.window == 'io' and not window.wide:
             pages = IO_PAGES[:5]
         base, limit = self.draw.choice(pages), self.draw.choice(pages)

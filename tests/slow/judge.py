@@ -6,7 +6,7 @@ combination of ranges, so the least address with an answer is where a range begi
 - `faults(functions, probe_slots, given, words)`: the text that `faults` prints.
 - `verdict(functions, probe_slots, roots)`: the text that `check` prints.
 
-`functions` are those of the dump with their probes; `probe_slots` are the slots of the probe, None where they are the same.
+`functions` are those of the dump with their probes; `probe_slots` are the slots of the probe, None where they are equal.
 """
 
 from early import early_lines, slot_lines
@@ -26,15 +26,18 @@ def name_words(region):
 
 
 class Fault:
-    """A fault of judging: its line, the order in which it is looked for, and the regions that it names."""
+    """A fault of judging: the order in which it is looked for, its line, and what it names.
 
-    def __init__(self, number, key, line, region, other=None, bridge=None, address=None):
-        self.number = number
+    `region` is the one that isn't sent or reached, or the second of two; `beside` the slot of the bridge, or the first
+    of two regions; `address` the address that is told.
+    """
+
+    def __init__(self, key, line, region, beside, address):
+        self.number = int(line[:2])
         self.key = key
         self.line = line
         self.region = region
-        self.other = other
-        self.bridge = bridge
+        self.beside = beside
         self.address = address
 
 
@@ -48,7 +51,7 @@ def outside(system, turns):
             if region.claims(address) and not all(
                     system.given.starts(region.space, root, address) for root, _ in system.ways(region.bus)):
                 line = '63 Outside %s %s' % (name_words(region), address_words(region.space, address))
-                found.append(Fault(63, (0, region.name, address), line, region, address=address))
+                found.append(Fault((0, region.name, address), line, region, None, address))
                 break
     return found
 
@@ -75,7 +78,7 @@ def unreached(system, turns):
             bridge, address = missed
             line = '60 Unreached %s %s bridge %s' % (
                 name_words(region), address_words(region.space, address), slot_text(bridge))
-            found.append(Fault(60, (1, 0, region.name, bridge, address), line, region, bridge=bridge, address=address))
+            found.append(Fault((1, 0, region.name, bridge, address), line, region, bridge, address))
     return found
 
 
@@ -85,7 +88,7 @@ def clash_at(first, second, address):
     line = '61 Clash bus %02x %s %s %s' % (
         second.bus, address_words(space, address), name_words(first), name_words(second))
     key = (1, 1, second.bus, 0 if space == IO else 1, address, first.name, second.name)
-    return Fault(61, key, line, second, other=first, address=address)
+    return Fault(key, line, second, first, address)
 
 
 def split_at(first, second, address):
@@ -93,7 +96,7 @@ def split_at(first, second, address):
     space = second.space
     line = '62 Split %s %s %s' % (address_words(space, address), name_words(first), name_words(second))
     key = (1, 2, 0 if space == IO else 1, address, first.name, second.name)
-    return Fault(62, key, line, second, other=first, address=address)
+    return Fault(key, line, second, first, address)
 
 
 def pairs(system, turns):
@@ -121,7 +124,7 @@ def least_of_each_second(faults):
     for fault in faults:
         subject = (fault.number, fault.region.name, fault.region.space)
         told = least.get(subject)
-        if told is None or (fault.address, fault.other.name) < (told.address, told.other.name):
+        if told is None or (fault.address, fault.beside.name) < (told.address, told.beside.name):
             least[subject] = fault
     return list(least.values())
 

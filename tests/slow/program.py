@@ -16,7 +16,10 @@ def put_files(folder, texts):
 
 
 def run(program, words):
-    """Runs the program with these words: status, standard output, standard error."""
-    done = subprocess.run([program] + words, stdout=subprocess.PIPE, stderr=subprocess.PIPE, close_fds=False,
-                          timeout=60)
+    """Runs the program with these words: status (124 where it doesn't end), standard output, standard error."""
+    try:
+        done = subprocess.run([program] + words, stdout=subprocess.PIPE, stderr=subprocess.PIPE, close_fds=False,
+                              timeout=60)
+    except subprocess.TimeoutExpired:
+        return 124, '', ''
     return done.returncode, done.stdout.decode('latin-1'), done.stderr.decode('latin-1')

@@ -72,26 +72,39 @@ def change_control(draw, board, f):
     f.image[BRIDGE_CONTROL] |= draw.choice((0x04, 0x08, 0x10, 0x18, 0x40, 0x48, 0x4C))
 
 
+def mix_profile(draw, board, f):
+    """Several of a function that change what it decodes."""
+    f.image[BRIDGE_CONTROL] |= draw.choice((0x0C, 0x4C, 0x44, 0x48, 0))
+    for change in draw.sample((snoop, change_class, put_to_sleep, change_control), draw.randrange(1, 4)):
+        change(draw, board, f)
+
+
 def change_class(draw, board, f):
     """A subtractive bridge, or an IDE controller."""
     put_number(f.image, CLASS, 3, 0x060401 if draw.randrange(2) == 0 else 0x010100 + draw.choice((0, 1, 4, 5, 0x85)))
 
 
-def change_buses(draw, board, f):
-    """A bus number of a bridge changes, or all are 0."""
+def clear_buses(draw, board, f):
+    """All bus numbers of a bridge are 0, mostly with its windows closed."""
     if not f.is_bridge:
         return
-    if draw.randrange(4) == 0:
-        f.image[0x18:0x1B] = bytes(3)
-        if draw.randrange(2) == 0:
-            for window in f.windows():
-                close_window(f, window.window)
-            f.image[0x38] &= 0xFE
+    f.image[0x18:0x1B] = bytes(3)
+    if draw.randrange(3) > 0:
+        for window in f.windows():
+            close_window(f, window.window)
+        f.image[0x38] &= 0xFE
+
+
+def change_buses(draw, board, f):
+    """A bus number of a bridge changes, mostly by one or to a number of another bridge."""
+    bridges = [g for g in board.functions if g.is_bridge]
+    if not bridges:
         return
-    at = 0x18 + draw.randrange(3)
-    numbers = {0, 255, (f.image[at] + 1) % 256, (f.image[at] - 1) % 256, f.slot[0]}
-    numbers |= {number for g in board.functions if g.is_bridge for number in (g.secondary, g.subordinate)}
-    f.image[at] = draw.choice(sorted(numbers))
+    bridge = draw.choice(bridges)
+    at = draw.choice((0x18, 0x19, 0x1A, 0x1A))
+    number = bridge.image[at]
+    others = [other for g in bridges for other in (g.secondary, g.subordinate, g.subordinate + 1)]
+    bridge.image[at] = draw.choice([0, 255, number - 1, number + 1, number + 1, f.slot[0]] + others) % 256
 
 
 def change_roots(draw, board, f):
@@ -106,13 +119,13 @@ def change_roots(draw, board, f):
 
 
 def change_identity(draw, board, f):
-    """Vendor, header type, or a byte of the probe outside the address registers."""
-    change = draw.randrange(3)
-    if change == 0:
+    """Vendor, header type, a byte of the probe outside the address registers, or several of these."""
+    changes = draw.choice(((0,), (1,), (2,), (0, 1), (1, 2), (0, 1, 2)))
+    if 0 in changes:
         put_number(f.image, 0, 2, draw.choice((0xFFFF, 0xFFFF, 0xFF, 0xFF00)))
-    elif change == 1:
+    if 1 in changes:
         f.image[HEADER] = draw.choice((2, 0x82, 0x7F, 0x81, 0x80, 0, 1))
-    else:
+    if 2 in changes:
         f.probe[draw.choice((0, 4, 0x0F, 0x18, 0x1E, 0x1F, 0x28, 0x2F, 0x34, 0x37, 0x38, 0x3C, 0x3E, 0xFF))] ^= 0x11
 
 
@@ -212,10 +225,10 @@ def clear_optional_window(draw, board, f):
 
 COMMON = (move_part, move_part, move_part, move_window, move_window, move_window, change_upper_half, change_command,
           change_command, switch_rom)
-RARE = (snoop, change_control, change_control, change_class, change_buses, change_buses, change_buses, change_roots,
-        change_roots, change_identity, change_identity, flip_bit, change_read_back, change_encoding, change_list,
-        change_list, change_list, lose_upper_half, put_to_sleep, drop_function, drop_function, hide_function_zero,
-        hide_function_zero, clear_optional_window)
+RARE = (snoop, change_control, mix_profile, mix_profile, change_class, clear_buses, change_buses, change_buses,
+        change_buses, change_buses, change_roots, change_roots, change_identity, change_identity, flip_bit,
+        change_read_back, change_encoding, change_list, change_list, change_list, lose_upper_half, put_to_sleep,
+        drop_function, drop_function, hide_function_zero, hide_function_zero, clear_optional_window)
 
 
 def spoil(draw, board):

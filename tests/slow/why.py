@@ -1,4 +1,4 @@
-"""Reasons behind faults of judging, and BARs that are off: what `faults --why` prints (docs/FORMATS.md, "All faults")."""
+"""Reasons behind faults of judging, and BARs that are off: what `faults --why` prints ("All faults" of docs/FORMATS.md)."""
 
 from judge import early_faults, judging, system_of
 from model import IO, WIDTH, assumed, slot_text
@@ -82,12 +82,12 @@ def evidence(system, fault):
     if fault.number == 63:
         return [region_line('needs', region, system), host_line(system, region)]
     if fault.number == 60:
-        b = [f for f in system.functions if f.slot == fault.bridge][0]
+        b = [f for f in system.functions if f.slot == fault.beside][0]
         missed = runs(lambda a: region.claims(a) and not system.passes(b, region, a), turns, region.space)
         return [region_line('needs', region, system), bridge_line(system, b, region)] + [
             '  missed ' + range_words(region.space, first, last) for first, last in missed]
-    shared = runs(lambda a: region.claims(a) and fault.other.claims(a), turns, region.space)
-    return [region_line('first', fault.other, system), region_line('second', region, system)] + [
+    shared = runs(lambda a: region.claims(a) and fault.beside.claims(a), turns, region.space)
+    return [region_line('first', fault.beside, system), region_line('second', region, system)] + [
         '  shared ' + range_words(region.space, first, last) for first, last in shared]
 
 
