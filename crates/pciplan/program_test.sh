@@ -61,7 +61,7 @@ for cases in cases/*.txt; do
     ln -s ../../pciplan ../../cases "$cases.d"
     (cd "$cases.d" && exec awk -f ../../cases.awk "$cases" >"../../$cases.told") &
 done
-scripts='apply assumed capture install lists models pages'
+scripts='apply assumed capture install lists models pages rescan'
 for script in $scripts; do
     "$here/${script}_test.sh" "$made" >$script.told &
 done
