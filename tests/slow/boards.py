@@ -20,6 +20,10 @@ PORTS = (0x3A0, 0x3B0, 0x3B8, 0x3BC, 0x3C0, 0x3D8, 0x3E0, 0x13B0, 0x13DC, 0xC3C0
 PLACES = (0x9F000, 0x9FFF0, 0xA0000, 0xA8000, 0xAFFF0, 0xB0000, 0xBFFF0, 0xC0000, 0xFFF00, 0x100000, 0x140000, 0x1FFFF0,
           0x200000, 0x380000, 0xFFFFFFF0, 0xFFF00000, 0)
 HIGH_PLACES = (0x100000000, 0x1000FFFF0, 0x100100000, 0x1000A0000, (1 << 64) - 16, (1 << 64) - 0x200000)
+# of these alone on boards that are about what a VGA adapter answers
+VGA_PORTS = (0x3A8, 0x3B0, 0x3B8, 0x3BC, 0x3C0, 0x3DC, 0x3E0, 0x7B0, 0x13DC, 0xC3C0, 0xFBB8, 0xFFAC, 0xFFB0, 0xFFBC,
+             0xFFC8, 0xFFDC, 0x103B0)
+VGA_PLACES = (0x9FFF0, 0xA0000, 0xA8000, 0xB0000, 0xBFFF0, 0xC0000)
 IO_PAGES = (0, 0, 1, 0xC, 0xF, 0x10, 0x11, 0xFFFFF)
 MEMORY_PAGES = (0, 0, 1, 2, 3, 0xFFF)
 HIGH_PAGES = (0, 1, 0x1000, 0x1001, 0xFFFFFFFFFFF)
@@ -93,6 +97,7 @@ class Maker:
         self.board = Board(seed)
         self.most = self.draw.choice((3, 6, 10, 16, 24))
         self.spread = self.draw.choice((2, 3, 5))
+        self.is_vga = self.one_in(5)
 
     def one_in(self, n):
         """Whether a draw of n is the first."""
@@ -107,7 +112,7 @@ class Maker:
             end = (board.roots + [256])[place + 1]
             self.fill(root, min(end - 1, root + 12), 0)
         board.functions.sort(key=lambda f: f.slot)
-        if self.one_in(2):
+        if self.is_vga or self.one_in(2):
             self.crowd()
         else:
             place_tidily(self.draw, board)
@@ -201,6 +206,8 @@ class Maker:
         for f in self.board.functions:
             for part in f.bars() + f.rom():
                 places = PORTS if part.space == IO else PLACES
+                if self.is_vga:
+                    places = VGA_PORTS if part.space == IO else VGA_PLACES
                 if part.wide and self.one_in(3):
                     places = HIGH_PLACES
                 address = self.draw.choice(places) & ~(part.size - 1)
@@ -230,7 +237,7 @@ class Maker:
         """A capabilities list, titles, legacy addresses."""
         if self.one_in(3):
             self.give_list(f)
-        if f.is_bridge and self.one_in(8):
+        if f.is_bridge and self.one_in(2 if self.is_vga else 8):
             f.image[BRIDGE_CONTROL] |= self.draw.choice((0x08, 0x18))
         if self.one_in(10):
             f.titles = (self.draw.choice(('VGA compatible controller: X', ' ', '~')), '')
@@ -251,9 +258,11 @@ class Maker:
     def say_beside(self):
         """Words of `--model`, and what the host sends."""
         board = self.board
-        if self.one_in(2):
+        if self.is_vga or self.one_in(2):
             words = self.draw.sample(MODEL_WORDS, self.draw.randrange(0, 6))
             words += self.draw.choice(([], ['vga'], ['vga16'], ['vga']))
+            if self.is_vga and not {'vga', 'vga16'} & set(words):
+                words.append('vga')
             self.draw.shuffle(words)
             board.words = 'all' if self.one_in(6) else ','.join(words) or None
         if self.one_in(3):
