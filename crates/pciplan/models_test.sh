@@ -2,7 +2,7 @@
 # The slow models of tests/slow.py beside the program, on boards made by rule: verdicts, lists of all faults, maps, plans and
 # what settles a board. Prints what differs, and at the end how many boards agreed.
 #
-# Usage: models_test.sh PROGRAM; BOARDS sets how many boards are judged (2000 if not said), a quarter as many seeds plan and
+# Usage: models_test.sh PROGRAM; BOARDS sets how many boards are judged (1600 if not said), a quarter as many seeds plan and
 # settle.
 set -u
 
@@ -15,7 +15,7 @@ if ! command -v python3 >/dev/null; then
 fi
 room=$(mktemp -d) || exit 1
 trap 'rm -rf "$room"' EXIT
-PYTHONDONTWRITEBYTECODE=1 python3 "$here/../../tests/slow.py" all "${BOARDS:-2000}" 0 "$made" >"$room/told" 2>&1
+PYTHONDONTWRITEBYTECODE=1 python3 "$here/../../tests/slow.py" all "${BOARDS:-1600}" 0 "$made" >"$room/told" 2>&1
 got=$?
 # shellcheck disable=SC2046
 set -- $(sed -n '$s/^\([0-9]*\) boards, \([0-9]*\) disagree$/\1 \2/p' "$room/told") 0 1
