@@ -1,7 +1,7 @@
 """The slow planner and settler beside the program, on boards made by rule.
 
-- `compare_plans(seed, program, folder)`, `compare_settling(seed, program, folder)`: what disagrees, or None, and the sorts of
-  boards that were met.
+- `compare_plans(seed, program, folder)`, `compare_settling(seed, program, folder)`: what disagrees, or None, and the
+  sorts of boards that were met.
 - `show_plans(seed)`, `show_settling(seed)`: what the program is asked of that seed: the words, and the boards as texts.
 - `PLAN_SORTS`, `SETTLE_SORTS`: the sorts that a run over many seeds has to meet.
 """
@@ -17,11 +17,11 @@ from stops import is_sound, stop_fault
 # how often a board is asked about, with a change between two times
 TURNS = 3
 
-PLAN_SORTS = ('planned', 'planned, assumed', 'from a sound start', 'from an unsound start', 'already planned', 'sized', '70',
-              '71', '72 io', '72 mem', '72 pref')
-SETTLE_SORTS = ('settled', 'settled anew', 'left alone', 'from a sound start', 'from an unsound start', 'something fixed',
-                'several roots', '70', '72 io', '72 mem', '72 pref', '74 does not stand', '74 does not stay',
-                '74 would be written', '76', 'too large')
+PLAN_SORTS = ('planned', 'planned, assumed', 'from a sound start', 'from an unsound start', 'already planned', 'sized',
+              '70', '71', '72 io', '72 mem', '72 pref')
+SETTLE_SORTS = ('settled', 'settled anew', 'left alone', 'from a sound start', 'from an unsound start',
+                'something fixed', 'several roots', '70', '72 io', '72 mem', '72 pref', '74 does not stand',
+                '74 does not stay', '74 would be written', '76', 'too large')
 
 
 def range_text(pool):
@@ -244,8 +244,8 @@ def ask_settling(seed, asker):
         told = settle_differs(asker, rule, board, request)
         if told:
             return 'turn %d, %s' % (turn, told)
-        rule.change(board)
-        request = request._replace(anew=rule.one_in(8))
+        changed = rule.change(board)
+        request = request._replace(anew=rule.one_in(8), fixed=rule.fixed(board, changed))
     return None
 
 

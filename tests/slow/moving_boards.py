@@ -4,14 +4,14 @@ What is on a board is mostly such that it can be planned or settled: addresses c
 much stands and much clashes. `Rule(seed)` draws numbers; of one seed it always makes the same.
 
 - `Rule.board()`: a `Board` with `functions` and `roots`, which has none of the faults 20 to 58.
-- `Rule.pools(board)`, `Rule.request(board)`: what `plan` and `settle` are asked.
+- `Rule.pools()`, `Rule.request(board)`: what `plan` and `settle` are asked.
 - `Rule.change(board)`: what happens to a board between two askings: a card is plugged in, or a function is changed.
 """
 
 import random
 
-from model import COMMAND, HEADER, MEM, Function, close_window, page_size, put_bar, put_bounds, put_number, put_rom, \
-    put_window
+from model import (COMMAND, HEADER, MEM, Function, close_window, page_size, put_bar, put_bounds, put_number, put_rom,
+                   put_window)
 from planner import Pools
 from settler import Request
 
@@ -26,6 +26,8 @@ IO_RANGES = [
     [(0x1000, 0x1FFF), (0x6000, 0x10FFF), (0x11010, 0x15FFF), (0x2000, 0x27FF)],
     [(0x0, 0xFFFF)],
     [(0x1000, 0x2FFF), (0x4000, 0xFFFFFFFF)],
+    [(0xF000, 0x2FFFF)],
+    [(0x10000, 0x1FFFF), (0xF800, 0xFFFF)],
 ]
 MEMORY_RANGES = [
     [(0xE0000000, 0xE01FFFFF), (0xE0200000, 0xE02FFFFF), (0xE0300800, 0xE05FFFFF), (0xE0700000, 0xE0FFFFFF)],
@@ -39,6 +41,7 @@ PREFETCH_RANGES = [
      (0x200000000, 0xFFFFFFFFFFFFFFFF)],
     [(0x100000000, 0x1FFFFFFFF)],
     [(0xF0000000, 0xF7FFFFFF)],
+    [(0xFFE00000, 0x1007FFFFF)],
 ]
 
 
@@ -49,21 +52,21 @@ class Board:
         self.functions = functions
         self.roots = roots
 
-    def copy(self):
-        """The same, with functions of its own."""
-        return Board([f.copy() for f in self.functions], self.roots)
-
     def reversed_buses(self):
         """The buses on which something can stand, the last ones first."""
         return sorted(set(self.roots) | {f.secondary for f in self.functions if f.is_bridge}, reverse=True)
 
 
 class Rule:
-    """Draws what a board has, one number after another."""
+    """Draws what a board has, one number after another.
+
+    By its mood addresses crowd, all is off and shows 0, BARs are large, or all BARs are of I/O, behind large windows.
+    """
 
     def __init__(self, seed):
         self.draw = random.Random(seed * 2654435761 + 1)
-        self.mood = self.one_of(['crowd', 'crowd', 'crowd', 'zero', 'wide'])
+        self.mood = self.one_of(['crowd', 'crowd', 'crowd', 'crowd', 'zero', 'wide', 'ports'])
+        self.has_ports = self.mood == 'ports'
 
     def below(self, bound):
         """A number below a bound."""
@@ -81,15 +84,16 @@ class Rule:
 
     def put_bar(self, f, n, last):
         """Gives register n a BAR; whether it takes the next register, too."""
-        kind = self.below(10)
+        kind = 0 if self.has_ports else self.below(10)
         if kind < 3:
-            mask = 0xFFFF if self.one_in(3) else 0xFFFFFFFF
-            put_number(f.probe, 0x10 + 4 * n, 4, mask & -self.one_of(IO_SIZES) | 1)
+            mask = 0xFFFF if self.one_in(3) and not self.has_ports else 0xFFFFFFFF
+            put_number(f.probe, 0x10 + 4 * n, 4, mask & -(0x100 if self.has_ports else self.one_of(IO_SIZES)) | 1)
             return False
         size = self.one_of(MEMORY_SIZES)
         encoding = 8 if kind > 6 else 0
         if n < last and self.one_in(2):
-            size = size if self.mood != 'wide' or not self.one_in(6) else 1 << 20 + self.below(20)
+            if self.mood == 'wide' and self.one_in(6):
+                size = 1 << 20 + self.below(20)
             put_number(f.probe, 0x10 + 4 * n, 8, (1 << 64) - size | encoding | 4)
             return True
         put_number(f.probe, 0x10 + 4 * n, 4, (1 << 32) - size | encoding)
@@ -101,12 +105,13 @@ class Rule:
         while n < f.bar_count:
             taken = self.below(3) < fullness and self.put_bar(f, n, f.bar_count - 1)
             n += 2 if taken else 1
-        if self.below(6) < fullness:
+        if self.below(6) < fullness and not self.has_ports:
             put_number(f.probe, f.rom_register, 4, (1 << 32) - self.one_of(ROM_SIZES))
 
     def put_windows(self, f):
         """Gives a bridge its windows, closed."""
-        nibbles = {'io': self.one_of([None, 0, 0, 0, 1, 1]), 'mem': 0, 'pref': self.one_of([None, 0, 1, 1])}
+        nibbles = {'io': 1 if self.has_ports else self.one_of([None, 0, 0, 0, 1, 1]), 'mem': 0,
+                   'pref': self.one_of([None, 0, 1, 1])}
         for kind, nibble in nibbles.items():
             if nibble is not None:
                 page, upper = (0xF0, 0xFFFF) if kind == 'io' else (0xFFF0, 0xFFFFFFFF)
@@ -165,7 +170,7 @@ class Rule:
             put_number(f.image, 0x09, 3, 0x060400)
             self.put_windows(f)
         f.image[HEADER] |= self.one_of([0, 0x80])
-        self.put_registers(f, self.one_of([0, 0, 1]) if bridge else self.one_of([1, 1, 2, 3]))
+        self.put_registers(f, self.one_of([0, 0, 1]) if bridge else 3 if self.has_ports else self.one_of([1, 1, 2, 3]))
         self.place(f)
         if self.one_in(8):
             f.titles = (self.one_of(['', 'A title', ' ']), self.title(f))
@@ -227,9 +232,9 @@ class Rule:
         board.functions.sort(key=lambda g: g.slot)
 
     def change(self, board):
-        """Plugs a card in, or changes a function."""
+        """Plugs a card in, or changes a function; its slot."""
         self.mood = 'crowd'
-        if board.functions and self.one_in(2):
+        if board.functions and self.one_in(3):
             f = self.one_of(board.functions)
             keep = [part.register for part in f.parts() if self.one_in(3)]
             old = bytes(f.image)
@@ -238,12 +243,14 @@ class Rule:
                 if part.register in keep and part.kind != 'window':
                     width = 8 if part.wide else 4
                     f.image[part.register:part.register + width] = old[part.register:part.register + width]
-            return
+            return f.slot
         free = [(bus, device, 0) for bus in board.reversed_buses() for device in range(24, 32)
                 if all(f.slot[:2] != (bus, device) for f in board.functions)]
         self.mood = self.one_of(['zero', 'zero', 'crowd'])
-        board.functions.append(self.function(self.one_of(free)))
+        slot = self.one_of(free)
+        board.functions.append(self.function(slot))
         board.functions.sort(key=lambda f: f.slot)
+        return slot
 
     # ---- what is asked
 
@@ -277,9 +284,14 @@ class Rule:
 
     def request(self, board):
         """Lists, fixed functions, and whether all is placed anew."""
-        lists = {'io': self.list(IO_RANGES, board.roots), 'mem': self.list(MEMORY_RANGES, board.roots),
-                 'pref': self.list(PREFETCH_RANGES, board.roots)}
-        fixed = []
-        if self.one_in(4):
-            fixed = [f.slot for f in board.functions if self.one_in(4)]
+        lists = {'io': self.list(IO_RANGES[-2:] if self.has_ports else IO_RANGES, board.roots),
+                 'mem': self.list(MEMORY_RANGES, board.roots), 'pref': self.list(PREFETCH_RANGES, board.roots)}
+        fixed = self.fixed(board, None) if self.one_in(4) else []
         return Request(board.roots, lists, fixed, self.one_in(6))
+
+    def fixed(self, board, changed):
+        """Functions that may not be written, of half of the boards: seldom the one that was changed."""
+        if self.one_in(2):
+            return []
+        fixed = [f.slot for f in board.functions if self.one_in(16 if f.slot == changed else 3)]
+        return sorted(set(fixed + ([(0, 22, 3)] if self.one_in(8) else [])))

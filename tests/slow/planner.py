@@ -45,7 +45,7 @@ def has_wide_window(bridge, kind):
 
 
 def is_served(functions, part, last):
-    """Whether a prefetchable BAR can have its place in prefetchable memory up to an address: by the windows above it."""
+    """Whether the windows above a prefetchable BAR let it have a place in prefetchable memory up to an address."""
     above = bridges_above(functions, part.function.slot[0])
     if last < 1 << 32:
         return all(has_window(b, 'pref') for b in above)

@@ -9,8 +9,8 @@ It is read off docs/FORMATS.md ("Settling") and crates/settle_spec/specs, one pa
 
 from collections import namedtuple
 
-from model import COMMAND, IO, MEM, WINDOWS, assumed, close_window, page_size, put_bar, put_number, put_rom, put_window, \
-    slot_text
+from model import (COMMAND, IO, MEM, WINDOWS, assumed, close_window, page_size, put_bar, put_number, put_rom,
+                   put_window, slot_text)
 from planner import Fault, Plan, bridges_above, has_window, is_served, raised, registers_between
 
 Request = namedtuple('Request', 'roots lists fixed anew')
@@ -293,8 +293,9 @@ class Settler:
 
     def places(self, bus, space):
         """The places of all items of a space on a bus, and the first item without one."""
+        kinds = ['io'] if space == IO else ['mem', 'pref']
         return self.remembered(('places', bus, space), lambda: place_all(
-            [item for kind in (['io'] if space == IO else ['mem', 'pref']) for item in self.items(bus, kind, self.stays)],
+            [item for kind in kinds for item in self.items(bus, kind, self.stays)],
             self.ranges_of, self.taken(bus, space, self.stays)))
 
     def new_place(self, f, register, space):

@@ -1,7 +1,7 @@
 """Writes that stop: what stands after each beginning of them is judged.
 
-From `safe from` on each beginning leaves a sound board, and all of them leave the answer. `safe from` is 0 where the board
-is sound at the start, else the number of writes that close.
+From `safe from` on each beginning leaves a sound board, and all of them leave the answer. `safe from` is 0 where the
+board is sound at the start, else the number of writes that close.
 """
 
 from judge import verdict
