@@ -18,7 +18,7 @@ use super::left::{Windows, is_left};
 use super::line::push_region;
 use super::off::push_section;
 use super::sent::Sent;
-use super::ways::find_ways;
+use super::ways::{Spot, find_ways};
 use pci_base::memory::OutOfMemory;
 use pci_base::slot::Slot;
 use pci_base::space::Space;
@@ -49,6 +49,23 @@ impl<A: Allocator> Model for Asides<A> {
     ghost view = { λ a. record { outside = string_bytes a.outside; unreached = string_bytes a.unreached } };
 }
 
+/// What leads to each bus.
+#[derive(Drop)]
+struct Routes<'a, A: Allocator> {
+    /// The windows above it.
+    ways: &'a [Option<Windows>],
+    /// What is sent to the root above it.
+    above: &'a [Sent<A>],
+}
+
+/// The regions of a function, by space.
+#[derive(Drop)]
+struct FunctionRegions<'a> {
+    slot: Slot,
+    io: &'a [Region],
+    memory: &'a [Region],
+}
+
 /// Fills a list with the regions of a function and a space.
 fn find_regions<A: Allocator>(
     regions: &mut Vec<Region, A>,
@@ -77,42 +94,37 @@ fn find_both<A: Allocator>(
 }
 
 /// Whether a region is out of place or left.
-fn is_aside<A: Allocator>(
-    ways: &[Option<Windows>],
-    above: &[Sent<A>],
-    space: Space,
-    slot: Slot,
-    region: &Region,
-) -> bool
+fn is_aside<A: Allocator>(routes: &Routes<'_, A>, space: Space, slot: Slot, region: &Region) -> bool
     // bus numbers index it
-    requires { length ways.now ≡ 256 }
-    ensures { (given : GivenValue) (t : Tree) (s : System) → AreSentAbove given t s above.now
-        → AreWays t.roots s ways.now → IsFoundIn s slot region.now.reg (space_of space) region.now
+    requires { length routes.now.ways.now ≡ 256 }
+    ensures { (given : GivenValue) (t : Tree) (s : System)
+        → AreSentAbove given t s routes.now.above.now → AreWays t.roots s routes.now.ways.now
+        → IsFoundIn s slot region.now.reg (space_of space) region.now
         → MatchBool result (IsAside given t.roots s (value_of (space_of space) region.now))
         (IsAside given t.roots s (value_of (space_of space) region.now) → ⊥) }
 {
-    if is_out_of_place(above, space, slot.bus(), region) {
+    if is_out_of_place(routes.above, space, slot.bus(), region) {
         return true;
     }
-    is_left(ways, slot.bus(), space, region.first)
+    is_left(routes.ways, slot.bus(), space, region.first)
 }
 
 /// Whether one of the regions of a function and a space is out of place or left.
 fn has_aside<A: Allocator>(
-    ways: &[Option<Windows>],
-    above: &[Sent<A>],
+    routes: &Routes<'_, A>,
     regions: &[Region],
     space: Space,
     slot: Slot,
 ) -> bool
-    requires { length ways.now ≡ 256 }
-    ensures { (given : GivenValue) (t : Tree) (s : System) → AreSentAbove given t s above.now
-        → AreWays t.roots s ways.now → AreFoundBy s slot (space_of space) regions.now
+    requires { length routes.now.ways.now ≡ 256 }
+    ensures { (given : GivenValue) (t : Tree) (s : System)
+        → AreSentAbove given t s routes.now.above.now → AreWays t.roots s routes.now.ways.now
+        → AreFoundBy s slot (space_of space) regions.now
         → MatchBool result (HasAside given t.roots s (space_of space) regions.now)
         (HasNoAside given t.roots s (space_of space) regions.now) }
 {
     for region in regions {
-        if is_aside(ways, above, space, slot, region) {
+        if is_aside(routes, space, slot, region) {
             return true;
         }
     }
@@ -132,32 +144,30 @@ fn at_register(regions: &[Region], reg: u8) -> Option<&Region>
     None
 }
 
-/// Appends the line of the region of a space at a slot and a register, if it is out of place or left.
+/// Appends the line of the region at a spot, if it is out of place or left.
 fn push_aside_in<A: Allocator, B: Allocator>(
     asides: &mut Asides<B>,
-    ways: &[Option<Windows>],
-    above: &[Sent<A>],
+    routes: &Routes<'_, A>,
     regions: &[Region],
-    space: Space,
-    slot: Slot,
-    reg: u8,
+    spot: Spot,
 ) -> Result<(), OutOfMemory>
-    requires { length ways.now ≡ 256 }
-    ensures { OnOk result ((given : GivenValue) (t : Tree) (s : System) → AreSentAbove given t s above.now
-        → AreWays t.roots s ways.now → AreFoundBy s slot (space_of space) regions.now
-        → AreAsides given t.roots s (IsAt slot reg (space_of space)) asides.old asides.new) }
+    requires { length routes.now.ways.now ≡ 256 }
+    ensures { OnOk result ((given : GivenValue) (t : Tree) (s : System)
+        → AreSentAbove given t s routes.now.above.now → AreWays t.roots s routes.now.ways.now
+        → AreFoundBy s spot.slot (space_of spot.space) regions.now
+        → AreAsides given t.roots s (IsAt spot.slot spot.register (space_of spot.space)) asides.old asides.new) }
 {
-    let Some(region) = at_register(regions, reg) else {
+    let Some(region) = at_register(regions, spot.register) else {
         return Ok(());
     };
-    if is_out_of_place(above, space, slot.bus(), region) {
-        push_region(&mut asides.outside, 1, space, region)?;
+    if is_out_of_place(routes.above, spot.space, spot.slot.bus(), region) {
+        push_region(&mut asides.outside, 1, spot.space, region)?;
         return Ok(());
     }
-    if !is_left(ways, slot.bus(), space, region.first) {
+    if !is_left(routes.ways, spot.slot.bus(), spot.space, region.first) {
         return Ok(());
     }
-    push_region(&mut asides.unreached, 1, space, region)?;
+    push_region(&mut asides.unreached, 1, spot.space, region)?;
     Ok(())
 }
 
@@ -165,38 +175,47 @@ fn push_aside_in<A: Allocator, B: Allocator>(
 /// both spaces.
 fn push_aside_at<A: Allocator, B: Allocator>(
     asides: &mut Asides<B>,
-    ways: &[Option<Windows>],
-    above: &[Sent<A>],
-    io: &[Region],
-    memory: &[Region],
-    slot: Slot,
-    reg: u8,
+    routes: &Routes<'_, A>,
+    function: &FunctionRegions<'_>,
+    register: u8,
 ) -> Result<(), OutOfMemory>
-    requires { length ways.now ≡ 256 }
-    ensures { OnOk result ((given : GivenValue) (t : Tree) (s : System) → AreSentAbove given t s above.now
-        → AreWays t.roots s ways.now → AreFoundBy s slot Io io.now → AreFoundBy s slot Memory memory.now
-        → AreAsides given t.roots s (IsAtRegister slot reg) asides.old asides.new) }
+    requires { length routes.now.ways.now ≡ 256 }
+    ensures { OnOk result ((given : GivenValue) (t : Tree) (s : System)
+        → AreSentAbove given t s routes.now.above.now → AreWays t.roots s routes.now.ways.now
+        → AreFoundBy s function.now.slot Io function.now.io.now
+        → AreFoundBy s function.now.slot Memory function.now.memory.now
+        → AreAsides given t.roots s (IsAtRegister function.now.slot register) asides.old asides.new) }
 {
-    push_aside_in(asides, ways, above, io, Space::Io, slot, reg)?;
-    push_aside_in(asides, ways, above, memory, Space::Mem, slot, reg)
+    let slot = function.slot;
+    let io_spot = Spot {
+        slot,
+        register,
+        space: Space::Io,
+    };
+    let memory_spot = Spot {
+        slot,
+        register,
+        space: Space::Mem,
+    };
+    push_aside_in(asides, routes, function.io, io_spot)?;
+    push_aside_in(asides, routes, function.memory, memory_spot)
 }
 
 /// Appends the lines of the regions of a function that are out of place or left, by register.
 fn push_by_register<A: Allocator, B: Allocator>(
     asides: &mut Asides<B>,
-    ways: &[Option<Windows>],
-    above: &[Sent<A>],
-    io: &[Region],
-    memory: &[Region],
-    slot: Slot,
+    routes: &Routes<'_, A>,
+    function: &FunctionRegions<'_>,
 ) -> Result<(), OutOfMemory>
-    requires { length ways.now ≡ 256 }
-    ensures { OnOk result ((given : GivenValue) (t : Tree) (s : System) → AreSentAbove given t s above.now
-        → AreWays t.roots s ways.now → AreFoundBy s slot Io io.now → AreFoundBy s slot Memory memory.now
-        → AreAsides given t.roots s (IsOf slot) asides.old asides.new) }
+    requires { length routes.now.ways.now ≡ 256 }
+    ensures { OnOk result ((given : GivenValue) (t : Tree) (s : System)
+        → AreSentAbove given t s routes.now.above.now → AreWays t.roots s routes.now.ways.now
+        → AreFoundBy s function.now.slot Io function.now.io.now
+        → AreFoundBy s function.now.slot Memory function.now.memory.now
+        → AreAsides given t.roots s (IsOf function.now.slot) asides.old asides.new) }
 {
     for register in 0..REGISTERS {
-        push_aside_at(asides, ways, above, io, memory, slot, 4 * register)?;
+        push_aside_at(asides, routes, function, 4 * register)?;
     }
     Ok(())
 }
@@ -204,21 +223,20 @@ fn push_by_register<A: Allocator, B: Allocator>(
 /// The same; the registers of a function without such regions aren't gone through.
 fn push_asides_of<A: Allocator, B: Allocator>(
     asides: &mut Asides<B>,
-    ways: &[Option<Windows>],
-    above: &[Sent<A>],
-    io: &[Region],
-    memory: &[Region],
-    slot: Slot,
+    routes: &Routes<'_, A>,
+    function: &FunctionRegions<'_>,
 ) -> Result<(), OutOfMemory>
-    requires { length ways.now ≡ 256 }
-    ensures { OnOk result ((given : GivenValue) (t : Tree) (s : System) → AreSentAbove given t s above.now
-        → AreWays t.roots s ways.now → AreFoundBy s slot Io io.now → AreFoundBy s slot Memory memory.now
-        → AreAsides given t.roots s (IsOf slot) asides.old asides.new) }
+    requires { length routes.now.ways.now ≡ 256 }
+    ensures { OnOk result ((given : GivenValue) (t : Tree) (s : System)
+        → AreSentAbove given t s routes.now.above.now → AreWays t.roots s routes.now.ways.now
+        → AreFoundBy s function.now.slot Io function.now.io.now
+        → AreFoundBy s function.now.slot Memory function.now.memory.now
+        → AreAsides given t.roots s (IsOf function.now.slot) asides.old asides.new) }
 {
-    if has_aside(ways, above, io, Space::Io, slot)
-        || has_aside(ways, above, memory, Space::Mem, slot)
+    if has_aside(routes, function.io, Space::Io, function.slot)
+        || has_aside(routes, function.memory, Space::Mem, function.slot)
     {
-        return push_by_register(asides, ways, above, io, memory, slot);
+        return push_by_register(asides, routes, function);
     }
     Ok(())
 }
@@ -234,6 +252,10 @@ fn push_all<A: Allocator + Copy, B: Allocator>(
         → AreAsides given outline.now.roots s (IsRegionIn s) asides.old asides.new) }
 {
     let ways = find_ways(alloc, outline)?;
+    let routes = Routes {
+        ways: ways.as_slice(),
+        above,
+    };
     // These two lists serve all functions.
     let mut io_list = Vec::new(alloc);
     let mut memory_list = Vec::new(alloc);
@@ -242,7 +264,8 @@ fn push_all<A: Allocator + Copy, B: Allocator>(
         find_both(&mut io_list, &mut memory_list, function)?;
         let io = io_list.as_slice();
         let memory = memory_list.as_slice();
-        push_asides_of(asides, ways.as_slice(), above, io, memory, function.slot)?;
+        let slot = function.slot;
+        push_asides_of(asides, &routes, &FunctionRegions { slot, io, memory })?;
     }
     Ok(())
 }

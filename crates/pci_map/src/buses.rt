@@ -7,51 +7,47 @@ ghost use Rattle.pci_claims.specs.Values.{given_value};
 ghost use Rattle.pci_map.specs.Above.{AreSentAbove};
 ghost use Rattle.pci_map.specs.Buses.{AreRootsTold};
 
-use super::sent::Sent;
-use super::walk::push_space;
+use super::walk::{Mapped, push_space};
 use pci_base::memory::OutOfMemory;
 use pci_base::slot::BUSES;
 use pci_base::space::Space;
-use pci_claims::given::Given;
-use pci_tree::outline::Outline;
 use std::alloc::Allocator;
 
 /// Appends the lines of a bus, if it is a root.
 fn push_bus<A: Allocator + Copy, B: Allocator>(
     alloc: A,
     text: &mut String<B>,
-    outline: &Outline<A>,
-    given: &Given<'_>,
-    above: &[Sent<A>],
+    mapped: &Mapped<'_, '_, A>,
     bus: u8,
 ) -> Result<(), OutOfMemory>
     ensures { OnOk result ((s : System)
-        → AreSentAbove (given_value given.now) outline.now s above.now
-        → AreRootsTold (given_value given.now) outline.now.roots s (bus ∷ []) (string_bytes text.old)
-        (string_bytes text.new)) }
+        → AreSentAbove (given_value mapped.now.given) mapped.now.outline.now s
+        mapped.now.above.now
+        → AreRootsTold (given_value mapped.now.given) mapped.now.outline.now.roots s (bus ∷ [])
+        (string_bytes text.old) (string_bytes text.new)) }
 {
-    if !outline.roots().has(bus) {
+    if !mapped.outline.roots().has(bus) {
         return Ok(());
     }
-    push_space(alloc, text, outline, given, above, bus, Space::Io)?;
-    push_space(alloc, text, outline, given, above, bus, Space::Mem)
+    push_space(alloc, text, mapped, bus, Space::Io)?;
+    push_space(alloc, text, mapped, bus, Space::Mem)
 }
 
 /// Appends the lines of the root buses, rising, of each the I/O space before memory.
 pub fn push_roots<A: Allocator + Copy, B: Allocator>(
     alloc: A,
     text: &mut String<B>,
-    outline: &Outline<A>,
-    given: &Given<'_>,
-    above: &[Sent<A>],
+    mapped: &Mapped<'_, '_, A>,
 ) -> Result<(), OutOfMemory>
     ensures { OnOk result ((s : System)
-        → AreSentAbove (given_value given.now) outline.now s above.now
-        → AreRootsTold (given_value given.now) outline.now.roots s (range_with_len 0 256)
+        → AreSentAbove (given_value mapped.now.given) mapped.now.outline.now s
+        mapped.now.above.now
+        → AreRootsTold (given_value mapped.now.given) mapped.now.outline.now.roots s
+        (range_with_len 0 256)
         (string_bytes text.old) (string_bytes text.new)) }
 {
     for bus in 0..BUSES {
-        push_bus(alloc, text, outline, given, above, bus as u8)?;
+        push_bus(alloc, text, mapped, bus as u8)?;
     }
     Ok(())
 }

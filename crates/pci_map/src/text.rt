@@ -10,6 +10,7 @@ use super::above::sent_above;
 use super::asides::push_asides;
 use super::buses::push_roots;
 use super::off::push_off;
+use super::walk::Mapped;
 use pci_base::memory::OutOfMemory;
 use pci_claims::given::Given;
 use pci_tree::outline::Outline;
@@ -28,7 +29,12 @@ pub fn map_text<A: Allocator + Copy>(
 {
     let above = sent_above(alloc, given, outline)?;
     let mut text = String::new(alloc);
-    push_roots(alloc, &mut text, outline, given, above.as_slice())?;
+    let mapped = Mapped {
+        outline,
+        given: *given,
+        above: above.as_slice(),
+    };
+    push_roots(alloc, &mut text, &mapped)?;
     push_asides(alloc, &mut text, outline, above.as_slice())?;
     push_off(alloc, &mut text, outline)?;
     Ok(text)

@@ -28,6 +28,25 @@ use pci_tree::outline::Outline;
 use pci_tree::region::{Part, Region};
 use std::alloc::{AllocError, Allocator};
 
+/// What is mapped: an outline, with what is given.
+#[derive(Drop)]
+pub struct Mapped<'a, 'g, A: Allocator> {
+    pub outline: &'a Outline<A>,
+    pub given: Given<'g>,
+    /// At each bus what is sent to the root above it.
+    pub above: &'a [Sent<A>],
+}
+
+/// A walk through a space of an outline.
+#[derive(Drop)]
+struct Walk<'a, A: Allocator> {
+    alloc: A,
+    outline: &'a Outline<A>,
+    /// At each bus what is sent to the root above it.
+    above: &'a [Sent<A>],
+    space: Space,
+}
+
 /// How many of the first runs begin before an address.
 fn count_before(runs: &[Range], end: u64) -> usize
     ensures count { result ≡ ahead end runs.now }
@@ -63,26 +82,24 @@ fn push_before<'a, A: Allocator>(
 
 /// What is inside a region of a bus, if it is a window.
 fn inside_of<A: Allocator + Copy>(
-    alloc: A,
-    outline: &Outline<A>,
-    above: &[Sent<A>],
-    space: Space,
+    walk: &Walk<'_, A>,
     bus: u8,
     region: &Region,
 ) -> Result<Option<Inside<A>>, OutOfMemory>
     // so the walk ends
     ensures deeper { IfOk result (λ o. IfSome o (λ i. bus < i.bus)) }
     ensures inside { IfOk result (λ o. (given : GivenValue) (s : System)
-        → AreSentAbove given outline.now s above.now
-        → IsRegionOn s bus (space_of space) region.now
+        → AreSentAbove given walk.now.outline.now s walk.now.above.now
+        → IsRegionOn s bus (space_of walk.now.space) region.now
         → MatchOption o (region.now.part ≡ Window → ⊥)
-        (λ i. IsInside (mapped_of given outline.now s (space_of space)) region.now i.bus
-        i.regions.items i.runs.items × (region.now.part ≡ Window))) }
+        (λ i. IsInside (mapped_of given walk.now.outline.now s (space_of walk.now.space))
+        region.now i.bus i.regions.items i.runs.items × (region.now.part ≡ Window))) }
 {
     if region.part != Part::Window {
         return Ok(None);
     }
-    let Some(inside) = look_inside(alloc, outline, above, space, region)? else {
+    let found = look_inside(walk.alloc, walk.outline, walk.above, walk.space, region)?;
+    let Some(inside) = found else {
         return Ok(None);
     };
     // a bridge leads to a higher bus than its own
@@ -95,11 +112,8 @@ fn inside_of<A: Allocator + Copy>(
 /// Appends the line of a region of a bus, and below a window's what is inside.
 #[cycle(place)]
 fn push_seat<A: Allocator + Copy, B: Allocator>(
-    alloc: A,
+    walk: &Walk<'_, A>,
     text: &mut String<B>,
-    outline: &Outline<A>,
-    above: &[Sent<A>],
-    space: Space,
     bus: u8,
     depth: u32,
     region: &Region,
@@ -107,43 +121,40 @@ fn push_seat<A: Allocator + Copy, B: Allocator>(
     // each window leads to a higher bus, so the depth can be counted
     requires { depth ≤ bus + 1 }
     ensures { OnOk result ((given : GivenValue) (s : System)
-        → AreSentAbove given outline.now s above.now
-        → IsRegionOn s bus (space_of space) region.now
-        → IsSeated (mapped_of given outline.now s (space_of space)) depth region.now
+        → AreSentAbove given walk.now.outline.now s walk.now.above.now
+        → IsRegionOn s bus (space_of walk.now.space) region.now
+        → IsSeated (mapped_of given walk.now.outline.now s (space_of walk.now.space)) depth region.now
         (string_bytes text.old) (string_bytes text.new)) }
 {
-    push_region(text, depth, space, region)?;
-    let Some(inside) = inside_of(alloc, outline, above, space, bus, region)? else {
+    push_region(text, depth, walk.space, region)?;
+    let Some(inside) = inside_of(walk, bus, region)? else {
         return Ok(());
     };
-    push_place(alloc, text, outline, above, space, depth + 1, &inside)
+    push_place(walk, text, depth + 1, &inside)
 }
 
 /// Appends the lines of what stands in a place, with what is inside each window below its line.
 #[cycle(place)]
 fn push_place<A: Allocator + Copy, B: Allocator>(
-    alloc: A,
+    walk: &Walk<'_, A>,
     text: &mut String<B>,
-    outline: &Outline<A>,
-    above: &[Sent<A>],
-    space: Space,
     depth: u32,
     place: &Inside<A>,
 ) -> Result<(), OutOfMemory>
     requires { depth ≤ place.now.bus + 1 }
     ensures { OnOk result ((given : GivenValue) (s : System)
-        → AreSentAbove given outline.now s above.now
-        → AreOnBus s place.now.bus (space_of space) place.now.regions.items
-        → IsPlaced (mapped_of given outline.now s (space_of space)) depth
-        (merged (space_of space) place.now.regions.items place.now.runs.items)
+        → AreSentAbove given walk.now.outline.now s walk.now.above.now
+        → AreOnBus s place.now.bus (space_of walk.now.space) place.now.regions.items
+        → IsPlaced (mapped_of given walk.now.outline.now s (space_of walk.now.space)) depth
+        (merged (space_of walk.now.space) place.now.regions.items place.now.runs.items)
         (string_bytes text.old) (string_bytes text.new)) }
 {
     let mut left = place.runs.as_slice();
     for region in place.regions.as_slice() {
-        left = push_before(text, depth, space, left, region.first)?;
-        push_seat(alloc, text, outline, above, space, place.bus, depth, region)?;
+        left = push_before(text, depth, walk.space, left, region.first)?;
+        push_seat(walk, text, place.bus, depth, region)?;
     }
-    push_runs(text, depth, space, left)?;
+    push_runs(text, depth, walk.space, left)?;
     Ok(())
 }
 
@@ -151,24 +162,31 @@ fn push_place<A: Allocator + Copy, B: Allocator>(
 pub fn push_space<A: Allocator + Copy, B: Allocator>(
     alloc: A,
     text: &mut String<B>,
-    outline: &Outline<A>,
-    given: &Given<'_>,
-    above: &[Sent<A>],
+    mapped: &Mapped<'_, '_, A>,
     bus: u8,
     space: Space,
 ) -> Result<(), OutOfMemory>
     ensures { OnOk result ((s : System)
-        → AreSentAbove (given_value given.now) outline.now s above.now
-        → IsSpaceTold (mapped_of (given_value given.now) outline.now s (space_of space)) bus
-        (string_bytes text.old) (string_bytes text.new)) }
+        → AreSentAbove (given_value mapped.now.given) mapped.now.outline.now s
+        mapped.now.above.now
+        → IsSpaceTold (mapped_of (given_value mapped.now.given) mapped.now.outline.now s
+        (space_of space)) bus (string_bytes text.old) (string_bytes text.new)) }
 {
+    let outline = mapped.outline;
+    let above = mapped.above;
     let all = outline.sorted(bus, space)?;
-    let runs = free_on_root(alloc, given, space, bus, all.as_slice())?;
+    let runs = free_on_root(alloc, &mapped.given, space, bus, all.as_slice())?;
     let regions = in_place(alloc, above, space, bus, all)?;
     if regions.is_empty() && runs.is_empty() {
         return Ok(());
     }
     let place = Inside { bus, regions, runs };
+    let walk = Walk {
+        alloc,
+        outline,
+        above,
+        space,
+    };
     push_heading(text, bus, space)?;
-    push_place(alloc, text, outline, above, space, 1, &place)
+    push_place(&walk, text, 1, &place)
 }

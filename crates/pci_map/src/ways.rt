@@ -22,6 +22,14 @@ use pci_tree::roots::Roots;
 use pci_why::find::region_at;
 use std::alloc::Allocator;
 
+/// Where a bridge's window stands: its register, and the space of its addresses.
+#[derive(Clone, Copy)]
+pub struct Spot {
+    pub slot: Slot,
+    pub register: u8,
+    pub space: Space,
+}
+
 /// The bridge that leads to a bus, or None where that is a root.
 fn bridge_above(
     records: &[Record],
@@ -42,21 +50,24 @@ fn bridge_above(
     }
 }
 
-/// The window at a slot and register, where it claims an address, by the windows above lower buses.
+/// The window at a spot, where it claims an address, by the windows above lower buses.
 fn judge<A: Allocator + Copy>(
     alloc: A,
     outline: &Outline<A>,
     ways: &[Option<Windows>],
-    slot: Slot,
-    reg: u8,
-    space: Space,
+    spot: Spot,
 ) -> Result<Option<Judged>, OutOfMemory>
-    requires { slot.bus < length ways.now }
+    requires { spot.slot.bus < length ways.now }
     ensures { IfOk result (λ o. (s : System) → IsTreeOf outline.now s
         → AreWays outline.now.roots s ways.now
-        → IsJudgedAt outline.now.roots s record { slot = slot; register = reg; space = space_of space } o) }
+        → IsJudgedAt outline.now.roots s record { slot = spot.slot; register = spot.register; space = space_of spot.space } o) }
 {
-    let Some(window) = region_at(alloc, outline, slot, reg, space)? else {
+    let Spot {
+        slot,
+        register,
+        space,
+    } = spot;
+    let Some(window) = region_at(alloc, outline, slot, register, space)? else {
         return Ok(None);
     };
     let left = is_left(ways, slot.bus(), space, window.first);
@@ -74,9 +85,24 @@ fn windows_of<A: Allocator + Copy>(
     ensures { IfOk result (λ w. (s : System) → IsTreeOf outline.now s
         → AreWays outline.now.roots s ways.now → AreWindowsOf outline.now.roots s bridge w) }
 {
-    let io = judge(alloc, outline, ways, bridge, IO_BASE, Space::Io)?;
-    let memory = judge(alloc, outline, ways, bridge, MEMORY_BASE, Space::Mem)?;
-    let prefetchable = judge(alloc, outline, ways, bridge, PREFETCHABLE_BASE, Space::Mem)?;
+    let io_spot = Spot {
+        slot: bridge,
+        register: IO_BASE,
+        space: Space::Io,
+    };
+    let memory_spot = Spot {
+        slot: bridge,
+        register: MEMORY_BASE,
+        space: Space::Mem,
+    };
+    let prefetchable_spot = Spot {
+        slot: bridge,
+        register: PREFETCHABLE_BASE,
+        space: Space::Mem,
+    };
+    let io = judge(alloc, outline, ways, io_spot)?;
+    let memory = judge(alloc, outline, ways, memory_spot)?;
+    let prefetchable = judge(alloc, outline, ways, prefetchable_spot)?;
     Ok(Windows {
         io,
         memory,

@@ -5,7 +5,7 @@ use Rattle.pci_map.proofs.asides.push_aside_at.Goals as goal
 pub returns : goal.returns
 returns g c =
     on_ok_weaker c.push_aside_in-2.result
-    (λ last given t s above ways io memory. both_spaces_aside given t.roots s above.tree.one c.args.slot c.args.reg c.args.asides.now.outside _ c.push_aside_in-2.new.asides.outside
+    (λ last given t s above ways io memory. both_spaces_aside given t.roots s above.tree.one c.args.function.now.slot c.args.register c.args.asides.now.outside _ c.push_aside_in-2.new.asides.outside
     c.args.asides.now.unreached _ c.push_aside_in-2.new.asides.unreached
     (c.in_ok-push_aside_in.ensures given t s above ways io) (last given t s above ways memory))
     c.push_aside_in-2.ensures

@@ -7,6 +7,6 @@ use Rattle.pci_map.proofs.asides.push_asides_of.Goals as goal
 
 pub returns : goal.returns
 returns g c = λ given t s above ways io memory.
-    no_asides given t.roots s above.tree.one c.args.slot c.args.io.now c.args.memory.now c.args.asides.now.outside c.args.asides.now.unreached io memory
-    (subst (λ b. MatchBool b (HasAside given t.roots s Io c.args.io.now) (HasNoAside given t.roots s Io c.args.io.now)) c.if-has_aside.false (c.has_aside.ensures given t s above ways io))
-    (subst (λ b. MatchBool b (HasAside given t.roots s Memory c.args.memory.now) (HasNoAside given t.roots s Memory c.args.memory.now)) c.if-has_aside-2.false (c.has_aside-else-has_aside.ensures given t s above ways memory))
+    no_asides given t.roots s above.tree.one c.args.function.now.slot c.args.function.now.io.now c.args.function.now.memory.now c.args.asides.now.outside c.args.asides.now.unreached io memory
+    (subst (λ b. MatchBool b (HasAside given t.roots s Io c.args.function.now.io.now) (HasNoAside given t.roots s Io c.args.function.now.io.now)) c.if-has_aside.false (c.has_aside.ensures given t s above ways io))
+    (subst (λ b. MatchBool b (HasAside given t.roots s Memory c.args.function.now.memory.now) (HasNoAside given t.roots s Memory c.args.function.now.memory.now)) c.if-has_aside-2.false (c.has_aside-else-has_aside.ensures given t s above ways memory))

@@ -9,5 +9,5 @@ use Rattle.pci_map.proofs.asides.push_by_register.Given as goal
 
 abbrev pub invariant-loop-register : goal.invariant-loop-register
 invariant-loop-register g l =
-    (given : Given) (t : Tree) (s : System) → AreSentAbove given t s l.above → AreWays t.roots s l.ways → AreFoundBy s l.slot Io l.io → AreFoundBy s l.slot Memory l.memory
-    → AreAsides given t.roots s (IsBelow l.slot (4 * l.register)) l.initial.asides l.asides
+    (given : Given) (t : Tree) (s : System) → AreSentAbove given t s l.routes.above.now → AreWays t.roots s l.routes.ways.now → AreFoundBy s l.function.slot Io l.function.io.now → AreFoundBy s l.function.slot Memory l.function.memory.now
+    → AreAsides given t.roots s (IsBelow l.function.slot (4 * l.register)) l.initial.asides l.asides

@@ -8,5 +8,5 @@ use Rattle.pci_map.proofs.buses.push_roots.Given as goal
 
 abbrev pub invariant-loop-bus : goal.invariant-loop-bus
 invariant-loop-bus g l =
-    (s : System) → AreSentAbove (given_value l.given) l.outline s l.above
-    → AreRootsTold (given_value l.given) l.outline.roots s (range_with_len 0 l.bus) (string_bytes l.initial.text) (string_bytes l.text)
+    (s : System) → AreSentAbove (given_value l.mapped.given) l.mapped.outline.now s l.mapped.above.now
+    → AreRootsTold (given_value l.mapped.given) l.mapped.outline.now.roots s (range_with_len 0 l.bus) (string_bytes l.initial.text) (string_bytes l.text)

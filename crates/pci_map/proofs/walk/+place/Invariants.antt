@@ -16,6 +16,6 @@ decreases-push_place g l = 2 * (256 - l.place.now.bus) + 1
 
 abbrev pub invariant-push_place-loop-region : goal.invariant-push_place-loop-region
 invariant-push_place-loop-region g l =
-    (given : Given) (s : System) → AreSentAbove given l.outline s l.above → AreOnBus s l.place.bus (space_of l.space) l.place.regions.items
-    → IsPartly record { given = given; roots = l.outline.roots; system = s; space = space_of l.space } l.depth (merged (space_of l.space) l.place.regions.items l.place.runs.items)
-    (merged (space_of l.space) (drop l.region-index l.place.regions.items) l.left) (string_bytes l.initial.text) (string_bytes l.text)
+    (given : Given) (s : System) → AreSentAbove given l.walk.outline.now s l.walk.above.now → AreOnBus s l.place.bus (space_of l.walk.space) l.place.regions.items
+    → IsPartly record { given = given; roots = l.walk.outline.now.roots; system = s; space = space_of l.walk.space } l.depth (merged (space_of l.walk.space) l.place.regions.items l.place.runs.items)
+    (merged (space_of l.walk.space) (drop l.region-index l.place.regions.items) l.left) (string_bytes l.initial.text) (string_bytes l.text)

@@ -12,7 +12,7 @@ use Rattle.pci_map.proofs.walk.push_space.Goals as goal
 
 pub returns-then-is_empty-2 : goal.returns-then-is_empty-2
 returns-then-is_empty-2 g c = λ s above.
-    let given = given_value c.args.given.now in
+    let given = given_value c.args.mapped.now.given in
     let space = space_of c.args.space in
     let all : List Region = c.in_ok-all.all.items in
     let qs : List Region = c.in_ok-regions.regions.items in
@@ -20,7 +20,7 @@ returns-then-is_empty-2 g c = λ s above.
     let no_qs : length qs ≡ 0 = search rules in
     let no_rs : length rs ≡ 0 = search rules in
     let sorted = c.in_ok-all.ensures s above.tree.records in
-    told_none given c.args.outline.now.roots s space c.args.bus all qs rs sorted (c.in_ok-regions.ensures given c.args.outline.now s above sorted.each)
+    told_none given c.args.mapped.now.outline.now.roots s space c.args.bus all qs rs sorted (c.in_ok-regions.ensures given c.args.mapped.now.outline.now s above sorted.each)
     (c.in_ok-runs.ensures s (subst (AreSortedRegionsOf s c.args.bus space) (sym c.as_slice.ensures.value) sorted))
     (string_bytes c.args.text.now) (nil_from_length qs no_qs) (nil_from_length rs no_rs)
 
@@ -28,15 +28,15 @@ pub returns : goal.returns
 returns g c =
     on_ok_weaker c.push_place.result
     (λ last s above. (
-    let given = given_value c.args.given.now in
+    let given = given_value c.args.mapped.now.given in
     let space = space_of c.args.space in
     let all : List Region = c.in_ok-all.all.items in
     let qs : List Region = c.in_ok-regions.regions.items in
     let rs : List Range = c.in_ok-runs.runs.items in
     let sorted = c.in_ok-all.ensures s above.tree.records in
-    let placed = c.in_ok-regions.ensures given c.args.outline.now s above sorted.each in
+    let placed = c.in_ok-regions.ensures given c.args.mapped.now.outline.now s above sorted.each in
     let some : qs ≡ [] → rs ≡ [] → ⊥ = λ none no_runs. search (rules, none, no_runs) in
-    told_some given c.args.outline.now.roots s space c.args.bus all qs rs sorted placed
+    told_some given c.args.mapped.now.outline.now.roots s space c.args.bus all qs rs sorted placed
     (c.in_ok-runs.ensures s (subst (AreSortedRegionsOf s c.args.bus space) (sym c.as_slice.ensures.value) sorted))
     (string_bytes c.args.text.now) (string_bytes c.push_heading.new.text) (string_bytes c.push_place.new.text) some c.in_ok-push_heading.ensures
     (last given s above (λ q has. sorted.each q (placed.each q has)))))

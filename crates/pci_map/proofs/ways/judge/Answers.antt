@@ -9,15 +9,15 @@ use Rattle.pci_map.proofs.ways.judge.Goals as goal
 
 pub returns-in_default : goal.returns-in_default
 returns-in_default g c = λ s tree ways.
-    subst (λ (o : Option Region). MatchOption o (NoneClaims s c.args.slot c.args.reg (space_of c.args.space)) (λ q. IsFoundIn s c.args.slot c.args.reg (space_of c.args.space) q)) c.in_default.is
+    subst (λ (o : Option Region). MatchOption o (NoneClaims s c.args.spot.slot c.args.spot.register (space_of c.args.spot.space)) (λ q. IsFoundIn s c.args.spot.slot c.args.spot.register (space_of c.args.spot.space) q)) c.in_default.is
     (c.in_ok-window.ensures.found s tree.records)
 
 pub returns : goal.returns
 returns g c = λ s tree ways.
     let q : Region = c.in-Some.window in
-    let space = space_of c.args.space in
-    let found = subst (λ (o : Option Region). MatchOption o (NoneClaims s c.args.slot c.args.reg space) (λ q. IsFoundIn s c.args.slot c.args.reg space q)) c.in-Some.is
+    let space = space_of c.args.spot.space in
+    let found = subst (λ (o : Option Region). MatchOption o (NoneClaims s c.args.spot.slot c.args.spot.register space) (λ q. IsFoundIn s c.args.spot.slot c.args.spot.register space q)) c.in-Some.is
     (c.in_ok-window.ensures.found s tree.records) in record {
       found = found;
-      judged = c.is_left-left.ensures c.args.outline.now s q tree ways (found_region s c.args.slot c.args.reg space q found) (ap (λ (x : Slot). x.bus) found.slot_is ∙ sym c.bus.ensures) refl;
+      judged = c.is_left-left.ensures c.args.outline.now s q tree ways (found_region s c.args.spot.slot c.args.spot.register space q found) (ap (λ (x : Slot). x.bus) found.slot_is ∙ sym c.bus.ensures) refl;
     }
