@@ -22,6 +22,20 @@ use pci_tree::outline::Outline;
 use pci_tree::region::Region;
 use std::alloc::Allocator;
 
+/// The bridges at some slots, and the records of all functions by slot.
+#[derive(Clone, Copy)]
+struct Bridges<'s, 'r> {
+    slots: &'s [Slot],
+    records: &'r [Record],
+}
+
+/// The addresses of a space that get to a bus.
+#[derive(Clone, Copy)]
+struct Arriving<'a> {
+    space: Space,
+    reach: &'a [Range],
+}
+
 /// What some regions answer of the addresses that get to their bus.
 fn region_claims<A: Allocator + Copy>(
     alloc: A,
@@ -44,19 +58,20 @@ fn add_legacy_claims<A: Allocator + Copy>(
     alloc: A,
     claims: &mut Vec<Claim<A>, A>,
     given: &Given<'_>,
-    records: &[Record],
-    bridges: &[Slot],
-    space: Space,
-    reach: &[Range],
+    bridges: &Bridges,
+    arriving: &Arriving,
 ) -> Result<(), OutOfMemory>
     // found by halving
-    requires rising { RiseBySlot records.now }
-    requires canonical { IsCanonical reach.now }
+    requires rising { RiseBySlot bridges.now.records.now }
+    requires canonical { IsCanonical arriving.now.reach.now }
     ensures { OnOk result (AreMoreClaims (AreLegacyClaims (given_value given.now)
-        (space_of space) records.now reach.now bridges.now) claims.old.items claims.new.items) }
+        (space_of arriving.now.space) bridges.now.records.now arriving.now.reach.now
+        bridges.now.slots.now) claims.old.items claims.new.items) }
 {
-    for slot in bridges {
-        if let Some(bridge) = record_at(records, *slot) {
+    let space = arriving.space;
+    let reach = arriving.reach;
+    for slot in bridges.slots {
+        if let Some(bridge) = record_at(bridges.records, *slot) {
             if is_bridge_on(bridge, space) {
                 let claim = legacy_claim_of(alloc, given, bridge, space, reach)?;
                 claims.push(claim)?;
@@ -125,7 +140,15 @@ pub fn claims_among<A: Allocator + Copy>(
     };
     let mut claims = region_claims(alloc, &regions, &reach)?;
     let records = outline.records();
-    add_legacy_claims(alloc, &mut claims, given, records, &bridges, space, &reach)?;
+    let bridges_here = Bridges {
+        slots: &bridges,
+        records,
+    };
+    let arriving = Arriving {
+        space,
+        reach: &reach,
+    };
+    add_legacy_claims(alloc, &mut claims, given, &bridges_here, &arriving)?;
     sort(&mut claims)?;
     Ok(claims)
 }

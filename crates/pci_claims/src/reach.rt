@@ -23,24 +23,30 @@ use pci_tree::bus::record_at;
 use pci_tree::outline::Outline;
 use std::alloc::Allocator;
 
-/// The addresses that are sent to a root and that each bridge at some slots passes.
+/// A way from a root bus, and the slots of the bridges on it.
+#[derive(Clone, Copy)]
+struct Way<'a> {
+    root: u8,
+    bridges: &'a [Slot],
+}
+
+/// The addresses that are sent to the root of a way and that each bridge on it passes.
 fn reach_along<A: Allocator + Copy>(
     alloc: A,
     given: &Given<'_>,
     records: &[Record],
-    path: &[Slot],
-    root: u8,
+    way: &Way,
     kind: WindowKind,
 ) -> Result<Vec<Range, A>, OutOfMemory>
     // found by halving
     requires rising { RiseBySlot records.now }
     // of an empty window no address could be told
     requires spans { All HasSpans records.now }
-    ensures { IfOk result (λ v. IsReachAlong (given_value given.now) (kind_value kind) records.now root
-        path.now v.items) }
+    ensures { IfOk result (λ v. IsReachAlong (given_value given.now) (kind_value kind) records.now way.now.root
+        way.now.bridges.now v.items) }
 {
-    let mut reach = sent_to(alloc, given, Space::of(kind), root)?;
-    for slot in path {
+    let mut reach = sent_to(alloc, given, Space::of(kind), way.root)?;
+    for slot in way.bridges {
         if let Some(bridge) = record_at(records, *slot) {
             reach = passed_on(alloc, given, &reach, bridge, kind)?;
         }
@@ -68,7 +74,11 @@ pub fn reach_of<A: Allocator + Copy>(
         Some(bridges) => {
             let path = bridges.as_slice();
             let root = root_above(path, slot.bus());
-            let reach = reach_along(alloc, given, outline.records(), path, root, kind)?;
+            let way = Way {
+                root,
+                bridges: path,
+            };
+            let reach = reach_along(alloc, given, outline.records(), &way, kind)?;
             Ok(Some(reach))
         }
     }

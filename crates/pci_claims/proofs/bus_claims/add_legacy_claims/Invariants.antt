@@ -6,4 +6,4 @@ use Rattle.pci_claims.proofs.bus_claims.add_legacy_claims.Given as goal
 
 abbrev pub invariant-loop-slot : goal.invariant-loop-slot
 invariant-loop-slot g l =
-    AreMoreClaims (AreLegacyClaims (given_value l.given) (space_of l.space) l.records l.reach (take l.slot-index l.bridges)) l.fn.claims.items l.claims.items
+    AreMoreClaims (AreLegacyClaims (given_value l.given) (space_of l.arriving.space) l.bridges.records.now l.arriving.reach.now (take l.slot-index l.bridges.slots.now)) l.fn.claims.items l.claims.items
