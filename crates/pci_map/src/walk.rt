@@ -149,12 +149,13 @@ fn push_place<A: Allocator + Copy, B: Allocator>(
         (merged (space_of walk.now.space) place.now.regions.items place.now.runs.items)
         (string_bytes text.old) (string_bytes text.new)) }
 {
+    let space = walk.space;
     let mut left = place.runs.as_slice();
     for region in place.regions.as_slice() {
-        left = push_before(text, depth, walk.space, left, region.first)?;
+        left = push_before(text, depth, space, left, region.first)?;
         push_seat(walk, text, place.bus, depth, region)?;
     }
-    push_runs(text, depth, walk.space, left)?;
+    push_runs(text, depth, space, left)?;
     Ok(())
 }
 
