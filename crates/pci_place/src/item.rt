@@ -71,21 +71,29 @@ impl Owner {
     }
 }
 
+/// The class whose items are looked for, and what tells the class of a function's BARs.
+#[derive(Clone, Copy)]
+struct Sought<'a> {
+    class: WindowKind,
+    /// Which windows lead to the function's bus.
+    above: Above,
+    pools: &'a Pools,
+}
+
 /// Adds the BARs of a class.
 fn add_bars<A: Allocator>(
     items: &mut Vec<Item, A>,
     owner: Owner,
     bars: &[Bar],
-    class: WindowKind,
-    above: Above,
-    pools: &Pools,
+    sought: &Sought,
 ) -> Result<(), OutOfMemory>
     requires { All IsBar bars.now }
     ensures { OnOk result (items.new.items
-        ≡ items.old.items ++ bar_items owner (kind_value class) above pools.now bars.now) }
+        ≡ items.old.items ++ bar_items owner (kind_value sought.now.class) sought.now.above
+        sought.now.pools.now bars.now) }
 {
     for bar in bars {
-        if class_of_bar(bar, above, pools) == class {
+        if class_of_bar(bar, sought.above, sought.pools) == sought.class {
             let part = Part::Bar((bar.reg - BASE_ADDRESS) / 4);
             items.push(owner.item(part, bar_size(bar)))?;
         }
@@ -139,9 +147,7 @@ fn add_items<A: Allocator>(
     items: &mut Vec<Item, A>,
     owner: Owner,
     record: &Record,
-    class: WindowKind,
-    above: Above,
-    pools: &Pools,
+    sought: &Sought,
     needs: &Needs,
 ) -> Result<(), OutOfMemory>
     requires bars { All IsBar «record».now.bars.items }
@@ -149,11 +155,12 @@ fn add_items<A: Allocator>(
     requires needs { (bus : ℕ) → bus < 256 → slice_index needs.now.of_bus bus ≤ 2 ^ 65 }
     ensures { OnOk result (items.new.items
         ≡ items.old.items
-        ++ record_items owner (kind_value class) above pools.now needs.now.of_bus «record».now) }
+        ++ record_items owner (kind_value sought.now.class) sought.now.above sought.now.pools.now
+        needs.now.of_bus «record».now) }
 {
-    add_bars(items, owner, record.bars.as_slice(), class, above, pools)?;
-    add_window(items, owner, record.bridge, class, needs)?;
-    add_rom(items, owner, record.rom, class)
+    add_bars(items, owner, record.bars.as_slice(), sought)?;
+    add_window(items, owner, record.bridge, sought.class, needs)?;
+    add_rom(items, owner, record.rom, sought.class)
 }
 
 /// The group of a bus: the roots are one.
@@ -191,8 +198,12 @@ pub fn items_of<A: Allocator, B: Allocator>(
             function,
             group: group_of(&roots, bus),
         };
-        let above = aboves[bus as usize];
-        add_items(&mut items, owner, record, class, above, pools, needs)?;
+        let sought = Sought {
+            class,
+            above: aboves[bus as usize],
+            pools,
+        };
+        add_items(&mut items, owner, record, &sought, needs)?;
     }
     Ok(items)
 }
