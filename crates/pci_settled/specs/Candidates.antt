@@ -6,6 +6,7 @@ use Rattle.settle_spec.specs.Lists.{Lists, Request}
 use Rattle.settle_spec.specs.Items.{Item as ItemValue, items_on, new_window, stays}
 use Rattle.settle_spec.specs.Places.{space_items}
 use Rattle.pci_base.specs.declared.window_kind.WindowKind.{WindowKind as Class}
+use Rattle.pci_base.specs.Space.{space_of}
 use Rattle.pci_base.specs.WindowKinds.{kind_value}
 use Rattle.pci_tree.specs.Admission.{Admission}
 use Rattle.pci_settle.specs.declared.extent.Extent.{Extent}
@@ -18,7 +19,8 @@ use Rattle.pci_settle.specs.NewWindows.{HasNewWindows}
 use Rattle.pci_settled.specs.declared.candidate.Candidate.{Candidate}
 use Rattle.pci_settled.specs.declared.candidate.SpaceWindows.{SpaceWindows}
 use Rattle.pci_settled.specs.declared.staying.Staying.{Staying}
-use Rattle.pci_settled.specs.Staying.{Setting, setting, setting_of, IsStaying}
+use Rattle.pci_settled.specs.declared.setting.Pass as declared
+use Rattle.pci_settled.specs.Staying.{Setting, setting, setting_of, setting_value, IsStaying}
 
 abbrev pub of_class : Class → Item → Candidate
 of_class class i = record { class = class; item = i }
@@ -51,6 +53,11 @@ AreAddedOf p c windows bus old new =
 
 -- ---- of a space
 
+abbrev pub windows_of : WindowKind → SpaceWindows → List (Option Extent)
+windows_of IoWindow w = w.plain
+windows_of MemoryWindow w = w.plain
+windows_of PrefetchWindow w = w.prefetch
+
 pub record AreSpaceWindows (w : SpaceWindows) : Type 0 where
   pub plain : AreWindows w.plain
   pub prefetch : AreWindows w.prefetch
@@ -72,6 +79,13 @@ pass roots s space t st w = record { setting = setting roots s t st; space = spa
 
 abbrev pub pass_of : Admission → Space → Terms → Staying → SpaceWindows → Pass
 pass_of a space t st w = record { setting = setting_of a t st; space = space; windows = w }
+
+abbrev pub pass_value : {B : Type 0} → declared.Pass B → Pass
+pass_value p = record {
+  setting = setting_value p.setting.now;
+  space = space_of p.space;
+  windows = p.windows.now;
+}
 
 -- they are those of what is asked for
 abbrev pub HasWindowsOf : Request → Pass → Type 0

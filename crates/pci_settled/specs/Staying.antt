@@ -10,6 +10,7 @@ use Rattle.pci_settle.specs.Kept.{AreKept}
 use Rattle.pci_settle.specs.Buses.{Classing, IsLeft}
 use Rattle.pci_stand.specs.Held.{AreHeld}
 use Rattle.pci_settled.specs.declared.staying.Staying.{Staying}
+use Rattle.pci_settled.specs.declared.setting.Setting as declared
 
 -- what places are found by: the root buses, the system, what is told of the lists, and what stays
 pub record Setting : Type 0 where
@@ -23,6 +24,9 @@ setting roots s t st = record { roots = roots; system = s; terms = t; staying = 
 
 abbrev pub setting_of : Admission → Terms → Staying → Setting
 setting_of a t st = setting a.roots (system_in a) t st
+
+abbrev pub setting_value : {B : Type 0} → declared.Setting B → Setting
+setting_value p = setting_of p.admitted.now p.terms p.staying
 
 -- what it tells classes by
 abbrev pub classing : Setting → Classing

@@ -4,31 +4,25 @@ ghost use Rattle.std.specs.List.{All};
 ghost use Rattle.pci_spec.specs.System.{System};
 ghost use Rattle.pci_spec.specs.Bus.{is_root};
 ghost use Rattle.pci_spec.specs.Decoded.{HasRecords};
-ghost use Rattle.pci_base.specs.Space.{space_of};
 ghost use Rattle.pci_base.specs.WindowKinds.{kind_value};
 ghost use Rattle.pci_function.specs.Values.{record_value};
 ghost use Rattle.pci_tree.specs.Roots.{buses_of};
 ghost use Rattle.pci_place.specs.Above.{AreAboves, system_in};
-ghost use Rattle.pci_settled.specs.Candidates.{AreSpaceWindows, KnowsWindows, IsWithin, pass_of};
+ghost use Rattle.pci_settled.specs.Candidates.{AreSpaceWindows, KnowsWindows, IsWithin, pass_value};
 ghost use Rattle.pci_stand.specs.Held.{AreByLevel};
 ghost use Rattle.pci_settled.specs.Columns.{kind_number, column, wanted_value};
 ghost use Rattle.pci_settled.specs.BusPlaces.{bus_placing, ArePlacesIn, AreWithin};
 
-use crate::candidate::{Candidate, SpaceWindows, candidates_on};
-use crate::staying::Staying;
+use crate::candidate::{Candidate, candidates_on};
+use crate::setting::Pass;
 use pci_base::memory::OutOfMemory;
 use pci_base::range::Range;
-use pci_base::slot::BUSES;
-use pci_base::space::Space;
 use pci_base::window_kind::WindowKind;
 use pci_function::record::Record;
-use pci_place::above::Above;
 use pci_settle::list::is_root;
-use pci_settle::own::Terms;
 use pci_settle::placing::{Wanted, place_all};
 use pci_stand::collect::level;
 use pci_stand::held::taken_on;
-use pci_tree::admitted::Admitted;
 use pci_tree::roots::Roots;
 use std::alloc::Allocator;
 
@@ -94,43 +88,40 @@ fn wanted_of<A: Allocator>(
 /// and elsewhere one column.
 pub fn place_bus<A: Allocator + Copy, B: Allocator>(
     alloc: A,
-    admitted: &Admitted<B>,
+    pass: &Pass<B>,
     bus: u8,
-    space: Space,
-    aboves: &[Above; BUSES],
-    terms: Terms,
-    staying: &Staying,
-    windows: &SpaceWindows,
     lists: &[Vec<Range, A>],
 ) -> Result<BusPlaces<A>, OutOfMemory>
     // which windows lead to a BAR decides its class
-    requires above { AreAboves (system_in admitted.now) aboves.now }
+    requires above { AreAboves (system_in pass.now.setting.now.admitted.now)
+        pass.now.setting.now.aboves.now }
     // what stays on a bus is found by halving
-    requires held { AreByLevel staying.now.held.now }
+    requires held { AreByLevel pass.now.setting.now.staying.held.now }
     // places are looked for by sizes and alignments
-    requires lawful { AreSpaceWindows windows.now }
+    requires lawful { AreSpaceWindows pass.now.windows.now }
     // a new window is as large as what is behind it, which is worked out before
-    requires known { KnowsWindows
-        (pass_of admitted.now (space_of space) terms staying.now windows.now) }
+    requires known { KnowsWindows (pass_value pass.now) }
     // a column has three lists: of plain ranges, of those above 4 GB too, and of prefetchable ones
     requires some { 3 ≤ length lists.now }
     // a root has a column of its own, found by its number
-    requires roots { IsTrue (is_root admitted.now.roots bus) → length lists.now ≡ 768 }
-    ensures placing { IfOk result (λ places. ArePlacesIn
-        (pass_of admitted.now (space_of space) terms staying.now windows.now)
+    requires roots { IsTrue (is_root pass.now.setting.now.admitted.now.roots bus) → length lists.now ≡ 768 }
+    ensures placing { IfOk result (λ places. ArePlacesIn (pass_value pass.now)
         bus (map (λ list. list.items) lists.now)
-        (bus_placing (system_in admitted.now) places.candidates.items places.places.items places.lack)) }
+        (bus_placing (system_in pass.now.setting.now.admitted.now) places.candidates.items
+        places.places.items places.lack)) }
     // by it each place is noted where its function's record is
-    ensures within { IfOk result (λ places. AreWithin (system_in admitted.now) places.candidates.items
-        places.places.items places.lack) }
+    ensures within { IfOk result (λ places. AreWithin (system_in pass.now.setting.now.admitted.now)
+        places.candidates.items places.places.items places.lack) }
 {
-    let candidates = candidates_on(alloc, admitted, bus, space, aboves, terms, staying, windows)?;
-    let outline = admitted.outline();
+    let candidates = candidates_on(alloc, pass, bus)?;
+    let setting = pass.setting;
+    let outline = setting.admitted.outline();
     let roots = outline.roots();
     let records = outline.records();
     let wanted = wanted_of(alloc, &roots, records, candidates.as_slice())?;
     let mut places = vec![in alloc; 0; candidates.len()]?;
-    let mut taken = taken_on(alloc, staying.held, level(&roots, bus), space)?;
+    let level = level(&roots, bus);
+    let mut taken = taken_on(alloc, setting.staying.held, level, pass.space)?;
     let lack = place_all(
         alloc,
         lists,

@@ -10,6 +10,7 @@ pub mod candidate;
 pub mod column;
 pub mod place;
 pub mod places;
+pub mod setting;
 pub mod space;
 pub mod staying;
 pub mod window;

@@ -6,22 +6,23 @@ ghost use Rattle.pci_place.specs.Above.{AreAboves, system_in};
 ghost use Rattle.pci_settle.specs.Lists.{lists_value};
 ghost use Rattle.pci_settle.specs.Own.{AreTerms};
 ghost use Rattle.pci_settle.specs.Buses.{AreWindows};
-ghost use Rattle.pci_settled.specs.Candidates.{AreSpaceWindows, HasWindowsIn, KnowsRequest, pass_of};
+ghost use Rattle.pci_settled.specs.Candidates.{AreSpaceWindows, HasWindowsIn, KnowsRequest};
 ghost use Rattle.pci_stand.specs.Held.{AreByLevel};
 ghost use Rattle.pci_settled.specs.Spaces.{HasNone, KeepsOthers};
 ghost use Rattle.pci_settled.specs.Placed.{HasClassWindows, IsTooLargeOf, IsTooLargeIn, IsUnplacedIn, HasPlacesIn, AreAllNone, CanBeLeft, ArePlacesOff, IsUnplacedOff};
-ghost use Rattle.pci_settled.specs.Staying.{setting_of};
+ghost use Rattle.pci_settled.specs.Staying.{setting_value};
 
 use crate::anew::Unplaced;
 use crate::candidate::SpaceWindows;
 use crate::places::Places;
+use crate::setting::{Pass, Setting};
 use crate::space::place_space;
 use crate::staying::Staying;
 use pci_base::memory::{OutOfMemory, Refused};
 use pci_base::slot::BUSES;
 use pci_base::space::Space;
 use pci_base::window_kind::WindowKind;
-use pci_place::above::{Above, aboves};
+use pci_place::above::aboves;
 use pci_settle::extent::Extent;
 use pci_settle::list::Lists;
 use pci_settle::new_window::new_windows;
@@ -34,29 +35,21 @@ use std::alloc::Allocator;
 /// The new windows of a class, or the function of which that would have 2^64 addresses or more.
 fn class_windows<A: Allocator + Copy, B: Allocator>(
     alloc: A,
-    admitted: &Admitted<B>,
+    setting: &Setting<B>,
     class: WindowKind,
-    aboves: &[Above; BUSES],
-    terms: Terms,
-    staying: &Staying,
     windows: &mut [Option<Extent>; BUSES],
 ) -> Result<(), Refused<Unplaced>>
-    requires { AreAboves (system_in admitted.now) aboves.now }
-    ensures windows { OnOk result (HasClassWindows (setting_of admitted.now terms staying.now)
+    requires { AreAboves (system_in setting.now.admitted.now) setting.now.aboves.now }
+    ensures windows { OnOk result (HasClassWindows (setting_value setting.now)
         (kind_value class) windows.new) }
     ensures lawful { AreWindows windows.new }
-    ensures fault { IfErr result (IsTooLargeOf (setting_of admitted.now terms staying.now)
+    ensures fault { IfErr result (IsTooLargeOf (setting_value setting.now)
         (kind_value class)) }
 {
-    match new_windows(
-        alloc,
-        admitted,
-        class,
-        aboves,
-        terms,
-        staying.left.over,
-        windows,
-    )? {
+    let admitted = setting.admitted;
+    let aboves = setting.aboves;
+    let over = setting.staying.left.over;
+    match new_windows(alloc, admitted, class, aboves, setting.terms, over, windows)? {
         Some(function) => Err(Refused::Fault(Unplaced::TooLarge { class, function })),
         None => Ok(()),
     }
@@ -65,32 +58,28 @@ fn class_windows<A: Allocator + Copy, B: Allocator>(
 /// The new windows of a space.
 fn space_windows<A: Allocator + Copy, B: Allocator>(
     alloc: A,
-    admitted: &Admitted<B>,
+    setting: &Setting<B>,
     space: Space,
-    aboves: &[Above; BUSES],
-    terms: Terms,
-    staying: &Staying,
 ) -> Result<SpaceWindows, Refused<Unplaced>>
-    requires { AreAboves (system_in admitted.now) aboves.now }
-    ensures windows { IfOk result (λ windows. HasWindowsIn
-        (pass_of admitted.now (space_of space) terms staying.now windows)) }
+    requires { AreAboves (system_in setting.now.admitted.now) setting.now.aboves.now }
+    ensures windows { IfOk result (λ windows. HasWindowsIn record {
+      setting = setting_value setting.now;
+      space = space_of space;
+      windows = windows;
+    }) }
     ensures lawful { IfOk result AreSpaceWindows }
-    ensures fault { IfErr result (IsTooLargeIn (setting_of admitted.now terms staying.now)
+    ensures fault { IfErr result (IsTooLargeIn (setting_value setting.now)
         (space_of space)) }
 {
     let mut plain = [None; BUSES];
     let mut prefetch = [None; BUSES];
     match space {
         Space::Io => {
-            let class = WindowKind::Io;
-            class_windows(alloc, admitted, class, aboves, terms, staying, &mut plain)?;
+            class_windows(alloc, setting, WindowKind::Io, &mut plain)?;
         }
         Space::Mem => {
-            let class = WindowKind::Memory;
-            class_windows(alloc, admitted, class, aboves, terms, staying, &mut plain)?;
-            let class = WindowKind::Prefetchable;
-            let wide = &mut prefetch;
-            class_windows(alloc, admitted, class, aboves, terms, staying, wide)?;
+            class_windows(alloc, setting, WindowKind::Memory, &mut plain)?;
+            class_windows(alloc, setting, WindowKind::Prefetchable, &mut prefetch)?;
         }
     }
     Ok(SpaceWindows { plain, prefetch })
@@ -99,31 +88,31 @@ fn space_windows<A: Allocator + Copy, B: Allocator>(
 /// Places all of a space and notes it in a table that has none of it.
 fn place_in<A: Allocator + Copy, B: Allocator>(
     alloc: A,
-    admitted: &Admitted<B>,
+    setting: &Setting<B>,
     space: Space,
     lists: &Lists,
-    aboves: &[Above; BUSES],
-    terms: Terms,
-    staying: &Staying,
     table: &mut [Places],
 ) -> Result<(), Refused<Unplaced>>
-    requires above { AreAboves (system_in admitted.now) aboves.now }
-    requires terms { AreTerms (lists_value lists.now) terms }
-    requires held { AreByLevel staying.now.held.now }
-    requires known { KnowsRequest (setting_of admitted.now terms staying.now) (lists_value lists.now) }
-    requires count { length table.old ≡ length (system_in admitted.now) }
-    requires none { HasNone (system_in admitted.now) (space_of space) table.old }
-    ensures placed { OnOk result (HasPlacesIn (setting_of admitted.now terms staying.now)
+    requires above { AreAboves (system_in setting.now.admitted.now) setting.now.aboves.now }
+    requires terms { AreTerms (lists_value lists.now) setting.now.terms }
+    requires held { AreByLevel setting.now.staying.held.now }
+    requires known { KnowsRequest (setting_value setting.now) (lists_value lists.now) }
+    requires count { length table.old ≡ length (system_in setting.now.admitted.now) }
+    requires none { HasNone (system_in setting.now.admitted.now) (space_of space) table.old }
+    ensures placed { OnOk result (HasPlacesIn (setting_value setting.now)
         (space_of space) (lists_value lists.now) table.new) }
-    ensures others { OnOk result (KeepsOthers (system_in admitted.now) (space_of space) table.old
-        table.new) }
-    ensures fault { IfErr result (IsUnplacedIn (setting_of admitted.now terms staying.now)
+    ensures others { OnOk result (KeepsOthers (system_in setting.now.admitted.now) (space_of space)
+        table.old table.new) }
+    ensures fault { IfErr result (IsUnplacedIn (setting_value setting.now)
         (space_of space) (lists_value lists.now)) }
 {
-    let windows = space_windows(alloc, admitted, space, aboves, terms, staying)?;
-    match place_space(
-        alloc, admitted, space, lists, aboves, terms, staying, &windows, table,
-    )? {
+    let windows = space_windows(alloc, setting, space)?;
+    let pass = Pass {
+        setting,
+        space,
+        windows: &windows,
+    };
+    match place_space(alloc, &pass, lists, table)? {
         Some(candidate) => Err(Refused::Fault(Unplaced::Lacks(candidate))),
         None => Ok(()),
     }
@@ -165,15 +154,15 @@ pub fn place<A: Allocator + Copy, B: Allocator>(
         left: *left,
         held: held.as_slice(),
     };
+    let setting = Setting {
+        admitted,
+        aboves: &aboves,
+        terms,
+        staying,
+    };
     let mut table = no_places(alloc, admitted.outline().records().len())?;
     let entries = table.as_mut_slice();
-    let space = Space::Io;
-    place_in(
-        alloc, admitted, space, lists, &aboves, terms, &staying, entries,
-    )?;
-    let space = Space::Mem;
-    place_in(
-        alloc, admitted, space, lists, &aboves, terms, &staying, entries,
-    )?;
+    place_in(alloc, &setting, Space::Io, lists, entries)?;
+    place_in(alloc, &setting, Space::Mem, lists, entries)?;
     Ok(table)
 }

@@ -7,25 +7,21 @@ ghost use Rattle.pci_place.specs.Above.{AreAboves, system_in};
 ghost use Rattle.pci_settle.specs.Lists.{lists_value};
 ghost use Rattle.pci_settle.specs.Own.{AreTerms};
 ghost use Rattle.pci_stand.specs.Held.{AreByLevel};
-ghost use Rattle.pci_settled.specs.Candidates.{AreSpaceWindows, HasWindowsIn, KnowsWindows, KnowsRequest, pass_of};
+ghost use Rattle.pci_settled.specs.Candidates.{AreSpaceWindows, HasWindowsIn, KnowsWindows, KnowsRequest, pass_value};
 ghost use Rattle.pci_settled.specs.Spaces.{IsFirstRoot, AreNotedOnRoots, AreNotedBehind, HasNone, KeepsOthers, AreSpacePlacesIn};
-ghost use Rattle.pci_settled.specs.Staying.{setting_of};
+ghost use Rattle.pci_settled.specs.Staying.{setting_value};
 
 use crate::bus::place_bus;
-use crate::candidate::{Candidate, SpaceWindows};
+use crate::candidate::Candidate;
 use crate::column::{add_column, column_behind, root_lists};
 use crate::places::{Places, note_bus};
-use crate::staying::Staying;
+use crate::setting::Pass;
 use crate::window::{plain_window, prefetch_window};
 use pci_base::memory::OutOfMemory;
 use pci_base::slot::BUSES;
-use pci_base::space::Space;
 use pci_function::record::Bridge;
-use pci_place::above::Above;
 use pci_settle::bus::kept_by;
 use pci_settle::list::{Lists, is_root};
-use pci_settle::own::Terms;
-use pci_tree::admitted::Admitted;
 use pci_tree::roots::Roots;
 use std::alloc::Allocator;
 
@@ -46,85 +42,62 @@ fn first_root(roots: &Roots) -> Option<u8>
 /// before it. Notes it where all has a place; the answer is the first item that has none.
 fn place_on_roots<A: Allocator + Copy, B: Allocator>(
     alloc: A,
-    admitted: &Admitted<B>,
-    space: Space,
+    pass: &Pass<B>,
     lists: &Lists,
-    aboves: &[Above; BUSES],
-    terms: Terms,
-    staying: &Staying,
-    windows: &SpaceWindows,
     table: &mut [Places],
 ) -> Result<Option<Candidate>, OutOfMemory>
-    requires above { AreAboves (system_in admitted.now) aboves.now }
-    requires terms { AreTerms (lists_value lists.now) terms }
-    requires held { AreByLevel staying.now.held.now }
-    requires lawful { AreSpaceWindows windows.now }
-    requires known { KnowsWindows
-        (pass_of admitted.now (space_of space) terms staying.now windows.now) }
-    requires count { length table.old ≡ length (system_in admitted.now) }
-    ensures noted { IfOk result (AreNotedOnRoots
-        (pass_of admitted.now (space_of space) terms staying.now windows.now)
+    requires above { AreAboves (system_in pass.now.setting.now.admitted.now)
+        pass.now.setting.now.aboves.now }
+    requires terms { AreTerms (lists_value lists.now) pass.now.setting.now.terms }
+    requires held { AreByLevel pass.now.setting.now.staying.held.now }
+    requires lawful { AreSpaceWindows pass.now.windows.now }
+    requires known { KnowsWindows (pass_value pass.now) }
+    requires count { length table.old ≡ length (system_in pass.now.setting.now.admitted.now) }
+    ensures noted { IfOk result (AreNotedOnRoots (pass_value pass.now)
         (lists_value lists.now) table.old table.new) }
 {
-    let outline = admitted.outline();
+    let outline = pass.setting.admitted.outline();
     let roots = outline.roots();
     let Some(root) = first_root(&roots) else {
         return Ok(None);
     };
-    let all = root_lists(alloc, &roots, space, lists)?;
+    let all = root_lists(alloc, &roots, pass.space, lists)?;
     let columns = all.as_slice();
-    let places = place_bus(
-        alloc, admitted, root, space, aboves, terms, staying, windows, columns,
-    )?;
+    let places = place_bus(alloc, pass, root, columns)?;
     Ok(note_bus(&places, table))
 }
 
 /// Places what is on the bus behind a bridge in the windows that the bridge keeps or has in the table, and notes it.
 fn place_behind<A: Allocator + Copy, B: Allocator>(
     alloc: A,
-    admitted: &Admitted<B>,
+    pass: &Pass<B>,
     function: usize,
     bridge: &Bridge,
-    space: Space,
-    aboves: &[Above; BUSES],
-    terms: Terms,
-    staying: &Staying,
-    windows: &SpaceWindows,
     table: &mut [Places],
 ) -> Result<(), OutOfMemory>
     requires function { function < length table.old }
     // on a root items have lists of their own
-    requires behind { IsFalse (is_root admitted.now.roots bridge.now.secondary) }
-    requires above { AreAboves (system_in admitted.now) aboves.now }
-    requires held { AreByLevel staying.now.held.now }
-    requires lawful { AreSpaceWindows windows.now }
-    requires known { KnowsWindows
-        (pass_of admitted.now (space_of space) terms staying.now windows.now) }
-    requires count { length table.old ≡ length (system_in admitted.now) }
-    ensures noted { OnOk result (AreNotedBehind
-        (pass_of admitted.now (space_of space) terms staying.now windows.now)
+    requires behind { IsFalse (is_root pass.now.setting.now.admitted.now.roots bridge.now.secondary) }
+    requires above { AreAboves (system_in pass.now.setting.now.admitted.now)
+        pass.now.setting.now.aboves.now }
+    requires held { AreByLevel pass.now.setting.now.staying.held.now }
+    requires lawful { AreSpaceWindows pass.now.windows.now }
+    requires known { KnowsWindows (pass_value pass.now) }
+    requires count { length table.old ≡ length (system_in pass.now.setting.now.admitted.now) }
+    ensures noted { OnOk result (AreNotedBehind (pass_value pass.now)
         function bridge.now table.old table.new) }
 {
     let places = &table[function];
-    let kept = kept_by(staying.left.kept, function);
+    let setting = pass.setting;
+    let kept = kept_by(setting.staying.left.kept, function);
     let column = column_behind(
         alloc,
-        plain_window(kept, bridge, places, space),
-        prefetch_window(kept, bridge, places, space),
+        plain_window(kept, bridge, places, pass.space),
+        prefetch_window(kept, bridge, places, pass.space),
     )?;
     let mut lists = Vec::new(alloc);
     add_column(&mut lists, column)?;
-    let places = place_bus(
-        alloc,
-        admitted,
-        bridge.secondary,
-        space,
-        aboves,
-        terms,
-        staying,
-        windows,
-        lists.as_slice(),
-    )?;
+    let places = place_bus(alloc, pass, bridge.secondary, lists.as_slice())?;
     // in a window that stays or is new all that is behind it has a place
     note_bus(&places, table);
     Ok(())
@@ -136,52 +109,43 @@ fn place_behind<A: Allocator + Copy, B: Allocator>(
 /// The answer is None where all on the roots has a place, else the first that has none.
 pub fn place_space<A: Allocator + Copy, B: Allocator>(
     alloc: A,
-    admitted: &Admitted<B>,
-    space: Space,
+    pass: &Pass<B>,
     lists: &Lists,
-    aboves: &[Above; BUSES],
-    terms: Terms,
-    staying: &Staying,
-    windows: &SpaceWindows,
     table: &mut [Places],
 ) -> Result<Option<Candidate>, OutOfMemory>
     // which windows lead to a BAR decides its class
-    requires above { AreAboves (system_in admitted.now) aboves.now }
+    requires above { AreAboves (system_in pass.now.setting.now.admitted.now)
+        pass.now.setting.now.aboves.now }
     // whether prefetchable memory may lie above 4 GB is told by the lists
-    requires terms { AreTerms (lists_value lists.now) terms }
+    requires terms { AreTerms (lists_value lists.now) pass.now.setting.now.terms }
     // what stays on a bus is found by halving
-    requires held { AreByLevel staying.now.held.now }
+    requires held { AreByLevel pass.now.setting.now.staying.held.now }
     // places are looked for by sizes and alignments
-    requires lawful { AreSpaceWindows windows.now }
+    requires lawful { AreSpaceWindows pass.now.windows.now }
     // a new window is as large as what is behind it, which is worked out before
-    requires windows { HasWindowsIn
-        (pass_of admitted.now (space_of space) terms staying.now windows.now) }
+    requires windows { HasWindowsIn (pass_value pass.now) }
     // what stays is worked out before, for the same lists
-    requires known { KnowsRequest (setting_of admitted.now terms staying.now) (lists_value lists.now) }
+    requires known { KnowsRequest (setting_value pass.now.setting.now) (lists_value lists.now) }
     // a function's places stand where its record does
-    requires count { length table.old ≡ length (system_in admitted.now) }
+    requires count { length table.old ≡ length (system_in pass.now.setting.now.admitted.now) }
     // what isn't placed keeps its entry, which is none
-    requires none { HasNone (system_in admitted.now) (space_of space) table.old }
-    ensures placed { IfOk result (AreSpacePlacesIn
-        (pass_of admitted.now (space_of space) terms staying.now windows.now)
+    requires none { HasNone (system_in pass.now.setting.now.admitted.now) (space_of pass.now.space)
+        table.old }
+    ensures placed { IfOk result (AreSpacePlacesIn (pass_value pass.now)
         (lists_value lists.now) table.new) }
     // both spaces are placed in one table
-    ensures others { OnOk result (KeepsOthers (system_in admitted.now) (space_of space) table.old
-        table.new) }
+    ensures others { OnOk result (KeepsOthers (system_in pass.now.setting.now.admitted.now)
+        (space_of pass.now.space) table.old table.new) }
 {
-    let outline = admitted.outline();
+    let outline = pass.setting.admitted.outline();
     let records = outline.records();
-    let lack = place_on_roots(
-        alloc, admitted, space, lists, aboves, terms, staying, windows, table,
-    )?;
+    let lack = place_on_roots(alloc, pass, lists, table)?;
     if lack.is_some() {
         return Ok(lack);
     }
     for function in 0..records.len() {
         if let Some(bridge) = &records[function].bridge {
-            place_behind(
-                alloc, admitted, function, bridge, space, aboves, terms, staying, windows, table,
-            )?;
+            place_behind(alloc, pass, function, bridge, table)?;
         }
     }
     Ok(None)

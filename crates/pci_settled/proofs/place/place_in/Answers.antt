@@ -12,10 +12,10 @@ pub returns-in_err-windows-clause-fault : goal.returns-in_err-windows-clause-fau
 returns-in_err-windows-clause-fault g c =
     let p = err_from_is_err_and c.from_residual.result c.from_residual.ensures.1 in
     rw (p.1, p.2)
-    (too_large c.args.admitted.now.roots (system_in c.args.admitted.now) (space_of c.args.space) (lists_value c.args.lists.now) c.args.terms c.args.staying.now c.in_err-windows.field-0.0 c.in_err-windows.ensures.fault)
+    (too_large c.args.setting.now.admitted.now.roots (system_in c.args.setting.now.admitted.now) (space_of c.args.space) (lists_value c.args.lists.now) c.args.setting.now.terms c.args.setting.now.staying c.in_err-windows.field-0.0 c.in_err-windows.ensures.fault)
 
 pub returns-in-None-clause-placed : goal.returns-in-None-clause-placed
 returns-in-None-clause-placed g c =
-    space_placed c.args.admitted.now.roots (system_in c.args.admitted.now) (space_of c.args.space) (lists_value c.args.lists.now) c.args.terms c.args.staying.now c.in_ok-windows.windows c.place_space.new.table
+    space_placed c.args.setting.now.admitted.now.roots (system_in c.args.setting.now.admitted.now) (space_of c.args.space) (lists_value c.args.lists.now) c.args.setting.now.terms c.args.setting.now.staying c.in_ok-windows.windows c.place_space.new.table
     c.in_ok-windows.ensures.windows
-    (subst (AreSpacePlacesIn (pass_of c.args.admitted.now (space_of c.args.space) c.args.terms c.args.staying.now c.in_ok-windows.windows) (lists_value c.args.lists.now) c.place_space.new.table) c.in-None.is c.in_ok-candidate.ensures.placed)
+    (subst (AreSpacePlacesIn (pass_of c.args.setting.now.admitted.now (space_of c.args.space) c.args.setting.now.terms c.args.setting.now.staying c.in_ok-windows.windows) (lists_value c.args.lists.now) c.place_space.new.table) c.in-None.is c.in_ok-candidate.ensures.placed)

@@ -9,15 +9,15 @@ use Rattle.pci_settled.proofs.space.place_behind.Goals as goal
 pub note_bus-requires : goal.note_bus-requires
 note_bus-requires g c =
     let places = c.in_ok-places.places in
-    notable (system_in c.args.admitted.now) places.candidates.items places.places.items places.lack c.in_ok-places.ensures.within _ c.requires.count
+    notable (system_in c.args.pass.now.setting.now.admitted.now) places.candidates.items places.places.items places.lack c.in_ok-places.ensures.within _ c.requires.count
 
 pub returns : goal.returns
 returns g c =
-    let s = system_in c.args.admitted.now in
+    let s = system_in c.args.pass.now.setting.now.admitted.now in
     let items = λ (v : Vec Range g.row.A.Denot). v.items in
     let column = c.in_ok-column.column in
     record {
-      noted = behind_noted c.args.admitted.now.roots s (space_of c.args.space) c.args.terms c.args.staying.now c.args.windows.now c.args.bridge.now c.requires.behind c.args.function c.args.table.now c.note_bus.new.table c.requires.function _
+      noted = behind_noted c.args.pass.now.setting.now.admitted.now.roots s (space_of c.args.pass.now.space) c.args.pass.now.setting.now.terms c.args.pass.now.setting.now.staying c.args.pass.now.windows.now c.args.bridge.now c.requires.behind c.args.function c.args.table.now c.note_bus.new.table c.requires.function _
           c.kept_by-kept.result.now c.kept_by-kept.ensures
           c.plain_window.result c.prefetch_window.result c.plain_window.ensures c.prefetch_window.ensures (map items c.as_slice.result.now)
           (ap (map items) c.as_slice.ensures.value

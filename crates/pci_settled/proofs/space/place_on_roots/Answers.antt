@@ -15,21 +15,21 @@ use Rattle.pci_settled.proofs.space.place_on_roots.Goals as goal
 pub note_bus-requires : goal.note_bus-requires
 note_bus-requires g c =
     let places = c.in_ok-places.places in
-    notable (system_in c.args.admitted.now) places.candidates.items places.places.items places.lack c.in_ok-places.ensures.within _ c.requires.count
+    notable (system_in c.args.pass.now.setting.now.admitted.now) places.candidates.items places.places.items places.lack c.in_ok-places.ensures.within _ c.requires.count
 
 pub returns : goal.returns
 returns g c =
     let outline = c.outline-outline.ensures in
-    let s = system_in c.args.admitted.now in
+    let s = system_in c.args.pass.now.setting.now.admitted.now in
     let places = c.in_ok-places.places in
     let root = c.in-Some.root in
     let first = subst (IsFirstRoot (buses_of c.roots-roots.result)) c.in-Some.is c.first_root.ensures in
     let is_one = subst (λ xs. is_root xs root ≡ true) (c.roots-roots.ensures ∙ outline.roots) first.1 in
     record {
-      noted = roots_noted c.args.admitted.now.roots s (space_of c.args.space) (lists_value c.args.lists.now) c.args.terms c.args.staying.now c.args.windows.now root first.0 is_one c.args.table.now c.note_bus.new.table c.note_bus.result
+      noted = roots_noted c.args.pass.now.setting.now.admitted.now.roots s (space_of c.args.pass.now.space) (lists_value c.args.lists.now) c.args.pass.now.setting.now.terms c.args.pass.now.setting.now.staying c.args.pass.now.windows.now root first.0 is_one c.args.table.now c.note_bus.new.table c.note_bus.result
           (bus_placing s places.candidates.items places.places.items places.lack)
-          (root_places (λ (v : Vec Range g.row.A.Denot). v.items) c.args.admitted.now.roots s outline.admitted.system outline.admitted.nested (space_of c.args.space)
-          (lists_value c.args.lists.now) c.args.terms c.args.staying.now c.args.windows.now root first.0 is_one _ (c.roots-roots.ensures ∙ outline.roots)
+          (root_places (λ (v : Vec Range g.row.A.Denot). v.items) c.args.pass.now.setting.now.admitted.now.roots s outline.admitted.system outline.admitted.nested (space_of c.args.pass.now.space)
+          (lists_value c.args.lists.now) c.args.pass.now.setting.now.terms c.args.pass.now.setting.now.staying c.args.pass.now.windows.now root first.0 is_one _ (c.roots-roots.ensures ∙ outline.roots)
           c.in_ok-all.all.items _ c.as_slice-columns.ensures.value c.in_ok-all.ensures _ c.in_ok-places.ensures.placing)
           (c.note_bus.ensures.noted s outline.admitted.system (sym c.requires.count) c.in_ok-places.ensures.within.parts)
           (c.note_bus.ensures.lack s);

@@ -5,4 +5,4 @@ use Rattle.pci_settled.proofs.SpaceSteps.{IsSpaceTo}
 use Rattle.pci_settled.proofs.space.place_space.Given as goal
 
 abbrev pub invariant-loop-function : goal.invariant-loop-function
-invariant-loop-function g l = IsSpaceTo l.admitted.roots (system_in l.admitted) (space_of l.space) (lists_value l.lists) l.terms l.staying l.windows l.function l.fn.table l.table
+invariant-loop-function g l = IsSpaceTo l.pass.setting.now.admitted.now.roots (system_in l.pass.setting.now.admitted.now) (space_of l.pass.space) (lists_value l.lists) l.pass.setting.now.terms l.pass.setting.now.staying l.pass.windows.now l.function l.fn.table l.table
