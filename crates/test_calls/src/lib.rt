@@ -1,5 +1,5 @@
 //! Tests of single calls: what one function's registers decode to, texts that are read and written, a machine in
-//! memory, admission and what it keeps.
+//! memory, admission and what it keeps, and what an outline lists.
 #![tactic(auto)]
 
 #[cfg(test)]
@@ -14,6 +14,8 @@ mod faults;
 mod headers;
 #[cfg(test)]
 mod machines;
+#[cfg(test)]
+mod outlines;
 #[cfg(test)]
 mod pairs;
 #[cfg(test)]
