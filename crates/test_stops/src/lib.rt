@@ -1,6 +1,6 @@
 //! Tests of putting plans onto machines: how many accesses it takes and in which order, and what stands where one of
-//! them fails, where a bit doesn't stay, and where a register has changed. And how a firmware does it over accesses of
-//! its own.
+//! them fails, where a bit doesn't stay, and where a register has changed. How a firmware does it over accesses of its
+//! own. And from how many writes on a stop is sound, with boards that are constants.
 #![tactic(auto)]
 
 #[cfg(test)]
@@ -11,6 +11,10 @@ mod changes;
 mod counting;
 #[cfg(test)]
 mod firmware;
+#[cfg(test)]
+mod safe_from;
+#[cfg(test)]
+mod samples;
 #[cfg(test)]
 mod setting;
 #[cfg(test)]

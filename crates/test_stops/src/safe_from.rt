@@ -36,7 +36,7 @@ fn copy_of(alloc: Global, dump: &Dump) -> Option<Dump> {
 }
 
 /// The admission of a dump with the probe and the root buses of another.
-pub fn admitted_with(alloc: Global, dump: &Dump, start: &Admitted) -> Option<Admitted> {
+fn admitted_with(alloc: Global, dump: &Dump, start: &Admitted) -> Option<Admitted> {
     let dump = copy_of(alloc, dump)?;
     let probe = copy_of(alloc, start.probe())?;
     admit_with(alloc, dump, probe, start.outline().roots()).ok()
@@ -71,7 +71,7 @@ fn is_accepted(alloc: Global, admitted: &Admitted) -> Option<bool> {
 }
 
 /// Whether `check` accepts a dump with the probe of another; none where it isn't admitted.
-pub fn is_sound(alloc: Global, dump: &Dump, start: &Admitted) -> Option<bool> {
+fn is_sound(alloc: Global, dump: &Dump, start: &Admitted) -> Option<bool> {
     let admitted = admitted_with(alloc, dump, start)?;
     is_accepted(alloc, &admitted)
 }
@@ -120,7 +120,7 @@ fn is_safe_on<'a>(alloc: Global, plan: &Plan<'a>, machine: &mut Machine) -> bool
 }
 
 /// Whether a stop is sound after each number of writes from `safe_from` on, and the start isn't where that is above 0.
-pub fn stops_safely<'a>(alloc: Global, plan: &Plan<'a>) -> bool {
+fn stops_safely<'a>(alloc: Global, plan: &Plan<'a>) -> bool {
     let start = plan.start();
     match Machine::of(alloc, start.dump(), start.probe()).ok() {
         Some(mut machine) => {
