@@ -69,7 +69,7 @@ list_is_determined given roots dump probe faults others all also = one_list give
 
 -- ---- dumps in which no slot is alone
 
-pairs_of_map : {X Y : Type 0} (R : Y → Y → Type 0) (f : X → Y) (xs : List X) → AllPairs R (map f xs) → AllPairs (λ x y. R (f x) (f y)) xs
+pub pairs_of_map : {X Y : Type 0} (R : Y → Y → Type 0) (f : X → Y) (xs : List X) → AllPairs R (map f xs) → AllPairs (λ x y. R (f x) (f y)) xs
 pairs_of_map R f [] pairs = pairs_nil (λ x y. R (f x) (f y))
 pairs_of_map R f (x ∷ xs) pairs =
     pairs_cons (λ x y. R (f x) (f y)) x xs (λ y has. pairs_head R (f x) (map f xs) (f y) pairs (in_map_from f xs y has))
@@ -92,14 +92,14 @@ slots_rise : (blocks : List Block) → IsDump blocks → AllPairs IsLower (slots
 slots_rise blocks is = pairs_of_map (λ m n. m < n) slot_number (slots_of blocks) (pairs_of_rising (map slot_number (slots_of blocks)) is.rising)
 
 module _ (dump probe : List Block) (is_dump : IsDump dump) (is_probe : IsDump probe) where
-  same_slots : ((slot : Slot) → IsInOne dump probe slot → ⊥) → slots_of dump ≡ slots_of probe
+  pub same_slots : ((slot : Slot) → IsInOne dump probe slot → ⊥) → slots_of dump ≡ slots_of probe
   same_slots none =
       same_list IsLower (λ s t up down. omega (arith, up, down)) (slots_of dump) (slots_of probe) (slots_rise dump is_dump) (slots_rise probe is_probe)
       (λ s has. elim (slot_decided (slots_of probe) s) [ inl there ↦ there | inr not ↦ absurd (none s (inl (has, not))) ])
       (λ s has. elim (slot_decided (slots_of dump) s) [ inl there ↦ there | inr not ↦ absurd (none s (inr (not, has))) ])
 
   module _ (roots : List ℕ) where
-    system_and_buses : ((fault : plain.Fault) → phase_of fault < phase_key Judging → IsThere roots dump probe fault → ⊥)
+    pub system_and_buses : ((fault : plain.Fault) → phase_of fault < phase_key Judging → IsThere roots dump probe fault → ⊥)
         → IsSystem (system_of dump probe) × IsNested roots (system_of dump probe)
     system_and_buses none =
         let same = same_slots (λ slot alone. none (SlotsDiffer slot) (omega arith) alone) in

@@ -8,5 +8,7 @@ pub mod Numbers
 pub mod OneList
 pub mod Determined
 pub mod DeterminedTexts
+pub mod LeastFaults
+pub mod PlainLists
 pub mod Moving
 pub mod Writing

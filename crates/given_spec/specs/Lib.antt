@@ -12,3 +12,4 @@ pub mod FaultsText
 pub mod Moved
 pub mod Laws
 pub mod DeterminedLaws
+pub mod ListLaws

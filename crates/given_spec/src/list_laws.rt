@@ -1,8 +1,17 @@
-//! Laws of lists of faults of judging. These functions do nothing: each contract is a law.
+//! Laws of lists of faults. These functions do nothing: each contract is a law.
 
+ghost use Rattle.given_spec.specs.ListLaws.{SameList, SameTextOfAll, FirstOfListIsFirst};
 ghost use Rattle.given_spec.specs.Numbered.{AllOfFour};
 
 /// The faults of each number, one list behind the other, are all of judging.
 pub fn lists_of_numbers_are_all()
     ensures { AllOfFour }
+{}
+
+/// With nothing given the list of all faults is the one without it, and so is its text; the first fault of that list is the
+/// one that a verdict names.
+pub fn nothing_given_changes_no_list()
+    ensures list { SameList }
+    ensures text { SameTextOfAll }
+    ensures first { FirstOfListIsFirst }
 {}

@@ -1,0 +1,9 @@
+use Rattle.given_spec.proofs.PlainLists.{same_list, same_text_of_all, first_of_list_is_first}
+use Rattle.given_spec.proofs.list_laws.nothing_given_changes_no_list.Goals as goal
+
+pub returns : goal.returns
+returns c = record {
+  list = same_list;
+  text = same_text_of_all;
+  first = first_of_list_is_first;
+}
