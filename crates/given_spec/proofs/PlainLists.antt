@@ -158,7 +158,7 @@ judging_plain roots s ps all = record {
       (pairs_of_map (λ f g. IsTrue (precedes (judging_key f) (judging_key g))) Known ps all.rising);
 }
 
-plain_judging : (roots : List ℕ) (s : System) (ps : List plain.Fault) → plain_all.AreAllOfJudging roots s ps → AreAllOfJudging nothing_given roots s (map Known ps)
+pub plain_judging : (roots : List ℕ) (s : System) (ps : List plain.Fault) → plain_all.AreAllOfJudging roots s ps → AreAllOfJudging nothing_given roots s (map Known ps)
 plain_judging roots s ps all = record {
   each = λ fault has.
       let made : IsMade Known ps fault = in_map_to Known ps fault has in
@@ -277,10 +277,10 @@ same_list_text : (ps : List plain.Fault) → list_text (map Known ps) ≡ plain_
 same_list_text [] = refl
 same_list_text (f ∷ ps) = same_lines (f ∷ ps)
 
-text_of_plain : (assumed : List AssumedRegister) (roots : List ℕ) (s : System) (why : Bool) (ps : List plain.Fault) (text : List ℕ)
+pub same_text_with : (assumed : List AssumedRegister) (roots : List ℕ) (s : System) (why : Bool) (ps : List plain.Fault) (text : List ℕ)
     → IsFaultsText assumed nothing_given roots s why (map Known ps) text ↔ plain_text.IsFaultsText assumed roots s why ps text
-text_of_plain assumed roots s true ps text = same_text assumed roots s ps text
-text_of_plain assumed roots s false ps text = (λ is. is ∙ same_list_text ps, λ is. is ∙ sym (same_list_text ps))
+same_text_with assumed roots s true ps text = same_text assumed roots s ps text
+same_text_with assumed roots s false ps text = (λ is. is ∙ same_list_text ps, λ is. is ∙ sym (same_list_text ps))
 
 pub same_text_of_all : SameTextOfAll
 same_text_of_all assumed roots dump probe why text is_dump is_probe = (
@@ -289,13 +289,13 @@ same_text_of_all assumed roots dump probe why text is_dump is_probe = (
       record {
         faults = list.plain_faults;
         all = list.all;
-        is = (text_of_plain assumed roots (system_of dump probe) why list.plain_faults text).0
+        is = (same_text_with assumed roots (system_of dump probe) why list.plain_faults text).0
             (subst (λ fs. IsFaultsText assumed nothing_given roots (system_of dump probe) why fs text) list.are h.is);
       },
   λ h. record {
     faults = map Known h.faults;
     all = given_of_plain roots dump probe is_dump is_probe h.faults h.all;
-    is = (text_of_plain assumed roots (system_of dump probe) why h.faults text).1 h.is;
+    is = (same_text_with assumed roots (system_of dump probe) why h.faults text).1 h.is;
   },
 )
 

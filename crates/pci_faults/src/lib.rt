@@ -1,4 +1,4 @@
-//! All faults of judging at once.
+//! All faults of judging of an outline at once.
 //!
 //! [`judging::all_of_judging`] lists of an outline each BAR or ROM that isn't home ([`unreached`]), each region that
 //! claims an address with one before it on its bus or on another root bus ([`clashes`]), in the order in which judging

@@ -18,13 +18,13 @@ use Rattle.pci_early.specs.Lists.{BeginsWith}
 use Rattle.pci_check.proofs.FirstOfAll.{none_early}
 use Rattle.pci_faults.proofs.EveryFault.{early_alone}
 use Rattle.given_spec.specs.Given.{Given}
-use Rattle.given_spec.specs.Fault as spec
 use Rattle.given_spec.specs.AllFaults.{AreAllOfJudging}
 use Rattle.given_spec.specs.FaultLines.{AreEarlier, AreJudged, AreSound}
 use Rattle.given_spec.proofs.Naming.{empty_where_none_fails}
 use Rattle.pci_given.specs.declared.any_fault.AnyFault.{AnyFault}
 use Rattle.pci_given.specs.declared.any_fault.AnyFault.TheVariants.{Known}
 use Rattle.pci_given.specs.AllLines.{judged_of, AreAllLines}
+use Rattle.pci_given.proofs.WithNothing.{known_values}
 
 -- what stands of a list of judging
 pub record IsEvery (given : Given) (roots : List ℕ) (dump probe : List Block) (list : List AnyFault) : Type 0 where
@@ -63,10 +63,6 @@ every_of_judging given a o list outline lines =
     }
 
 -- ---- of an earlier phase
-
-known_values : (list : List code.Fault) → map judged_of (map (λ f. Known f) list) ≡ map (λ f. spec.Known f) (map fault_of list)
-known_values [] = refl
-known_values (f ∷ rest) = ap (λ l. spec.Known (fault_of f) ∷ l) (known_values rest)
 
 none_known : (list : List code.Fault) → map (λ f. Known f) list ≡ [] → map fault_of list ≡ []
 none_known [] e = refl

@@ -15,4 +15,5 @@ pub mod UnreachedLining
 pub mod SplitNaming
 pub mod AllSplitting
 pub mod Joining
+pub mod WithNothing
 pub mod EveryGiven

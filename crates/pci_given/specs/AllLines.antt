@@ -1,5 +1,5 @@
 -- All faults of judging of a system, with what is given.
-use Rattle.std.specs.Prelude.{List, map}
+use Rattle.std.specs.Prelude.{◌==◌, Bool, not, ◌||◌, is_some, List, length, map}
 use Rattle.pci_spec.specs.System.{System}
 use Rattle.pci_function.specs.Fault.{fault_of}
 use Rattle.pci_tree.specs.Outline.{Tree}
@@ -7,6 +7,7 @@ use Rattle.pci_tree.specs.Trees.{HasTree}
 use Rattle.given_spec.specs.Given.{Given}
 use Rattle.given_spec.specs.Fault as spec
 use Rattle.given_spec.specs.AllFaults.{AreAllOfJudging}
+use Rattle.pci_claims.specs.declared.given.Given as claims
 use Rattle.pci_given.specs.declared.any_fault.AnyFault.{AnyFault}
 use Rattle.pci_given.specs.declared.any_fault.AnyFault.TheVariants.{OutsideHost, Known}
 use Rattle.pci_given.specs.OutsideLines.{outside_of}
@@ -20,3 +21,7 @@ judged_of (Known fault) = spec.Known (fault_of fault)
 abbrev pub AreAllLines : Given → Tree → List AnyFault → Type 0
 AreAllLines given t list =
     (s : System) → HasTree t s → AreAllOfJudging given t.roots s (map judged_of list)
+
+-- whether something is given: ranges of a space, or a bridge with legacy parts
+abbrev pub is_given : claims.Given → Bool
+is_given given = is_some given.io || is_some given.memory || not (length given.legacy.now == 0)
