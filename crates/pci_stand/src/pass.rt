@@ -24,26 +24,33 @@ use pci_settle::list::Lists;
 use pci_tree::admitted::Admitted;
 use std::alloc::Allocator;
 
+/// What tells whether parts stand: the functions of a system, and the ranges that are asked for.
+#[derive(Clone, Copy)]
+struct Board<'a, 'l> {
+    records: &'a [Record],
+    /// Which function leads to each bus.
+    over: &'a [Option<usize>; BUSES],
+    lists: Lists<'l>,
+}
+
 /// Notes a part that stands: it is where it can stand, and none of its addresses is taken by one before it.
 fn note_one<A: Allocator + Copy>(
-    records: &[Record],
-    over: &[Option<usize>; BUSES],
-    lists: &Lists,
+    board: &Board,
     regions: &[Region],
     index: usize,
     taken: &mut Taken<A>,
     table: &mut [Kept],
 ) -> Result<(), OutOfMemory>
-    requires over { IsBridgeToBus records.now over.now }
-    requires count { length table.old ≡ length records.now }
-    requires ready { All (IsReady (length records.now)) regions.now }
+    requires over { IsBridgeToBus board.now.records.now board.now.over.now }
+    requires count { length table.old ≡ length board.now.records.now }
+    requires ready { All (IsReady (length board.now.records.now)) regions.now }
     requires index { index < length regions.now }
     requires io { AreApartInOrder taken.old.io.items }
     requires mem { AreApartInOrder taken.old.mem.items }
     ensures io { AreApartInOrder taken.new.io.items }
     ensures mem { AreApartInOrder taken.new.mem.items }
     ensures passed { OnOk result ((q : Request) → (s : System)
-        → IsBoard q s records.now (lists_value lists.now) → AreOrdered q s regions.now
+        → IsBoard q s board.now.records.now (lists_value board.now.lists) → AreOrdered q s regions.now
         → IsPassed q s regions.now index
         (taken_with taken.old.level taken.old.io.items taken.old.mem.items) table.old
         → IsPassed q s regions.now (index + 1)
@@ -51,7 +58,10 @@ fn note_one<A: Allocator + Copy>(
 {
     let region = &regions[index];
     taken.go_to(region.level);
-    if is_in_place(records, over, lists, region, table) && taken.take(region.space, region.range)? {
+    let lists = &board.lists;
+    if is_in_place(board.records, board.over, lists, region, table)
+        && taken.take(region.space, region.range)?
+    {
         table[region.function].note(region.part);
     }
     Ok(())
@@ -59,27 +69,25 @@ fn note_one<A: Allocator + Copy>(
 
 /// Notes all parts that stand, in the order in which one tells of another.
 fn note_all<A: Allocator + Copy>(
-    records: &[Record],
-    over: &[Option<usize>; BUSES],
-    lists: &Lists,
+    board: &Board,
     regions: &[Region],
     taken: &mut Taken<A>,
     table: &mut [Kept],
 ) -> Result<(), OutOfMemory>
-    requires over { IsBridgeToBus records.now over.now }
-    requires count { length table.old ≡ length records.now }
-    requires ready { All (IsReady (length records.now)) regions.now }
+    requires over { IsBridgeToBus board.now.records.now board.now.over.now }
+    requires count { length table.old ≡ length board.now.records.now }
+    requires ready { All (IsReady (length board.now.records.now)) regions.now }
     requires io { AreApartInOrder taken.old.io.items }
     requires mem { AreApartInOrder taken.old.mem.items }
     ensures passed { OnOk result ((q : Request) → (s : System)
-        → IsBoard q s records.now (lists_value lists.now) → AreOrdered q s regions.now
+        → IsBoard q s board.now.records.now (lists_value board.now.lists) → AreOrdered q s regions.now
         → IsPassed q s regions.now 0
         (taken_with taken.old.level taken.old.io.items taken.old.mem.items) table.old
         → IsPassed q s regions.now (length regions.now)
         (taken_with taken.new.level taken.new.io.items taken.new.mem.items) table.new) }
 {
     for index in 0..regions.len() {
-        note_one(records, over, lists, regions, index, taken, table)?;
+        note_one(board, regions, index, taken, table)?;
     }
     Ok(())
 }
@@ -102,13 +110,11 @@ pub fn standing<A: Allocator + Copy, B: Allocator>(
     sort_regions(&mut regions)?;
     let mut table = nothing_kept(alloc, records.len())?;
     let mut taken = Taken::none(alloc);
-    note_all(
+    let board = Board {
         records,
-        &over,
-        lists,
-        regions.as_slice(),
-        &mut taken,
-        table.as_mut_slice(),
-    )?;
+        over: &over,
+        lists: *lists,
+    };
+    note_all(&board, regions.as_slice(), &mut taken, table.as_mut_slice())?;
     Ok(table)
 }

@@ -9,10 +9,10 @@ use Rattle.pci_stand.proofs.pass.note_all.Given as goal
 
 abbrev pub invariant-loop-index : goal.invariant-loop-index
 invariant-loop-index g l = record {
-  size : length l.table ≡ length l.records;
+  size : length l.table ≡ length l.board.records.now;
   io : AreApartInOrder l.taken.io.items;
   mem : AreApartInOrder l.taken.mem.items;
-  passed : (q : Request) (s : System) → IsBoard q s l.records (lists_value l.lists) → AreOrdered q s l.regions
+  passed : (q : Request) (s : System) → IsBoard q s l.board.records.now (lists_value l.board.lists) → AreOrdered q s l.regions
       → IsPassed q s l.regions 0 (taken_with l.fn.taken.level l.fn.taken.io.items l.fn.taken.mem.items) l.fn.table
       → IsPassed q s l.regions l.index (taken_with l.taken.level l.taken.io.items l.taken.mem.items) l.table;
 }
