@@ -14,3 +14,5 @@ pub mod Rooted
 pub mod BusClaiming
 pub mod RootClaims
 pub mod VgaBridges
+pub mod Founds
+pub mod Runs

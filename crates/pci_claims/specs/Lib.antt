@@ -10,3 +10,4 @@ pub mod Passed
 pub mod Reached
 pub mod Vga
 pub mod RootClaims
+pub mod Found

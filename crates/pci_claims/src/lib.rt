@@ -4,6 +4,7 @@
 
 pub mod bus_claims;
 pub mod claim;
+pub mod find;
 pub mod gather;
 pub mod given;
 pub mod legacy;

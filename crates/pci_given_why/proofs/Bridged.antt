@@ -26,12 +26,11 @@ use Rattle.pci_tree.proofs.Lifting.{Has}
 use Rattle.pci_tree.proofs.Regions.{on_same}
 use Rattle.pci_why.specs.RegionLines.{line_of}
 use Rattle.pci_why.specs.Missed.{IsOutside}
-use Rattle.pci_why.specs.Found.{IsFoundIn, NoneClaims}
-use Rattle.pci_why.specs.Bridges.{range_at}
+use Rattle.pci_claims.specs.Found.{IsFoundIn, NoneClaims, range_at, told}
 use Rattle.pci_why.specs.Evidence.{Appends}
-use Rattle.pci_why.specs.Fits.{told}
-use Rattle.pci_why.proofs.Evidences.{line_same, region_in, on_the_way, bridge_in}
-use Rattle.pci_why.proofs.Runs.{runs_of}
+use Rattle.pci_why.proofs.Evidences.{line_same, on_the_way, bridge_in}
+use Rattle.pci_claims.proofs.Founds.{region_in}
+use Rattle.pci_claims.proofs.Runs.{runs_of}
 use Rattle.pci_why.proofs.Texts.{three_appended}
 use Rattle.given_spec.specs.Given.{Given}
 use Rattle.given_spec.specs.Claims.{passes}

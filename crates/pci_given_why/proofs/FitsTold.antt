@@ -29,9 +29,9 @@ use Rattle.pci_tree.specs.Trees.{HasTree}
 use Rattle.given_spec.specs.Given.{Given}
 use Rattle.given_spec.specs.Why.{Own, Legacy, IsPlaceFor, IsLeastPlace, IsFit, IsFitBehind, is_said}
 use Rattle.pci_claims.proofs.RegionClaims.{not_legacy}
-use Rattle.pci_why.specs.Found.{NoneClaims, IsFoundIn}
+use Rattle.pci_claims.specs.Found.{NoneClaims, IsFoundIn, told}
 use Rattle.pci_why.specs.Evidence.{Appends}
-use Rattle.pci_why.specs.Fits.{told, IsWideIn}
+use Rattle.pci_why.specs.Fits.{IsWideIn}
 use Rattle.pci_why.proofs.WideBars.{wide_is, same_size, window_part, no_window_part, or_true}
 use Rattle.pci_given_why.specs.Fits.{IsFitFor, IsFitTold}
 

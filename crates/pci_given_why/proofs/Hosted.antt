@@ -17,10 +17,10 @@ use Rattle.pci_tree.specs.declared.region.Region.{Region}
 use Rattle.pci_tree.specs.Outline.{Tree, IsPathTo}
 use Rattle.pci_tree.specs.Trees.{HasTree}
 use Rattle.pci_why.specs.RegionLines.{line_of}
-use Rattle.pci_why.specs.Found.{IsFoundIn, NoneClaims}
+use Rattle.pci_claims.specs.Found.{IsFoundIn, NoneClaims, told}
 use Rattle.pci_why.specs.Evidence.{Appends}
-use Rattle.pci_why.specs.Fits.{told}
-use Rattle.pci_why.proofs.Evidences.{line_same, region_in}
+use Rattle.pci_why.proofs.Evidences.{line_same}
+use Rattle.pci_claims.proofs.Founds.{region_in}
 use Rattle.given_spec.specs.Given.{Given, HostRange, ranges_said, starts, starts_in}
 use Rattle.given_spec.specs.Fault.{IsOutside}
 use Rattle.given_spec.specs.Why.{ranges_for, ranges_words, host_line}

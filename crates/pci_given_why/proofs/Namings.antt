@@ -18,10 +18,10 @@ use Rattle.pci_tree.specs.Ranges.{Covers, IsCanonical}
 use Rattle.pci_tree.specs.Ways.{slots_of}
 use Rattle.pci_tree.specs.Outline.{RiseBySlot}
 use Rattle.pci_tree.proofs.Lifting.{Has, function_for, same_slot_of}
-use Rattle.pci_why.specs.Fits.{told}
-use Rattle.pci_why.specs.Found as found
-use Rattle.pci_why.specs.Found.{IsFoundIn}
-use Rattle.pci_why.proofs.Evidences.{line_same, region_in}
+use Rattle.pci_claims.specs.Found.{told, IsFoundIn}
+use Rattle.pci_claims.specs.Found as found
+use Rattle.pci_why.proofs.Evidences.{line_same}
+use Rattle.pci_claims.proofs.Founds.{region_in}
 use Rattle.given_spec.specs.Given.{Given, legacy_holds}
 use Rattle.given_spec.specs.Claims.{Own as OwnPart, Legacy as LegacyPart, LegacyClaims, ClaimsOnBus}
 use Rattle.given_spec.specs.Why.{Own, Legacy, is_narrow}

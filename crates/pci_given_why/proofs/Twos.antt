@@ -9,7 +9,7 @@ use Rattle.pci_base.specs.declared.range.Range.{Range}
 use Rattle.pci_base.specs.Ranges.{decoded_range_of}
 use Rattle.pci_tree.specs.Ranges.{Covers}
 use Rattle.pci_why.specs.Evidence.{Appends}
-use Rattle.pci_why.proofs.Runs.{runs_of}
+use Rattle.pci_claims.proofs.Runs.{runs_of}
 use Rattle.pci_why.proofs.Texts.{three_appended}
 use Rattle.given_spec.specs.Given.{Given}
 use Rattle.given_spec.specs.Claims.{ClaimsOnBus}

@@ -17,7 +17,7 @@ use Rattle.pci_tree.specs.declared.region.Region.{Region}
 use Rattle.pci_tree.specs.Outline.{Tree}
 use Rattle.pci_tree.specs.Trees.{HasTree}
 use Rattle.pci_why.specs.Missed.{IsOutside}
-use Rattle.pci_why.specs.Bridges.{range_at}
+use Rattle.pci_claims.specs.Found.{range_at}
 use Rattle.pci_why.specs.Evidence.{Appends}
 use Rattle.given_spec.specs.Given.{Given}
 use Rattle.given_spec.specs.Fault.{IsUnreached}

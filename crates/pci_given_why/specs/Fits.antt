@@ -16,7 +16,7 @@ use Rattle.pci_tree.specs.Regions.{IsRegionOf}
 use Rattle.pci_tree.specs.Outline.{Tree}
 use Rattle.pci_tree.specs.Trees.{HasTree}
 use Rattle.pci_why.specs.Evidence.{Appends}
-use Rattle.pci_why.specs.Fits.{told}
+use Rattle.pci_claims.specs.Found.{told}
 
 -- the least place for the region in each system with the tree that has it
 abbrev pub IsFitFor : Given → Tree → Space → outline.Region → Bool → Option Range → Type 0

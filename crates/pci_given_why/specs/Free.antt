@@ -17,7 +17,7 @@ use Rattle.pci_tree.specs.Regions.{IsRegionOf}
 use Rattle.pci_tree.specs.Outline.{Tree}
 use Rattle.pci_tree.specs.Trees.{HasTree}
 use Rattle.pci_claims.specs.Claim.{Claimed}
-use Rattle.pci_why.specs.Fits.{told}
+use Rattle.pci_claims.specs.Found.{told}
 
 -- ---- what others answer
 

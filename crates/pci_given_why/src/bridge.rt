@@ -21,7 +21,7 @@ use pci_tree::bus::record_at;
 use pci_tree::outline::Outline;
 use pci_tree::region::Region;
 use pci_why::bridge_line::{push_bridge, push_ranges};
-use pci_why::find::region_at;
+use pci_claims::find::region_at;
 use pci_why::missed::outside;
 use pci_why::region_line::push_region_line;
 use std::alloc::{AllocError, Allocator};

@@ -22,7 +22,7 @@ use pci_dump::mark::is_size_assumed;
 use pci_tree::bus::record_at;
 use pci_tree::outline::Outline;
 use pci_tree::region::{Part, Region};
-use pci_why::find::region_at;
+use pci_claims::find::region_at;
 use pci_why::fits::{end_of_places, is_wide, push_fit};
 use pci_why::place::least_from;
 use std::alloc::Allocator;

@@ -20,7 +20,7 @@ use pci_claims::sent::{is_for, ranges_said};
 use pci_listing::hex_text::end_line;
 use pci_listing::listing::span::Span;
 use pci_tree::outline::Outline;
-use pci_why::find::region_at;
+use pci_claims::find::region_at;
 use pci_why::region_line::push_region_line;
 use std::alloc::{AllocError, Allocator};
 use std::fmt::Write;

@@ -18,7 +18,7 @@ use pci_claims::given::Given;
 use pci_tree::bus::record_at;
 use pci_tree::outline::Outline;
 use pci_tree::region::Region;
-use pci_why::find::region_at;
+use pci_claims::find::region_at;
 use pci_why::region_line::push_region_line;
 use std::alloc::{AllocError, Allocator, Global};
 

@@ -1,3 +1,5 @@
+pub mod Amounts
+pub mod Texts
 pub mod Headers
 pub mod Messages
 pub mod Functions

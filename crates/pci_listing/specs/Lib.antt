@@ -1,3 +1,4 @@
+pub mod Amounts
 pub mod BridgeLines
 pub mod CapabilityLines
 pub mod FunctionLines

@@ -5,6 +5,7 @@
 //! ```
 #![tactic(auto)]
 
+pub mod amount;
 pub mod hex_text;
 pub mod listing;
 pub mod show;

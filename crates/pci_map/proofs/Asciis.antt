@@ -11,7 +11,7 @@ use Rattle.pci_spec.specs.Decoded.{Range}
 use Rattle.pci_spec.specs.Listing.{range_text}
 use Rattle.map_spec.specs.MapText.{indent, part_name}
 use Rattle.pci_listing.proofs.HexPushes.{digit_ascii}
-use Rattle.pci_why.specs.Amounts.{unit_text}
+use Rattle.pci_listing.specs.Amounts.{unit_text}
 
 left_true : (a b : Bool) → (a && b) ≡ true → a ≡ true
 left_true true b t = refl

@@ -17,7 +17,7 @@ use Rattle.pci_tree.specs.declared.region.Region as outline
 use Rattle.pci_tree.specs.Outline.{RiseBySlot}
 use Rattle.pci_tree.specs.Ways.{slots_of}
 use Rattle.pci_tree.proofs.Lifting.{Has}
-use Rattle.pci_why.specs.Found.{IsFoundIn, NoneClaims}
+use Rattle.pci_claims.specs.Found.{IsFoundIn, NoneClaims}
 use Rattle.pci_map.specs.Values.{value_of}
 use Rattle.pci_map.specs.Asides.{AreFoundBy, IsAside, HasNoAside, IsAt, IsAtRegister, IsBelow, IsOf, IsAmong, AsideTexts, AreAsides}
 use Rattle.pci_map.specs.Left.{IsLeftIf}

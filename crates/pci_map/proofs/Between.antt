@@ -3,7 +3,7 @@ use Rattle.std.proofs.Common.{◌≡◌, ℕ, ◌+◌, ◌<◌, ◌≤◌, List,
 use Rattle.std.proofs.lemmas.List.{append_assoc, drop_all}
 use Rattle.pci_base.specs.declared.range.Range.{Range}
 use Rattle.pci_tree.specs.declared.region.Region.{Region}
-use Rattle.pci_why.specs.Bridges.{range_at}
+use Rattle.pci_claims.specs.Found.{range_at}
 use Rattle.pci_map.specs.Gaps.{between, gaps}
 
 -- one more region

@@ -9,7 +9,7 @@ use Rattle.pci_base.specs.declared.range.Range.{Range}
 use Rattle.pci_tree.specs.declared.region.Region.{Region}
 use Rattle.pci_tree.specs.Ranges.{Covers}
 use Rattle.pci_tree.specs.Outline.{AreSortedRegionsOf}
-use Rattle.pci_why.specs.Bridges.{range_at}
+use Rattle.pci_claims.specs.Found.{range_at}
 use Rattle.pci_map.proofs.GapRanges.{covers_has, covers_from}
 
 module _ (s : System) (space : Space) (bus : ℕ) (qs : List Region) (sorted : AreSortedRegionsOf s bus space qs) where

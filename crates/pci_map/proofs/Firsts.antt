@@ -13,9 +13,8 @@ use Rattle.pci_spec.specs.Why.{IsRegionIn}
 use Rattle.pci_spec.proofs.Regions.{part_same}
 use Rattle.map_spec.specs.Lines.{is_first_window}
 use Rattle.pci_tree.specs.declared.region.Region.{Region}
-use Rattle.pci_why.specs.Fits.{told}
-use Rattle.pci_why.specs.Found.{IsFoundIn}
-use Rattle.pci_why.proofs.Evidences.{region_in}
+use Rattle.pci_claims.specs.Found.{told, IsFoundIn}
+use Rattle.pci_claims.proofs.Founds.{region_in}
 use Rattle.pci_map.specs.Values.{value_of}
 use Rattle.pci_map.specs.Inside.{is_in}
 use Rattle.pci_map.specs.Left.{NoneHas, IsFirst}

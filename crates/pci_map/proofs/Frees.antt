@@ -17,8 +17,8 @@ use Rattle.pci_tree.specs.declared.region.Region.{Region}
 use Rattle.pci_tree.specs.Outline.{AreSortedRegionsOf}
 use Rattle.pci_claims.specs.Gathered.{IsGathered, IsCommon}
 use Rattle.pci_claims.specs.Sent.{IsSentTo}
-use Rattle.pci_why.specs.Bridges.{range_at}
-use Rattle.pci_why.proofs.Runs.{runs_of}
+use Rattle.pci_claims.specs.Found.{range_at}
+use Rattle.pci_claims.proofs.Runs.{runs_of}
 use Rattle.pci_map.specs.Gaps.{piece, between, gaps}
 use Rattle.pci_map.proofs.Covering.{by_first, some_each, covered_claims, claimed_covers}
 use Rattle.pci_map.proofs.GapRanges.{gaps_to, gaps_from}

@@ -22,9 +22,8 @@ use Rattle.pci_tree.specs.declared.region.Part.TheVariants.{Window}
 use Rattle.pci_tree.specs.declared.region.Region.{Region}
 use Rattle.pci_tree.specs.Regions.{IsRegionOn}
 use Rattle.pci_tree.specs.Outline.{IsBefore, AreSortedRegionsOf}
-use Rattle.pci_why.specs.Bridges.{range_at}
-use Rattle.pci_why.specs.Found.{NoneClaims, IsFoundIn}
-use Rattle.pci_why.proofs.Runs.{runs_of}
+use Rattle.pci_claims.specs.Found.{range_at, NoneClaims, IsFoundIn}
+use Rattle.pci_claims.proofs.Runs.{runs_of}
 use Rattle.pci_map.specs.Values.{kind_at, part_at, part_of, value_of}
 use Rattle.pci_map.specs.Gaps.{gaps}
 use Rattle.pci_map.specs.Above.{AreInPlace}

@@ -2,7 +2,7 @@
 use Rattle.std.proofs.Common.{◌≡◌, ℕ, List, [], ◌∷◌, ◌++◌, ◌/◌, ◌%◌, ◌*◌, ◌∙◌, ap}
 use Rattle.std.proofs.lemmas.List.{append_assoc}
 use Rattle.map_spec.specs.MapText.{indent}
-use Rattle.pci_why.proofs.Texts.{three_words}
+use Rattle.pci_listing.proofs.Texts.{three_words}
 use Rattle.pci_map.proofs.Indents.{deep_pushed}
 
 -- a line that begins with the spaces of some steps, and goes on in the cells

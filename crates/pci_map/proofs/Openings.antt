@@ -18,8 +18,8 @@ use Rattle.pci_tree.specs.declared.region.Region.{Region}
 use Rattle.pci_tree.specs.Ways.{slots_of, secondary_in}
 use Rattle.pci_tree.specs.Outline.{RiseBySlot, AreSortedRegionsOf}
 use Rattle.pci_tree.proofs.Lifting.{Has, record_for, same_bridge, same_secondary, same_slot_of, one_by_number, one_function}
-use Rattle.pci_why.specs.Bridges.{range_at}
-use Rattle.pci_why.proofs.Founds.{none_without_record}
+use Rattle.pci_claims.specs.Found.{range_at}
+use Rattle.pci_claims.proofs.Founds.{none_without_record}
 use Rattle.pci_map.specs.Values.{part_of, value_of}
 use Rattle.pci_map.specs.Gaps.{gaps}
 use Rattle.pci_map.specs.Above.{AreInPlace}

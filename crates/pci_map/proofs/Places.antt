@@ -21,7 +21,7 @@ use Rattle.pci_tree.specs.Outline.{Tree, IsBefore}
 use Rattle.pci_tree.specs.Ranges.{Holds, Covers}
 use Rattle.pci_tree.specs.Regions.{IsRegionOn, name_of}
 use Rattle.pci_claims.specs.Sent.{IsSentTo}
-use Rattle.pci_why.specs.Bridges.{range_at}
+use Rattle.pci_claims.specs.Found.{range_at}
 use Rattle.pci_map.specs.Values.{value_of}
 use Rattle.pci_map.specs.Sent.{SentRanges, ranges_in, AreSent, HasUnsent}
 use Rattle.pci_map.specs.Above.{IsSentAbove, AreInPlace}

@@ -30,8 +30,8 @@ use Rattle.pci_tree.specs.Regions.{IsLawful, IsRegionOn, regions_of}
 use Rattle.pci_tree.proofs.Lifting.{Has, record_for, function_for, same_slot_of, one_function}
 use Rattle.pci_tree.proofs.RegionParts.{regions_are}
 use Rattle.pci_tree.specs.declared.region.Region as outline
-use Rattle.pci_why.specs.Found.{IsFoundIn, NoneClaims}
-use Rattle.pci_why.proofs.Founds.{found_in_record, none_in_record}
+use Rattle.pci_claims.specs.Found.{IsFoundIn, NoneClaims}
+use Rattle.pci_claims.proofs.Founds.{found_in_record, none_in_record}
 use Rattle.pci_map.specs.Values.{value_of}
 use Rattle.pci_map.specs.Off.{section}
 use Rattle.pci_map.specs.Left.{IsTreeOf}

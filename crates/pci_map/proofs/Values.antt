@@ -10,8 +10,8 @@ use Rattle.pci_spec.specs.Why as why
 use Rattle.pci_spec.specs.Why.{IsRegionIn}
 use Rattle.pci_tree.specs.declared.region.Region.{Region}
 use Rattle.pci_tree.specs.Regions.{IsRegionOf, IsRegionOn, HasEachRegion}
-use Rattle.pci_why.specs.Fits.{told}
-use Rattle.pci_why.proofs.Evidences.{region_in}
+use Rattle.pci_claims.specs.Found.{told}
+use Rattle.pci_claims.proofs.Founds.{region_in}
 use Rattle.pci_map.specs.Values.{kind_at, part_at, part_of, value_of}
 
 kind_is : (kind : WindowKind) → kind_at (window_register kind) ≡ kind

@@ -14,7 +14,7 @@ use Rattle.pci_function.specs.Values.{record_value}
 use Rattle.pci_tree.specs.declared.region.Region as outline
 use Rattle.pci_tree.specs.Regions.{IsLawful}
 use Rattle.pci_tree.specs.Outline.{RiseBySlot}
-use Rattle.pci_why.specs.Found.{IsFoundIn, NoneClaims}
+use Rattle.pci_claims.specs.Found.{IsFoundIn, NoneClaims}
 use Rattle.pci_map.specs.Values.{value_of}
 
 -- a region of a list at a register

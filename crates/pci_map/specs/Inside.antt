@@ -12,7 +12,7 @@ use Rattle.pci_tree.specs.Regions.{IsRegionOn}
 use Rattle.pci_tree.specs.Outline.{IsBefore}
 use Rattle.pci_map.specs.Values.{Mapped, value_of}
 use Rattle.pci_tree.specs.declared.region.Region.{Region}
-use Rattle.pci_why.specs.Found.{NoneClaims, IsFoundIn}
+use Rattle.pci_claims.specs.Found.{NoneClaims, IsFoundIn}
 
 abbrev pub is_in : Region → ℕ → Bool
 is_in q a = nat_le q.first a && nat_le a q.last

@@ -10,7 +10,7 @@ use Rattle.pci_tree.specs.declared.region.Part.{Part}
 use Rattle.pci_tree.specs.declared.region.Part.TheVariants.{Bar, Rom, Window}
 use Rattle.pci_tree.specs.declared.region.Region.{Region}
 use Rattle.pci_tree.specs.Outline.{Tree}
-use Rattle.pci_why.specs.Fits.{told}
+use Rattle.pci_claims.specs.Found.{told}
 
 -- what is mapped: a space of a system, with what is given
 pub record Mapped : Type 0 where

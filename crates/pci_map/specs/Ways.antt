@@ -6,7 +6,7 @@ use Rattle.pci_spec.specs.Slot.{Slot}
 use Rattle.pci_spec.specs.Window.{WindowKind}
 use Rattle.pci_spec.specs.System.{System, Function, Space, Io, Memory}
 use Rattle.map_spec.specs.Lines.{is_first_window}
-use Rattle.pci_why.specs.Found.{IsFoundIn, NoneClaims}
+use Rattle.pci_claims.specs.Found.{IsFoundIn, NoneClaims}
 use Rattle.pci_map.specs.Values.{value_of}
 use Rattle.pci_map.specs.Inside.{is_in}
 use Rattle.pci_map.specs.Left.{IsBridgeAbove, NoneHas, IsFirst, IsLeftIf}

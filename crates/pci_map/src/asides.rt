@@ -7,7 +7,7 @@ ghost use Rattle.given_spec.specs.Given.{Given as GivenValue};
 ghost use Rattle.pci_base.specs.Space.{space_of};
 ghost use Rattle.pci_tree.specs.Outline.{Tree};
 ghost use Rattle.pci_tree.specs.declared.region.Region.{Region as RegionValue};
-ghost use Rattle.pci_why.specs.Found.{IsFoundIn};
+ghost use Rattle.pci_claims.specs.Found.{IsFoundIn};
 ghost use Rattle.pci_map.specs.Values.{value_of};
 ghost use Rattle.pci_map.specs.Above.{AreSentAbove};
 ghost use Rattle.pci_map.specs.Ways.{AreWays};

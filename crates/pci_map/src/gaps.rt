@@ -10,7 +10,7 @@ ghost use Rattle.pci_base.specs.Space.{space_of};
 ghost use Rattle.pci_tree.specs.Outline.{AreSortedRegionsOf};
 ghost use Rattle.pci_claims.specs.Values.{given_value};
 ghost use Rattle.pci_map.specs.Gaps.{between, gaps};
-ghost use Rattle.pci_why.specs.Bridges.{range_at};
+ghost use Rattle.pci_claims.specs.Found.{range_at};
 
 use pci_base::memory::OutOfMemory;
 use pci_base::range::Range;

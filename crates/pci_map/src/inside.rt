@@ -18,10 +18,10 @@ use pci_base::memory::OutOfMemory;
 use pci_base::offset::{MEMORY_BASE, PREFETCHABLE_BASE};
 use pci_base::range::Range;
 use pci_base::space::Space;
+use pci_claims::find::region_at;
 use pci_tree::bus::record_at;
 use pci_tree::outline::Outline;
 use pci_tree::region::Region;
-use pci_why::find::region_at;
 use std::alloc::{Allocator, Global};
 
 /// What stands inside a window, or on a root bus.

@@ -14,9 +14,9 @@ ghost use Rattle.pci_map.specs.Values.{part_of, value_of};
 use super::cells::{CELLS_MAX, Cells, push_cells, put, put_byte, put_bytes, put_slot};
 use pci_base::range::Range;
 use pci_base::space::Space;
+use pci_listing::amount::{amount_of, unit_name};
 use pci_listing::hex_text::push_byte;
 use pci_tree::region::{Part, Region};
-use pci_why::amount::{amount_of, unit_name};
 use std::alloc::{AllocError, Allocator};
 
 /// How many steps of depth are appended at once.

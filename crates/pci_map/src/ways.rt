@@ -15,11 +15,11 @@ use pci_base::memory::OutOfMemory;
 use pci_base::offset::{IO_BASE, MEMORY_BASE, PREFETCHABLE_BASE};
 use pci_base::slot::{BUSES, Slot};
 use pci_base::space::Space;
+use pci_claims::find::region_at;
 use pci_function::record::Record;
 use pci_tree::outline::Outline;
 use pci_tree::path::bridge_to_bus;
 use pci_tree::roots::Roots;
-use pci_why::find::region_at;
 use std::alloc::Allocator;
 
 /// Where a bridge's window stands: its register, and the space of its addresses.

@@ -31,20 +31,15 @@ use Rattle.pci_tree.specs.Outline.{Tree, RiseBySlot}
 use Rattle.pci_tree.proofs.Lifting.{Has, record_for, function_for, same_slot_of, one_function}
 use Rattle.pci_tree.proofs.Recorded.{passes-record}
 use Rattle.pci_tree.proofs.Regions.{on_same}
-use Rattle.pci_why.specs.RegionLines.{words_of, window_at, range_of, line_of}
+use Rattle.pci_why.specs.RegionLines.{words_of, window_at, line_of}
+use Rattle.pci_claims.specs.Found.{range_of, IsFoundIn, range_at}
 use Rattle.pci_why.specs.Missed.{IsOutside}
-use Rattle.pci_why.specs.Found.{IsFoundIn}
-use Rattle.pci_why.specs.Bridges.{line_of_bridge, bridge_text, AreMissedTold, ArePassedBy, range_at}
+use Rattle.pci_why.specs.Bridges.{line_of_bridge, bridge_text, AreMissedTold, ArePassedBy}
 use Rattle.pci_why.specs.Evidence.{IsInBoth, Appends, IsBehindOne, AreBehindTwo, AreTwoTold, IsEvidenceTold}
-use Rattle.pci_why.proofs.Runs.{runs_of}
+use Rattle.pci_claims.proofs.Runs.{runs_of}
 use Rattle.pci_why.proofs.Texts.{three_appended}
 
 -- ---- a region
-
--- as the definitions have it
-abbrev told : Region → system.Part → Space → RegionValue
-told q part space =
-    record { slot = q.slot; register = q.reg; part = part; space = space; prefetchable = q.prefetch; range = range_of q }
 
 window_by_register : (kind : WindowKind) (n : ℕ) (space : Space) (prefetch : Bool) → n ≡ system.register_of (record { slot = record { bus = 0; device = 0; function = 0 }; image = []; probe = [] }) (system.Window kind)
     → window_at n ≡ part_text (system.Window kind) space prefetch
@@ -68,17 +63,6 @@ pub line_same : (word : List ℕ) (f : Function) (part : system.Part) (space : S
 line_same word f part space q is =
     ap (λ words. inner_line (word ∷ place_words q.slot q.reg words space (range_of q)))
     (named_words f part space q.part q.reg q.prefetch is.named is.register is.prefetch (maps_of f part space q is))
-
-pub region_in : (s : System) (f : Function) (part : system.Part) (space : Space) (q : Region) → Contains s f → IsRegionOf f part space q → IsRegionIn s (told q part space)
-region_in s f part space q listed is = record {
-  f = f;
-  listed = listed;
-  slot = sym is.slot;
-  register = sym is.register;
-  prefetchable = sym is.prefetch;
-  some = is.some;
-  claims = is.claims;
-}
 
 -- ---- a bridge
 

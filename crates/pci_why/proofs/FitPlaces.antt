@@ -10,9 +10,8 @@ use Rattle.pci_spec.specs.Why.{place_end, address_count, IsPlaceFor, IsLeastPlac
 use Rattle.pci_base.specs.declared.range.Range.{Range}
 use Rattle.pci_tree.specs.declared.region.Region.{Region}
 use Rattle.pci_tree.specs.Outline.{IsReachTo, AreSortedRegionsOf, IsBefore}
-use Rattle.pci_why.specs.RegionLines.{range_of}
+use Rattle.pci_claims.specs.Found.{range_of, told}
 use Rattle.pci_why.specs.Places.{IsSame, IsClear, IsFreeAt, IsLeastFree}
-use Rattle.pci_why.specs.Fits.{told}
 
 pub address_below_end : (space : Space) (wide : Bool) (a : ℕ) → a < place_end space wide → IsAddress space a
 address_below_end Io wide a low = omega (arith, low)

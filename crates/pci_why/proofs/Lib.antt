@@ -1,9 +1,6 @@
-pub mod Amounts
 pub mod Texts
 pub mod OffLines
 pub mod Gaps
-pub mod Founds
-pub mod Runs
 pub mod Evidences
 pub mod LeastPlaces
 pub mod FreePlaces

@@ -9,12 +9,7 @@ use Rattle.pci_spec.specs.Listing.{on_text}
 use Rattle.pci_spec.specs.Why.{windows_text}
 use Rattle.pci_why.specs.Bridges.{bridge_start}
 
--- three words and what follows, piece by piece
-pub three_words : (start a b c d e f last one two three rest : List ℕ) → a ≡ start ++ 32 ∷ [] → b ≡ a ++ one → c ≡ b ++ 32 ∷ [] → d ≡ c ++ two → e ≡ d ++ 32 ∷ [] → f ≡ e ++ three
-    → last ≡ f ++ rest → last ≡ start ++ ((32 ∷ one) ++ ((32 ∷ two) ++ ((32 ∷ three) ++ rest)))
-three_words start a b c d e f last one two three rest at bt ct dt et ft gt = gt ∙ rw (ft, et, dt, ct, bt, at) (simp append_assoc)
-
--- the same where nothing follows
+-- three words, piece by piece
 pub three_last : (start a b c d e last one two three : List ℕ) → a ≡ start ++ 32 ∷ [] → b ≡ a ++ one → c ≡ b ++ 32 ∷ [] → d ≡ c ++ two → e ≡ d ++ 32 ∷ [] → last ≡ e ++ three
     → last ≡ start ++ ((32 ∷ one) ++ ((32 ∷ two) ++ (32 ∷ three)))
 three_last start a b c d e last one two three at bt ct dt et gt = gt ∙ rw (et, dt, ct, bt, at) (simp append_assoc)

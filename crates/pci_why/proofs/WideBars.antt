@@ -31,10 +31,10 @@ use Rattle.pci_tree.specs.Regions.{IsRegionOf, name_of}
 use Rattle.pci_tree.specs.Outline.{Tree, RiseBySlot}
 use Rattle.pci_tree.proofs.Lifting.{Has, function_for, same_slot_of, one_function}
 use Rattle.pci_tree.proofs.Regions.{bar_at_register, bar_of_register}
-use Rattle.pci_why.specs.Found.{IsFoundIn}
+use Rattle.pci_claims.specs.Found.{IsFoundIn, told}
 use Rattle.pci_why.specs.Evidence.{Appends}
-use Rattle.pci_why.specs.Fits.{told, IsWideAt, IsWideIn, IsFitFor, IsAdviceFor}
-use Rattle.pci_why.proofs.Evidences.{region_in}
+use Rattle.pci_why.specs.Fits.{IsWideAt, IsWideIn, IsFitFor, IsAdviceFor}
+use Rattle.pci_claims.proofs.Founds.{region_in}
 
 -- one more BAR that isn't at the register, or has 32 bits
 pub bar_more : (bars : List Bar) (k reg : ℕ) (z : Bar) → k < length bars → All (λ b. IsWideAt reg b → ⊥) (take k bars) → ((get_or bars k z).reg ≡ reg → (get_or bars k z).kind ≡ Mem64 → ⊥)

@@ -16,6 +16,7 @@ use Rattle.pci_function.specs.Values.{record_value}
 use Rattle.pci_tree.specs.declared.region.Region.{Region}
 use Rattle.pci_tree.specs.Passes.{record_passes}
 use Rattle.pci_tree.specs.Ranges.{Covers}
+use Rattle.pci_claims.specs.Found.{range_at}
 use Rattle.pci_why.specs.Missed.{IsOutside}
 
 -- what the line of a bridge tells before its end
@@ -38,9 +39,6 @@ line_of_bridge r space prefetch = bridge_text r space prefetch r.bridge
 abbrev pub ArePassedBy : Record → Space → Bool → List Range → Type 0
 ArePassedBy r space prefetch passed =
     (a : ℕ) → Covers passed a ↔ IsTrue (record_passes (kind_in space prefetch) a (record_value r))
-
-abbrev pub range_at : Region → Range
-range_at q = record { first = q.first; last = q.last }
 
 -- a line was appended for each run of the region's addresses that the function doesn't pass
 pub record AreMissedTold (r : Record) (space : Space) (q : Region) (old new : List ℕ) : Type 0 where

@@ -18,19 +18,8 @@ use Rattle.pci_tree.specs.declared.region.Region.{Region}
 use Rattle.pci_tree.specs.declared.region.Part.TheVariants as parts
 use Rattle.pci_tree.specs.Regions.{IsRegionOf}
 use Rattle.pci_tree.specs.Outline.{Tree}
-use Rattle.pci_why.specs.RegionLines.{range_of}
+use Rattle.pci_claims.specs.Found.{told}
 use Rattle.pci_why.specs.Evidence.{Appends}
-
--- a region as the definitions have it
-abbrev pub told : Region → system.Part → Space → RegionValue
-told q part space = record {
-  slot = q.slot;
-  register = q.reg;
-  part = part;
-  space = space;
-  prefetchable = q.prefetch;
-  range = range_of q;
-}
 
 -- the BAR is that of a register, and has 64 bits
 abbrev pub IsWideAt : ℕ → Bar → Type 0

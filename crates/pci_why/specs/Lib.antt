@@ -1,8 +1,6 @@
-pub mod Amounts
 pub mod RegionLines
 pub mod Off
 pub mod Missed
-pub mod Found
 pub mod Bridges
 pub mod Evidence
 pub mod Places

@@ -4,12 +4,12 @@ use Rattle.pci_spec.specs.Registers.{IO_BASE, MEMORY_BASE}
 use Rattle.pci_spec.specs.System.{Space}
 use Rattle.pci_spec.specs.System as system
 use Rattle.pci_spec.specs.Window.{IoWindow, MemoryWindow, PrefetchWindow}
-use Rattle.pci_spec.specs.Decoded as decoded
 use Rattle.pci_spec.specs.Listing.{inner_line}
 use Rattle.pci_spec.specs.Why.{part_text, place_words}
 use Rattle.pci_tree.specs.declared.region.Part.{Part}
 use Rattle.pci_tree.specs.declared.region.Part.TheVariants.{Bar, Rom, Window}
 use Rattle.pci_tree.specs.declared.region.Region.{Region}
+use Rattle.pci_claims.specs.Found.{range_of}
 
 abbrev pub bar_words : Space → Bool → List ℕ
 bar_words space prefetch = part_text (system.Bar 0) space prefetch
@@ -29,9 +29,6 @@ words_of Window reg space prefetch = window_at reg
 -- what a region is
 abbrev pub part_words : Region → Space → List ℕ
 part_words q space = words_of q.part q.reg space q.prefetch
-
-abbrev pub range_of : Region → decoded.Range
-range_of q = record { first = q.first; last = q.last }
 
 abbrev pub line_of : List ℕ → Space → Region → List ℕ
 line_of word space q =

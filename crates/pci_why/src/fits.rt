@@ -10,7 +10,7 @@ ghost use Rattle.pci_spec.specs.Why.{place_end, fits_line};
 ghost use Rattle.pci_base.specs.Space.{space_of};
 ghost use Rattle.pci_why.specs.Fits.{IsWideAt, IsWideIn, IsFitFor, IsFitTold};
 
-use super::find::region_at;
+use pci_claims::find::region_at;
 use super::place::least_free;
 use super::region_line::push_range_line;
 use pci_base::memory::OutOfMemory;

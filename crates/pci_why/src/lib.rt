@@ -6,9 +6,7 @@
 //! ```
 #![tactic(auto)]
 
-pub mod amount;
 pub mod bridge_line;
-pub mod find;
 pub mod fits;
 pub mod list;
 pub mod missed;

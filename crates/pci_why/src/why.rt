@@ -10,7 +10,7 @@ ghost use Rattle.pci_why.specs.Fits.{IsAdviceTold, IsWhyTold};
 ghost use Rattle.pci_why.specs.Evidence.{IsInBoth, IsUnreachedTold, AreTwoTold, IsEvidenceTold};
 
 use super::bridge_line::{push_bridge_line, push_missed};
-use super::find::region_at;
+use pci_claims::find::region_at;
 use super::fits::push_fits;
 use super::region_line::{push_range_line, push_region_line};
 use pci_base::memory::OutOfMemory;

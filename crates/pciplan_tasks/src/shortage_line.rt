@@ -8,9 +8,9 @@ ghost use Rattle.pci_base.specs.WindowKinds.{kind_value};
 ghost use Rattle.pci_place.specs.Shortages.{shortage_value};
 
 use pci_base::window_kind::WindowKind;
+use pci_listing::amount::push_count;
 use pci_listing::hex_text::push_hex;
 use pci_place::room::Shortage;
-use pci_why::amount::push_count;
 use std::alloc::{AllocError, Allocator};
 use std::fmt::Write;
 

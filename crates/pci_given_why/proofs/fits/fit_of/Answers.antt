@@ -4,7 +4,7 @@ use Rattle.pci_base.specs.declared.range.Range.{Range}
 use Rattle.pci_base.specs.Space.{space_of}
 use Rattle.pci_tree.specs.Ranges.{Covers, IsCanonical}
 use Rattle.pci_claims.specs.Values.{given_value}
-use Rattle.pci_why.specs.Fits.{told}
+use Rattle.pci_claims.specs.Found.{told}
 use Rattle.pci_given_why.specs.Free.{IsFreeFor}
 use Rattle.pci_given_why.proofs.Placing.{to_reached, least_is}
 use Rattle.pci_given_why.proofs.fits.fit_of.Goals as goal

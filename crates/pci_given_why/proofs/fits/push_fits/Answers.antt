@@ -9,8 +9,8 @@ use Rattle.pci_base.specs.Space.{space_of}
 use Rattle.pci_tree.specs.declared.region.Region.{Region}
 use Rattle.pci_tree.specs.declared.region.Part.TheVariants.{Window}
 use Rattle.pci_claims.specs.Values.{given_value}
-use Rattle.pci_why.specs.Found.{NoneClaims, IsFoundIn}
-use Rattle.pci_why.proofs.Founds.{none_without_record}
+use Rattle.pci_claims.specs.Found.{NoneClaims, IsFoundIn}
+use Rattle.pci_claims.proofs.Founds.{none_without_record}
 use Rattle.pci_given_why.proofs.FitsTold.{told_none, told_window, told_on_root, told_unknown, told_fit}
 use Rattle.pci_given_why.proofs.fits.push_fits.Goals as goal
 

@@ -8,7 +8,7 @@ use Rattle.pci_claims.specs.Claim.{Claimed}
 use Rattle.pci_claims.specs.Gathered.{IsCommon}
 use Rattle.pci_claims.specs.Reached.{IsReachTo}
 use Rattle.pci_why.specs.Missed.{IsOutside}
-use Rattle.pci_why.specs.Fits.{told}
+use Rattle.pci_claims.specs.Found.{told}
 use Rattle.pci_given_why.specs.Free.{AreOfOthers, AreClaimsBeside}
 use Rattle.pci_given_why.proofs.Freed.{reach_of_kind, never_unlisted, free_exact}
 use Rattle.pci_given_why.proofs.free.free_for.Goals as goal

@@ -6,7 +6,7 @@ use Rattle.pci_base.specs.declared.range.Range.{Range}
 use Rattle.pci_base.specs.Ranges.{decoded_range_of}
 use Rattle.pci_base.specs.Space.{space_of}
 use Rattle.pci_tree.specs.declared.region.Region.{Region}
-use Rattle.pci_why.specs.Found.{NoneClaims, IsFoundIn}
+use Rattle.pci_claims.specs.Found.{NoneClaims, IsFoundIn}
 use Rattle.given_spec.specs.Why.{host_line}
 use Rattle.pci_claims.specs.Values.{host_value, given_value}
 use Rattle.pci_given_why.proofs.Hosted.{slot_there, no_list_missing, outside_told}

@@ -4,7 +4,7 @@ use Rattle.std.proofs.lemmas.Result.{IfOk-weaker}
 use Rattle.pci_base.specs.Space.{space_of}
 use Rattle.pci_base.specs.declared.range.Range.{Range}
 use Rattle.pci_tree.specs.declared.region.Region.{Region}
-use Rattle.pci_why.specs.Bridges.{range_at}
+use Rattle.pci_claims.specs.Found.{range_at}
 use Rattle.pci_claims.specs.Values.{given_value}
 use Rattle.pci_claims.specs.Gathered.{IsGathered, IsCommon}
 use Rattle.pci_map.proofs.Frees.{gaps_have, free_on}

@@ -1,7 +1,7 @@
 use Rattle.std.proofs.Common.{◌∷◌, ◌+◌, drop, map, sym, ap, ◌∙◌}
 use Rattle.std.proofs.lemmas.List.{drop_more}
 use Rattle.pci_map.specs.Gaps.{gaps}
-use Rattle.pci_why.specs.Bridges.{range_at}
+use Rattle.pci_claims.specs.Found.{range_at}
 use Rattle.pci_map.proofs.Between.{gap_more, gap_all}
 use Rattle.pci_map.proofs.gaps.free_runs.Goals as goal
 

@@ -1,6 +1,6 @@
 use Rattle.std.proofs.Common.{◌≡◌, ◌++◌, map, drop}
 use Rattle.pci_map.specs.Gaps.{gaps}
-use Rattle.pci_why.specs.Bridges.{range_at}
+use Rattle.pci_claims.specs.Found.{range_at}
 use Rattle.pci_map.proofs.gaps.free_runs.Given as goal
 
 abbrev pub invariant-loop-region : goal.invariant-loop-region

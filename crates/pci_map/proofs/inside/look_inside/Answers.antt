@@ -4,7 +4,7 @@ use Rattle.pci_spec.specs.Decoded.{HasRecords, Record}
 use Rattle.pci_base.specs.Space.{space_of}
 use Rattle.pci_base.specs.declared.range.Range.{Range}
 use Rattle.pci_tree.specs.declared.region.Region.{Region}
-use Rattle.pci_why.specs.Bridges.{range_at}
+use Rattle.pci_claims.specs.Found.{range_at}
 use Rattle.pci_map.specs.Above.{AreInPlace}
 use Rattle.pci_map.specs.Gaps.{gaps}
 use Rattle.pci_map.specs.Inside.{is_held, IsInside}

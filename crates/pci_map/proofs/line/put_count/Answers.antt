@@ -1,7 +1,7 @@
 use Rattle.std.proofs.Common.{subst, IsAscii}
 use Rattle.std.specs.Fmt.{decimal}
 use Rattle.std.proofs.lemmas.Str.{IsAscii-append}
-use Rattle.pci_why.specs.Amounts.{unit_text}
+use Rattle.pci_listing.specs.Amounts.{unit_text}
 use Rattle.pci_map.proofs.Asciis.{unit_ascii}
 use Rattle.pci_map.proofs.line.put_count.Goals as goal
 

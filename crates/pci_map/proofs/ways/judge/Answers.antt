@@ -3,7 +3,7 @@ use Rattle.std.specs.Prelude.{MatchOption}
 use Rattle.pci_spec.specs.Slot.{Slot}
 use Rattle.pci_base.specs.Space.{space_of}
 use Rattle.pci_tree.specs.declared.region.Region.{Region}
-use Rattle.pci_why.specs.Found.{NoneClaims, IsFoundIn}
+use Rattle.pci_claims.specs.Found.{NoneClaims, IsFoundIn}
 use Rattle.pci_map.proofs.Firsts.{found_region}
 use Rattle.pci_map.proofs.ways.judge.Goals as goal
 

@@ -8,8 +8,8 @@ use Rattle.pci_spec.specs.Mark.{all_named}
 use Rattle.pci_base.specs.Space.{space_of}
 use Rattle.pci_tree.specs.declared.region.Region.{Region}
 use Rattle.pci_tree.specs.declared.region.Part.TheVariants.{Window}
-use Rattle.pci_why.specs.Found.{NoneClaims, IsFoundIn}
-use Rattle.pci_why.proofs.Founds.{none_without_record}
+use Rattle.pci_claims.specs.Found.{NoneClaims, IsFoundIn}
+use Rattle.pci_claims.proofs.Founds.{none_without_record}
 use Rattle.pci_why.proofs.WideBars.{window_told, root_told, unknown_told, fit_told}
 use Rattle.pci_why.proofs.fits.push_fits.Goals as goal
 

@@ -5,7 +5,7 @@ use Rattle.pci_spec.specs.Listing.{words}
 use Rattle.pci_spec.specs.Why.{extent_words}
 use Rattle.pci_base.specs.Ranges.{decoded_range_of}
 use Rattle.pci_base.specs.Space.{space_of}
-use Rattle.pci_why.proofs.Texts.{three_words}
+use Rattle.pci_listing.proofs.Texts.{three_words}
 use Rattle.pci_why.proofs.region_line.push_place.Goals as goal
 
 pub returns : goal.returns

@@ -3,7 +3,7 @@ use Rattle.std.specs.Prelude.{MatchOption}
 use Rattle.std.specs.String.{string_bytes}
 use Rattle.pci_base.specs.Space.{space_of}
 use Rattle.pci_tree.specs.declared.region.Region.{Region}
-use Rattle.pci_why.specs.Found.{NoneClaims, IsFoundIn}
+use Rattle.pci_claims.specs.Found.{NoneClaims, IsFoundIn}
 use Rattle.pci_why.proofs.Evidences.{two_told, in_both}
 use Rattle.pci_why.proofs.why.push_two.Goals as goal
 

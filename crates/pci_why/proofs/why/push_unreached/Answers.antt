@@ -8,7 +8,7 @@ use Rattle.pci_base.specs.Space.{space_of}
 use Rattle.pci_tree.specs.declared.region.Region.{Region}
 use Rattle.pci_tree.specs.Reaches.{HasSpans}
 use Rattle.pci_tree.proofs.Outlines.{have_spans}
-use Rattle.pci_why.specs.Found.{NoneClaims, IsFoundIn}
+use Rattle.pci_claims.specs.Found.{NoneClaims, IsFoundIn}
 use Rattle.pci_why.proofs.Evidences.{unreached_told, no_bridge_missing}
 use Rattle.pci_why.proofs.why.push_unreached.Goals as goal
 

@@ -3,7 +3,7 @@ ghost use Rattle.std.specs.Prelude.{◌≡◌, ◌≤◌, IfOk, IfSome, MatchOpt
 ghost use Rattle.pci_spec.specs.System.{System};
 ghost use Rattle.pci_spec.specs.Decoded.{HasRecords};
 ghost use Rattle.pci_base.specs.Space.{space_of};
-ghost use Rattle.pci_why.specs.Found.{IsRegionAt, HasNoRegionAt, IsFoundIn, NoneClaims};
+ghost use Rattle.pci_claims.specs.Found.{IsRegionAt, HasNoRegionAt, IsFoundIn, NoneClaims};
 
 use pci_base::memory::OutOfMemory;
 use pci_base::slot::Slot;

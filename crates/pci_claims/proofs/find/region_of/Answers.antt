@@ -6,7 +6,7 @@ use Rattle.std.proofs.lemmas.Bool.{both_ways}
 use Rattle.pci_base.specs.Space.{space_of}
 use Rattle.pci_tree.specs.declared.region.Region.{Region}
 use Rattle.pci_tree.specs.Regions.{regions_of}
-use Rattle.pci_why.proofs.find.region_of.Goals as goal
+use Rattle.pci_claims.proofs.find.region_of.Goals as goal
 
 pub loop-region-preserved : goal.loop-region-preserved
 loop-region-preserved g c =

@@ -4,7 +4,7 @@ use Rattle.std.specs.Prelude.{◌≢◌, slice_index}
 use Rattle.std.specs.Fmt.{decimal}
 use Rattle.std.proofs.lemmas.Bool.{eq-eqb, ne_eqb}
 use Rattle.pci_spec.specs.Why.{scaled_text}
-use Rattle.pci_why.specs.Amounts.{unit_text}
+use Rattle.pci_listing.specs.Amounts.{unit_text}
 
 abbrev letters : List ℕ
 letters = codes "KMGTPE"

@@ -1,7 +1,7 @@
 use Rattle.std.proofs.Common.{◌++◌, ◌∙◌, ap}
 use Rattle.std.proofs.lemmas.Result.{on_ok_weaker}
 use Rattle.std.specs.String.{string_bytes}
-use Rattle.pci_why.proofs.amount.push_count.Goals as goal
+use Rattle.pci_listing.proofs.amount.push_count.Goals as goal
 
 pub returns : goal.returns
 returns g c =

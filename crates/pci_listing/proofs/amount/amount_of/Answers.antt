@@ -1,8 +1,8 @@
 use Rattle.std.proofs.Common.{◌≡◌, ◌∙◌, sym, ap, arith, codes, drop, refl}
 use Rattle.pci_spec.specs.Why.{scaled_text}
-use Rattle.pci_why.specs.Amounts.{unit_text}
-use Rattle.pci_why.proofs.Amounts.{next_unit, this_unit, last_unit}
-use Rattle.pci_why.proofs.amount.amount_of.Goals as goal
+use Rattle.pci_listing.specs.Amounts.{unit_text}
+use Rattle.pci_listing.proofs.Amounts.{next_unit, this_unit, last_unit}
+use Rattle.pci_listing.proofs.amount.amount_of.Goals as goal
 
 pub loop-unit-init : goal.loop-unit-init
 loop-unit-init c = refl

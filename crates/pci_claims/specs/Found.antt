@@ -3,6 +3,9 @@ use Rattle.std.specs.Prelude.{◌≡◌, ℕ, ◌≤◌}
 use Rattle.std.specs.List.{Contains}
 use Rattle.pci_spec.specs.Slot.{Slot}
 use Rattle.pci_spec.specs.System.{System, Function, Space, Part, Claims, register_of}
+use Rattle.pci_spec.specs.Decoded as decoded
+use Rattle.pci_spec.specs.Why.{Region as RegionValue}
+use Rattle.pci_base.specs.declared.range.Range.{Range}
 use Rattle.pci_function.specs.declared.record.Record.{Record}
 use Rattle.pci_tree.specs.declared.region.Region.{Region}
 use Rattle.pci_tree.specs.Regions.{regions_of, IsRegionOf}
@@ -34,3 +37,20 @@ abbrev pub NoneClaims : System → Slot → ℕ → Space → Type 0
 NoneClaims s slot reg space =
     (f : Function) (part : Part) (a : ℕ) → Contains s f → f.slot ≡ slot
     → register_of f part ≡ reg → Claims f part space a → ⊥
+
+abbrev pub range_at : Region → Range
+range_at q = record { first = q.first; last = q.last }
+
+abbrev pub range_of : Region → decoded.Range
+range_of q = record { first = q.first; last = q.last }
+
+-- a region as the definitions have it
+abbrev pub told : Region → Part → Space → RegionValue
+told q part space = record {
+  slot = q.slot;
+  register = q.reg;
+  part = part;
+  space = space;
+  prefetchable = q.prefetch;
+  range = range_of q;
+}

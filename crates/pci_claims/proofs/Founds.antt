@@ -6,6 +6,7 @@ use Rattle.std.proofs.lemmas.List.Elements.{All-contains}
 use Rattle.pci_spec.specs.Slot.{Slot, slot_number}
 use Rattle.pci_spec.specs.System.{System, Function, Space, Part, Claims, register_of}
 use Rattle.pci_spec.specs.Decoded.{IsDecodable, record_of}
+use Rattle.pci_spec.specs.Why.{IsRegionIn}
 use Rattle.pci_function.specs.declared.record.Record.{Record}
 use Rattle.pci_function.specs.Values.{record_value}
 use Rattle.pci_tree.specs.declared.region.Region.{Region}
@@ -16,7 +17,7 @@ use Rattle.pci_tree.proofs.SlotSearch.{in_slots}
 use Rattle.pci_tree.proofs.Lifting.{Has, record_for, function_for, same_slot_of, one_by_number}
 use Rattle.pci_tree.proofs.RegionParts.{regions_are, regions_are_all}
 use Rattle.pci_tree.proofs.RegionOrder.{regions_rise}
-use Rattle.pci_why.specs.Found.{IsRegionAt, HasNoRegionAt, IsFoundIn, NoneClaims}
+use Rattle.pci_claims.specs.Found.{IsRegionAt, HasNoRegionAt, IsFoundIn, NoneClaims, told}
 
 -- where no record has the slot, no function does
 pub none_without_record : (s : System) (rs : List Record) (slot : Slot) (reg : ℕ) (space : Space) → Has s rs → (Contains (slots_of rs) slot → ⊥) → NoneClaims s slot reg space
@@ -66,3 +67,15 @@ pub found_or_none : (s : System) (rs : List Record) (r : Record) (slot : Slot) (
     → IsLawful r → MatchOption o (HasNoRegionAt r space reg) (λ q. IsRegionAt r space reg q) → MatchOption o (NoneClaims s slot reg space) (λ q. IsFoundIn s slot reg space q)
 found_or_none s rs r slot reg space None is rise has at lawful none = none_in_record s rs r slot reg space is rise has at lawful none
 found_or_none s rs r slot reg space (Some q) is rise has at lawful here = found_in_record s rs r slot reg space q is rise has at lawful here
+
+-- such a region is one of the system
+pub region_in : (s : System) (f : Function) (part : Part) (space : Space) (q : Region) → Contains s f → IsRegionOf f part space q → IsRegionIn s (told q part space)
+region_in s f part space q listed is = record {
+  f = f;
+  listed = listed;
+  slot = sym is.slot;
+  register = sym is.register;
+  prefetchable = sym is.prefetch;
+  some = is.some;
+  claims = is.claims;
+}

@@ -4,8 +4,8 @@ use Rattle.std.proofs.lemmas.List.Elements.{All-contains}
 use Rattle.pci_spec.specs.Decoded.{HasRecords, Record}
 use Rattle.pci_base.specs.Space.{space_of}
 use Rattle.pci_tree.specs.Regions.{IsLawful}
-use Rattle.pci_why.proofs.Founds.{none_without_record, found_or_none}
-use Rattle.pci_why.proofs.find.region_at.Goals as goal
+use Rattle.pci_claims.proofs.Founds.{none_without_record, found_or_none}
+use Rattle.pci_claims.proofs.find.region_at.Goals as goal
 
 pub returns-in-None-clause-found : goal.returns-in-None-clause-found
 returns-in-None-clause-found g c = λ s has.

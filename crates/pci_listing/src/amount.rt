@@ -4,7 +4,7 @@ ghost use Rattle.std.specs.String.{string_bytes};
 ghost use Rattle.std.specs.Fmt.{decimal};
 ghost use Rattle.pci_spec.specs.Why.{amount_text, address_count};
 ghost use Rattle.pci_base.specs.Ranges.{decoded_range_of};
-ghost use Rattle.pci_why.specs.Amounts.{unit_text};
+ghost use Rattle.pci_listing.specs.Amounts.{unit_text};
 
 use pci_base::range::Range;
 use std::alloc::{AllocError, Allocator};
