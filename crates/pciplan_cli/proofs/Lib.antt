@@ -1,4 +1,3 @@
 mod RootWords
 mod ModelWords
 mod Invocations
-mod FaultsAsked

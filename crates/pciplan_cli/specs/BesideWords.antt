@@ -7,8 +7,8 @@ use Rattle.pci_base.specs.declared.space.Space.TheVariants.{Io, Mem}
 use Rattle.pci_model.specs.declared.words.Words.{Words}
 use Rattle.pci_tree.specs.Roots.{buses_of}
 use Rattle.pci_tree.specs.declared.roots.Roots.{Roots}
-use Rattle.pciplan_cli.specs.declared.beside.Beside.{Beside}
 use Rattle.pciplan_cli.specs.OptionWords.{AreRootsOf, AreWordsOf, AreRangesOf, HasNoRoots, HasNoWords, HasNoRanges, SpellsRanges}
+use Rattle.pciplan_tasks.specs.declared.task.Beside.{Beside}
 use Rattle.pciplan_tasks.specs.declared.failure.Failure.{Failure}
 use Rattle.pciplan_tasks.specs.declared.failure.Failure.TheVariants.{Root, Model, Host, Memory}
 

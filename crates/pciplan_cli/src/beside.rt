@@ -4,21 +4,9 @@ ghost use Rattle.pciplan_cli.specs.BesideWords.{beside_words, IsSaidBeside, IsRe
 
 use crate::option_words::{ranges_of, roots_of, words_of};
 use pci_base::space::Space;
-use pci_model::words::Words;
-use pci_tree::roots::Roots;
 use pciplan_tasks::failure::Failure;
-use pciplan_tasks::task::HostLists;
+use pciplan_tasks::task::{Beside, HostLists};
 use std::alloc::Global;
-
-/// What is said beside the two texts.
-#[derive(Drop)]
-pub struct Beside {
-    pub roots: Roots,
-    /// The words by which functions are taken, where there are any.
-    pub words: Option<Words>,
-    /// What the host sends to its root buses.
-    pub host: HostLists,
-}
 
 /// What the words of `--root`, `--model`, `--host-io` and `--host-mem` say.
 pub fn beside_of(

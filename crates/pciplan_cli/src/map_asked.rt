@@ -14,16 +14,12 @@ pub fn map_of(alloc: Global, asked: &MapWords<'_>) -> Result<Task, Failure>
     ensures { MatchResult result (IsTaskOf (Asked.Map asked.now))
         (IsRefusedFor (Asked.Map asked.now)) }
 {
-    let said = beside_of(
+    let beside = beside_of(
         alloc,
         asked.root,
         asked.model,
         asked.host_io,
         asked.host_mem,
     )?;
-    Ok(Task::Map {
-        roots: said.roots,
-        words: said.words,
-        host: said.host,
-    })
+    Ok(Task::Map { beside })
 }

@@ -84,7 +84,6 @@ fn unread(task: &Task) -> Failure
         Task::Show
         | Task::Check { .. }
         | Task::Faults { .. }
-        | Task::FaultsGiven { .. }
         | Task::Map { .. }
         | Task::Size
         | Task::Plan { .. }

@@ -2,5 +2,5 @@ mod Sizes
 mod PlainWrites
 mod Tasks
 pub mod Faults
-mod GivenFaults
+mod WithNothing
 mod SettlingWrites

@@ -29,9 +29,8 @@ pub pair_answered : (t : Task) → IsOfWholePair t → (dump_left second_left : 
     → IsAnswerTo IsDumpOf (IsPairAnswer t) dump_left second_left answer → IsAnswerOf t dump_left second_left answer
 pair_answered task.Show whole dump_left second_left answer is = is
 pair_answered (task.Check roots) whole dump_left second_left answer is = absurd whole
-pair_answered (task.Faults roots words why) whole dump_left second_left answer is = is
-pair_answered (task.FaultsGiven roots words host why) whole dump_left second_left answer is = is
-pair_answered (task.Map roots words host) whole dump_left second_left answer is = is
+pair_answered (task.Faults beside why) whole dump_left second_left answer is = is
+pair_answered (task.Map beside) whole dump_left second_left answer is = is
 pair_answered task.Size whole dump_left second_left answer is = is
 pair_answered (task.Plan pools writes why roots) whole dump_left second_left answer is = is
 pair_answered (task.Settle request writes) whole dump_left second_left answer is = is

@@ -1,38 +1,69 @@
--- What the program answers where all faults of two texts are to be listed.
-use Rattle.std.specs.Prelude.{◌≡◌, ◌↔◌, ℕ, Bool, true, List, [], ◌∷◌, ◌++◌, Option, Some}
-use Rattle.std.specs.List.{flat_map}
+-- What the program answers where all faults of two texts are to be listed, with what is given beside them.
+use Rattle.std.specs.Prelude.{◌≡◌, ◌↔◌, ℕ, Bool, true, List, [], ◌∷◌, Option, None, Some, option_map, map}
 use Rattle.pci_spec.specs.Text.{Block}
-use Rattle.pci_spec.specs.System.{system_of}
-use Rattle.pci_spec.specs.Fault.{Fault}
-use Rattle.pci_spec.specs.FaultLines.{AreAllFaults}
-use Rattle.pci_spec.specs.FaultsText.{fault_line, yes_line, IsFaultsText}
+use Rattle.pci_spec.specs.System.{System, system_of}
 use Rattle.pci_spec.specs.Mark.{AssumedRegister, all_named}
-use Rattle.pci_check.specs.Audits.{AreSound}
-use Rattle.pci_faults.specs.FirstLine.{IsFirstLine}
+use Rattle.given_spec.specs.Given.{Given, LegacyBridge}
+use Rattle.given_spec.specs.Fault.{Fault}
+use Rattle.given_spec.specs.FaultLines.{AreAllFaults, AreSound}
+use Rattle.given_spec.specs.FaultsText.{IsFaultsText}
+use Rattle.given_spec.specs.Line.{list_text}
+use Rattle.given_spec.specs.Words.{VgaWord, legacy_bridges}
+use Rattle.pci_claims.specs.Values.{host_value}
 use Rattle.pci_tree.specs.Outline.{Tree}
-use Rattle.pci_why.specs.Lists.{IsReasonedTextOf}
+use Rattle.pci_tree.specs.Roots.{buses_of}
+use Rattle.pci_given_why.specs.Lists.{IsReasonedTextOf}
+use Rattle.pci_model.specs.declared.words.Words.{Words}
+use Rattle.pci_model.specs.WordsValue.{words_value}
 use Rattle.pciplan_tasks.specs.Answers.{Answer, done, refused}
+use Rattle.pciplan_tasks.specs.TakenAnswers.{IsAnswerBy}
+use Rattle.pciplan_tasks.specs.declared.task.Beside.{Beside}
+use Rattle.pciplan_tasks.specs.declared.task.HostLists.{HostLists}
+
+-- the bridges with legacy parts by a word: those of which the dump shows VGA Enable, where there is one
+abbrev pub legacy_by : Option VgaWord → System → List LegacyBridge
+legacy_by None s = []
+legacy_by (Some word) s = legacy_bridges word s
+
+abbrev pub vga_of : Option Words → Option VgaWord
+vga_of None = None
+vga_of (Some words) = (words_value words).vga
+
+-- What is given beside a dump: what the host sends, and its bridges with legacy parts. What reads back tells nothing of
+-- these, so the dump stands for the probe too.
+abbrev pub given_of : HostLists → Option Words → List Block → Given
+given_of host words dump = record {
+  io = option_map (λ list. map host_value list.items) host.io;
+  memory = option_map (λ list. map host_value list.items) host.mem;
+  legacy = legacy_by (vga_of words) (system_of dump dump);
+}
 
 -- the text of a list, where it is of what was judged with reasons
 abbrev pub IsListText :
-    List AssumedRegister → Option Tree → Bool → List Fault → List ℕ → Type 0
-IsListText assumed (Some judged) true faults text =
-    IsReasonedTextOf assumed judged faults text
-IsListText assumed _ _ faults text = text ≡ yes_line faults ++ flat_map fault_line faults
+    List AssumedRegister → Given → Option Tree → Bool → List Fault → List ℕ → Type 0
+IsListText assumed given (Some judged) true faults text =
+    IsReasonedTextOf assumed given judged faults text
+IsListText assumed given _ _ faults text = text ≡ list_text faults
 
 -- a list of no fault is a yes
 abbrev pub list_answer : {X : Type 0} → List X → List ℕ → Answer
 list_answer [] text = done text
 list_answer (fault ∷ rest) text = refused text
 
--- `faults`: all of them, of which the first is the one that `check` names; none exactly where it says yes. The titles of
--- the probe tell of which regions no place is known.
-pub record AreTold (roots : List ℕ) (why : Bool) (dump probe : List Block)
+-- `faults`: all of them, with reasons or without; none exactly where the two are sound. The titles of the probe tell of
+-- which regions no place is known.
+pub record AreTold (given : Given) (roots : List ℕ) (why : Bool) (dump probe : List Block)
     (answer : Answer) : Type 0 where
   pub faults : List Fault
-  pub all : AreAllFaults roots dump probe faults
-  pub first : IsFirstLine roots dump probe faults
-  pub none : (faults ≡ []) ↔ AreSound roots dump probe
+  pub all : AreAllFaults given roots dump probe faults
+  pub none : (faults ≡ []) ↔ AreSound given roots dump probe
   pub text : List ℕ
-  pub is : IsFaultsText (all_named probe) roots (system_of dump probe) why faults text
+  pub is : IsFaultsText (all_named probe) given roots (system_of dump probe) why faults text
   pub line : answer ≡ list_answer faults text
+
+-- of the two as words take them, beside what the dump as it is gives
+abbrev pub IsFaultsAnswer : Beside → Bool → List Block → List Block → Answer → Type 0
+IsFaultsAnswer beside why dump probe answer =
+    IsAnswerBy beside.words
+    (AreTold (given_of beside.host beside.words dump) (buses_of beside.roots) why)
+    dump probe answer

@@ -3,8 +3,8 @@ pub mod Answers
 pub mod ProbeAnswers
 pub mod PlanAnswers
 pub mod SettleAnswers
-pub mod FaultsAnswers
 pub mod MapAnswers
 pub mod TakenAnswers
-pub mod GivenAnswers
+pub mod FaultsAnswers
+pub mod FaultsLaws
 pub mod Tasks

@@ -12,8 +12,7 @@ use Rattle.pci_tree.specs.Roots.{buses_of}
 use Rattle.pci_place.specs.Pools.{pools_value}
 use Rattle.pci_check.specs.Audits.{IsDumpOf}
 use Rattle.pciplan_tasks.specs.Answers.{Answer, IsShown, IsChecked, IsSized}
-use Rattle.pciplan_tasks.specs.FaultsAnswers.{AreTold}
-use Rattle.pciplan_tasks.specs.GivenAnswers.{IsAnswerGiven}
+use Rattle.pciplan_tasks.specs.FaultsAnswers.{IsFaultsAnswer}
 use Rattle.pciplan_tasks.specs.MapAnswers.{IsMapped, sent_by}
 use Rattle.pciplan_tasks.specs.PlanAnswers.{IsPlanned}
 use Rattle.pciplan_tasks.specs.SettleAnswers.{IsSettlingTold, request_said}
@@ -43,11 +42,9 @@ pub record IsAnswerTo {B : Type 0} (IsSecond : Option (List ℕ) → List B → 
 abbrev pub IsPairAnswer : Task → List Block → List Block → Answer → Type 0
 IsPairAnswer task.Show = IsShown
 IsPairAnswer (task.Check roots) = IsChecked (buses_of roots)
-IsPairAnswer (task.Faults roots words why) = IsAnswerBy words (AreTold (buses_of roots) why)
-IsPairAnswer (task.FaultsGiven roots words host why) =
-    IsAnswerGiven record { words = words; host = host; roots = buses_of roots; why = why }
-IsPairAnswer (task.Map roots words host) =
-    IsAnswerBy words (IsMapped (sent_by host) (buses_of roots))
+IsPairAnswer (task.Faults beside why) = IsFaultsAnswer beside why
+IsPairAnswer (task.Map beside) =
+    IsAnswerBy beside.words (IsMapped (sent_by beside.host) (buses_of beside.roots))
 IsPairAnswer task.Size = IsSized
 IsPairAnswer (task.Plan pools writes why roots) =
     IsPlanned record {

@@ -10,7 +10,7 @@
 
 pub mod failure;
 pub mod faulting;
-pub mod faulting_given;
+pub mod faults_laws;
 pub mod mapping;
 pub mod planning;
 pub mod probing;

@@ -6,15 +6,14 @@ ghost use Rattle.pciplan_tasks.specs.Answers.{answer_of};
 ghost use Rattle.pciplan_tasks.specs.MapAnswers.{IsMapped, sent_by};
 ghost use Rattle.pciplan_tasks.specs.TakenAnswers.{IsAnswerBy};
 
-use crate::faulting_given::ranges_of;
+use crate::faulting::ranges_of;
 use crate::reply::{Reply, Text, done, refused};
 use crate::taking::taken;
-use crate::task::HostLists;
+use crate::task::Beside;
 use pci_base::memory::{OutOfMemory, Refused};
 use pci_claims::given::Given;
 use pci_dump::dump::Dump;
 use pci_map::text::map_text;
-use pci_model::words::Words;
 use pci_tree::admit::outline_of;
 use pci_tree::roots::Roots;
 use std::alloc::Allocator;
@@ -38,26 +37,25 @@ fn map_pair<A: Allocator + Copy>(
     }
 }
 
-/// The map of a dump and its probe with these root buses, with what the host sends to these: as words take them, where there
-/// are words.
+/// The map of a dump and its probe with what is said beside them: as words take them, where there are words, with what the
+/// host sends to the root buses.
 pub fn map_by<A: Allocator + Copy>(
     alloc: A,
     dump: &Dump<A>,
     probe: &Dump<A>,
-    roots: Roots,
-    words: Option<Words>,
-    host: &HostLists,
+    beside: &Beside,
 ) -> Result<Reply<A>, OutOfMemory>
-    ensures { IfOk result (λ reply. IsAnswerBy words (IsMapped (sent_by host.now) (buses_of roots))
-        dump.now probe.now (answer_of reply)) }
+    ensures { IfOk result (λ reply. IsAnswerBy beside.now.words
+        (IsMapped (sent_by beside.now.host) (buses_of beside.now.roots)) dump.now probe.now
+        (answer_of reply)) }
 {
     let given = Given {
-        io: ranges_of(&host.io),
-        memory: ranges_of(&host.mem),
+        io: ranges_of(&beside.host.io),
+        memory: ranges_of(&beside.host.mem),
         legacy: &[],
     };
-    match taken(alloc, dump, probe, words)? {
-        None => map_pair(alloc, dump, probe, roots, &given),
-        Some(taken) => map_pair(alloc, &taken.dump, &taken.probe, roots, &given),
+    match taken(alloc, dump, probe, beside.words)? {
+        None => map_pair(alloc, dump, probe, beside.roots, &given),
+        Some(taken) => map_pair(alloc, &taken.dump, &taken.probe, beside.roots, &given),
     }
 }

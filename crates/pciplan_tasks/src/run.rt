@@ -7,7 +7,6 @@ ghost use Rattle.pciplan_tasks.specs.Tasks.{HasFailed, IsAnswerOf, IsAnswered, I
 
 use crate::failure::{Failure, report};
 use crate::faulting::faults_by;
-use crate::faulting_given::faults_given;
 use crate::mapping::map_by;
 use crate::planning::plan_pair;
 use crate::probing::derive;
@@ -124,16 +123,8 @@ fn pair_reply<A: Allocator + Copy>(
 {
     match task {
         Task::Show => show_pair(alloc, &dump, &probe),
-        Task::Faults { roots, words, why } => {
-            faults_by(alloc, &dump, &probe, *roots, *words, *why)
-        }
-        Task::FaultsGiven {
-            roots,
-            words,
-            host,
-            why,
-        } => faults_given(alloc, &dump, &probe, *roots, *words, host, *why),
-        Task::Map { roots, words, host } => map_by(alloc, &dump, &probe, *roots, *words, host),
+        Task::Faults { beside, why } => faults_by(alloc, &dump, &probe, beside, *why),
+        Task::Map { beside } => map_by(alloc, &dump, &probe, beside),
         Task::Size => size_pair(alloc, &dump, &probe),
         Task::Plan {
             pools,

@@ -15,6 +15,16 @@ pub struct HostLists {
     pub mem: Option<Vec<RootRange>>,
 }
 
+/// What is said beside the two texts.
+#[derive(Drop)]
+pub struct Beside {
+    pub roots: Roots,
+    /// The words by which functions are taken, where there are any.
+    pub words: Option<Words>,
+    /// What the host sends to its root buses.
+    pub host: HostLists,
+}
+
 /// The ranges that may be settled in, of I/O, of memory and of prefetchable memory.
 #[derive(Drop)]
 pub struct SettleLists {
@@ -43,26 +53,16 @@ pub enum Task {
     Check {
         roots: Roots,
     },
-    /// Lists all faults of the same system, its functions taken by these words where there are any, with what stands behind
-    /// each where that is asked for.
+    /// Lists all faults of a system with what is said beside it: its functions are taken by the words, bridges have legacy
+    /// parts where these take VGA Enable, and the host sends what it is said to send. What stands behind each fault is told
+    /// where that is asked for.
     Faults {
-        roots: Roots,
-        words: Option<Words>,
+        beside: Beside,
         why: bool,
     },
-    /// Lists all faults of the same system, with what is given beside it: the bridges with legacy parts, where the words
-    /// take VGA Enable, and what the host sends to its root buses; with what stands behind each where that is asked for.
-    FaultsGiven {
-        roots: Roots,
-        words: Option<Words>,
-        host: HostLists,
-        why: bool,
-    },
-    /// Prints the map of the same system, with what the host sends to its root buses.
+    /// Prints the map of the same system.
     Map {
-        roots: Roots,
-        words: Option<Words>,
-        host: HostLists,
+        beside: Beside,
     },
     /// Sizes every function of a machine of the two texts.
     Size,

@@ -3,7 +3,7 @@ use crate::on_boards::{Made, is_cut_off, is_refused, is_unread};
 use pci_base::range::{Range, RootRange};
 use pci_model::words::{VgaWord, Words};
 use pci_tree::roots::Roots;
-use pciplan_tasks::task::{HostLists, Task};
+use pciplan_tasks::task::{Beside, HostLists, Task};
 use std::alloc::Global;
 use std::test::Fail;
 use test_support::board::Register;
@@ -18,8 +18,14 @@ fn task() -> Made {
 /// The same of functions that are taken by words.
 fn task_by(words: Option<Words>) -> Made {
     Ok(Task::Faults {
-        roots: Roots::host(),
-        words,
+        beside: Beside {
+            roots: Roots::host(),
+            words,
+            host: HostLists {
+                io: None,
+                mem: None,
+            },
+        },
         why: true,
     })
 }
@@ -34,15 +40,17 @@ fn task_given(alloc: Global, why: bool) -> Made {
             last: 0xe0ff_ffff,
         },
     })?;
-    Ok(Task::FaultsGiven {
-        roots: Roots::host(),
-        words: Some(Words {
-            vga: Some(VgaWord::Vga),
-            ..ALL_WORDS
-        }),
-        host: HostLists {
-            io: None,
-            mem: Some(sent),
+    Ok(Task::Faults {
+        beside: Beside {
+            roots: Roots::host(),
+            words: Some(Words {
+                vga: Some(VgaWord::Vga),
+                ..ALL_WORDS
+            }),
+            host: HostLists {
+                io: None,
+                mem: Some(sent),
+            },
         },
         why,
     })

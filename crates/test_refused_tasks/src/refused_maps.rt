@@ -3,7 +3,7 @@ use crate::on_boards::{Made, is_cut_off, is_printed, is_refused, is_unread};
 use pci_base::range::{Range, RootRange};
 use pci_model::words::{VgaWord, Words};
 use pci_tree::roots::Roots;
-use pciplan_tasks::task::{HostLists, Task};
+use pciplan_tasks::task::{Beside, HostLists, Task};
 use std::alloc::Global;
 use std::test::Fail;
 use test_support::row::Row;
@@ -12,11 +12,13 @@ use test_support::row::Row::{Bridge, Device};
 /// A map of functions that are taken as they are, or by words.
 fn task_by(words: Option<Words>) -> Made {
     Ok(Task::Map {
-        roots: Roots::host(),
-        words,
-        host: HostLists {
-            io: None,
-            mem: None,
+        beside: Beside {
+            roots: Roots::host(),
+            words,
+            host: HostLists {
+                io: None,
+                mem: None,
+            },
         },
     })
 }
@@ -37,11 +39,13 @@ fn task_sent(alloc: Global) -> Made {
         },
     })?;
     Ok(Task::Map {
-        roots: Roots::host(),
-        words: None,
-        host: HostLists {
-            io: None,
-            mem: Some(sent),
+        beside: Beside {
+            roots: Roots::host(),
+            words: None,
+            host: HostLists {
+                io: None,
+                mem: Some(sent),
+            },
         },
     })
 }

@@ -1,0 +1,5 @@
+use Rattle.pciplan_tasks.proofs.WithNothing.{plain_with_nothing_given, nothing_said_gives_nothing}
+use Rattle.pciplan_tasks.proofs.faults_laws.nothing_given_tells_the_plain_list.Goals as goal
+
+pub returns : goal.returns
+returns c = record { plain = plain_with_nothing_given; nothing = nothing_said_gives_nothing }

@@ -1,0 +1,43 @@
+-- Laws of `faults` where nothing is given beside the two texts.
+use Rattle.std.specs.Prelude.{◌≡◌, ◌↔◌, ℕ, Bool, List, [], ◌∷◌, None}
+use Rattle.pci_spec.specs.Text.{Block, IsDump}
+use Rattle.pci_spec.specs.System.{system_of}
+use Rattle.pci_spec.specs.Fault.{Fault}
+use Rattle.pci_spec.specs.FaultLines.{AreAllFaults}
+use Rattle.pci_spec.specs.FaultsText.{IsFaultsText}
+use Rattle.pci_spec.specs.Order.{IsFirstThere}
+use Rattle.pci_spec.specs.Mark.{all_named}
+use Rattle.pci_check.specs.Audits.{AreSound}
+use Rattle.given_spec.specs.Given.{nothing_given}
+use Rattle.pciplan_tasks.specs.Answers.{Answer}
+use Rattle.pciplan_tasks.specs.FaultsAnswers.{AreTold, given_of, list_answer, vga_of}
+use Rattle.pciplan_tasks.specs.declared.task.Beside.{Beside}
+
+-- where there is a line, the first one is of the fault that is looked for first of those that are there
+abbrev pub IsFirstLine : List ℕ → List Block → List Block → List Fault → Type 0
+IsFirstLine roots dump probe [] = Unit {0}
+IsFirstLine roots dump probe (fault ∷ rest) = IsFirstThere roots dump probe fault
+
+-- All faults without what is given, of which the first is the one that `check` names; none exactly where it says yes.
+pub record ArePlainTold (roots : List ℕ) (why : Bool) (dump probe : List Block)
+    (answer : Answer) : Type 0 where
+  pub faults : List Fault
+  pub all : AreAllFaults roots dump probe faults
+  pub first : IsFirstLine roots dump probe faults
+  pub none : (faults ≡ []) ↔ AreSound roots dump probe
+  pub text : List ℕ
+  pub is : IsFaultsText (all_named probe) roots (system_of dump probe) why faults text
+  pub line : answer ≡ list_answer faults text
+
+-- With nothing given that is what `faults` tells.
+abbrev pub PlainWithNothingGiven : Type 0
+PlainWithNothingGiven =
+    (roots : List ℕ) (why : Bool) (dump probe : List Block) (answer : Answer) → IsDump dump
+    → IsDump probe → AreTold nothing_given roots why dump probe answer
+    → ArePlainTold roots why dump probe answer
+
+-- Nothing is given where no list is said of what the host sends, and no word takes VGA Enable.
+abbrev pub NothingSaidGivesNothing : Type 0
+NothingSaidGivesNothing =
+    (beside : Beside) (dump : List Block) → beside.host.io ≡ None → beside.host.mem ≡ None
+    → vga_of beside.words ≡ None → given_of beside.host beside.words dump ≡ nothing_given
