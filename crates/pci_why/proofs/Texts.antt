@@ -1,13 +1,6 @@
 -- Texts that grow at their end.
-use Rattle.std.proofs.Common.{◌≡◌, ℕ, List, [], ◌∷◌, ◌++◌, ap, ◌∙◌, Bool, codes}
+use Rattle.std.proofs.Common.{◌≡◌, ℕ, List, [], ◌∷◌, ◌++◌, ap, ◌∙◌}
 use Rattle.std.proofs.lemmas.List.{append_assoc}
-use Rattle.pci_spec.specs.Slot.{Slot}
-use Rattle.pci_spec.specs.Text.{slot_text}
-use Rattle.pci_spec.specs.System.{Space}
-use Rattle.pci_spec.specs.Decoded.{DecodedWindows}
-use Rattle.pci_spec.specs.Listing.{on_text}
-use Rattle.pci_spec.specs.Why.{windows_text}
-use Rattle.pci_why.specs.Bridges.{bridge_start}
 
 -- three words, piece by piece
 pub three_last : (start a b c d e last one two three : List ℕ) → a ≡ start ++ 32 ∷ [] → b ≡ a ++ one → c ≡ b ++ 32 ∷ [] → d ≡ c ++ two → e ≡ d ++ 32 ∷ [] → last ≡ e ++ three
@@ -16,12 +9,6 @@ three_last start a b c d e last one two three at bt ct dt et gt = gt ∙ rw (et,
 
 pub behind_word : (start first last word rest : List ℕ) → first ≡ start ++ word → last ≡ first ++ rest → last ≡ start ++ (word ++ rest)
 behind_word start first last word rest at more = more ∙ ap (λ t. t ++ rest) at ∙ append_assoc start word rest
-
--- the line of a bridge, by what stands behind it
-pub line_ended : (start told last : List ℕ) (slot : Slot) (on : Bool) (space : Space) (prefetch : Bool) (windows : DecodedWindows) (rest : List ℕ)
-    → told ≡ start ++ bridge_start slot on space prefetch windows → last ≡ told ++ rest
-    → last ≡ start ++ (codes "  bridge" ++ ((32 ∷ slot_text slot) ++ ((32 ∷ on_text on) ++ ((32 ∷ windows_text space prefetch windows) ++ rest))))
-line_ended start told last slot on space prefetch windows rest begun more = more ∙ rw begun (simp append_assoc)
 
 -- three pieces that are appended one after the other
 pub three_appended : (old one two new a b c : List ℕ) → one ≡ old ++ a → two ≡ one ++ b → new ≡ two ++ c → new ≡ old ++ (a ++ (b ++ c))

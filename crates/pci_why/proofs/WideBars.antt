@@ -1,8 +1,7 @@
 -- BARs of 64 bits, and what is told of where a region would fit.
-use Rattle.std.proofs.Common.{◌≡◌, ℕ, ◌+◌, ◌<◌, List, [], ◌++◌, length, get_or, take, map, sym, ap, subst, inl, inr, arith, ◌∙◌, Bool, true, false, ◌||◌, refl, Option, append-nil}
-use Rattle.std.specs.Prelude.{◌↔◌, ◌==◌, IsTrue, MatchOption, MatchBool}
-use Rattle.std.specs.Option.{option_map}
-use Rattle.std.specs.List.{Contains, All}
+use Rattle.std.proofs.Common.{◌≡◌, ℕ, ◌+◌, ◌<◌, List, length, get_or, take, sym, ap, subst, inl, inr, arith, ◌∙◌, Bool, true, false, ◌||◌, refl}
+use Rattle.std.specs.Prelude.{◌↔◌, ◌==◌, IsTrue}
+use Rattle.std.specs.List.{All}
 use Rattle.std.proofs.lemmas.Bool.{cases_Bool, ltb-true}
 use Rattle.std.proofs.lemmas.List.Elements.{All-more}
 use Rattle.pci_spec.specs.Slot.{Slot}
@@ -10,31 +9,23 @@ use Rattle.pci_spec.specs.Header.{bar_register, bar_count, layout}
 use Rattle.pci_spec.specs.Bar.{IoBar, Memory32, Memory64, Reserved, bar_at, bar_kind, is_io, is_wide, type_bits}
 use Rattle.pci_spec.specs.System.{System, Function, Space, is_window}
 use Rattle.pci_spec.specs.System as system
-use Rattle.pci_spec.specs.Bus.{is_root}
-use Rattle.pci_spec.specs.Decoded.{DecodedBar, HasRecords, record_of}
+use Rattle.pci_spec.specs.Decoded.{DecodedBar, record_of}
 use Rattle.pci_spec.specs.Mark.{AssumedRegister, is_size_assumed}
-use Rattle.pci_spec.specs.Why.{is_wide_part, fits_line, unknown_line, Region as RegionValue, IsFit, IsFitBehind, IsPlaceFor, IsLeastPlace}
+use Rattle.pci_spec.specs.Why.{is_wide_part}
 use Rattle.pci_spec.proofs.Records.{same_truth}
-use Rattle.pci_spec.proofs.BusRanges.{root_means}
 use Rattle.pci_spec.proofs.Ranges.{has_bar-of_decodes}
 use Rattle.pci_image.specs.declared.bar.Bar.{Bar}
 use Rattle.pci_image.specs.declared.bar.BarKind.{BarKind as Kind}
 use Rattle.pci_image.specs.declared.bar.BarKind.TheVariants.{Io, Mem32, Mem64}
 use Rattle.pci_image.specs.Bars.{decoded_kind_of}
-use Rattle.pci_base.specs.declared.range.Range.{Range}
-use Rattle.pci_base.specs.Ranges.{decoded_range_of}
 use Rattle.pci_function.specs.declared.record.Record.{Record}
 use Rattle.pci_function.specs.Values.{record_value}
 use Rattle.pci_tree.specs.declared.region.Region.{Region}
 use Rattle.pci_tree.specs.declared.region.Part.TheVariants as parts
 use Rattle.pci_tree.specs.Regions.{IsRegionOf, name_of}
-use Rattle.pci_tree.specs.Outline.{Tree, RiseBySlot}
-use Rattle.pci_tree.proofs.Lifting.{Has, function_for, same_slot_of, one_function}
 use Rattle.pci_tree.proofs.Regions.{bar_at_register, bar_of_register}
 use Rattle.pci_claims.specs.Found.{IsFoundIn, told}
-use Rattle.pci_why.specs.Evidence.{Appends}
-use Rattle.pci_why.specs.Fits.{IsWideAt, IsWideIn, IsFitFor, IsAdviceFor}
-use Rattle.pci_claims.proofs.Founds.{region_in}
+use Rattle.pci_why.specs.Wide.{IsWideAt, IsWideIn}
 
 -- one more BAR that isn't at the register, or has 32 bits
 pub bar_more : (bars : List Bar) (k reg : ℕ) (z : Bar) → k < length bars → All (λ b. IsWideAt reg b → ⊥) (take k bars) → ((get_or bars k z).reg ≡ reg → (get_or bars k z).kind ≡ Mem64 → ⊥)
@@ -105,18 +96,7 @@ pub wide_is : (r : Record) (f : Function) (part : system.Part) (space : Space) (
     → wide ≡ is_wide_part f part
 wide_is r f part space q wide e is exact = same_truth wide (is_wide_part f part) (λ w. to_wide r f part space q e is (exact.0 w)) (λ w. exact.1 (from_wide r f part space q e is w))
 
--- ---- lines
-
-nothing : (old : List ℕ) → old ≡ old ++ []
-nothing old = sym (append-nil old)
-
--- what is told of a region that may be moved
-abbrev Movable : List AssumedRegister → List ℕ → System → RegionValue → List ℕ → Type 0
-Movable assumed roots s v lines = MatchBool (is_size_assumed assumed v.slot v.register) (lines ≡ unknown_line) (IsFit roots s v lines)
-
--- whether nothing is told of it: it is a window, or on a root bus
-abbrev Stays : List ℕ → Region → system.Part → Bool
-Stays roots q part = is_window part || is_root roots q.slot.bus
+-- ---- what is told of it
 
 pub window_part : (part : system.Part) → name_of part ≡ parts.Window → is_window part ≡ true
 window_part (system.Bar n) e = cc
@@ -132,92 +112,7 @@ pub or_true : (w : Bool) → w || true ≡ true
 or_true true = refl
 or_true false = refl
 
-not_on_root : (roots : List ℕ) (s : System) (slot : Slot) (reg : ℕ) (space : Space) (q : Region) → IsFoundIn s slot reg space q → (Contains roots slot.bus → ⊥) → is_root roots q.slot.bus ≡ false
-not_on_root roots s slot reg space q found root = elim (cases_Bool (is_root roots q.slot.bus)) [
-  | inl on ↦ absurd (root (subst (λ (x : Slot). Contains roots x.bus) found.slot_is ((root_means roots q.slot.bus).0 on)))
-  | inr off ↦ off
-]
-
-may_move : (roots : List ℕ) (s : System) (slot : Slot) (reg : ℕ) (space : Space) (q : Region) (found : IsFoundIn s slot reg space q) → (q.part ≡ parts.Window → ⊥) → (Contains roots slot.bus → ⊥) → Stays roots q found.part ≡ false
-may_move roots s slot reg space q found window root =
-    ap (λ b. b || is_root roots q.slot.bus) (no_window_part found.part (λ e. window (found.is.named ∙ e))) ∙ not_on_root roots s slot reg space q found root
-
 -- whether its size is assumed is told by the slot and the register that the fault names
 pub same_size : (assumed : List AssumedRegister) (s : System) (slot : Slot) (reg : ℕ) (space : Space) (q : Region) (is : Bool) → IsFoundIn s slot reg space q → is_size_assumed assumed slot reg ≡ is
     → is_size_assumed assumed q.slot q.reg ≡ is
 same_size assumed s slot reg space q is found e = ap (λ x. is_size_assumed assumed x q.reg) found.slot_is ∙ ap (λ n. is_size_assumed assumed slot n) found.register ∙ e
-
-behind : (assumed : List AssumedRegister) (roots : List ℕ) (s : System) (q : Region) (part : system.Part) (space : Space) (lines : List ℕ) → Stays roots q part ≡ false → Movable assumed roots s (told q part space) lines
-    → IsFitBehind assumed roots s (told q part space) lines
-behind assumed roots s q part space lines moves is = subst (λ b. MatchBool b (lines ≡ []) (Movable assumed roots s (told q part space) lines)) (sym moves) is
-
-nothing_told : (assumed : List AssumedRegister) (roots : List ℕ) (s : System) (slot : Slot) (reg : ℕ) (space : Space) (q : Region) (old : List ℕ) (found : IsFoundIn s slot reg space q) → Stays roots q found.part ≡ true
-    → Appends (IsAdviceFor assumed roots s slot reg space) old old
-nothing_told assumed roots s slot reg space q old found stays = record {
-  lines = [];
-  text = nothing old;
-  are = (
-    told q found.part space,
-    (found.slot_is, found.register, refl),
-    region_in s found.f found.part space q found.listed found.is,
-    subst (λ b. MatchBool b (◌≡◌ {A = List ℕ} [] []) (Movable assumed roots s (told q found.part space) [])) (sym stays) (refl {a = []}),
-  );
-}
-
--- nothing is told of a window
-pub window_told : (assumed : List AssumedRegister) (roots : List ℕ) (s : System) (slot : Slot) (reg : ℕ) (space : Space) (q : Region) (old : List ℕ) → IsFoundIn s slot reg space q → q.part ≡ parts.Window
-    → Appends (IsAdviceFor assumed roots s slot reg space) old old
-window_told assumed roots s slot reg space q old found window =
-    nothing_told assumed roots s slot reg space q old found (ap (λ b. b || is_root roots q.slot.bus) (window_part found.part (sym found.is.named ∙ window)))
-
--- nor on a root bus
-pub root_told : (assumed : List AssumedRegister) (roots : List ℕ) (s : System) (slot : Slot) (reg : ℕ) (space : Space) (q : Region) (old : List ℕ) → IsFoundIn s slot reg space q → Contains roots slot.bus
-    → Appends (IsAdviceFor assumed roots s slot reg space) old old
-root_told assumed roots s slot reg space q old found root =
-    let is : is_root roots q.slot.bus ≡ true = (root_means roots q.slot.bus).1 (subst (λ (x : Slot). Contains roots x.bus) (sym found.slot_is) root) in
-    nothing_told assumed roots s slot reg space q old found (ap (λ b. is_window found.part || b) is ∙ or_true (is_window found.part))
-
--- elsewhere, where its size is assumed, that its place isn't known
-pub unknown_told : (assumed : List AssumedRegister) (roots : List ℕ) (s : System) (slot : Slot) (reg : ℕ) (space : Space) (q : Region) (old new : List ℕ) → IsFoundIn s slot reg space q → (q.part ≡ parts.Window → ⊥)
-    → (Contains roots slot.bus → ⊥) → is_size_assumed assumed slot reg ≡ true → new ≡ old ++ unknown_line → Appends (IsAdviceFor assumed roots s slot reg space) old new
-unknown_told assumed roots s slot reg space q old new found window root is text = record {
-  lines = unknown_line;
-  text = text;
-  are = (
-    told q found.part space,
-    (found.slot_is, found.register, refl),
-    region_in s found.f found.part space q found.listed found.is,
-    behind assumed roots s q found.part space unknown_line (may_move roots s slot reg space q found window root)
-        (subst (λ b. MatchBool b (unknown_line ≡ unknown_line) (IsFit roots s (told q found.part space) unknown_line)) (sym (same_size assumed s slot reg space q true found is)) (refl {a = unknown_line})),
-  );
-}
-
--- and where it isn't, the least place
-pub fit_told : (assumed : List AssumedRegister) (t : Tree) (s : System) (rs : List Record) (r : Record) (slot : Slot) (reg : ℕ) (space : Space) (q : Region) (wide : Bool) (fit : Option Range) (old new : List ℕ)
-    → t.records ≡ map record_value rs → Has s rs → RiseBySlot rs → Contains rs r → r.slot ≡ slot → IsFoundIn s slot reg space q → (q.part ≡ parts.Window → ⊥) → (Contains t.roots slot.bus → ⊥) → is_size_assumed assumed slot reg ≡ false → IsTrue wide ↔ IsWideIn r q
-    → IsFitFor t space q wide fit → new ≡ old ++ fits_line space (option_map decoded_range_of fit) → Appends (IsAdviceFor assumed t.roots s slot reg space) old new
-fit_told assumed t s rs r slot reg space q wide fit old new records is rise has at found window root known exact fits text =
-    let v = told q found.part space in
-    let own = function_for s rs r is has in
-    let same : own.0 ≡ found.f = one_function s rs own.0 found.f is rise own.1 found.listed (sym (same_slot_of r own.0 own.2) ∙ at ∙ sym found.slot_is ∙ found.is.slot) in
-    let stands : record_value r ≡ record_of found.f = own.2 ∙ ap record_of same in
-    let wide_same : wide ≡ is_wide_part found.f found.part = wide_is r found.f found.part space q wide stands found.is exact in
-    let told_line = fits_line space (option_map decoded_range_of fit) in
-    record {
-      lines = told_line;
-      text = text;
-      are = (
-        v,
-        (found.slot_is, found.register, refl),
-        region_in s found.f found.part space q found.listed found.is,
-        behind assumed t.roots s q found.part space told_line (may_move t.roots s slot reg space q found window root) (subst (λ b. MatchBool b (told_line ≡ unknown_line) (IsFit t.roots s v told_line)) (sym (same_size assumed s slot reg space q false found known)) record {
-          f = found.f;
-          listed = found.listed;
-          slot = sym found.is.slot;
-          place = option_map decoded_range_of fit;
-          exact = subst (λ w. MatchOption (option_map decoded_range_of fit) ((first : ℕ) → IsPlaceFor t.roots s v w first → ⊥) (λ range. IsLeastPlace t.roots s v w range)) wide_same
-              (fits s found.f found.part (subst (λ xs. HasRecords s xs) (sym records) is) found.listed found.is);
-          text = refl;
-        }),
-      );
-    }

@@ -1,8 +1,15 @@
+pub mod Lines
 pub mod RegionLines
 pub mod Off
 pub mod Missed
+pub mod Named
+pub mod Hosts
 pub mod Bridges
-pub mod Evidence
+pub mod Two
 pub mod Places
+pub mod Wide
+pub mod Free
+pub mod Rooms
 pub mod Fits
+pub mod Whys
 pub mod Lists

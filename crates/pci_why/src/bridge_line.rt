@@ -1,4 +1,4 @@
-//! The line of a bridge, and those of the addresses that it misses.
+//! The line of a bridge, and those of ranges.
 ghost use Rattle.std.specs.Prelude.{◌≡◌, ◌≤◌, ◌++◌, map, OnOk};
 ghost use Rattle.std.specs.List.{All, flat_map};
 ghost use Rattle.std.specs.String.{string_bytes};
@@ -7,22 +7,15 @@ ghost use Rattle.pci_spec.specs.Why.{windows_text, range_line};
 ghost use Rattle.pci_base.specs.Ranges.{decoded_range_of};
 ghost use Rattle.pci_base.specs.Space.{space_of, is_on};
 ghost use Rattle.pci_image.specs.Windows.{decoded_windows_of};
-ghost use Rattle.pci_function.specs.Values.{record_value};
-ghost use Rattle.pci_tree.specs.Reaches.{HasSpans};
-ghost use Rattle.pci_why.specs.Bridges.{bridge_start, line_of_bridge, AreMissedTold};
+ghost use Rattle.pci_why.specs.Bridges.{bridge_start};
 
-use super::missed::outside;
 use super::region_line::push_range_line;
-use pci_base::memory::OutOfMemory;
 use pci_base::range::Range;
 use pci_base::slot::Slot;
 use pci_base::space::Space;
-use pci_function::record::Record;
 use pci_image::window::Windows;
-use pci_listing::hex_text::{end_line, push_slot};
+use pci_listing::hex_text::push_slot;
 use pci_listing::listing::bridge::push_held;
-use pci_tree::reach::passed_by;
-use pci_tree::region::Region;
 use std::alloc::{AllocError, Allocator};
 
 /// Appends the windows that serve a region.
@@ -84,30 +77,6 @@ pub fn push_bridge<A: Allocator>(
     push_windows(text, windows, space, prefetch)
 }
 
-/// Appends the line of a bridge. Of another function nothing.
-pub fn push_bridge_line<A: Allocator>(
-    text: &mut String<A>,
-    function: &Record,
-    space: Space,
-    prefetch: bool,
-) -> Result<(), AllocError>
-    ensures { OnOk result (string_bytes text.new ≡ string_bytes text.old
-        ++ line_of_bridge (record_value function.now) (space_of space) prefetch) }
-{
-    let Some(bridge) = function.bridge else {
-        return Ok(());
-    };
-    push_bridge(
-        text,
-        function.slot,
-        function.command,
-        &bridge.windows,
-        space,
-        prefetch,
-    )?;
-    end_line(text)
-}
-
 /// Appends a line for each of some ranges, behind a word.
 pub fn push_ranges<A: Allocator>(
     text: &mut String<A>,
@@ -123,28 +92,5 @@ pub fn push_ranges<A: Allocator>(
     for range in ranges {
         push_range_line(text, word, space, *range)?;
     }
-    Ok(())
-}
-
-/// Appends a line for each run of addresses of a region that a bridge doesn't pass.
-pub fn push_missed<A: Allocator + Copy, B: Allocator>(
-    alloc: A,
-    text: &mut String<B>,
-    function: &Record,
-    space: Space,
-    region: &Region,
-) -> Result<(), OutOfMemory>
-    // an empty window would be an empty range, which no list of what is passed has
-    requires { HasSpans function.now }
-    ensures { OnOk result (AreMissedTold function.now (space_of space) region.now
-        (string_bytes text.old) (string_bytes text.new)) }
-{
-    let range = Range {
-        first: region.first,
-        last: region.last,
-    };
-    let passed = passed_by(alloc, function, space.kind(region.prefetch))?;
-    let missed = outside(alloc, range, passed.as_slice())?;
-    push_ranges(text, "missed", space, missed.as_slice())?;
     Ok(())
 }

@@ -1,62 +1,48 @@
-//! Where a region that isn't reached, or is the second of two, would fit on its bus.
-ghost use Rattle.std.specs.Prelude.{◌≡◌, ◌≤◌, ◌^◌, ◌↔◌, ◌++◌, IsTrue, IfOk, IfSome, OnOk};
-ghost use Rattle.std.specs.List.{Any};
+//! Where a region that isn't sent or reached, or is the second of two, would fit on its bus.
+ghost use Rattle.std.specs.Prelude.{◌≡◌, ◌≤◌, ◌^◌, ◌++◌, ◌&&◌, not, IfOk, IfSome, OnOk};
 ghost use Rattle.std.specs.Option.{option_map};
-ghost use Rattle.pci_base.specs.Ranges.{decoded_range_of};
 ghost use Rattle.std.specs.String.{string_bytes};
 ghost use Rattle.pci_spec.specs.Text.{IsDump};
 ghost use Rattle.pci_spec.specs.Mark.{all_named};
+ghost use Rattle.pci_spec.specs.Bus.{is_root};
 ghost use Rattle.pci_spec.specs.Why.{place_end, fits_line};
-ghost use Rattle.pci_base.specs.Space.{space_of};
-ghost use Rattle.pci_why.specs.Fits.{IsWideAt, IsWideIn, IsFitFor, IsFitTold};
+ghost use Rattle.pci_spec.specs.Fault.{named_region};
+ghost use Rattle.given_spec.specs.Why.{is_said};
+ghost use Rattle.pci_base.specs.Ranges.{decoded_range_of};
+ghost use Rattle.pci_base.specs.Space.{space_of, kind_in};
+ghost use Rattle.pci_claims.specs.Values.{given_value};
+ghost use Rattle.pci_why.specs.Fits.{IsFitIn, IsFitFor, IsFitTold};
+ghost use Rattle.pci_why.specs.Rooms.{IsKept, AreKept};
 
-use pci_claims::find::region_at;
-use super::place::least_free;
+use super::free::free_in;
+use super::judged::{Judged, RegionName};
+use super::place::least_from;
 use super::region_line::push_range_line;
+use super::room::{Moving, Room, Rooms, make_ready};
+use super::wide::is_wide;
 use pci_base::memory::OutOfMemory;
 use pci_base::range::Range;
-use pci_base::slot::Slot;
 use pci_base::space::Space;
-use pci_dump::block::Block;
+use pci_base::window_kind::WindowKind;
+use pci_claims::find::region_at;
+use pci_claims::given::Given;
+use pci_claims::sent::ranges_said;
 use pci_dump::mark::is_size_assumed;
-use pci_function::record::Record;
-use pci_image::bar::{Bar, BarKind};
 use pci_tree::bus::record_at;
 use pci_tree::outline::Outline;
-use pci_tree::region::{Part, Region};
+use pci_tree::region::Part;
 use std::alloc::{AllocError, Allocator};
 
-/// Whether a BAR is that of a register, and has 64 bits.
-fn is_wide_at(bar: Bar, reg: u8) -> bool
-    ensures { IsTrue result ↔ IsWideAt reg bar }
+/// Whether a bus is a root bus to which all of a space is sent.
+fn is_sent_all<A: Allocator>(given: &Given<'_>, outline: &Outline<A>, bus: u8, space: Space) -> bool
+    ensures { result ≡ (is_root outline.now.roots bus
+        && not (is_said (given_value given.now) (space_of space))) }
 {
-    bar.reg == reg && bar.kind == BarKind::Mem64
-}
-
-/// Whether a BAR of 64 bits is among some at a register.
-fn has_wide_bar(bars: &[Bar], reg: u8) -> bool
-    ensures { IsTrue result ↔ Any (IsWideAt reg) bars.now }
-{
-    for bar in bars {
-        if is_wide_at(*bar, reg) {
-            return true;
-        }
-    }
-    false
-}
-
-/// Whether a region of a function is a BAR of 64 bits.
-pub fn is_wide(function: &Record, region: &Region) -> bool
-    ensures { IsTrue result ↔ IsWideIn function.now region.now }
-{
-    match region.part {
-        Part::Rom | Part::Window => false,
-        Part::Bar => has_wide_bar(function.bars.as_slice(), region.reg),
-    }
+    outline.roots().has(bus) && ranges_said(given, space).is_none()
 }
 
 /// The number below which a region has to stand.
-pub fn end_of_places(space: Space, wide: bool) -> u128
+fn end_of_places(space: Space, wide: bool) -> u128
     ensures number { result ≡ place_end (space_of space) wide }
     // so the sum of an address and a size fits 128 bits
     ensures small { result ≤ 2 ^ 64 }
@@ -68,29 +54,25 @@ pub fn end_of_places(space: Space, wide: bool) -> u128
     }
 }
 
-/// The least place of its bus at which a region would be passed by each bridge on the way, and share no address with
-/// another region.
-fn fit_of<A: Allocator + Copy>(
-    outline: &Outline<A>,
-    region: &Region,
-    space: Space,
-    wide: bool,
+/// The least place at which accesses to a region would get to its bus, and no other region would claim one of them that
+/// can clash with it, by what there is on the bus.
+fn fit_in<A: Allocator + Copy>(
+    alloc: A,
+    room: &Option<Room<A>>,
+    moving: &Moving,
 ) -> Result<Option<Range>, OutOfMemory>
-    requires { region.now.first ≤ region.now.last }
+    requires { moving.now.region.first ≤ moving.now.region.last }
     ensures some { IfOk result (λ o. IfSome o (λ r. r.first ≤ r.last)) }
-    ensures exact { IfOk result (λ o. IsFitFor outline.now (space_of space) region.now wide o) }
+    ensures exact { IfOk result (λ o. IsFitIn room.now (space_of moving.now.space)
+        moving.now.region moving.now.wide o) }
 {
-    let reached = outline.reach(region.slot.bus(), space, region.prefetch)?;
-    let regions = outline.sorted(region.slot.bus(), space)?;
-    let more = u128::from(region.last - region.first);
-    let end = end_of_places(space, wide);
-    match least_free(
-        reached.as_slice(),
-        regions.as_slice(),
-        region,
-        more + 1,
-        end,
-    ) {
+    let Some(room) = room else {
+        return Ok(None);
+    };
+    let free = free_in(alloc, room, moving)?;
+    let more = u128::from(moving.region.last - moving.region.first);
+    let end = end_of_places(moving.space, moving.wide);
+    match least_from(&free, 0, more + 1, end) {
         None => Ok(None),
         Some(first) => Ok(Some(Range {
             first: first as u64,
@@ -99,8 +81,52 @@ fn fit_of<A: Allocator + Copy>(
     }
 }
 
+/// The same, where the bus is looked at first.
+fn fit_by<A: Allocator + Copy>(
+    alloc: A,
+    kept: &mut Option<Room<A>>,
+    judged: &Judged<'_, A>,
+    moving: &Moving,
+) -> Result<Option<Range>, OutOfMemory>
+    requires some { moving.now.region.first ≤ moving.now.region.last }
+    // else it would be of another kind, or of other functions
+    requires kept { IsKept (given_value judged.now.given.now) judged.now.outline.now
+        (kind_in (space_of moving.now.space) moving.now.region.prefetch) kept.old }
+    ensures kept { OnOk result (IsKept (given_value judged.now.given.now) judged.now.outline.now
+        (kind_in (space_of moving.now.space) moving.now.region.prefetch) kept.new) }
+    ensures some { IfOk result (λ o. IfSome o (λ r. r.first ≤ r.last)) }
+    ensures exact { IfOk result (λ o. IsFitFor (given_value judged.now.given.now)
+        judged.now.outline.now (space_of moving.now.space) moving.now.region moving.now.wide o) }
+{
+    make_ready(alloc, kept, judged, moving)?;
+    fit_in(alloc, kept, moving)
+}
+
+/// The same, by what was looked at last for the kind of access.
+fn fit_of<A: Allocator + Copy>(
+    alloc: A,
+    rooms: &mut Rooms<A>,
+    judged: &Judged<'_, A>,
+    moving: &Moving,
+) -> Result<Option<Range>, OutOfMemory>
+    requires some { moving.now.region.first ≤ moving.now.region.last }
+    requires kept { AreKept (given_value judged.now.given.now) judged.now.outline.now
+        rooms.old.io rooms.old.mem rooms.old.pref }
+    ensures kept { OnOk result (AreKept (given_value judged.now.given.now) judged.now.outline.now
+        rooms.new.io rooms.new.mem rooms.new.pref) }
+    ensures some { IfOk result (λ o. IfSome o (λ r. r.first ≤ r.last)) }
+    ensures exact { IfOk result (λ o. IsFitFor (given_value judged.now.given.now)
+        judged.now.outline.now (space_of moving.now.space) moving.now.region moving.now.wide o) }
+{
+    match moving.space.kind(moving.region.prefetch) {
+        WindowKind::Io => fit_by(alloc, &mut rooms.io, judged, moving),
+        WindowKind::Memory => fit_by(alloc, &mut rooms.mem, judged, moving),
+        WindowKind::Prefetchable => fit_by(alloc, &mut rooms.pref, judged, moving),
+    }
+}
+
 /// Appends the line of a place, as `fits 00000000e0010000-00000000e001ffff 64K`, or `fits none`.
-pub fn push_fit<A: Allocator>(
+fn push_fit<A: Allocator>(
     text: &mut String<A>,
     space: Space,
     fit: Option<Range>,
@@ -116,42 +142,54 @@ pub fn push_fit<A: Allocator>(
     }
 }
 
-/// Appends where the region of a slot and register would fit: the least range of its size whose first address is a
-/// multiple of that, below 4 GB where it is no BAR of 64 bits (of I/O below 64 KB), that each bridge on the way passes
-/// and no other region of its bus claims. Where the read back of the register is assumed, as the titles of the probe's
-/// blocks tell it, that isn't known: `fits unknown`. There is no such line of a window, since what is behind its bridge
-/// would have to move with it, and none on a root bus.
+/// Appends where the region that is named would fit: the least range of its size whose first address is a multiple of
+/// that, below 4 GB where it is no BAR of 64 bits (of I/O below 64 KB), to which accesses start on the root bus above,
+/// that each bridge on the way passes, and that no other region claims which can clash with it. Where the read back of
+/// the register is assumed, as the titles of the probe's blocks tell it, that isn't known: `fits unknown`. There is no
+/// such line of a window, since what is behind its bridge would have to move with it, nor of a legacy part, which can't
+/// be moved, and none on a root bus to which all of the space is sent.
 pub fn push_fits<A: Allocator + Copy, B: Allocator>(
     alloc: A,
     text: &mut String<B>,
-    outline: &Outline<A>,
-    probe: &[Block],
-    slot: Slot,
-    reg: u8,
-    space: Space,
+    rooms: &mut Rooms<A>,
+    judged: &Judged<'_, A>,
+    name: RegionName,
 ) -> Result<(), OutOfMemory>
     // its slots rise, so a block is found by halving
-    requires { IsDump probe.now }
-    ensures { OnOk result (IsFitTold (all_named probe.now) outline.now slot reg (space_of space)
+    requires rising { IsDump judged.now.probe.now }
+    requires kept { AreKept (given_value judged.now.given.now) judged.now.outline.now
+        rooms.old.io rooms.old.mem rooms.old.pref }
+    ensures kept { OnOk result (AreKept (given_value judged.now.given.now) judged.now.outline.now
+        rooms.new.io rooms.new.mem rooms.new.pref) }
+    ensures told { OnOk result (IsFitTold (all_named judged.now.probe.now)
+        (given_value judged.now.given.now) judged.now.outline.now
+        (named_region name.slot name.reg) (space_of name.space)
         (string_bytes text.old) (string_bytes text.new)) }
 {
-    let Some(region) = region_at(alloc, outline, slot, reg, space)? else {
+    let RegionName { slot, reg, space } = name;
+    let Some(region) = region_at(alloc, judged.outline, slot, reg, space)? else {
         return Ok(());
     };
     if region.part == Part::Window {
         return Ok(());
     }
-    if outline.roots().has(slot.bus()) {
+    if is_sent_all(judged.given, judged.outline, slot.bus(), space) {
         return Ok(());
     }
-    if is_size_assumed(probe, slot, reg) {
+    if is_size_assumed(judged.probe, slot, reg) {
         text.push_str("  fits unknown\n")?;
         return Ok(());
     }
-    let Some(function) = record_at(outline.records(), slot) else {
+    let Some(function) = record_at(judged.outline.records(), slot) else {
         return Ok(());
     };
-    let fit = fit_of(outline, &region, space, is_wide(function, &region))?;
+    let wide = is_wide(function, &region);
+    let moving = Moving {
+        region,
+        space,
+        wide,
+    };
+    let fit = fit_of(alloc, rooms, judged, &moving)?;
     push_fit(text, space, fit)?;
     Ok(())
 }

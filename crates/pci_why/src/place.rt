@@ -1,11 +1,9 @@
 //! The least place at which a region could stand.
-ghost use Rattle.std.specs.Prelude.{◌≡◌, ◌+◌, ◌<◌, ◌≤◌, ◌%◌, ◌^◌, ◌↔◌, ℕ, IsTrue, IfSome, MatchOption, max};
-ghost use Rattle.std.specs.List.{AllPairs};
+ghost use Rattle.std.specs.Prelude.{◌≡◌, ◌+◌, ◌<◌, ◌≤◌, ◌%◌, ◌^◌, ℕ, IfSome, MatchOption, max};
 ghost use Rattle.pci_tree.specs.Ranges.{IsCanonical};
-ghost use Rattle.pci_why.specs.Places.{IsReachedAt, IsLeastFrom, IsSame, IsFreeAt, IsLeastFree};
+ghost use Rattle.pci_why.specs.Places.{IsReachedAt, IsLeastFrom};
 
 use pci_base::range::Range;
-use pci_tree::region::Region;
 
 /// The least multiple of a number from another one on.
 fn multiple_from(from: u128, count: u128) -> u128
@@ -56,51 +54,4 @@ pub fn least_from(ranges: &[Range], from: u128, count: u128, end: u128) -> Optio
         }
     }
     None
-}
-
-/// Whether two regions are one.
-fn is_same(one: &Region, other: &Region) -> bool
-    ensures { IsTrue result ↔ IsSame other.now one.now }
-{
-    one.slot == other.slot && one.reg == other.reg
-}
-
-/// The least multiple of `count`, such that one range has that many addresses from there on, all of them below `end`,
-/// and no region but its own claims one.
-///
-/// The regions stand by first address: a place below the next one clears all that follow, and each that it doesn't
-/// clear lies below the places that are left.
-pub fn least_free(
-    ranges: &[Range],
-    regions: &[Region],
-    own: &Region,
-    count: u128,
-    end: u128,
-) -> Option<u128>
-    // there is no multiple of 0 to go on to
-    requires some { 0 < count }
-    // 128 bits hold the sum of two such numbers
-    requires small { count ≤ 2 ^ 64 }
-    requires end { end ≤ 2 ^ 64 }
-    ensures below { IfSome result (λ p. p + count ≤ end) }
-    ensures least { IsCanonical ranges.now → AllPairs (λ p q. p.first ≤ q.first) regions.now
-        → MatchOption result
-        ((p : ℕ) → IsFreeAt ranges.now regions.now own.now count end p → ⊥)
-        (λ p. IsLeastFree ranges.now regions.now own.now count end p) }
-{
-    let mut from: u128 = 0;
-    for region in regions {
-        if is_same(region, own) {
-            continue;
-        }
-        let past = u128::from(region.last) + 1;
-        let Some(first) = least_from(ranges, from, count, end) else {
-            return None;
-        };
-        if first + count <= u128::from(region.first) {
-            return Some(first);
-        }
-        from = first.max(past);
-    }
-    least_from(ranges, from, count, end)
 }

@@ -7,11 +7,11 @@ ghost use Rattle.pci_base.specs.Ranges.{decoded_range_of};
 ghost use Rattle.pci_base.specs.Space.{space_of};
 ghost use Rattle.pci_why.specs.RegionLines.{bar_words, window_at, part_words, line_of};
 
-use pci_listing::amount::push_amount;
 use pci_base::offset::{IO_BASE, MEMORY_BASE};
 use pci_base::range::Range;
 use pci_base::slot::Slot;
 use pci_base::space::Space;
+use pci_listing::amount::push_amount;
 use pci_listing::hex_text::{end_line, push_byte, push_slot};
 use pci_listing::listing::span::Span;
 use pci_tree::region::{Part, Region};

@@ -12,7 +12,7 @@ use Rattle.given_spec.specs.Words.{VgaWord, legacy_bridges}
 use Rattle.pci_claims.specs.Values.{host_value}
 use Rattle.pci_tree.specs.Outline.{Tree}
 use Rattle.pci_tree.specs.Roots.{buses_of}
-use Rattle.pci_given_why.specs.Lists.{IsReasonedTextOf}
+use Rattle.pci_why.specs.Lists.{IsReasonedTextOf}
 use Rattle.pci_model.specs.declared.words.Words.{Words}
 use Rattle.pci_model.specs.WordsValue.{words_value}
 use Rattle.pciplan_tasks.specs.Answers.{Answer, done, refused}

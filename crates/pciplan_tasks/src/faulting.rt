@@ -22,10 +22,11 @@ use pci_dump::dump::Dump;
 use pci_given::any_fault::AnyFault;
 use pci_given::every::all_faults;
 use pci_given::text::list_text;
-use pci_given_why::list::reasoned_text;
 use pci_model::words::Words;
 use pci_tree::outline::Outline;
 use pci_tree::roots::Roots;
+use pci_why::judged::Judged;
+use pci_why::list::reasoned_text;
 use std::alloc::Allocator;
 
 /// Which list is asked for: of a system with these root buses and what is given, with reasons or without.
@@ -79,7 +80,14 @@ fn text_of<A: Allocator + Copy>(
         judged.now asked.now.why (map judged_of faults.now) (string_bytes text)) }
 {
     match (judged, asked.why) {
-        (Some(outline), true) => reasoned_text(alloc, &asked.given, outline, probe, faults),
+        (Some(outline), true) => {
+            let judged = Judged {
+                given: &asked.given,
+                outline,
+                probe,
+            };
+            reasoned_text(alloc, &judged, faults)
+        }
         _ => list_text(alloc, faults),
     }
 }

@@ -5,9 +5,11 @@ use pci_base::space::Space;
 use pci_claims::given::{Given, LegacyBridge};
 use pci_dump::reader::read_dump;
 use pci_dump::std_streams::Incoming;
-use pci_given_why::fits::{RegionName, push_fits};
 use pci_tree::admit::outline_of;
 use pci_tree::roots::Roots;
+use pci_why::fits::push_fits;
+use pci_why::judged::{Judged, RegionName};
+use pci_why::room::no_rooms;
 use std::test::Fail;
 use test_support::board::{Function, bridge, device, texts_of};
 
@@ -78,7 +80,13 @@ fn fits(
     };
     let outline = outline_of(alloc, &dump, &probe, roots)?;
     let mut text = String::new(alloc);
-    push_fits(alloc, &mut text, given, &outline, probe.blocks(), name)?;
+    let judged = Judged {
+        given,
+        outline: &outline,
+        probe: probe.blocks(),
+    };
+    let mut rooms = no_rooms();
+    push_fits(alloc, &mut text, &mut rooms, &judged, name)?;
     if text.as_str() == wanted {
         Ok(())
     } else {

@@ -2,12 +2,16 @@
 use crate::boards::{BEHIND_ONE_THAT_IS_OFF, PASSED_IN_TWO_PARTS};
 use pci_base::slot::Slot;
 use pci_base::space::Space;
+use pci_claims::given::Given;
 use pci_dump::dump::Dump;
 use pci_function::fault::Fault;
+use pci_given::any_fault::AnyFault;
 use pci_tree::admit::outline_of;
 use pci_tree::outline::Outline;
 use pci_tree::roots::Roots;
+use pci_why::judged::Judged;
 use pci_why::off::push_off;
+use pci_why::room::no_rooms;
 use pci_why::why::push_why;
 use std::alloc::Global;
 use std::test::Fail;
@@ -54,12 +58,23 @@ fn fault_of(named: &Named) -> Option<Fault> {
     }
 }
 
-/// What is told behind some faults, and the lines of the BARs that are off.
+/// What is told behind some faults where nothing is given, and the lines of the BARs that are off.
 fn told(alloc: Global, outline: &Outline, probe: &Dump, faults: &[Named]) -> Option<String> {
+    let nothing = Given {
+        io: None,
+        memory: None,
+        legacy: &[],
+    };
+    let judged = Judged {
+        given: &nothing,
+        outline,
+        probe: probe.blocks(),
+    };
+    let mut rooms = no_rooms();
     let mut text = String::new(alloc);
     for named in faults {
-        let fault = fault_of(named)?;
-        push_why(alloc, &mut text, outline, probe.blocks(), &fault).ok()?;
+        let fault = AnyFault::Known(fault_of(named)?);
+        push_why(alloc, &mut text, &mut rooms, &judged, &fault).ok()?;
     }
     push_off(&mut text, outline).ok()?;
     Some(text)

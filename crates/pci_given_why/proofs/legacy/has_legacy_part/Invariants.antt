@@ -1,8 +1,0 @@
-use Rattle.std.proofs.Common.{◌≡◌, map, take, false}
-use Rattle.std.specs.List.{list_any}
-use Rattle.pci_spec.specs.Slot.{same_slot}
-use Rattle.pci_claims.specs.Values.{legacy_value}
-use Rattle.pci_given_why.proofs.legacy.has_legacy_part.Given as goal
-
-abbrev pub invariant-loop-entry : goal.invariant-loop-entry
-invariant-loop-entry l = list_any (λ e. same_slot e.slot l.slot) (map legacy_value (take l.entry-index l.given.legacy.now)) ≡ false

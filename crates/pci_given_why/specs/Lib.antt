@@ -1,9 +1,0 @@
-pub mod Lines
-pub mod Named
-pub mod Hosts
-pub mod Bridges
-pub mod Two
-pub mod Free
-pub mod Fits
-pub mod Whys
-pub mod Lists

@@ -1,0 +1,47 @@
+-- Which bridges have legacy parts, entry by entry, and the words of their lines.
+use Rattle.std.proofs.Common.{◌≡◌, ℕ, ◌+◌, ◌<◌, List, [], ◌∷◌, ◌++◌, length, get_or, take, map, Bool, true, false, inl, inr, arith, sym, ◌∙◌, ap, refl, codes}
+use Rattle.std.specs.List.{list_any}
+use Rattle.std.proofs.Math.ListN.{get_or-map}
+use Rattle.std.proofs.lemmas.Bool.{both_ways, false_from_ne_true}
+use Rattle.std.proofs.lemmas.List.{length-map, append_assoc}
+use Rattle.std.proofs.lemmas.List.Folds.{list_any_at}
+use Rattle.pci_spec.specs.Slot.{Slot}
+use Rattle.pci_spec.specs.Text.{slot_text}
+use Rattle.pci_spec.specs.System.{Space}
+use Rattle.pci_spec.specs.Decoded.{DecodedWindows}
+use Rattle.pci_spec.specs.Listing.{words, on_text}
+use Rattle.pci_spec.specs.Why.{windows_text}
+use Rattle.pci_why.specs.Bridges.{bridge_start}
+use Rattle.given_spec.specs.Given as spec
+use Rattle.pci_claims.specs.declared.given.LegacyBridge.{LegacyBridge}
+use Rattle.pci_claims.specs.Values.{legacy_value}
+use Rattle.pci_claims.proofs.Parts.{any_more}
+use Rattle.pci_why.specs.Lines.{spaced}
+
+-- ---- entries
+
+module _ (test : spec.LegacyBridge → Bool) (legacy : List LegacyBridge) (i : ℕ) (e : LegacyBridge) (within : i < length legacy) (at : e ≡ get_or legacy i e) where
+  pub one_found : test (legacy_value e) ≡ true → list_any test (map legacy_value legacy) ≡ true
+  one_found here =
+      let same : get_or (map legacy_value legacy) i (legacy_value e) ≡ legacy_value e = get_or-map legacy_value legacy i e ∙ ap legacy_value (sym at) in
+      list_any_at test (map legacy_value legacy) i (legacy_value e) (omega (arith, within, length-map legacy legacy_value)) (ap test same ∙ here)
+
+  pub none_more : list_any test (map legacy_value (take i legacy)) ≡ false → test (legacy_value e) ≡ false → list_any test (map legacy_value (take (i + 1) legacy)) ≡ false
+  none_more before none = false_from_ne_true _ (λ some. elim ((any_more test legacy_value legacy i e within at).0 some) [
+    | inl was ↦ both_ways _ before was
+    | inr is ↦ both_ways _ none is
+  ])
+
+-- ---- words
+
+-- what ends a line of words
+pub words_spaced : (ws : List (List ℕ)) → words ws ≡ spaced ws ++ 10 ∷ []
+words_spaced [] = refl
+words_spaced (w ∷ ws) = ap (λ t. (32 ∷ w) ++ t) (words_spaced ws) ∙ sym (append_assoc (32 ∷ w) (spaced ws) (10 ∷ []))
+
+-- the line of a bridge, by what was appended for it
+pub line_ended : (start told worded last : List ℕ) (slot : Slot) (on : Bool) (space : Space) (prefetch : Bool) (windows : DecodedWindows) (ws : List (List ℕ))
+    → told ≡ start ++ bridge_start slot on space prefetch windows → worded ≡ told ++ spaced ws → last ≡ worded ++ 10 ∷ []
+    → last ≡ start ++ (codes "  bridge" ++ ((32 ∷ slot_text slot) ++ ((32 ∷ on_text on) ++ ((32 ∷ windows_text space prefetch windows) ++ words ws))))
+line_ended start told worded last slot on space prefetch windows ws begun word more =
+    more ∙ rw (word, begun, words_spaced ws) (simp append_assoc)

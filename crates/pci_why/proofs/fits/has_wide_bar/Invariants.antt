@@ -1,7 +1,0 @@
-use Rattle.std.proofs.Common.{take}
-use Rattle.std.specs.List.{All}
-use Rattle.pci_why.specs.Fits.{IsWideAt}
-use Rattle.pci_why.proofs.fits.has_wide_bar.Given as goal
-
-abbrev pub invariant-loop-bar : goal.invariant-loop-bar
-invariant-loop-bar l = All (λ b. IsWideAt l.reg b → ⊥) (take l.bar-index l.bars)

@@ -1,0 +1,14 @@
+use Rattle.std.proofs.Common.{subst, List}
+use Rattle.std.specs.List.{Contains}
+use Rattle.pci_base.specs.Space.{space_of, kind_in}
+use Rattle.pci_claims.specs.Values.{given_value}
+use Rattle.pci_why.proofs.Roomy.{room_for}
+use Rattle.pci_why.proofs.room.room_of.Goals as goal
+
+pub returns-in_default : goal.returns-in_default
+returns-in_default g c = rw c.in_default.is at c.in_ok-reach.ensures.exact
+
+pub returns : goal.returns
+returns g c =
+    room_for (given_value c.args.judged.now.given.now) c.args.judged.now.outline.now c.args.moving.now.region.slot (space_of c.args.moving.now.space) c.args.moving.now.region.prefetch _ _ c.in-Some.reach.items c.in_ok-claims.claims.items
+    c.kind-kind.ensures c.bus-bus.ensures (rw c.in-Some.is at c.in_ok-reach.ensures.exact) c.in_ok-claims.ensures

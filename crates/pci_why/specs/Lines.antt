@@ -1,0 +1,24 @@
+-- Lines, by what the code holds.
+use Rattle.std.specs.Prelude.{◌≡◌, ℕ, ◌++◌, Bool, List, ◌∷◌, []}
+use Rattle.std.specs.List.{flat_map}
+use Rattle.pci_spec.specs.Slot.{Slot}
+use Rattle.pci_spec.specs.Registers.{BRIDGE_CONTROL}
+use Rattle.pci_spec.specs.Text.{hex_byte, slot_text}
+use Rattle.pci_spec.specs.System.{Space}
+use Rattle.pci_spec.specs.Listing.{inner_line}
+use Rattle.given_spec.specs.Why.{legacy_text}
+
+-- lines of which P holds were appended
+pub record Appends (P : List ℕ → Type 0) (old new : List ℕ) : Type 0 where
+  pub lines : List ℕ
+  pub text : new ≡ old ++ lines
+  pub are : P lines
+
+-- words, each behind a space
+abbrev pub spaced : List (List ℕ) → List ℕ
+spaced words = flat_map (λ word. 32 ∷ word) words
+
+-- the line of a legacy part
+abbrev pub legacy_line : List ℕ → Slot → Bool → Space → List ℕ
+legacy_line word slot is_narrow space =
+    inner_line (word ∷ slot_text slot ∷ hex_byte BRIDGE_CONTROL ∷ legacy_text is_narrow space ∷ [])

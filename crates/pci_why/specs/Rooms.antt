@@ -1,0 +1,40 @@
+-- What there is on a bus for a region that would move.
+use Rattle.std.specs.Prelude.{◌≡◌, ℕ, List, Option, IfSome, MatchOption, map}
+use Rattle.std.specs.List.{Contains}
+use Rattle.pci_spec.specs.Slot.{Slot}
+use Rattle.pci_spec.specs.System.{window_space}
+use Rattle.pci_spec.specs.Window.{WindowKind, IoWindow, MemoryWindow, PrefetchWindow}
+use Rattle.given_spec.specs.Given.{Given}
+use Rattle.pci_base.specs.declared.range.Range.{Range}
+use Rattle.pci_tree.specs.Outline.{Tree}
+use Rattle.pci_claims.specs.Claim.{Claimed}
+use Rattle.pci_claims.specs.Reached.{IsReachInEach}
+use Rattle.pci_why.specs.Free.{AreClaimsBesideInEach}
+
+-- a bus, the addresses that get there, and the claims of the regions that can clash with one of it
+pub record RoomValue : Type 0 where
+  pub bus : ℕ
+  pub reach : List Range
+  pub claims : List Claimed
+
+-- they are those of a kind of access, in each system with the tree
+pub record IsRoomOf (given : Given) (t : Tree) (kind : WindowKind) (room : RoomValue) : Type 0 where
+  pub reached : IsReachInEach given t kind room.bus room.reach
+  pub claims : AreClaimsBesideInEach given t room.bus (window_space kind) room.claims
+
+-- if there are any
+abbrev pub IsKept : Given → Tree → WindowKind → Option RoomValue → Type 0
+IsKept given t kind o = IfSome o (λ room. IsRoomOf given t kind room)
+
+-- of each kind
+pub record AreKept (given : Given) (t : Tree) (of_io of_memory of_prefetchable : Option RoomValue)
+    : Type 0 where
+  pub io : IsKept given t IoWindow of_io
+  pub memory : IsKept given t MemoryWindow of_memory
+  pub prefetchable : IsKept given t PrefetchWindow of_prefetchable
+
+-- those of the bus of a slot, where a function of the tree has it
+abbrev pub IsRoomFor : Given → Tree → Slot → WindowKind → Option RoomValue → Type 0
+IsRoomFor given t slot kind o =
+    MatchOption o (Contains (map (λ r. r.slot) t.records) slot → ⊥)
+    (λ room. IsRoomOf given t kind room × (room.bus ≡ slot.bus))
