@@ -3,6 +3,7 @@ pub mod Stopping
 pub mod Unreaching
 pub mod Homes
 pub mod Odds
+pub mod Owning
 pub mod Quieting
 pub mod Telling
 pub mod ClashNaming

@@ -1,4 +1,5 @@
 pub mod Clashes
+pub mod Owned
 pub mod Splits
 pub mod Quiet
 pub mod Missed

@@ -5,7 +5,8 @@ ghost use Rattle.pci_claims.specs.Values.{given_value};
 ghost use Rattle.pci_claims.specs.BusClaims.{AreBridgesOf};
 ghost use Rattle.pci_given.specs.Splits.{AreSplitsAdded, IsIn, AreAllSplits};
 
-use super::clash_lines::{add_told, meetings};
+use super::clash_lines::add_told;
+use super::meetings::meetings;
 use super::quiet::are_roots_quiet;
 use pci_base::memory::OutOfMemory;
 use pci_base::slot::Slot;

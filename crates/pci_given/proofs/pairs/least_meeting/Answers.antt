@@ -3,7 +3,7 @@ use Rattle.std.specs.Prelude.{MatchOption, ℕ}
 use Rattle.pci_faults.specs.declared.shares.Among.{Among}
 use Rattle.pci_given.specs.Clashes.{Meet, IsLeastOfTwo}
 use Rattle.pci_given.proofs.Odds.{of_a_bus}
-use Rattle.pci_given.proofs.clash_lines.least_meeting.Goals as goal
+use Rattle.pci_given.proofs.pairs.least_meeting.Goals as goal
 
 pub returns-in-Bus : goal.returns-in-Bus
 returns-in-Bus g c =

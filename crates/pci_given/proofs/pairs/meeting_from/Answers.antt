@@ -5,8 +5,8 @@ use Rattle.pci_faults.specs.declared.shares.Share.{Share}
 use Rattle.pci_claims.specs.Claim.{Claimed}
 use Rattle.pci_given.specs.Clashes.{Meet, IsLeastOfTwo, IsFoundBelow, claim_at, nobody}
 use Rattle.pci_given.proofs.Odds.{still_found, found_more}
-use Rattle.pci_given.proofs.clash_lines.meeting_from.Goals.{in-Some, in_default}
-use Rattle.pci_given.proofs.clash_lines.meeting_from.Goals as goal
+use Rattle.pci_given.proofs.pairs.meeting_from.Goals.{in-Some, in_default}
+use Rattle.pci_given.proofs.pairs.meeting_from.Goals as goal
 
 pub loop-k-preserved : goal.loop-k-preserved
 loop-k-preserved g c =

@@ -4,8 +4,8 @@ use Rattle.pci_faults.specs.declared.shares.Share.{Share}
 use Rattle.pci_faults.specs.Shares.{AreWithin}
 use Rattle.pci_given.specs.Clashes.{AreMeetingsBelow}
 use Rattle.pci_given.proofs.Odds.{no_meetings, meeting_none, meeting_more}
-use Rattle.pci_given.proofs.clash_lines.meetings.Goals.{in-Some+in_ok-push, in_default}
-use Rattle.pci_given.proofs.clash_lines.meetings.Goals as goal
+use Rattle.pci_given.proofs.pairs.by_pairs.Goals.{in-Some+in_ok-push, in_default}
+use Rattle.pci_given.proofs.pairs.by_pairs.Goals as goal
 
 pub loop-i-init : goal.loop-i-init
 loop-i-init g c = record {

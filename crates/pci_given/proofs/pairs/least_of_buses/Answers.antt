@@ -5,7 +5,7 @@ use Rattle.pci_base.specs.declared.range.Range.{Range}
 use Rattle.pci_tree.specs.Ranges.{Covers}
 use Rattle.pci_claims.specs.Claim.{IsLeastCommon}
 use Rattle.pci_given.proofs.Odds.{of_two_buses}
-use Rattle.pci_given.proofs.clash_lines.least_of_buses.Goals as goal
+use Rattle.pci_given.proofs.pairs.least_of_buses.Goals as goal
 
 pub returns : goal.returns
 returns g c =

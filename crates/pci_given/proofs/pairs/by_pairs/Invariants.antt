@@ -1,7 +1,7 @@
 use Rattle.std.proofs.Common.{length}
 use Rattle.pci_faults.specs.Shares.{AreWithin}
 use Rattle.pci_given.specs.Clashes.{AreMeetingsBelow}
-use Rattle.pci_given.proofs.clash_lines.meetings.Given as goal
+use Rattle.pci_given.proofs.pairs.by_pairs.Given as goal
 
 abbrev pub invariant-loop-i : goal.invariant-loop-i
 invariant-loop-i g l = record {
