@@ -41,7 +41,7 @@ fn without_vga(alloc: Global, dump: &Dump) -> Option<Dump> {
 }
 
 /// All faults of judging of a dump and its probe, with what is said.
-pub fn faults_of(
+fn faults_of(
     alloc: Global,
     read: Dump,
     probe: Dump,
@@ -65,7 +65,7 @@ pub fn faults_of(
 }
 
 /// The lines of faults.
-pub fn lines(alloc: Global, faults: &[AnyFault]) -> Option<String> {
+fn lines(alloc: Global, faults: &[AnyFault]) -> Option<String> {
     let mut lines = String::new(alloc);
     for fault in faults {
         writeln!(lines, "{fault}").ok()?;

@@ -3,8 +3,6 @@
 #![tactic(auto)]
 
 #[cfg(test)]
-mod by_rule;
-#[cfg(test)]
 mod fits;
 #[cfg(test)]
 mod host_ranges;
@@ -12,11 +10,3 @@ mod host_ranges;
 mod judged;
 #[cfg(test)]
 mod legacy_parts;
-#[cfg(test)]
-mod made;
-#[cfg(test)]
-mod regions;
-#[cfg(test)]
-mod slow_and_fast;
-#[cfg(test)]
-mod slow_judge;
