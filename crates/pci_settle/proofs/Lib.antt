@@ -18,5 +18,6 @@ pub mod Probes
 pub mod Sized
 pub mod Anew
 pub mod OnBus
+pub mod Marked
 pub mod NewWindows
 pub mod PutWindows

@@ -10,7 +10,8 @@ use Rattle.std.proofs.lemmas.Option.{slice_get_within, slice_get-get_or, slice_g
 use Rattle.pci_spec.specs.Slot.{slot_number}
 use Rattle.pci_spec.specs.Window.{WindowKind, IoWindow, MemoryWindow, PrefetchWindow, bounds_at, has_window, page_size, is_wide_window}
 use Rattle.pci_spec.specs.System.{System, Function, IsFunction, IsSystem, is_bridge}
-use Rattle.pci_spec.specs.Bus.{secondary, IsNested}
+use Rattle.pci_spec.specs.Bus.{secondary, are_siblings, IsNested}
+use Rattle.pci_spec.proofs.Members.{in_map_from}
 use Rattle.pci_spec.specs.Decoded.{HasRecords, decoded_window, optional_window}
 use Rattle.pci_spec.specs.Decoded as decoded
 use Rattle.plan_spec.proofs.Planning.Safe.{slots_of, order_of}
@@ -37,7 +38,8 @@ use Rattle.pci_settle.specs.Spots.{extent_value, IsExtent}
 use Rattle.pci_settle.specs.Placings.{item_extent}
 use Rattle.pci_settle.specs.Own.{IsWindowOf}
 use Rattle.pci_settle.specs.Buses.{AreWindows, AreBehind, Classing, IsLeft}
-use Rattle.pci_settle.specs.NewWindows.{highest_by, around_bus, IsEntry, IsPut, window_in, AreNewWindows}
+use Rattle.pci_settle.specs.NewWindows.{highest_by, around_bus, nowhere, IsEntry, IsPut, window_in, IsTooLarge, IsLastTooLarge, first_large, AreNewWindows, IsMarkedOf, AreMarkedWindows, told_extent}
+use Rattle.pci_settle.proofs.Marked.{told_is, marked_is, IsSameOrOver, told_fits, AreSameOrLarge, same_or_large, around_large, around_mark, some_page}
 
 -- ---- upper halves
 
@@ -58,13 +60,42 @@ wide_window kind image probe = elim (cases_Bool (has_window kind probe)) [
 
 -- ---- the table
 
+-- what the entry of a bridge is, by whether something is behind it, and by its new window
+abbrev Entry : Type 1
+Entry = Bool → ExtentValue → Option Extent → Type 0
+
 -- the table has the windows of the functions from place k on, and nothing where no bridge leads
-pub record AreWindowsFrom (p : Classing) (c : WindowKind) (k : ℕ) (windows : List (Option Extent)) : Type 0 where
+pub record AreEntriesFrom (E : Entry) (p : Classing) (c : WindowKind) (k : ℕ) (windows : List (Option Extent)) : Type 0 where
   pub size : length windows ≡ 256
   pub each : (q : Request) → IsLeft p q → (j : ℕ) (g : Function) → k ≤ j → slice_get p.system j ≡ Some g → is_bridge g ≡ true
-      → IsWindowOf (has_of q p.system c g) (new_window q p.system c g) (get_or windows (secondary g) None)
+      → E (has_of q p.system c g) (new_window q p.system c g) (get_or windows (secondary g) None)
   pub none : (bus : ℕ) → bridge_over p.system bus ≡ None → get_or windows bus None ≡ None
   pub lawful : AreWindows windows
+
+abbrev AreWindowsFrom : Classing → WindowKind → ℕ → List (Option Extent) → Type 0
+AreWindowsFrom p c k windows = AreEntriesFrom IsWindowOf p c k windows
+
+abbrev AreMarkedFrom : Classing → WindowKind → ℕ → List (Option Extent) → Type 0
+AreMarkedFrom p c k windows = AreEntriesFrom IsMarkedOf p c k windows
+
+-- a bridge from place k on is named, and the windows of those after it are marked
+pub record IsNamedFrom (p : Classing) (c : WindowKind) (k : ℕ) (windows : List (Option Extent)) (j : ℕ) : Type 0 where
+  pub up : k ≤ j
+  pub marked : AreMarkedFrom p c k windows
+  pub last : (q : Request) → IsLeft p q → IsLastTooLarge q p.system c windows j
+
+-- so far the table has all windows, or a bridge is named
+abbrev pub AreWindowsOrLarge : Classing → WindowKind → ℕ → List (Option Extent) → Option ℕ → Type 0
+AreWindowsOrLarge p c k windows None = AreWindowsFrom p c k windows
+AreWindowsOrLarge p c k windows (Some j) = IsNamedFrom p c k windows j
+
+marked_from : (p : Classing) (c : WindowKind) (k : ℕ) (windows : List (Option Extent)) → AreWindowsFrom p c k windows → AreMarkedFrom p c k windows
+marked_from p c k windows was = record {
+  size = was.size;
+  each = λ q left j g up at bridge. marked_is (has_of q p.system c g) (new_window q p.system c g) (get_or windows (secondary g) None) (was.each q left j g up at bridge);
+  none = was.none;
+  lawful = was.lawful;
+}
 
 empty_at : (bus : ℕ) → ◌≡◌ {A = Option Extent} (get_or (replicate 256 None) bus None) None
 empty_at bus = elim (cases_lt bus 256) [
@@ -114,7 +145,7 @@ module _ (p : Classing) (system : IsSystem p.system) (nested : IsNested p.roots 
 
   -- ---- the next function
 
-  module _ (k : ℕ) (f : Function) (r : Record) (at : slice_get p.system k ≡ Some f) (is : IsRecordOf p.system f r) (old : List (Option Extent)) (was : AreWindowsFrom p c (k + 1) old) where
+  module _ (k : ℕ) (f : Function) (r : Record) (at : slice_get p.system k ≡ Some f) (is : IsRecordOf p.system f r) (old : List (Option Extent)) where
     -- what isn't it comes later
     later_of : (j : ℕ) (g : Function) → k ≤ j → slice_get p.system j ≡ Some g → (g ≡ f → ⊥) → k + 1 ≤ j
     later_of j g up at_j other = elim (cases_eq j k) [
@@ -123,8 +154,8 @@ module _ (p : Classing) (system : IsSystem p.system) (nested : IsNested p.roots 
     ]
 
     -- one that is no bridge has no window
-    pub windows_same : r.bridge ≡ None → AreWindowsFrom p c k old
-    windows_same none = record {
+    same_entries : (E : Entry) → r.bridge ≡ None → AreEntriesFrom E p c (k + 1) old → AreEntriesFrom E p c k old
+    same_entries E none was = record {
       size = was.size;
       each = λ q left j g up at_j bridge.
           was.each q left j g
@@ -143,16 +174,26 @@ module _ (p : Classing) (system : IsSystem p.system) (nested : IsNested p.roots 
       pub secondary_small : b.secondary < 256
       secondary_small = let small = (All-contains IsFunction p.system f system.each is.listed).image.bytes 0x19 in let to = leads_to in omega (arith, to, small)
 
-      -- the windows on the bus behind it are in the table
-      are_behind : (q : Request) → IsLeft p q → AreBehind q p.system c (new_window q p.system c) b.secondary old
-      are_behind q left =
-          subst (λ bus. AreBehind q p.system c (new_window q p.system c) bus old) (sym leads_to) (λ g listed beside bridge.
+      -- the entries of the bridges on the bus behind it are in the table
+      entries_behind : (E : Entry) → AreEntriesFrom E p c (k + 1) old → (q : Request) → IsLeft p q → (g : Function) → Contains p.system g → are_siblings q.roots b.secondary g.slot.bus ≡ true → is_bridge g ≡ true
+          → E (has_of q p.system c g) (new_window q p.system c g) (get_or old (secondary g) None)
+      entries_behind E was q left g listed beside_b bridge =
+          let beside = subst (λ bus. are_siblings q.roots bus g.slot.bus ≡ true) leads_to beside_b in
           let j = listed.0 in
           let at_j : slice_get p.system j ≡ Some g = at_place p.system g listed in
           let on = on_it q.roots p.system system (nested_for q left) f g.slot.bus is.listed is_one beside in
           let order = order_of p.roots p.system nested f is.listed is_one in
           let later = comes_later p.system system k j f g at at_j (omega (arith, on, order)) in
-          was.each q left j g (omega (arith, later)) at_j bridge)
+          was.each q left j g (omega (arith, later)) at_j bridge
+
+      -- the windows on that bus are in the table
+      are_behind : AreWindowsFrom p c (k + 1) old → (q : Request) → IsLeft p q → AreBehind q p.system c (new_window q p.system c) b.secondary old
+      are_behind was q left g listed beside bridge = entries_behind IsWindowOf was q left g listed beside bridge
+
+      -- or the extents that it tells
+      told_behind : AreMarkedFrom p c (k + 1) old → (q : Request) → IsLeft p q → AreBehind q p.system c (told_extent old) b.secondary old
+      told_behind was q left g listed beside bridge =
+          told_is (has_of q p.system c g) (new_window q p.system c g) (get_or old (secondary g) None) (entries_behind IsMarkedOf was q left g listed beside bridge)
 
       highest_is : (k : WindowKind) → highest_by k b.windows ≡ highest_in k f.probe
       highest_is IoWindow = ap (λ w. if w then 0xffff_ffff else 0xffff) (ap (λ (x : decoded.Bridge). is_wide_in x.windows.io) (same_bridge_of r f b is.value there) ∙ wide_window IoWindow f.image f.probe)
@@ -167,91 +208,180 @@ module _ (p : Classing) (system : IsSystem p.system) (nested : IsNested p.roots 
       new_is : (q : Request) → IsLeft p q → around_bus q p.system c (new_window q p.system c) b ≡ new_window q p.system c f
       new_is q left = around_is q (new_window q p.system c) ∙ sym (window_is_around q p.system c system (nested_for q left) f is.listed is_one)
 
-      abbrev behind : Request → List ItemValue
-      behind q = items_on q p.system c nothing (new_window q p.system c) b.secondary
+      abbrev behind : Request → (Function → ExtentValue) → List ItemValue
+      behind q e = items_on q p.system c nothing e b.secondary
 
-      has_is : (q : Request) → IsLeft p q → has_of q p.system c f ≡ nat_lt 0 (length (behind q))
-      has_is q left =
-          items_are_behind q p.system c (new_window q p.system c) system (nested_for q left) f is.listed is_one
-          ∙ ap (λ n. nat_lt 0 (length (items_on q p.system c nothing (new_window q p.system c) n))) (sym leads_to)
+      has_is : (q : Request) → IsLeft p q → (e : Function → ExtentValue) → has_of q p.system c f ≡ nat_lt 0 (length (behind q e))
+      has_is q left e =
+          items_are_behind q p.system c e system (nested_for q left) f is.listed is_one
+          ∙ ap (λ n. nat_lt 0 (length (items_on q p.system c nothing e n))) (sym leads_to)
 
-      entry_for : (q : Request) → IsLeft p q → (entry : Option Extent) → IsEntry (behind q) (around_bus q p.system c (new_window q p.system c) b) entry → IsWindowOf (has_of q p.system c f) (new_window q p.system c f) entry
-      entry_for q left None empty = has_is q left ∙ le-ltb 0 (length (behind q)) (omega (arith, empty))
-      entry_for q left (Some x) (some, same) = (has_is q left ∙ lt-ltb 0 (length (behind q)) some, same ∙ new_is q left)
+      entry_for : (q : Request) → IsLeft p q → (entry : Option Extent) → IsEntry (behind q (new_window q p.system c)) (around_bus q p.system c (new_window q p.system c) b) entry → IsWindowOf (has_of q p.system c f) (new_window q p.system c f) entry
+      entry_for q left None empty = has_is q left (new_window q p.system c) ∙ le-ltb 0 (length (behind q (new_window q p.system c))) (omega (arith, empty))
+      entry_for q left (Some x) (some, same) = (has_is q left (new_window q p.system c) ∙ lt-ltb 0 (length (behind q (new_window q p.system c))) some, same ∙ new_is q left)
 
-      -- its window is put into the table
-      pub windows_more : (new : List (Option Extent)) → IsPut p c b old new true → AreWindows new → AreWindowsFrom p c k new
-      windows_more new is_put lawful =
-          let size = was.size in
-          let small = secondary_small in
-          let put : new ≡ set old (secondary f) is_put.entry = is_put.put ∙ ap (λ n. set old n is_put.entry) leads_to in
-          let here : get_or new (secondary f) None ≡ is_put.entry = ap (λ xs. get_or xs (secondary f) None) put ∙ get_or-set_same old (secondary f) is_put.entry None (let to = leads_to in omega (arith, size, small, to)) in
-          let other : (bus : ℕ) → (bus ≡ secondary f → ⊥) → get_or new bus None ≡ get_or old bus None = λ bus differ.
-          ap (λ xs. get_or xs bus None) put ∙ get_or-set_other old (secondary f) bus is_put.entry None differ in
+      -- ---- what is put into the table
+
+      module _ (entry : Option Extent) (new : List (Option Extent)) (put_b : new ≡ set old b.secondary entry) (long : length old ≡ 256) where
+        entry_put : new ≡ set old (secondary f) entry
+        entry_put = put_b ∙ ap (λ n. set old n entry) leads_to
+
+        entry_here : get_or new (secondary f) None ≡ entry
+        entry_here = ap (λ xs. get_or xs (secondary f) None) entry_put ∙ get_or-set_same old (secondary f) entry None (let to = leads_to in let small = secondary_small in omega (arith, long, small, to))
+
+        entry_other : (bus : ℕ) → (bus ≡ secondary f → ⊥) → get_or new bus None ≡ get_or old bus None
+        entry_other bus differ = ap (λ xs. get_or xs bus None) entry_put ∙ get_or-set_other old (secondary f) bus entry None differ
+
+        entries_more : (E : Entry) → AreEntriesFrom E p c (k + 1) old → ((q : Request) → IsLeft p q → E (has_of q p.system c f) (new_window q p.system c f) entry) → AreWindows new → AreEntriesFrom E p c k new
+        entries_more E was own lawful = record {
+          size = ap length entry_put ∙ length-set old (secondary f) entry ∙ was.size;
+          each = λ q left j g up at_j bridge. elim (cases_eq (secondary g) (secondary f)) [
+            | inl same ↦
+                let listed : Contains p.system g = (j, slice_get_within p.system j g at_j, get_or_from_slice_get p.system j g g at_j) in
+                let one : g ≡ f = one_bridge p.roots p.system system nested g f listed is.listed bridge is_one same in
+                subst (λ (x : Function). E (has_of q p.system c x) (new_window q p.system c x) (get_or new (secondary x) None)) (sym one)
+                (subst (E (has_of q p.system c f) (new_window q p.system c f)) (sym entry_here) (own q left))
+            | inr differ ↦
+                subst (E (has_of q p.system c g) (new_window q p.system c g)) (sym (entry_other (secondary g) differ))
+                (was.each q left j g (later_of j g up at_j (λ same. differ (ap secondary same))) at_j bridge)
+          ];
+          none = λ bus over. entry_other bus (λ same. none_leads p.system bus over f (is.listed, is_one, sym same)) ∙ was.none bus over;
+          lawful = lawful;
+        }
+
+        -- what is told of bridges after a named one stays so
+        above_more : (q : Request) (n : ℕ) → k ≤ n
+            → ((j : ℕ) → n < j → j < length p.system → is_bridge (function_in p.system j) ≡ true
+            → IsWindowOf (has_of q p.system c (function_in p.system j)) (new_window q p.system c (function_in p.system j)) (get_or old (secondary (function_in p.system j)) None))
+            → (j : ℕ) → n < j → j < length p.system → is_bridge (function_in p.system j) ≡ true
+            → IsWindowOf (has_of q p.system c (function_in p.system j)) (new_window q p.system c (function_in p.system j)) (get_or new (secondary (function_in p.system j)) None)
+        above_more q n up was j after within bridge =
+            let g = function_in p.system j in
+            let at_j : slice_get p.system j ≡ Some g = slice_get-get_or p.system j no_function within in
+            let listed : Contains p.system g = (j, within, get_or_from_slice_get p.system j g g at_j) in
+            subst (IsWindowOf (has_of q p.system c g) (new_window q p.system c g))
+            (sym (entry_other (secondary g) (λ same.
+            let one : g ≡ f = one_bridge p.roots p.system system nested g f listed is.listed bridge is_one same in
+            let both : slot_number (get_or p.system k g).slot < slot_number (get_or p.system j g).slot = slots_rise p.system system k j g (omega (arith, up, after)) within in
+            let at_f : get_or p.system k g ≡ f = get_or_from_slice_get p.system k f g at in
+            let at_g : get_or p.system j g ≡ g = get_or_from_slice_get p.system j g g at_j in
+            let numbers : slot_number (get_or p.system k g).slot ≡ slot_number (get_or p.system j g).slot = ap (λ (x : Function). slot_number x.slot) (at_f ∙ sym one ∙ sym at_g) in
+            let no : ⊥ = omega (arith, both, numbers) in no)))
+            (was j after within bridge)
+
+        named_more : (j : ℕ) → IsNamedFrom p c (k + 1) old j → ((q : Request) → IsLeft p q → IsMarkedOf (has_of q p.system c f) (new_window q p.system c f) entry) → AreWindows new → IsNamedFrom p c k new j
+        named_more j was own lawful = (let later = was.up in record {
+          up = omega (arith, later);
+          marked = entries_more IsMarkedOf was.marked own lawful;
+          last = λ q left. record {
+            too_large = (was.last q left).too_large;
+            above = above_more q j (omega (arith, later)) (was.last q left).above;
+          };
+        })
+
+      -- ---- a window, or its mark
+
+      fits : AreMarkedFrom p c (k + 1) old → (q : Request) → IsLeft p q → (g : Function) → Contains p.system g → are_siblings q.roots b.secondary g.slot.bus ≡ true → is_bridge g ≡ true → has_of q p.system c g ≡ true
+          → IsSameOrOver (told_extent old g) (new_window q p.system c g)
+      fits was q left g listed beside bridge has =
+          told_fits (has_of q p.system c g) (new_window q p.system c g) (get_or old (secondary g) None) (entries_behind IsMarkedOf was q left g listed beside bridge) has
+
+      same_behind : AreMarkedFrom p c (k + 1) old → (q : Request) → IsLeft p q
+          → AreSameOrLarge q p.system c nothing (told_extent old) (new_window q p.system c) b.secondary (behind q (told_extent old)) (behind q (new_window q p.system c))
+      same_behind was q left = same_or_large q p.system c nothing (told_extent old) (new_window q p.system c) b.secondary (fits was q left)
+
+      around_told : (q : Request) → behind q (told_extent old) ≡ behind q (new_window q p.system c) → around_bus q p.system c (told_extent old) b ≡ around_bus q p.system c (new_window q p.system c) b
+      around_told q same = ap (λ xs. extent_around (page_size c) (highest_by c b.windows) (map item_extent xs)) same
+
+      marked_entry : (was : AreMarkedFrom p c (k + 1) old) (q : Request) → IsLeft p q → (entry : Option Extent) → IfSome entry (λ x. x.size < 2 ^ 64) → IsEntry (behind q (told_extent old)) (around_bus q p.system c (told_extent old) b) entry
+          → IsMarkedOf (has_of q p.system c f) (new_window q p.system c f) entry
+      marked_entry was q left None small empty = has_is q left (told_extent old) ∙ le-ltb 0 (length (behind q (told_extent old))) (omega (arith, empty))
+      marked_entry was q left (Some x) small (some, same) = (
+        has_is q left (told_extent old) ∙ lt-ltb 0 (length (behind q (told_extent old))) some,
+        elim (same_behind was q left) [
+          | inl one ↦ inl (same ∙ around_told q one ∙ new_is q left)
+          | inr has ↦
+              let low : Contains (map item_extent (behind q (told_extent old))) (extent_value nowhere) = subst (Contains (map item_extent (behind q (told_extent old)))) has.mark (in_map_from item_extent (behind q (told_extent old)) _ has.in_low) in
+              let large = around_mark c (highest_by c b.windows) (map item_extent (behind q (told_extent old))) low in
+              let size : x.size ≡ (around_bus q p.system c (told_extent old) b).size = ap (λ (y : ExtentValue). y.size) same in
+              absurd (let no : ⊥ = omega (arith, large, size, small) in no)
+        ],
+      )
+
+      too_large_by : (q : Request) → IsLeft p q → (e : Function → ExtentValue) → 0 < length (behind q e) → 2 ^ 64 ≤ (new_window q p.system c f).size → IsTooLarge q p.system c k
+      too_large_by q left e some size =
+          let same : f ≡ function_in p.system k = sym (get_or_from_slice_get p.system k f no_function at) in
+          let has : has_of q p.system c f ≡ true = has_is q left e ∙ lt-ltb 0 (length (behind q e)) some in
           record {
-            size = ap length put ∙ length-set old (secondary f) is_put.entry ∙ was.size;
-            each = λ q left j g up at_j bridge. elim (cases_eq (secondary g) (secondary f)) [
-              | inl same ↦
-                  let listed : Contains p.system g = (j, slice_get_within p.system j g at_j, get_or_from_slice_get p.system j g g at_j) in
-                  let one : g ≡ f = one_bridge p.roots p.system system nested g f listed is.listed bridge is_one same in
-                  let entry = entry_for q left is_put.entry (is_put.is q (new_window q p.system c) left (are_behind q left)) in
-                  subst (λ (x : Function). IsWindowOf (has_of q p.system c x) (new_window q p.system c x) (get_or new (secondary x) None)) (sym one)
-                  (subst (IsWindowOf (has_of q p.system c f) (new_window q p.system c f)) (sym here) entry)
-              | inr differ ↦
-                  subst (IsWindowOf (has_of q p.system c g) (new_window q p.system c g)) (sym (other (secondary g) differ))
-                  (was.each q left j g (later_of j g up at_j (λ same. differ (ap secondary same))) at_j bridge)
-            ];
-            none = λ bus over. other bus (λ same. none_leads p.system bus over f (is.listed, is_one, sym same)) ∙ was.none bus over;
-            lawful = lawful;
+            within = slice_get_within p.system k f at;
+            bridge = subst (λ x. is_bridge x ≡ true) same is_one;
+            behind = subst (λ x. has_of q p.system c x ≡ true) same has;
+            large = subst (λ x. 2 ^ 64 ≤ (new_window q p.system c x).size) same size;
           }
 
-      -- it is too large
-      pub too_large : (new : List (Option Extent)) → IsPut p c b old new false → AreNewWindows p c new (Some k)
-      too_large new is_put q left =
-          let large = is_put.1 q (new_window q p.system c) left (are_behind q left) in
-          let some = large.some in
-          let here : f ≡ function_in p.system k = sym (get_or_from_slice_get p.system k f no_function at) in
-          let has : has_of q p.system c f ≡ true = has_is q left ∙ lt-ltb 0 (length (behind q)) some in
-          let size : 2 ^ 64 ≤ (new_window q p.system c f).size = subst (λ (e : ExtentValue). 2 ^ 64 ≤ e.size) (new_is q left) large.large in
+      large_size : (was : AreMarkedFrom p c (k + 1) old) (q : Request) → IsLeft p q → 2 ^ 64 ≤ (around_bus q p.system c (told_extent old) b).size → 2 ^ 64 ≤ (new_window q p.system c f).size
+      large_size was q left large = subst (λ (e : ExtentValue). 2 ^ 64 ≤ e.size) (new_is q left) (elim (same_behind was q left) [
+        | inl one ↦ subst (λ (e : ExtentValue). 2 ^ 64 ≤ e.size) (around_told q one) large
+        | inr has ↦
+            around_large (page_size c) (highest_by c b.windows) (2 ^ 64) (map item_extent (behind q (new_window q p.system c))) (new_window q p.system c has.of) (some_page c)
+            (in_map_from item_extent (behind q (new_window q p.system c)) _ has.in_high) has.large
+      ])
+
+      mark_entry : (was : AreMarkedFrom p c (k + 1) old) (new : List (Option Extent)) → IsPut p c b old new false → (q : Request) → IsLeft p q → IsMarkedOf (has_of q p.system c f) (new_window q p.system c f) (Some nowhere)
+      mark_entry was new is_put q left =
+          let large = is_put.1 q (told_extent old) left (told_behind was q left) in
+          (has_is q left (told_extent old) ∙ lt-ltb 0 (length (behind q (told_extent old))) large.some, inr (refl, large_size was q left large.large))
+
+      -- the next entry
+      pub windows_more : (new : List (Option Extent)) (large : Option ℕ) (fit : Bool) → IsPut p c b old new fit → AreWindows new → AreWindowsOrLarge p c (k + 1) old large → AreWindowsOrLarge p c k new (first_large large fit k)
+      windows_more new None true is_put lawful was =
+          entries_more is_put.entry new is_put.put was.size IsWindowOf was
+          (λ q left. entry_for q left is_put.entry (is_put.is q (new_window q p.system c) left (are_behind was q left))) lawful
+      windows_more new (Some j) true is_put lawful was =
+          named_more is_put.entry new is_put.put was.marked.size j was
+          (λ q left. marked_entry was.marked q left is_put.entry is_put.small (is_put.is q (told_extent old) left (told_behind was.marked q left))) lawful
+      windows_more new (Some j) false is_put lawful was =
+          named_more (Some nowhere) new is_put.0 was.marked.size j was (mark_entry was.marked new is_put) lawful
+      windows_more new None false is_put lawful was =
+          let marked = marked_from p c (k + 1) old was in
           record {
-            too_large = record {
-              within = slice_get_within p.system k f at;
-              bridge = subst (λ x. is_bridge x ≡ true) here is_one;
-              behind = subst (λ x. has_of q p.system c x ≡ true) here has;
-              large = subst (λ x. 2 ^ 64 ≤ (new_window q p.system c x).size) here size;
-            };
-            above = λ j up within bridge.
-                subst (λ xs. IsWindowOf (has_of q p.system c (function_in p.system j)) (new_window q p.system c (function_in p.system j)) (get_or xs (secondary (function_in p.system j)) None)) (sym is_put.0)
-                (was.each q left j (function_in p.system j) (omega (arith, up)) (slice_get-get_or p.system j no_function within) bridge);
+            up = omega arith;
+            marked = entries_more (Some nowhere) new is_put.0 was.size IsMarkedOf marked (mark_entry marked new is_put) lawful;
+            last = λ q left. (let large = is_put.1 q (told_extent old) left (told_behind marked q left) in record {
+              too_large = too_large_by q left (told_extent old) large.some (large_size marked q left large.large);
+              above = above_more (Some nowhere) new is_put.0 was.size q k (omega arith) (λ j up within bridge.
+                  was.each q left j (function_in p.system j) (omega (arith, up)) (slice_get-get_or p.system j no_function within) bridge);
+            });
           }
+
+    pub windows_same : r.bridge ≡ None → (large : Option ℕ) → AreWindowsOrLarge p c (k + 1) old large → AreWindowsOrLarge p c k old large
+    windows_same none None was = same_entries IsWindowOf none was
+    windows_same none (Some j) was = (let up = was.up in record { up = omega (arith, up); marked = same_entries IsMarkedOf none was.marked; last = was.last })
 
   -- ---- the records, from the last to the first
 
   module _ (records : List Record) (has : HasRecords p.system (map record_value records)) (done : ℕ) (r : Record) (less : done < length records) (read : r ≡ get_or records (length records - 1 - done) r)
-      (old : List (Option Extent)) (was : AreWindowsFrom p c (length p.system - done) old) where
+      (old : List (Option Extent)) (large : Option ℕ) (was : AreWindowsOrLarge p c (length p.system - done) old large) where
     abbrev place : ℕ
     place = length records - 1 - done
 
     here : FunctionAt p.system r place
     here = function_at p.system records has place r (slice_get_read records (length records) place r refl (omega (arith, less)) read)
 
-    before : AreWindowsFrom p c (place + 1) old
+    before : AreWindowsOrLarge p c (place + 1) old large
     before =
         let count = same_count p.system records has in
         let from : length p.system - done ≡ place + 1 = omega (arith, count, less) in
-        subst (λ n. AreWindowsFrom p c n old) from was
+        subst (λ n. AreWindowsOrLarge p c n old large) from was
 
     next : place ≡ length p.system - (done + 1)
     next = let count = same_count p.system records has in omega (arith, count, less)
 
-    pub step_same : r.bridge ≡ None → AreWindowsFrom p c (length p.system - (done + 1)) old
-    step_same none = subst (λ n. AreWindowsFrom p c n old) next (windows_same place here.f r here.at here.is old before none)
+    pub step_same : r.bridge ≡ None → AreWindowsOrLarge p c (length p.system - (done + 1)) old large
+    step_same none = subst (λ n. AreWindowsOrLarge p c n old large) next (windows_same place here.f r here.at here.is old none large before)
 
-    pub step_put : (b : Bridge) → r.bridge ≡ Some b → (new : List (Option Extent)) → IsPut p c b old new true → AreWindows new → AreWindowsFrom p c (length p.system - (done + 1)) new
-    step_put b there new put lawful = subst (λ n. AreWindowsFrom p c n new) next (windows_more place here.f r here.at here.is old before b there new put lawful)
-
-    pub step_large : (b : Bridge) → r.bridge ≡ Some b → (new : List (Option Extent)) → IsPut p c b old new false → AreNewWindows p c new (Some place)
-    step_large b there new put = too_large place here.f r here.at here.is old before b there new put
+    pub step_put : (b : Bridge) → r.bridge ≡ Some b → (new : List (Option Extent)) (fit : Bool) → IsPut p c b old new fit → AreWindows new → AreWindowsOrLarge p c (length p.system - (done + 1)) new (first_large large fit place)
+    step_put b there new fit put lawful = subst (λ n. AreWindowsOrLarge p c n new (first_large large fit place)) next (windows_more place here.f r here.at here.is old b there new large fit put lawful before)
 
   -- ---- all functions
 
@@ -265,9 +395,17 @@ module _ (p : Classing) (system : IsSystem p.system) (nested : IsNested p.roots 
           let own = was.each q left leads.0.0 f (omega arith) (at_place p.system f leads.0) leads.1 in
           ap (window_in windows) (sym leads.2) ∙ entry_is (has_of q p.system c f) (new_window q p.system c f) (get_or windows (secondary f) None) own ∙ sym (ap (window_over q p.system c) over)
 
-  pub whole_windows : (windows : List (Option Extent)) → AreWindowsFrom p c 0 windows → AreNewWindows p c windows None
-  whole_windows windows was q left = record {
+  pub whole_windows : (windows : List (Option Extent)) (large : Option ℕ) → AreWindowsOrLarge p c 0 windows large → AreNewWindows p c windows large
+  whole_windows windows None was = λ q left. record {
     over = λ bus small. over_bus windows was q left bus;
     terms = left.terms;
     behind = λ bus f listed beside bridge. was.each q left listed.0 f (omega arith) (at_place p.system f listed) bridge;
   }
+  whole_windows windows (Some j) was = was.last
+
+  of_marked : (windows : List (Option Extent)) → AreMarkedFrom p c 0 windows → AreMarkedWindows p c windows
+  of_marked windows was q left f listed bridge = was.each q left listed.0 f (omega arith) (at_place p.system f listed) bridge
+
+  pub marked_windows : (windows : List (Option Extent)) (large : Option ℕ) → AreWindowsOrLarge p c 0 windows large → AreMarkedWindows p c windows
+  marked_windows windows None was = of_marked windows (marked_from p c 0 windows was)
+  marked_windows windows (Some j) was = of_marked windows was.marked

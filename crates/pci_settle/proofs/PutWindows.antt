@@ -1,5 +1,5 @@
 -- The new window of a bridge, by what was listed for the bus behind it.
-use Rattle.std.proofs.Common.{◌≡◌, ℕ, ◌<◌, inl, inr, List, [], length, map, set, Bool, true, false, arith, sym, ◌∙◌, subst, refl, Option, Some, None}
+use Rattle.std.proofs.Common.{◌≡◌, ℕ, ◌<◌, ◌^◌, inl, inr, List, [], length, map, set, Bool, true, false, arith, sym, ◌∙◌, subst, refl, Option, Some, None}
 use Rattle.std.specs.Bool.{◌==◌}
 use Rattle.std.specs.List.{AllPairs, flat_map}
 use Rattle.std.proofs.lemmas.Bool.{both_ways, cases_lt, eqb-true, eq-eqb}
@@ -24,7 +24,7 @@ use Rattle.pci_settle.specs.Turns.{IsValued}
 use Rattle.pci_settle.specs.Windows.{IsAround}
 use Rattle.pci_settle.specs.Own.{Asking, AreByRank, item_value}
 use Rattle.pci_settle.specs.Buses.{AreBehind, Classing, IsLeft, Listing, IsListingOf, items_beside, AreOnBus}
-use Rattle.pci_settle.specs.NewWindows.{around_bus, highest_by, IsPut}
+use Rattle.pci_settle.specs.NewWindows.{around_bus, highest_by, nowhere, IsPut}
 
 module _ (l : Listing) (items : List Item) (on : AreOnBus l items) (a : Asking) (is : IsListingOf a l) where
   abbrev values : List ItemValue
@@ -84,6 +84,7 @@ module _ (p : Classing) (c : WindowKind) (b : Bridge) (windows : List (Option Ex
     entry = None;
     put = put;
     lawful = tt;
+    small = tt;
     is = λ q extent left behind. count_is behind_it items on (of_all q extent) (listed q extent left behind) ∙ empty;
   }
 
@@ -99,15 +100,16 @@ module _ (p : Classing) (c : WindowKind) (b : Bridge) (windows : List (Option Ex
     some_count : (q : Request) (extent : Function → ExtentValue) → IsLeft p q → AreBehind q p.system c extent b.secondary windows → 0 < length (items_on q p.system c nothing extent b.secondary)
     some_count q extent left behind = let e = count_is behind_it items on (of_all q extent) (listed q extent left behind) in omega (arith, e, some)
 
-    pub some_put : (window : Extent) → IsExtent window → IsAroundItems c highest items (Some window) → new ≡ set windows b.secondary (Some window) → IsPut p c b windows new true
-    some_put window lawful around put = record {
+    pub some_put : (window : Extent) → IsExtent window → window.size < 2 ^ 64 → IsAroundItems c highest items (Some window) → new ≡ set windows b.secondary (Some window) → IsPut p c b windows new true
+    some_put window lawful small around put = record {
       entry = Some window;
       put = put;
       lawful = lawful;
+      small = small;
       is = λ q extent left behind. (some_count q extent left behind, around_is q extent left behind (Some window) around);
     }
 
-    pub large_put : IsAroundItems c highest items None → new ≡ windows → IsPut p c b windows new false
+    pub large_put : IsAroundItems c highest items None → new ≡ set windows b.secondary (Some nowhere) → IsPut p c b windows new false
     large_put around put = (
       put,
       λ q extent left behind. record {

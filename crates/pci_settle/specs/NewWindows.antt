@@ -1,5 +1,6 @@
 -- The new windows of bridges in a class, by the bus behind each.
-use Rattle.std.specs.Prelude.{◌≡◌, ℕ, ◌<◌, ◌≤◌, ◌^◌, Bool, true, false, if◌then◌else◌, IsTrue, IfSome, List, map, length, set, Option, None, Some, slice_index_or}
+use Rattle.std.specs.Prelude.{◌≡◌, ℕ, ◌-◌, ◌<◌, ◌≤◌, ◌^◌, ◌⊎◌, Bool, true, false, if◌then◌else◌, IsTrue, IfSome, List, map, length, set, Option, None, Some, slice_index_or}
+use Rattle.std.specs.List.{Contains}
 use Rattle.std.specs.Option.{option_map}
 use Rattle.pci_spec.specs.Window.{WindowKind, IoWindow, MemoryWindow, PrefetchWindow, page_size}
 use Rattle.pci_spec.specs.System.{System, Function, is_bridge}
@@ -50,18 +51,24 @@ OfItems p c windows b holds =
     → AreBehind q p.system c extent b.secondary windows
     → holds (items_on q p.system c nothing extent b.secondary) (around_bus q p.system c extent b)
 
+-- what stands in a table for a window of 2^64 addresses or more: it has no place in any range
+abbrev pub nowhere : Extent
+nowhere = record { size = 2 ^ 64 - 1; alignment = 1; highest = 0 }
+
 -- the entry of the bus behind a bridge is put into a table
 pub record IsWindowPut (p : Classing) (c : WindowKind) (b : Bridge)
     (old new : List (Option Extent)) : Type 0 where
   pub entry : Option Extent
   pub put : new ≡ set old b.secondary entry
   pub lawful : IfSome entry IsExtent
+  pub small : IfSome entry (λ e. e.size < 2 ^ 64)
   pub is : OfItems p c old b (λ items around. IsEntry items around entry)
 
--- where it has fewer than 2^64 addresses
+-- where it has fewer than 2^64 addresses; else it is marked
 abbrev pub IsPut : Classing → WindowKind → Bridge → List (Option Extent) → List (Option Extent) → Bool → Type 0
 IsPut p c b old new true = IsWindowPut p c b old new
-IsPut p c b old new false = (new ≡ old) × OfItems p c old b AreTooLarge
+IsPut p c b old new false =
+    (new ≡ set old b.secondary (Some nowhere)) × OfItems p c old b AreTooLarge
 
 -- ---- of all bridges
 
@@ -101,9 +108,44 @@ pub record IsLastTooLarge (q : Request) (s : System) (c : WindowKind) (windows :
       → IsWindowOf (has_of q s c (function_in s j)) (new_window q s c (function_in s j))
       (slice_index_or windows (secondary (function_in s j)) None)
 
+-- the bridge that is named: the first that is found
+abbrev pub first_large : Option ℕ → Bool → ℕ → Option ℕ
+first_large (Some j) fits k = Some j
+first_large None true k = None
+first_large None false k = Some k
+
 -- the table has the new window over each bus, or a bridge is named whose new window has 2^64 addresses or more
 abbrev pub AreNewWindows : Classing → WindowKind → List (Option Extent) → Option ℕ → Type 0
 AreNewWindows p c windows None =
     (q : Request) → IsLeft p q → HasNewWindows q p.system c p.terms windows
 AreNewWindows p c windows (Some k) =
     (q : Request) → IsLeft p q → IsLastTooLarge q p.system c windows k
+
+-- ---- where some are too large
+
+-- an extent of the code is one of the definitions, or marks one of 2^64 addresses or more
+abbrev pub IsMarking : ExtentValue → Extent → Type 0
+IsMarking e x = (extent_value x ≡ e) ⊎ ((x ≡ nowhere) × (2 ^ 64 ≤ e.size))
+
+-- the new window of a bridge, or its mark, where the bridge has something of the class behind it
+abbrev pub IsMarkedOf : Bool → ExtentValue → Option Extent → Type 0
+IsMarkedOf there e None = there ≡ false
+IsMarkedOf there e (Some x) = IsTrue there × IsMarking e x
+
+-- a table has the new window of each bridge, or its mark
+abbrev pub HasMarkedWindows : Request → System → WindowKind → List (Option Extent) → Type 0
+HasMarkedWindows q s c windows =
+    (f : Function) → Contains s f → IsTrue (is_bridge f)
+    → IsMarkedOf (has_of q s c f) (new_window q s c f) (slice_index_or windows (secondary f) None)
+
+abbrev pub AreMarkedWindows : Classing → WindowKind → List (Option Extent) → Type 0
+AreMarkedWindows p c windows =
+    (q : Request) → IsLeft p q → HasMarkedWindows q p.system c windows
+
+-- the extents that a table tells, by the bus behind each bridge
+abbrev pub extent_or : Option Extent → ExtentValue
+extent_or None = extent_value nowhere
+extent_or (Some x) = extent_value x
+
+abbrev pub told_extent : List (Option Extent) → Function → ExtentValue
+told_extent windows f = extent_or (slice_index_or windows (secondary f) None)

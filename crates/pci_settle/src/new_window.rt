@@ -3,7 +3,7 @@ ghost use Rattle.std.specs.Prelude.{◌≡◌, IfOk};
 ghost use Rattle.pci_base.specs.WindowKinds.{kind_value};
 ghost use Rattle.pci_place.specs.Above.{AreAboves, system_in, is_wide_in};
 ghost use Rattle.pci_settle.specs.Buses.{AreWindows, classing_of};
-ghost use Rattle.pci_settle.specs.NewWindows.{highest_by, IsPut, AreNewWindows};
+ghost use Rattle.pci_settle.specs.NewWindows.{highest_by, nowhere, IsPut, first_large, AreNewWindows, AreMarkedWindows};
 
 use crate::bus::items_on;
 use crate::extent::Extent;
@@ -41,8 +41,19 @@ fn highest_in(class: WindowKind, windows: &Windows) -> u64
     }
 }
 
+/// What stands in a table for a window of 2^64 addresses or more: no range has a place for it.
+fn nowhere() -> Extent
+    ensures { result ≡ nowhere }
+{
+    Extent {
+        size: u64::MAX,
+        alignment: 1,
+        highest: 0,
+    }
+}
+
 /// Puts the new window of a bridge into the table, at the bus behind it: None where that has no item. False where the
-/// window would have 2^64 addresses or more.
+/// window would have 2^64 addresses or more, which is marked there.
 fn put_window<A: Allocator + Copy, B: Allocator>(
     alloc: A,
     admitted: &Admitted<B>,
@@ -75,7 +86,21 @@ fn put_window<A: Allocator + Copy, B: Allocator>(
             windows[bus as usize] = Some(window);
             Ok(true)
         }
-        None => Ok(false),
+        None => {
+            windows[bus as usize] = Some(nowhere());
+            Ok(false)
+        }
+    }
+}
+
+/// The bridge that is named of those whose windows are too large: the one before, or this one where it is the first found.
+fn first_large(large: Option<usize>, fits: bool, function: usize) -> Option<usize>
+    ensures { result ≡ first_large large fits function }
+{
+    match large {
+        Some(_) => large,
+        None if fits => None,
+        None => Some(function),
     }
 }
 
@@ -85,7 +110,8 @@ fn put_window<A: Allocator + Copy, B: Allocator>(
 /// the windows on a bus before the one over it.
 ///
 /// The answer is None where all windows have fewer than 2^64 addresses. Else it is the index of a bridge whose window
-/// has that many or more: the last such one in slot order, and the table has the windows of all bridges after it.
+/// has that many or more: the last such one in slot order. The table then has an extent in the place of each such window
+/// for which no range has a place.
 pub fn new_windows<A: Allocator + Copy, B: Allocator>(
     alloc: A,
     admitted: &Admitted<B>,
@@ -100,20 +126,23 @@ pub fn new_windows<A: Allocator + Copy, B: Allocator>(
     ensures windows { IfOk result (AreNewWindows (classing_of admitted.now terms overs.now)
         (kind_value class) windows.new) }
     // what is in the table has addresses and an alignment, also where there was no memory for all
+    // where one is too large, all others are as they are, and it is marked
+    ensures marked { IfOk result (λ _. AreMarkedWindows (classing_of admitted.now terms overs.now)
+        (kind_value class) windows.new) }
     ensures lawful { AreWindows windows.new }
 {
     *windows = [None; BUSES];
+    let mut large = None;
     let outline = admitted.outline();
     let records = outline.records();
     for done in 0..records.len() {
         let function = records.len() - 1 - done;
         if let Some(bridge) = &records[function].bridge {
-            if !put_window(
+            let fits = put_window(
                 alloc, admitted, bridge, class, aboves, terms, overs, windows,
-            )? {
-                return Ok(Some(function));
-            }
+            )?;
+            large = first_large(large, fits, function);
         }
     }
-    Ok(None)
+    Ok(large)
 }

@@ -4,10 +4,9 @@ use Rattle.pci_function.specs.declared.record.Record.{Record}
 use Rattle.pci_place.specs.Above.{system_in}
 use Rattle.pci_place.proofs.Records.{lent, same_count}
 use Rattle.pci_settle.specs.Buses.{classing_of}
-use Rattle.pci_settle.specs.NewWindows.{IsPut}
-use Rattle.pci_settle.proofs.NewWindows.{AreWindowsFrom, windows_none, step_same, step_put, step_large, whole_windows}
+use Rattle.pci_settle.proofs.NewWindows.{AreWindowsOrLarge, windows_none, step_same, step_put, whole_windows, marked_windows}
 use Rattle.pci_settle.proofs.new_window.new_windows.Goals as goal
-use Rattle.pci_settle.proofs.new_window.new_windows.Goals.{in-Some+in_ok-put_window+else-not-branch, in_default}
+use Rattle.pci_settle.proofs.new_window.new_windows.Goals.{in-Some+in_ok-fits, in_default}
 
 pub loop-done-init : goal.loop-done-init
 loop-done-init g c =
@@ -15,33 +14,26 @@ loop-done-init g c =
     let admitted = c.outline-outline.ensures.admitted in
     windows_none (classing_of c.args.admitted.now c.args.terms c.args.overs.now) admitted.system admitted.nested (kind_value c.args.class) (length s - 0) (omega arith)
 
-pub returns-then-not-branch-clause-windows : goal.returns-then-not-branch-clause-windows
-returns-then-not-branch-clause-windows g c =
-    let s = system_in c.args.admitted.now in
-    let admitted = c.outline-outline.ensures.admitted in
-    let records = c.records-records.result.now in
-    let has = lent s records c.records-records.ensures.value c.outline-outline.ensures.records in
-    step_large (classing_of c.args.admitted.now c.args.terms c.args.overs.now) admitted.system admitted.nested (kind_value c.args.class) records has c.loop-done.done c.index-records-function.result c.loop-done-test.true c.index-records-function.is
-    c.loop-done.windows c.loop-done.invariant c.in-Some.bridge (ap (λ (x : Record). x.bridge) c.index-records-function.is ∙ c.in-Some.is) c.put_window.new.windows
-    (subst (IsPut (classing_of c.args.admitted.now c.args.terms c.args.overs.now) (kind_value c.args.class) c.in-Some.bridge c.loop-done.windows c.put_window.new.windows) c.if-not-branch.true c.in_ok-put_window.ensures.put)
-
 pub loop-done-preserved : goal.loop-done-preserved
 loop-done-preserved g c =
     let s = system_in c.args.admitted.now in
     let admitted = c.outline-outline.ensures.admitted in
     let records = c.records-records.result.now in
     let has = lent s records c.records-records.ensures.value c.outline-outline.ensures.records in
+    let p = classing_of c.args.admitted.now c.args.terms c.args.overs.now in
+    let class = kind_value c.args.class in
     elim c.match-records-function.branch [
-      | in-Some+in_ok-put_window+else-not-branch w ↦
-          subst (AreWindowsFrom (classing_of c.args.admitted.now c.args.terms c.args.overs.now) (kind_value c.args.class) (length s - (c.loop-done.done + 1))) (sym w.windows-is)
-          (step_put (classing_of c.args.admitted.now c.args.terms c.args.overs.now) admitted.system admitted.nested (kind_value c.args.class) records has c.loop-done.done c.index-records-function.result c.loop-done-test.true
-          c.index-records-function.is c.loop-done.windows c.loop-done.invariant w.in-Some.bridge (ap (λ (x : Record). x.bridge) c.index-records-function.is ∙ w.in-Some.is) w.put_window.new.windows
-          (subst (IsPut (classing_of c.args.admitted.now c.args.terms c.args.overs.now) (kind_value c.args.class) w.in-Some.bridge c.loop-done.windows w.put_window.new.windows) w.if-not-branch.false w.in_ok-put_window.ensures.put)
-          w.put_window.ensures.lawful)
+      | in-Some+in_ok-fits w ↦
+          let put = step_put p admitted.system admitted.nested class records has c.loop-done.done c.index-records-function.result c.loop-done-test.true c.index-records-function.is
+          c.loop-done.windows c.loop-done.large c.loop-done.invariant w.in-Some.bridge (ap (λ (x : Record). x.bridge) c.index-records-function.is ∙ w.in-Some.is)
+          w.put_window.new.windows w.in_ok-fits.fits w.in_ok-fits.ensures.put w.put_window.ensures.lawful in
+          subst (λ xs. AreWindowsOrLarge p class (length s - (c.loop-done.done + 1)) xs c.match-records-function.large) (sym w.windows-is)
+          (subst (AreWindowsOrLarge p class (length s - (c.loop-done.done + 1)) w.put_window.new.windows) (sym (w.large-is ∙ w.first_large-large.ensures)) put)
       | in_default w ↦
-          subst (AreWindowsFrom (classing_of c.args.admitted.now c.args.terms c.args.overs.now) (kind_value c.args.class) (length s - (c.loop-done.done + 1))) (sym w.windows-is)
-          (step_same (classing_of c.args.admitted.now c.args.terms c.args.overs.now) admitted.system admitted.nested (kind_value c.args.class) records has c.loop-done.done c.index-records-function.result c.loop-done-test.true
-          c.index-records-function.is c.loop-done.windows c.loop-done.invariant (ap (λ (x : Record). x.bridge) c.index-records-function.is ∙ w.in_default.is))
+          let same = step_same p admitted.system admitted.nested class records has c.loop-done.done c.index-records-function.result c.loop-done-test.true c.index-records-function.is
+          c.loop-done.windows c.loop-done.large c.loop-done.invariant (ap (λ (x : Record). x.bridge) c.index-records-function.is ∙ w.in_default.is) in
+          subst (λ xs. AreWindowsOrLarge p class (length s - (c.loop-done.done + 1)) xs c.match-records-function.large) (sym w.windows-is)
+          (subst (AreWindowsOrLarge p class (length s - (c.loop-done.done + 1)) c.loop-done.windows) (sym w.large-is) same)
     ]
 
 at_start : (n done : ℕ) → n ≤ done → n - done ≡ 0
@@ -55,5 +47,16 @@ returns-clause-windows g c =
     let has = lent s records c.records-records.ensures.value c.outline-outline.ensures.records in
     let count = same_count s records has in
     let start = at_start (length s) c.loop-done.done (omega (arith, count)) in
-    whole_windows (classing_of c.args.admitted.now c.args.terms c.args.overs.now) admitted.system admitted.nested (kind_value c.args.class) c.loop-done.windows
-    (subst (λ n. AreWindowsFrom (classing_of c.args.admitted.now c.args.terms c.args.overs.now) (kind_value c.args.class) n c.loop-done.windows) start c.loop-done.invariant)
+    whole_windows (classing_of c.args.admitted.now c.args.terms c.args.overs.now) admitted.system admitted.nested (kind_value c.args.class) c.loop-done.windows c.loop-done.large
+    (subst (λ n. AreWindowsOrLarge (classing_of c.args.admitted.now c.args.terms c.args.overs.now) (kind_value c.args.class) n c.loop-done.windows c.loop-done.large) start c.loop-done.invariant)
+
+pub returns-clause-marked : goal.returns-clause-marked
+returns-clause-marked g c =
+    let s = system_in c.args.admitted.now in
+    let admitted = c.outline-outline.ensures.admitted in
+    let records = c.records-records.result.now in
+    let has = lent s records c.records-records.ensures.value c.outline-outline.ensures.records in
+    let count = same_count s records has in
+    let start = at_start (length s) c.loop-done.done (omega (arith, count)) in
+    marked_windows (classing_of c.args.admitted.now c.args.terms c.args.overs.now) admitted.system admitted.nested (kind_value c.args.class) c.loop-done.windows c.loop-done.large
+    (subst (λ n. AreWindowsOrLarge (classing_of c.args.admitted.now c.args.terms c.args.overs.now) (kind_value c.args.class) n c.loop-done.windows c.loop-done.large) start c.loop-done.invariant)

@@ -1,4 +1,4 @@
-use Rattle.std.proofs.Common.{◌≡◌, ◌<◌, arith, refl, length, subst}
+use Rattle.std.proofs.Common.{◌≡◌, ◌<◌, arith, refl, length, set, ap, subst, rules, Some}
 use Rattle.std.specs.Option.{IfSome}
 use Rattle.pci_base.specs.WindowKinds.{kind_value}
 use Rattle.pci_settle.specs.Spots.{IsExtent}
@@ -18,6 +18,7 @@ returns-in-Some-clause-put g c =
     let around : IsAroundItems (kind_value c.args.class) highest c.in_ok-items.items.items c.in_ok-window.field-0 = c.in_ok-window.ensures.around in
     some_put (classing_of c.args.admitted.now c.args.terms c.args.overs.now) (kind_value c.args.class) c.args.bridge.now c.args.windows.now c.in_ok-items.items.items c.in_ok-items.ensures.items _
     some highest c.highest_in-highest.ensures c.in-Some.window (subst (λ o. IfSome o IsExtent) c.in-Some.is (c.in_ok-window.ensures.some some))
+    (search rules)
     (subst (IsAroundItems (kind_value c.args.class) highest c.in_ok-items.items.items) c.in-Some.is around) refl
 
 pub returns-clause-put : goal.returns-clause-put
@@ -26,4 +27,4 @@ returns-clause-put g c =
     let highest = c.highest_in-highest.result in
     let around : IsAroundItems (kind_value c.args.class) highest c.in_ok-items.items.items c.in_ok-window.field-0 = c.in_ok-window.ensures.around in
     large_put (classing_of c.args.admitted.now c.args.terms c.args.overs.now) (kind_value c.args.class) c.args.bridge.now c.args.windows.now c.in_ok-items.items.items c.in_ok-items.ensures.items _
-    some highest c.highest_in-highest.ensures (subst (IsAroundItems (kind_value c.args.class) highest c.in_ok-items.items.items) c.in-None.is around) refl
+    some highest c.highest_in-highest.ensures (subst (IsAroundItems (kind_value c.args.class) highest c.in_ok-items.items.items) c.in-None.is around) (ap (λ x. set c.args.windows.now c.args.bridge.now.secondary (Some x)) c.nowhere.ensures)
