@@ -1,5 +1,5 @@
 -- What is asked for leaves the open windows over each bus, and in lists of I/O alone no window of memory stands.
-use Rattle.std.proofs.Common.{◌≡◌, ℕ, List, map, replicate, refl, Option, None}
+use Rattle.std.proofs.Common.{◌≡◌, ℕ, inl, List, map, replicate, refl, Option, None}
 use Rattle.std.specs.Option.{IfSome}
 use Rattle.std.proofs.lemmas.Bool.{both_ways}
 use Rattle.std.proofs.lemmas.List.Elements.{All-replicate}
@@ -30,9 +30,9 @@ use Rattle.pci_settle.specs.Own.{AreTerms}
 use Rattle.pci_settle.specs.Buses.{AreWindows, Classing, classing_of, IsLeft}
 use Rattle.pci_stand.specs.Known.{asked}
 use Rattle.pci_stay.specs.declared.windows.TooLarge.{TooLarge}
-use Rattle.pci_stay.specs.Windows.{AreOpenFor, HasWindowsOf, IsTooLargeOf, IsTooLargeIn, AreAllLawful}
+use Rattle.pci_stay.specs.Windows.{AreOpenFor, HasWindowsOf, IsTooLargeOf, AreAllLawful}
 use Rattle.pci_stay.specs.Holding.{HasNewWhereStands}
-use Rattle.pci_stay.specs.Staying.{IsTooLargeFor, IsTooLargeInIo, asked_in_io}
+use Rattle.pci_stay.specs.Staying.{IsTooLargeInIo, asked_in_io}
 use Rattle.pci_stay.proofs.Opened.{tree_of}
 
 -- what is asked for, by the open windows over each bus
@@ -43,10 +43,6 @@ left_of a l fixed admitted records same has terms are over opened = record {
   terms = are;
   overs_are = opened (asked a.roots l fixed) (system_in a) (tree_of a l fixed admitted records same has);
 }
-
-pub too_large : (p : Classing) (q : Request) → IsLeft p q → (x : Refused TooLarge) → IsTooLargeIn p x → IsTooLargeFor q p.system x
-too_large p q left refused.Memory told = tt
-too_large p q left (refused.Fault x) told = told q left
 
 pub too_large_in_io : (p : Classing) (q : Request) → IsLeft p q → (x : Refused TooLarge) → IsTooLargeOf p IoWindow x → IsTooLargeInIo q p.system x
 too_large_in_io p q left refused.Memory told = tt
@@ -62,6 +58,6 @@ io_lawful io lawful Prefetchable = no_windows
 
 pub new_in_io : (p : Classing) (windows : ByKind (List (Option Extent))) (roots : List ℕ) (io : List RootRange) (fixed : List Slot) → IsLeft p (asked_in_io roots io fixed) → HasWindowsOf p IoWindow windows.io
     → (class : WindowKind) → HasNewWhereStands (asked_in_io roots io fixed) p class (by_kind windows class)
-new_in_io p windows roots io fixed left has Io f is = has (asked_in_io roots io fixed) left
-new_in_io p windows roots io fixed left has Memory f is = absurd (both_ways (stands (asked_in_io roots io fixed) p.system (window_region (kind_value Memory) f)) (none_in_memory (asked_in_io roots io fixed) p.system (window_region (kind_value Memory) f) refl) is)
-new_in_io p windows roots io fixed left has Prefetchable f is = absurd (both_ways (stands (asked_in_io roots io fixed) p.system (window_region (kind_value Prefetchable) f)) (none_in_memory (asked_in_io roots io fixed) p.system (window_region (kind_value Prefetchable) f) refl) is)
+new_in_io p windows roots io fixed left has Io f listed is = inl (has (asked_in_io roots io fixed) left)
+new_in_io p windows roots io fixed left has Memory f listed is = absurd (both_ways (stands (asked_in_io roots io fixed) p.system (window_region (kind_value Memory) f)) (none_in_memory (asked_in_io roots io fixed) p.system (window_region (kind_value Memory) f) refl) is)
+new_in_io p windows roots io fixed left has Prefetchable f listed is = absurd (both_ways (stands (asked_in_io roots io fixed) p.system (window_region (kind_value Prefetchable) f)) (none_in_memory (asked_in_io roots io fixed) p.system (window_region (kind_value Prefetchable) f) refl) is)

@@ -64,6 +64,14 @@ none_closed f c o is none = false_from_ne_true (is_open f c) (λ opens.
     let some : o ≡ Some (range_of f (Window c)) = is ∙ ap (λ b. cond b (Some (range_of f (Window c))) None) opens in
     let both : Some (range_of f (Window c)) ≡ None = sym some ∙ none in cc)
 
+pub some_open : (f : Function) (c : WindowKind) (o : Option Range) (r : Range) → o ≡ cond (is_open f c) (Some (range_of f (Window c))) None → o ≡ Some r → is_open f c ≡ true
+some_open f c o r is some = elim (cases_Bool (is_open f c)) [
+  | inl opens ↦ opens
+  | inr closed ↦
+      let both : Some r ≡ None = sym some ∙ is ∙ ap (λ b. cond b (Some (range_of f (Window c))) None) closed in
+      absurd (let no : ⊥ = cc in no)
+]
+
 pub some_range : (f : Function) (c : WindowKind) (o : Option Range) (r : Range) → o ≡ cond (is_open f c) (Some (range_of f (Window c))) None → o ≡ Some r → r ≡ range_of f (Window c)
 some_range f c o r is some = elim (cases_Bool (is_open f c)) [
   | inl opens ↦

@@ -2,5 +2,6 @@ pub mod Opened
 pub mod Rows
 pub mod Rooms
 pub mod Held
+pub mod Marks
 pub mod Stays
 pub mod Asked

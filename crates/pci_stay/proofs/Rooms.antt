@@ -31,7 +31,6 @@ use Rattle.pci_settle.specs.declared.placing.Wanted.{Wanted}
 use Rattle.pci_settle.specs.Kept.{part_value, AreKept}
 use Rattle.pci_settle.specs.Own.{item_value}
 use Rattle.pci_settle.specs.Buses.{Listing, AreInTurn}
-use Rattle.pci_settle.specs.NewWindows.{asking_of}
 use Rattle.pci_settle.specs.Placings.{HasList, IsWanted, AreWanted, placing_of, lacks_first}
 use Rattle.pci_settle.specs.Turns.{HasExtent}
 use Rattle.pci_settle.proofs.Headers.{filter_same, header_has}
@@ -142,8 +141,8 @@ module _ (l : Listing) (rs : List CodeRegion) (range : Range)
     abbrev in_window : ItemValue → List decoded.Range
     in_window i = addresses (window_region l.class b) ∷ []
 
-    values_are : values ≡ items_on q l.classing.system l.class keeps (new_window q l.classing.system l.class) l.bus
-    values_are = turn (asking_of q l.classing.system l.class keeps) is.listed
+    values_are : values ≡ items_on q l.classing.system l.class keeps is.extent l.bus
+    values_are = turn record { request = q; keeps = keeps; extent = is.extent } is.listed
 
     are_wanted : AreWanted lists in_window values wanted
     are_wanted = record {
@@ -175,6 +174,7 @@ module _ (l : Listing) (rs : List CodeRegion) (range : Range)
         ∙ ap are_placed (sym (same_places in_window values (map decoded_range_of found) (map decoded_range_of taken) aligned (have_same found taken moved)))
         ∙ ap (λ xs. are_placed (place_all in_window xs values)) (taken_is q l.classing.system l.class keeps rs l.kept is.parts is.listed.keeps_is l.bus is.no_root)
         ∙ ap (λ xs. are_placed (place_all in_window (taken_on q l.classing.system l.class keeps l.bus) xs)) values_are
+        ∙ is.same (taken_on q l.classing.system l.class keeps l.bus)
         ∙ ap (λ n. are_placed (place_all in_window (taken_on q l.classing.system l.class keeps n) (items_on q l.classing.system l.class keeps (new_window q l.classing.system l.class) n))) (sym is.bus_is)
       where
         within_values : (o : Option ℕ) → IfSome o (λ k. k < length wanted) → IfSome o (λ k. k < length values)

@@ -1,8 +1,11 @@
 -- What a table tells of parts that hold.
-use Rattle.std.specs.Prelude.{◌≡◌, ℕ, ◌<◌, ◌≤◌, Bool, ◌&&◌, if◌then◌else◌, IsTrue, List, length, Option, Some, slice_get, slice_index_or}
+use Rattle.std.specs.Prelude.{◌≡◌, ℕ, ◌<◌, ◌≤◌, ◌⊎◌, Bool, ◌&&◌, if◌then◌else◌, IsTrue, List, length, Option, Some, slice_get, slice_index_or}
+use Rattle.std.specs.List.{Contains}
 use Rattle.pci_spec.specs.Window.{WindowKind}
-use Rattle.pci_spec.specs.System.{System, Function, Part, IsSystem, has_part}
+use Rattle.pci_spec.specs.System.{System, Function, Part, Window, IsSystem, has_part}
 use Rattle.pci_spec.specs.Bus.{IsNested}
+use Rattle.plan_spec.specs.Plan.{is_open}
+use Rattle.plan_spec.specs.Planning.Layout.{range_of}
 use Rattle.settle_spec.specs.Lists.{Request}
 use Rattle.settle_spec.specs.Parts.{Region}
 use Rattle.settle_spec.specs.Stands.{window_region, stands}
@@ -14,17 +17,26 @@ use Rattle.pci_settle.specs.declared.extent.Extent.{Extent}
 use Rattle.pci_settle.specs.declared.kept.Kept.{Kept}
 use Rattle.pci_settle.specs.Kept.{kept_of, nothing_kept}
 use Rattle.pci_settle.specs.Buses.{Classing, IsLeft}
-use Rattle.pci_settle.specs.NewWindows.{HasNewWindows}
+use Rattle.pci_settle.specs.NewWindows.{HasNewWindows, HasMarkedWindows}
 use Rattle.pci_stand.specs.declared.region.Region.{Region as CodeRegion}
 use Rattle.pci_stand.specs.Boards.{AreOpen}
 use Rattle.pci_stand.specs.Known.{AreParts}
 use Rattle.pci_stand.specs.Tables.{stands_in}
+use Rattle.pci_stay.specs.Windows.{IsWhole}
 
--- a table has the new windows of a class, where a window of it stands
+-- a table has the new windows of a class, or marks those that an open window of a bridge has no room for
+abbrev pub HasNewBeside : Request → Classing → WindowKind → List (Option Extent) → Function → Type 0
+HasNewBeside q p c windows f =
+    HasNewWindows q p.system c p.terms windows
+    ⊎ (HasMarkedWindows q p.system c windows
+    × (IsTrue (is_open f c) → IsWhole (range_of f (Window c)) → ⊥))
+
+-- so it is of each window of the class that stands
 abbrev pub HasNewWhereStands : Request → Classing → CodeKind → List (Option Extent) → Type 0
 HasNewWhereStands q p class windows =
-    (f : Function) → IsTrue (stands q p.system (window_region (kind_value class) f))
-    → HasNewWindows q p.system (kind_value class) p.terms windows
+    (f : Function) → Contains p.system f
+    → IsTrue (stands q p.system (window_region (kind_value class) f))
+    → HasNewBeside q p (kind_value class) windows f
 
 -- what is asked for of a lawful system, with the parts, the open windows and the new ones
 pub record IsAsking (p : Classing) (windows : ByKind (List (Option Extent))) (regions : List CodeRegion)

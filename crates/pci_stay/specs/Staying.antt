@@ -20,6 +20,7 @@ use Rattle.pci_stand.specs.Boards.{AreOpen}
 use Rattle.pci_stand.specs.Known.{asked, region_value}
 use Rattle.pci_stand.specs.Tables.{stands_in}
 use Rattle.pci_stay.specs.declared.windows.TooLarge.{TooLarge}
+use Rattle.pci_stay.specs.Windows.{HasWholeWindow}
 
 -- of the first parts a table tells which stay, and of the rest which hold
 pub record IsStayedTo (q : Request) (s : System) (rs : List CodeRegion) (n : ℕ)
@@ -54,7 +55,8 @@ IsTooLargeInIo q s refused.Memory = ⊤
 IsTooLargeInIo q s (refused.Fault x) =
     (kind_value x.class ≡ IoWindow) × IsTooLarge q s IoWindow x.function
 
--- a new window of some class is too large, or there was no memory
+-- a new window of some class is too large, and an open window has all addresses, or there was no memory
 abbrev pub IsTooLargeFor : Request → System → Refused TooLarge → Type 0
 IsTooLargeFor q s refused.Memory = ⊤
-IsTooLargeFor q s (refused.Fault x) = IsTooLarge q s (kind_value x.class) x.function
+IsTooLargeFor q s (refused.Fault x) =
+    IsTooLarge q s (kind_value x.class) x.function × HasWholeWindow s

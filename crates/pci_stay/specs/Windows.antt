@@ -1,22 +1,29 @@
 -- The windows of bridges: those that are open, and the new ones of all classes.
-use Rattle.std.specs.Prelude.{◌≡◌, IsFalse, List, map, Option, ⊤}
-use Rattle.pci_spec.specs.Window.{WindowKind}
-use Rattle.pci_spec.specs.System.{System, IsSystem}
+use Rattle.std.specs.Prelude.{◌≡◌, ℕ, ◌+◌, ◌^◌, ◌==◌, Bool, false, ◌&&◌, ◌||◌, IsTrue, IsFalse, List, map, Option, None, Some, ⊤}
+use Rattle.std.specs.List.{Contains}
+use Rattle.pci_spec.specs.Window.{WindowKind, IoWindow, MemoryWindow, PrefetchWindow}
+use Rattle.pci_spec.specs.System.{System, Function, Window, IsSystem}
 use Rattle.pci_spec.specs.Bus.{IsNested}
-use Rattle.pci_spec.specs.Decoded.{HasRecords}
+use Rattle.pci_spec.specs.Decoded.{Range, HasRecords}
+use Rattle.plan_spec.specs.Plan.{is_open}
+use Rattle.plan_spec.specs.Planning.Layout.{range_of}
 use Rattle.settle_spec.specs.Lists.{Request}
 use Rattle.pci_base.specs.declared.memory.Refused.{Refused}
 use Rattle.pci_base.specs.declared.memory.Refused.TheVariants as refused
 use Rattle.pci_base.specs.declared.window_kind.WindowKind.{WindowKind as CodeKind}
+use Rattle.pci_base.specs.declared.window_kind.WindowKind.TheVariants as kinds
 use Rattle.pci_base.specs.declared.window_kind.ByKind.{ByKind}
 use Rattle.pci_base.specs.WindowKinds.{kind_value, by_kind}
+use Rattle.pci_image.specs.Windows.{window_of}
+use Rattle.pci_function.specs.declared.record.Bridge.{Bridge}
 use Rattle.pci_function.specs.declared.record.Record.{Record}
 use Rattle.pci_function.specs.Values.{record_value}
+use Rattle.pci_tree.specs.Passes.{range_in}
 use Rattle.pci_settle.specs.declared.extent.Extent.{Extent}
 use Rattle.pci_settle.specs.declared.over.OpenWindows.{OpenWindows}
 use Rattle.pci_settle.specs.Buses.{AreWindows, Classing, IsLeft}
 use Rattle.pci_settle.specs.Over.{AreOpenOver}
-use Rattle.pci_settle.specs.NewWindows.{HasNewWindows, IsTooLarge}
+use Rattle.pci_settle.specs.NewWindows.{HasNewWindows, IsTooLarge, AreMarkedWindows}
 use Rattle.pci_stay.specs.declared.windows.TooLarge.{TooLarge}
 
 -- a lawful system with these records, of which nothing is placed anew
@@ -51,8 +58,57 @@ HasAllWindows p windows =
 abbrev pub AreAllLawful : ByKind (List (Option Extent)) → Type 0
 AreAllLawful windows = (class : CodeKind) → AreWindows (by_kind windows class)
 
--- a new window of some class is too large, or there was no memory
-abbrev pub IsTooLargeIn : Classing → Refused TooLarge → Type 0
-IsTooLargeIn p refused.Memory = ⊤
-IsTooLargeIn p (refused.Fault x) =
-    (q : Request) → IsLeft p q → IsTooLarge q p.system (kind_value x.class) x.function
+-- the first class of which a bridge is named
+abbrev pub first_of : Option ℕ → Option ℕ → Option ℕ → Option TooLarge
+first_of (Some k) memory prefetchable = Some record { class = kinds.Io; function = k }
+first_of None (Some k) prefetchable = Some record { class = kinds.Memory; function = k }
+first_of None None (Some k) = Some record { class = kinds.Prefetchable; function = k }
+first_of None None None = None
+
+-- or marks those of 2^64 addresses or more
+abbrev pub HasAllMarked : Classing → ByKind (List (Option Extent)) → Type 0
+HasAllMarked p windows =
+    (class : CodeKind) → AreMarkedWindows p (kind_value class) (by_kind windows class)
+
+-- where one is so large, a bridge is named of which it is
+abbrev pub AreAllNew : Classing → ByKind (List (Option Extent)) → Option TooLarge → Type 0
+AreAllNew p windows None = HasAllWindows p windows
+AreAllNew p windows (Some x) =
+    HasAllMarked p windows
+    × ((q : Request) → IsLeft p q → IsTooLarge q p.system (kind_value x.class) x.function)
+
+-- ---- windows of all addresses
+
+abbrev pub is_whole_range : Option Range → Bool
+is_whole_range None = false
+is_whole_range (Some r) = r.first == 0 && r.last == 0xffff_ffff_ffff_ffff
+
+abbrev pub opens_whole : Bridge → Bool
+opens_whole b =
+    is_whole_range (range_in (window_of b.windows IoWindow))
+    || is_whole_range (range_in (window_of b.windows MemoryWindow))
+    || is_whole_range (range_in (window_of b.windows PrefetchWindow))
+
+abbrev pub whole_by : Option Bridge → Bool
+whole_by None = false
+whole_by (Some b) = opens_whole b
+
+-- an open window of a bridge has all addresses of 64 bits
+abbrev pub has_whole : Record → Bool
+has_whole r = whole_by r.bridge
+
+abbrev pub HasWhole : List Record → Type 0
+HasWhole records = (r : Record) × (Contains records r × IsTrue (has_whole r))
+
+-- a range has all addresses of 64 bits
+pub record IsWhole (r : Range) : Type 0 where
+  pub first : r.first ≡ 0
+  pub last : r.last + 1 ≡ 2 ^ 64
+
+-- an open window of a function is such a range
+pub record HasWholeWindow (s : System) : Type 0 where
+  pub function : Function
+  pub listed : Contains s function
+  pub class : WindowKind
+  pub shows : IsTrue (is_open function class)
+  pub whole : IsWhole (range_of function (Window class))

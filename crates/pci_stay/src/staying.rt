@@ -15,7 +15,7 @@ ghost use Rattle.pci_stay.specs.Holding.{IsKnowing, AreHolding};
 ghost use Rattle.pci_stay.specs.Staying.{IsStayedTo, AreStaying, IsTooLargeFor, IsTooLargeInIo, asked_in_io};
 
 use crate::holding::hold_all;
-use crate::windows::{TooLarge, all_windows, io_windows, open_windows};
+use crate::windows::{TooLarge, all_windows, io_windows, open_windows, unknown_beside};
 use pci_base::memory::{OutOfMemory, Refused};
 use pci_base::range::RootRange;
 use pci_base::slot::{BUSES, Slot};
@@ -110,7 +110,8 @@ fn stay_by<A: Allocator + Copy, B: Allocator>(
 /// Which parts of each function stay where they are, in slot order: they stand, a window has room for what is behind it,
 /// and so does each window above. `fixed` are the slots of functions whose registers may not be written.
 ///
-/// A bridge is named whose new window would have 2^64 addresses or more.
+/// A bridge is named whose new window would have 2^64 addresses or more, where an open window has all addresses of 64 bits:
+/// no other one has room for it.
 pub fn staying<A: Allocator + Copy, B: Allocator>(
     alloc: A,
     admitted: &Admitted<B>,
@@ -125,10 +126,15 @@ pub fn staying<A: Allocator + Copy, B: Allocator>(
 {
     let aboves = aboves(admitted);
     let terms = Terms::of(lists);
-    let opened = open_windows(admitted.outline().records());
+    let records = admitted.outline().records();
+    let opened = open_windows(records);
     let windows = all_windows(alloc, admitted, &aboves, terms, &opened)?;
+    if let Some(window) = unknown_beside(windows.large, records) {
+        return Err(Refused::Fault(window));
+    }
+    let tables = &windows.tables;
     let table = stay_by(
-        alloc, admitted, lists, fixed, &aboves, terms, &opened, &windows,
+        alloc, admitted, lists, fixed, &aboves, terms, &opened, tables,
     )?;
     Ok(table)
 }

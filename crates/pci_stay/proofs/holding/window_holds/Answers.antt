@@ -1,13 +1,14 @@
-use Rattle.std.proofs.Common.{◌≡◌, false, true, sym, ◌∙◌, ap, subst, Some}
+use Rattle.std.proofs.Common.{◌≡◌, ◌<◌, ◌^◌, false, true, sym, ◌∙◌, ap, subst, rules, Some}
 use Rattle.std.specs.Option.{is_some}
 use Rattle.std.proofs.lemmas.Bool.{false_from_ne_true}
-use Rattle.pci_spec.specs.System.{is_bridge}
+use Rattle.pci_spec.specs.System.{Window, is_bridge}
 use Rattle.pci_spec.specs.Bus.{is_root, secondary}
 use Rattle.pci_spec.specs.Decoded as decoded
-use Rattle.settle_spec.specs.Items.{new_window}
+use Rattle.plan_spec.specs.Plan.{is_open}
+use Rattle.plan_spec.specs.Planning.Layout.{range_of}
 use Rattle.settle_spec.proofs.Nested.{at_secondary, is_no_root}
 use Rattle.pci_base.specs.Ranges.{decoded_range_of}
-use Rattle.pci_base.specs.WindowKinds.{kind_value}
+use Rattle.pci_base.specs.WindowKinds.{kind_value, by_kind}
 use Rattle.pci_function.specs.declared.record.Record.{Record}
 use Rattle.pci_image.specs.Windows.{window_of}
 use Rattle.pci_tree.specs.Passes.{range_in}
@@ -15,10 +16,11 @@ use Rattle.pci_tree.proofs.Lifting.{same_bridge}
 use Rattle.pci_tree.proofs.RegionParts.{same_bridge_of}
 use Rattle.pci_place.specs.Above.{system_in}
 use Rattle.pci_place.proofs.Records.{lent}
-use Rattle.pci_settle.specs.Buses.{AreBehind}
+use Rattle.pci_settle.specs.Buses.{AreBehind, classing_of}
 use Rattle.pci_stand.proofs.OfRecord.{window_is}
-use Rattle.pci_stay.specs.Holding.{told_in}
-use Rattle.pci_stay.proofs.Held.{record_at, none_closed, some_range, told_kept, unnoted_holds, other_holds, closed_holds, noted_stands, noted_holds}
+use Rattle.pci_stay.specs.Holding.{HasNewBeside, told_in}
+use Rattle.pci_stay.proofs.Marks.{room_beside}
+use Rattle.pci_stay.proofs.Held.{record_at, none_closed, some_range, some_open, told_kept, unnoted_holds, other_holds, closed_holds, noted_stands, noted_holds}
 use Rattle.pci_stay.proofs.holding.window_holds.Goals as goal
 
 pub returns-then-not-window : goal.returns-then-not-window
@@ -53,17 +55,27 @@ returns g c = λ q f asking at held.
     let bridge : is_bridge f ≡ true = sym (same_bridge r f is.value) ∙ ap is_some b_is in
     let to : secondary f ≡ b.secondary = sym (ap (λ (x : decoded.Bridge). x.secondary) (same_bridge_of r f b is.value b_is)) in
     let stand = sym (noted_stands q s asking.system asking.nested c.args.function f at c.args.table.now held class bridge) ∙ sym c.window.ensures ∙ c.if-not-window.false in
+    let shown = window_is s f r b is b_is class in
+    let range : decoded_range_of c.in-Some-open_range.range ≡ range_of f (Window class) = some_range f class (range_in (window_of b.windows class)) (decoded_range_of c.in-Some-open_range.range) shown (sym c.in-Some-open_range.ensures) in
+    let shows : is_open f class ≡ true = some_open f class (range_in (window_of b.windows class)) (decoded_range_of c.in-Some-open_range.range) shown (sym c.in-Some-open_range.ensures) in
+    let small : c.in-Some-open_range.range.last < 2 ^ 64 = search rules in
+    let last : (range_of f (Window class)).last < 2 ^ 64 = subst (λ (x : decoded.Range). x.last < 2 ^ 64) range small in
+    let keeps = told_in q s c.args.table.now in
+    let beside : HasNewBeside q (classing_of c.args.admitted.now c.args.terms c.args.over.now) class (by_kind c.args.windows.now c.args.class) f = asking.new c.args.class f is.listed stand in
+    let room = room_beside (classing_of c.args.admitted.now c.args.terms c.args.over.now) q asking.system asking.nested class (by_kind c.args.windows.now c.args.class) f shows last keeps b.secondary beside in
     noted_holds q s asking.system asking.nested c.args.function f at c.args.table.now held class c.in_ok-room.room bridge (sym c.window.ensures ∙ c.if-not-window.false)
     (c.in_ok-room.ensures q (told_in q s c.args.table.now) f record {
       system = asking.system;
+      extent = room.extent;
       listed = record {
         left = asking.left;
         keeps_is = told_kept q s asking.system asking.nested c.args.table.now;
-        behind = subst (AreBehind q s class (new_window q s class) b.secondary) (sym c.get.ensures) ((asking.new c.args.class f stand).behind b.secondary);
+        behind = subst (AreBehind q s class room.extent b.secondary) (sym c.get.ensures) room.behind;
       };
       parts = asking.parts;
       bus_is = to;
       no_root = false_from_ne_true (is_root q.roots b.secondary)
           (λ root. is_no_root q.roots s asking.system asking.nested f b.secondary is.listed bridge (at_secondary q.roots s asking.system asking.nested f b.secondary is.listed bridge to) root);
-      range_is = some_range f class (range_in (window_of b.windows class)) (decoded_range_of c.in-Some-open_range.range) (window_is s f r b is b_is class) (sym c.in-Some-open_range.ensures);
+      range_is = range;
+      same = room.same;
     })
