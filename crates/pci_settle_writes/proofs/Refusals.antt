@@ -25,11 +25,12 @@ use Rattle.pci_settled.specs.declared.anew.Unplaced.TheVariants as unplaced
 use Rattle.pci_settled.specs.Spaces.{space_lack}
 use Rattle.pci_settled.specs.Placed.{CanBeLeft, IsUnplacedOff}
 use Rattle.pci_stay.specs.declared.windows.TooLarge.{TooLarge}
+use Rattle.pci_stay.specs.Windows.{HasWholeWindow}
 use Rattle.pci_settle_writes.specs.declared.lack.SettleFault.{SettleFault}
 use Rattle.pci_settle_writes.specs.declared.lack.SettleFault.TheVariants as fault
 use Rattle.pci_settle_writes.specs.Lacks.{IsNamed, IsFaultOf, too_large}
 use Rattle.pci_settle_writes.specs.Fixed.{fixed_part, fixed_register}
-use Rattle.pci_settle_writes.specs.Endings.{then_writes, after_lists, AreFixedKept, IsTooLargeAsked, IsLack, IsLackOff, IsEndedBy, IsRefusal, IsSized}
+use Rattle.pci_settle_writes.specs.Endings.{then_writes, after_lists, AreFixedKept, IsStayKnown, IsTooLargeAsked, IsLack, IsLackOff, IsEndedBy, IsRefusal, IsSized}
 use Rattle.pci_settle_writes.proofs.Lacking.{lack_named}
 use Rattle.pci_settle_writes.proofs.Endings.{ends_fine, ends_unstanding, ends_unstaying, ends_written, ends_settled, past_fixed}
 
@@ -74,29 +75,29 @@ module _ (a : Admission) (q : Request) where
   no_fixed test none = none_in (λ r. is_fixed q r && not (test r)) (λ r. ap (λ slots. list_any (same_slot r.function.slot) slots && not (test r)) none) (regions q (system_in a))
 
   -- a bridge whose new window is too large, and nothing is fixed only where nothing lacks a place in I/O
-  pub asked_too_large : (w : TooLarge) (f : SettleFault) → IsTooLarge q (system_in a) (kind_value w.class) w.function
+  pub asked_too_large : (w : TooLarge) (f : SettleFault) → IsTooLarge q (system_in a) (kind_value w.class) w.function → HasWholeWindow (system_in a)
       → IsFaultOf (system_in a) (too_large w) f → (q.fixed ≡ [] → space_lack q (system_in a) Io q.roots ≡ None) → IsTooLargeAsked a q (refused.Fault f)
-  asked_too_large w fault.BadLists large of room = absurd of
-  asked_too_large w (fault.Assumed slot reg) large of room = absurd of
-  asked_too_large w (fault.NoRoom lack) large of room = absurd of
-  asked_too_large w (fault.Fixed slot reg) large of room = absurd of
-  asked_too_large w (fault.TooLarge name slot) large of room = (
+  asked_too_large w fault.BadLists large whole of room = absurd of
+  asked_too_large w (fault.Assumed slot reg) large whole of room = absurd of
+  asked_too_large w (fault.NoRoom lack) large whole of room = absurd of
+  asked_too_large w (fault.Fixed slot reg) large whole of room = absurd of
+  asked_too_large w (fault.TooLarge name slot) large whole of room = (
     record {
       function = w.function;
       is = of.1;
       large = subst (λ c. IsTooLarge q (system_in a) (kind_value c) w.function) (sym of.0) large;
     },
-    λ none memory. room none,
+    (whole, λ none memory. room none),
   )
 
   -- where nothing is fixed, what lacks a place in I/O is named
-  pub asked_io : q.fixed ≡ [] → (e : Refused SettleFault) → IsLack a q e → IsTooLargeAsked a q e
-  asked_io none refused.Memory is = tt
-  asked_io none (refused.Fault fault.BadLists) is = absurd is
-  asked_io none (refused.Fault (fault.Assumed slot reg)) is = absurd is
-  asked_io none (refused.Fault (fault.NoRoom lack)) is = (none, is)
-  asked_io none (refused.Fault (fault.TooLarge class slot)) is = (is.0, λ fixed. is.1)
-  asked_io none (refused.Fault (fault.Fixed slot reg)) is = absurd is
+  pub asked_io : HasWholeWindow (system_in a) → q.fixed ≡ [] → (e : Refused SettleFault) → IsLack a q e → IsTooLargeAsked a q e
+  asked_io whole none refused.Memory is = tt
+  asked_io whole none (refused.Fault fault.BadLists) is = absurd is
+  asked_io whole none (refused.Fault (fault.Assumed slot reg)) is = absurd is
+  asked_io whole none (refused.Fault (fault.NoRoom lack)) is = (none, is)
+  asked_io whole none (refused.Fault (fault.TooLarge class slot)) is = (is.0, (whole, λ fixed. is.1))
+  asked_io whole none (refused.Fault (fault.Fixed slot reg)) is = absurd is
 
   -- the same, where something may stay and each fixed part stands
   pub ended_too_large : q.anew ≡ false → None ≡ option_map fixed_part (fixed_without (stands q (system_in a)) q (system_in a)) → (e : Refused SettleFault) → IsTooLargeAsked a q e → IsEndedBy a q e
@@ -109,12 +110,16 @@ module _ (a : Admission) (q : Request) where
   ended_too_large left stand (refused.Fault (fault.TooLarge class slot)) is = record {
     at = is.0;
     stand = none_found fixed_part (fixed_without (stands q (system_in a)) q (system_in a)) stand;
-    stay = λ anew. absurd (false≢true (sym left ∙ anew));
+    stay = λ known. absurd (unknown known);
     io = λ either. elim either [
-      | inl anew ↦ absurd (false≢true (sym left ∙ anew))
-      | inr none ↦ is.1 none
+      | inl known ↦ absurd (unknown known)
+      | inr none ↦ is.1.1 none
     ];
   }
+    where
+      unknown : IsStayKnown q (system_in a) → ⊥
+      unknown (inl anew) = false≢true (sym left ∙ anew)
+      unknown (inr narrow) = narrow is.1.0
   ended_too_large left stand (refused.Fault (fault.Fixed slot reg)) is = absurd is
 
   -- something fixed is in the way
@@ -151,7 +156,7 @@ module _ (a : Admission) (q : Request) where
     ended_of_lack (refused.Fault (fault.NoRoom lack)) is =
         past_fixed q (system_in a) kept.stand kept.stay ∙ is (then_writes q (settle_writes q (system_in a)))
     ended_of_lack (refused.Fault (fault.TooLarge class slot)) is =
-        record { at = is.0; stand = kept.stand; stay = λ anew. kept.stay; io = λ either. is.1 }
+        record { at = is.0; stand = kept.stand; stay = λ known. kept.stay; io = λ either. is.1 }
     ended_of_lack (refused.Fault (fault.Fixed slot reg)) is = absurd is
 
     module _ (room : lacking q (system_in a) ≡ None) (writes : List Write) (are : writes ≡ settle_writes q (system_in a)) where

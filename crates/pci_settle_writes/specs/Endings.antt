@@ -25,6 +25,7 @@ use Rattle.pci_settle.specs.declared.over.Left.{Left}
 use Rattle.pci_settle.specs.NewWindows.{IsTooLarge}
 use Rattle.pci_settled.specs.Spaces.{space_lack}
 use Rattle.pci_settled.specs.Placed.{IsLeaving}
+use Rattle.pci_stay.specs.Windows.{HasWholeWindow}
 use Rattle.pci_settle_writes.specs.declared.lack.SettleFault.{SettleFault}
 use Rattle.pci_settle_writes.specs.declared.lack.SettleFault.TheVariants as fault
 use Rattle.pci_settle_writes.specs.Requests.{IsAskedOf}
@@ -59,13 +60,19 @@ pub record IsLargeAt (a : Admission) (q : Request) (c : WindowKind) (slot : Slot
 abbrev pub IsAfterIo : Request → System → WindowKind → Type 0
 IsAfterIo q s c = window_space c ≡ Memory → space_lack q s Io q.roots ≡ None
 
--- the function at a slot has such a window, and each fixed part stands; where all is placed anew, each fixed part stays too;
--- and where the window is one of memory, and all is placed anew or nothing is fixed, nothing lacks a place in I/O
+-- all is placed anew, or no open window has all addresses of 64 bits
+abbrev pub IsStayKnown : Request → System → Type 0
+IsStayKnown q s = IsTrue q.anew ⊎ (HasWholeWindow s → ⊥)
+
+-- the function at a slot has such a window, and each fixed part stands; but beside an open window of all addresses, where not
+-- all is placed anew, each stays too; and where the window is one of memory, nothing lacks a place in I/O: there too, where
+-- nothing is fixed
 pub record IsTooLargeAt (a : Admission) (q : Request) (c : WindowKind) (slot : Slot) : Type 0 where
   pub at : IsLargeAt a q c slot
   pub stand : fixed_without (stands q (system_in a)) q (system_in a) ≡ None
-  pub stay : IsTrue q.anew → fixed_without (stays q (system_in a)) q (system_in a) ≡ None
-  pub io : IsTrue q.anew ⊎ (q.fixed ≡ []) → IsAfterIo q (system_in a) c
+  pub stay : IsStayKnown q (system_in a)
+      → fixed_without (stays q (system_in a)) q (system_in a) ≡ None
+  pub io : IsStayKnown q (system_in a) ⊎ (q.fixed ≡ []) → IsAfterIo q (system_in a) c
 
 -- something has no place
 abbrev pub IsLack : Admission → Request → Refused SettleFault → Type 0
@@ -78,6 +85,10 @@ IsLack a q (refused.Fault (fault.TooLarge class slot)) =
     IsLargeAt a q (kind_value class) slot × IsAfterIo q (system_in a) (kind_value class)
 IsLack a q (refused.Fault (fault.Fixed slot reg)) = ⊥
 
+-- and nothing is fixed
+abbrev pub IsUnfixedLack : Admission → Request → Refused SettleFault → Type 0
+IsUnfixedLack a q e = (q.fixed ≡ []) × IsLack a q e
+
 -- a new window of I/O is too large, or there was no memory
 abbrev pub IsLargeInIo : Admission → Request → Refused SettleFault → Type 0
 IsLargeInIo a q refused.Memory = ⊤
@@ -88,8 +99,8 @@ IsLargeInIo a q (refused.Fault (fault.TooLarge class slot)) =
     (kind_value class ≡ IoWindow) × IsLargeAt a q IoWindow slot
 IsLargeInIo a q (refused.Fault (fault.Fixed slot reg)) = ⊥
 
--- a new window is too large; where nothing is fixed, what has no place in I/O is named before one of memory; or there was no
--- memory
+-- a new window is too large beside an open one of all addresses; where nothing is fixed, what has no place in I/O is named before
+-- one of memory; or there was no memory
 abbrev pub IsTooLargeAsked : Admission → Request → Refused SettleFault → Type 0
 IsTooLargeAsked a q refused.Memory = ⊤
 IsTooLargeAsked a q (refused.Fault fault.BadLists) = ⊥
@@ -99,7 +110,7 @@ IsTooLargeAsked a q (refused.Fault (fault.NoRoom lack)) =
     × ((other : Settling) → or_lack (lacking q (system_in a)) other ≡ no_room lack)
 IsTooLargeAsked a q (refused.Fault (fault.TooLarge class slot)) =
     IsLargeAt a q (kind_value class) slot
-    × (q.fixed ≡ [] → IsAfterIo q (system_in a) (kind_value class))
+    × (HasWholeWindow (system_in a) × (q.fixed ≡ [] → IsAfterIo q (system_in a) (kind_value class)))
 IsTooLargeAsked a q (refused.Fault (fault.Fixed slot reg)) = ⊥
 
 -- something has no place of whatever leaves these windows and parts where they stand

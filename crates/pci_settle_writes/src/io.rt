@@ -1,4 +1,4 @@
-//! What has no place in I/O, where new windows of memory are too large to tell what stays there.
+//! What has no place in I/O, where new windows of memory are too large to tell what stays in a window of all addresses.
 ghost use Rattle.std.specs.Prelude.{◌≡◌, [], None, IfOk, IfErr, OnOk};
 ghost use Rattle.pci_spec.specs.Window.{IoWindow};
 ghost use Rattle.pci_spec.specs.System.{Io};
@@ -10,7 +10,7 @@ ghost use Rattle.pci_settled.specs.Spaces.{space_lack};
 ghost use Rattle.pci_stand.specs.Known.{asked};
 ghost use Rattle.pci_stay.specs.Staying.{AreStaying, asked_in_io};
 ghost use Rattle.pci_settle_writes.specs.Lacks.{IsNamed, IsFaultOf, too_large, unplaced_class};
-ghost use Rattle.pci_settle_writes.specs.Endings.{IsLack, IsLargeInIo, IsTooLargeAsked};
+ghost use Rattle.pci_settle_writes.specs.Endings.{IsLack, IsLargeInIo, IsUnfixedLack};
 
 use crate::lack::{SettleFault, fault_of};
 use pci_base::memory::Refused;
@@ -119,7 +119,7 @@ pub fn place_io_unfixed<A: Allocator + Copy, B: Allocator>(
     ensures room { OnOk result (fixed.now ≡ [] → space_lack
         (asked admitted.now.roots (lists_value lists.now) fixed.now) (system_in admitted.now) Io
         admitted.now.roots ≡ None) }
-    ensures fault { IfErr result (IsTooLargeAsked admitted.now
+    ensures fault { IfErr result (IsUnfixedLack admitted.now
         (asked admitted.now.roots (lists_value lists.now) fixed.now)) }
 {
     if !fixed.is_empty() {

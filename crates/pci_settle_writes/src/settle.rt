@@ -163,8 +163,8 @@ fn settle_all<A: Allocator + Copy, B: Allocator>(
     settle_held(alloc, admitted, lists, fixed, &left, kept)
 }
 
-/// Which parts stay, or the bridge whose new window would be too large. Where nothing is fixed, what has no place in I/O is
-/// named before such a bridge.
+/// Which parts stay. Beside an open window of all addresses the bridge is named whose new window would be too large; where nothing
+/// is fixed, what has no place in I/O is named before.
 fn staying_parts<A: Allocator + Copy, B: Allocator>(
     alloc: A,
     admitted: &Admitted<B>,
@@ -272,8 +272,8 @@ fn end_in_64_bits(list: &[RootRange])
 /// has no place in I/O; 72 `TooLarge` where a new window would have 2^64 addresses or more; 72 `NoRoom` with the first part
 /// that has no place in memory; 74 `Fixed` with the first write to a function of `fixed`. 2 `Memory` where a growth was refused.
 ///
-/// Where a function is fixed and not all is placed anew, 72 `TooLarge` comes right after 74 of what doesn't stand: beside a
-/// window of that size it isn't known what stays.
+/// Where an open window has all addresses of 64 bits, a function is fixed and not all is placed anew, 72 `TooLarge` comes right
+/// after 74 of what doesn't stand: such a window may have room for another of 2^64 addresses, so it isn't known what stays.
 pub fn settle<A: Allocator + Copy, B: Allocator>(
     alloc: A,
     admitted: &Admitted<B>,
