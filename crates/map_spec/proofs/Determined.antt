@@ -7,10 +7,10 @@ use Rattle.pci_spec.specs.Why.{Region}
 use Rattle.pci_spec.proofs.Members.{in_nil, in_cons_cases, in_head, in_tail, pairs_nil, pairs_cons, pairs_head, pairs_tail}
 use Rattle.given_spec.specs.Given.{Given}
 use Rattle.given_spec.proofs.OneList.{same_list, same_runs}
-use Rattle.map_spec.specs.Lines.{Place, OnRoot, Inside, Lines, End, Free, Sits, regions_at, runs_at, marks, Mark, run_mark, region_mark, region_number, IsBefore, IsFreeAt, IsOutOfPlace, AreLinesAt, AreInside, AreAllInside, AreAllLines}
-use Rattle.map_spec.specs.Map.{Root, Map, IsRootOf, IsOnlyLeft, AreListed, IsMap}
-use Rattle.map_spec.specs.MapText.{text_of}
-use Rattle.map_spec.specs.DeterminedLaws.{LinesAreDetermined, MapIsDetermined, TextIsDetermined}
+use Rattle.map_spec.specs.Lines.{MapPlace, OnRoot, Inside, Lines, End, Free, Sits, regions_at, runs_at, marks, Mark, run_mark, region_mark, region_rank, MarkIsBefore, IsFreeInPlace, IsOutOfPlace, AreLinesAt, AreInside, AreAllInside, AreLinesOfPlace}
+use Rattle.map_spec.specs.Map.{MapRoot, Map, IsRootOfMap, IsOnlyLeft, AreRegionsBySlot, IsMap}
+use Rattle.map_spec.specs.MapText.{map_text_of}
+use Rattle.map_spec.specs.DeterminedLaws.{LinesAreDetermined, MapIsDetermined, MapTextIsDetermined}
 
 -- ---- the lines of a place as a list
 
@@ -85,9 +85,9 @@ line_item (Sits w inside rest) q has = elim (in_cons_cases w (regions_at rest) q
 -- ---- their order
 
 abbrev Comes : Item → Item → Type 0
-Comes x y = IsBefore (mark_of x) (mark_of y)
+Comes x y = MarkIsBefore (mark_of x) (mark_of y)
 
-before_one_way : (m n : Mark) → IsBefore m n → IsBefore n m → ⊥
+before_one_way : (m n : Mark) → MarkIsBefore m n → MarkIsBefore n m → ⊥
 before_one_way m n (inl low) (inl high) = omega (arith, low, high)
 before_one_way m n (inl low) (inr high) = let e = high.0 in omega (arith, low, e)
 before_one_way m n (inr low) (inl high) = let e = low.0 in omega (arith, e, high)
@@ -104,14 +104,14 @@ mark_in (Sits q inside rest) x has = elim (in_cons_cases (Line q) (items rest) x
   | inr later ↦ in_tail (region_mark q) (marks rest) (mark_of x) (mark_in rest x later)
 ]
 
-items_rise : (lines : Lines) → AllPairs IsBefore (marks lines) → AllPairs Comes (items lines)
+items_rise : (lines : Lines) → AllPairs MarkIsBefore (marks lines) → AllPairs Comes (items lines)
 items_rise End rising = pairs_nil Comes
 items_rise (Free r rest) rising =
-    pairs_cons Comes (Run r) (items rest) (λ y has. pairs_head IsBefore (run_mark r) (marks rest) (mark_of y) rising (mark_in rest y has))
-    (items_rise rest (pairs_tail IsBefore (run_mark r) (marks rest) rising))
+    pairs_cons Comes (Run r) (items rest) (λ y has. pairs_head MarkIsBefore (run_mark r) (marks rest) (mark_of y) rising (mark_in rest y has))
+    (items_rise rest (pairs_tail MarkIsBefore (run_mark r) (marks rest) rising))
 items_rise (Sits q inside rest) rising =
-    pairs_cons Comes (Line q) (items rest) (λ y has. pairs_head IsBefore (region_mark q) (marks rest) (mark_of y) rising (mark_in rest y has))
-    (items_rise rest (pairs_tail IsBefore (region_mark q) (marks rest) rising))
+    pairs_cons Comes (Line q) (items rest) (λ y has. pairs_head MarkIsBefore (region_mark q) (marks rest) (mark_of y) rising (mark_in rest y has))
+    (items_rise rest (pairs_tail MarkIsBefore (region_mark q) (marks rest) rising))
 
 -- ---- the lines of a place
 
@@ -123,16 +123,16 @@ inside_same (Window kind) inside other P Q f h k = f h k
 
 module _ (given : Given) (roots : List ℕ) (s : System) where
   module _ (space : Space) where
-    item_in_other : (place : Place) (lines others : Lines) → AreLinesAt given roots s space place lines → AreLinesAt given roots s space place others
+    item_in_other : (place : MapPlace) (lines others : Lines) → AreLinesAt given roots s space place lines → AreLinesAt given roots s space place others
         → (x : Item) → Contains (items lines) x → Contains (items others) x
     item_in_other place lines others are also (Run r) has =
-        let same : runs_at lines ≡ runs_at others = same_runs (IsFreeAt given s space place) (runs_at lines) (runs_at others) are.free also.free in
+        let same : runs_at lines ≡ runs_at others = same_runs (IsFreeInPlace given s space place) (runs_at lines) (runs_at others) are.free also.free in
         run_item others r (subst (λ (rs : List Range). Contains rs r) same (item_run lines r has))
     item_in_other place lines others are also (Line q) has =
         let at : Contains (regions_at lines) q = item_line lines q has in
         line_item others q (also.complete q (are.regions q at) (are.of_space q at) (are.stand q at) (are.within q at))
 
-    same_items : (place : Place) (lines others : Lines) → AreLinesAt given roots s space place lines → AreLinesAt given roots s space place others → items lines ≡ items others
+    same_items : (place : MapPlace) (lines others : Lines) → AreLinesAt given roots s space place lines → AreLinesAt given roots s space place others → items lines ≡ items others
     same_items place lines others are also =
         same_list Comes (λ x y. before_one_way (mark_of x) (mark_of y)) (items lines) (items others) (items_rise lines are.rising) (items_rise others also.rising)
         (item_in_other place lines others are also) (item_in_other place others lines also are)
@@ -157,22 +157,22 @@ module _ (given : Given) (roots : List ℕ) (s : System) where
         (λ h k. same_lines inside within (same_items (Inside q) inside within h k) deep deep_too) here moved in
         ap (λ (x : Region). Sits x inside rest) first ∙ ap (λ (x : Lines). Sits w x rest) deeper ∙ ap (λ (x : Lines). Sits w within x) later
 
-    all_lines : (place : Place) (lines others : Lines) → AreAllLines given roots s space place lines → AreAllLines given roots s space place others → lines ≡ others
+    all_lines : (place : MapPlace) (lines others : Lines) → AreLinesOfPlace given roots s space place lines → AreLinesOfPlace given roots s space place others → lines ≡ others
     all_lines place lines others are also = same_lines lines others (same_items place lines others are.0 also.0) are.1 also.1
 
   -- ---- the map
 
-  root_from : (r t : Root) → r.bus ≡ t.bus → r.io ≡ t.io → r.memory ≡ t.memory → r ≡ t
+  root_from : (r t : MapRoot) → r.bus ≡ t.bus → r.io ≡ t.io → r.memory ≡ t.memory → r ≡ t
   root_from r t bus io memory = λ i. record { bus = bus i; io = io i; memory = memory i }
 
-  same_root : (r t : Root) → r.bus ≡ t.bus → IsRootOf given roots s r → IsRootOf given roots s t → r ≡ t
+  same_root : (r t : MapRoot) → r.bus ≡ t.bus → IsRootOfMap given roots s r → IsRootOfMap given roots s t → r ≡ t
   same_root r t bus is also =
       root_from r t bus
-      (all_lines Io (OnRoot t.bus) r.io t.io (subst (λ bus. AreAllLines given roots s Io (OnRoot bus) r.io) bus is.io) also.io)
-      (all_lines Memory (OnRoot t.bus) r.memory t.memory (subst (λ bus. AreAllLines given roots s Memory (OnRoot bus) r.memory) bus is.memory) also.memory)
+      (all_lines Io (OnRoot t.bus) r.io t.io (subst (λ bus. AreLinesOfPlace given roots s Io (OnRoot bus) r.io) bus is.io) also.io)
+      (all_lines Memory (OnRoot t.bus) r.memory t.memory (subst (λ bus. AreLinesOfPlace given roots s Memory (OnRoot bus) r.memory) bus is.memory) also.memory)
 
-  same_roots : (rs ts : List Root) → map (λ r. r.bus) rs ≡ map (λ r. r.bus) ts → ((r : Root) → Contains rs r → IsRootOf given roots s r)
-      → ((t : Root) → Contains ts t → IsRootOf given roots s t) → rs ≡ ts
+  same_roots : (rs ts : List MapRoot) → map (λ r. r.bus) rs ≡ map (λ r. r.bus) ts → ((r : MapRoot) → Contains rs r → IsRootOfMap given roots s r)
+      → ((t : MapRoot) → Contains ts t → IsRootOfMap given roots s t) → rs ≡ ts
   same_roots [] [] e are also = refl
   same_roots [] (t ∷ ts) e are also = cc
   same_roots (r ∷ rs) [] e are also = cc
@@ -180,11 +180,11 @@ module _ (given : Given) (roots : List ℕ) (s : System) where
       let bus : r.bus ≡ t.bus = cc in
       let first : r ≡ t = same_root r t bus (are r (in_head r rs)) (also t (in_head t ts)) in
       let rest : rs ≡ ts = same_roots rs ts (ap (drop 1) e) (λ x has. are x (in_tail r rs x has)) (λ x has. also x (in_tail t ts x has)) in
-      ap (λ (x : Root). x ∷ rs) first ∙ ap (λ (xs : List Root). t ∷ xs) rest
+      ap (λ (x : MapRoot). x ∷ rs) first ∙ ap (λ (xs : List MapRoot). t ∷ xs) rest
 
-  same_listed : (P : Region → Type 0) (ps qs : List Region) → AreListed P s ps → AreListed P s qs → ps ≡ qs
+  same_listed : (P : Region → Type 0) (ps qs : List Region) → AreRegionsBySlot P s ps → AreRegionsBySlot P s qs → ps ≡ qs
   same_listed P ps qs are also =
-      same_list (λ (p q : Region). region_number p < region_number q) (λ p q low high. omega (arith, low, high)) ps qs are.rising also.rising
+      same_list (λ (p q : Region). region_rank p < region_rank q) (λ p q low high. omega (arith, low, high)) ps qs are.rising also.rising
       (λ q has. also.complete q (are.regions q has) (are.hold q has)) (λ q has. are.complete q (also.regions q has) (also.hold q has))
 
   map_from : (m n : Map) → m.roots ≡ n.roots → m.outside ≡ n.outside → m.unreached ≡ n.unreached → m ≡ n
@@ -202,5 +202,5 @@ lines_are_determined given roots s space place lines others are also = all_lines
 pub map_is_determined : MapIsDetermined
 map_is_determined given roots s m n is also = same_map given roots s m n is also
 
-pub text_is_determined : TextIsDetermined
-text_is_determined given roots s text other h k = h.says ∙ ap (λ (m : Map). text_of m s) (same_map given roots s h.m k.m h.is k.is) ∙ sym k.says
+pub text_is_determined : MapTextIsDetermined
+text_is_determined given roots s text other h k = h.says ∙ ap (λ (m : Map). map_text_of m s) (same_map given roots s h.m k.m h.is k.is) ∙ sym k.says

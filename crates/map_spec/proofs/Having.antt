@@ -16,8 +16,8 @@ use Rattle.pci_spec.proofs.Firsts.{slot_of}
 use Rattle.pci_spec.proofs.Nesting.{one_function}
 use Rattle.pci_spec.proofs.Regions.{part_same}
 use Rattle.given_spec.specs.Given.{Given}
-use Rattle.map_spec.specs.Lines.{is_first_window, BelongsUnder, IsOutOfPlace, Place, OnRoot, Inside, Lines, End, Free, Sits, regions_at, all_regions, AreLinesAt, AreInside, AreAllInside, AreAllLines}
-use Rattle.map_spec.specs.Map.{Root, Map, HasWay, IsMap, regions_on, regions_in}
+use Rattle.map_spec.specs.Lines.{is_first_window, BelongsUnder, IsOutOfPlace, MapPlace, OnRoot, Inside, Lines, End, Free, Sits, regions_at, all_regions, AreLinesAt, AreInside, AreAllInside, AreLinesOfPlace}
+use Rattle.map_spec.specs.Map.{MapRoot, Map, HasWay, IsMap, regions_on, regions_in}
 use Rattle.map_spec.specs.MapLaws.{WindowsAreInPlace}
 
 -- ---- each line is of a region
@@ -43,7 +43,7 @@ module _ (given : Given) (roots : List ℕ) (s : System) (space : Space) where
     ]
   ]
 
-  pub line_in_place : (place : Place) (lines : Lines) (q : Region) → AreAllLines given roots s space place lines → Contains (all_regions lines) q → IsOf q
+  pub line_in_place : (place : MapPlace) (lines : Lines) (q : Region) → AreLinesOfPlace given roots s space place lines → Contains (all_regions lines) q → IsOf q
   line_in_place place lines q are has = line_of_region lines q (λ p there. (are.0.regions p there, are.0.of_space p there, are.0.within p there)) are.1 has
 
   -- what stands in a place has a line there
@@ -131,7 +131,7 @@ module _ (given : Given) (roots : List ℕ) (s : System) where
   abbrev pub IsInPlace : Region → Type 0
   IsInPlace q = IsOutOfPlace given roots s q → ⊥
 
-  on_side : (space : Space) (place : Place) (lines : Lines) (w q : Region) → AreAllLines given roots s space place lines → IsRegionIn s w → IsRegionIn s q → IsInPlace q → BelongsUnder s w q
+  on_side : (space : Space) (place : MapPlace) (lines : Lines) (w q : Region) → AreLinesOfPlace given roots s space place lines → IsRegionIn s w → IsRegionIn s q → IsInPlace q → BelongsUnder s w q
       → Contains (all_regions lines) w → Contains (all_regions lines) q
   on_side space place lines w q are is of in_place under has =
       let here = line_in_place given roots s space place lines w are has in
@@ -164,9 +164,9 @@ module _ (given : Given) (roots : List ℕ) (s : System) where
     )
 
     -- the root bus of a number
-    root_at : (bus : ℕ) → bus < 256 → Contains roots bus → IsMade (λ (root : Root). root.bus) m.roots bus
+    root_at : (bus : ℕ) → bus < 256 → Contains roots bus → IsMade (λ (root : MapRoot). root.bus) m.roots bus
     root_at bus small has =
-        in_map_to (λ (root : Root). root.bus) m.roots bus
+        in_map_to (λ (root : MapRoot). root.bus) m.roots bus
         (subst (λ xs. Contains xs bus) (sym is.buses) (in_filter_from (is_root roots) (range_with_len 0 256) bus (in_range_from 0 256 bus (omega arith) (omega arith)) ((root_means roots bus).1 has)))
 
     on_root : (q : Region) (space : Space) → IsSystem s → IsRegionIn s q → IsInPlace q → q.space ≡ space → Contains roots q.slot.bus → Contains (flat_map regions_on m.roots) q

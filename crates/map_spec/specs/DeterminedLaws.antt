@@ -2,16 +2,16 @@
 use Rattle.std.specs.Prelude.{◌≡◌, ℕ, List}
 use Rattle.pci_spec.specs.System.{System, Space}
 use Rattle.given_spec.specs.Given.{Given}
-use Rattle.map_spec.specs.Lines.{Place, Lines, AreAllLines}
+use Rattle.map_spec.specs.Lines.{MapPlace, Lines, AreLinesOfPlace}
 use Rattle.map_spec.specs.Map.{Map, IsMap}
 use Rattle.map_spec.specs.MapText.{IsMapText}
 
 -- A place has at most one list of lines of a space, with all that is inside.
 abbrev pub LinesAreDetermined : Type 0
 LinesAreDetermined =
-    (given : Given) (roots : List ℕ) (s : System) (space : Space) (place : Place)
-    (lines others : Lines) → AreAllLines given roots s space place lines
-    → AreAllLines given roots s space place others → lines ≡ others
+    (given : Given) (roots : List ℕ) (s : System) (space : Space) (place : MapPlace)
+    (lines others : Lines) → AreLinesOfPlace given roots s space place lines
+    → AreLinesOfPlace given roots s space place others → lines ≡ others
 
 -- A system has at most one map.
 abbrev pub MapIsDetermined : Type 0
@@ -20,7 +20,7 @@ MapIsDetermined =
     → IsMap given roots s n → m ≡ n
 
 -- Two texts of a system's map are equal.
-abbrev pub TextIsDetermined : Type 0
-TextIsDetermined =
+abbrev pub MapTextIsDetermined : Type 0
+MapTextIsDetermined =
     (given : Given) (roots : List ℕ) (s : System) (text other : List ℕ)
     → IsMapText given roots s text → IsMapText given roots s other → text ≡ other

@@ -37,13 +37,13 @@ pub record BelongsUnder (s : System) (w q : Region) : Type 0 where
   pub first : IsTrue (is_first_window q.space kind q.range.first b)
 
 -- where regions stand: on a root bus, or inside a window
-pub data Place : Type 0 where
-  OnRoot : ℕ → Place
-  Inside : Region → Place
+pub data MapPlace : Type 0 where
+  OnRoot : ℕ → MapPlace
+  Inside : Region → MapPlace
 
-abbrev pub StandsAt : System → Place → Region → Type 0
-StandsAt s (OnRoot bus) q = q.slot.bus ≡ bus
-StandsAt s (Inside w) q = BelongsUnder s w q
+abbrev pub StandsInPlace : System → MapPlace → Region → Type 0
+StandsInPlace s (OnRoot bus) q = q.slot.bus ≡ bus
+StandsInPlace s (Inside w) q = BelongsUnder s w q
 
 -- A BAR or a ROM has an address to which no access of the host starts on the root above it: its line is at no place.
 pub record IsOutOfPlace (given : Given) (roots : List ℕ) (s : System) (q : Region) : Type 0 where
@@ -73,9 +73,9 @@ pub record IsFreeOn (given : Given) (s : System) (bus : ℕ) (space : Space) (a 
   pub unclaimed : IsClaimedOn s bus space a → ⊥
 
 -- what of a place is free
-abbrev pub IsFreeAt : Given → System → Space → Place → ℕ → Type 0
-IsFreeAt given s space (OnRoot bus) a = IsFreeOn given s bus space a
-IsFreeAt given s space (Inside w) a = IsFreeIn s w a
+abbrev pub IsFreeInPlace : Given → System → Space → MapPlace → ℕ → Type 0
+IsFreeInPlace given s space (OnRoot bus) a = IsFreeOn given s bus space a
+IsFreeInPlace given s space (Inside w) a = IsFreeIn s w a
 
 -- ---- lines
 
@@ -110,11 +110,11 @@ pub record Mark : Type 0 where
   pub first : ℕ
   pub number : ℕ
 
-abbrev pub region_number : Region → ℕ
-region_number q = slot_number q.slot * 256 + q.register
+abbrev pub region_rank : Region → ℕ
+region_rank q = slot_number q.slot * 256 + q.register
 
 abbrev pub region_mark : Region → Mark
-region_mark q = record { first = q.range.first; number = region_number q }
+region_mark q = record { first = q.range.first; number = region_rank q }
 
 -- no region begins where a run does
 abbrev pub run_mark : Range → Mark
@@ -125,20 +125,20 @@ marks End = []
 marks (Free r rest) = run_mark r ∷ marks rest
 marks (Sits q inside rest) = region_mark q ∷ marks rest
 
-abbrev pub IsBefore : Mark → Mark → Type 0
-IsBefore m n = (m.first < n.first) ⊎ ((m.first ≡ n.first) × (m.number < n.number))
+abbrev pub MarkIsBefore : Mark → Mark → Type 0
+MarkIsBefore m n = (m.first < n.first) ⊎ ((m.first ≡ n.first) × (m.number < n.number))
 
 -- just the regions of a space that stand in a place and the greatest runs of what is free there, in order
 pub record AreLinesAt (given : Given) (roots : List ℕ) (s : System) (space : Space)
-    (place : Place) (lines : Lines) : Type 0 where
+    (place : MapPlace) (lines : Lines) : Type 0 where
   pub regions : (q : Region) → Contains (regions_at lines) q → IsRegionIn s q
   pub of_space : (q : Region) → Contains (regions_at lines) q → q.space ≡ space
-  pub stand : (q : Region) → Contains (regions_at lines) q → StandsAt s place q
+  pub stand : (q : Region) → Contains (regions_at lines) q → StandsInPlace s place q
   pub within : (q : Region) → Contains (regions_at lines) q → IsOutOfPlace given roots s q → ⊥
-  pub complete : (q : Region) → IsRegionIn s q → q.space ≡ space → StandsAt s place q
+  pub complete : (q : Region) → IsRegionIn s q → q.space ≡ space → StandsInPlace s place q
       → (IsOutOfPlace given roots s q → ⊥) → Contains (regions_at lines) q
-  pub free : AreRuns (IsFreeAt given s space place) (runs_at lines)
-  pub rising : AllPairs IsBefore (marks lines)
+  pub free : AreRuns (IsFreeInPlace given s space place) (runs_at lines)
+  pub rising : AllPairs MarkIsBefore (marks lines)
 
 -- what is inside a region: of a window lines of which P holds, of others nothing
 abbrev pub AreInside : Part → Lines → Type 0 → Type 0
@@ -155,6 +155,6 @@ AreAllInside given roots s space (Sits q inside rest) =
     × AreAllInside given roots s space inside × AreAllInside given roots s space rest
 
 -- the lines of a place, with all that is inside
-abbrev pub AreAllLines : Given → List ℕ → System → Space → Place → Lines → Type 0
-AreAllLines given roots s space place lines =
+abbrev pub AreLinesOfPlace : Given → List ℕ → System → Space → MapPlace → Lines → Type 0
+AreLinesOfPlace given roots s space place lines =
     AreLinesAt given roots s space place lines × AreAllInside given roots s space lines

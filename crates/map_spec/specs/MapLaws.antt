@@ -6,7 +6,7 @@ use Rattle.pci_spec.specs.Decoded.{InRange}
 use Rattle.pci_spec.specs.Why.{Region, IsRegionIn}
 use Rattle.given_spec.specs.Given.{Given, nothing_given}
 use Rattle.map_spec.specs.Lines.{OnRoot, Inside, Lines, runs_at, regions_at, AreLinesAt, IsFreeIn, IsFreeOn, IsOutOfPlace}
-use Rattle.map_spec.specs.Map.{Map, IsLeft, IsOnlyLeft, IsMap, regions_on, regions_in}
+use Rattle.map_spec.specs.Map.{Map, IsOutsideWindows, IsOnlyLeft, IsMap, regions_on, regions_in}
 
 -- A line of a region is one of an enabled region that claims an address.
 abbrev pub LinesAreOfRegions : Type 0
@@ -70,7 +70,7 @@ NothingIsOutside =
 abbrev pub AllLeftAreUnreached : Type 0
 AllLeftAreUnreached =
     (roots : List ℕ) (s : System) (q : Region)
-    → IsOnlyLeft nothing_given roots s q ↔ IsLeft roots s q
+    → IsOnlyLeft nothing_given roots s q ↔ IsOutsideWindows roots s q
 
 -- A root bus has no line `free`.
 abbrev pub NothingIsFreeOnRoots : Type 0

@@ -10,7 +10,7 @@ use Rattle.pci_spec.specs.Listing.{words, range_text, kind_space}
 use Rattle.pci_spec.specs.Why.{Region, amount_text, address_count, off_bars}
 use Rattle.given_spec.specs.Given.{Given}
 use Rattle.map_spec.specs.Lines.{Lines, End, Free, Sits}
-use Rattle.map_spec.specs.Map.{Root, Map, IsMap}
+use Rattle.map_spec.specs.Map.{MapRoot, Map, IsMap}
 
 -- two spaces for each window around a line, and for the heading above
 unfoldable pub indent : ℕ → List ℕ
@@ -28,8 +28,8 @@ abbrev pub extent_line : ℕ → Space → Range → List (List ℕ) → List �
 extent_line depth space r what =
     indent depth ++ (range_text space r ++ words (amount_text (address_count r) ∷ what))
 
-abbrev pub region_line : ℕ → Region → List ℕ
-region_line depth q =
+abbrev pub map_region_line : ℕ → Region → List ℕ
+map_region_line depth q =
     extent_line depth q.space q.range
     (part_name q.part q.prefetchable ∷ slot_text q.slot ∷ hex_byte q.register ∷ [])
 
@@ -41,7 +41,7 @@ unfoldable pub lines_text : ℕ → Space → Lines → List ℕ
 lines_text depth space End = []
 lines_text depth space (Free r rest) = free_line depth space r ++ lines_text depth space rest
 lines_text depth space (Sits q inside rest) =
-    region_line depth q ++ (lines_text (suc depth) space inside ++ lines_text depth space rest)
+    map_region_line depth q ++ (lines_text (suc depth) space inside ++ lines_text depth space rest)
 
 -- ---- root buses
 
@@ -56,7 +56,7 @@ space_lines bus space (Free r rest) =
 space_lines bus space (Sits q inside rest) =
     bus_heading bus space ++ lines_text 1 space (Sits q inside rest)
 
-abbrev pub root_text : Root → List ℕ
+abbrev pub root_text : MapRoot → List ℕ
 root_text root = space_lines root.bus Io root.io ++ space_lines root.bus Memory root.memory
 
 -- ---- what is out of place, what isn't reached, and what is off
@@ -67,32 +67,32 @@ under_heading heading [] = []
 under_heading heading (line ∷ lines) = heading ++ (10 ∷ flat_map (λ text. text) (line ∷ lines))
 
 abbrev pub outside_text : List Region → List ℕ
-outside_text qs = under_heading (codes "outside") (map (region_line 1) qs)
+outside_text qs = under_heading (codes "outside") (map (map_region_line 1) qs)
 
 abbrev pub unreached_text : List Region → List ℕ
-unreached_text qs = under_heading (codes "unreached") (map (region_line 1) qs)
+unreached_text qs = under_heading (codes "unreached") (map (map_region_line 1) qs)
 
 -- the line of an implemented BAR
-abbrev pub off_line : Slot → DecodedBar → List ℕ
-off_line slot b =
+abbrev pub map_off_line : Slot → DecodedBar → List ℕ
+map_off_line slot b =
     extent_line 1 (kind_space b.kind) b.range
     (part_name (Bar 0) b.prefetchable ∷ slot_text slot ∷ hex_byte b.register ∷ [])
 
 -- those of a function whose space its Command doesn't enable
-abbrev pub off_lines_of : Function → List (List ℕ)
-off_lines_of f = map (off_line f.slot) (off_bars f)
+abbrev pub map_off_lines_of : Function → List (List ℕ)
+map_off_lines_of f = map (map_off_line f.slot) (off_bars f)
 
-abbrev pub off_text : System → List ℕ
-off_text s = under_heading (codes "off") (flat_map off_lines_of s)
+abbrev pub map_off_text : System → List ℕ
+map_off_text s = under_heading (codes "off") (flat_map map_off_lines_of s)
 
 -- ---- the whole text
 
-abbrev pub text_of : Map → System → List ℕ
-text_of m s =
+abbrev pub map_text_of : Map → System → List ℕ
+map_text_of m s =
     flat_map root_text m.roots
-    ++ (outside_text m.outside ++ (unreached_text m.unreached ++ off_text s))
+    ++ (outside_text m.outside ++ (unreached_text m.unreached ++ map_off_text s))
 
 pub record IsMapText (given : Given) (roots : List ℕ) (s : System) (text : List ℕ) : Type 0 where
   pub m : Map
   pub is : IsMap given roots s m
-  pub says : text ≡ text_of m s
+  pub says : text ≡ map_text_of m s

@@ -1,10 +1,10 @@
 //! Laws: a system has at most one map. These functions do nothing: each contract is a law.
 
-ghost use Rattle.map_spec.specs.DeterminedLaws.{LinesAreDetermined, MapIsDetermined, TextIsDetermined};
+ghost use Rattle.map_spec.specs.DeterminedLaws.{LinesAreDetermined, MapIsDetermined, MapTextIsDetermined};
 
 /// A system has at most one map with what is given, and at most one text of it.
 pub fn maps_are_determined()
     ensures lines { LinesAreDetermined }
     ensures map { MapIsDetermined }
-    ensures text { TextIsDetermined }
+    ensures text { MapTextIsDetermined }
 {}

@@ -11,7 +11,7 @@ use Rattle.pci_spec.specs.Capability.{pointer}
 use Rattle.pci_spec.specs.System.{Function, Space, Io, Memory, Part, Bar, Rom, Window, Claims, is_space_on, is_enabled, is_bridge, space_of, window_space}
 use Rattle.pci_spec.specs.Fault.{IsNotInD0, controls_bridge, is_subtractive_bridge}
 use Rattle.model_spec.specs.Bytes.{cleared, as_device, out_of_reset, positive, switched_off}
-use Rattle.model_spec.specs.Taken.{with_image, without_buses}
+use Rattle.model_spec.specs.Taken.{function_with_image, without_buses}
 
 -- ---- off
 
@@ -30,16 +30,16 @@ off_space image (suc zero) is small =
     ne_eqb (bit_at (command (switched_off image)) 1) 1 (λ one. omega (arith, one, low))
 off_space image (suc (suc i)) is small = absurd (omega (arith, small))
 
-off_in : (f : Function) (space : Space) → IsImage f.image → is_space_on (with_image f (switched_off f.image)) space ≡ false
+off_in : (f : Function) (space : Space) → IsImage f.image → is_space_on (function_with_image f (switched_off f.image)) space ≡ false
 off_in f Io is = off_space f.image 0 is (omega arith)
 off_in f Memory is = off_space f.image 1 is (omega arith)
 
-not_enabled : (f : Function) (part : Part) → IsImage f.image → is_enabled (with_image f (switched_off f.image)) part ≡ false
-not_enabled f (Bar n) is = off_in f (space_of (with_image f (switched_off f.image)) (Bar n)) is
+not_enabled : (f : Function) (part : Part) → IsImage f.image → is_enabled (function_with_image f (switched_off f.image)) part ≡ false
+not_enabled f (Bar n) is = off_in f (space_of (function_with_image f (switched_off f.image)) (Bar n)) is
 not_enabled f Rom is = rw (off_in f Memory is) refl
 not_enabled f (Window kind) is = off_in f (window_space kind) is
 
-pub off_claims_nothing : (f : Function) → IsImage f.image → (part : Part) (space : Space) (a : ℕ) → Claims (with_image f (switched_off f.image)) part space a → ⊥
+pub off_claims_nothing : (f : Function) → IsImage f.image → (part : Part) (space : Space) (a : ℕ) → Claims (function_with_image f (switched_off f.image)) part space a → ⊥
 off_claims_nothing f is part space a claims = both_ways _ (not_enabled f part is) claims.enabled
 
 no_list : (image : List ℕ) → IsImage image → has_bit (status (switched_off image)) 4 ≡ false

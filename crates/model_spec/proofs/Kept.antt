@@ -6,7 +6,7 @@ use Rattle.pci_spec.specs.Slot.{Slot}
 use Rattle.pci_spec.specs.System.{Function, System, is_bridge}
 use Rattle.pci_spec.specs.Decoded.{bridge_of, record_of}
 use Rattle.model_spec.specs.Words.{Words, no_words}
-use Rattle.model_spec.specs.Taken.{IsTaken, IsWhere, AreTaken, is_ide, is_unnumbered, with_image, bridge_aside, reset_aside, parts_aside, vga_aside_by, has_legacy_by, is_unnumbered_bridge}
+use Rattle.model_spec.specs.Taken.{IsTakenAs, IsWhere, AreFunctionsTakenAs, is_ide, is_unnumbered, function_with_image, bridge_aside, reset_aside, parts_aside, vga_aside_by, has_legacy_by, is_unnumbered_bridge}
 use Rattle.model_spec.specs.WordsLaws.{NoPartsChangeNothing}
 
 -- ---- no words
@@ -15,12 +15,12 @@ unchanged : (Condition : Type 0) (f changed g : Function) → IsWhere Condition 
 unchanged Condition f changed g (inl (holds, is)) same = is ∙ same holds
 unchanged Condition f changed g (inr (fails, is)) same = is
 
-pub taken_same : (slots : List Slot) (f h : Function) → IsTaken no_words slots f h → h ≡ f
+pub taken_same : (slots : List Slot) (f h : Function) → IsTakenAs no_words slots f h → h ≡ f
 taken_same slots f h taken =
     unchanged _ taken.g taken.g h taken.parts (λ holds. refl)
     ∙ unchanged _ f _ taken.g taken.power (λ holds. cc holds.0)
 
-pub all_same : (slots : List Slot) (s t : System) → AreTaken no_words slots s t → t ≡ s
+pub all_same : (slots : List Slot) (s t : System) → AreFunctionsTakenAs no_words slots s t → t ≡ s
 all_same slots [] [] taken = refl
 all_same slots [] (h ∷ t) taken = absurd taken
 all_same slots (f ∷ s) [] taken = absurd taken
@@ -42,7 +42,7 @@ no_parts w legacy f none =
 
 -- ---- slots
 
-at_slot : (f : Function) (test : Bool) (image : List ℕ) → (if test then with_image f image else f).slot ≡ f.slot
+at_slot : (f : Function) (test : Bool) (image : List ℕ) → (if test then function_with_image f image else f).slot ≡ f.slot
 at_slot f test image = elim (cases_Bool test) [ inl on ↦ rw on refl | inr off ↦ rw off refl ]
 
 bridge_slot : (w : Words) (slots : List Slot) (f : Function) → (bridge_aside w slots f).slot ≡ f.slot
@@ -61,13 +61,13 @@ kept_slot : (Condition : Type 0) (f changed g : Function) → IsWhere Condition 
 kept_slot Condition f changed g (inl (holds, is)) same = ap (λ x. x.slot) is ∙ same
 kept_slot Condition f changed g (inr (fails, is)) same = ap (λ x. x.slot) is
 
-taken_slot : (w : Words) (slots : List Slot) (f h : Function) → IsTaken w slots f h → h.slot ≡ f.slot
+taken_slot : (w : Words) (slots : List Slot) (f h : Function) → IsTakenAs w slots f h → h.slot ≡ f.slot
 taken_slot w slots f h taken =
     let b = bridge_aside w slots taken.g in
     kept_slot _ b _ h taken.parts (parts_slot w (has_legacy_by w f) b) ∙ bridge_slot w slots taken.g
     ∙ kept_slot _ (vga_aside_by w f) _ taken.g taken.power refl ∙ vga_slot w f
 
-pub slots_same : (w : Words) (slots : List Slot) (s t : System) → AreTaken w slots s t → map (λ f. f.slot) t ≡ map (λ f. f.slot) s
+pub slots_same : (w : Words) (slots : List Slot) (s t : System) → AreFunctionsTakenAs w slots s t → map (λ f. f.slot) t ≡ map (λ f. f.slot) s
 slots_same w slots [] [] taken = refl
 slots_same w slots [] (h ∷ t) taken = absurd taken
 slots_same w slots (f ∷ s) [] taken = absurd taken

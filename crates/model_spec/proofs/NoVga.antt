@@ -14,7 +14,7 @@ use Rattle.pci_spec.specs.Fault.{controls_bridge, is_subtractive_bridge}
 use Rattle.given_spec.specs.Words.{without_vga}
 use Rattle.model_spec.specs.Words.{Words}
 use Rattle.model_spec.specs.Bytes.{cleared, out_of_reset, positive, switched_off, width_of, without_bars}
-use Rattle.model_spec.specs.Taken.{IsWhere, bridge_aside, compatible_bars, has_legacy_by, is_anyone_behind, is_ide, is_unnumbered, parts_aside, reset_aside, vga_aside_by, with_image, without_channels}
+use Rattle.model_spec.specs.Taken.{IsWhere, bridge_aside, compatible_bars, has_legacy_by, is_anyone_behind, is_ide, is_unnumbered, parts_aside, reset_aside, vga_aside_by, function_with_image, without_channels}
 use Rattle.model_spec.specs.WordsLaws.{TakenHasNoVgaEnable}
 use Rattle.model_spec.proofs.Changes.{device_is_none}
 
@@ -83,9 +83,9 @@ positive_stays_off image is =
 bridge_stays_off : (w : Words) (slots : List Slot) (g : Function) → IsOff g.image → IsOff (bridge_aside w slots g).image
 bridge_stays_off w slots g is =
     let r = reset_aside w slots g in
-    let reset : IsOff r.image = cond_both (w.reset && controls_bridge g.image SECONDARY_BUS_RESET && not (is_anyone_behind slots g)) (with_image g (out_of_reset g.image)) g (λ x. IsOff x.image)
+    let reset : IsOff r.image = cond_both (w.reset && controls_bridge g.image SECONDARY_BUS_RESET && not (is_anyone_behind slots g)) (function_with_image g (out_of_reset g.image)) g (λ x. IsOff x.image)
     (λ on. reset_stays_off g.image is) (λ other. is) in
-    cond_both (w.subtractive && is_subtractive_bridge r.image && not (is_anyone_behind slots r)) (with_image r (positive r.image)) r (λ x. IsOff x.image)
+    cond_both (w.subtractive && is_subtractive_bridge r.image && not (is_anyone_behind slots r)) (function_with_image r (positive r.image)) r (λ x. IsOff x.image)
     (λ on. positive_stays_off r.image reset) (λ other. reset)
 
 -- ---- what becomes a device, or stays one

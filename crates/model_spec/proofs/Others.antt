@@ -14,7 +14,7 @@ use Rattle.pci_spec.specs.Order.{Place}
 use Rattle.given_spec.specs.Words.{without_vga, vga_aside}
 use Rattle.model_spec.specs.Words.{Words, no_words}
 use Rattle.model_spec.specs.Bytes.{out_of_reset, positive, switched_off}
-use Rattle.model_spec.specs.Taken.{HasNoneBefore, IsTaken, IsWhere, bridge_aside, has_legacy_by, has_numbers, is_anyone_behind, is_ide, is_unnumbered, is_unnumbered_bridge, may_have_parts_by, parts_aside, reset_aside, vga_aside_by, with_image, without_buses, without_channels}
+use Rattle.model_spec.specs.Taken.{HasNoOwnFaultBefore, IsTakenAs, IsWhere, bridge_aside, has_legacy_by, has_numbers, is_anyone_behind, is_ide, is_unnumbered, is_unnumbered_bridge, may_have_parts_by, parts_aside, reset_aside, vga_aside_by, function_with_image, without_buses, without_channels}
 use Rattle.model_spec.specs.WordsLaws.{IdeLeavesOthers, UnnumberedLeavesOthers, UnnumberedLeavesNumbers, IdeAloneLeavesOthers, UnnumberedAloneLeavesOthers}
 use Rattle.model_spec.proofs.Kept.{taken_same}
 use Rattle.model_spec.proofs.NoVga.{off_at}
@@ -65,9 +65,9 @@ positive_alike image = record {
 bridge_alike : (w : Words) (slots : List Slot) (g : Function) → IsAlike g.image (bridge_aside w slots g).image
 bridge_alike w slots g =
     let r = reset_aside w slots g in
-    let first : IsAlike g.image r.image = cond_both (w.reset && controls_bridge g.image SECONDARY_BUS_RESET && not (is_anyone_behind slots g)) (with_image g (out_of_reset g.image)) g (λ x. IsAlike g.image x.image)
+    let first : IsAlike g.image r.image = cond_both (w.reset && controls_bridge g.image SECONDARY_BUS_RESET && not (is_anyone_behind slots g)) (function_with_image g (out_of_reset g.image)) g (λ x. IsAlike g.image x.image)
     (λ on. control_alike g.image _) (λ off. alike_itself g.image) in
-    let second : IsAlike r.image (bridge_aside w slots g).image = cond_both (w.subtractive && is_subtractive_bridge r.image && not (is_anyone_behind slots r)) (with_image r (positive r.image)) r (λ x. IsAlike r.image x.image)
+    let second : IsAlike r.image (bridge_aside w slots g).image = cond_both (w.subtractive && is_subtractive_bridge r.image && not (is_anyone_behind slots r)) (function_with_image r (positive r.image)) r (λ x. IsAlike r.image x.image)
     (λ on. positive_alike r.image) (λ off. alike_itself r.image) in
     alike_through g.image r.image (bridge_aside w slots g).image first second
 
@@ -75,7 +75,7 @@ start_alike : (w : Words) (f : Function) → IsAlike f.image (vga_aside_by w f).
 start_alike w f = cond_both (is_some w.vga) (vga_aside f) f (λ x. IsAlike f.image x.image) (λ on. vga_alike f.image) (λ off. alike_itself f.image)
 
 -- a function before its parts are looked at
-before_alike : (w : Words) (slots : List Slot) (f h : Function) (t : IsTaken w slots f h) → IsAlike f.image (bridge_aside w slots t.g).image
+before_alike : (w : Words) (slots : List Slot) (f h : Function) (t : IsTakenAs w slots f h) → IsAlike f.image (bridge_aside w slots t.g).image
 before_alike w slots f h t =
     let start = vga_aside_by w f in
     let power : IsAlike start.image t.g.image = elim t.power [
@@ -118,9 +118,9 @@ module _ (w : Words) (slots : List Slot) (f h g : Function) where
     aside_same : parts_aside w legacy b ≡ parts_aside no_ide legacy b
     aside_same = ap (λ x. if x then without_channels b else if w.unnumbered && is_unnumbered legacy b then without_buses b else b) (and_right w.ide (is_ide b.image) other)
 
-    parts_same : IsWhere (IsTrue (may_have_parts_by w b) × HasNoneBefore Place b) b (parts_aside w legacy b) h
-        ≡ IsWhere (IsTrue (may_have_parts_by no_ide b) × HasNoneBefore Place b) b (parts_aside no_ide legacy b) h
-    parts_same = λ i. IsWhere (IsTrue (may_same i) × HasNoneBefore Place b) b (aside_same i) h
+    parts_same : IsWhere (IsTrue (may_have_parts_by w b) × HasNoOwnFaultBefore Place b) b (parts_aside w legacy b) h
+        ≡ IsWhere (IsTrue (may_have_parts_by no_ide b) × HasNoOwnFaultBefore Place b) b (parts_aside no_ide legacy b) h
+    parts_same = λ i. IsWhere (IsTrue (may_same i) × HasNoOwnFaultBefore Place b) b (aside_same i) h
 
 pub ide_leaves_others : IdeLeavesOthers
 ide_leaves_others w slots f h is other = (
@@ -135,7 +135,7 @@ module _ (w : Words) (slots : List Slot) (f h : Function) where
   no_unnumbered = record w { unnumbered = false }
 
   -- what is taken with the word, and is no unnumbered bridge before its parts are looked at
-  leaves : (t : IsTaken w slots f h) → ((w.ide && is_ide (bridge_aside w slots t.g).image) ≡ false → is_unnumbered (has_legacy_by w f) (bridge_aside w slots t.g) ≡ false) → IsTaken no_unnumbered slots f h
+  leaves : (t : IsTakenAs w slots f h) → ((w.ide && is_ide (bridge_aside w slots t.g).image) ≡ false → is_unnumbered (has_legacy_by w f) (bridge_aside w slots t.g) ≡ false) → IsTakenAs no_unnumbered slots f h
   leaves t none = record { g = t.g; power = t.power; parts = by t.parts }
     where
       b : Function
@@ -147,7 +147,7 @@ module _ (w : Words) (slots : List Slot) (f h : Function) where
       fewer : may_have_parts_by no_unnumbered b ≡ true → (w.ide && is_ide b.image) ≡ true
       fewer may = elim (or_cases (w.ide && is_ide b.image) (false && is_bridge b) may) [ inl ide ↦ ide | inr none ↦ absurd (both_ways false refl none) ]
 
-      by : IsWhere (IsTrue (may_have_parts_by w b) × HasNoneBefore Place b) b (parts_aside w legacy b) h → IsWhere (IsTrue (may_have_parts_by no_unnumbered b) × HasNoneBefore Place b) b (parts_aside no_unnumbered legacy b) h
+      by : IsWhere (IsTrue (may_have_parts_by w b) × HasNoOwnFaultBefore Place b) b (parts_aside w legacy b) h → IsWhere (IsTrue (may_have_parts_by no_unnumbered b) × HasNoOwnFaultBefore Place b) b (parts_aside no_unnumbered legacy b) h
       by (inr (fails, is)) = inr (λ holds. fails (or_left (w.ide && is_ide b.image) (w.unnumbered && is_bridge b) (fewer holds.0), holds.1), is)
       by (inl (holds, is)) = elim (cases_Bool (w.ide && is_ide b.image)) [
         | inl ide ↦ inl (
@@ -163,7 +163,7 @@ module _ (w : Words) (slots : List Slot) (f h : Function) where
       ]
 
   -- how the other words take what is no controller
-  taken_before : (t : IsTaken w slots f h) → (w.ide && is_ide (bridge_aside w slots t.g).image) ≡ false → IsTaken no_unnumbered slots f (bridge_aside w slots t.g)
+  taken_before : (t : IsTakenAs w slots f h) → (w.ide && is_ide (bridge_aside w slots t.g).image) ≡ false → IsTakenAs no_unnumbered slots f (bridge_aside w slots t.g)
   taken_before t other = record {
     g = t.g;
     power = t.power;

@@ -16,8 +16,8 @@ use Rattle.model_spec.specs.Words.{Words}
 use Rattle.model_spec.specs.Bytes.{as_device, device_read_backs, out_of_reset, positive, switched_off, without_bars}
 
 -- nothing is wrong with the function by itself that is looked for before a phase
-abbrev pub HasNoneBefore : Phase → Function → Type 0
-HasNoneBefore phase f =
+abbrev pub HasNoOwnFaultBefore : Phase → Function → Type 0
+HasNoOwnFaultBefore phase f =
     (fault : Fault) → phase_of fault < phase_key phase → IsIn [] (f ∷ []) fault → ⊥
 
 -- whether a function is listed on a bus behind a bridge
@@ -25,8 +25,8 @@ abbrev pub is_anyone_behind : List Slot → Function → Bool
 is_anyone_behind slots b = list_any (λ slot. is_behind b slot.bus) slots
 
 -- a function with another image
-abbrev pub with_image : Function → List ℕ → Function
-with_image f image = record { slot = f.slot; image = image; probe = f.probe }
+abbrev pub function_with_image : Function → List ℕ → Function
+function_with_image f image = record { slot = f.slot; image = image; probe = f.probe }
 
 -- ---- vga
 
@@ -42,7 +42,7 @@ has_legacy_by w f = is_some w.vga && has_legacy f
 
 -- a function whose registers and list decode, and that isn't in D0 (Power Management 1.2, 5.4)
 abbrev pub IsAsleep : Function → Type 0
-IsAsleep f = HasNoneBefore Profile f × IsNotInD0 f.image
+IsAsleep f = HasNoOwnFaultBefore Profile f × IsNotInD0 f.image
 
 -- ---- reset, subtractive
 
@@ -50,13 +50,13 @@ IsAsleep f = HasNoneBefore Profile f × IsNotInD0 f.image
 abbrev pub reset_aside : Words → List Slot → Function → Function
 reset_aside w slots f =
     if w.reset && controls_bridge f.image SECONDARY_BUS_RESET && not (is_anyone_behind slots f)
-    then with_image f (out_of_reset f.image) else f
+    then function_with_image f (out_of_reset f.image) else f
 
 -- one that doesn't decode subtractively, where that may be left out
 abbrev pub subtractive_aside : Words → List Slot → Function → Function
 subtractive_aside w slots f =
     if w.subtractive && is_subtractive_bridge f.image && not (is_anyone_behind slots f)
-    then with_image f (positive f.image) else f
+    then function_with_image f (positive f.image) else f
 
 abbrev pub bridge_aside : Words → List Slot → Function → Function
 bridge_aside w slots f = subtractive_aside w slots (reset_aside w slots f)
@@ -88,15 +88,15 @@ without_channels f = record {
 
 -- ---- unnumbered
 
-abbrev pub is_open : Option DecodedWindow → Bool
-is_open None = false
-is_open (Some window) = is_some window.range
+abbrev pub is_open_window : Option DecodedWindow → Bool
+is_open_window None = false
+is_open_window (Some window) = is_some window.range
 
 -- whether a window claims an address, by Command
 abbrev pub has_open_window : ℕ → DecodedWindows → Bool
 has_open_window command w =
-    (has_bit command 0 && is_open w.io)
-    || (has_bit command 1 && (is_some w.memory.range || is_open w.prefetch))
+    (has_bit command 0 && is_open_window w.io)
+    || (has_bit command 1 && (is_some w.memory.range || is_open_window w.prefetch))
 
 -- whether a legacy part claims addresses, by Command
 abbrev pub has_open_legacy : Bool → ℕ → Bool
@@ -105,9 +105,9 @@ has_open_legacy legacy command = legacy && (has_bit command 0 || has_bit command
 abbrev pub has_numbers : Bridge → Bool
 has_numbers b = not (b.primary == 0 && b.secondary == 0 && b.subordinate == 0)
 
-abbrev pub is_rom_on : Option DecodedRom → Bool
-is_rom_on None = false
-is_rom_on (Some rom) = rom.on
+abbrev pub is_decoded_rom_on : Option DecodedRom → Bool
+is_decoded_rom_on None = false
+is_decoded_rom_on (Some rom) = rom.on
 
 -- whether a record is of a bridge that nobody gave bus numbers: they are 0, neither one of its windows nor its legacy
 -- part, where it has one, claims an address, and its ROM is off
@@ -115,7 +115,7 @@ abbrev pub is_unnumbered_bridge : Bool → Record → Option Bridge → Bool
 is_unnumbered_bridge legacy r None = false
 is_unnumbered_bridge legacy r (Some b) =
     not (has_numbers b) && not (has_open_window r.command b.windows)
-    && not (has_open_legacy legacy r.command) && not (is_rom_on r.rom)
+    && not (has_open_legacy legacy r.command) && not (is_decoded_rom_on r.rom)
 
 abbrev pub is_unnumbered : Bool → Function → Bool
 is_unnumbered legacy f = is_unnumbered_bridge legacy (record_of f) (record_of f).bridge
@@ -145,15 +145,15 @@ IsWhere Condition f changed g = (Condition × (g ≡ changed)) ⊎ ((Condition �
 -- The function h is how f is taken. What is wrong with it by itself is told before all else: `power` leaves a function be
 -- whose registers or list don't decode, `ide` and `unnumbered` one that has any fault by itself. VGA Enable is left aside
 -- first, so that it is no such fault where a word for it counts.
-pub record IsTaken (w : Words) (slots : List Slot) (f h : Function) : Type 0 where
+pub record IsTakenAs (w : Words) (slots : List Slot) (f h : Function) : Type 0 where
   pub g : Function
   pub power : IsWhere (IsTrue w.power × IsAsleep (vga_aside_by w f)) (vga_aside_by w f)
-      (with_image (vga_aside_by w f) (switched_off (vga_aside_by w f).image)) g
+      (function_with_image (vga_aside_by w f) (switched_off (vga_aside_by w f).image)) g
   pub parts : IsWhere
       (IsTrue (may_have_parts_by w (bridge_aside w slots g))
-      × HasNoneBefore Place (bridge_aside w slots g))
+      × HasNoOwnFaultBefore Place (bridge_aside w slots g))
       (bridge_aside w slots g) (parts_aside w (has_legacy_by w f) (bridge_aside w slots g)) h
 
 -- the same of each function of a system
-abbrev pub AreTaken : Words → List Slot → System → System → Type 0
-AreTaken w slots s t = AllZip (IsTaken w slots) s t
+abbrev pub AreFunctionsTakenAs : Words → List Slot → System → System → Type 0
+AreFunctionsTakenAs w slots s t = AllZip (IsTakenAs w slots) s t

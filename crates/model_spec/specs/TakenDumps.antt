@@ -3,7 +3,7 @@ use Rattle.std.specs.Prelude.{◌≡◌, ℕ, List, Option, map}
 use Rattle.pci_spec.specs.Text.{Block, slots_of}
 use Rattle.pci_spec.specs.System.{system_of}
 use Rattle.model_spec.specs.Words.{Words}
-use Rattle.model_spec.specs.Taken.{AreTaken}
+use Rattle.model_spec.specs.Taken.{AreFunctionsTakenAs}
 
 -- what a probe's titles name stays named
 abbrev pub titles_of : List Block → List (Option (List ℕ))
@@ -15,4 +15,4 @@ pub record AreTakenAs (w : Words) (dump probe taken taken_probe : List Block) : 
   pub probe_slots : slots_of taken_probe ≡ slots_of probe
   pub probe_titles : titles_of taken_probe ≡ titles_of probe
   pub each : slots_of dump ≡ slots_of probe
-      → AreTaken w (slots_of dump) (system_of dump probe) (system_of taken taken_probe)
+      → AreFunctionsTakenAs w (slots_of dump) (system_of dump probe) (system_of taken taken_probe)

@@ -8,26 +8,26 @@ use Rattle.pci_spec.specs.Decoded.{bridge_of}
 use Rattle.pci_spec.specs.Fault.{IsNotInD0, controls_bridge, is_subtractive_bridge}
 use Rattle.model_spec.specs.Words.{Words, no_words}
 use Rattle.model_spec.specs.Bytes.{out_of_reset, positive, switched_off}
-use Rattle.model_spec.specs.Taken.{AreTaken, IsTaken, has_legacy_by, has_numbers, is_ide, is_unnumbered, may_have_parts_by, parts_aside, with_image, without_buses}
+use Rattle.model_spec.specs.Taken.{AreFunctionsTakenAs, IsTakenAs, has_legacy_by, has_numbers, is_ide, is_unnumbered, may_have_parts_by, parts_aside, function_with_image, without_buses}
 
 -- Without words a system is taken as it is.
 abbrev pub NoWordsChangeNothing : Type 0
 NoWordsChangeNothing =
-    (slots : List Slot) (s t : System) → AreTaken no_words slots s t → t ≡ s
+    (slots : List Slot) (s t : System) → AreFunctionsTakenAs no_words slots s t → t ≡ s
 
 -- Words change no slot.
 abbrev pub SlotsAreKept : Type 0
 SlotsAreKept =
-    (w : Words) (slots : List Slot) (s t : System) → AreTaken w slots s t
+    (w : Words) (slots : List Slot) (s t : System) → AreFunctionsTakenAs w slots s t
     → map (λ f. f.slot) t ≡ map (λ f. f.slot) s
 
 -- ---- what the changes are for
 
 -- What is switched off claims nothing,
-abbrev pub OffClaimsNothing : Type 0
-OffClaimsNothing =
+abbrev pub OffByWordsClaimsNothing : Type 0
+OffByWordsClaimsNothing =
     (f : Function) → IsImage f.image → (part : Part) (space : Space) (a : ℕ)
-    → Claims (with_image f (switched_off f.image)) part space a → ⊥
+    → Claims (function_with_image f (switched_off f.image)) part space a → ⊥
 
 -- and shows no power state.
 abbrev pub OffShowsNoState : Type 0
@@ -51,7 +51,7 @@ DeviceLeadsNowhere = (f : Function) → IsImage f.image → IsFalse (is_bridge (
 abbrev pub TakenHasNoVgaEnable : Type 0
 TakenHasNoVgaEnable =
     (w : Words) (slots : List Slot) (f h : Function) → IsImage f.image → IsTrue (is_some w.vga)
-    → IsTaken w slots f h → IsFalse (controls_bridge h.image VGA_ENABLE)
+    → IsTakenAs w slots f h → IsFalse (controls_bridge h.image VGA_ENABLE)
 
 -- A function that can have no part for which a word counts is left as it is.
 abbrev pub NoPartsChangeNothing : Type 0
@@ -65,31 +65,31 @@ NoPartsChangeNothing =
 abbrev pub IdeLeavesOthers : Type 0
 IdeLeavesOthers =
     (w : Words) (slots : List Slot) (f h : Function) → IsImage f.image → IsFalse (is_ide f.image)
-    → IsTaken w slots f h ↔ IsTaken (record w { ide = false }) slots f h
+    → IsTakenAs w slots f h ↔ IsTakenAs (record w { ide = false }) slots f h
 
 -- What is taken with `unnumbered` is taken so without it, unless it is an unnumbered bridge as the other words take it.
 abbrev pub UnnumberedLeavesOthers : Type 0
 UnnumberedLeavesOthers =
-    (w : Words) (slots : List Slot) (f h : Function) → IsTaken w slots f h
-    → ((k : Function) → IsTaken (record w { unnumbered = false }) slots f k
+    (w : Words) (slots : List Slot) (f h : Function) → IsTakenAs w slots f h
+    → ((k : Function) → IsTakenAs (record w { unnumbered = false }) slots f k
     → IsFalse (is_unnumbered (has_legacy_by w f) k))
-    → IsTaken (record w { unnumbered = false }) slots f h
+    → IsTakenAs (record w { unnumbered = false }) slots f h
 
 -- So it is with what is no bridge, and with each bridge that has a bus number.
 abbrev pub UnnumberedLeavesNumbers : Type 0
 UnnumberedLeavesNumbers =
-    (w : Words) (slots : List Slot) (f h : Function) → IsTaken w slots f h
+    (w : Words) (slots : List Slot) (f h : Function) → IsTakenAs w slots f h
     → IsFalse (is_bridge f && not (has_numbers (bridge_of f.image f.probe)))
-    → IsTaken (record w { unnumbered = false }) slots f h
+    → IsTakenAs (record w { unnumbered = false }) slots f h
 
 -- By `ide` alone what is no IDE controller is taken as it is,
 abbrev pub IdeAloneLeavesOthers : Type 0
 IdeAloneLeavesOthers =
     (slots : List Slot) (f h : Function) → IsImage f.image → IsFalse (is_ide f.image)
-    → IsTaken (record no_words { ide = true }) slots f h → h ≡ f
+    → IsTakenAs (record no_words { ide = true }) slots f h → h ≡ f
 
 -- and by `unnumbered` alone what is no unnumbered bridge.
 abbrev pub UnnumberedAloneLeavesOthers : Type 0
 UnnumberedAloneLeavesOthers =
     (slots : List Slot) (f h : Function) → IsFalse (is_unnumbered false f)
-    → IsTaken (record no_words { unnumbered = true }) slots f h → h ≡ f
+    → IsTakenAs (record no_words { unnumbered = true }) slots f h → h ≡ f

@@ -1,6 +1,6 @@
 //! Laws of words. These functions do nothing: each contract is a law.
 
-ghost use Rattle.model_spec.specs.WordsLaws.{NoWordsChangeNothing, SlotsAreKept, OffClaimsNothing, OffShowsNoState, OutOfResetIs, PositiveIs, DeviceLeadsNowhere, TakenHasNoVgaEnable, NoPartsChangeNothing, IdeLeavesOthers, UnnumberedLeavesOthers, UnnumberedLeavesNumbers, IdeAloneLeavesOthers, UnnumberedAloneLeavesOthers};
+ghost use Rattle.model_spec.specs.WordsLaws.{NoWordsChangeNothing, SlotsAreKept, OffByWordsClaimsNothing, OffShowsNoState, OutOfResetIs, PositiveIs, DeviceLeadsNowhere, TakenHasNoVgaEnable, NoPartsChangeNothing, IdeLeavesOthers, UnnumberedLeavesOthers, UnnumberedLeavesNumbers, IdeAloneLeavesOthers, UnnumberedAloneLeavesOthers};
 
 /// Without words a system is taken as it is.
 pub fn no_words_change_nothing()
@@ -15,7 +15,7 @@ pub fn slots_are_kept()
 /// What is switched off claims nothing and is in no power state; a bridge out of reset, or one that decodes its windows
 /// alone, has none of the faults that it had; and a bridge without buses leads nowhere.
 pub fn changes_do_what_they_are_for()
-    ensures off { OffClaimsNothing }
+    ensures off { OffByWordsClaimsNothing }
     ensures state { OffShowsNoState }
     ensures reset { OutOfResetIs }
     ensures positive { PositiveIs }

@@ -7,17 +7,17 @@ use Rattle.std.proofs.lemmas.List.Elements.{Contains-append_cases, Contains-appe
 use Rattle.pci_spec.specs.Slot.{Slot}
 use Rattle.pci_spec.specs.Header.{secondary_bus, subordinate_bus}
 use Rattle.pci_spec.proofs.Members.{in_nil, in_cons_cases, in_head, in_filter_to, in_filter_from, in_map_to, in_map_from, in_flat_map_to, in_flat_map_from}
-use Rattle.number_spec.specs.Board.{Nodes, NoMore, Node, Root, Place, Here, Behind, Next, is_type_1, on_bus, passes_on, behind_bridges, at_root, goes_to, answers, access_of}
+use Rattle.number_spec.specs.Board.{Nodes, NoMore, Node, RootBus, NodePlace, Here, Behind, Next, is_type_1, on_bus, passes_on, behind_bridges, at_root, goes_to, answers, access_of}
 use Rattle.number_spec.specs.Walk.{has_bus, is_found, walk}
 use Rattle.number_spec.proofs.Single.{goes_alone, IsRanged, low_to_high}
 
 -- ---- places in lists that are made of those of the first node and of the rest
 
-pub chosen : (b : Bool) (xs ys : List Place) (place : Place) → Contains (if b then xs else ys) place → ((b ≡ true) × Contains xs place) ⊎ ((b ≡ false) × Contains ys place)
+pub chosen : (b : Bool) (xs ys : List NodePlace) (place : NodePlace) → Contains (if b then xs else ys) place → ((b ≡ true) × Contains xs place) ⊎ ((b ≡ false) × Contains ys place)
 chosen true xs ys place has = inl (refl, has)
 chosen false xs ys place has = inr (refl, has)
 
-pub in_rest : (xs rest : List Place) (place : Place) → (Contains xs (Next place) → ⊥) → Contains (xs ++ map Next rest) (Next place) → Contains rest place
+pub in_rest : (xs rest : List NodePlace) (place : NodePlace) → (Contains xs (Next place) → ⊥) → Contains (xs ++ map Next rest) (Next place) → Contains rest place
 in_rest xs rest place not_first has = elim (Contains-append_cases xs (map Next rest) (Next place) has) [
   | inl first ↦ absurd (not_first first)
   | inr later ↦ let made = in_map_to Next rest (Next place) later in
@@ -25,28 +25,28 @@ in_rest xs rest place not_first has = elim (Contains-append_cases xs (map Next r
       subst (Contains rest) same made.has
 ]
 
-pub in_first : (xs rest : List Place) (place : Place) → ((q : Place) → Next q ≡ place → ⊥) → Contains (xs ++ map Next rest) place → Contains xs place
+pub in_first : (xs rest : List NodePlace) (place : NodePlace) → ((q : NodePlace) → Next q ≡ place → ⊥) → Contains (xs ++ map Next rest) place → Contains xs place
 in_first xs rest place not_later has = elim (Contains-append_cases xs (map Next rest) place has) [
   | inl first ↦ first
   | inr later ↦ let made = in_map_to Next rest place later in absurd (not_later made.from made.is)
 ]
 
-pub behind_in : (xs : List Place) (place : Place) → Contains (map Behind xs) (Behind place) → Contains xs place
+pub behind_in : (xs : List NodePlace) (place : NodePlace) → Contains (map Behind xs) (Behind place) → Contains xs place
 behind_in xs place has = let made = in_map_to Behind xs (Behind place) has in
     let same : made.from ≡ place = cc made.is in
     subst (Contains xs) same made.has
 
-no_next_behind : (xs : List Place) (place : Place) → Contains (map Behind xs) (Next place) → ⊥
+no_next_behind : (xs : List NodePlace) (place : NodePlace) → Contains (map Behind xs) (Next place) → ⊥
 no_next_behind xs place has = let made = in_map_to Behind xs (Next place) has in cc made.is
 
-no_here_behind : (xs : List Place) → Contains (map Behind xs) Here → ⊥
+no_here_behind : (xs : List NodePlace) → Contains (map Behind xs) Here → ⊥
 no_here_behind xs has = let made = in_map_to Behind xs Here has in cc made.is
 
-no_next_here : (b : Bool) (place : Place) → Contains (if b then Here ∷ [] else []) (Next place) → ⊥
+no_next_here : (b : Bool) (place : NodePlace) → Contains (if b then Here ∷ [] else []) (Next place) → ⊥
 no_next_here true place has = elim (in_cons_cases Here [] (Next place) has) [ inl same ↦ cc same | inr none ↦ in_nil (Next place) none ]
 no_next_here false place has = in_nil (Next place) has
 
-no_behind_here : (b : Bool) (place : Place) → Contains (if b then Here ∷ [] else []) (Behind place) → ⊥
+no_behind_here : (b : Bool) (place : NodePlace) → Contains (if b then Here ∷ [] else []) (Behind place) → ⊥
 no_behind_here true place has = elim (in_cons_cases Here [] (Behind place) has) [ inl same ↦ cc same | inr none ↦ in_nil (Behind place) none ]
 no_behind_here false place has = in_nil (Behind place) has
 
@@ -58,7 +58,7 @@ same_access access device function same same_function =
     first ∙ ap (λ (x : ℕ). record { bus = access.bus; device = device; function = x }) (sym same_function)
 
 -- on a bus
-answers_there : (nodes : Nodes) (access : Slot) (place : Place) → Contains (on_bus nodes access) place → access ≡ access_of access.bus nodes place
+answers_there : (nodes : Nodes) (access : Slot) (place : NodePlace) → Contains (on_bus nodes access) place → access ≡ access_of access.bus nodes place
 answers_there NoMore access place has = absurd (in_nil place has)
 answers_there (Node d f image behind others) access Here has =
     let first = in_first (if d == access.device && f == access.function then Here ∷ [] else []) (on_bus others access) Here (λ q next. cc next) has in
@@ -74,13 +74,13 @@ answers_there (Node d f image behind others) access (Next place) has =
     answers_there others access place (in_rest (if d == access.device && f == access.function then Here ∷ [] else []) (on_bus others access) place (no_next_here (d == access.device && f == access.function) place) has)
 
 -- what is on the other side of a bridge that answers
-abbrev other_side : List ℕ → Nodes → Slot → List Place
+abbrev other_side : List ℕ → Nodes → Slot → List NodePlace
 other_side image behind access =
     if is_type_1 image && secondary_bus image == access.bus then on_bus behind access
     else if is_type_1 image && passes_on image access.bus then behind_bridges behind access else []
 
 -- behind the bridges on a bus
-answers_behind : (bus : ℕ) (nodes : Nodes) (access : Slot) (place : Place) → Contains (behind_bridges nodes access) place → access ≡ access_of bus nodes place
+answers_behind : (bus : ℕ) (nodes : Nodes) (access : Slot) (place : NodePlace) → Contains (behind_bridges nodes access) place → access ≡ access_of bus nodes place
 answers_behind bus NoMore access place has = absurd (in_nil place has)
 answers_behind bus (Node d f image behind others) access Here has =
     absurd (no_here_behind (other_side image behind access) (in_first (map Behind (other_side image behind access)) (behind_bridges others access) Here (λ q next. cc next) has))
@@ -101,40 +101,40 @@ answers_behind bus (Node d f image behind others) access (Behind place) has =
 -- ---- where the ranges of bridges are apart
 
 -- a node that the walk finds answers on its own bus, or behind a bridge there, to a bus of its range
-abbrev pub IsAnswered : ℕ → ℕ → ℕ → Nodes → Place → Slot → Type 0
+abbrev pub IsAnswered : ℕ → ℕ → ℕ → Nodes → NodePlace → Slot → Type 0
 IsAnswered low high bus nodes place access =
     ((access.bus ≡ bus) × Contains (on_bus nodes access) place)
     ⊎ ((low < access.bus) × (access.bus ≤ high) × Contains (behind_bridges nodes access) place)
 
 -- what answers among the nodes that follow does so among all
-later_too : (low up high bus device function : ℕ) (image : List ℕ) (behind others : Nodes) (place : Place) (access : Slot) → low ≤ up → IsAnswered up high bus others place access → IsAnswered low high bus (Node device function image behind others) (Next place) access
+later_too : (low up high bus device function : ℕ) (image : List ℕ) (behind others : Nodes) (place : NodePlace) (access : Slot) → low ≤ up → IsAnswered up high bus others place access → IsAnswered low high bus (Node device function image behind others) (Next place) access
 later_too low up high bus device function image behind others place access less answered = elim answered [
   | inl here ↦ inl (here.0, Contains-append_right (if device == access.device && function == access.function then Here ∷ [] else []) (map Next (on_bus others access)) (Next place) (in_map_from Next (on_bus others access) place here.1))
   | inr there ↦ inr (omega (arith, there.0), there.1, Contains-append_right (map Behind (other_side image behind access)) (map Next (behind_bridges others access)) (Next place) (in_map_from Next (behind_bridges others access) place there.2))
 ]
 
 -- what answers behind the first node does so among all
-behind_too : (device function : ℕ) (image : List ℕ) (behind others : Nodes) (place : Place) (access : Slot) → Contains (other_side image behind access) place → Contains (behind_bridges (Node device function image behind others) access) (Behind place)
+behind_too : (device function : ℕ) (image : List ℕ) (behind others : Nodes) (place : NodePlace) (access : Slot) → Contains (other_side image behind access) place → Contains (behind_bridges (Node device function image behind others) access) (Behind place)
 behind_too device function image behind others place access has =
     Contains-append_left (map Behind (other_side image behind access)) (map Next (behind_bridges others access)) (Behind place) (in_map_from Behind (other_side image behind access) place has)
 
-on_secondary : (image : List ℕ) (behind : Nodes) (place : Place) (access : Slot) → is_type_1 image ≡ true → secondary_bus image ≡ access.bus → Contains (on_bus behind access) place → Contains (other_side image behind access) place
+on_secondary : (image : List ℕ) (behind : Nodes) (place : NodePlace) (access : Slot) → is_type_1 image ≡ true → secondary_bus image ≡ access.bus → Contains (on_bus behind access) place → Contains (other_side image behind access) place
 on_secondary image behind place access bridge at has =
     let takes : (is_type_1 image && secondary_bus image == access.bus) ≡ true = and_from (is_type_1 image) (secondary_bus image == access.bus) bridge (eq-eqb (secondary_bus image) access.bus at) in
     rw takes has
 
-further_on : (image : List ℕ) (behind : Nodes) (place : Place) (access : Slot) → is_type_1 image ≡ true → secondary_bus image < access.bus → access.bus ≤ subordinate_bus image → Contains (behind_bridges behind access) place → Contains (other_side image behind access) place
+further_on : (image : List ℕ) (behind : Nodes) (place : NodePlace) (access : Slot) → is_type_1 image ≡ true → secondary_bus image < access.bus → access.bus ≤ subordinate_bus image → Contains (behind_bridges behind access) place → Contains (other_side image behind access) place
 further_on image behind place access bridge above upto has =
     let not_there : (is_type_1 image && secondary_bus image == access.bus) ≡ false = false_from_ne_true _ (λ takes. let at = eqb-true (secondary_bus image) access.bus (and_parts (is_type_1 image) (secondary_bus image == access.bus) takes).1 in omega arith) in
     let passes : (is_type_1 image && passes_on image access.bus) ≡ true = and_from (is_type_1 image) (passes_on image access.bus) bridge (and_from (nat_lt (secondary_bus image) access.bus) (nat_le access.bus (subordinate_bus image)) (lt-ltb (secondary_bus image) access.bus above) (le-leb access.bus (subordinate_bus image) upto)) in
     rw (not_there, passes) has
 
 -- what a walk finds at the first node, and after it
-abbrev pub first_found : Nodes → ℕ → ℕ → List ℕ → Nodes → List Place
+abbrev pub first_found : Nodes → ℕ → ℕ → List ℕ → Nodes → List NodePlace
 first_found all d f image behind =
     if is_found all d f then Here ∷ map Behind (if has_bus image then walk behind behind else []) else []
 
-pub no_next_first : (all : Nodes) (d f : ℕ) (image : List ℕ) (behind : Nodes) (place : Place) → Contains (first_found all d f image behind) (Next place) → ⊥
+pub no_next_first : (all : Nodes) (d f : ℕ) (image : List ℕ) (behind : Nodes) (place : NodePlace) → Contains (first_found all d f image behind) (Next place) → ⊥
 no_next_first all d f image behind place has = elim (chosen (is_found all d f) (Here ∷ map Behind (if has_bus image then walk behind behind else [])) [] (Next place) has) [
   | inl there ↦ elim (in_cons_cases Here (map Behind (if has_bus image then walk behind behind else [])) (Next place) there.1) [
     | inl same ↦ cc same
@@ -143,7 +143,7 @@ no_next_first all d f image behind place has = elim (chosen (is_found all d f) (
   | inr none ↦ in_nil (Next place) none.1
 ]
 
-pub walked_behind : (all : Nodes) (d f : ℕ) (image : List ℕ) (behind : Nodes) (place : Place) → Contains (first_found all d f image behind) (Behind place) → (has_bus image ≡ true) × Contains (walk behind behind) place
+pub walked_behind : (all : Nodes) (d f : ℕ) (image : List ℕ) (behind : Nodes) (place : NodePlace) → Contains (first_found all d f image behind) (Behind place) → (has_bus image ≡ true) × Contains (walk behind behind) place
 walked_behind all d f image behind place has = elim (chosen (is_found all d f) (Here ∷ map Behind (if has_bus image then walk behind behind else [])) [] (Behind place) has) [
   | inl there ↦ elim (in_cons_cases Here (map Behind (if has_bus image then walk behind behind else [])) (Behind place) there.1) [
     | inl same ↦ cc same
@@ -155,7 +155,7 @@ walked_behind all d f image behind place has = elim (chosen (is_found all d f) (
   | inr none ↦ absurd (in_nil (Behind place) none.1)
 ]
 
-pub found_there : (low high bus : ℕ) (all nodes : Nodes) (place : Place) → IsRanged low high nodes → Contains (walk all nodes) place → IsAnswered low high bus nodes place (access_of bus nodes place)
+pub found_there : (low high bus : ℕ) (all nodes : Nodes) (place : NodePlace) → IsRanged low high nodes → Contains (walk all nodes) place → IsAnswered low high bus nodes place (access_of bus nodes place)
 found_there low high bus all NoMore place ranged has = absurd (in_nil place has)
 found_there low high bus all (Node d f image behind others) Here ranged has =
     inl (refl, Contains-append_left (if d == d && f == f then Here ∷ [] else []) (map Next (on_bus others (record { bus = bus; device = d; function = f }))) Here (let e = eq-eqb d d refl in let g = eq-eqb f f refl in rw (e, g) (in_head Here [])))
@@ -193,27 +193,27 @@ found_there low high bus all (Node d f image behind others) (Behind place) range
 -- ---- at a root
 
 -- a place with the number of its root
-abbrev pub with_number : Root → Place → ℕ × Place
+abbrev pub with_number : RootBus → NodePlace → ℕ × NodePlace
 with_number root place = (root.number, place)
 
 -- what answers at one root answers on the board, and back
-pub to_one_root : (root : Root) (access : Slot) (place : Place) → Contains (answers (root ∷ []) access) (root.number, place) → Contains (at_root root access) place
+pub to_one_root : (root : RootBus) (access : Slot) (place : NodePlace) → Contains (answers (root ∷ []) access) (root.number, place) → Contains (at_root root access) place
 to_one_root root access place has =
-    let whole : ℕ × Place = (root.number, place) in
+    let whole : ℕ × NodePlace = (root.number, place) in
     let found = in_flat_map_to (λ r. map (with_number r) (at_root r access)) (filter (goes_to (root ∷ []) access.bus) (root ∷ [])) whole has in
     let is_it : root ≡ found.of = elim (in_cons_cases root [] found.of (in_filter_to (goes_to (root ∷ []) access.bus) (root ∷ []) found.of found.has).0) [ inl same ↦ same | inr none ↦ absurd (in_nil found.of none) ] in
-    let piece : Contains (map (with_number root) (at_root root access)) whole = subst (λ (r : Root). Contains (map (with_number r) (at_root r access)) whole) (sym is_it) found.piece in
+    let piece : Contains (map (with_number root) (at_root root access)) whole = subst (λ (r : RootBus). Contains (map (with_number r) (at_root r access)) whole) (sym is_it) found.piece in
     let made = in_map_to (with_number root) (at_root root access) whole piece in
-    subst (Contains (at_root root access)) (ap (λ (x : ℕ × Place). x.1) made.is) made.has
+    subst (Contains (at_root root access)) (ap (λ (x : ℕ × NodePlace). x.1) made.is) made.has
 
-pub from_one_root : (root : Root) (access : Slot) (place : Place) → root.number ≤ access.bus → Contains (at_root root access) place → Contains (answers (root ∷ []) access) (root.number, place)
+pub from_one_root : (root : RootBus) (access : Slot) (place : NodePlace) → root.number ≤ access.bus → Contains (at_root root access) place → Contains (answers (root ∷ []) access) (root.number, place)
 from_one_root root access place from has =
     in_flat_map_from (λ r. map (with_number r) (at_root r access)) (filter (goes_to (root ∷ []) access.bus) (root ∷ [])) root (with_number root place)
     (in_filter_from (goes_to (root ∷ []) access.bus) (root ∷ []) root (in_head root []) (goes_alone root access from))
     (in_map_from (with_number root) (at_root root access) place has)
 
 -- A node that the walk finds answers one access, where the ranges are apart and above the root.
-pub answers_once : (root low high : ℕ) (nodes : Nodes) → ((bus : ℕ) → low < bus → bus ≤ high → root < bus) → IsRanged low high nodes → (place : Place) → Contains (walk nodes nodes) place → (access : Slot) → Contains (answers (record { number = root; nodes = nodes } ∷ []) access) (root, place) ↔ (access ≡ access_of root nodes place)
+pub answers_once : (root low high : ℕ) (nodes : Nodes) → ((bus : ℕ) → low < bus → bus ≤ high → root < bus) → IsRanged low high nodes → (place : NodePlace) → Contains (walk nodes nodes) place → (access : Slot) → Contains (answers (record { number = root; nodes = nodes } ∷ []) access) (root, place) ↔ (access ≡ access_of root nodes place)
 answers_once root low high nodes above ranged place found access = (
   λ has. elim (chosen (root == access.bus) (on_bus nodes access) (behind_bridges nodes access) place (to_one_root (record { number = root; nodes = nodes }) access place has)) [
     | inl own ↦ subst (λ b. access ≡ access_of b nodes place) (sym (eqb-true root access.bus own.0)) (answers_there nodes access place own.1)

@@ -7,7 +7,7 @@ use Rattle.std.proofs.lemmas.List.{length-append}
 use Rattle.pci_spec.specs.Header.{primary_bus, secondary_bus, subordinate_bus}
 use Rattle.number_spec.specs.Board.{Nodes, NoMore, Node, is_type_1}
 use Rattle.number_spec.specs.Walk.{has_bus}
-use Rattle.number_spec.specs.Numbered.{secondaries, number_of, greatest, has_range, have_ranges}
+use Rattle.number_spec.specs.Numbered.{secondaries, secondary_number, greatest_from, has_range, have_ranges}
 use Rattle.pci_spec.proofs.BusRanges.{second_side}
 use Rattle.number_spec.proofs.Single.{IsRanged, outside_is_idle}
 
@@ -18,16 +18,16 @@ top root last n = min last (root + n)
 -- the numbers after the first n in the order of the walk
 abbrev pub IsRun : ℕ → ℕ → ℕ → List ℕ → Type 0
 IsRun root last n [] = Unit {0}
-IsRun root last n (x ∷ xs) = (x ≡ number_of root last (n + 1)) × IsRun root last (n + 1) xs
+IsRun root last n (x ∷ xs) = (x ≡ secondary_number root last (n + 1)) × IsRun root last (n + 1) xs
 
-pub run_from : (root last n : ℕ) (xs : List ℕ) → xs ≡ map (number_of root last) (range_with_len (n + 1) (length xs)) → IsRun root last n xs
+pub run_from : (root last n : ℕ) (xs : List ℕ) → xs ≡ map (secondary_number root last) (range_with_len (n + 1) (length xs)) → IsRun root last n xs
 run_from root last n [] e = tt
 run_from root last n (x ∷ xs) e = (cc e, run_from root last (n + 1) xs (cc e))
 
 -- and back
-pub run_is : (root last n : ℕ) (xs : List ℕ) → IsRun root last n xs → xs ≡ map (number_of root last) (range_with_len (n + 1) (length xs))
+pub run_is : (root last n : ℕ) (xs : List ℕ) → IsRun root last n xs → xs ≡ map (secondary_number root last) (range_with_len (n + 1) (length xs))
 run_is root last n [] run = refl
-run_is root last n (x ∷ xs) run = let rest = run_is root last (n + 1) xs run.1 in let first : x ≡ number_of root last (n + 1) = run.0 in cc
+run_is root last n (x ∷ xs) run = let rest = run_is root last (n + 1) xs run.1 in let first : x ≡ secondary_number root last (n + 1) = run.0 in cc
 
 pub run_parts : (root last n : ℕ) (xs ys : List ℕ) → IsRun root last n (xs ++ ys) → IsRun root last n xs × IsRun root last (n + length xs) ys
 run_parts root last n [] ys run = (tt, subst (λ k. IsRun root last k ys) (omega arith) run)
@@ -35,20 +35,20 @@ run_parts root last n (x ∷ xs) ys run =
     let rest = run_parts root last (n + 1) xs ys run.1 in
     ((run.0, rest.0), subst (λ k. IsRun root last k ys) (omega arith) rest.1)
 
--- the number that comes next is the greatest so far, or there is none left
-top_next : (root last n : ℕ) → max (top root last n) (number_of root last (n + 1)) ≡ top root last (n + 1)
+-- the number that comes next is the greatest_from so far, or there is none left
+top_next : (root last n : ℕ) → max (top root last n) (secondary_number root last (n + 1)) ≡ top root last (n + 1)
 top_next root last n = elim (cases_Bool (nat_le (root + (n + 1)) last)) [
   | inl fits ↦ rw fits (omega (arith, leb-true (root + (n + 1)) last fits))
   | inr over ↦ rw over (omega (arith, leb-false (root + (n + 1)) last over))
 ]
 
-pub greatest_of_run : (root last n : ℕ) (xs : List ℕ) → IsRun root last n xs → greatest (top root last n) xs ≡ top root last (n + length xs)
+pub greatest_of_run : (root last n : ℕ) (xs : List ℕ) → IsRun root last n xs → greatest_from (top root last n) xs ≡ top root last (n + length xs)
 greatest_of_run root last n [] run = ap (top root last) (omega arith)
 greatest_of_run root last n (x ∷ xs) run =
-    ap (λ m. greatest m xs) (ap (max (top root last n)) run.0 ∙ top_next root last n) ∙ greatest_of_run root last (n + 1) xs run.1 ∙ ap (top root last) (omega arith)
+    ap (λ m. greatest_from m xs) (ap (max (top root last n)) run.0 ∙ top_next root last n) ∙ greatest_of_run root last (n + 1) xs run.1 ∙ ap (top root last) (omega arith)
 
 -- whether there is a number left for a bridge
-pub number_or_none : (root last n : ℕ) → ((number_of root last n ≡ root + n) × (root + n ≤ last)) ⊎ ((number_of root last n ≡ 0) × (last < root + n))
+pub number_or_none : (root last n : ℕ) → ((secondary_number root last n ≡ root + n) × (root + n ≤ last)) ⊎ ((secondary_number root last n ≡ 0) × (last < root + n))
 number_or_none root last n = elim (cases_Bool (nat_le (root + n) last)) [
   | inl fits ↦ inl (rw fits refl, leb-true (root + n) last fits)
   | inr over ↦ inr (rw over refl, leb-false (root + n) last over)
@@ -71,11 +71,11 @@ closed_shows_0 bus image behind bridge closed range =
     let zeros : (primary_bus image == 0 && subordinate_bus image == 0) ≡ true = rw closed at range in
     (eqb-true (secondary_bus image) 0 (not-false (secondary_bus image == 0) none), eqb-true (subordinate_bus image) 0 (and_parts (primary_bus image == 0) (subordinate_bus image == 0) zeros).1)
 
-open_shows_greatest : (bus : ℕ) (image : List ℕ) (behind : Nodes) → has_bus image ≡ true → has_range bus image behind ≡ true → (secondary_bus image ≢ 0) × (subordinate_bus image ≡ greatest (secondary_bus image) (secondaries behind))
+open_shows_greatest : (bus : ℕ) (image : List ℕ) (behind : Nodes) → has_bus image ≡ true → has_range bus image behind ≡ true → (secondary_bus image ≢ 0) × (subordinate_bus image ≡ greatest_from (secondary_bus image) (secondaries behind))
 open_shows_greatest bus image behind leads range =
     let some = and_parts (is_type_1 image) (not (secondary_bus image == 0)) leads in
-    let shows : (primary_bus image == bus && subordinate_bus image == greatest (secondary_bus image) (secondaries behind)) ≡ true = rw leads at range in
-    (eqb-false (secondary_bus image) 0 (not-true (secondary_bus image == 0) some.1), eqb-true (subordinate_bus image) (greatest (secondary_bus image) (secondaries behind)) (and_parts (primary_bus image == bus) (subordinate_bus image == greatest (secondary_bus image) (secondaries behind)) shows).1)
+    let shows : (primary_bus image == bus && subordinate_bus image == greatest_from (secondary_bus image) (secondaries behind)) ≡ true = rw leads at range in
+    (eqb-false (secondary_bus image) 0 (not-true (secondary_bus image == 0) some.1), eqb-true (subordinate_bus image) (greatest_from (secondary_bus image) (secondaries behind)) (and_parts (primary_bus image == bus) (subordinate_bus image == greatest_from (secondary_bus image) (secondaries behind)) shows).1)
 
 -- a range by other names
 between : (low high a b : ℕ) (nodes : Nodes) → low ≡ a → high ≡ b → IsRanged low high nodes → IsRanged a b nodes
@@ -106,11 +106,11 @@ ranged root last n bus (Node d f image behind others) xs is run ranges =
                 let shows = open_shows_greatest bus image behind leads range in
                 let split = sym is ∙ of_open d f image behind others bridge leads in
                 let runs : IsRun root last n (secondary_bus image ∷ (secondaries behind ++ secondaries others)) = subst (IsRun root last n) split run in
-                let fits : (number_of root last (n + 1) ≡ root + (n + 1)) × (root + (n + 1) ≤ last) = elim (number_or_none root last (n + 1)) [ inl fits ↦ fits | inr none ↦ absurd (shows.0 (runs.0 ∙ none.0)) ] in
+                let fits : (secondary_number root last (n + 1) ≡ root + (n + 1)) × (root + (n + 1) ≤ last) = elim (number_or_none root last (n + 1)) [ inl fits ↦ fits | inr none ↦ absurd (shows.0 (runs.0 ∙ none.0)) ] in
                 let own : secondary_bus image ≡ top root last (n + 1) = omega (arith, runs.0, fits.0, fits.1) in
                 let pieces = run_parts root last (n + 1) (secondaries behind) (secondaries others) runs.1 in
                 let end : subordinate_bus image ≡ top root last (n + 1 + length (secondaries behind)) =
-                shows.1 ∙ ap (λ m. greatest m (secondaries behind)) own ∙ greatest_of_run root last (n + 1) (secondaries behind) pieces.0 in
+                shows.1 ∙ ap (λ m. greatest_from m (secondaries behind)) own ∙ greatest_of_run root last (n + 1) (secondaries behind) pieces.0 in
                 let count : length xs ≡ suc (length (secondaries behind) + length (secondaries others)) = ap length split ∙ ap suc (length-append (secondaries behind) (secondaries others)) in
                 inr (
                   omega (arith, own, fits.1),

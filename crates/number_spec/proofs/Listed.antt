@@ -14,12 +14,12 @@ use Rattle.pci_spec.specs.NestingLaws.{HasNoBusFault}
 use Rattle.pci_spec.proofs.Members.{in_nil, in_cons_cases, in_head, in_tail, in_map_to, in_map_from, pairs_head, pairs_tail}
 use Rattle.pci_spec.proofs.BusRanges.{all_from, root_means}
 use Rattle.pci_spec.proofs.Nesting.{no_bus_fault_where_nested}
-use Rattle.number_spec.specs.Board.{Nodes, NoMore, Node, Root, Board, Place, Here, Behind, Next, is_type_1, access_of, image_at}
+use Rattle.number_spec.specs.Board.{Nodes, NoMore, Node, RootBus, Board, NodePlace, Here, Behind, Next, is_type_1, access_of, node_image}
 use Rattle.number_spec.specs.Walk.{has_bus, is_found, walk}
 use Rattle.number_spec.specs.Numbered.{secondaries, have_ranges, IsNumbered}
-use Rattle.number_spec.specs.NoBus.{first_of, first_without}
+use Rattle.number_spec.specs.NoBus.{first_slot, first_without}
 use Rattle.number_spec.specs.Room.{last_behind, have_numbers, IsNumberedWithRoom}
-use Rattle.number_spec.specs.Listed.{IsOf, IsListing, HasNumbers, HasRoomyNumbers}
+use Rattle.number_spec.specs.Listed.{IsFunctionOfNode, IsBoardListing, HasNumbers, HasRoomyNumbers}
 use Rattle.number_spec.specs.NumberingLaws.{ListedIsNested, ListedHasNoBusFault, RoomyIsNested, RoomyHasNoBusFault}
 use Rattle.number_spec.proofs.Single.{IsRanged}
 use Rattle.number_spec.proofs.InOrder.{top, run_from, ranged}
@@ -29,10 +29,10 @@ use Rattle.number_spec.proofs.Same.{ranges_of, opened_range, both_none, first_de
 
 -- ---- the places that a walk comes to
 
-rest_in : (all : Nodes) (d f : ℕ) (image : List ℕ) (behind others : Nodes) (p : Place) → Contains (walk all (Node d f image behind others)) (Next p) → Contains (walk all others) p
+rest_in : (all : Nodes) (d f : ℕ) (image : List ℕ) (behind others : Nodes) (p : NodePlace) → Contains (walk all (Node d f image behind others)) (Next p) → Contains (walk all others) p
 rest_in all d f image behind others p has = in_rest (first_found all d f image behind) (walk all others) p (no_next_first all d f image behind p) has
 
-first_in : (all : Nodes) (d f : ℕ) (image : List ℕ) (behind others : Nodes) (p : Place) → Contains (walk all (Node d f image behind others)) (Behind p) → (is_found all d f ≡ true) × (has_bus image ≡ true) × Contains (walk behind behind) p
+first_in : (all : Nodes) (d f : ℕ) (image : List ℕ) (behind others : Nodes) (p : NodePlace) → Contains (walk all (Node d f image behind others)) (Behind p) → (is_found all d f ≡ true) × (has_bus image ≡ true) × Contains (walk behind behind) p
 first_in all d f image behind others p has =
     let first = in_first (first_found all d f image behind) (walk all others) (Behind p) (λ q next. cc next) has in
     let inside = walked_behind all d f image behind p first in
@@ -42,7 +42,7 @@ first_in all d f image behind others p has =
     ]
 
 -- and back
-to_rest : (all : Nodes) (d f : ℕ) (image : List ℕ) (behind others : Nodes) (p : Place) → Contains (walk all others) p → Contains (walk all (Node d f image behind others)) (Next p)
+to_rest : (all : Nodes) (d f : ℕ) (image : List ℕ) (behind others : Nodes) (p : NodePlace) → Contains (walk all others) p → Contains (walk all (Node d f image behind others)) (Next p)
 to_rest all d f image behind others p has = Contains-append_right (first_found all d f image behind) (map Next (walk all others)) (Next p) (in_map_from Next (walk all others) p has)
 
 to_here : (all : Nodes) (d f : ℕ) (image : List ℕ) (behind others : Nodes) → is_found all d f ≡ true → Contains (walk all (Node d f image behind others)) Here
@@ -50,9 +50,9 @@ to_here all d f image behind others found =
     let first : Contains (first_found all d f image behind) Here = rw found (in_head Here (map Behind (if has_bus image then walk behind behind else []))) in
     Contains-append_left (first_found all d f image behind) (map Next (walk all others)) Here first
 
-to_first : (all : Nodes) (d f : ℕ) (image : List ℕ) (behind others : Nodes) (p : Place) → is_found all d f ≡ true → has_bus image ≡ true → Contains (walk behind behind) p → Contains (walk all (Node d f image behind others)) (Behind p)
+to_first : (all : Nodes) (d f : ℕ) (image : List ℕ) (behind others : Nodes) (p : NodePlace) → is_found all d f ≡ true → has_bus image ≡ true → Contains (walk behind behind) p → Contains (walk all (Node d f image behind others)) (Behind p)
 to_first all d f image behind others p found leads has =
-    let led : List Place = if has_bus image then walk behind behind else [] in
+    let led : List NodePlace = if has_bus image then walk behind behind else [] in
     let inner : Contains led p = rw leads has in
     let first : Contains (first_found all d f image behind) (Behind p) = rw found (in_tail Here (map Behind led) (Behind p) (in_map_from Behind led p inner)) in
     Contains-append_left (first_found all d f image behind) (map Next (walk all others)) (Behind p) first
@@ -66,7 +66,7 @@ IsFull low high bus (Node d f image behind others) =
     ⊎ ((is_type_1 image ≡ true) × (primary_bus image ≡ bus) × (low < secondary_bus image) × (secondary_bus image ≤ subordinate_bus image)
     × IsFull (secondary_bus image) (subordinate_bus image) (secondary_bus image) behind × IsFull (subordinate_bus image) high bus others)
 
-pub of_leading : (bus d f : ℕ) (image : List ℕ) (behind others : Nodes) → has_bus image ≡ true → first_without bus (Node d f image behind others) ≡ first_of (first_without (secondary_bus image) behind) (first_without bus others)
+pub of_leading : (bus d f : ℕ) (image : List ℕ) (behind others : Nodes) → has_bus image ≡ true → first_without bus (Node d f image behind others) ≡ first_slot (first_without (secondary_bus image) behind) (first_without bus others)
 of_leading bus d f image behind others leads = rw leads refl
 
 pub none_without : (bus d f : ℕ) (image : List ℕ) (behind others : Nodes) → is_type_1 image ≡ true → first_without bus (Node d f image behind others) ≡ None → has_bus image ≡ true
@@ -175,7 +175,7 @@ roomy_root room root last nodes numbered none =
 
 -- ---- where a node is
 
-abbrev slot_at : ℕ → Nodes → Place → Slot
+abbrev slot_at : ℕ → Nodes → NodePlace → Slot
 slot_at bus nodes place = access_of bus nodes place
 
 -- on this bus, or on one of the range
@@ -188,7 +188,7 @@ wider low up end high bus at less more is = elim is [ inl own ↦ inl own | inr 
 leading : (image : List ℕ) → is_type_1 image ≡ false → has_bus image ≡ true → ⊥
 leading image plain leads = both_ways (is_type_1 image) plain (and_parts (is_type_1 image) (not (secondary_bus image == 0)) leads).0
 
-within : (low high bus : ℕ) (all nodes : Nodes) (p : Place) → IsFull low high bus nodes → Contains (walk all nodes) p → IsWithin low high bus (slot_at bus nodes p).bus
+within : (low high bus : ℕ) (all nodes : Nodes) (p : NodePlace) → IsFull low high bus nodes → Contains (walk all nodes) p → IsWithin low high bus (slot_at bus nodes p).bus
 within low high bus all NoMore p is has = absurd (in_nil p has)
 within low high bus all (Node d f image behind others) Here is has = inl refl
 within low high bus all (Node d f image behind others) (Next p) is has =
@@ -217,7 +217,7 @@ record Shown (low : ℕ) (high : ℕ) (slot : Slot) (image : List ℕ) : Type 0 
   from : low < secondary_bus image
   upto : subordinate_bus image ≤ high
 
-shown : (low high bus : ℕ) (all nodes : Nodes) (p : Place) → bus ≤ low → IsFull low high bus nodes → Contains (walk all nodes) p → is_type_1 (image_at nodes p) ≡ true → Shown low high (slot_at bus nodes p) (image_at nodes p)
+shown : (low high bus : ℕ) (all nodes : Nodes) (p : NodePlace) → bus ≤ low → IsFull low high bus nodes → Contains (walk all nodes) p → is_type_1 (node_image nodes p) ≡ true → Shown low high (slot_at bus nodes p) (node_image nodes p)
 shown low high bus all NoMore p less is has bridge = absurd (in_nil p has)
 shown low high bus all (Node d f image behind others) Here less is has bridge = elim is [
   | inl plain ↦ absurd (both_ways (is_type_1 image) plain.0 bridge)
@@ -261,7 +261,7 @@ turned b i c j two = elim two [
 
 -- one is the first bridge on a bus, or behind it, and the other is behind it or follows on its bus
 module _ (low high bus d f : ℕ) (image : List ℕ) (behind others all : Nodes) (less : bus ≤ low) (bridge : is_type_1 image ≡ true) (over : low < secondary_bus image) (order : secondary_bus image ≤ subordinate_bus image) (inner : IsFull (secondary_bus image) (subordinate_bus image) (secondary_bus image) behind) (outer : IsFull (subordinate_bus image) high bus others) where
-  here_and_behind : (q : Place) → Contains (walk behind behind) q → is_type_1 (image_at behind q) ≡ true → Two (record { bus = bus; device = d; function = f }) image (slot_at (secondary_bus image) behind q) (image_at behind q)
+  here_and_behind : (q : NodePlace) → Contains (walk behind behind) q → is_type_1 (node_image behind q) ≡ true → Two (record { bus = bus; device = d; function = f }) image (slot_at (secondary_bus image) behind q) (node_image behind q)
   here_and_behind q has one =
       let s = shown (secondary_bus image) (subordinate_bus image) (secondary_bus image) behind behind q (omega arith) inner has one in
       elim (within (secondary_bus image) (subordinate_bus image) (secondary_bus image) behind behind q inner has) [
@@ -269,7 +269,7 @@ module _ (low high bus d f : ℕ) (image : List ℕ) (behind others all : Nodes)
         | inr there ↦ Around (omega (arith, there.0)) there.1 s.from s.upto
       ]
 
-  here_and_later : (q : Place) → Contains (walk all others) q → is_type_1 (image_at others q) ≡ true → Two (record { bus = bus; device = d; function = f }) image (slot_at bus others q) (image_at others q)
+  here_and_later : (q : NodePlace) → Contains (walk all others) q → is_type_1 (node_image others q) ≡ true → Two (record { bus = bus; device = d; function = f }) image (slot_at bus others q) (node_image others q)
   here_and_later q has one =
       let s = shown (subordinate_bus image) high bus all others q (omega (arith, less, over, order)) outer has one in
       Before s.from (omega (arith, less, over, order, s.from)) (elim (within (subordinate_bus image) high bus all others q outer has) [
@@ -277,7 +277,7 @@ module _ (low high bus d f : ℕ) (image : List ℕ) (behind others all : Nodes)
         | inr there ↦ inr there.0
       ])
 
-  behind_and_later : (p q : Place) → Contains (walk behind behind) p → Contains (walk all others) q → is_type_1 (image_at behind p) ≡ true → is_type_1 (image_at others q) ≡ true → Two (slot_at (secondary_bus image) behind p) (image_at behind p) (slot_at bus others q) (image_at others q)
+  behind_and_later : (p q : NodePlace) → Contains (walk behind behind) p → Contains (walk all others) q → is_type_1 (node_image behind p) ≡ true → is_type_1 (node_image others q) ≡ true → Two (slot_at (secondary_bus image) behind p) (node_image behind p) (slot_at bus others q) (node_image others q)
   behind_and_later p q has_p has_q one other =
       let s = shown (secondary_bus image) (subordinate_bus image) (secondary_bus image) behind behind p (omega arith) inner has_p one in
       let t = shown (subordinate_bus image) high bus all others q (omega (arith, less, over, order)) outer has_q other in
@@ -286,7 +286,7 @@ module _ (low high bus d f : ℕ) (image : List ℕ) (behind others all : Nodes)
         | inr there ↦ inr (omega (arith, there.0, s.upto))
       ])
 
-two : (low high bus : ℕ) (all nodes : Nodes) (p q : Place) → bus ≤ low → IsFull low high bus nodes → Contains (walk all nodes) p → Contains (walk all nodes) q → is_type_1 (image_at nodes p) ≡ true → is_type_1 (image_at nodes q) ≡ true → Two (slot_at bus nodes p) (image_at nodes p) (slot_at bus nodes q) (image_at nodes q)
+two : (low high bus : ℕ) (all nodes : Nodes) (p q : NodePlace) → bus ≤ low → IsFull low high bus nodes → Contains (walk all nodes) p → Contains (walk all nodes) q → is_type_1 (node_image nodes p) ≡ true → is_type_1 (node_image nodes q) ≡ true → Two (slot_at bus nodes p) (node_image nodes p) (slot_at bus nodes q) (node_image nodes q)
 two low high bus all NoMore p q less is in_p in_q one other = absurd (in_nil p in_p)
 two low high bus all (Node d f image behind others) Here Here less is in_p in_q one other = Same refl
 two low high bus all (Node d f image behind others) Here (Behind q) less is in_p in_q one other =
@@ -303,7 +303,7 @@ two low high bus all (Node d f image behind others) (Behind p) Here less is in_p
     let x = first_in all d f image behind others p in_p in
     elim is [
       | inl plain ↦ absurd (leading image plain.0 x.1)
-      | inr leads ↦ turned (record { bus = bus; device = d; function = f }) image (slot_at (secondary_bus image) behind p) (image_at behind p)
+      | inr leads ↦ turned (record { bus = bus; device = d; function = f }) image (slot_at (secondary_bus image) behind p) (node_image behind p)
           (here_and_behind low high bus d f image behind others all less leads.0 leads.2 leads.3 leads.4 leads.5 p x.2 one)
     ]
 two low high bus all (Node d f image behind others) (Behind p) (Behind q) less is in_p in_q one other =
@@ -321,14 +321,14 @@ two low high bus all (Node d f image behind others) (Behind p) (Next q) less is 
     ]
 two low high bus all (Node d f image behind others) (Next p) Here less is in_p in_q one other = elim is [
   | inl plain ↦ absurd (both_ways (is_type_1 image) plain.0 other)
-  | inr leads ↦ turned (record { bus = bus; device = d; function = f }) image (slot_at bus others p) (image_at others p)
+  | inr leads ↦ turned (record { bus = bus; device = d; function = f }) image (slot_at bus others p) (node_image others p)
       (here_and_later low high bus d f image behind others all less leads.0 leads.2 leads.3 leads.4 leads.5 p (rest_in all d f image behind others p in_p) one)
 ]
 two low high bus all (Node d f image behind others) (Next p) (Behind q) less is in_p in_q one other =
     let y = first_in all d f image behind others q in_q in
     elim is [
       | inl plain ↦ absurd (leading image plain.0 y.1)
-      | inr leads ↦ turned (slot_at (secondary_bus image) behind q) (image_at behind q) (slot_at bus others p) (image_at others p)
+      | inr leads ↦ turned (slot_at (secondary_bus image) behind q) (node_image behind q) (slot_at bus others p) (node_image others p)
           (behind_and_later low high bus d f image behind others all less leads.0 leads.2 leads.3 leads.4 leads.5 q p y.2 (rest_in all d f image behind others p in_p) other one)
     ]
 two low high bus all (Node d f image behind others) (Next p) (Next q) less is in_p in_q one other =
@@ -342,12 +342,12 @@ two low high bus all (Node d f image behind others) (Next p) (Next q) less is in
 -- ---- the bridge above a node
 
 record Parent (bus : ℕ) (all : Nodes) (nodes : Nodes) (at : ℕ) : Type 0 where
-  place : Place
+  place : NodePlace
   found : Contains (walk all nodes) place
-  bridge : is_type_1 (image_at nodes place) ≡ true
-  leads : secondary_bus (image_at nodes place) ≡ at
+  bridge : is_type_1 (node_image nodes place) ≡ true
+  leads : secondary_bus (node_image nodes place) ≡ at
 
-parent : (bus : ℕ) (all nodes : Nodes) (p : Place) → Contains (walk all nodes) p → ((slot_at bus nodes p).bus ≡ bus) ⊎ Parent bus all nodes (slot_at bus nodes p).bus
+parent : (bus : ℕ) (all nodes : Nodes) (p : NodePlace) → Contains (walk all nodes) p → ((slot_at bus nodes p).bus ≡ bus) ⊎ Parent bus all nodes (slot_at bus nodes p).bus
 parent bus all NoMore p has = absurd (in_nil p has)
 parent bus all (Node d f image behind others) Here has = inl refl
 parent bus all (Node d f image behind others) (Next p) has = elim (parent bus all others p (rest_in all d f image behind others p has)) [
@@ -373,66 +373,66 @@ strictly b c s u =
     let inside : is_inside b c ≡ true = and_from (nat_le (secondary c) (secondary b)) (nat_le (subordinate b) (subordinate c)) (le-leb (secondary c) (secondary b) (omega (arith, s))) (le-leb (subordinate b) (subordinate c) u) in
     rw (inside, differ) refl
 
-one_root : (board : Board) → AllPairs (λ m n. m < n) (map (λ root. root.number) board) → (r q : Root) → Contains board r → Contains board q → r.number ≡ q.number → r ≡ q
+one_root : (board : Board) → AllPairs (λ m n. m < n) (map (λ root. root.number) board) → (r q : RootBus) → Contains board r → Contains board q → r.number ≡ q.number → r ≡ q
 one_root [] pairs r q has_r has_q same = absurd (in_nil r has_r)
 one_root (x ∷ xs) pairs r q has_r has_q same =
-    let above = λ (y : Root) (has : Contains xs y). pairs_head (λ m n. m < n) x.number (map (λ root. root.number) xs) y.number pairs (in_map_from (λ (root : Root). root.number) xs y has) in
+    let above = λ (y : RootBus) (has : Contains xs y). pairs_head (λ m n. m < n) x.number (map (λ root. root.number) xs) y.number pairs (in_map_from (λ (root : RootBus). root.number) xs y has) in
     elim (in_cons_cases x xs r has_r) [
       | inl first ↦ elim (in_cons_cases x xs q has_q) [
         | inl second ↦ sym first ∙ second
-        | inr later ↦ absurd (omega (arith, above q later, ap (λ (root : Root). root.number) first, same))
+        | inr later ↦ absurd (omega (arith, above q later, ap (λ (root : RootBus). root.number) first, same))
       ]
       | inr early ↦ elim (in_cons_cases x xs q has_q) [
-        | inl second ↦ absurd (omega (arith, above r early, ap (λ (root : Root). root.number) second, same))
+        | inl second ↦ absurd (omega (arith, above r early, ap (λ (root : RootBus). root.number) second, same))
         | inr later ↦ one_root xs (pairs_tail (λ m n. m < n) x.number (map (λ root. root.number) xs) pairs) r q early later same
       ]
     ]
 
 -- a function that is listed, and where its node is
-record Stands (root : Root) (f : Function) : Type 0 where
-  place : Place
-  is : IsOf root place f
+record Stands (root : RootBus) (f : Function) : Type 0 where
+  place : NodePlace
+  is : IsFunctionOfNode root place f
 
 -- behind each root each bridge has a range
 record IsFullBoard (last : ℕ → ℕ) (board : Board) : Type 0 where
   rising : IsStrictlyIncreasing (map (λ root. root.number) board)
-  apart : (root other : Root) → Contains board root → Contains board other → root.number < other.number → last root.number < other.number
-  full : (root : Root) → Contains board root → IsFull root.number (max root.number (last root.number)) root.number root.nodes
+  apart : (root other : RootBus) → Contains board root → Contains board other → root.number < other.number → last root.number < other.number
+  full : (root : RootBus) → Contains board root → IsFull root.number (max root.number (last root.number)) root.number root.nodes
 
-module _ (last : ℕ → ℕ) (board : Board) (s : System) (numbers : IsFullBoard last board) (lists : IsListing board s) where
+module _ (last : ℕ → ℕ) (board : Board) (s : System) (numbers : IsFullBoard last board) (lists : IsBoardListing board s) where
   abbrev roots : List ℕ
   roots = map (λ root. root.number) board
 
-  abbrev high : Root → ℕ
+  abbrev high : RootBus → ℕ
   high root = max root.number (last root.number)
 
-  is_full : (root : Root) → Contains board root → IsFull root.number (high root) root.number root.nodes
+  is_full : (root : RootBus) → Contains board root → IsFull root.number (high root) root.number root.nodes
   is_full root has = numbers.full root has
 
-  bridge_at : (root : Root) (b : Function) (p : Place) → IsOf root p b → is_bridge b ≡ true → is_type_1 (image_at root.nodes p) ≡ true
+  bridge_at : (root : RootBus) (b : Function) (p : NodePlace) → IsFunctionOfNode root p b → is_bridge b ≡ true → is_type_1 (node_image root.nodes p) ≡ true
   bridge_at root b p it one = ap is_type_1 (sym it.image) ∙ one
 
-  shown_by : (root : Root) → Contains board root → (b : Function) → Stands root b → is_bridge b ≡ true → Shown root.number (high root) b.slot b.image
+  shown_by : (root : RootBus) → Contains board root → (b : Function) → Stands root b → is_bridge b ≡ true → Shown root.number (high root) b.slot b.image
   shown_by root there b x one =
       let n = shown root.number (high root) root.number root.nodes root.nodes x.place (omega arith) (is_full root there) x.is.found (bridge_at root b x.place x.is one) in
       subst (λ slot. Shown root.number (high root) slot b.image) (sym x.is.slot) (subst (Shown root.number (high root) (slot_at root.number root.nodes x.place)) (sym x.is.image) n)
 
-  within_it : (root : Root) → Contains board root → (b : Function) → Stands root b → IsWithin root.number (high root) root.number b.slot.bus
+  within_it : (root : RootBus) → Contains board root → (b : Function) → Stands root b → IsWithin root.number (high root) root.number b.slot.bus
   within_it root there b x = subst (λ slot. IsWithin root.number (high root) root.number slot.bus) (sym x.is.slot) (within root.number (high root) root.number root.nodes root.nodes x.place (is_full root there) x.is.found)
 
   -- behind one root
-  two_of_one : (root : Root) → Contains board root → (b c : Function) → Stands root b → Stands root c → is_bridge b ≡ true → is_bridge c ≡ true → Two b.slot b.image c.slot c.image
+  two_of_one : (root : RootBus) → Contains board root → (b c : Function) → Stands root b → Stands root c → is_bridge b ≡ true → is_bridge c ≡ true → Two b.slot b.image c.slot c.image
   two_of_one root there b c x y one other =
       let p = slot_at root.number root.nodes x.place in
       let q = slot_at root.number root.nodes y.place in
       let t = two root.number (high root) root.number root.nodes root.nodes x.place y.place (omega arith) (is_full root there) x.is.found y.is.found (bridge_at root b x.place x.is one) (bridge_at root c y.place y.is other) in
       subst (λ slot. Two slot b.image c.slot c.image) (sym x.is.slot)
       (subst (λ image. Two p image c.slot c.image) (sym x.is.image)
-      (subst (λ slot. Two p (image_at root.nodes x.place) slot c.image) (sym y.is.slot)
-      (subst (λ image. Two p (image_at root.nodes x.place) q image) (sym y.is.image) t)))
+      (subst (λ slot. Two p (node_image root.nodes x.place) slot c.image) (sym y.is.slot)
+      (subst (λ image. Two p (node_image root.nodes x.place) q image) (sym y.is.image) t)))
 
   -- behind a root and behind a later one
-  two_of_two : (r q : Root) → Contains board r → Contains board q → r.number < q.number → (b c : Function) → Stands r b → Stands q c → is_bridge b ≡ true → is_bridge c ≡ true → Two b.slot b.image c.slot c.image
+  two_of_two : (r q : RootBus) → Contains board r → Contains board q → r.number < q.number → (b c : Function) → Stands r b → Stands q c → is_bridge b ≡ true → is_bridge c ≡ true → Two b.slot b.image c.slot c.image
   two_of_two r q has_r has_q less b c x y one other =
       let n = shown_by r has_r b x one in
       let m = shown_by q has_q c y other in
@@ -442,7 +442,7 @@ module _ (last : ℕ → ℕ) (board : Board) (s : System) (numbers : IsFullBoar
         | inr there ↦ inr (omega (arith, there.0, n.upto, beyond, less))
       ])
 
-  shown_at : (b : Function) → Contains s b → is_bridge b ≡ true → (root : Root) × Contains board root × Shown root.number (high root) b.slot b.image
+  shown_at : (b : Function) → Contains s b → is_bridge b ≡ true → (root : RootBus) × Contains board root × Shown root.number (high root) b.slot b.image
   shown_at b has one = let x = lists.each b has in (x.0, x.1, shown_by x.0 x.1 b (record { place = x.2; is = x.3 }) one)
 
   two_of : (b c : Function) → Contains s b → Contains s c → is_bridge b ≡ true → is_bridge c ≡ true → Two b.slot b.image c.slot c.image
@@ -495,7 +495,7 @@ module _ (last : ℕ → ℕ) (board : Board) (s : System) (numbers : IsFullBoar
   clear_of b has one =
       let x = shown_at b has one in
       all_from (λ root. not (is_behind b root)) roots (λ number has_number.
-      let made = in_map_to (λ (root : Root). root.number) board number has_number in
+      let made = in_map_to (λ (root : RootBus). root.number) board number has_number in
       let outside : is_behind b number ≡ false = false_from_ne_true (is_behind b number) (λ behind.
       let parts = and_parts (nat_le (secondary b) number) (nat_le number (subordinate b)) behind in
       let from = leb-true (secondary b) number parts.0 in
@@ -525,7 +525,7 @@ module _ (last : ℕ → ℕ) (board : Board) (s : System) (numbers : IsFullBoar
       let at : f.slot.bus ≡ (slot_at root.number root.nodes x.2).bus = ap (λ (slot : Slot). slot.bus) x.3.slot in
       elim (parent root.number root.nodes root.nodes x.2 x.3.found) [
         | inl own ↦
-            let listed : Contains roots f.slot.bus = subst (Contains roots) (sym (at ∙ own)) (in_map_from (λ (r : Root). r.number) board root x.1) in
+            let listed : Contains roots f.slot.bus = subst (Contains roots) (sym (at ∙ own)) (in_map_from (λ (r : RootBus). r.number) board root x.1) in
             absurd (both_ways (is_root roots f.slot.bus) no_root ((root_means roots f.slot.bus).1 listed))
         | inr a ↦
             let y = lists.all root x.1 a.place a.found in

@@ -6,7 +6,7 @@ use Rattle.std.proofs.lemmas.List.{length-append}
 use Rattle.pci_spec.specs.Header.{primary_bus, secondary_bus, subordinate_bus}
 use Rattle.number_spec.specs.Board.{Nodes, NoMore, Node, is_type_1}
 use Rattle.number_spec.specs.Walk.{has_bus}
-use Rattle.number_spec.specs.Numbered.{secondaries, number_of, greatest, has_range, have_ranges}
+use Rattle.number_spec.specs.Numbered.{secondaries, secondary_number, greatest_from, has_range, have_ranges}
 use Rattle.number_spec.specs.Room.{last_behind, shows, have_numbers}
 use Rattle.number_spec.specs.NumberingLaws.{NoRoomIsInOrder}
 use Rattle.number_spec.proofs.Single.{IsRanged, outside_is_idle, low_to_high}
@@ -74,7 +74,7 @@ within_last room last bus taken (Node d f image behind others) h low = elim (tur
   | Closed bridge none over numbers rest ↦ rw (behind_closed taken d f image behind others none) (within_last room last bus taken others rest low)
 ]
 
--- nor above the greatest number in use
+-- nor above the greatest_from number in use
 pub within_top : (room : List ℕ → ℕ) (last bus taken : ℕ) (nodes : Nodes) → have_numbers room last bus taken nodes ≡ true → last_behind taken nodes ≤ max taken last
 within_top room last bus taken NoMore h = omega arith
 within_top room last bus taken (Node d f image behind others) h = elim (turn room last bus taken d f image behind others h) [
@@ -155,7 +155,7 @@ in_order root last n bus taken (Node d f image behind others) used h = elim (tur
       }
   | Opened bridge leads left numbers inside rest ↦
       let exact : taken ≡ root + n = elim used [ inl is ↦ is.0 | inr past ↦ absurd (omega arith) ] in
-      let is_next : secondary_bus image ≡ number_of root last (n + 1) = elim (number_or_none root last (n + 1)) [
+      let is_next : secondary_bus image ≡ secondary_number root last (n + 1) = elim (number_or_none root last (n + 1)) [
         | inl fits ↦ omega (arith, numbers.secondary, fits.0)
         | inr gone ↦ absurd (omega arith)
       ] in
@@ -166,22 +166,22 @@ in_order root last n bus taken (Node d f image behind others) used h = elim (tur
       let list = sym (of_open d f image behind others bridge leads) in
       let own : top root last (n + 1) ≡ secondary_bus image = omega (arith, numbers.secondary) in
       let at_top : subordinate_bus image ≡ top root last (n + 1 + length (secondaries behind)) = elim deeper.used [ inl is ↦ omega arith | inr past ↦ omega arith ] in
-      let is_greatest : subordinate_bus image ≡ greatest (secondary_bus image) (secondaries behind) =
-      at_top ∙ sym (greatest_of_run root last (n + 1) (secondaries behind) deeper.run) ∙ ap (λ m. greatest m (secondaries behind)) own in
+      let is_greatest : subordinate_bus image ≡ greatest_from (secondary_bus image) (secondaries behind) =
+      at_top ∙ sym (greatest_of_run root last (n + 1) (secondaries behind) deeper.run) ∙ ap (λ m. greatest_from m (secondaries behind)) own in
       record {
         run = subst (IsRun root last n) list (is_next, run_joins root last (n + 1) (secondaries behind) (secondaries others) deeper.run more.run);
         used = subst (λ xs. IsUsed root last (n + length xs) (last_behind taken (Node d f image behind others))) list
             (rw leads (subst (λ k. IsUsed root last k (last_behind (subordinate_bus image) others)) (omega (arith, length-append (secondaries behind) (secondaries others))) more.used));
         ranges = ranges_from bus d f image behind others
-            (λ is. rw leads (and_from (primary_bus image == bus) (subordinate_bus image == greatest (secondary_bus image) (secondaries behind))
-            (eq-eqb (primary_bus image) bus numbers.primary) (eq-eqb (subordinate_bus image) (greatest (secondary_bus image) (secondaries behind)) is_greatest)))
+            (λ is. rw leads (and_from (primary_bus image == bus) (subordinate_bus image == greatest_from (secondary_bus image) (secondaries behind))
+            (eq-eqb (primary_bus image) bus numbers.primary) (eq-eqb (subordinate_bus image) (greatest_from (secondary_bus image) (secondaries behind)) is_greatest)))
             (λ is. subst (λ b. have_ranges b behind ≡ true) (sym numbers.secondary) deeper.ranges) more.ranges;
       }
   | Closed bridge none over numbers rest ↦
       let next : IsUsed root last (n + 1) taken = elim used [ inl exact ↦ inr (over, omega arith) | inr past ↦ inr (over, omega arith) ] in
       let more = in_order root last (n + 1) bus taken others next rest in
       let list = sym (of_closed d f image behind others bridge none) in
-      let is_none : secondary_bus image ≡ number_of root last (n + 1) = elim (number_or_none root last (n + 1)) [
+      let is_none : secondary_bus image ≡ secondary_number root last (n + 1) = elim (number_or_none root last (n + 1)) [
         | inl fits ↦ elim used [ inl exact ↦ absurd (omega arith) | inr past ↦ absurd (omega arith) ]
         | inr gone ↦ numbers.secondary ∙ sym gone.0
       ] in

@@ -10,21 +10,21 @@ use Rattle.pci_spec.specs.Slot.{Slot}
 use Rattle.pci_spec.proofs.BusRanges.{all_gives}
 use Rattle.pci_spec.proofs.Members.{in_head, in_tail, in_map_from, pairs_head, pairs_tail}
 use Rattle.number_spec.proofs.Single.{goes_alone}
-use Rattle.number_spec.specs.Board.{Root, Board, Place, at_root, goes_to, IsSingle}
+use Rattle.number_spec.specs.Board.{RootBus, Board, NodePlace, at_root, goes_to, HasOneAnswer}
 
 -- the nodes at a root that answer, with its number
-abbrev pub with_root : Slot → Root → List (ℕ × Place)
+abbrev pub with_root : Slot → RootBus → List (ℕ × NodePlace)
 with_root access root = map (λ place. (root.number, place)) (at_root root access)
 
 -- a root that is single alone
-one_alone : (root : Root) (access : Slot) → IsSingle (root ∷ []) → root.number ≤ access.bus → length (with_root access root) ≤ 1
+one_alone : (root : RootBus) (access : Slot) → HasOneAnswer (root ∷ []) → root.number ≤ access.bus → length (with_root access root) ≤ 1
 one_alone root access single from =
     let goes = goes_alone root access from in
     let one : length (with_root access root ++ []) ≤ 1 = rw goes at (single access) in
     omega (arith, length-append (with_root access root) [], one)
 
 -- an access goes to no root after one that it goes to
-none_later : (board : Board) (bus : ℕ) (root : Root) (later : List Root) → goes_to board bus root ≡ true → ((r : Root) → Contains later r → Contains board r) → ((r : Root) → Contains later r → root.number < r.number) → filter (goes_to board bus) later ≡ []
+none_later : (board : Board) (bus : ℕ) (root : RootBus) (later : List RootBus) → goes_to board bus root ≡ true → ((r : RootBus) → Contains later r → Contains board r) → ((r : RootBus) → Contains later r → root.number < r.number) → filter (goes_to board bus) later ≡ []
 none_later board bus root [] goes within above = refl
 none_later board bus root (r ∷ later) goes within above =
     let rest = none_later board bus root later goes (λ x has. within x (in_tail r later x has)) (λ x has. above x (in_tail r later x has)) in
@@ -41,15 +41,15 @@ none_later board bus root (r ∷ later) goes within above =
           ]
     ]
 
-one_of_roots : (board : Board) (access : Slot) (roots : List Root) → ((r : Root) → Contains board r → IsSingle (r ∷ [])) → ((r : Root) → Contains roots r → Contains board r) → AllPairs (λ m n. m < n) (map (λ r. r.number) roots) → length (flat_map (with_root access) (filter (goes_to board access.bus) roots)) ≤ 1
+one_of_roots : (board : Board) (access : Slot) (roots : List RootBus) → ((r : RootBus) → Contains board r → HasOneAnswer (r ∷ [])) → ((r : RootBus) → Contains roots r → Contains board r) → AllPairs (λ m n. m < n) (map (λ r. r.number) roots) → length (flat_map (with_root access) (filter (goes_to board access.bus) roots)) ≤ 1
 one_of_roots board access [] single within rising = omega arith
 one_of_roots board access (root ∷ roots) single within rising = elim (cases_Bool (goes_to board access.bus root)) [
   | inr elsewhere ↦ rw elsewhere (one_of_roots board access roots single (λ r has. within r (in_tail root roots r has)) (pairs_tail (λ m n. m < n) root.number (map (λ r. r.number) roots) rising))
   | inl goes ↦
-      let none = none_later board access.bus root roots goes (λ r has. within r (in_tail root roots r has)) (λ r has. pairs_head (λ m n. m < n) root.number (map (λ r. r.number) roots) r.number rising (in_map_from (λ (r : Root). r.number) roots r has)) in
+      let none = none_later board access.bus root roots goes (λ r has. within r (in_tail root roots r has)) (λ r has. pairs_head (λ m n. m < n) root.number (map (λ r. r.number) roots) r.number rising (in_map_from (λ (r : RootBus). r.number) roots r has)) in
       let one = one_alone root access (single root (within root (in_head root roots))) (leb-true root.number access.bus (and_parts (nat_le root.number access.bus) _ goes).0) in
       rw (goes, none) (omega (arith, one, length-append (with_root access root) []))
 ]
 
-pub roots_single : (board : Board) → IsStrictlyIncreasing (map (λ r. r.number) board) → ((r : Root) → Contains board r → IsSingle (r ∷ [])) → IsSingle board
+pub roots_single : (board : Board) → IsStrictlyIncreasing (map (λ r. r.number) board) → ((r : RootBus) → Contains board r → HasOneAnswer (r ∷ [])) → HasOneAnswer board
 roots_single board rising single access = one_of_roots board access board single (λ r has. has) (AllPairs-from_increasing (map (λ r. r.number) board) rising)

@@ -9,8 +9,8 @@ use Rattle.pci_spec.specs.Header.{primary_bus, secondary_bus, subordinate_bus}
 use Rattle.pci_spec.proofs.BusRanges.{second_side}
 use Rattle.number_spec.specs.Board.{Nodes, NoMore, Node, is_type_1}
 use Rattle.number_spec.specs.Walk.{has_bus}
-use Rattle.number_spec.specs.Numbered.{with_numbers, without_numbers, secondaries, number_of, greatest, has_range, have_ranges}
-use Rattle.number_spec.specs.NoBus.{first_of, first_without}
+use Rattle.number_spec.specs.Numbered.{with_numbers, without_numbers, secondaries, secondary_number, greatest_from, has_range, have_ranges}
+use Rattle.number_spec.specs.NoBus.{first_slot, first_without}
 use Rattle.number_spec.specs.Reached.{reached, is_none, only_bridges_lead}
 use Rattle.number_spec.specs.NumberingLaws.{NumbersAreOne, AllNumbersAreOne}
 use Rattle.number_spec.proofs.Kept.{cleared, kind_stays}
@@ -66,13 +66,13 @@ closed_range bus image behind none range =
 
 pub record Opened (bus : ℕ) (image : List ℕ) (behind : Nodes) : Type 0 where
   pub primary : primary_bus image ≡ bus
-  pub subordinate : subordinate_bus image ≡ greatest (secondary_bus image) (secondaries behind)
+  pub subordinate : subordinate_bus image ≡ greatest_from (secondary_bus image) (secondaries behind)
 
 pub opened_range : (bus : ℕ) (image : List ℕ) (behind : Nodes) → has_bus image ≡ true → has_range bus image behind ≡ true → Opened bus image behind
 opened_range bus image behind leads range =
-    let shows : (primary_bus image == bus && subordinate_bus image == greatest (secondary_bus image) (secondaries behind)) ≡ true = rw leads at range in
-    let parts = and_parts (primary_bus image == bus) (subordinate_bus image == greatest (secondary_bus image) (secondaries behind)) shows in
-    record { primary = eqb-true (primary_bus image) bus parts.0; subordinate = eqb-true (subordinate_bus image) (greatest (secondary_bus image) (secondaries behind)) parts.1 }
+    let shows : (primary_bus image == bus && subordinate_bus image == greatest_from (secondary_bus image) (secondaries behind)) ≡ true = rw leads at range in
+    let parts = and_parts (primary_bus image == bus) (subordinate_bus image == greatest_from (secondary_bus image) (secondaries behind)) shows in
+    record { primary = eqb-true (primary_bus image) bus parts.0; subordinate = eqb-true (subordinate_bus image) (greatest_from (secondary_bus image) (secondaries behind)) parts.1 }
 
 pub record Ranges (bus : ℕ) (image : List ℕ) (behind : Nodes) (others : Nodes) : Type 0 where
   pub own : is_type_1 image ≡ true → has_range bus image behind ≡ true
@@ -124,7 +124,7 @@ same_bus : (a b : List ℕ) → is_type_1 b ≡ is_type_1 a → secondary_bus a 
 same_bus a b kind second = rw (kind, second) refl
 
 -- the number of the first bridge
-first_number : (root last n d f : ℕ) (image : List ℕ) (behind others : Nodes) → is_type_1 image ≡ true → IsRun root last n (secondaries (Node d f image behind others)) → secondary_bus image ≡ number_of root last (n + 1)
+first_number : (root last n d f : ℕ) (image : List ℕ) (behind others : Nodes) → is_type_1 image ≡ true → IsRun root last n (secondaries (Node d f image behind others)) → secondary_bus image ≡ secondary_number root last (n + 1)
 first_number root last n d f image behind others bridge run = elim (cases_Bool (has_bus image)) [
   | inr none ↦ (subst (IsRun root last n) (of_closed d f image behind others bridge none) run).0
   | inl leads ↦ (subst (IsRun root last n) (of_open d f image behind others bridge leads) run).0
@@ -172,7 +172,7 @@ same root last n bus (Node d f image behind others) (Node e g new below more) al
                 let shows = opened_range bus image behind leads (r.own bridge) in
                 let shows_b = opened_range bus new below leads_b (q.own bridge_b) in
                 let images = same_image image new alike_images (shows.primary ∙ sym shows_b.primary) second
-                (shows.subordinate ∙ ap (λ s. greatest s (secondaries behind)) second ∙ ap (greatest (secondary_bus new)) inner.numbers ∙ sym shows_b.subordinate) in
+                (shows.subordinate ∙ ap (λ s. greatest_from s (secondaries behind)) second ∙ ap (greatest_from (secondary_bus new)) inner.numbers ∙ sym shows_b.subordinate) in
                 another d f image behind others e g new below more p.same_device p.same_function images (same_open d f image behind below others more bridge leads inner outer)
           ]
     ]
@@ -184,7 +184,7 @@ numbers_are_one root last first second after again alike numbered numbered_again
 
 -- ---- where all nodes are reached
 
-pub both_none : (a b : Option Slot) → first_of a b ≡ None → (a ≡ None) × (b ≡ None)
+pub both_none : (a b : Option Slot) → first_slot a b ≡ None → (a ≡ None) × (b ≡ None)
 both_none (Some s) b is = absurd (cc is)
 both_none None b is = (refl, is)
 
@@ -211,13 +211,13 @@ all_reached bus (Node d f image behind others) none lead =
           rw (plain, empty, rest) refl
       | inl bridge ↦ elim (cases_Bool (has_bus image)) [
         | inl leads ↦
-            let firsts : first_of (first_without (secondary_bus image) behind) (first_without bus others) ≡ None = rw leads at none in
+            let firsts : first_slot (first_without (secondary_bus image) behind) (first_without bus others) ≡ None = rw leads at none in
             let nones = both_none (first_without (secondary_bus image) behind) (first_without bus others) firsts in
             let behind_it : reached behind ≡ behind = all_reached (secondary_bus image) behind nones.0 inner.1 in
             let rest : reached others ≡ others = all_reached bus others nones.1 outer.1 in
             rw (leads, behind_it, rest) refl
         | inr closed ↦
-            let firsts : first_of (Some (record { bus = bus; device = d; function = f })) (first_without bus others) ≡ None = rw bridge at (rw closed at none) in
+            let firsts : first_slot (Some (record { bus = bus; device = d; function = f })) (first_without bus others) ≡ None = rw bridge at (rw closed at none) in
             absurd (cc firsts)
       ]
     ]

@@ -5,8 +5,8 @@ use Rattle.std.proofs.lemmas.Bool.{and_parts, and_from, or_cases, le-leb, eqb-tr
 use Rattle.std.proofs.lemmas.List.{length-append, length-map}
 use Rattle.pci_spec.specs.Slot.{Slot}
 use Rattle.pci_spec.specs.Header.{secondary_bus, subordinate_bus}
-use Rattle.number_spec.specs.Board.{Nodes, NoMore, Node, Root, Place, Behind, Next, is_type_1, on_bus, passes_on, behind_bridges, at_root, goes_to, answers, IsSingle}
-use Rattle.number_spec.specs.Walk.{comes_before, all_after, is_rising}
+use Rattle.number_spec.specs.Board.{Nodes, NoMore, Node, RootBus, NodePlace, Behind, Next, is_type_1, on_bus, passes_on, behind_bridges, at_root, goes_to, answers, HasOneAnswer}
+use Rattle.number_spec.specs.Walk.{slot_comes_before, all_after, is_rising}
 
 -- ---- on one bus
 
@@ -14,7 +14,7 @@ use Rattle.number_spec.specs.Walk.{comes_before, all_after, is_rising}
 pub none_before : (device function : ℕ) (nodes : Nodes) → all_after device function nodes ≡ true → (access : Slot) → device ≡ access.device → function ≡ access.function → on_bus nodes access ≡ []
 none_before device function NoMore after access same same_function = refl
 none_before device function (Node d f image behind others) after access same same_function =
-    let parts = and_parts (comes_before device function d f) (all_after device function others) after in
+    let parts = and_parts (slot_comes_before device function d f) (all_after device function others) after in
     let apart : (d == access.device && f == access.function) ≡ false = false_from_ne_true _ (λ meets. let met = and_parts (d == access.device) (f == access.function) meets in
     let at : d ≡ access.device = eqb-true d access.device met.0 in
     let of : f ≡ access.function = eqb-true f access.function met.1 in
@@ -62,16 +62,16 @@ low_to_high low high (Node d f image behind others) ranged = elim ranged [
 ]
 
 -- what answers on the other side of a bridge: what is on its secondary bus, or what is further on, or none
-abbrev pub other_side : Bool → Bool → List Place → List Place → List Place
+abbrev pub other_side : Bool → Bool → List NodePlace → List NodePlace → List NodePlace
 other_side takes passes here further = if takes then here else if passes then further else []
 
-pub one_side : (takes passes : Bool) (here further : List Place) → length here ≤ 1 → length further ≤ 1 → length (other_side takes passes here further) ≤ 1
+pub one_side : (takes passes : Bool) (here further : List NodePlace) → length here ≤ 1 → length further ≤ 1 → length (other_side takes passes here further) ≤ 1
 one_side true passes here further one_here one_further = one_here
 one_side false true here further one_here one_further = one_further
 one_side false false here further one_here one_further = omega arith
 
 -- none but those on the other side of the first bridge on a bus, or none but those behind the rest
-pub first_alone : (first rest : List Place) → length first ≤ 1 → rest ≡ [] → length (map Behind first ++ map Next rest) ≤ 1
+pub first_alone : (first rest : List NodePlace) → length first ≤ 1 → rest ≡ [] → length (map Behind first ++ map Next rest) ≤ 1
 first_alone first rest one none = rw (none, length-append, length-map) (omega arith)
 
 pub device_is_idle : (image : List ℕ) (bus : ℕ) → is_type_1 image ≡ false → IsIdleTo image bus
@@ -136,13 +136,13 @@ once_behind low high (Node d f image behind others) ranged rising access above =
 -- ---- at a root
 
 -- an access to a bus from the one root of a board on goes there
-pub goes_alone : (root : Root) (access : Slot) → root.number ≤ access.bus → goes_to (root ∷ []) access.bus root ≡ true
+pub goes_alone : (root : RootBus) (access : Slot) → root.number ≤ access.bus → goes_to (root ∷ []) access.bus root ≡ true
 goes_alone root access from =
     let own = le-leb root.number root.number (omega arith) in
     and_from (nat_le root.number access.bus) _ (le-leb root.number access.bus from) (rw own refl)
 
 -- an access that goes to the one root of a board
-pub at_one_root : (root : Root) (access : Slot) → (root.number ≤ access.bus → length (at_root root access) ≤ 1) → length (answers (root ∷ []) access) ≤ 1
+pub at_one_root : (root : RootBus) (access : Slot) → (root.number ≤ access.bus → length (at_root root access) ≤ 1) → length (answers (root ∷ []) access) ≤ 1
 at_one_root root access one = elim (cases_Bool (goes_to (root ∷ []) access.bus root)) [
   | inl goes ↦
       let here = one (leb-true root.number access.bus (and_parts (nat_le root.number access.bus) _ goes).0) in
@@ -158,5 +158,5 @@ once_at root nodes access rising behind from = elim (cases_Bool (root == access.
 ]
 
 -- A board of one root is single where the ranges of its bridges are apart, and inside those above them.
-pub single : (root low high : ℕ) (nodes : Nodes) → IsRanged low high nodes → is_rising nodes ≡ true → IsSingle (record { number = root; nodes = nodes } ∷ [])
+pub single : (root low high : ℕ) (nodes : Nodes) → IsRanged low high nodes → is_rising nodes ≡ true → HasOneAnswer (record { number = root; nodes = nodes } ∷ [])
 single root low high nodes ranged rising access = at_one_root (record { number = root; nodes = nodes }) access (once_at root nodes access rising (once_behind low high nodes ranged rising access))

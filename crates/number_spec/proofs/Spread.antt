@@ -5,7 +5,7 @@ use Rattle.std.proofs.lemmas.Bool.{and_parts, and_from, both_ways, cases_lt, cas
 use Rattle.std.proofs.lemmas.List.{length-map}
 use Rattle.pci_spec.specs.Slot.{Slot}
 use Rattle.pci_spec.specs.Header.{secondary_bus, subordinate_bus}
-use Rattle.number_spec.specs.Board.{Nodes, NoMore, Node, Next, is_type_1, on_bus, passes_on, behind_bridges, at_root, IsSingle}
+use Rattle.number_spec.specs.Board.{Nodes, NoMore, Node, Next, is_type_1, on_bus, passes_on, behind_bridges, at_root, HasOneAnswer}
 use Rattle.number_spec.specs.Walk.{all_after, is_rising}
 use Rattle.number_spec.specs.Spread.{IsShut, IsSpread}
 use Rattle.number_spec.proofs.Single.{IsIdleTo, IsIdle, IsRanged, device_is_idle, idle_beyond, once_at, once_on_bus, one_side, other_side, first_alone, rest_alone, at_one_root, low_to_high}
@@ -62,7 +62,7 @@ once_spread low high (Node d f image behind others) spread rising access above =
 pub once_at_root : (root high : ℕ) (nodes : Nodes) → IsSpread root high nodes → is_rising nodes ≡ true → (access : Slot) → root ≤ access.bus → length (at_root (record { number = root; nodes = nodes }) access) ≤ 1
 once_at_root root high nodes spread rising access = once_at root nodes access rising (once_spread root high nodes spread rising access)
 
-pub spread_single : (root high : ℕ) (nodes : Nodes) → is_rising nodes ≡ true → IsSpread root high nodes → IsSingle (record { number = root; nodes = nodes } ∷ [])
+pub spread_single : (root high : ℕ) (nodes : Nodes) → is_rising nodes ≡ true → IsSpread root high nodes → HasOneAnswer (record { number = root; nodes = nodes } ∷ [])
 spread_single root high nodes rising spread access = at_one_root (record { number = root; nodes = nodes }) access (λ from. once_at_root root high nodes spread rising access from)
 
 -- ---- bridges that have their numbers

@@ -2,7 +2,7 @@
 use Rattle.std.specs.Prelude.{◌≡◌, ℕ, ◌==◌, if◌then◌else◌, List, [], ◌∷◌, map, set}
 use Rattle.pci_spec.specs.Slot.{Slot}
 use Rattle.pci_spec.specs.Number.{byte_at}
-use Rattle.number_spec.specs.Board.{Nodes, NoMore, Node, Board, Place, Here, Behind, Next, image_at, answers}
+use Rattle.number_spec.specs.Board.{Nodes, NoMore, Node, Board, NodePlace, Here, Behind, Next, node_image, answers}
 
 -- what is read where no node answers
 abbrev pub NOTHING : ℕ
@@ -15,11 +15,11 @@ nodes_behind (root ∷ roots) number =
     if root.number == number then root.nodes else nodes_behind roots number
 
 -- the image of a node that answers
-abbrev pub image_of : Board → ℕ × Place → List ℕ
-image_of board place = image_at (nodes_behind board place.0) place.1
+abbrev pub image_of : Board → ℕ × NodePlace → List ℕ
+image_of board place = node_image (nodes_behind board place.0) place.1
 
 -- the nodes with another byte at an offset of the node at a place
-abbrev pub with_byte : Nodes → Place → ℕ → ℕ → Nodes
+abbrev pub with_byte : Nodes → NodePlace → ℕ → ℕ → Nodes
 with_byte NoMore place offset value = NoMore
 with_byte (Node device function image behind others) Here offset value =
     Node device function (set image offset value) behind others
@@ -35,19 +35,19 @@ with_nodes board number nodes =
     board
 
 -- the board with another byte at an offset of a node that answers
-abbrev pub with_byte_of : Board → ℕ × Place → ℕ → ℕ → Board
+abbrev pub with_byte_of : Board → ℕ × NodePlace → ℕ → ℕ → Board
 with_byte_of board place offset value =
     with_nodes board place.0 (with_byte (nodes_behind board place.0) place.1 offset value)
 
 -- What a read shows: the byte of the node that answers. Where several do, nothing is said.
-pub record IsRead (board : Board) (access : Slot) (offset : ℕ) (value : ℕ) : Type 0 where
+pub record IsByteRead (board : Board) (access : Slot) (offset : ℕ) (value : ℕ) : Type 0 where
   pub nothing : answers board access ≡ [] → value ≡ NOTHING
-  pub byte : (place : ℕ × Place) → answers board access ≡ place ∷ []
+  pub byte : (place : ℕ × NodePlace) → answers board access ≡ place ∷ []
       → value ≡ byte_at (image_of board place) offset
 
 -- What a write of a byte leaves: the node that answers may have another byte there, and all else is
 -- kept. Which byte it has then is for it to say: it may have bits that no write changes.
-pub record IsWritten (before : Board) (access : Slot) (offset : ℕ) (after : Board) : Type 0 where
+pub record IsByteWritten (before : Board) (access : Slot) (offset : ℕ) (after : Board) : Type 0 where
   pub nothing : answers before access ≡ [] → after ≡ before
-  pub byte : (place : ℕ × Place) → answers before access ≡ place ∷ []
+  pub byte : (place : ℕ × NodePlace) → answers before access ≡ place ∷ []
       → (kept : ℕ) × (after ≡ with_byte_of before place offset kept)

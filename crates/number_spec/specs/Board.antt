@@ -12,26 +12,26 @@ pub data Nodes : Type 0 where
   Node : ℕ → ℕ → List ℕ → Nodes → Nodes → Nodes
 
 -- a root bus: its number, and the nodes on it
-pub record Root : Type 0 where
+pub record RootBus : Type 0 where
   pub number : ℕ
   pub nodes : Nodes
 
 abbrev pub Board : Type 0
-Board = List Root
+Board = List RootBus
 
 -- the place of a node, from the first node on a bus on: it is this one, or it is on this one's
 -- other side, or it is among those that follow
-pub data Place : Type 0 where
-  Here : Place
-  Behind : Place → Place
-  Next : Place → Place
+pub data NodePlace : Type 0 where
+  Here : NodePlace
+  Behind : NodePlace → NodePlace
+  Next : NodePlace → NodePlace
 
 -- whether a node has a type 1 header: only then there are nodes on its other side
 abbrev pub is_type_1 : List ℕ → Bool
 is_type_1 image = layout image == 1
 
 -- the nodes on a bus with the device and the function of an access
-abbrev pub on_bus : Nodes → Slot → List Place
+abbrev pub on_bus : Nodes → Slot → List NodePlace
 on_bus NoMore access = []
 on_bus (Node device function image behind others) access =
     (if device == access.device && function == access.function then Here ∷ [] else [])
@@ -44,7 +44,7 @@ passes_on image bus = nat_lt (secondary_bus image) bus && nat_le bus (subordinat
 -- The nodes that answer an access to a bus other than this one. Each bridge on this bus looks at
 -- it: on its secondary bus the nodes there answer, further on the bridges there look at it, else it
 -- ends here.
-abbrev pub behind_bridges : Nodes → Slot → List Place
+abbrev pub behind_bridges : Nodes → Slot → List NodePlace
 behind_bridges NoMore access = []
 behind_bridges (Node device function image behind others) access =
     map Behind (if is_type_1 image && secondary_bus image == access.bus then on_bus behind access
@@ -52,28 +52,28 @@ behind_bridges (Node device function image behind others) access =
     ++ map Next (behind_bridges others access)
 
 -- the nodes at a root that answer an access that goes to it
-abbrev pub at_root : Root → Slot → List Place
+abbrev pub at_root : RootBus → Slot → List NodePlace
 at_root root access =
     if root.number == access.bus then on_bus root.nodes access else behind_bridges root.nodes access
 
 -- whether an access to a bus goes to a root: no root has a greater number that isn't above the bus
-abbrev pub goes_to : Board → ℕ → Root → Bool
+abbrev pub goes_to : Board → ℕ → RootBus → Bool
 goes_to board bus root =
     nat_le root.number bus
     && list_all (λ other. nat_le other.number root.number || nat_lt bus other.number) board
 
 -- the nodes that answer an access, each with the number of its root
-abbrev pub answers : Board → Slot → List (ℕ × Place)
+abbrev pub answers : Board → Slot → List (ℕ × NodePlace)
 answers board access =
     flat_map (λ root. map (λ place. (root.number, place)) (at_root root access))
     (filter (goes_to board access.bus) board)
 
 -- each access is answered by one node at most
-abbrev pub IsSingle : Board → Type 0
-IsSingle board = (access : Slot) → length (answers board access) ≤ 1
+abbrev pub HasOneAnswer : Board → Type 0
+HasOneAnswer board = (access : Slot) → length (answers board access) ≤ 1
 
 -- the one access that a node answers: that to the bus that it is on, its device and its function
-abbrev pub access_of : ℕ → Nodes → Place → Slot
+abbrev pub access_of : ℕ → Nodes → NodePlace → Slot
 access_of bus NoMore place = record { bus = bus; device = 0; function = 0 }
 access_of bus (Node device function image behind others) Here =
     record { bus = bus; device = device; function = function }
@@ -82,8 +82,8 @@ access_of bus (Node device function image behind others) (Behind place) =
 access_of bus (Node device function image behind others) (Next place) = access_of bus others place
 
 -- the image of the node at a place
-abbrev pub image_at : Nodes → Place → List ℕ
-image_at NoMore place = []
-image_at (Node device function image behind others) Here = image
-image_at (Node device function image behind others) (Behind place) = image_at behind place
-image_at (Node device function image behind others) (Next place) = image_at others place
+abbrev pub node_image : Nodes → NodePlace → List ℕ
+node_image NoMore place = []
+node_image (Node device function image behind others) Here = image
+node_image (Node device function image behind others) (Behind place) = node_image behind place
+node_image (Node device function image behind others) (Next place) = node_image others place

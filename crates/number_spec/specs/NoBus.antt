@@ -6,16 +6,16 @@ use Rattle.number_spec.specs.Board.{Nodes, NoMore, Node, is_type_1}
 use Rattle.number_spec.specs.Walk.{has_bus}
 
 -- the first of two, or the second where there is no first
-abbrev pub first_of : Option Slot → Option Slot → Option Slot
-first_of (Some slot) other = Some slot
-first_of None other = other
+abbrev pub first_slot : Option Slot → Option Slot → Option Slot
+first_slot (Some slot) other = Some slot
+first_slot None other = other
 
 -- the first bridge in the order of the walk that has no bus on its other side, of those on a bus
 -- and behind it
 abbrev pub first_without : ℕ → Nodes → Option Slot
 first_without bus NoMore = None
 first_without bus (Node device function image behind others) =
-    first_of (if has_bus image then first_without (secondary_bus image) behind
+    first_slot (if has_bus image then first_without (secondary_bus image) behind
     else if is_type_1 image then Some (record { bus = bus; device = device; function = function })
     else None) (first_without bus others)
 

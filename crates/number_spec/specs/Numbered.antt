@@ -29,21 +29,21 @@ secondaries (Node device function image behind others) =
 
 -- the secondary bus number of the n-th bridge behind a root: where it would be above the last bus,
 -- the bridge has none
-abbrev pub number_of : ℕ → ℕ → ℕ → ℕ
-number_of root last n = if nat_le (root + n) last then root + n else 0
+abbrev pub secondary_number : ℕ → ℕ → ℕ → ℕ
+secondary_number root last n = if nat_le (root + n) last then root + n else 0
 
--- the greatest of a number and those that follow
-abbrev pub greatest : ℕ → List ℕ → ℕ
-greatest n [] = n
-greatest n (m ∷ more) = greatest (max n m) more
+-- the greatest_from of a number and those that follow
+abbrev pub greatest_from : ℕ → List ℕ → ℕ
+greatest_from n [] = n
+greatest_from n (m ∷ more) = greatest_from (max n m) more
 
--- whether a bridge shows the bus that it is on, and the greatest secondary bus number of a bridge
+-- whether a bridge shows the bus that it is on, and the greatest_from secondary bus number of a bridge
 -- behind it or its own; one without a bus shows 0 in all three
 abbrev pub has_range : ℕ → List ℕ → Nodes → Bool
 has_range bus image behind =
     if has_bus image
     then primary_bus image == bus
-    && subordinate_bus image == greatest (secondary_bus image) (secondaries behind)
+    && subordinate_bus image == greatest_from (secondary_bus image) (secondaries behind)
     else primary_bus image == 0 && subordinate_bus image == 0
 
 -- whether each bridge that a walk comes to does, on a bus and behind it
@@ -60,6 +60,6 @@ pub record IsNumbered (root : ℕ) (last : ℕ) (before : Nodes) (after : Nodes)
   pub same : without_numbers before ≡ without_numbers after
   -- the n-th bridge has the n-th bus above the root
   pub order : secondaries after
-      ≡ map (number_of root last) (range_with_len 1 (length (secondaries after)))
+      ≡ map (secondary_number root last) (range_with_len 1 (length (secondaries after)))
   -- and shows the bus that it is on, and the last bus that it leads to
   pub ranges : IsTrue (have_ranges root after)

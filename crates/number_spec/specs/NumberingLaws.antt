@@ -7,7 +7,7 @@ use Rattle.pci_spec.specs.Header.{secondary_bus}
 use Rattle.pci_spec.specs.System.{System}
 use Rattle.pci_spec.specs.Bus.{IsNested}
 use Rattle.pci_spec.specs.NestingLaws.{HasNoBusFault}
-use Rattle.number_spec.specs.Board.{Nodes, Root, Board, Place, is_type_1, image_at, access_of, answers, IsSingle}
+use Rattle.number_spec.specs.Board.{Nodes, RootBus, Board, NodePlace, is_type_1, node_image, access_of, answers, HasOneAnswer}
 use Rattle.number_spec.specs.Access.{nodes_behind}
 use Rattle.number_spec.specs.Walk.{is_rising, is_walkable, walk}
 use Rattle.number_spec.specs.Numbered.{without_numbers, secondaries, IsNumbered}
@@ -16,7 +16,7 @@ use Rattle.number_spec.specs.Spare.{IsSteady, spare_room}
 use Rattle.number_spec.specs.Spread.{IsSpread}
 use Rattle.number_spec.specs.NoBus.{first_without, bridges}
 use Rattle.number_spec.specs.Ready.{IsReady}
-use Rattle.number_spec.specs.Listed.{IsListing, HasNumbers, HasRoomyNumbers}
+use Rattle.number_spec.specs.Listed.{IsBoardListing, HasNumbers, HasRoomyNumbers}
 use Rattle.number_spec.specs.Reached.{reached, only_bridges_lead}
 
 -- The bridges whose numbers are in order are those that the walk comes to, where it finds all
@@ -25,7 +25,7 @@ abbrev pub WalkIsInOrder : Type 0
 WalkIsInOrder =
     (nodes : Nodes) → IsTrue (is_walkable nodes)
     → secondaries nodes
-    ≡ map secondary_bus (filter is_type_1 (map (image_at nodes) (walk nodes nodes)))
+    ≡ map secondary_bus (filter is_type_1 (map (node_image nodes) (walk nodes nodes)))
 
 -- Whether it finds them doesn't hang on bus numbers.
 abbrev pub SameIsWalkable : Type 0
@@ -39,14 +39,14 @@ abbrev pub NumberedIsSingle : Type 0
 NumberedIsSingle =
     (root last : ℕ) (before after : Nodes) → IsTrue (is_rising after)
     → IsNumbered root last before after
-    → IsSingle (record { number = root; nodes = after } ∷ [])
+    → HasOneAnswer (record { number = root; nodes = after } ∷ [])
 
 -- The same where numbers are kept free,
 abbrev pub RoomyIsSingle : Type 0
 RoomyIsSingle =
     (room : List ℕ → ℕ) (root last : ℕ) (before after : Nodes) → IsTrue (is_rising after)
     → IsNumberedWithRoom room root last before after
-    → IsSingle (record { number = root; nodes = after } ∷ [])
+    → HasOneAnswer (record { number = root; nodes = after } ∷ [])
 
 -- and where none are the n-th bridge has the n-th bus above the root.
 abbrev pub NoRoomIsInOrder : Type 0
@@ -68,7 +68,7 @@ SpareStays = (spare : ℕ) → IsSteady (spare_room spare)
 abbrev pub SpreadIsSingle : Type 0
 SpreadIsSingle =
     (root high : ℕ) (nodes : Nodes) → IsTrue (is_rising nodes) → IsSpread root high nodes
-    → IsSingle (record { number = root; nodes = nodes } ∷ [])
+    → HasOneAnswer (record { number = root; nodes = nodes } ∷ [])
 
 -- Numbers don't hang on those that were there: where the same nodes are numbered twice, a walk
 -- comes to the same nodes with the same images,
@@ -108,40 +108,40 @@ AllRoomyNumbersAreOne =
 -- the board's roots.
 abbrev pub ListedIsNested : Type 0
 ListedIsNested =
-    (last : ℕ → ℕ) (board : Board) (s : System) → HasNumbers last board → IsListing board s
+    (last : ℕ → ℕ) (board : Board) (s : System) → HasNumbers last board → IsBoardListing board s
     → IsNested (map (λ root. root.number) board) s
 
 -- So none of them has a bus-range fault, and none is an orphan.
 abbrev pub ListedHasNoBusFault : Type 0
 ListedHasNoBusFault =
-    (last : ℕ → ℕ) (board : Board) (s : System) → HasNumbers last board → IsListing board s
+    (last : ℕ → ℕ) (board : Board) (s : System) → HasNumbers last board → IsBoardListing board s
     → HasNoBusFault (map (λ root. root.number) board) s
 
 -- The same where numbers are kept free.
 abbrev pub RoomyIsNested : Type 0
 RoomyIsNested =
     (room : List ℕ → ℕ) (last : ℕ → ℕ) (board : Board) (s : System)
-    → HasRoomyNumbers room last board → IsListing board s
+    → HasRoomyNumbers room last board → IsBoardListing board s
     → IsNested (map (λ root. root.number) board) s
 
 abbrev pub RoomyHasNoBusFault : Type 0
 RoomyHasNoBusFault =
     (room : List ℕ → ℕ) (last : ℕ → ℕ) (board : Board) (s : System)
-    → HasRoomyNumbers room last board → IsListing board s
+    → HasRoomyNumbers room last board → IsBoardListing board s
     → HasNoBusFault (map (λ root. root.number) board) s
 
 -- A board whose roots rise is single where each of them alone is.
 abbrev pub RootsAreSingle : Type 0
 RootsAreSingle =
     (board : Board) → IsStrictlyIncreasing (map (λ root. root.number) board)
-    → ((root : Root) → Contains board root → IsSingle (root ∷ [])) → IsSingle board
+    → ((root : RootBus) → Contains board root → HasOneAnswer (root ∷ [])) → HasOneAnswer board
 
 -- Each node that the walk finds answers one access, that to its bus, device and function, and no
 -- other.
 abbrev pub FoundAnswersOnce : Type 0
 FoundAnswersOnce =
     (root last : ℕ) (before after : Nodes) → IsNumbered root last before after
-    → (place : Place) → Contains (walk after after) place
+    → (place : NodePlace) → Contains (walk after after) place
     → (access : Slot)
     → Contains (answers (record { number = root; nodes = after } ∷ []) access) (root, place)
     ↔ (access ≡ access_of root after place)
@@ -151,7 +151,7 @@ abbrev pub RoomyAnswersOnce : Type 0
 RoomyAnswersOnce =
     (room : List ℕ → ℕ) (root last : ℕ) (before after : Nodes)
     → IsNumberedWithRoom room root last before after
-    → (place : Place) → Contains (walk after after) place
+    → (place : NodePlace) → Contains (walk after after) place
     → (access : Slot)
     → Contains (answers (record { number = root; nodes = after } ∷ []) access) (root, place)
     ↔ (access ≡ access_of root after place)
@@ -161,7 +161,7 @@ abbrev pub AmongRootsAnswersOnce : Type 0
 AmongRootsAnswersOnce =
     (room : List ℕ → ℕ) (board : Board) (root last : ℕ) → IsReady board root last
     → IsNumberedWithRoom room root last (nodes_behind board root) (nodes_behind board root)
-    → (place : Place) → Contains (walk (nodes_behind board root) (nodes_behind board root)) place
+    → (place : NodePlace) → Contains (walk (nodes_behind board root) (nodes_behind board root)) place
     → (access : Slot)
     → Contains (answers board access) (root, place)
     ↔ (access ≡ access_of root (nodes_behind board root) place)

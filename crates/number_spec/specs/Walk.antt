@@ -3,7 +3,7 @@ use Rattle.std.specs.Prelude.{ℕ, ◌==◌, nat_lt, Bool, true, false, ◌&&◌
 use Rattle.pci_spec.specs.Number.{byte_at, has_bit}
 use Rattle.pci_spec.specs.Registers.{HEADER_TYPE}
 use Rattle.pci_spec.specs.Header.{vendor_id, secondary_bus}
-use Rattle.number_spec.specs.Board.{Nodes, NoMore, Node, Place, Here, Behind, Next, is_type_1}
+use Rattle.number_spec.specs.Board.{Nodes, NoMore, Node, NodePlace, Here, Behind, Next, is_type_1}
 
 -- whether function 0 of a device is on a bus, with bit 7 of its header type: the device has more
 -- functions
@@ -24,7 +24,7 @@ has_bus image = is_type_1 image && not (secondary_bus image == 0)
 -- The places that the walk comes to, in its order: on a bus by device and function, which is how
 -- its nodes stand, and a bridge before what is behind it. The first argument is all of the bus that
 -- the nodes are on.
-abbrev pub walk : Nodes → Nodes → List Place
+abbrev pub walk : Nodes → Nodes → List NodePlace
 walk bus NoMore = []
 walk bus (Node device function image behind others) =
     (if is_found bus device function
@@ -32,14 +32,14 @@ walk bus (Node device function image behind others) =
     ++ map Next (walk bus others)
 
 -- whether one device and function comes before another
-abbrev pub comes_before : ℕ → ℕ → ℕ → ℕ → Bool
-comes_before device function d f = nat_lt device d || (device == d && nat_lt function f)
+abbrev pub slot_comes_before : ℕ → ℕ → ℕ → ℕ → Bool
+slot_comes_before device function d f = nat_lt device d || (device == d && nat_lt function f)
 
 -- whether all these nodes come after a device and function
 abbrev pub all_after : ℕ → ℕ → Nodes → Bool
 all_after device function NoMore = true
 all_after device function (Node d f image behind others) =
-    comes_before device function d f && all_after device function others
+    slot_comes_before device function d f && all_after device function others
 
 -- whether the nodes on each bus stand in rising order, no two with one device and function
 abbrev pub is_rising : Nodes → Bool

@@ -29,7 +29,7 @@ use Rattle.given_spec.specs.Claims.{Own, Legacy, ClaimsOnBus}
 use Rattle.pci_claims.specs.Passed.{is_piece_at}
 use Rattle.pci_claims.specs.Reached.{IsAccessReach}
 use Rattle.pci_claims.specs.Claim.{Claimed, IsClaimOn, IsClaimOfRegion, IsClaimOfLegacy}
-use Rattle.pci_claims.specs.BusClaims.{number_of, AreRegionClaims, IsBridgeAt, IsLegacyClaimAt, AreLegacyClaims, AreMoreClaims, AreBridgesOf, IsNamedOn, AreClaimsOn}
+use Rattle.pci_claims.specs.BusClaims.{claim_number, AreRegionClaims, IsAnsweringBridge, IsLegacyClaimAt, AreLegacyClaims, AreMoreClaims, AreBridgesOf, IsNamedOn, AreClaimsOn}
 use Rattle.pci_claims.proofs.RegionClaims.{not_legacy}
 use Rattle.pci_claims.proofs.Linking.{legacy_same}
 use Rattle.pci_claims.proofs.Rooted.{sent_there}
@@ -37,54 +37,54 @@ use Rattle.pci_claims.proofs.Making.{made_none, made_more, made_less, rise_in_or
 
 -- ---- claims that are made one by one
 
-region_numbered : (reach : List Range) (r : Region) (c : Claimed) → IsClaimOfRegion r reach c → number_of c ≡ number_of_region r
+region_numbered : (reach : List Range) (r : Region) (c : Claimed) → IsClaimOfRegion r reach c → claim_number c ≡ number_of_region r
 region_numbered reach r c is = number_same c.slot r.slot c.register r.reg is.slot is.register
 
 pub no_region : (reach : List Range) → AreRegionClaims [] reach []
-no_region reach = made_none (λ (r : Region) c. IsClaimOfRegion r reach c) (λ r. Unit {0}) number_of_region number_of (region_numbered reach)
+no_region reach = made_none (λ (r : Region) c. IsClaimOfRegion r reach c) (λ r. Unit {0}) number_of_region claim_number (region_numbered reach)
 
 pub one_region_more : (reach : List Range) (regions : List Region) (i : ℕ) (r : Region) (claims : List Claimed) (c : Claimed) → i < length regions → r ≡ get_or regions i r
     → AreRegionClaims (take i regions) reach claims → IsClaimOfRegion r reach c → AreRegionClaims (take (i + 1) regions) reach (claims ++ c ∷ [])
 one_region_more reach regions i r claims c within at made is =
-    made_more (λ (r : Region) c. IsClaimOfRegion r reach c) (λ r. Unit {0}) number_of_region number_of (region_numbered reach) regions i r claims within at made c is
+    made_more (λ (r : Region) c. IsClaimOfRegion r reach c) (λ r. Unit {0}) number_of_region claim_number (region_numbered reach) regions i r claims within at made c is
 
 module _ (given : Given) (space : Space) (records : List Record) (reach : List Range) where
   abbrev IsHere : Slot → Type 0
-  IsHere slot = (r : Record) × IsBridgeAt records space slot r
+  IsHere slot = (r : Record) × IsAnsweringBridge records space slot r
 
   abbrev place : Slot → ℕ
   place slot = slot_number slot * 256 + 0x3e
 
-  legacy_numbered : (slot : Slot) (c : Claimed) → IsLegacyClaimAt given space records reach slot c → number_of c ≡ place slot
+  legacy_numbered : (slot : Slot) (c : Claimed) → IsLegacyClaimAt given space records reach slot c → claim_number c ≡ place slot
   legacy_numbered slot c (r, at, is) = number_same c.slot slot c.register 0x3e (is.slot ∙ at.1) is.register
 
   pub no_legacy : (claims : List Claimed) → AreMoreClaims (AreLegacyClaims given space records reach []) claims claims
-  no_legacy claims = record { more = []; appended = sym (append-nil claims); made = made_none (IsLegacyClaimAt given space records reach) IsHere place number_of legacy_numbered }
+  no_legacy claims = record { more = []; appended = sym (append-nil claims); made = made_none (IsLegacyClaimAt given space records reach) IsHere place claim_number legacy_numbered }
 
   module _ (slots : List Slot) (i : ℕ) (slot : Slot) (before mid : List Claimed) (within : i < length slots) (at : slot ≡ get_or slots i slot)
       (added : AreMoreClaims (AreLegacyClaims given space records reach (take i slots)) before mid) where
-    pub one_legacy_more : (r : Record) (c : Claimed) (after : List Claimed) → IsBridgeAt records space slot r → IsClaimOfLegacy given space r reach c → after ≡ mid ++ c ∷ []
+    pub one_legacy_more : (r : Record) (c : Claimed) (after : List Claimed) → IsAnsweringBridge records space slot r → IsClaimOfLegacy given space r reach c → after ≡ mid ++ c ∷ []
         → AreMoreClaims (AreLegacyClaims given space records reach (take (i + 1) slots)) before after
     one_legacy_more r c after here is pushed = record {
       more = added.more ++ c ∷ [];
       appended = pushed ∙ ap (λ (l : List Claimed). l ++ c ∷ []) added.appended ∙ append_assoc before added.more (c ∷ []);
-      made = made_more (IsLegacyClaimAt given space records reach) IsHere place number_of legacy_numbered slots i slot added.more within at added.made c (r, here, is);
+      made = made_more (IsLegacyClaimAt given space records reach) IsHere place claim_number legacy_numbered slots i slot added.more within at added.made c (r, here, is);
     }
 
-    pub no_legacy_more : ((r : Record) → IsBridgeAt records space slot r → ⊥) → AreMoreClaims (AreLegacyClaims given space records reach (take (i + 1) slots)) before mid
+    pub no_legacy_more : ((r : Record) → IsAnsweringBridge records space slot r → ⊥) → AreMoreClaims (AreLegacyClaims given space records reach (take (i + 1) slots)) before mid
     no_legacy_more none = record {
       more = added.more;
       appended = added.appended;
-      made = made_less (IsLegacyClaimAt given space records reach) IsHere place number_of legacy_numbered slots i slot added.more within at added.made (λ (r, here). none r here);
+      made = made_less (IsLegacyClaimAt given space records reach) IsHere place claim_number legacy_numbered slots i slot added.more within at added.made (λ (r, here). none r here);
     }
 
 -- no record has the slot
-pub none_listed : (records : List Record) (space : Space) (slot : Slot) → (Contains (slots_of records) slot → ⊥) → (r : Record) → IsBridgeAt records space slot r → ⊥
+pub none_listed : (records : List Record) (space : Space) (slot : Slot) → (Contains (slots_of records) slot → ⊥) → (r : Record) → IsAnsweringBridge records space slot r → ⊥
 none_listed records space slot none r here = none (subst (Contains (slots_of records)) here.1 (in_map_from (λ (x : Record). x.slot) records r here.0))
 
 -- the one that has it is no bridge that answers accesses
 pub none_on : (records : List Record) (space : Space) (slot : Slot) (q : Record) → RiseBySlot records → Contains records q → q.slot ≡ slot
-    → (is_some q.bridge && is_on q.command space) ≡ false → (r : Record) → IsBridgeAt records space slot r → ⊥
+    → (is_some q.bridge && is_on q.command space) ≡ false → (r : Record) → IsAnsweringBridge records space slot r → ⊥
 none_on records space slot q rise has at off r here =
     let same : r ≡ q = one_by_number (λ (x : Record). slot_number x.slot) records r q rise here.0 has (ap slot_number (here.1 ∙ sym at)) in
     both_ways _ off (subst (λ (x : Record). (is_some x.bridge && is_on x.command space) ≡ true) same here.2)
@@ -161,14 +161,14 @@ module _ (given : Given) (t : Tree) (s : System) (tree : HasTree t s) (bus : ℕ
       | inl region ↦ in_nil region.q (subst (λ l. Contains l region.q) no_regions region.has)
       | inr legacy ↦ in_nil legacy.f.slot (subst (λ l. Contains l legacy.f.slot) no_bridges legacy.has)
     ]);
-    rising = pairs_nil (λ c d. number_of c < number_of d);
+    rising = pairs_nil (λ c d. claim_number c < claim_number d);
     named = λ c has. absurd (in_nil c has);
     sent = λ root c has. absurd (in_nil c has);
   }
 
   module _ (records : List Record) (has : Has s records) (rise : RiseBySlot records) (reach : List Range) (gets : IsAccessReach given t.roots s space bus reach)
       (own more claims : List Claimed) (regional : AreRegionClaims regions reach own) (legacy : AreLegacyClaims given space records reach here more)
-      (moved : IsPermutation (own ++ more) claims) (sorted : IsNonDecreasingBy number_of claims) (nested : IsNested t.roots s) where
+      (moved : IsPermutation (own ++ more) claims) (sorted : IsNonDecreasingBy claim_number claims) (nested : IsNested t.roots s) where
     region_claims : (c : Claimed) → Contains own c → IsClaimOn given t.roots s bus space c
     region_claims c in_own =
         let (r, there, of) = regional.each c in_own in
@@ -206,7 +206,7 @@ module _ (given : Given) (t : Tree) (s : System) (tree : HasTree t s) (bus : ℕ
         λ i j d less within. (let low = up i j d less within in omega (arith, low))
 
     -- no region is named as a legacy part is
-    apart : (c d : Claimed) → Contains own c → Contains more d → number_of c ≡ number_of d → ⊥
+    apart : (c d : Claimed) → Contains own c → Contains more d → claim_number c ≡ claim_number d → ⊥
     apart c d in_own in_more same =
         let (r, there, of) = regional.each c in_own in
         let (slot, _, (q, at, legal)) = legacy.each d in_more in
@@ -260,7 +260,7 @@ module _ (given : Given) (t : Tree) (s : System) (tree : HasTree t s) (bus : ℕ
         | inl region ↦ region_has slot register region
         | inr part ↦ legacy_has slot register a part
       ];
-      rising = rise_in_order number_of (own ++ more) claims (pairs_append (λ c d. number_of c ≡ number_of d → ⊥) own more
+      rising = rise_in_order claim_number (own ++ more) claims (pairs_append (λ c d. claim_number c ≡ claim_number d → ⊥) own more
           (λ i j d less within e. (let up = regional.rising are.rising i j d less within in let no : ⊥ = omega (arith, up, e) in no))
           (λ i j d less within e. (let up = legacy.rising bridges_rise i j d less within in let no : ⊥ = omega (arith, up, e) in no))
           (λ c d in_own in_more. apart c d in_own in_more)) moved sorted;

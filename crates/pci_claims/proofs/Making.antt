@@ -11,7 +11,7 @@ use Rattle.std.proofs.lemmas.List.Kept.{AllPairs-from_increasing}
 use Rattle.std.proofs.lemmas.List.Sorted.{IsPermutation-map}
 use Rattle.std.proofs.lemmas.Map.Keys.{IsDistinct-from_apart, IsDistinct-IsPermutation, IsStrictlyIncreasing-from_distinct}
 use Rattle.pci_spec.proofs.Members.{in_nil, pairs_nil}
-use Rattle.pci_claims.specs.Made.{AreMade}
+use Rattle.pci_claims.specs.Made.{AreOneEach}
 
 -- ---- pairs of a list with one more
 
@@ -32,21 +32,21 @@ pairs_last R xs x y pairs (k, within, at) =
 -- ---- one more thing
 
 module _ {X Y : Type 0} (IsOf : X → Y → Type 0) (HasOne : X → Type 0) (number : X → ℕ) (place : Y → ℕ) (numbered : (x : X) (y : Y) → IsOf x y → place y ≡ number x) where
-  pub made_none : AreMade IsOf HasOne number place [] []
+  pub made_none : AreOneEach IsOf HasOne number place [] []
   made_none = record {
     each = λ c has. absurd (in_nil c has);
     complete = λ x has. absurd (in_nil x has);
     rising = λ up. pairs_nil (λ c d. place c < place d);
   }
 
-  module _ (xs : List X) (i : ℕ) (x : X) (claims : List Y) (within : i < length xs) (at : x ≡ get_or xs i x) (made : AreMade IsOf HasOne number place (take i xs) claims) where
+  module _ (xs : List X) (i : ℕ) (x : X) (claims : List Y) (within : i < length xs) (at : x ≡ get_or xs i x) (made : AreOneEach IsOf HasOne number place (take i xs) claims) where
     split : take (i + 1) xs ≡ take i xs ++ x ∷ []
     split = take_more xs i x within ∙ ap (λ y. take i xs ++ y ∷ []) (sym at)
 
     before : (y : X) → Contains (take i xs) y → Contains (take (i + 1) xs) y
     before y has = subst (λ l. Contains l y) (sym split) (Contains-append_left (take i xs) (x ∷ []) y has)
 
-    pub made_more : (c : Y) → IsOf x c → AreMade IsOf HasOne number place (take (i + 1) xs) (claims ++ c ∷ [])
+    pub made_more : (c : Y) → IsOf x c → AreOneEach IsOf HasOne number place (take (i + 1) xs) (claims ++ c ∷ [])
     made_more c is = record {
       each = λ d has. elim (Contains-push_cases claims c d has) [
         | inl old ↦ (let (y, there, of) = made.each d old in (y, before y there, of))
@@ -67,7 +67,7 @@ module _ {X Y : Type 0} (IsOf : X → Y → Type 0) (HasOne : X → Type 0) (num
     }
 
     -- it has none
-    pub made_less : (HasOne x → ⊥) → AreMade IsOf HasOne number place (take (i + 1) xs) claims
+    pub made_less : (HasOne x → ⊥) → AreOneEach IsOf HasOne number place (take (i + 1) xs) claims
     made_less none = record {
       each = λ d has. (let (y, there, of) = made.each d has in (y, before y there, of));
       complete = λ y has one. elim (Contains-push_cases (take i xs) x y (subst (λ l. Contains l y) split has)) [

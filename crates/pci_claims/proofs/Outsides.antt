@@ -19,7 +19,7 @@ use Rattle.pci_tree.proofs.RegionParts.{window_named}
 use Rattle.given_spec.specs.Given.{Given, starts}
 use Rattle.given_spec.specs.Fault.{IsOutside}
 use Rattle.pci_claims.specs.Sent.{IsSentTo}
-use Rattle.pci_claims.specs.Outside.{IsSent, IsLeastUnsent, IsRootOf, IsNeverOutside, IsOutsideLine}
+use Rattle.pci_claims.specs.Outside.{IsSent, IsLeastUnsent, IsRootOfPath, IsNeverOutside, IsOutsideLine}
 
 -- what a list of ranges leaves of a range, where the list is what is sent
 pub unsent_of : (given : Given) (space : Space) (root : ℕ) (sent : List Range) (r : Range) (o : Option ℕ) → IsSentTo given space root sent
@@ -33,11 +33,11 @@ unsent_of given space root sent r (Some a) is least = record {
 }
 
 -- the root that the bridges of a path lead from
-pub root_of : (s : System) (from : ℕ) (bridges : List Function) (to : ℕ) (path : List Slot) (root : ℕ) → Leads s from bridges to → map (λ f. f.slot) bridges ≡ path → IsRootOf path to root
+pub root_of : (s : System) (from : ℕ) (bridges : List Function) (to : ℕ) (path : List Slot) (root : ℕ) → Leads s from bridges to → map (λ f. f.slot) bridges ≡ path → IsRootOfPath path to root
     → from ≡ root
 root_of s from [] to path root leads e is = leads ∙ is.none (ap length (sym e))
 root_of s from (b ∷ bridges) to path root (has, bridge, on, rest) e is =
-    let first : IsRootOf (b.slot ∷ map (λ (f : Function). f.slot) bridges) to root = subst (λ p. IsRootOf p to root) (sym e) is in
+    let first : IsRootOfPath (b.slot ∷ map (λ (f : Function). f.slot) bridges) to root = subst (λ p. IsRootOfPath p to root) (sym e) is in
     sym on ∙ first.some (omega arith) b.slot
 
 abbrev pub range : Region → Range
@@ -50,7 +50,7 @@ without_path given t space r none s tree bus on no_window sp a outside =
     (subst (Contains (map (λ x. x.slot) (map record_of s))) (sym on.is.slot) (in_map_from (λ x. x.slot) (map record_of s) (record_of on.f) (in_map_from record_of s on.f on.listed))))
 
 module _ (given : Given) (t : Tree) (space : Space) (r : Region) (path : List Slot) (root : ℕ)
-    (paths : (s : System) → HasTree t s → IsPathTo t.roots s path r.slot.bus) (is_root : IsRootOf path r.slot.bus root) where
+    (paths : (s : System) → HasTree t s → IsPathTo t.roots s path r.slot.bus) (is_root : IsRootOfPath path r.slot.bus root) where
   pub root_is : (s : System) (tree : HasTree t s) → (paths s tree).root ≡ root
   root_is s tree = root_of s (paths s tree).root (paths s tree).bridges r.slot.bus path root (paths s tree).leads (paths s tree).named is_root
 

@@ -20,8 +20,8 @@ use Rattle.given_spec.specs.Given.{Given, starts}
 use Rattle.given_spec.specs.Claims.{passes, IsPassedTo}
 use Rattle.pci_claims.specs.Passed.{passes_with, IsPassedOnWith}
 use Rattle.pci_claims.specs.Sent.{IsSentTo}
-use Rattle.pci_claims.specs.Outside.{IsRootOf}
-use Rattle.pci_claims.specs.Reached.{PassesAt, IsReachAlong, IsReachTo, IsReachInEach, IsAccessReach, IsAccessReachInEach}
+use Rattle.pci_claims.specs.Outside.{IsRootOfPath}
+use Rattle.pci_claims.specs.Reached.{PassesAt, IsReachAlong, IsStartedReachTo, IsReachInEach, IsAccessReach, IsAccessReachInEach}
 use Rattle.pci_claims.proofs.Outsides.{root_of}
 use Rattle.pci_claims.proofs.Walking.{all_before, all_here, way_passes}
 
@@ -82,7 +82,7 @@ module _ (given : Given) (kind : WindowKind) (records : List Record) (root : ℕ
 -- ---- in a system
 
 pub reach_with : (given : Given) (kind : WindowKind) (roots : List ℕ) (s : System) (rs : List Record) (path : List Slot) (bus root : ℕ) (out : List Range) → Has s rs → RiseBySlot rs
-    → IsPathTo roots s path bus → IsRootOf path bus root → IsReachAlong given kind rs root path out → IsReachTo given roots s kind bus out
+    → IsPathTo roots s path bus → IsRootOfPath path bus root → IsReachAlong given kind rs root path out → IsStartedReachTo given roots s kind bus out
 reach_with given kind roots s rs path bus root out is rise way at reach =
     let here : way.root ≡ root = root_of s way.root way.bridges bus path root way.leads way.named at in record {
       canonical = reach.canonical;
@@ -114,7 +114,7 @@ reach_with given kind roots s rs path bus root out is rise way at reach =
 -- ---- any access
 
 pub access_of : (given : Given) (roots : List ℕ) (s : System) (space : Space) (bus : ℕ) (out : List Range)
-    → IsReachTo given roots s (kind_in space true) bus out → IsAccessReach given roots s space bus out
+    → IsStartedReachTo given roots s (kind_in space true) bus out → IsAccessReach given roots s space bus out
 access_of given roots s Io bus out is = record { canonical = is.canonical; exact = is.exact }
 access_of given roots s Memory bus out is = record { canonical = is.canonical; exact = is.exact }
 

@@ -15,7 +15,7 @@ use Rattle.pci_tree.specs.Trees.{HasTree}
 use Rattle.given_spec.specs.Given.{Given, starts}
 use Rattle.given_spec.specs.Claims.{ClaimsOnBus}
 use Rattle.pci_claims.specs.Claim.{Claimed}
-use Rattle.pci_claims.specs.BusClaims.{number_of, IsNamedOn, AreClaimsOn, AreClaimsInEach}
+use Rattle.pci_claims.specs.BusClaims.{claim_number, IsNamedOn, AreClaimsOn, AreClaimsInEach}
 use Rattle.pci_claims.specs.RootClaims.{IsClaimSent, AreClaimsOver, AreRootClaimsInEach}
 
 -- a root below a bus
@@ -26,7 +26,7 @@ abbrev pub AreRootClaimsBelow : Given → Tree → Space → ℕ → List Claime
 AreRootClaimsBelow given t space n claims = (s : System) → HasTree t s → AreClaimsOver given (IsRootBelow t.roots n) s space claims
 
 -- a claim of a lower bus has a lower number
-lower_number : (s : System) → IsSystem s → (c d : Claimed) → IsNamedOn s c.slot.bus c → c.slot.bus < d.slot.bus → number_of c < number_of d
+lower_number : (s : System) → IsSystem s → (c d : Claimed) → IsNamedOn s c.slot.bus c → c.slot.bus < d.slot.bus → claim_number c < claim_number d
 lower_number s system c d named less =
     let slot : IsSlot c.slot = subst IsSlot named.slot (slot_of s system named.f named.listed) in
     let register = named.register in
@@ -39,7 +39,7 @@ module _ (given : Given) (t : Tree) (space : Space) where
     named = λ c has. absurd (in_nil c has);
     each = λ c has. absurd (in_nil c has);
     complete = λ slot register a root. absurd (let less = root.0 in let no : ⊥ = omega (arith, less) in no);
-    rising = pairs_nil (λ c d. number_of c < number_of d);
+    rising = pairs_nil (λ c d. claim_number c < claim_number d);
   }
 
   -- a bus that is no root has none
@@ -93,7 +93,7 @@ module _ (given : Given) (t : Tree) (space : Space) where
               let (c, there, at, named) = are.complete slot register a (omega (arith, less, differ), lower.1) claims_it in
               (c, Contains-append_left before claims c there, at, named))
         ];
-        rising = pairs_append (λ c d. number_of c < number_of d) before claims are.rising on.rising (λ c d in_before in_claims.
+        rising = pairs_append (λ c d. claim_number c < claim_number d) before claims are.rising on.rising (λ c d in_before in_claims.
             let less = (are.one c in_before).0 in
             let at = (on.named d in_claims).on_bus in
             lower_number s tree.system c d (are.named c in_before) (omega (arith, less, at)));

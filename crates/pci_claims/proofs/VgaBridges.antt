@@ -9,7 +9,7 @@ use Rattle.pci_spec.proofs.Pairing.{same_length}
 use Rattle.given_spec.specs.Words as words
 use Rattle.given_spec.specs.Words.{has_legacy, legacy_bridge, legacy_bridges}
 use Rattle.given_spec.specs.Given as spec
-use Rattle.pci_claims.specs.Vga.{shown_by, legacy_bridges_shown}
+use Rattle.pci_claims.specs.Vga.{function_without_probe, legacy_bridges_shown}
 
 map_cond : {X Y : Type 0} (f : X → Y) (t : Bool) (x : X) → map f (cond t (x ∷ []) []) ≡ cond t (f x ∷ []) []
 map_cond f true x = refl
@@ -25,8 +25,8 @@ by_length : (word : words.VgaWord) (dump probe : List Block) → length dump ≡
 by_length word [] probe h = refl
 by_length word (b ∷ dump) [] h = absurd (let no : ⊥ = omega (arith, h) in no)
 by_length word (b ∷ dump) (p ∷ probe) h =
-    first_found (λ c. has_legacy (shown_by c)) (λ c. legacy_bridge word (shown_by c)) b dump
-    ∙ ap (λ (xs : List spec.LegacyBridge). cond (has_legacy (shown_by b)) (legacy_bridge word (shown_by b) ∷ []) [] ++ xs) (by_length word dump probe (omega (arith, h)))
+    first_found (λ c. has_legacy (function_without_probe c)) (λ c. legacy_bridge word (function_without_probe c)) b dump
+    ∙ ap (λ (xs : List spec.LegacyBridge). cond (has_legacy (function_without_probe b)) (legacy_bridge word (function_without_probe b) ∷ []) [] ++ xs) (by_length word dump probe (omega (arith, h)))
     ∙ sym (first_found has_legacy (legacy_bridge word) (function_of b p) (system_of dump probe))
 
 pub by_any_probe : (word : words.VgaWord) (dump probe : List Block) → slots_of dump ≡ slots_of probe → legacy_bridges_shown word dump ≡ legacy_bridges word (system_of dump probe)

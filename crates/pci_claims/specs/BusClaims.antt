@@ -19,11 +19,11 @@ use Rattle.pci_tree.specs.Trees.{HasTree}
 use Rattle.given_spec.specs.Given.{Given, starts}
 use Rattle.given_spec.specs.Claims.{ClaimsOnBus}
 use Rattle.pci_claims.specs.Claim.{Claimed, IsClaimOn, IsClaimOfRegion, IsClaimOfLegacy}
-use Rattle.pci_claims.specs.Made.{AreMade}
+use Rattle.pci_claims.specs.Made.{AreOneEach}
 
 -- the place of a claim in the order of slots and registers
-abbrev pub number_of : Claimed → ℕ
-number_of c = region_number c.slot c.register
+abbrev pub claim_number : Claimed → ℕ
+claim_number c = region_number c.slot c.register
 
 -- the claim has the slot of a function of the bus, and an offset for its register
 pub record IsNamedOn (s : System) (bus : ℕ) (c : Claimed) : Type 0 where
@@ -40,7 +40,7 @@ pub record AreClaimsOn (given : Given) (roots : List ℕ) (s : System) (bus : �
   pub complete : (slot : Slot) (register a : ℕ)
       → ClaimsOnBus given s bus (address_in space a) (named_region slot register)
       → (c : Claimed) × Contains claims c × (c.slot ≡ slot) × (c.register ≡ register)
-  pub rising : AllPairs (λ c d. number_of c < number_of d) claims
+  pub rising : AllPairs (λ c d. claim_number c < claim_number d) claims
   -- also of a claim that answers no address
   pub named : (c : Claimed) → Contains claims c → IsNamedOn s bus c
   -- no bridge leads to a root bus, so what gets there is what the host sends to it
@@ -57,25 +57,25 @@ AreClaimsInEach given t bus space claims =
 -- each region has one
 abbrev pub AreRegionClaims : List Region → List Range → List Claimed → Type 0
 AreRegionClaims regions reach claims =
-    AreMade (λ r c. IsClaimOfRegion r reach c) (λ r. Unit {0}) number_of_region number_of regions
+    AreOneEach (λ r c. IsClaimOfRegion r reach c) (λ r. Unit {0}) number_of_region claim_number regions
     claims
 
 -- the record is of a bridge at the slot that answers accesses of the space
-abbrev pub IsBridgeAt : List Record → Space → Slot → Record → Type 0
-IsBridgeAt records space slot r =
+abbrev pub IsAnsweringBridge : List Record → Space → Slot → Record → Type 0
+IsAnsweringBridge records space slot r =
     Contains records r × (r.slot ≡ slot) × IsTrue (is_some r.bridge && is_on r.command space)
 
 abbrev pub IsLegacyClaimAt : Given → Space → List Record → List Range → Slot → Claimed → Type 0
 IsLegacyClaimAt given space records reach slot c =
-    (r : Record) × IsBridgeAt records space slot r × IsClaimOfLegacy given space r reach c
+    (r : Record) × IsAnsweringBridge records space slot r × IsClaimOfLegacy given space r reach c
 
 -- each slot of a bridge that answers accesses of the space has one
 abbrev pub AreLegacyClaims : Given → Space → List Record → List Range → List Slot → List Claimed
     → Type 0
 AreLegacyClaims given space records reach slots claims =
-    AreMade (IsLegacyClaimAt given space records reach)
-    (λ slot. (r : Record) × IsBridgeAt records space slot r)
-    (λ slot. region_number slot BRIDGE_CONTROL) number_of slots claims
+    AreOneEach (IsLegacyClaimAt given space records reach)
+    (λ slot. (r : Record) × IsAnsweringBridge records space slot r)
+    (λ slot. region_number slot BRIDGE_CONTROL) claim_number slots claims
 
 -- they come behind others
 pub record AreMoreClaims (AreSo : List Claimed → Type 0)

@@ -18,8 +18,8 @@ use Rattle.pci_claims.specs.Passed.{legacy_passes}
 use Rattle.pci_claims.specs.Reached.{IsAccessReach}
 
 -- the two lists have no address in common
-abbrev pub AreApart : List Range → List Range → Type 0
-AreApart rs ss = (a : ℕ) → Covers rs a → Covers ss a → ⊥
+abbrev pub ShareNoAddress : List Range → List Range → Type 0
+ShareNoAddress rs ss = (a : ℕ) → Covers rs a → Covers ss a → ⊥
 
 -- the least address that both lists have
 pub record IsLeastCommon (rs ss : List Range) (a : ℕ) : Type 0 where
@@ -52,8 +52,8 @@ pub record IsLeastAtOdds (c d : Claimed) (a : ℕ) : Type 0 where
   pub least : (b : ℕ) → AreAtOdds c d b → a ≤ b
 
 -- the addresses of a region
-abbrev pub IsOwnOf : Region → List Range → Type 0
-IsOwnOf r out =
+abbrev pub AreAddressesOf : Region → List Range → Type 0
+AreAddressesOf r out =
     IsCanonical out × ((a : ℕ) → Covers out a ↔ ((r.first ≤ a) × (a ≤ r.last)))
 
 -- the claim of a region on each bus to which those addresses get

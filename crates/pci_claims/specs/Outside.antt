@@ -25,7 +25,7 @@ pub record IsLeastUnsent (given : Given) (space : Space) (root : ℕ) (r : Range
   pub least : (b : ℕ) → b < a → Holds r b → IsSent given space root b
 
 -- the root bus that a path begins at, the path ending at a bus
-pub record IsRootOf (path : List Slot) (end root : ℕ) : Type 0 where
+pub record IsRootOfPath (path : List Slot) (end root : ℕ) : Type 0 where
   pub some : 0 < length path → HoldsAt (λ slot. slot.bus ≡ root) path 0
   pub none : length path ≡ 0 → end ≡ root
 

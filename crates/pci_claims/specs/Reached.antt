@@ -34,15 +34,15 @@ pub record AreReached (space : Space) (IsReached : ℕ → Type 0) (out : List R
   pub exact : (a : ℕ) → Covers out a ↔ (IsAddress space a × IsReached a)
 
 -- those of a kind of access that are passed on to a bus from a root on which accesses to them start
-abbrev pub IsReachTo : Given → List ℕ → System → WindowKind → ℕ → List Range → Type 0
-IsReachTo given roots s kind bus =
+abbrev pub IsStartedReachTo : Given → List ℕ → System → WindowKind → ℕ → List Range → Type 0
+IsStartedReachTo given roots s kind bus =
     AreReached (window_space kind)
     (λ a. IsPassedTo given roots s (address_in (window_space kind) a) (is_prefetch kind) bus)
 
 -- in each system with the tree
 abbrev pub IsReachInEach : Given → Tree → WindowKind → ℕ → List Range → Type 0
 IsReachInEach given t kind bus out =
-    (s : System) → HasRecords s t.records → IsReachTo given t.roots s kind bus out
+    (s : System) → HasRecords s t.records → IsStartedReachTo given t.roots s kind bus out
 
 -- the same of the addresses at which some access gets to the bus
 abbrev pub IsAccessReach : Given → List ℕ → System → Space → ℕ → List Range → Type 0

@@ -10,7 +10,7 @@ use Rattle.pci_tree.specs.Trees.{HasTree}
 use Rattle.given_spec.specs.Given.{Given, starts}
 use Rattle.given_spec.specs.Claims.{ClaimsOnBus}
 use Rattle.pci_claims.specs.Claim.{Claimed}
-use Rattle.pci_claims.specs.BusClaims.{number_of, IsNamedOn}
+use Rattle.pci_claims.specs.BusClaims.{claim_number, IsNamedOn}
 
 -- its addresses are just those of the space that the region claims, and that the host sends to its bus
 abbrev pub IsClaimSent : Given → System → Space → Claimed → Type 0
@@ -28,7 +28,7 @@ pub record AreClaimsOver (given : Given) (IsOne : ℕ → Type 0) (s : System) (
   pub complete : (slot : Slot) (register a : ℕ) → IsOne slot.bus
       → ClaimsOnBus given s slot.bus (address_in space a) (named_region slot register)
       → (c : Claimed) × Contains claims c × (c.slot ≡ slot) × (c.register ≡ register)
-  pub rising : AllPairs (λ c d. number_of c < number_of d) claims
+  pub rising : AllPairs (λ c d. claim_number c < claim_number d) claims
 
 -- of all root buses, in each system with the tree
 abbrev pub AreRootClaimsInEach : Given → Tree → Space → List Claimed → Type 0

@@ -8,9 +8,9 @@ use Rattle.given_spec.specs.Words as words
 use Rattle.given_spec.specs.Words.{has_legacy, legacy_bridge}
 
 -- a function whose registers read back nothing: no read back says what its legacy part is
-abbrev pub shown_by : Block → Function
-shown_by b = record { slot = b.slot; image = b.image; probe = [] }
+abbrev pub function_without_probe : Block → Function
+function_without_probe b = record { slot = b.slot; image = b.image; probe = [] }
 
 abbrev pub legacy_bridges_shown : words.VgaWord → List Block → List spec.LegacyBridge
 legacy_bridges_shown word blocks =
-    map (λ b. legacy_bridge word (shown_by b)) (filter (λ b. has_legacy (shown_by b)) blocks)
+    map (λ b. legacy_bridge word (function_without_probe b)) (filter (λ b. has_legacy (function_without_probe b)) blocks)

@@ -6,7 +6,7 @@ ghost use Rattle.pci_base.specs.Space.{space_of};
 ghost use Rattle.pci_tree.specs.Ranges.{IsCanonical};
 ghost use Rattle.pci_tree.specs.Outline.{RiseBySlot};
 ghost use Rattle.pci_claims.specs.Values.{given_value};
-ghost use Rattle.pci_claims.specs.BusClaims.{number_of, AreRegionClaims, AreLegacyClaims, AreMoreClaims, AreBridgesOf, AreClaimsInEach};
+ghost use Rattle.pci_claims.specs.BusClaims.{claim_number, AreRegionClaims, AreLegacyClaims, AreMoreClaims, AreBridgesOf, AreClaimsInEach};
 
 use super::claim::{Claim, claim_of, legacy_claim_of};
 use super::given::Given;
@@ -108,7 +108,7 @@ fn some_slot(regions: &[Region], bridges: &[Slot]) -> Option<Slot>
 /// Sorts claims by slot and register.
 fn sort<A: Allocator>(claims: &mut Vec<Claim<A>, A>) -> Result<(), OutOfMemory>
     ensures permutation { IsPermutation claims.old.items claims.new.items }
-    ensures sorted { OnOk result (IsNonDecreasingBy number_of claims.new.items) }
+    ensures sorted { OnOk result (IsNonDecreasingBy claim_number claims.new.items) }
 {
     match claims.sort_by_key(|claim| claim.number()) {
         Ok(()) => Ok(()),

@@ -5,8 +5,8 @@ ghost use Rattle.pci_base.specs.Space.{space_of};
 ghost use Rattle.pci_tree.specs.Ranges.{Covers, IsCanonical};
 ghost use Rattle.given_spec.specs.Claims.{is_window_register, are_window_and_legacy, may_share};
 ghost use Rattle.pci_claims.specs.Values.{given_value};
-ghost use Rattle.pci_claims.specs.BusClaims.{number_of};
-ghost use Rattle.pci_claims.specs.Claim.{AreApart, AreAtOdds, IsLeastAtOdds, IsLeastCommon, IsOwnOf, IsClaimOfRegion, IsLegacyOf, IsClaimOfLegacy};
+ghost use Rattle.pci_claims.specs.BusClaims.{claim_number};
+ghost use Rattle.pci_claims.specs.Claim.{ShareNoAddress, AreAtOdds, IsLeastAtOdds, IsLeastCommon, AreAddressesOf, IsClaimOfRegion, IsLegacyOf, IsClaimOfLegacy};
 
 use super::gather::{common, gathered};
 use super::given::Given;
@@ -68,7 +68,7 @@ impl<A: Allocator> Claim<A> {
 
     /// Its place in the order of slots and registers, below 2^24.
     pub fn number(&self) -> u32
-        ensures { result ≡ number_of self.now }
+        ensures { result ≡ claim_number self.now }
     {
         place(self.slot, self.reg)
     }
@@ -83,7 +83,7 @@ pub fn place(slot: Slot, reg: u8) -> u32
 
 /// The addresses of a region, as a list.
 pub fn own<A: Allocator>(alloc: A, region: &Region) -> Result<Vec<Range, A>, OutOfMemory>
-    ensures { IfOk result (λ v. IsOwnOf region.now v.items) }
+    ensures { IfOk result (λ v. AreAddressesOf region.now v.items) }
 {
     let mut out = Vec::new(alloc);
     if region.first <= region.last {
@@ -156,7 +156,7 @@ pub fn legacy_claim_of<A: Allocator + Copy>(
 fn is_below(rs: &[Range], ss: &[Range]) -> bool
     requires first { IsCanonical rs.now }
     requires second { IsCanonical ss.now }
-    ensures { IsTrue result → AreApart rs.now ss.now }
+    ensures { IsTrue result → ShareNoAddress rs.now ss.now }
 {
     if rs.is_empty() || ss.is_empty() {
         return true;

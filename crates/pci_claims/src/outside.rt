@@ -4,7 +4,7 @@ ghost use Rattle.std.specs.Prelude.{ℕ, IfOk, MatchOption};
 ghost use Rattle.pci_base.specs.Space.{space_of};
 ghost use Rattle.pci_tree.specs.Ranges.{Holds};
 ghost use Rattle.pci_claims.specs.Values.{given_value};
-ghost use Rattle.pci_claims.specs.Outside.{IsSent, IsLeastUnsent, IsRootOf, IsNeverOutside, IsOutsideLine};
+ghost use Rattle.pci_claims.specs.Outside.{IsSent, IsLeastUnsent, IsRootOfPath, IsNeverOutside, IsOutsideLine};
 
 use super::given::Given;
 use super::sent::sent_to;
@@ -38,7 +38,7 @@ pub fn least_unsent<A: Allocator + Copy>(
 
 /// The root bus that a path begins at, the path ending at a bus.
 pub fn root_above(path: &[Slot], end: u8) -> u8
-    ensures { IsRootOf path.now end result }
+    ensures { IsRootOfPath path.now end result }
 {
     if path.is_empty() { end } else { path[0].bus() }
 }

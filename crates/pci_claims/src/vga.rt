@@ -8,7 +8,7 @@ ghost use Rattle.pci_spec.specs.System.{system_of};
 ghost use Rattle.given_spec.specs.Words.{is_wide_by, has_legacy, legacy_bridge, legacy_bridges};
 ghost use Rattle.pci_model.specs.WordsValue.{vga_value};
 ghost use Rattle.pci_claims.specs.Values.{legacy_value};
-ghost use Rattle.pci_claims.specs.Vga.{shown_by};
+ghost use Rattle.pci_claims.specs.Vga.{function_without_probe};
 
 use super::given::LegacyBridge;
 use pci_base::image::Image;
@@ -36,8 +36,8 @@ fn is_wide(bridge: &Image, word: VgaWord) -> bool
 
 /// The legacy part of a function, where it is a bridge with VGA Enable.
 fn legacy_part(block: &Block, word: VgaWord) -> Option<LegacyBridge>
-    ensures { option_map legacy_value result ≡ (if has_legacy (shown_by block.now)
-        then Some (legacy_bridge (vga_value word) (shown_by block.now)) else None) }
+    ensures { option_map legacy_value result ≡ (if has_legacy (function_without_probe block.now)
+        then Some (legacy_bridge (vga_value word) (function_without_probe block.now)) else None) }
 {
     if !controls_bridge(&block.image, VGA_ENABLE) {
         return None;

@@ -8,13 +8,13 @@ use Rattle.pci_faults.specs.declared.shares.Among.{Among}
 use Rattle.pci_faults.specs.declared.shares.Share.{Share}
 use Rattle.pci_faults.proofs.Naming.{Places, AreRising, IsAtPlace, IsSharedAs, AreLeastOf, place_before}
 use Rattle.pci_claims.specs.Claim.{Claimed}
-use Rattle.pci_claims.specs.BusClaims.{number_of}
+use Rattle.pci_claims.specs.BusClaims.{claim_number}
 use Rattle.pci_given.specs.Clashes.{claim_at, nobody, Meet, AreMeeting, AreMeetings}
 
 abbrev pub places_of : List Claimed → Places
 places_of claims = record { size = length claims; slot_at = λ k. (claim_at claims k).slot; register_at = λ k. (claim_at claims k).register }
 
-pub rising_of : (claims : List Claimed) → AllPairs (λ c d. number_of c < number_of d) claims → AreRising (places_of claims)
+pub rising_of : (claims : List Claimed) → AllPairs (λ c d. claim_number c < claim_number d) claims → AreRising (places_of claims)
 rising_of claims rising i k less within = rising i k nobody less within
 
 -- the place of the claim of a region
@@ -34,7 +34,7 @@ named_at claims c slot register (k, within, at) same_slot same_register =
     }
 
 -- the claims of two regions meet
-pub meeting_as : (claims : List Claimed) → AllPairs (λ c d. number_of c < number_of d) claims → (among : Among) (a : ℕ) (f : Slot) (r : ℕ) (g : Slot) (q : ℕ)
+pub meeting_as : (claims : List Claimed) → AllPairs (λ c d. claim_number c < claim_number d) claims → (among : Among) (a : ℕ) (f : Slot) (r : ℕ) (g : Slot) (q : ℕ)
     → (one : IsNamedAt claims f r) (other : IsNamedAt claims g q) → region_number f r < region_number g q → Meet among (claim_at claims one.k) (claim_at claims other.k) a
     → IsSharedAs (places_of claims) (AreMeeting among claims) a f r g q
 meeting_as claims rising among a f r g q one other less meet = record {

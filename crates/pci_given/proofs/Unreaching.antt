@@ -26,7 +26,7 @@ use Rattle.pci_tree.proofs.RegionParts.{window_named}
 use Rattle.given_spec.specs.Given.{Given, starts}
 use Rattle.given_spec.specs.Claims.{passes}
 use Rattle.given_spec.specs.Fault.{IsUnreached}
-use Rattle.pci_claims.specs.Outside.{IsSent, IsRootOf}
+use Rattle.pci_claims.specs.Outside.{IsSent, IsRootOfPath}
 use Rattle.pci_claims.specs.Reached.{PassesAt}
 use Rattle.pci_given.specs.Stopped.{PassesSent, IsFirstStop, IsNeverUnreached, IsUnreachedLine}
 use Rattle.pci_claims.proofs.Outsides.{range, root_is}
@@ -69,7 +69,7 @@ without_path given t space r none s tree bus on no_window sp a bridge unreached 
 
 module _ (given : Given) (t : Tree) (space : Space) (r : Region) (records : List Record) (same : map record_value records ≡ t.records) (rise : RiseBySlot records)
     (nested : (s : System) → HasRecords s t.records → IsNested t.roots s) (path : List Slot) (root : ℕ)
-    (paths : (s : System) → HasTree t s → IsPathTo t.roots s path r.slot.bus) (is_root : IsRootOf path r.slot.bus root) where
+    (paths : (s : System) → HasTree t s → IsPathTo t.roots s path r.slot.bus) (is_root : IsRootOfPath path r.slot.bus root) where
   abbrev kind : WindowKind
   kind = kind_in space r.prefetch
 

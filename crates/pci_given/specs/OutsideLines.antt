@@ -12,7 +12,7 @@ use Rattle.pci_given.specs.declared.bars_and_roms.BarOrRom.{BarOrRom}
 use Rattle.pci_given.specs.declared.outside_lines.Outside.{Outside}
 use Rattle.pci_claims.specs.Outside.{IsNeverOutside, IsOutsideLine}
 use Rattle.pci_given.specs.BarsAndRoms.{place_of}
-use Rattle.pci_claims.specs.Made.{AreMade}
+use Rattle.pci_claims.specs.Made.{AreOneEach}
 
 -- the fault, as the definitions have it
 abbrev pub outside_of : Outside → spec.Fault
@@ -32,7 +32,7 @@ IsOutsideOfOne given t b o =
 -- of each of these that has a fault 63 that fault, in their order
 abbrev pub AreOutsideLines : Given → Tree → List BarOrRom → List Outside → Type 0
 AreOutsideLines given t list lines =
-    AreMade (IsOutsideOfOne given t)
+    AreOneEach (IsOutsideOfOne given t)
     (λ b. IsNeverOutside given t (space_of b.space) b.region → ⊥) place_of
     (λ o. region_number o.slot o.reg) list lines
 

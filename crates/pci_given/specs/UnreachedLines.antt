@@ -16,7 +16,7 @@ use Rattle.given_spec.specs.Numbered.{AreAllNumbered}
 use Rattle.pci_given.specs.declared.bars_and_roms.BarOrRom.{BarOrRom}
 use Rattle.pci_given.specs.Stopped.{IsNeverUnreached, IsUnreachedLine}
 use Rattle.pci_given.specs.BarsAndRoms.{place_of}
-use Rattle.pci_claims.specs.Made.{AreMade}
+use Rattle.pci_claims.specs.Made.{AreOneEach}
 
 -- the fault of a BAR or a ROM with this address and this bridge
 abbrev pub unreached_at : BarOrRom → ℕ → Slot → Fault
@@ -37,7 +37,7 @@ IsUnreachedOfOne given t b fault =
 -- of each of these that has a fault 60 that fault, in their order
 abbrev pub AreUnreachedLines : Given → Tree → List BarOrRom → List Fault → Type 0
 AreUnreachedLines given t list lines =
-    AreMade (IsUnreachedOfOne given t)
+    AreOneEach (IsUnreachedOfOne given t)
     (λ b. IsNeverUnreached given t (space_of b.space) b.region → ⊥) place_of
     (λ f. place_of_fault (fault_of f)) list lines
 

@@ -16,9 +16,9 @@ use Rattle.pci_tree.specs.declared.region.Region.{Region}
 use Rattle.pci_claims.specs.Found.{told, IsFoundIn}
 use Rattle.pci_claims.proofs.Founds.{region_in}
 use Rattle.pci_map.specs.Values.{value_of}
-use Rattle.pci_map.specs.Inside.{is_in}
-use Rattle.pci_map.specs.Left.{NoneHas, IsFirst}
-use Rattle.pci_map.specs.Ways.{io_spot, memory_spot, prefetchable_spot, IsHolding, IsHoldingAt, IsFirstJudged, IsFirstAt}
+use Rattle.pci_map.specs.Inside.{region_has}
+use Rattle.pci_map.specs.Left.{NoneHas, IsFirstHoldingWindow}
+use Rattle.pci_map.specs.Ways.{io_spot, memory_spot, prefetchable_spot, IsHoldingWindow, IsHoldingAt, IsFirstJudged, IsFirstAt}
 use Rattle.pci_map.specs.declared.left.Judged.{Judged}
 use Rattle.pci_map.proofs.Values.{part_is}
 use Rattle.pci_map.proofs.Insides.{window_claims_of, claims_of}
@@ -37,18 +37,18 @@ module _ (s : System) (unique : (f g : Function) → Contains s f → Contains s
     register : register_of b found.part ≡ window_register k
     register = ap (λ f. register_of f found.part) (sym same) ∙ sym found.is.register ∙ found.register
 
-    claims_at : (x : ℕ) → IsTrue (is_in w x) → Claims b found.part space x
+    claims_at : (x : ℕ) → IsTrue (region_has w x) → Claims b found.part space x
     claims_at x has =
         let parts = and_parts (nat_le w.first x) (nat_le x w.last) has in
         subst (λ f. Claims f found.part space x) same ((found.is.claims x).0 (leb-true w.first x parts.0, leb-true x w.last parts.1))
 
-    part_found : IsTrue (is_in w a) → found.part ≡ system.Window k
+    part_found : IsTrue (region_has w a) → found.part ≡ system.Window k
     part_found has = part_same b found.part (system.Window k) (claims_at a has).there bridge register
 
-    claims_it : IsTrue (is_in w a) → IsTrue (window_claims b k a)
+    claims_it : IsTrue (region_has w a) → IsTrue (window_claims b k a)
     claims_it has = window_claims_of b k space a (subst (λ p. Claims b p space a) (part_found has) (claims_at a has))
 
-    first_is : IsTrue (is_in w a) → IsTrue (is_first_window space k a b) → IsFirst s space b a w
+    first_is : IsTrue (region_has w a) → IsTrue (is_first_window space k a b) → IsFirstHoldingWindow s space b a w
     first_is has first = record {
       is = found_region s slot (window_register k) space w found;
       slot = named ∙ sym found.slot_is;
@@ -72,10 +72,10 @@ module _ (s : System) (unique : (f g : Function) → Contains s f → Contains s
       not_it PrefetchWindow Memory other refl address (and_parts (window_claims b PrefetchWindow a) (not (window_claims b MemoryWindow a)) first).0
 
   module _ (roots : List ℕ) where
-    first_of : (k : WindowKind) (space : Space) (w : Judged) (h : IsHolding roots s record { slot = slot; register = window_register k; space = space } a w) → IsTrue (is_first_window space k a b) → IsFirstJudged roots s space b a w
+    first_of : (k : WindowKind) (space : Space) (w : Judged) (h : IsHoldingWindow roots s record { slot = slot; register = window_register k; space = space } a w) → IsTrue (is_first_window space k a b) → IsFirstJudged roots s space b a w
     first_of k space w h first = record { first = first_is k space w.window h.is.found h.has first; judged = h.is.judged }
 
-    claims_of_held : (k : WindowKind) (space : Space) (w : Judged) → IsHolding roots s record { slot = slot; register = window_register k; space = space } a w → IsTrue (window_claims b k a)
+    claims_of_held : (k : WindowKind) (space : Space) (w : Judged) → IsHoldingWindow roots s record { slot = slot; register = window_register k; space = space } a w → IsTrue (window_claims b k a)
     claims_of_held k space w h = claims_it k space w.window h.is.found h.has
 
     io_first : (o : Option Judged) → IsAddress Io a → IsHoldingAt roots s (io_spot slot) a o → IsFirstAt roots s Io b a o

@@ -27,8 +27,8 @@ use Rattle.pci_claims.proofs.Runs.{runs_of}
 use Rattle.pci_map.specs.Values.{kind_at, part_at, part_of, value_of}
 use Rattle.pci_map.specs.Gaps.{gaps}
 use Rattle.pci_map.specs.Above.{AreInPlace}
-use Rattle.pci_map.specs.Inside.{is_in, is_held, IsEarlier, IsInside}
-use Rattle.pci_map.specs.Walk.{AreOnBus}
+use Rattle.pci_map.specs.Inside.{region_has, is_held_first, IsEarlierWindow, AreInsideWindow}
+use Rattle.pci_map.specs.Walk.{AreRegionsOnBus}
 use Rattle.pci_map.proofs.Values.{given_region}
 use Rattle.pci_map.proofs.Covering.{by_first, some_each, covered_claims, claimed_covers}
 use Rattle.pci_map.proofs.GapRanges.{gaps_to, gaps_from, gaps_canonical}
@@ -48,15 +48,15 @@ kind_in (system.Bar n) = IoWindow
 kind_in system.Rom = IoWindow
 kind_in (system.Window k) = k
 
-in_true : (q : Region) (a : ℕ) → q.first ≤ a → a ≤ q.last → is_in q a ≡ true
+in_true : (q : Region) (a : ℕ) → q.first ≤ a → a ≤ q.last → region_has q a ≡ true
 in_true q a low high = and_from (nat_le q.first a) (nat_le a q.last) (le-leb q.first a low) (le-leb a q.last high)
 
-true_in : (q : Region) (a : ℕ) → is_in q a ≡ true → (q.first ≤ a) × (a ≤ q.last)
+true_in : (q : Region) (a : ℕ) → region_has q a ≡ true → (q.first ≤ a) × (a ≤ q.last)
 true_in q a is = let parts = and_parts (nat_le q.first a) (nat_le a q.last) is in (leb-true q.first a parts.0, leb-true a q.last parts.1)
 
-pub held_in : (w : Region) (o : Option Region) (q : Region) → is_held w o q ≡ true → (w.first ≤ q.first) × (q.first ≤ w.last)
+pub held_in : (w : Region) (o : Option Region) (q : Region) → is_held_first w o q ≡ true → (w.first ≤ q.first) × (q.first ≤ w.last)
 held_in w None q held = true_in w q.first held
-held_in w (Some other) q held = true_in w q.first (and_parts (is_in w q.first) (not (is_in other q.first)) held).0
+held_in w (Some other) q held = true_in w q.first (and_parts (region_has w q.first) (not (region_has other q.first)) held).0
 
 module _ (s : System) (space : Space) (w : Region) (iw : IsRegionIn s (value_of space w)) (window : w.part ≡ Window)
     (unique : (f g : Function) → Contains s f → Contains s g → f.slot ≡ g.slot → f ≡ g) where
@@ -85,15 +85,15 @@ module _ (s : System) (space : Space) (w : Region) (iw : IsRegionIn s (value_of 
   registered = ap (λ p. register_of b p) (sym part_kind) ∙ iw.register
 
   -- the memory window doesn't claim what the prefetchable one is left
-  not_earlier : (o : Option Region) → MatchOption o (NoneClaims s w.slot MEMORY_BASE space) (λ q. IsFoundIn s w.slot MEMORY_BASE space q) → (q : Region) → is_held w o q ≡ true
+  not_earlier : (o : Option Region) → MatchOption o (NoneClaims s w.slot MEMORY_BASE space) (λ q. IsFoundIn s w.slot MEMORY_BASE space q) → (q : Region) → is_held_first w o q ≡ true
       → Claims b (system.Window MemoryWindow) space q.first → ⊥
   not_earlier None none q held claims = none b (system.Window MemoryWindow) q.first iw.listed iw.slot refl claims
   not_earlier (Some other) found q held claims =
       let at = found.all b (system.Window MemoryWindow) q.first iw.listed iw.slot refl claims in
-      let parts = and_parts (is_in w q.first) (not (is_in other q.first)) held in
-      both_ways (not (is_in other q.first)) (ap not (in_true other q.first at.0 at.1)) parts.1
+      let parts = and_parts (region_has w q.first) (not (region_has other q.first)) held in
+      both_ways (not (region_has other q.first)) (ap not (in_true other q.first at.0 at.1)) parts.1
 
-  first_from : (k : WindowKind) → window_register k ≡ w.reg → window_space k ≡ space → (o : Option Region) → IsEarlier s space w o → (q : Region) → is_held w o q ≡ true
+  first_from : (k : WindowKind) → window_register k ≡ w.reg → window_space k ≡ space → (o : Option Region) → IsEarlierWindow s space w o → (q : Region) → is_held_first w o q ≡ true
       → IsTrue (window_claims b k q.first) → IsAddress space q.first → IsTrue (is_first_window space k q.first b)
   first_from IoWindow register maps o early q held claims address = subst (λ x. IsTrue (is_first_window x IoWindow q.first b)) maps claims
   first_from MemoryWindow register maps o early q held claims address = subst (λ x. IsTrue (is_first_window x MemoryWindow q.first b)) maps claims
@@ -105,7 +105,7 @@ module _ (s : System) (space : Space) (w : Region) (iw : IsRegionIn s (value_of 
         | inr none ↦ and_from (window_claims b PrefetchWindow q.first) (not (window_claims b MemoryWindow q.first)) claims (ap not none)
       ])
 
-  pub belongs : (bus : ℕ) (o : Option Region) → secondary b ≡ bus → IsEarlier s space w o → (q : Region) → IsRegionOn s bus space q → is_held w o q ≡ true
+  pub belongs : (bus : ℕ) (o : Option Region) → secondary b ≡ bus → IsEarlierWindow s space w o → (q : Region) → IsRegionOn s bus space q → is_held_first w o q ≡ true
       → BelongsUnder s (value_of space w) (value_of space q)
   belongs bus o leads early q on held =
       let at = held_in w o q held in
@@ -121,7 +121,7 @@ module _ (s : System) (space : Space) (w : Region) (iw : IsRegionIn s (value_of 
       }
 
   -- where an earlier window is looked for, this is the prefetchable one
-  is_prefetch : (k : WindowKind) → window_register k ≡ w.reg → (o : Option Region) (other : Region) → o ≡ Some other → IsEarlier s space w o → k ≡ PrefetchWindow
+  is_prefetch : (k : WindowKind) → window_register k ≡ w.reg → (o : Option Region) (other : Region) → o ≡ Some other → IsEarlierWindow s space w o → k ≡ PrefetchWindow
   is_prefetch IoWindow register o other is early =
       let none : o ≡ None = subst (λ r. MatchBool (r == PREFETCHABLE_BASE) (MatchOption o (NoneClaims s w.slot MEMORY_BASE space) (λ p. IsFoundIn s w.slot MEMORY_BASE space p)) (o ≡ None)) (sym register) early in
       absurd (none-some other (sym none ∙ is))
@@ -139,8 +139,8 @@ module _ (s : System) (space : Space) (w : Region) (iw : IsRegionIn s (value_of 
       let part : found.part ≡ system.Window MemoryWindow = part_same b found.part (system.Window MemoryWindow) claims.there is_a_bridge register in
       window_claims_of b MemoryWindow space a (subst (λ p. Claims b p space a) part claims)
 
-  held_by : (o : Option Region) → IsEarlier s space w o → (a : ℕ) (q : Region) → q.first ≡ a → IsTrue (is_first_window space kind a b) → is_in w a ≡ true → is_held w o q ≡ true
-  held_by None early a q at first inside = ap (is_in w) at ∙ inside
+  held_by : (o : Option Region) → IsEarlierWindow s space w o → (a : ℕ) (q : Region) → q.first ≡ a → IsTrue (is_first_window space kind a b) → region_has w a ≡ true → is_held_first w o q ≡ true
+  held_by None early a q at first inside = ap (region_has w) at ∙ inside
   held_by (Some other) early a q at first inside =
       let prefetch : kind ≡ PrefetchWindow = is_prefetch kind registered (Some other) other refl early in
       let register : w.reg ≡ PREFETCHABLE_BASE = sym registered ∙ ap window_register prefetch in
@@ -150,14 +150,14 @@ module _ (s : System) (space : Space) (w : Region) (iw : IsRegionIn s (value_of 
       let left : IsTrue (window_claims b PrefetchWindow a && not (window_claims b MemoryWindow a)) =
       subst (λ x. IsTrue (is_first_window x PrefetchWindow a b)) (sym maps) (subst (λ k. IsTrue (is_first_window space k a b)) prefetch first) in
       let not_memory = (and_parts (window_claims b PrefetchWindow a) (not (window_claims b MemoryWindow a)) left).1 in
-      ap (λ n. is_in w n && not (is_in other n)) at
-      ∙ and_from (is_in w a) (not (is_in other a)) inside (elim (cases_Bool (is_in other a)) [
+      ap (λ n. region_has w n && not (region_has other n)) at
+      ∙ and_from (region_has w a) (not (region_has other a)) inside (elim (cases_Bool (region_has other a)) [
         | inl has ↦ (let at_other = true_in other a has in
             absurd (both_ways (not (window_claims b MemoryWindow a)) (ap not (earlier_claims other a found at_other.0 at_other.1)) not_memory))
         | inr hasnt ↦ ap not hasnt
       ])
 
-  pub held_from : (bus : ℕ) (o : Option Region) → IsEarlier s space w o → (q : Region) → IsRegionOn s bus space q → BelongsUnder s (value_of space w) (value_of space q) → is_held w o q ≡ true
+  pub held_from : (bus : ℕ) (o : Option Region) → IsEarlierWindow s space w o → (q : Region) → IsRegionOn s bus space q → BelongsUnder s (value_of space w) (value_of space q) → is_held_first w o q ≡ true
   held_from bus o early q on u =
       let same : u.b ≡ b = unique u.b b u.listed iw.listed (u.slot ∙ sym iw.slot) in
       let kinds : u.kind ≡ kind = sym (ap kind_in (sym part_kind ∙ u.window)) in
@@ -182,23 +182,23 @@ module _ (s : System) (space : Space) (w : Region) (iw : IsRegionIn s (value_of 
       λ free. gaps_from (range_at w) 0 (map range_at qs) a free.held (omega arith) (λ covered. free.unclaimed b iw.listed iw.slot (subst (λ n. IsClaimedOn s n space a) (sym leads) (covered_claims s space bus qs sorted a covered))),
     ))
 
-    pub inside_is : (given : Given) (roots : List ℕ) (o : Option Region) (out : List Region) → IsEarlier s space w o → w.slot.bus < bus → AreInPlace given roots s space (filter (is_held w o) qs) out
-        → IsInside record { given = given; roots = roots; system = s; space = space } w bus out runs
+    pub inside_is : (given : Given) (roots : List ℕ) (o : Option Region) (out : List Region) → IsEarlierWindow s space w o → w.slot.bus < bus → AreInPlace given roots s space (filter (is_held_first w o) qs) out
+        → AreInsideWindow record { given = given; roots = roots; system = s; space = space } w bus out runs
     inside_is given roots o out early rises placed = record {
       rises = rises;
-      each = λ q has. sorted.each q (in_filter_to (is_held w o) qs q (placed.each q has)).0;
-      belong = λ q has. (let kept = in_filter_to (is_held w o) qs q (placed.each q has) in belongs bus o leads early q (sorted.each q kept.0) kept.1);
+      each = λ q has. sorted.each q (in_filter_to (is_held_first w o) qs q (placed.each q has)).0;
+      belong = λ q has. (let kept = in_filter_to (is_held_first w o) qs q (placed.each q has) in belongs bus o leads early q (sorted.each q kept.0) kept.1);
       within = placed.within;
       complete = λ v is same under in_place. (
           let on : v.slot.bus ≡ bus = sym under.leads ∙ ap secondary (unique under.b b under.listed iw.listed (under.slot ∙ sym iw.slot)) ∙ leads in
           let found = given_region s bus space qs v sorted.complete is on same in
           let kept = held_from bus o early found.0 (sorted.each found.0 found.1) (subst (λ x. BelongsUnder s (value_of space w) x) (sym found.2) under) in
-          let has = placed.complete found.0 (in_filter_from (is_held w o) qs found.0 found.1 kept) (λ out_of. in_place (subst (λ x. IsOutOfPlace given roots s x) found.2 out_of)) in
+          let has = placed.complete found.0 (in_filter_from (is_held_first w o) qs found.0 found.1 kept) (λ out_of. in_place (subst (λ x. IsOutOfPlace given roots s x) found.2 out_of)) in
           subst (λ x. Contains (map (value_of space) out) x) found.2 (in_map_from (value_of space) out found.0 has));
-      sorted = placed.sorted (pairs_filter IsBefore (is_held w o) qs sorted.sorted);
+      sorted = placed.sorted (pairs_filter IsBefore (is_held_first w o) qs sorted.sorted);
       free = free_runs_are;
     }
 
 -- what is held of a bus is of the bus
-pub held_on : (s : System) (space : Space) (bus : ℕ) (qs : List Region) → AreSortedRegionsOf s bus space qs → (held : List Region) (keeps : Region → Bool) → held ≡ filter keeps qs → AreOnBus s bus space held
+pub held_on : (s : System) (space : Space) (bus : ℕ) (qs : List Region) → AreSortedRegionsOf s bus space qs → (held : List Region) (keeps : Region → Bool) → held ≡ filter keeps qs → AreRegionsOnBus s bus space held
 held_on s space bus qs sorted held keeps is q has = sorted.each q (in_filter_to keeps qs q (subst (λ xs. Contains xs q) is has)).0

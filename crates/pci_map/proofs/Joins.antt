@@ -7,12 +7,12 @@ use Rattle.pci_spec.specs.Decoded as decoded
 use Rattle.pci_spec.specs.Why as why
 use Rattle.given_spec.specs.Given.{Given}
 use Rattle.map_spec.specs.Lines.{Lines, End, Free, Sits, AreAllInside}
-use Rattle.map_spec.specs.MapText.{free_line, region_line, lines_text}
+use Rattle.map_spec.specs.MapText.{free_line, map_region_line, lines_text}
 use Rattle.pci_base.specs.declared.range.Range.{Range}
 use Rattle.pci_base.specs.Ranges.{decoded_range_of}
 use Rattle.pci_tree.specs.declared.region.Region.{Region}
 use Rattle.pci_map.specs.Values.{Mapped, value_of}
-use Rattle.pci_map.specs.Walk.{ahead, Entry, Run, At, entries, run_entries, merged, IsPlaced, IsSeated}
+use Rattle.pci_map.specs.Walk.{ahead, Entry, Run, At, entries, run_entries, merged, ArePlacesWritten, IsSeated}
 
 abbrev joined : Lines → Lines → Lines
 joined End more = more
@@ -48,18 +48,18 @@ text_joined depth space (Free r rest) more =
     ap (λ t. free_line depth space r ++ t) (text_joined depth space rest more)
     ∙ sym (append_assoc (free_line depth space r) (lines_text depth space rest) (lines_text depth space more))
 text_joined depth space (Sits q inside rest) more =
-    ap (λ t. region_line depth q ++ (lines_text (suc depth) space inside ++ t)) (text_joined depth space rest more)
-    ∙ ap (λ t. region_line depth q ++ t) (sym (append_assoc (lines_text (suc depth) space inside) (lines_text depth space rest) (lines_text depth space more)))
-    ∙ sym (append_assoc (region_line depth q) (lines_text (suc depth) space inside ++ lines_text depth space rest) (lines_text depth space more))
+    ap (λ t. map_region_line depth q ++ (lines_text (suc depth) space inside ++ t)) (text_joined depth space rest more)
+    ∙ ap (λ t. map_region_line depth q ++ t) (sym (append_assoc (lines_text (suc depth) space inside) (lines_text depth space rest) (lines_text depth space more)))
+    ∙ sym (append_assoc (map_region_line depth q) (lines_text (suc depth) space inside ++ lines_text depth space rest) (lines_text depth space more))
 
 text_free : (depth : ℕ) (space : Space) (rs : List decoded.Range) → lines_text depth space (free_lines rs) ≡ flat_map (free_line depth space) rs
 unfolding lines_text
 text_free depth space [] = refl
 text_free depth space (r ∷ rs) = ap (λ t. free_line depth space r ++ t) (text_free depth space rs)
 
-text_seat : (depth : ℕ) (space : Space) (q : why.Region) (inside : Lines) → lines_text depth space (Sits q inside End) ≡ region_line depth q ++ lines_text (suc depth) space inside
+text_seat : (depth : ℕ) (space : Space) (q : why.Region) (inside : Lines) → lines_text depth space (Sits q inside End) ≡ map_region_line depth q ++ lines_text (suc depth) space inside
 unfolding lines_text
-text_seat depth space q inside = ap (λ t. region_line depth q ++ t) (append-nil (lines_text (suc depth) space inside))
+text_seat depth space q inside = ap (λ t. map_region_line depth q ++ t) (append-nil (lines_text (suc depth) space inside))
 
 -- ---- some lines, and those that come
 
@@ -117,7 +117,7 @@ module _ (given : Given) (roots : List ℕ) (s : System) (space : Space) (depth 
 
   -- the runs behind the last region
   pub last_runs : (now new : List ℕ) (none : List Region) (left : List Range) → none ≡ [] → IsPartly the_space depth all (merged space none left) old now
-      → new ≡ now ++ flat_map (free_line depth space) (map decoded_range_of left) → IsPlaced the_space depth all old new
+      → new ≡ now ++ flat_map (free_line depth space) (map decoded_range_of left) → ArePlacesWritten the_space depth all old new
   unfolding merged
   last_runs now new none left is_none partly text =
       let split : IsPartly the_space depth all (run_entries left) old now = subst (λ h. IsPartly the_space depth all (merged space h left) old now) is_none partly in

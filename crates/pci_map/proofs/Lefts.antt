@@ -13,11 +13,11 @@ use Rattle.pci_spec.specs.Decoded.{InRange}
 use Rattle.pci_spec.specs.Why as why
 use Rattle.pci_spec.specs.Why.{IsRegionIn}
 use Rattle.map_spec.specs.Lines.{is_first_window, BelongsUnder}
-use Rattle.map_spec.specs.Map.{HasWay, IsLeft}
+use Rattle.map_spec.specs.Map.{HasWay, IsOutsideWindows}
 use Rattle.map_spec.proofs.Having.{window_has_space}
 use Rattle.pci_tree.specs.declared.region.Region.{Region}
 use Rattle.pci_map.specs.Values.{value_of}
-use Rattle.pci_map.specs.Left.{IsBridgeAbove, IsFirst, IsLeftIf}
+use Rattle.pci_map.specs.Left.{IsSlotAbove, IsFirstHoldingWindow, IsLeftIf}
 use Rattle.pci_map.specs.Ways.{IsFirstJudged, AreAbove, IsWayTo, AreWays}
 use Rattle.pci_map.specs.declared.left.Judged.{Judged}
 use Rattle.pci_map.specs.declared.left.Windows.{Windows}
@@ -89,7 +89,7 @@ module _ (roots : List ℕ) (s : System) (space : Space) (q : Region) where
   pub windows_above : (bus : ℕ) (ws : Windows) → IsWayTo roots s bus (Some ws) → IsRegionIn s v → q.slot.bus ≡ bus → AreAbove roots s bus ws
   windows_above bus ws way is on = way is.f is.listed (on_bus bus is on)
 
-  module _ (bus a : ℕ) (on : q.slot.bus ≡ bus) (at : q.first ≡ a) (x : Slot) (above : IsBridgeAbove roots s bus x) where
+  module _ (bus a : ℕ) (on : q.slot.bus ≡ bus) (at : q.first ≡ a) (x : Slot) (above : IsSlotAbove roots s bus x) where
     -- the bridge that a region belongs under
     the_bridge : AreOne s → (p : why.Region) (under : BelongsUnder s p v) → under.b ≡ above.b
     the_bridge unique p under = unique under.b above.b under.listed above.leads.0 (above.only under.b (under.listed, under.bridge, under.leads ∙ on) ∙ sym above.named)
@@ -98,18 +98,18 @@ module _ (roots : List ℕ) (s : System) (space : Space) (q : Region) where
     first_there unique p under =
         subst (λ n. IsTrue (is_first_window space under.kind n above.b)) at (subst (λ f. IsTrue (is_first_window space under.kind q.first f)) (the_bridge unique p under) under.first)
 
-    pub left_none : AreOne s → ((kind : WindowKind) → IsTrue (is_first_window space kind a above.b) → ⊥) → IsLeft roots s v
+    pub left_none : AreOne s → ((kind : WindowKind) → IsTrue (is_first_window space kind a above.b) → ⊥) → IsOutsideWindows roots s v
     left_none unique none [] way = above.off_root (subst (Contains roots) on way)
     left_none unique none (p ∷ windows) (is, under, way) = none under.kind (first_there unique p under)
 
-    module _ (w : Region) (first : IsFirst s space above.b a w) where
+    module _ (w : Region) (first : IsFirstHoldingWindow s space above.b a w) where
       the_window : AreOne s → (p : why.Region) → IsRegionIn s p → IsRegionIn s v → BelongsUnder s p v → p ≡ value_of space w
       the_window unique p is of under =
           let kind : under.kind ≡ first.kind = kinds space under.kind first.kind a above.b (first_there unique p under) first.first in
           region_same s unique p (value_of space w) is first.is (sym under.slot ∙ ap (λ (f : Function). f.slot) (the_bridge unique p under) ∙ first.slot)
           (under.window ∙ ap system.Window kind ∙ sym first.window) (window_has_space s p v is under)
 
-      left_below : AreOne s → IsRegionIn s v → IsLeft roots s (value_of space w) → IsLeft roots s v
+      left_below : AreOne s → IsRegionIn s v → IsOutsideWindows roots s (value_of space w) → IsOutsideWindows roots s v
       left_below unique of left [] way = above.off_root (subst (Contains roots) on way)
       left_below unique of left (p ∷ windows) (is, under, way) = left windows (subst (λ z. HasWay roots s z windows) (the_window unique p is of under) way)
 

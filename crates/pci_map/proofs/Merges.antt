@@ -12,7 +12,7 @@ use Rattle.pci_spec.specs.Why.{IsRegionIn, IsRun, AreRuns}
 use Rattle.pci_spec.proofs.Members.{IsMade, in_nil, in_cons_cases, in_head, in_tail, in_map_to, in_map_from, pairs_nil, pairs_cons, pairs_head, pairs_tail, pairs_append, pairs_map}
 use Rattle.given_spec.specs.Given.{Given}
 use Rattle.map_spec.specs.Lines as spec
-use Rattle.map_spec.specs.Lines.{Lines, End, Free, Sits, Place, Mark, region_mark, run_mark, marks, regions_at, runs_at, StandsAt, IsOutOfPlace, IsFreeAt, AreLinesAt}
+use Rattle.map_spec.specs.Lines.{Lines, End, Free, Sits, MapPlace, Mark, region_mark, run_mark, marks, regions_at, runs_at, StandsInPlace, IsOutOfPlace, IsFreeInPlace, AreLinesAt}
 use Rattle.pci_base.specs.declared.range.Range.{Range}
 use Rattle.pci_base.specs.Ranges.{decoded_range_of}
 use Rattle.pci_tree.specs.declared.region.Region.{Region}
@@ -140,7 +140,7 @@ split end (r ∷ rs) up = elim (cases_Bool (nat_le end r.first)) [
 -- ---- order
 
 abbrev Before : Entry → Entry → Type 0
-Before e f = spec.IsBefore (mark e) (mark f)
+Before e f = spec.MarkIsBefore (mark e) (mark f)
 
 runs_rise : (rs : List Range) → Rises rs → AllPairs Before (run_entries rs)
 runs_rise rs up =
@@ -158,7 +158,7 @@ less a b low other = elim (cases_lt a b) [
   | inr ge ↦ absurd (other (omega (arith, low, ge)))
 ]
 
-first_after : (n : ℕ) (m k : Mark) → n < m.first → spec.IsBefore m k → n < k.first
+first_after : (n : ℕ) (m k : Mark) → n < m.first → spec.MarkIsBefore m k → n < k.first
 first_after n m k low before = elim before [
   | inl less ↦ omega (arith, low, less)
   | inr same ↦ (let e = same.0 in omega (arith, low, e))
@@ -230,12 +230,12 @@ module _ (P : ℕ → Type 0) (rs : List Range) (free : AreRuns P (map decoded_r
       (free.rising i j (decoded_range_of d) lt (omega (arith, within, long)))) in
       omega (arith, some, past))
 
-pub lines_are : (given : Given) (roots : List ℕ) (s : System) (space : Space) (place : Place) (lines : Lines) (qs : List Region) (rs : List Range) → entries lines ≡ merged space qs rs
-    → ((q : Region) → Contains qs q → IsRegionIn s (value_of space q)) → ((q : Region) → Contains qs q → StandsAt s place (value_of space q))
+pub lines_are : (given : Given) (roots : List ℕ) (s : System) (space : Space) (place : MapPlace) (lines : Lines) (qs : List Region) (rs : List Range) → entries lines ≡ merged space qs rs
+    → ((q : Region) → Contains qs q → IsRegionIn s (value_of space q)) → ((q : Region) → Contains qs q → StandsInPlace s place (value_of space q))
     → ((q : Region) → Contains qs q → IsOutOfPlace given roots s (value_of space q) → ⊥)
-    → ((v : why.Region) → IsRegionIn s v → v.space ≡ space → StandsAt s place v → (IsOutOfPlace given roots s v → ⊥) → Contains (map (value_of space) qs) v)
-    → AreRuns (IsFreeAt given s space place) (map decoded_range_of rs) → AllPairs tree.IsBefore qs
-    → ((q : Region) (a : ℕ) → Contains qs q → a ≡ q.first → IsFreeAt given s space place a → ⊥) → AreLinesAt given roots s space place lines
+    → ((v : why.Region) → IsRegionIn s v → v.space ≡ space → StandsInPlace s place v → (IsOutOfPlace given roots s v → ⊥) → Contains (map (value_of space) qs) v)
+    → AreRuns (IsFreeInPlace given s space place) (map decoded_range_of rs) → AllPairs tree.IsBefore qs
+    → ((q : Region) (a : ℕ) → Contains qs q → a ≡ q.first → IsFreeInPlace given s space place a → ⊥) → AreLinesAt given roots s space place lines
 lines_are given roots s space place lines qs rs is each stand within complete free sorted apart =
     let here : regions_at lines ≡ map (value_of space) qs = seats_of lines ∙ ap seats is ∙ merged_seats space qs rs in
     let runs_here : runs_at lines ≡ map decoded_range_of rs = runs_of lines ∙ ap runs is ∙ merged_runs space qs rs in
@@ -244,11 +244,11 @@ lines_are given roots s space place lines qs rs is each stand within complete fr
     record {
       regions = λ v has. (let made = from v has in subst (IsRegionIn s) made.is (each made.from made.has));
       of_space = λ v has. (let made = from v has in sym (ap (λ (x : why.Region). x.space) made.is));
-      stand = λ v has. (let made = from v has in subst (StandsAt s place) made.is (stand made.from made.has));
+      stand = λ v has. (let made = from v has in subst (StandsInPlace s place) made.is (stand made.from made.has));
       within = λ v has. (let made = from v has in subst (λ (x : why.Region). IsOutOfPlace given roots s x → ⊥) made.is (within made.from made.has));
       complete = λ v is_in same at in_place. subst (λ vs. Contains vs v) (sym here) (complete v is_in same at in_place);
-      free = subst (AreRuns (IsFreeAt given s space place)) (sym runs_here) free;
-      rising = subst (AllPairs spec.IsBefore) (sym (marks_of lines ∙ ap (map mark) is))
-          (pairs_map spec.IsBefore mark (merged space qs rs) (merged_rises space qs rs sorted (first_rises (IsFreeAt given s space place) rs free) (λ q r in_qs in_rs same.
-          apart q r.first in_qs (sym same) (first_free (IsFreeAt given s space place) rs free r in_rs))));
+      free = subst (AreRuns (IsFreeInPlace given s space place)) (sym runs_here) free;
+      rising = subst (AllPairs spec.MarkIsBefore) (sym (marks_of lines ∙ ap (map mark) is))
+          (pairs_map spec.MarkIsBefore mark (merged space qs rs) (merged_rises space qs rs sorted (first_rises (IsFreeInPlace given s space place) rs free) (λ q r in_qs in_rs same.
+          apart q r.first in_qs (sym same) (first_free (IsFreeInPlace given s space place) rs free r in_rs))));
     }

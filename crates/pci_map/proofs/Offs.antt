@@ -11,7 +11,7 @@ use Rattle.pci_spec.specs.Decoded.{Range, DecodedBar, Record, HasRecords, record
 use Rattle.pci_spec.specs.Listing.{kind_space}
 use Rattle.pci_spec.specs.Why.{off_bars}
 use Rattle.pci_spec.proofs.Members.{in_head, in_flat_map_to, in_map_to}
-use Rattle.map_spec.specs.MapText.{indent, part_name, extent_line, under_heading, off_line, off_lines_of, off_text}
+use Rattle.map_spec.specs.MapText.{indent, part_name, extent_line, under_heading, map_off_line, map_off_lines_of, map_off_text}
 use Rattle.pci_tree.proofs.Regions.{on_same}
 use Rattle.pci_map.specs.Off.{section, off_bars_text, off_record}
 
@@ -30,26 +30,26 @@ off_pushed old new slot reg n space other prefetch range pushed same =
 abbrev whole : List (List ℕ) → List ℕ
 whole lines = flat_map (λ text. text) lines
 
-one_more : (on : Bool) (slot : Slot) (b : DecodedBar) (rest : List DecodedBar) (text : List ℕ) → text ≡ whole (map (off_line slot) rest)
-    → (if on then [] else off_line slot b) ++ text ≡ whole (map (off_line slot) (if not on then b ∷ rest else rest))
+one_more : (on : Bool) (slot : Slot) (b : DecodedBar) (rest : List DecodedBar) (text : List ℕ) → text ≡ whole (map (map_off_line slot) rest)
+    → (if on then [] else map_off_line slot b) ++ text ≡ whole (map (map_off_line slot) (if not on then b ∷ rest else rest))
 one_more true slot b rest text e = e
-one_more false slot b rest text e = ap (λ t. off_line slot b ++ t) e
+one_more false slot b rest text e = ap (λ t. map_off_line slot b ++ t) e
 
 abbrev is_off : Function → DecodedBar → Bool
 is_off f b = not (is_space_on f (kind_space b.kind))
 
-off_of_some : (f : Function) (bars : List DecodedBar) → off_bars_text f.slot (command f.image) bars ≡ whole (map (off_line f.slot) (filter (is_off f) bars))
+off_of_some : (f : Function) (bars : List DecodedBar) → off_bars_text f.slot (command f.image) bars ≡ whole (map (map_off_line f.slot) (filter (is_off f) bars))
 off_of_some f [] = refl
 off_of_some f (b ∷ bars) =
-    ap (λ on. (if on then [] else off_line f.slot b) ++ off_bars_text f.slot (command f.image) bars) (sym (on_same f (kind_space b.kind)))
+    ap (λ on. (if on then [] else map_off_line f.slot b) ++ off_bars_text f.slot (command f.image) bars) (sym (on_same f (kind_space b.kind)))
     ∙ one_more (is_space_on f (kind_space b.kind)) f.slot b (filter (is_off f) bars) (off_bars_text f.slot (command f.image) bars) (off_of_some f bars)
 
-off_of_all : (s : System) → flat_map off_record (map record_of s) ≡ whole (flat_map off_lines_of s)
+off_of_all : (s : System) → flat_map off_record (map record_of s) ≡ whole (flat_map map_off_lines_of s)
 off_of_all [] = refl
 off_of_all (f ∷ s) =
     ap (λ t. t ++ flat_map off_record (map record_of s)) (off_of_some f (decoded_bars f.image f.probe))
-    ∙ ap (λ t. whole (off_lines_of f) ++ t) (off_of_all s)
-    ∙ sym (flat_map-append (λ text. text) (off_lines_of f) (flat_map off_lines_of s))
+    ∙ ap (λ t. whole (map_off_lines_of f) ++ t) (off_of_all s)
+    ∙ sym (flat_map-append (λ text. text) (map_off_lines_of f) (flat_map map_off_lines_of s))
 
 -- ---- below a heading
 
@@ -67,18 +67,18 @@ section_of heading (line ∷ lines) each =
     let set = each line (in_head line lines) in
     subst (λ l. section heading (whole (l ∷ lines)) ≡ under_heading heading (l ∷ lines)) (sym set.1) refl
 
-off_set : (s : System) (line : List ℕ) → Contains (flat_map off_lines_of s) line → IsSet line
+off_set : (s : System) (line : List ℕ) → Contains (flat_map map_off_lines_of s) line → IsSet line
 off_set s line has =
-    let of = in_flat_map_to off_lines_of s line has in
-    let made = in_map_to (off_line of.of.slot) (off_bars of.of) line of.piece in
+    let of = in_flat_map_to map_off_lines_of s line has in
+    let made = in_map_to (map_off_line of.of.slot) (off_bars of.of) line of.piece in
     subst IsSet made.is (extent_set (kind_space made.from.kind) made.from.range (part_name (Bar 0) made.from.prefetchable ∷ slot_text of.of.slot ∷ hex_byte made.from.register ∷ []))
 
 -- of a system with these records
-pub off_of_system : (s : System) (records : List Record) → HasRecords s records → section (codes "off") (flat_map off_record records) ≡ off_text s
+pub off_of_system : (s : System) (records : List Record) → HasRecords s records → section (codes "off") (flat_map off_record records) ≡ map_off_text s
 off_of_system s records has =
     ap (λ rs. section (codes "off") (flat_map off_record rs)) (sym has.same)
     ∙ ap (section (codes "off")) (off_of_all s)
-    ∙ section_of (codes "off") (flat_map off_lines_of s) (off_set s)
+    ∙ section_of (codes "off") (flat_map map_off_lines_of s) (off_set s)
 
 pub section_none : (heading below text : List ℕ) → below ≡ [] → text ≡ text ++ section heading below
 section_none heading below text none = sym (ap (λ b. text ++ section heading b) none ∙ append-nil text)

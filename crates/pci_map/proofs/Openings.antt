@@ -23,7 +23,7 @@ use Rattle.pci_claims.proofs.Founds.{none_without_record}
 use Rattle.pci_map.specs.Values.{part_of, value_of}
 use Rattle.pci_map.specs.Gaps.{gaps}
 use Rattle.pci_map.specs.Above.{AreInPlace}
-use Rattle.pci_map.specs.Inside.{is_held, IsEarlier, IsInside}
+use Rattle.pci_map.specs.Inside.{is_held_first, IsEarlierWindow, AreInsideWindow}
 use Rattle.pci_map.proofs.Insides.{is_a_bridge, inside_is}
 
 module _ (s : System) (rs : List Record) (space : Space) (w : Region) (has : Has s rs) (iw : IsRegionIn s (value_of space w)) where
@@ -47,8 +47,8 @@ module _ (s : System) (rs : List Record) (space : Space) (w : Region) (has : Has
     pub no_bridge : r.bridge ≡ None → ⊥
     no_bridge none = false≢true (sym (ap is_some none) ∙ same_bridge r iw.f stands_for ∙ bridge_is)
 
-    pub opened : (given : Given) (roots : List ℕ) (b : Bridge) (o : Option Region) (qs out : List Region) → IsNested roots s → r.bridge ≡ Some b → IsEarlier s space w o → AreSortedRegionsOf s b.secondary space qs
-        → AreInPlace given roots s space (filter (is_held w o) qs) out → IsInside record { given = given; roots = roots; system = s; space = space } w b.secondary out (gaps (range_at w) 0 (map range_at qs))
+    pub opened : (given : Given) (roots : List ℕ) (b : Bridge) (o : Option Region) (qs out : List Region) → IsNested roots s → r.bridge ≡ Some b → IsEarlierWindow s space w o → AreSortedRegionsOf s b.secondary space qs
+        → AreInPlace given roots s space (filter (is_held_first w o) qs) out → AreInsideWindow record { given = given; roots = roots; system = s; space = space } w b.secondary out (gaps (range_at w) 0 (map range_at qs))
     opened given roots b o qs out nested is early sorted placed =
         let leads : secondary iw.f ≡ b.secondary = sym (same_secondary r iw.f stands_for bridge_is) ∙ ap secondary_in is in
         let rises : iw.f.slot.bus < secondary iw.f = ((bus_order_means iw.f).0 (nested.order iw.f iw.listed bridge_is)).1 in

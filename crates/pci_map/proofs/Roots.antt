@@ -11,7 +11,7 @@ use Rattle.pci_spec.specs.Bus.{is_root}
 use Rattle.pci_spec.proofs.Members.{in_nil, in_cons_cases}
 use Rattle.pci_spec.proofs.BusRanges.{root_means}
 use Rattle.given_spec.specs.Given.{Given}
-use Rattle.map_spec.specs.Map.{Root, IsRootOf}
+use Rattle.map_spec.specs.Map.{MapRoot, IsRootOfMap}
 use Rattle.map_spec.specs.MapText.{space_lines, root_text}
 use Rattle.pci_map.specs.Walk.{IsSpaceTold}
 use Rattle.pci_map.specs.Buses.{AreRootsTold}
@@ -31,11 +31,11 @@ module _ (given : Given) (roots : List ℕ) (s : System) where
   pub told_root : (bus : ℕ) (old mid new : List ℕ) → is_root roots bus ≡ true → IsSpaceTold record { given = given; roots = roots; system = s; space = Io } bus old mid → IsSpaceTold record { given = given; roots = roots; system = s; space = Memory } bus mid new
       → AreRootsTold given roots s (bus ∷ []) old new
   told_root bus old mid new root io memory =
-      let one : Root = record { bus = bus; io = io.lines; memory = memory.lines } in record {
+      let one : MapRoot = record { bus = bus; io = io.lines; memory = memory.lines } in record {
         told = one ∷ [];
         buses = ap (λ b. cond b (bus ∷ []) []) (sym root);
         each = λ r has. elim (in_cons_cases one [] r has) [
-          | inl here ↦ subst (IsRootOf given roots s) here (record { io = io.are; memory = memory.are })
+          | inl here ↦ subst (IsRootOfMap given roots s) here (record { io = io.are; memory = memory.are })
           | inr none ↦ absurd (in_nil r none)
         ];
         text = memory.text ∙ ap (λ t. t ++ space_lines bus Memory memory.lines) io.text
@@ -47,7 +47,7 @@ module _ (given : Given) (roots : List ℕ) (s : System) where
   told_both buses more old mid new first second = record {
     told = first.told ++ second.told;
     buses = map-append (λ root. root.bus) first.told second.told
-        ∙ ap (λ bs. bs ++ map (λ (root : Root). root.bus) second.told) first.buses
+        ∙ ap (λ bs. bs ++ map (λ (root : MapRoot). root.bus) second.told) first.buses
         ∙ ap (λ bs. filter (is_root roots) buses ++ bs) second.buses
         ∙ sym (filter-append (is_root roots) buses more);
     each = λ root has. elim (Contains-append_cases first.told second.told root has) [

@@ -9,7 +9,7 @@ use Rattle.pci_spec.specs.Why.{AreRuns}
 use Rattle.pci_spec.proofs.Members.{in_map_from}
 use Rattle.given_spec.specs.Given.{Given}
 use Rattle.map_spec.specs.Lines.{Lines, End, Free, Sits, OnRoot, Inside, IsClaimedOn, IsOutOfPlace, IsFreeOn, AreLinesAt, AreInside}
-use Rattle.map_spec.specs.MapText.{bus_heading, region_line, lines_text, space_lines}
+use Rattle.map_spec.specs.MapText.{bus_heading, map_region_line, lines_text, space_lines}
 use Rattle.pci_base.specs.declared.range.Range.{Range}
 use Rattle.pci_base.specs.Ranges.{decoded_range_of}
 use Rattle.pci_tree.specs.declared.region.Part.{Part}
@@ -18,9 +18,9 @@ use Rattle.pci_tree.specs.declared.region.Region.{Region}
 use Rattle.pci_tree.specs.Regions.{IsRegionOn}
 use Rattle.pci_tree.specs.Outline.{AreSortedRegionsOf}
 use Rattle.pci_map.specs.Values.{Mapped, part_at, part_of, value_of}
-use Rattle.pci_map.specs.Inside.{IsInside}
+use Rattle.pci_map.specs.Inside.{AreInsideWindow}
 use Rattle.pci_map.specs.Above.{AreInPlace}
-use Rattle.pci_map.specs.Walk.{ahead, Entry, Run, At, entries, run_entries, merged, IsPlaced, IsSeated, IsSpaceTold}
+use Rattle.pci_map.specs.Walk.{ahead, Entry, Run, At, entries, run_entries, merged, ArePlacesWritten, IsSeated, IsSpaceTold}
 use Rattle.pci_map.proofs.Values.{told_region, given_region}
 use Rattle.pci_map.proofs.Merges.{lines_are}
 
@@ -38,7 +38,7 @@ module _ (given : Given) (roots : List ℕ) (s : System) (space : Space) where
     claims = (on.is.claims q.first).0 (omega arith, on.is.some);
   }
 
-  pub lines_inside : (w : Region) (bus : ℕ) (qs : List Region) (rs : List Range) (lines : Lines) → IsInside the_space w bus qs rs → entries lines ≡ merged space qs rs
+  pub lines_inside : (w : Region) (bus : ℕ) (qs : List Region) (rs : List Range) (lines : Lines) → AreInsideWindow the_space w bus qs rs → entries lines ≡ merged space qs rs
       → AreLinesAt given roots s space (Inside (value_of space w)) lines
   lines_inside w bus qs rs lines inside is =
       lines_are given roots s space (Inside (value_of space w)) lines qs rs is
@@ -78,30 +78,30 @@ module _ (given : Given) (roots : List ℕ) (s : System) (space : Space) where
   none_inside parts.Rom reg v not_window = refl
   none_inside parts.Window reg v not_window = absurd (not_window refl)
 
-  pub seat_alone : (depth : ℕ) (q : Region) (old new : List ℕ) → (q.part ≡ parts.Window → ⊥) → new ≡ old ++ region_line depth (value_of space q) → IsSeated the_space depth q old new
+  pub seat_alone : (depth : ℕ) (q : Region) (old new : List ℕ) → (q.part ≡ parts.Window → ⊥) → new ≡ old ++ map_region_line depth (value_of space q) → IsSeated the_space depth q old new
   unfolding lines_text
   seat_alone depth q old new not_window text = record {
     inside = End;
     is = none_inside q.part q.reg (value_of space q) not_window;
     deeper = tt;
-    text = text ∙ ap (λ t. old ++ t) (sym (append-nil (region_line depth (value_of space q))));
+    text = text ∙ ap (λ t. old ++ t) (sym (append-nil (map_region_line depth (value_of space q))));
   }
 
-  window_inside : (q : Region) (bus : ℕ) (qs : List Region) (rs : List Range) (lines : Lines) → q.part ≡ parts.Window → IsInside the_space q bus qs rs → entries lines ≡ merged space qs rs
+  window_inside : (q : Region) (bus : ℕ) (qs : List Region) (rs : List Range) (lines : Lines) → q.part ≡ parts.Window → AreInsideWindow the_space q bus qs rs → entries lines ≡ merged space qs rs
       → AreInside (part_of q) lines (AreLinesAt given roots s space (Inside (value_of space q)) lines)
   window_inside q bus qs rs lines window inside is =
       subst (λ p. AreInside (part_at p q.reg) lines (AreLinesAt given roots s space (Inside (value_of space q)) lines)) (sym window) (lines_inside q bus qs rs lines inside is)
 
-  pub seat_of_window : (depth deeper : ℕ) (q : Region) (bus : ℕ) (qs : List Region) (rs : List Range) (old mid new : List ℕ) → deeper ≡ depth + 1 → q.part ≡ parts.Window → IsInside the_space q bus qs rs
-      → mid ≡ old ++ region_line depth (value_of space q) → IsPlaced the_space deeper (merged space qs rs) mid new → IsSeated the_space depth q old new
+  pub seat_of_window : (depth deeper : ℕ) (q : Region) (bus : ℕ) (qs : List Region) (rs : List Range) (old mid new : List ℕ) → deeper ≡ depth + 1 → q.part ≡ parts.Window → AreInsideWindow the_space q bus qs rs
+      → mid ≡ old ++ map_region_line depth (value_of space q) → ArePlacesWritten the_space deeper (merged space qs rs) mid new → IsSeated the_space depth q old new
   seat_of_window depth deeper q bus qs rs old mid new one window inside line placed = record {
     inside = placed.lines;
     is = window_inside q bus qs rs placed.lines window inside placed.entries;
     deeper = placed.inside;
     text = placed.text
         ∙ ap (λ t. t ++ lines_text deeper space placed.lines) line
-        ∙ append_assoc old (region_line depth (value_of space q)) (lines_text deeper space placed.lines)
-        ∙ ap (λ d. old ++ (region_line depth (value_of space q) ++ lines_text d space placed.lines)) (one ∙ (let e : depth + 1 ≡ suc depth = omega arith in e));
+        ∙ append_assoc old (map_region_line depth (value_of space q)) (lines_text deeper space placed.lines)
+        ∙ ap (λ d. old ++ (map_region_line depth (value_of space q) ++ lines_text d space placed.lines)) (one ∙ (let e : depth + 1 ≡ suc depth = omega arith in e));
   }
 
   -- ---- a root bus
@@ -132,7 +132,7 @@ module _ (given : Given) (roots : List ℕ) (s : System) (space : Space) where
     }
 
     pub told_some : (old mid new : List ℕ) → (qs ≡ [] → rs ≡ [] → ⊥) → mid ≡ old ++ bus_heading bus space
-        → IsPlaced the_space 1 (merged space qs rs) mid new → IsSpaceTold the_space bus old new
+        → ArePlacesWritten the_space 1 (merged space qs rs) mid new → IsSpaceTold the_space bus old new
     told_some old mid new some line is = record {
       lines = is.lines;
       are = (lines_on_root bus all qs rs sorted placed free is.lines is.entries, is.inside);

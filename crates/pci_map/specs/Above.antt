@@ -11,7 +11,7 @@ use Rattle.pci_map.specs.Left.{IsTreeOf}
 use Rattle.pci_map.specs.Sent.{SentRanges, AreSent}
 
 -- the one root from which bridges lead to a bus
-pub record IsRootAbove (roots : List ℕ) (s : System) (bus root : ℕ) : Type 0 where
+pub record IsOnlyRootAbove (roots : List ℕ) (s : System) (bus root : ℕ) : Type 0 where
   pub is_root : Contains roots root
   pub bridges : List Function
   pub leads : Leads s root bridges bus
@@ -22,13 +22,13 @@ pub record IsRootAbove (roots : List ℕ) (s : System) (bus root : ℕ) : Type 0
 abbrev pub AreRootsAbove : List ℕ → System → List ℕ → Type 0
 AreRootsAbove roots s table =
     (f : Function) → Contains s f
-    → IsRootAbove roots s f.slot.bus (slice_index_or table f.slot.bus 0)
+    → IsOnlyRootAbove roots s f.slot.bus (slice_index_or table f.slot.bus 0)
 
 -- what is sent to the root above a bus
 pub record IsSentAbove (given : Given) (roots : List ℕ) (s : System) (bus : ℕ)
     (sent : SentRanges) : Type 0 where
   pub root : ℕ
-  pub above : IsRootAbove roots s bus root
+  pub above : IsOnlyRootAbove roots s bus root
   pub are : AreSent given root sent
 
 -- no list is said of either space

@@ -6,9 +6,9 @@ use Rattle.pci_spec.specs.System.{System, Space}
 use Rattle.pci_spec.specs.Decoded.{HasRecords}
 use Rattle.pci_spec.specs.Why.{Region, IsRegionIn}
 use Rattle.given_spec.specs.Given.{Given}
-use Rattle.map_spec.specs.Lines.{IsOutOfPlace, region_number}
-use Rattle.map_spec.specs.Map.{IsLeft, IsOnlyLeft, AreListed}
-use Rattle.map_spec.specs.MapText.{region_line, outside_text, unreached_text}
+use Rattle.map_spec.specs.Lines.{IsOutOfPlace, region_rank}
+use Rattle.map_spec.specs.Map.{IsOutsideWindows, IsOnlyLeft, AreRegionsBySlot}
+use Rattle.map_spec.specs.MapText.{map_region_line, outside_text, unreached_text}
 use Rattle.pci_function.specs.declared.record.Record.{Record}
 use Rattle.pci_function.specs.Values.{record_value}
 use Rattle.pci_tree.specs.declared.region.Region as outline
@@ -37,45 +37,45 @@ pub record IsRecordIn (s : System) (r : Record) : Type 0 where
   pub has : Contains records r
 
 -- a region is out of place, or left
-abbrev pub IsAside : Given → List ℕ → System → Region → Type 0
-IsAside given roots s q = IsOutOfPlace given roots s q ⊎ IsLeft roots s q
+abbrev pub IsRegionAside : Given → List ℕ → System → Region → Type 0
+IsRegionAside given roots s q = IsOutOfPlace given roots s q ⊎ IsOutsideWindows roots s q
 
 -- one of the regions of a space is
 abbrev pub HasAside : Given → List ℕ → System → Space → List outline.Region → Type 0
 HasAside given roots s space qs =
-    (q : outline.Region) × Contains qs q × IsAside given roots s (value_of space q)
+    (q : outline.Region) × Contains qs q × IsRegionAside given roots s (value_of space q)
 
 -- none of them is
 abbrev pub HasNoAside : Given → List ℕ → System → Space → List outline.Region → Type 0
 HasNoAside given roots s space qs =
-    (q : outline.Region) → Contains qs q → IsAside given roots s (value_of space q) → ⊥
+    (q : outline.Region) → Contains qs q → IsRegionAside given roots s (value_of space q) → ⊥
 
 -- where a region is named
-abbrev pub IsAt : Slot → ℕ → Space → Region → Type 0
-IsAt slot reg space q = (q.slot ≡ slot) × (q.register ≡ reg) × (q.space ≡ space)
+abbrev pub IsNamedAt : Slot → ℕ → Space → Region → Type 0
+IsNamedAt slot reg space q = (q.slot ≡ slot) × (q.register ≡ reg) × (q.space ≡ space)
 
-abbrev pub IsAtRegister : Slot → ℕ → Region → Type 0
-IsAtRegister slot reg q = (q.slot ≡ slot) × (q.register ≡ reg)
+abbrev pub IsNamedAtRegister : Slot → ℕ → Region → Type 0
+IsNamedAtRegister slot reg q = (q.slot ≡ slot) × (q.register ≡ reg)
 
-abbrev pub IsBelow : Slot → ℕ → Region → Type 0
-IsBelow slot reg q = (q.slot ≡ slot) × (q.register < reg)
+abbrev pub IsNamedBelow : Slot → ℕ → Region → Type 0
+IsNamedBelow slot reg q = (q.slot ≡ slot) × (q.register < reg)
 
-abbrev pub IsOf : Slot → Region → Type 0
-IsOf slot q = q.slot ≡ slot
+abbrev pub IsOfSlot : Slot → Region → Type 0
+IsOfSlot slot q = q.slot ≡ slot
 
-abbrev pub IsAmong : List Slot → Region → Type 0
-IsAmong slots q = Contains slots q.slot
+abbrev pub IsAmongSlots : List Slot → Region → Type 0
+IsAmongSlots slots q = Contains slots q.slot
 
 -- a text got the lines of just those regions of which P and Q hold, by slot and register
-pub record AreTold (Q : Region → Type 0) (s : System) (P : Region → Type 0)
+pub record AreAsidesWritten (Q : Region → Type 0) (s : System) (P : Region → Type 0)
     (old new : List ℕ) : Type 0 where
   pub told : List Region
   pub regions : (q : Region) → Contains told q → IsRegionIn s q
   pub hold : (q : Region) → Contains told q → Q q
   pub among : (q : Region) → Contains told q → P q
   pub complete : (q : Region) → IsRegionIn s q → Q q → P q → Contains told q
-  pub rising : AllPairs (λ p q. region_number p < region_number q) told
-  pub text : new ≡ old ++ flat_map (region_line 1) told
+  pub rising : AllPairs (λ p q. region_rank p < region_rank q) told
+  pub text : new ≡ old ++ flat_map (map_region_line 1) told
 
 -- the lines of those that are out of place, and of those that are only left
 pub record AsideTexts : Type 0 where
@@ -85,13 +85,13 @@ pub record AsideTexts : Type 0 where
 -- both texts got the lines of those of which P holds
 pub record AreAsides (given : Given) (roots : List ℕ) (s : System) (P : Region → Type 0)
     (old new : AsideTexts) : Type 0 where
-  pub out : AreTold (IsOutOfPlace given roots s) s P old.outside new.outside
-  pub left : AreTold (IsOnlyLeft given roots s) s P old.unreached new.unreached
+  pub out : AreAsidesWritten (IsOutOfPlace given roots s) s P old.outside new.outside
+  pub left : AreAsidesWritten (IsOnlyLeft given roots s) s P old.unreached new.unreached
 
 -- a text got the lines of all of both, each below their heading
 pub record AreAsidesTold (given : Given) (roots : List ℕ) (s : System) (old new : List ℕ) : Type 0 where
   pub outside : List Region
-  pub are_outside : AreListed (IsOutOfPlace given roots s) s outside
+  pub are_outside : AreRegionsBySlot (IsOutOfPlace given roots s) s outside
   pub unreached : List Region
-  pub are_left : AreListed (IsOnlyLeft given roots s) s unreached
+  pub are_left : AreRegionsBySlot (IsOnlyLeft given roots s) s unreached
   pub text : new ≡ old ++ (outside_text outside ++ unreached_text unreached)

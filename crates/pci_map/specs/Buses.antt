@@ -4,13 +4,13 @@ use Rattle.std.specs.List.{Contains, filter, flat_map}
 use Rattle.pci_spec.specs.System.{System}
 use Rattle.pci_spec.specs.Bus.{is_root}
 use Rattle.given_spec.specs.Given.{Given}
-use Rattle.map_spec.specs.Map.{Root, IsRootOf}
+use Rattle.map_spec.specs.Map.{MapRoot, IsRootOfMap}
 use Rattle.map_spec.specs.MapText.{root_text}
 
 -- a text got the lines of the roots among some buses
 pub record AreRootsTold (given : Given) (roots : List ℕ) (s : System) (among : List ℕ)
     (old new : List ℕ) : Type 0 where
-  pub told : List Root
+  pub told : List MapRoot
   pub buses : map (λ root. root.bus) told ≡ filter (is_root roots) among
-  pub each : (root : Root) → Contains told root → IsRootOf given roots s root
+  pub each : (root : MapRoot) → Contains told root → IsRootOfMap given roots s root
   pub text : new ≡ old ++ flat_map root_text told

@@ -14,24 +14,24 @@ use Rattle.pci_map.specs.Values.{Mapped, value_of}
 use Rattle.pci_tree.specs.declared.region.Region.{Region}
 use Rattle.pci_claims.specs.Found.{NoneClaims, IsFoundIn}
 
-abbrev pub is_in : Region → ℕ → Bool
-is_in q a = nat_le q.first a && nat_le a q.last
+abbrev pub region_has : Region → ℕ → Bool
+region_has q a = nat_le q.first a && nat_le a q.last
 
 -- whether a window has the first address of a region, and an earlier one of its bridge, where there is one, hasn't
-abbrev pub is_held : Region → Option Region → Region → Bool
-is_held w None q = is_in w q.first
-is_held w (Some other) q = is_in w q.first && not (is_in other q.first)
+abbrev pub is_held_first : Region → Option Region → Region → Bool
+is_held_first w None q = region_has w q.first
+is_held_first w (Some other) q = region_has w q.first && not (region_has other q.first)
 
 -- before the prefetchable window the memory window comes, where it is enabled and open; before the others none
-abbrev pub IsEarlier : System → Space → Region → Option Region → Type 0
-IsEarlier s space w o =
+abbrev pub IsEarlierWindow : System → Space → Region → Option Region → Type 0
+IsEarlierWindow s space w o =
     MatchBool (w.reg == PREFETCHABLE_BASE)
     (MatchOption o (NoneClaims s w.slot MEMORY_BASE space)
     (λ q. IsFoundIn s w.slot MEMORY_BASE space q)) (o ≡ None)
 
 -- Just the regions that belong under a window and aren't out of place, in order, and the greatest runs of what is free
 -- of it; and the bus behind its bridge, which is a higher one.
-pub record IsInside (m : Mapped) (w : Region) (bus : ℕ) (regions : List Region)
+pub record AreInsideWindow (m : Mapped) (w : Region) (bus : ℕ) (regions : List Region)
     (runs : List Range) : Type 0 where
   pub rises : w.slot.bus < bus
   pub each : (q : Region) → Contains regions q → IsRegionOn m.system bus m.space q

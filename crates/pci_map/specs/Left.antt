@@ -9,7 +9,7 @@ use Rattle.pci_spec.specs.Bus.{IsNested, LeadsTo}
 use Rattle.pci_spec.specs.Decoded.{HasRecords}
 use Rattle.pci_spec.specs.Why.{Region, IsRegionIn}
 use Rattle.map_spec.specs.Lines.{is_first_window}
-use Rattle.map_spec.specs.Map.{HasWay, IsLeft}
+use Rattle.map_spec.specs.Map.{HasWay, IsOutsideWindows}
 use Rattle.pci_tree.specs.declared.region.Region as outline
 use Rattle.pci_tree.specs.Outline.{Tree}
 use Rattle.pci_map.specs.Values.{part_of, value_of}
@@ -21,7 +21,7 @@ pub record IsTreeOf (t : Tree) (s : System) : Type 0 where
   pub one : (f g : Function) → Contains s f → Contains s g → f.slot ≡ g.slot → f ≡ g
 
 -- the slot of the one bridge that leads to a bus, which is no root
-pub record IsBridgeAbove (roots : List ℕ) (s : System) (bus : ℕ) (slot : Slot) : Type 0 where
+pub record IsSlotAbove (roots : List ℕ) (s : System) (bus : ℕ) (slot : Slot) : Type 0 where
   pub off_root : Contains roots bus → ⊥
   pub b : Function
   pub leads : LeadsTo s b bus
@@ -32,7 +32,7 @@ pub record IsBridgeAbove (roots : List ℕ) (s : System) (bus : ℕ) (slot : Slo
 abbrev pub HasAbove : List ℕ → System → ℕ → Option Slot → Type 0
 HasAbove roots s bus o =
     (f : Function) → Contains s f → f.slot.bus ≡ bus
-    → MatchOption o (Contains roots bus) (λ b. IsBridgeAbove roots s bus b)
+    → MatchOption o (Contains roots bus) (λ b. IsSlotAbove roots s bus b)
 
 -- no part that this register names claims the address
 abbrev pub NoneHas : System → Slot → ℕ → Space → ℕ → Type 0
@@ -41,7 +41,7 @@ NoneHas s slot reg space a =
     → register_of f part ≡ reg → Claims f part space a → ⊥
 
 -- the first window of a bridge that has an address
-pub record IsFirst (s : System) (space : Space) (b : Function) (a : ℕ) (w : outline.Region) : Type 0 where
+pub record IsFirstHoldingWindow (s : System) (space : Space) (b : Function) (a : ℕ) (w : outline.Region) : Type 0 where
   pub is : IsRegionIn s (value_of space w)
   pub slot : b.slot ≡ w.slot
   pub kind : WindowKind
@@ -51,4 +51,4 @@ pub record IsFirst (s : System) (space : Space) (b : Function) (a : ℕ) (w : ou
 -- the region is left, or windows lead to it
 abbrev pub IsLeftIf : List ℕ → System → Region → Bool → Type 0
 IsLeftIf roots s q left =
-    MatchBool left (IsLeft roots s q) ((windows : List Region) × HasWay roots s q windows)
+    MatchBool left (IsOutsideWindows roots s q) ((windows : List Region) × HasWay roots s q windows)

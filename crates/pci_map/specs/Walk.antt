@@ -4,8 +4,8 @@ use Rattle.std.specs.List.{Contains}
 use Rattle.pci_spec.specs.System.{System, Space}
 use Rattle.pci_spec.specs.Decoded as decoded
 use Rattle.pci_spec.specs.Why as why
-use Rattle.map_spec.specs.Lines.{Lines, End, Free, Sits, OnRoot, Inside, AreLinesAt, AreInside, AreAllInside, AreAllLines}
-use Rattle.map_spec.specs.MapText.{region_line, lines_text, space_lines}
+use Rattle.map_spec.specs.Lines.{Lines, End, Free, Sits, OnRoot, Inside, AreLinesAt, AreInside, AreAllInside, AreLinesOfPlace}
+use Rattle.map_spec.specs.MapText.{map_region_line, lines_text, space_lines}
 use Rattle.pci_base.specs.declared.range.Range.{Range}
 use Rattle.pci_base.specs.Ranges.{decoded_range_of}
 use Rattle.pci_tree.specs.declared.region.Region.{Region}
@@ -38,7 +38,7 @@ merged space (q ∷ qs) rs =
     ++ (At (value_of space q) ∷ merged space qs (drop (ahead q.first rs) rs))
 
 -- a text got the lines of some regions and runs, with all that is inside
-pub record IsPlaced (m : Mapped) (depth : ℕ) (all : List Entry) (old new : List ℕ) : Type 0 where
+pub record ArePlacesWritten (m : Mapped) (depth : ℕ) (all : List Entry) (old new : List ℕ) : Type 0 where
   pub lines : Lines
   pub entries : entries lines ≡ all
   pub inside : AreAllInside m.given m.roots m.system m.space lines
@@ -51,13 +51,13 @@ pub record IsSeated (m : Mapped) (depth : ℕ) (q : Region) (old new : List ℕ)
       (value_of m.space q)) inside)
   pub deeper : AreAllInside m.given m.roots m.system m.space inside
   pub text : new
-      ≡ old ++ (region_line depth (value_of m.space q) ++ lines_text (suc depth) m.space inside)
+      ≡ old ++ (map_region_line depth (value_of m.space q) ++ lines_text (suc depth) m.space inside)
 
-abbrev pub AreOnBus : System → ℕ → Space → List Region → Type 0
-AreOnBus s bus space qs = (q : Region) → Contains qs q → IsRegionOn s bus space q
+abbrev pub AreRegionsOnBus : System → ℕ → Space → List Region → Type 0
+AreRegionsOnBus s bus space qs = (q : Region) → Contains qs q → IsRegionOn s bus space q
 
 -- a text got all lines of a space of a root bus
 pub record IsSpaceTold (m : Mapped) (bus : ℕ) (old new : List ℕ) : Type 0 where
   pub lines : Lines
-  pub are : AreAllLines m.given m.roots m.system m.space (OnRoot bus) lines
+  pub are : AreLinesOfPlace m.given m.roots m.system m.space (OnRoot bus) lines
   pub text : new ≡ old ++ space_lines bus m.space lines

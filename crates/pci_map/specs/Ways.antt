@@ -8,8 +8,8 @@ use Rattle.pci_spec.specs.System.{System, Function, Space, Io, Memory}
 use Rattle.map_spec.specs.Lines.{is_first_window}
 use Rattle.pci_claims.specs.Found.{IsFoundIn, NoneClaims}
 use Rattle.pci_map.specs.Values.{value_of}
-use Rattle.pci_map.specs.Inside.{is_in}
-use Rattle.pci_map.specs.Left.{IsBridgeAbove, NoneHas, IsFirst, IsLeftIf}
+use Rattle.pci_map.specs.Inside.{region_has}
+use Rattle.pci_map.specs.Left.{IsSlotAbove, NoneHas, IsFirstHoldingWindow, IsLeftIf}
 use Rattle.pci_map.specs.declared.left.Judged.{Judged}
 use Rattle.pci_map.specs.declared.left.Windows.{Windows}
 
@@ -39,19 +39,19 @@ IsJudgedAt roots s spot o =
     MatchOption o (NoneClaims s spot.slot spot.register spot.space) (λ w. IsJudged roots s spot w)
 
 -- that window, which has an address
-pub record IsHolding (roots : List ℕ) (s : System) (spot : Spot) (a : ℕ) (w : Judged) : Type 0 where
+pub record IsHoldingWindow (roots : List ℕ) (s : System) (spot : Spot) (a : ℕ) (w : Judged) : Type 0 where
   pub is : IsJudged roots s spot w
-  pub has : IsTrue (is_in w.window a)
+  pub has : IsTrue (region_has w.window a)
 
 -- that window, where it has an address
 abbrev pub IsHoldingAt : List ℕ → System → Spot → ℕ → Option Judged → Type 0
 IsHoldingAt roots s spot a o =
-    MatchOption o (NoneHas s spot.slot spot.register spot.space a) (λ w. IsHolding roots s spot a w)
+    MatchOption o (NoneHas s spot.slot spot.register spot.space a) (λ w. IsHoldingWindow roots s spot a w)
 
 -- the first window of a bridge that has an address, with whether it is left
 pub record IsFirstJudged (roots : List ℕ) (s : System) (space : Space) (b : Function) (a : ℕ)
     (w : Judged) : Type 0 where
-  pub first : IsFirst s space b a w.window
+  pub first : IsFirstHoldingWindow s space b a w.window
   pub judged : IsLeftIf roots s (value_of space w.window) w.left
 
 -- that window, where one has the address
@@ -69,7 +69,7 @@ pub record AreWindowsOf (roots : List ℕ) (s : System) (slot : Slot) (ws : Wind
 -- the windows of the bridge that leads to a bus, which is no root
 pub record AreAbove (roots : List ℕ) (s : System) (bus : ℕ) (ws : Windows) : Type 0 where
   pub slot : Slot
-  pub bridge : IsBridgeAbove roots s bus slot
+  pub bridge : IsSlotAbove roots s bus slot
   pub windows : AreWindowsOf roots s slot ws
 
 -- those windows, where the bus has functions and isn't a root

@@ -11,8 +11,8 @@ ghost use Rattle.pci_tree.specs.Outline.{Tree};
 ghost use Rattle.pci_tree.specs.Regions.{IsRegionOn};
 ghost use Rattle.pci_claims.specs.Values.{given_value};
 ghost use Rattle.pci_map.specs.Values.{value_of};
-ghost use Rattle.pci_map.specs.Walk.{AreOnBus};
-ghost use Rattle.pci_map.specs.Above.{IsRootAbove, AreRootsAbove, AreSentAbove, AreInPlace};
+ghost use Rattle.pci_map.specs.Walk.{AreRegionsOnBus};
+ghost use Rattle.pci_map.specs.Above.{IsOnlyRootAbove, AreRootsAbove, AreSentAbove, AreInPlace};
 
 use super::sent::Sent;
 use pci_base::memory::OutOfMemory;
@@ -29,7 +29,7 @@ use std::alloc::Allocator;
 /// The root above the bus of a function.
 fn root_over<A: Allocator + Copy>(outline: &Outline<A>, slot: Slot) -> u8
     ensures { (s : System) → HasRecords s outline.now.records → (f : Function) → Contains s f
-        → f.slot ≡ slot → IsRootAbove outline.now.roots s slot.bus result }
+        → f.slot ≡ slot → IsOnlyRootAbove outline.now.roots s slot.bus result }
 {
     match outline.path(slot) {
         None => slot.bus(),
@@ -112,7 +112,7 @@ pub fn in_place<A: Allocator, B: Allocator>(
     regions: Vec<Region, A>,
 ) -> Result<Vec<Region, A>, OutOfMemory>
     ensures { IfOk result (λ v. (given : GivenValue) (t : Tree) (s : System)
-        → AreSentAbove given t s above.now → AreOnBus s bus (space_of space) regions.items
+        → AreSentAbove given t s above.now → AreRegionsOnBus s bus (space_of space) regions.items
         → AreInPlace given t.roots s (space_of space) regions.items v.items) }
 {
     if above.is_empty() {

@@ -11,7 +11,7 @@ ghost use Rattle.pci_claims.specs.Found.{IsFoundIn};
 ghost use Rattle.pci_map.specs.Values.{value_of};
 ghost use Rattle.pci_map.specs.Above.{AreSentAbove};
 ghost use Rattle.pci_map.specs.Ways.{AreWays};
-ghost use Rattle.pci_map.specs.Asides.{IsListedAt, AreFoundBy, IsRecordIn, IsAside, HasAside, HasNoAside, IsAt, IsAtRegister, IsOf, AreAsides, AreAsidesTold};
+ghost use Rattle.pci_map.specs.Asides.{IsListedAt, AreFoundBy, IsRecordIn, IsRegionAside, HasAside, HasNoAside, IsNamedAt, IsNamedAtRegister, IsOfSlot, AreAsides, AreAsidesTold};
 
 use super::above::is_out_of_place;
 use super::left::{Windows, is_left};
@@ -100,8 +100,8 @@ fn is_aside<A: Allocator>(routes: &Routes<'_, A>, space: Space, slot: Slot, regi
     ensures { (given : GivenValue) (t : Tree) (s : System)
         → AreSentAbove given t s routes.now.above.now → AreWays t.roots s routes.now.ways.now
         → IsFoundIn s slot region.now.reg (space_of space) region.now
-        → MatchBool result (IsAside given t.roots s (value_of (space_of space) region.now))
-        (IsAside given t.roots s (value_of (space_of space) region.now) → ⊥) }
+        → MatchBool result (IsRegionAside given t.roots s (value_of (space_of space) region.now))
+        (IsRegionAside given t.roots s (value_of (space_of space) region.now) → ⊥) }
 {
     if is_out_of_place(routes.above, space, slot.bus(), region) {
         return true;
@@ -155,7 +155,7 @@ fn push_aside_in<A: Allocator, B: Allocator>(
     ensures { OnOk result ((given : GivenValue) (t : Tree) (s : System)
         → AreSentAbove given t s routes.now.above.now → AreWays t.roots s routes.now.ways.now
         → AreFoundBy s spot.slot (space_of spot.space) regions.now
-        → AreAsides given t.roots s (IsAt spot.slot spot.register (space_of spot.space)) asides.old asides.new) }
+        → AreAsides given t.roots s (IsNamedAt spot.slot spot.register (space_of spot.space)) asides.old asides.new) }
 {
     let Some(region) = at_register(regions, spot.register) else {
         return Ok(());
@@ -184,7 +184,7 @@ fn push_aside_at<A: Allocator, B: Allocator>(
         → AreSentAbove given t s routes.now.above.now → AreWays t.roots s routes.now.ways.now
         → AreFoundBy s function.now.slot Io function.now.io.now
         → AreFoundBy s function.now.slot Memory function.now.memory.now
-        → AreAsides given t.roots s (IsAtRegister function.now.slot register) asides.old asides.new) }
+        → AreAsides given t.roots s (IsNamedAtRegister function.now.slot register) asides.old asides.new) }
 {
     let slot = function.slot;
     let io_spot = Spot {
@@ -212,7 +212,7 @@ fn push_by_register<A: Allocator, B: Allocator>(
         → AreSentAbove given t s routes.now.above.now → AreWays t.roots s routes.now.ways.now
         → AreFoundBy s function.now.slot Io function.now.io.now
         → AreFoundBy s function.now.slot Memory function.now.memory.now
-        → AreAsides given t.roots s (IsOf function.now.slot) asides.old asides.new) }
+        → AreAsides given t.roots s (IsOfSlot function.now.slot) asides.old asides.new) }
 {
     for register in 0..REGISTERS {
         push_aside_at(asides, routes, function, 4 * register)?;
@@ -231,7 +231,7 @@ fn push_asides_of<A: Allocator, B: Allocator>(
         → AreSentAbove given t s routes.now.above.now → AreWays t.roots s routes.now.ways.now
         → AreFoundBy s function.now.slot Io function.now.io.now
         → AreFoundBy s function.now.slot Memory function.now.memory.now
-        → AreAsides given t.roots s (IsOf function.now.slot) asides.old asides.new) }
+        → AreAsides given t.roots s (IsOfSlot function.now.slot) asides.old asides.new) }
 {
     if has_aside(routes, function.io, Space::Io, function.slot)
         || has_aside(routes, function.memory, Space::Mem, function.slot)

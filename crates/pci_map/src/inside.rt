@@ -9,7 +9,7 @@ ghost use Rattle.pci_spec.specs.Why.{IsRegionIn};
 ghost use Rattle.pci_tree.specs.declared.region.Part.TheVariants.{Window};
 ghost use Rattle.pci_map.specs.Values.{value_of, mapped_of};
 ghost use Rattle.pci_map.specs.Above.{AreSentAbove};
-ghost use Rattle.pci_map.specs.Inside.{is_in, is_held, IsEarlier, IsInside};
+ghost use Rattle.pci_map.specs.Inside.{region_has, is_held_first, IsEarlierWindow, AreInsideWindow};
 
 use super::above::in_place;
 use super::gaps::free_runs;
@@ -37,14 +37,14 @@ pub struct Inside<A: Allocator = Global> {
 
 /// Whether a region has an address.
 pub fn has(region: &Region, address: u64) -> bool
-    ensures { result ≡ is_in region.now address }
+    ensures { result ≡ region_has region.now address }
 {
     region.first <= address && address <= region.last
 }
 
 /// Whether a window has the first address of a region, and an earlier window of the bridge, where there is one, hasn't.
 fn holds(window: &Region, earlier: &Option<Region>, region: &Region) -> bool
-    ensures { result ≡ is_held window.now earlier.now region.now }
+    ensures { result ≡ is_held_first window.now earlier.now region.now }
 {
     let address = region.first;
     match earlier {
@@ -60,7 +60,7 @@ fn held<A: Allocator>(
     earlier: &Option<Region>,
     regions: &[Region],
 ) -> Result<Vec<Region, A>, OutOfMemory>
-    ensures { IfOk result (λ v. v.items ≡ filter (is_held window.now earlier.now) regions.now) }
+    ensures { IfOk result (λ v. v.items ≡ filter (is_held_first window.now earlier.now) regions.now) }
 {
     let Ok(mut out) = Vec::with_capacity(alloc, regions.len()) else {
         return Err(OutOfMemory);
@@ -82,7 +82,7 @@ fn earlier<A: Allocator, B: Allocator>(
     window: &Region,
 ) -> Result<Option<Region>, OutOfMemory>
     ensures { IfOk result (λ o. (s : System) → HasRecords s outline.now.records
-        → IsEarlier s (space_of space) window.now o) }
+        → IsEarlierWindow s (space_of space) window.now o) }
 {
     match window.reg {
         PREFETCHABLE_BASE => region_at(alloc, outline, window.slot, MEMORY_BASE, space),
@@ -102,7 +102,7 @@ pub fn look_inside<A: Allocator + Copy>(
     ensures { IfOk result (λ o. (given : GivenValue) (s : System)
         → AreSentAbove given outline.now s above.now
         → IsRegionIn s (value_of (space_of space) window.now) → window.now.part ≡ Window
-        → MatchOption o ⊥ (λ i. IsInside (mapped_of given outline.now s (space_of space)) window.now
+        → MatchOption o ⊥ (λ i. AreInsideWindow (mapped_of given outline.now s (space_of space)) window.now
         i.bus i.regions.items i.runs.items)) }
 {
     let Some(function) = record_at(outline.records(), window.slot) else {

@@ -5,7 +5,7 @@ ghost use Rattle.std.specs.List.{flat_map};
 ghost use Rattle.std.specs.Prelude.{map};
 ghost use Rattle.pci_spec.specs.Listing.{range_text};
 ghost use Rattle.pci_spec.specs.Why.{amount_text, address_count};
-ghost use Rattle.map_spec.specs.MapText.{indent, part_name, region_line, free_line, bus_heading};
+ghost use Rattle.map_spec.specs.MapText.{indent, part_name, map_region_line, free_line, bus_heading};
 ghost use Rattle.arrayvec.specs.ArrayVec.{array_vec_len};
 ghost use Rattle.pci_base.specs.Ranges.{decoded_range_of};
 ghost use Rattle.pci_base.specs.Space.{space_of};
@@ -124,7 +124,7 @@ pub fn push_region<A: Allocator>(
     region: &Region,
 ) -> Result<(), AllocError>
     ensures { OnOk result (string_bytes text.new ≡ string_bytes text.old
-        ++ region_line depth (value_of (space_of space) region.now)) }
+        ++ map_region_line depth (value_of (space_of space) region.now)) }
 {
     let range = Range {
         first: region.first,

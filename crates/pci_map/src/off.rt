@@ -4,7 +4,7 @@ ghost use Rattle.std.specs.List.{flat_map};
 ghost use Rattle.std.specs.String.{string_bytes};
 ghost use Rattle.pci_spec.specs.System.{System};
 ghost use Rattle.pci_spec.specs.Decoded.{HasRecords};
-ghost use Rattle.map_spec.specs.MapText.{off_line, off_text};
+ghost use Rattle.map_spec.specs.MapText.{map_off_line, map_off_text};
 ghost use Rattle.pci_image.specs.Bars.{decoded_bar_of};
 ghost use Rattle.pci_function.specs.Values.{record_value};
 ghost use Rattle.pci_map.specs.Off.{section, off_bar, off_bars_text, off_record};
@@ -21,7 +21,7 @@ use std::alloc::{AllocError, Allocator};
 /// Appends the line of a BAR.
 fn push_bar_line<A: Allocator>(text: &mut String<A>, slot: Slot, bar: Bar) -> Result<(), AllocError>
     ensures { OnOk result
-        (string_bytes text.new ≡ string_bytes text.old ++ off_line slot (decoded_bar_of bar)) }
+        (string_bytes text.new ≡ string_bytes text.old ++ map_off_line slot (decoded_bar_of bar)) }
 {
     let region = Region {
         slot,
@@ -107,7 +107,7 @@ pub fn push_off<A: Allocator + Copy, B: Allocator>(
     outline: &Outline<A>,
 ) -> Result<(), OutOfMemory>
     ensures { OnOk result ((s : System) → HasRecords s outline.now.records
-        → string_bytes text.new ≡ string_bytes text.old ++ off_text s) }
+        → string_bytes text.new ≡ string_bytes text.old ++ map_off_text s) }
 {
     let mut below = String::new(alloc);
     push_records(&mut below, outline.records())?;

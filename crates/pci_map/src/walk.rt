@@ -12,8 +12,8 @@ ghost use Rattle.pci_tree.specs.Regions.{IsRegionOn};
 ghost use Rattle.pci_claims.specs.Values.{given_value};
 ghost use Rattle.pci_map.specs.Values.{mapped_of};
 ghost use Rattle.pci_map.specs.Above.{AreSentAbove};
-ghost use Rattle.pci_map.specs.Inside.{IsInside};
-ghost use Rattle.pci_map.specs.Walk.{ahead, merged, IsPlaced, IsSeated, AreOnBus, IsSpaceTold};
+ghost use Rattle.pci_map.specs.Inside.{AreInsideWindow};
+ghost use Rattle.pci_map.specs.Walk.{ahead, merged, ArePlacesWritten, IsSeated, AreRegionsOnBus, IsSpaceTold};
 
 use super::above::in_place;
 use super::gaps::free_on_root;
@@ -92,7 +92,7 @@ fn inside_of<A: Allocator + Copy>(
         → AreSentAbove given walk.now.outline.now s walk.now.above.now
         → IsRegionOn s bus (space_of walk.now.space) region.now
         → MatchOption o (region.now.part ≡ Window → ⊥)
-        (λ i. IsInside (mapped_of given walk.now.outline.now s (space_of walk.now.space))
+        (λ i. AreInsideWindow (mapped_of given walk.now.outline.now s (space_of walk.now.space))
         region.now i.bus i.regions.items i.runs.items × (region.now.part ≡ Window))) }
 {
     if region.part != Part::Window {
@@ -144,8 +144,8 @@ fn push_place<A: Allocator + Copy, B: Allocator>(
     requires { depth ≤ place.now.bus + 1 }
     ensures { OnOk result ((given : GivenValue) (s : System)
         → AreSentAbove given walk.now.outline.now s walk.now.above.now
-        → AreOnBus s place.now.bus (space_of walk.now.space) place.now.regions.items
-        → IsPlaced (mapped_of given walk.now.outline.now s (space_of walk.now.space)) depth
+        → AreRegionsOnBus s place.now.bus (space_of walk.now.space) place.now.regions.items
+        → ArePlacesWritten (mapped_of given walk.now.outline.now s (space_of walk.now.space)) depth
         (merged (space_of walk.now.space) place.now.regions.items place.now.runs.items)
         (string_bytes text.old) (string_bytes text.new)) }
 {

@@ -9,7 +9,7 @@ use Rattle.pci_function.proofs.FirstIn.{in_here, here_in, here_not_clear}
 use Rattle.pci_image.specs.declared.fault.ImageFault.{ImageFault}
 use Rattle.pci_image.specs.declared.fault.ImageFault.TheVariants as images
 use Rattle.pci_image.specs.Caps.{IsChainFaultIn}
-use Rattle.model_spec.specs.Taken.{HasNoneBefore}
+use Rattle.model_spec.specs.Taken.{HasNoOwnFaultBefore}
 
 only_one : (f g : Function) → Contains (f ∷ []) g → f ≡ g
 only_one f g (zero, less, is) = is
@@ -24,7 +24,7 @@ clear_alone n f e clear low small is =
     here_not_clear x.g e n low (subst (λ g. IsClearBefore n g) (only_one f x.g x.has) clear) x.here
 
 -- a list that doesn't end is a fault of decoding
-pub list_ended : (f : Function) (fault : ImageFault) → HasNoneBefore Profile f → IsChainFaultIn f.image fault → ⊥
+pub list_ended : (f : Function) (fault : ImageFault) → HasNoOwnFaultBefore Profile f → IsChainFaultIn f.image fault → ⊥
 list_ended f (images.CapRange place) none is = none (CapRange f.slot place) (omega arith) (there_alone f (CapRange f.slot place) (refl, is))
 list_ended f (images.CapLoop place) none is = none (CapLoop f.slot place) (omega arith) (there_alone f (CapLoop f.slot place) (refl, is))
 list_ended f (images.CapCut place) none is = none (CapCut f.slot place) (omega arith) (there_alone f (CapCut f.slot place) (refl, is))

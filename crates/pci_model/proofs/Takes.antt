@@ -9,7 +9,7 @@ use Rattle.pci_spec.specs.Stops.{IsAboveLast, last_slot}
 use Rattle.pci_spec.specs.System.{Function, function_of, system_of}
 use Rattle.pci_spec.proofs.Pairing.{above_all, function-at, length-system_of, same_length, system_last}
 use Rattle.model_spec.specs.Words.{Words}
-use Rattle.model_spec.specs.Taken.{IsTaken}
+use Rattle.model_spec.specs.Taken.{IsTakenAs}
 use Rattle.model_spec.specs.TakenDumps.{titles_of, AreTakenAs}
 use Rattle.pci_model.proofs.Behind.{numbers_rise}
 
@@ -18,7 +18,7 @@ pub record AreTakenSoFar (w : Words) (dump probe : List Block) (i : ℕ) (found 
   pub slots : slots_of found ≡ take i (slots_of dump)
   pub probe_slots : slots_of found_probe ≡ take i (slots_of probe)
   pub probe_titles : titles_of found_probe ≡ take i (titles_of probe)
-  pub each : AllZip (IsTaken w (slots_of dump)) (take i (system_of dump probe)) (system_of found found_probe)
+  pub each : AllZip (IsTakenAs w (slots_of dump)) (take i (system_of dump probe)) (system_of found found_probe)
 
 pub none_taken : (w : Words) (dump probe : List Block) → AreTakenSoFar w dump probe 0 [] []
 none_taken w dump probe = record { slots = refl; probe_slots = refl; probe_titles = refl; each = tt }
@@ -67,7 +67,7 @@ field_more {X} field dump found i b c so_far inside at same =
 -- one more
 pub next_taken : (w : Words) (dump probe : List Block) (i : ℕ) (found found_probe : List Block) (b p c q : Block) → slots_of dump ≡ slots_of probe
     → AreTakenSoFar w dump probe i found found_probe → i < length dump
-    → c ≡ get_or dump i c → q ≡ get_or probe i q → b.slot ≡ c.slot → p.slot ≡ q.slot → p.title ≡ q.title → IsTaken w (slots_of dump) (function_of c q) (function_of b p)
+    → c ≡ get_or dump i c → q ≡ get_or probe i q → b.slot ≡ c.slot → p.slot ≡ q.slot → p.title ≡ q.title → IsTakenAs w (slots_of dump) (function_of c q) (function_of b p)
     → AreTakenSoFar w dump probe (i + 1) (found ++ b ∷ []) (found_probe ++ p ∷ [])
 next_taken w dump probe i found found_probe b p c q same so_far inside c_at q_at slot probe_slot probe_title taken =
     let count = same_length dump probe same in
@@ -79,7 +79,7 @@ next_taken w dump probe i found found_probe b p c q same so_far inside c_at q_at
     take_more (system_of dump probe) i (function_of c q) (omega (arith, size, inside)) ∙ ap (λ f. take i (system_of dump probe) ++ f ∷ []) f_at in
     let own = count_of dump found i so_far.slots (omega (arith, inside)) in
     let own_probe = count_of probe found_probe i so_far.probe_slots (omega (arith, in_probe)) in
-    let R : Function → Function → Type 0 = IsTaken w (slots_of dump) in
+    let R : Function → Function → Type 0 = IsTakenAs w (slots_of dump) in
     let pushed = AllZip-push R (take i (system_of dump probe)) (system_of found found_probe) (function_of c q) (function_of b p) so_far.each taken in
     let last : system_of (found ++ b ∷ []) (found_probe ++ p ∷ []) ≡ system_of found found_probe ++ function_of b p ∷ [] = system_last found found_probe b p (omega (arith, own, own_probe)) in
     record {
@@ -103,5 +103,5 @@ all_taken w dump probe i found found_probe same so_far done =
       slots = so_far.slots ∙ take_all i (slots_of dump) (omega (arith, slots, done));
       probe_slots = so_far.probe_slots ∙ take_all i (slots_of probe) (omega (arith, count, probe_slots, done));
       probe_titles = so_far.probe_titles ∙ take_all i (titles_of probe) (omega (arith, count, probe_titles, done));
-      each = λ e. subst (λ fs. AllZip (IsTaken w (slots_of dump)) fs (system_of found found_probe)) (take_all i (system_of dump probe) (omega (arith, size, done))) so_far.each;
+      each = λ e. subst (λ fs. AllZip (IsTakenAs w (slots_of dump)) fs (system_of found found_probe)) (take_all i (system_of dump probe) (omega (arith, size, done))) so_far.each;
     }

@@ -132,7 +132,7 @@ fn leave_channels_out(bars: &[Bar], interface: u8, image: &mut Image)
 
 /// Whether a window is there and open.
 fn is_open(window: Option<Window>) -> bool
-    ensures { result ≡ taken.is_open window }
+    ensures { result ≡ taken.is_open_window window }
 {
     match window {
         None => false,
@@ -195,7 +195,7 @@ pub fn parts_aside(slot: Slot, image: &mut Image, probe: &mut Image, legacy: boo
     ensures { taken.IsWhere
         (IsTrue (taken.may_have_parts_by (words_value words) record
         { slot = slot; image = image.old.0; probe = probe.old.0 })
-        × taken.HasNoneBefore Place record
+        × taken.HasNoOwnFaultBefore Place record
         { slot = slot; image = image.old.0; probe = probe.old.0 })
         record { slot = slot; image = image.old.0; probe = probe.old.0 }
         (taken.parts_aside (words_value words) legacy record

@@ -4,7 +4,7 @@ ghost use Rattle.pci_spec.specs.Slot.{Slot as SlotValue};
 ghost use Rattle.pci_spec.specs.Fault.{IsNotInD0};
 ghost use Rattle.pci_spec.specs.Order.{Profile};
 ghost use Rattle.model_spec.specs.Bytes.{switched_off};
-ghost use Rattle.model_spec.specs.Taken.{HasNoneBefore, IsAsleep, IsWhere};
+ghost use Rattle.model_spec.specs.Taken.{HasNoOwnFaultBefore, IsAsleep, IsWhere};
 
 use super::bytes::switch_off;
 use super::words::Words;
@@ -19,7 +19,7 @@ const PROFILE: u8 = 3;
 
 /// Whether the registers and the capabilities list of a function decode.
 fn decodes(slot: Slot, image: &Image, probe: &Image) -> bool
-    ensures { IsTrue result ↔ HasNoneBefore Profile record
+    ensures { IsTrue result ↔ HasNoOwnFaultBefore Profile record
         { slot = slot; image = image.now.0; probe = probe.now.0 } }
 {
     match examine(slot, image, probe) {
@@ -31,7 +31,7 @@ fn decodes(slot: Slot, image: &Image, probe: &Image) -> bool
 /// Whether a function whose registers and list decode is in another power state than D0.
 fn shows_sleep(image: &Image) -> bool
     ensures { (slot : SlotValue) (probe : List ℕ)
-        → HasNoneBefore Profile record { slot = slot; image = image.now.0; probe = probe }
+        → HasNoOwnFaultBefore Profile record { slot = slot; image = image.now.0; probe = probe }
         → (IsTrue result ↔ IsNotInD0 image.now.0) }
 {
     match places(image) {

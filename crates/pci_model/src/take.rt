@@ -2,7 +2,7 @@
 ghost use Rattle.std.specs.Prelude.{◌≡◌, IfOk};
 ghost use Rattle.pci_spec.specs.System.{function_of};
 ghost use Rattle.pci_spec.specs.Text.{IsDump, slots_of};
-ghost use Rattle.model_spec.specs.Taken.{IsTaken};
+ghost use Rattle.model_spec.specs.Taken.{IsTakenAs};
 ghost use Rattle.model_spec.specs.TakenDumps.{AreTakenAs};
 ghost use Rattle.pci_model.specs.WordsValue.{words_value};
 
@@ -26,7 +26,7 @@ pub struct TakenPair<A: Allocator> {
 /// Takes a function of a dump.
 fn take(slot: Slot, image: &mut Image, probe: &mut Image, blocks: &[Block], words: Words)
     requires { IsDump blocks.now }
-    ensures { IsTaken (words_value words) (slots_of blocks.now)
+    ensures { IsTakenAs (words_value words) (slots_of blocks.now)
         record { slot = slot; image = image.old.0; probe = probe.old.0 }
         record { slot = slot; image = image.new.0; probe = probe.new.0 } }
 {
@@ -40,7 +40,7 @@ fn take(slot: Slot, image: &mut Image, probe: &mut Image, blocks: &[Block], word
 /// Takes a function of a dump, by its two blocks.
 fn take_blocks(block: &mut Block, probe: &mut Block, blocks: &[Block], words: Words)
     requires { IsDump blocks.now }
-    ensures taken { IsTaken (words_value words) (slots_of blocks.now)
+    ensures taken { IsTakenAs (words_value words) (slots_of blocks.now)
         (function_of block.old probe.old) (function_of block.new probe.new) }
     ensures slot { block.new.slot ≡ block.old.slot }
     ensures probe_slot { probe.new.slot ≡ probe.old.slot }

@@ -1,7 +1,7 @@
 -- Bridges that are spread, and the board that is single with them.
 use Rattle.std.proofs.Common.{◌≡◌, ℕ, ◌<◌, ◌≤◌, ◌⊎◌, inl, inr, true, arith, refl, sym, ◌∙◌, subst, List, max}
 use Rattle.pci_spec.specs.Header.{secondary_bus, subordinate_bus}
-use Rattle.number_spec.specs.Board.{Nodes, NoMore, Node, Board, is_type_1, IsSingle}
+use Rattle.number_spec.specs.Board.{Nodes, NoMore, Node, Board, is_type_1, HasOneAnswer}
 use Rattle.number_spec.specs.Numbered.{without_numbers}
 use Rattle.number_spec.specs.Room.{shows, last_behind, have_numbers}
 use Rattle.number_spec.specs.Spread.{IsShut, IsSpread}
@@ -60,9 +60,9 @@ spread_lead low high p s u d f image behind others numbers above s_within u_with
 
 -- ---- the board
 
-pub single_with : (v : View) (high last d f : ℕ) (image new : List ℕ) (behind nodes others : Nodes) → is_type_1 image ≡ true → IsAlike image new → without_numbers nodes ≡ without_numbers behind → IsApart v (Node d f image behind others) high last → IsSpread high last (Node d f new nodes others) → (board : Board) → board ≡ v.fill (Node d f new nodes others) → IsSingle board
+pub single_with : (v : View) (high last d f : ℕ) (image new : List ℕ) (behind nodes others : Nodes) → is_type_1 image ≡ true → IsAlike image new → without_numbers nodes ≡ without_numbers behind → IsApart v (Node d f image behind others) high last → IsSpread high last (Node d f new nodes others) → (board : Board) → board ≡ v.fill (Node d f new nodes others) → HasOneAnswer board
 single_with v high last d f image new behind nodes others bridge alike same apart spread board is =
-    subst IsSingle (sym is) (apart (Node d f new nodes others) (same_node d f image new behind nodes others others bridge alike same refl) spread)
+    subst HasOneAnswer (sym is) (apart (Node d f new nodes others) (same_node d f image new behind nodes others others bridge alike same refl) spread)
 
 -- to the next node
 pub apart_next : (v : View) (high top last d f : ℕ) (image new : List ℕ) (behind nodes others : Nodes) → is_type_1 image ≡ true → IsAlike image new → without_numbers nodes ≡ without_numbers behind → IsApart v (Node d f image behind others) high last → ((after : Nodes) → IsSpread top last after → IsSpread high last (Node d f new nodes after)) → IsApart (next v d f new nodes) others top last

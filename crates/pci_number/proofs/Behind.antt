@@ -1,7 +1,7 @@
 -- A bridge behind which all have their numbers, whether there are bridges behind it or not.
 use Rattle.std.proofs.Common.{◌≡◌, ℕ, ◌+◌, ◌<◌, ◌≤◌, Bool, true, false, arith, subst, List}
 use Rattle.pci_spec.specs.Slot.{Slot}
-use Rattle.number_spec.specs.Board.{Board, IsSingle}
+use Rattle.number_spec.specs.Board.{Board, HasOneAnswer}
 use Rattle.pci_number.specs.Steps.{IsBusOpened}
 use Rattle.pci_number.specs.Few.{IsOpenFew, IsBusFew}
 use Rattle.pci_number.specs.Walked.{IsBusNumbered, outset}
@@ -16,7 +16,7 @@ use Rattle.pci_number.proofs.Walking.{one_more, IsBegun, begun_alone, begun_wide
 pub record Behind (spare : ℕ) (now far : Board) (slot : Slot) (last : ℕ) (walk after : Walk) (total far_by : ℕ) (old new newest : List Board) (more : Bool) (failed far_failed : ℕ) : Type 0 where
   pub begun : IsBegun spare now far slot last walk after
   pub few : IsBegunFew now slot last walk.taken total far_by
-  pub stood : (b : Bridge now slot last walk old new more) → Adds IsSingle old newest
+  pub stood : (b : Bridge now slot last walk old new more) → Adds HasOneAnswer old newest
   pub above : walk.taken + 1 ≤ after.taken
   pub counted : far_failed ≡ failed
 

@@ -5,7 +5,7 @@ use Rattle.std.specs.List.{filter, flat_map, list_all}
 use Rattle.std.proofs.lemmas.Bool.{and_parts, leb-true, cases_Bool, eqb-false}
 use Rattle.std.proofs.lemmas.List.{append-nil, length-map}
 use Rattle.pci_spec.specs.Slot.{Slot}
-use Rattle.number_spec.specs.Board.{Nodes, NoMore, Node, Root, Board, on_bus, at_root, goes_to, behind_bridges, answers, IsSingle}
+use Rattle.number_spec.specs.Board.{Nodes, NoMore, Node, RootBus, Board, on_bus, at_root, goes_to, behind_bridges, answers, HasOneAnswer}
 use Rattle.number_spec.specs.Access.{nodes_behind, with_nodes}
 use Rattle.number_spec.specs.Walk.{is_rising, is_all_found}
 use Rattle.number_spec.specs.Numbered.{without_numbers}
@@ -29,11 +29,11 @@ same_on_bus : (first second : Nodes) (access : Slot) → without_own_numbers sec
 same_on_bus first second access same = sym (on_bus_still second access) ∙ ap (λ n. on_bus n access) same ∙ on_bus_still first access
 
 -- where an access goes hangs on the numbers of the roots alone
-same_goes : (board : Board) (root bus : ℕ) (nodes : Nodes) (r : Root) → goes_to (with_nodes board root nodes) bus r ≡ goes_to board bus r
+same_goes : (board : Board) (root bus : ℕ) (nodes : Nodes) (r : RootBus) → goes_to (with_nodes board root nodes) bus r ≡ goes_to board bus r
 same_goes board root bus nodes r = ap (λ b. nat_le r.number bus && b) (all_same (λ n. nat_le n r.number || nat_lt bus n) root nodes board)
 
 -- it goes to another root, whatever is behind this one
-others_answer : (board : Board) (root : ℕ) (first second : Nodes) (access : Slot) → goes_to board access.bus (root_of root NoMore) ≡ false → (roots : List Root) → flat_map (with_root access) (filter (goes_to (with_nodes board root first) access.bus) (with_nodes roots root first)) ≡ flat_map (with_root access) (filter (goes_to (with_nodes board root second) access.bus) (with_nodes roots root second))
+others_answer : (board : Board) (root : ℕ) (first second : Nodes) (access : Slot) → goes_to board access.bus (root_of root NoMore) ≡ false → (roots : List RootBus) → flat_map (with_root access) (filter (goes_to (with_nodes board root first) access.bus) (with_nodes roots root first)) ≡ flat_map (with_root access) (filter (goes_to (with_nodes board root second) access.bus) (with_nodes roots root second))
 others_answer board root first second access elsewhere [] = refl
 others_answer board root first second access elsewhere (r ∷ roots) =
     let rest = others_answer board root first second access elsewhere roots in
@@ -66,7 +66,7 @@ module _ (board : Board) (root last : ℕ) (ready : IsReady board root last) whe
   count_at : (nodes : Nodes) (access : Slot) → goes_to board access.bus (root_of root NoMore) ≡ true → length (answers (with_nodes board root nodes) access) ≡ length (at_root (root_of root nodes) access)
   count_at nodes access goes = ap length (root_answers nodes access goes) ∙ length-map (at_root (root_of root nodes) access) (λ place. (root, place))
 
-  pub single_from : (nodes : Nodes) → IsSingleBeside board root → ((access : Slot) → goes_to board access.bus (root_of root NoMore) ≡ true → length (at_root (root_of root nodes) access) ≤ 1) → IsSingle (with_nodes board root nodes)
+  pub single_from : (nodes : Nodes) → IsSingleBeside board root → ((access : Slot) → goes_to board access.bus (root_of root NoMore) ≡ true → length (at_root (root_of root nodes) access) ≤ 1) → HasOneAnswer (with_nodes board root nodes)
   single_from nodes beside one access = elim (cases_Bool (goes_to board access.bus (root_of root NoMore))) [
     | inl goes ↦ omega (arith, count_at nodes access goes, one access goes)
     | inr elsewhere ↦ subst (λ xs. length xs ≤ 1) (others_answer board root NoMore nodes access elsewhere board) (beside access)
@@ -79,7 +79,7 @@ module _ (board : Board) (root last : ℕ) (ready : IsReady board root last) whe
   own_nodes = sym (same_nodes root board ready.one)
 
   -- a board that is single
-  pub single_beside : IsSingle board → IsSingleBeside board root
+  pub single_beside : HasOneAnswer board → IsSingleBeside board root
   single_beside single access = elim (cases_Bool (goes_to board access.bus (root_of root NoMore))) [
     | inl goes ↦ omega (arith, count_at NoMore access goes, ap length (nothing_at access))
     | inr elsewhere ↦ subst (λ xs. length xs ≤ 1) (ap (λ b. answers b access) own_nodes ∙ others_answer board root (nodes_behind board root) NoMore access elsewhere board) (single access)
@@ -88,7 +88,7 @@ module _ (board : Board) (root last : ℕ) (ready : IsReady board root last) whe
   rising_still : (after : Nodes) → without_numbers after ≡ without_numbers (nodes_behind board root) → is_rising after ≡ true
   rising_still after same = (and_parts (is_rising after) (is_all_found after after) (same_walk after (nodes_behind board root) same ∙ ready.walkable)).0
 
-  pub less_is_single : (after : Nodes) → IsLessOf (nodes_behind board root) after → IsSingle board → IsSingle (with_nodes board root after)
+  pub less_is_single : (after : Nodes) → IsLessOf (nodes_behind board root) after → HasOneAnswer board → HasOneAnswer (with_nodes board root after)
   less_is_single after less single = single_from after (single_beside single) (λ access goes.
       let before : length (at_root (root_of root (nodes_behind board root)) access) ≤ 1 = omega (arith, single access, ap (λ b. length (answers b access)) own_nodes, count_at (nodes_behind board root) access goes) in
       elim (cases_Bool (root == access.bus)) [
@@ -102,7 +102,7 @@ module _ (board : Board) (root last : ℕ) (ready : IsReady board root last) whe
       ])
 
   -- bridges that are spread over the buses of the root
-  pub spread_at_root : (high : ℕ) (after : Nodes) → without_numbers after ≡ without_numbers (nodes_behind board root) → IsSingleBeside board root → IsSpread root high after → IsSingle (with_nodes board root after)
+  pub spread_at_root : (high : ℕ) (after : Nodes) → without_numbers after ≡ without_numbers (nodes_behind board root) → IsSingleBeside board root → IsSpread root high after → HasOneAnswer (with_nodes board root after)
   spread_at_root high after same beside spread = single_from after beside (λ access goes.
       once_at_root root high after spread (rising_still after same) access
       (leb-true root access.bus (and_parts (nat_le root access.bus) (list_all (λ o. nat_le o.number root || nat_lt access.bus o.number) board) goes).0))

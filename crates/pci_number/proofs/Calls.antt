@@ -9,7 +9,7 @@ use Rattle.pci_spec.specs.Slot.{Slot}
 use Rattle.pci_spec.proofs.BusRanges.{all_from}
 use Rattle.pci_spec.proofs.Members.{in_nil, in_cons_cases, in_head, in_tail, in_map_to, in_map_from, pairs_head, pairs_tail}
 use Rattle.pci_spec.specs.NestingLaws.{HasNoBusFault}
-use Rattle.number_spec.specs.Board.{Nodes, Root, Board, Place, answers, access_of, IsSingle}
+use Rattle.number_spec.specs.Board.{Nodes, RootBus, Board, NodePlace, answers, access_of, HasOneAnswer}
 use Rattle.number_spec.specs.Access.{nodes_behind}
 use Rattle.number_spec.specs.Walk.{is_rising, is_all_found, is_walkable, walk}
 use Rattle.number_spec.specs.Room.{last_behind, IsNumberedWithRoom}
@@ -34,16 +34,16 @@ Rises board = AllPairs (λ m n. m < n) (numbers board)
 
 -- ---- one root with a number
 
-later : (r : Root) (rest : Board) → Rises (r ∷ rest) → (o : Root) → Contains rest o → r.number < o.number
-later r rest rises o has = pairs_head (λ m n. m < n) r.number (numbers rest) o.number rises (in_map_from (λ (x : Root). x.number) rest o has)
+later : (r : RootBus) (rest : Board) → Rises (r ∷ rest) → (o : RootBus) → Contains rest o → r.number < o.number
+later r rest rises o has = pairs_head (λ m n. m < n) r.number (numbers rest) o.number rises (in_map_from (λ (x : RootBus). x.number) rest o has)
 
-none_above : (n : ℕ) (board : Board) → ((o : Root) → Contains board o → n < o.number) → filter (λ (o : Root). o.number == n) board ≡ []
+none_above : (n : ℕ) (board : Board) → ((o : RootBus) → Contains board o → n < o.number) → filter (λ (o : RootBus). o.number == n) board ≡ []
 none_above n [] above = refl
 none_above n (r ∷ rest) above =
     let other : (r.number == n) ≡ false = ne_eqb r.number n (λ is. omega (arith, is, above r (in_head r rest))) in
     rw other (none_above n rest (λ o has. above o (in_tail r rest o has)))
 
-one_of : (n : ℕ) (board : Board) → Rises board → Contains (numbers board) n → length (filter (λ (o : Root). o.number == n) board) ≡ 1
+one_of : (n : ℕ) (board : Board) → Rises board → Contains (numbers board) n → length (filter (λ (o : RootBus). o.number == n) board) ≡ 1
 one_of n [] rises has = absurd (in_nil n has)
 one_of n (r ∷ rest) rises has = elim (cases_Bool (r.number == n)) [
   | inl own ↦
@@ -55,10 +55,10 @@ one_of n (r ∷ rest) rises has = elim (cases_Bool (r.number == n)) [
       rw other (one_of n rest (pairs_tail (λ m k. m < k) r.number (numbers rest) rises) in_rest)
 ]
 
-there : (board : Board) (r : Root) → Rises board → Contains board r → nodes_behind board r.number ≡ r.nodes
+there : (board : Board) (r : RootBus) → Rises board → Contains board r → nodes_behind board r.number ≡ r.nodes
 there [] r rises has = absurd (in_nil r has)
 there (first ∷ rest) r rises has = elim (in_cons_cases first rest r has) [
-  | inl is ↦ let own : (first.number == r.number) ≡ true = eq-eqb first.number r.number (ap (λ (x : Root). x.number) is) in rw own (ap (λ (x : Root). x.nodes) is)
+  | inl is ↦ let own : (first.number == r.number) ≡ true = eq-eqb first.number r.number (ap (λ (x : RootBus). x.number) is) in rw own (ap (λ (x : RootBus). x.nodes) is)
   | inr so ↦
       let other : (first.number == r.number) ≡ false = ne_eqb first.number r.number (λ is. omega (arith, is, later first rest rises r so)) in
       rw other (there rest r (pairs_tail (λ m k. m < k) first.number (numbers rest) rises) so)
@@ -70,10 +70,10 @@ module _ (spare : ℕ) (last : ℕ → ℕ) where
   ready_at : (board : Board) (n : ℕ) → AreReady last board → Contains (numbers board) n → IsReady board n (last n)
   ready_at board n ready has =
       let rises = AllPairs-from_increasing (numbers board) ready.rising in
-      let made = in_map_to (λ (x : Root). x.number) board n has in
+      let made = in_map_to (λ (x : RootBus). x.number) board n has in
       record {
         one = one_of n board rises has;
-        apart = all_from (λ (o : Root). nat_le o.number n || nat_lt (last n) o.number) board (λ o in_board. elim (cases_lt n o.number) [
+        apart = all_from (λ (o : RootBus). nat_le o.number n || nat_lt (last n) o.number) board (λ o in_board. elim (cases_lt n o.number) [
           | inl above ↦
               let over : last n < o.number = subst (λ m. last m < o.number) made.is (ready.apart made.from o made.has in_board (omega (arith, above, made.is))) in
               or_right (nat_le o.number n) (nat_lt (last n) o.number) (lt-ltb (last n) o.number over)
@@ -87,30 +87,30 @@ module _ (spare : ℕ) (last : ℕ → ℕ) where
     same_numbers = ap numbers a.others ∙ numbers_stay n (nodes_behind mid n) board
 
     -- a root with the same number was there
-    was : (r : Root) → Contains mid r → Contains (numbers board) r.number
-    was r has = subst (λ ns. Contains ns r.number) same_numbers (in_map_from (λ (x : Root). x.number) mid r has)
+    was : (r : RootBus) → Contains mid r → Contains (numbers board) r.number
+    was r has = subst (λ ns. Contains ns r.number) same_numbers (in_map_from (λ (x : RootBus). x.number) mid r has)
 
-    still_walkable : (r : Root) → Contains mid r → is_walkable r.nodes ≡ true
+    still_walkable : (r : RootBus) → Contains mid r → is_walkable r.nodes ≡ true
     still_walkable r has =
         let nodes = nodes_behind mid n in
-        let left : Root = record { number = n; nodes = nodes } in
-        let made = in_map_to (λ (x : Root). if x.number == n then left else x) board r (subst (λ b. Contains b r) a.others has) in
+        let left : RootBus = record { number = n; nodes = nodes } in
+        let made = in_map_to (λ (x : RootBus). if x.number == n then left else x) board r (subst (λ b. Contains b r) a.others has) in
         elim (cases_Bool (made.from.number == n)) [
           | inl own ↦
               let is : left ≡ r = rw own at made.is in
               let walkable = sym (same_walk (nodes_behind board n) nodes a.numbered.same) ∙ (ready_at board n ready has_it).walkable in
-              subst (λ (x : Root). is_walkable x.nodes ≡ true) is walkable
+              subst (λ (x : RootBus). is_walkable x.nodes ≡ true) is walkable
           | inr other ↦
               let is : made.from ≡ r = rw other at made.is in
-              subst (λ (x : Root). is_walkable x.nodes ≡ true) is (ready.walkable made.from made.has)
+              subst (λ (x : RootBus). is_walkable x.nodes ≡ true) is (ready.walkable made.from made.has)
         ]
 
     still_ready : AreReady last mid
     still_ready = record {
       rising = subst IsStrictlyIncreasing (sym same_numbers) ready.rising;
       apart = λ r o has_r has_o less.
-          let p = in_map_to (λ (x : Root). x.number) board r.number (was r has_r) in
-          let q = in_map_to (λ (x : Root). x.number) board o.number (was o has_o) in
+          let p = in_map_to (λ (x : RootBus). x.number) board r.number (was r has_r) in
+          let q = in_map_to (λ (x : RootBus). x.number) board o.number (was o has_o) in
           subst (λ m. m < o.number) (ap last p.is) (subst (λ m. last p.from.number < m) q.is (ready.apart p.from q.from p.has q.has (omega (arith, less, p.is, q.is))));
       walkable = still_walkable;
     }
@@ -120,9 +120,9 @@ module _ (spare : ℕ) (last : ℕ → ℕ) where
   record IsEnd (before after : Board) : Type 0 where
     ready : AreReady last after
     same : numbers after ≡ numbers before
-    numbered : (r : Root) → Contains after r → IsRootNumbered spare (last r.number) r
+    numbered : (r : RootBus) → Contains after r → IsRootNumbered spare (last r.number) r
 
-  calls : (roots : List ℕ) (board after : Board) → AreReady last board → ((n : ℕ) → Contains roots n → Contains (numbers board) n) → ((r : Root) → Contains board r → Contains roots r.number ⊎ IsRootNumbered spare (last r.number) r) → AreNumbered spare last roots board after → IsEnd board after
+  calls : (roots : List ℕ) (board after : Board) → AreReady last board → ((n : ℕ) → Contains roots n → Contains (numbers board) n) → ((r : RootBus) → Contains board r → Contains roots r.number ⊎ IsRootNumbered spare (last r.number) r) → AreNumbered spare last roots board after → IsEnd board after
   calls [] board after ready within each done = record {
     ready = subst (AreReady last) (sym done) ready;
     same = ap numbers done;
@@ -148,7 +148,7 @@ module _ (spare : ℕ) (last : ℕ → ℕ) where
 
   module _ (roots : List ℕ) (before after : Board) (ready : AreReady last before) (its : AreItsRoots roots before) (done : AreNumbered spare last roots before after) where
     the_end : IsEnd before after
-    the_end = calls roots before after ready (λ n has. (its n).0 has) (λ r has. inl ((its r.number).1 (in_map_from (λ (x : Root). x.number) before r has))) done
+    the_end = calls roots before after ready (λ n has. (its n).0 has) (λ r has. inl ((its r.number).1 (in_map_from (λ (x : RootBus). x.number) before r has))) done
 
     has_numbers : HasRoomyNumbers (spare_room spare) last after
     has_numbers = record {
@@ -158,7 +158,7 @@ module _ (spare : ℕ) (last : ℕ → ℕ) where
       none = λ r has. (the_end.numbered r has).none;
     }
 
-    is_single : IsSingle after
+    is_single : HasOneAnswer after
     is_single = roots_single after the_end.ready.rising (λ r has.
         let n = (the_end.numbered r has).numbered in
         single r.number r.number (last_behind r.number r.nodes) r.nodes (roomy (spare_room spare) (last r.number) r.number r.number r.nodes n.numbers)
@@ -177,12 +177,12 @@ roots_get_single spare last roots before after ready its done = is_single spare 
 
 -- each node that the walk finds among these answers one access
 abbrev IsOnceAt : Board → ℕ → Nodes → Type 0
-IsOnceAt board number nodes = (place : Place) → Contains (walk nodes nodes) place → (access : Slot) → Contains (answers board access) (number, place) ↔ (access ≡ access_of number nodes place)
+IsOnceAt board number nodes = (place : NodePlace) → Contains (walk nodes nodes) place → (access : Slot) → Contains (answers board access) (number, place) ↔ (access ≡ access_of number nodes place)
 
 pub roots_answer_once : RootsAnswerOnce
 roots_answer_once spare last roots before after ready its done root has =
     let end = the_end spare last roots before after ready its done in
     let is = there after root (AllPairs-from_increasing (numbers after) end.ready.rising) has in
-    let ready_there = ready_at spare last after root.number end.ready (in_map_from (λ (x : Root). x.number) after root has) in
+    let ready_there = ready_at spare last after root.number end.ready (in_map_from (λ (x : RootBus). x.number) after root has) in
     subst (λ (nodes : Nodes). IsNumberedWithRoom (spare_room spare) root.number (last root.number) nodes nodes → IsOnceAt after root.number nodes) is
     (among_roots_answers_once (spare_room spare) after root.number (last root.number) ready_there) (end.numbered root has).numbered

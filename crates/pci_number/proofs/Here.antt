@@ -5,7 +5,7 @@ use Rattle.std.proofs.lemmas.Bool.{and_parts, eqb-true, eq-eqb, false_from_ne_tr
 use Rattle.pci_spec.specs.Slot.{Slot}
 use Rattle.pci_spec.specs.Number.{byte_at}
 use Rattle.number_spec.specs.Board.{Nodes, NoMore, Node, Board, Here, on_bus, answers}
-use Rattle.number_spec.specs.Access.{IsRead, IsWritten, image_of, with_byte_of}
+use Rattle.number_spec.specs.Access.{IsByteRead, IsByteWritten, image_of, with_byte_of}
 use Rattle.number_spec.specs.Walk.{all_after}
 use Rattle.number_spec.proofs.Single.{none_before}
 use Rattle.pci_number.specs.Seen.{View, code, IsSeen, AreLastNodes}
@@ -36,17 +36,17 @@ module _ (v : View) (high last : ℕ) (access : Slot) (seen : IsSeen v access.bu
   answers_here image behind others is after =
       ap (λ b. answers b access) is ∙ seen.here (node image behind others) access refl (omega arith) ∙ ap (map v.at) (alone access image behind others after)
 
-  pub read_here : (image : List ℕ) (behind others : Nodes) → board ≡ v.fill (node image behind others) → all_after access.device access.function others ≡ true → (offset value : ℕ) → IsRead board access offset value → value ≡ byte_at image offset
+  pub read_here : (image : List ℕ) (behind others : Nodes) → board ≡ v.fill (node image behind others) → all_after access.device access.function others ≡ true → (offset value : ℕ) → IsByteRead board access offset value → value ≡ byte_at image offset
   read_here image behind others is after offset value read =
       read.byte (v.at Here) (answers_here image behind others is after)
       ∙ ap (λ b. byte_at (image_of b (v.at Here)) offset) is
       ∙ ap (λ i. byte_at i offset) (seen.image (node image behind others) Here)
 
-  pub write_here : (image : List ℕ) (behind others : Nodes) → board ≡ v.fill (node image behind others) → all_after access.device access.function others ≡ true → (offset : ℕ) (written : Board) → IsWritten board access offset written → (kept : ℕ) × (written ≡ v.fill (node (set image offset kept) behind others))
+  pub write_here : (image : List ℕ) (behind others : Nodes) → board ≡ v.fill (node image behind others) → all_after access.device access.function others ≡ true → (offset : ℕ) (written : Board) → IsByteWritten board access offset written → (kept : ℕ) × (written ≡ v.fill (node (set image offset kept) behind others))
   write_here image behind others is after offset written write =
       let w = write.byte (v.at Here) (answers_here image behind others is after) in
       (w.0, w.1 ∙ ap (λ b. with_byte_of b (v.at Here) offset w.0) is ∙ seen.byte (node image behind others) Here offset w.0)
 
-  pub read_nothing : (device : ℕ) (more : Bool) (rest : Nodes) → board ≡ v.fill rest → access.function ≤ 7 → AreLastNodes (code access + 1) device more rest → (offset value : ℕ) → IsRead board access offset value → value ≡ 0xff
+  pub read_nothing : (device : ℕ) (more : Bool) (rest : Nodes) → board ≡ v.fill rest → access.function ≤ 7 → AreLastNodes (code access + 1) device more rest → (offset value : ℕ) → IsByteRead board access offset value → value ≡ 0xff
   read_nothing device more rest is low none offset value read =
       read.nothing (ap (λ b. answers b access) is ∙ seen.here rest access refl (omega arith) ∙ ap (map v.at) (none_at (code access + 1) device more rest access low (omega arith) none))

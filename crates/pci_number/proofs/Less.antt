@@ -5,13 +5,13 @@ use Rattle.std.proofs.lemmas.Bool.{and_parts, cases_Bool, eqb-true, leb-true, fa
 use Rattle.std.proofs.lemmas.List.{length-append, length-map}
 use Rattle.pci_spec.specs.Slot.{Slot}
 use Rattle.pci_spec.specs.Header.{secondary_bus, subordinate_bus}
-use Rattle.number_spec.specs.Board.{Nodes, Node, Place, Behind, Next, is_type_1, on_bus, passes_on, behind_bridges}
+use Rattle.number_spec.specs.Board.{Nodes, Node, NodePlace, Behind, Next, is_type_1, on_bus, passes_on, behind_bridges}
 use Rattle.pci_number.specs.Steps.{IsAlike}
 use Rattle.pci_number.specs.Less.{IsLess, IsLessOf}
 use Rattle.pci_number.proofs.Views.{same_node, same_others}
 
 -- what answers on the other side of a bridge
-abbrev side : List ℕ → Nodes → Slot → List Place
+abbrev side : List ℕ → Nodes → Slot → List NodePlace
 side image behind access =
     if is_type_1 image && secondary_bus image == access.bus then on_bus behind access
     else if is_type_1 image && passes_on image access.bus then behind_bridges behind access else []
@@ -36,7 +36,7 @@ less_side image new behind access kind less above =
       ]
     ]
 
-two_parts : (xs less_xs ys less_ys : List Place) → length less_xs ≤ length xs → length less_ys ≤ length ys → length (map Behind less_xs ++ map Next less_ys) ≤ length (map Behind xs ++ map Next ys)
+two_parts : (xs less_xs ys less_ys : List NodePlace) → length less_xs ≤ length xs → length less_ys ≤ length ys → length (map Behind less_xs ++ map Next less_ys) ≤ length (map Behind xs ++ map Next ys)
 two_parts xs less_xs ys less_ys first second =
     omega (arith, length-append (map Behind xs) (map Next ys), length-append (map Behind less_xs) (map Next less_ys), length-map xs Behind, length-map ys Next, length-map less_xs Behind, length-map less_ys Next)
 

@@ -6,7 +6,7 @@ use Rattle.pci_spec.specs.Slot.{Slot}
 use Rattle.pci_spec.specs.Number.{byte_at, has_bit}
 use Rattle.pci_spec.specs.Header.{vendor_id}
 use Rattle.number_spec.specs.Board.{Nodes, NoMore, Node, Board}
-use Rattle.number_spec.specs.Access.{IsRead}
+use Rattle.number_spec.specs.Access.{IsByteRead}
 use Rattle.number_spec.specs.Walk.{all_after, is_walkable}
 use Rattle.pci_number.specs.Seen.{View, code, IsSeen, AreLastNodes}
 use Rattle.pci_number.specs.Steps.{IsLook, Absent, There}
@@ -58,32 +58,32 @@ module _ (v : View) (high last : ℕ) (slot : Slot) (device : ℕ) (more : Bool)
     | Later others_are ↦ Absent device refl earlier others_are
   ]
 
-  vendor_of : (image : List ℕ) (behind others : Nodes) → rest ≡ Node slot.device slot.function image behind others → all_after slot.device slot.function others ≡ true → (l h : ℕ) → IsRead board slot 0 l → IsRead board slot 1 h → vendor_id image ≡ l + h * 256
+  vendor_of : (image : List ℕ) (behind others : Nodes) → rest ≡ Node slot.device slot.function image behind others → all_after slot.device slot.function others ≡ true → (l h : ℕ) → IsByteRead board slot 0 l → IsByteRead board slot 1 h → vendor_id image ≡ l + h * 256
   vendor_of image behind others same after l h read_l read_h =
       let node = is ∙ ap v.fill same in
       let le : l ≡ byte_at image 0 = read_here v high last slot seen board image behind others node after 0 l read_l in
       let he : h ≡ byte_at image 1 = read_here v high last slot seen board image behind others node after 1 h read_h in
       omega (arith, le, he)
 
-  nothing_there : (l h : ℕ) → IsRead board slot 0 l → IsRead board slot 1 h → l + h * 256 ≡ 0xffff → AreLastNodes (code slot + 1) device more rest
+  nothing_there : (l h : ℕ) → IsByteRead board slot 0 l → IsByteRead board slot 1 h → l + h * 256 ≡ 0xffff → AreLastNodes (code slot + 1) device more rest
   nothing_there l h read_l read_h none = elim (first slot device more rest low has) [
     | Own image behind others same vendor by_first walkable after others_are ↦ absurd (vendor (vendor_of image behind others same after l h read_l read_h ∙ none))
     | Later others_are ↦ others_are
   ]
 
-  pub none_first : (l h : ℕ) → IsRead board slot 0 l → IsRead board slot 1 h → l + h * 256 ≡ 0xffff → (slot.function == 0) ≡ true → IsLook slot (record { bridge = false; more = false }) rest
+  pub none_first : (l h : ℕ) → IsByteRead board slot 0 l → IsByteRead board slot 1 h → l + h * 256 ≡ 0xffff → (slot.function == 0) ≡ true → IsLook slot (record { bridge = false; more = false }) rest
   none_first l h read_l read_h none zero = Absent device refl (λ never. cc never) (forget slot device more rest (eqb-true slot.function 0 zero) past (nothing_there l h read_l read_h none))
 
-  pub none_later : (l h : ℕ) → IsRead board slot 0 l → IsRead board slot 1 h → l + h * 256 ≡ 0xffff → IsLook slot (record { bridge = false; more = more }) rest
+  pub none_later : (l h : ℕ) → IsByteRead board slot 0 l → IsByteRead board slot 1 h → l + h * 256 ≡ 0xffff → IsLook slot (record { bridge = false; more = more }) rest
   none_later l h read_l read_h none = Absent device refl earlier (nothing_there l h read_l read_h none)
 
-  some : (l h : ℕ) → IsRead board slot 0 l → IsRead board slot 1 h → l + h * 256 ≢ 0xffff → AreLastNodes (code slot + 1) device more rest → ⊥
+  some : (l h : ℕ) → IsByteRead board slot 0 l → IsByteRead board slot 1 h → l + h * 256 ≢ 0xffff → AreLastNodes (code slot + 1) device more rest → ⊥
   some l h read_l read_h there none =
       let le = read_nothing v high last slot seen board device more rest is low none 0 l read_l in
       let he = read_nothing v high last slot seen board device more rest is low none 1 h read_h in
       there (omega (arith, le, he))
 
-  pub there_first : (l h n : ℕ) → IsRead board slot 0 l → IsRead board slot 1 h → l + h * 256 ≢ 0xffff → IsRead board slot 14 n → (slot.function == 0) ≡ true → IsLook slot (record { bridge = n % 128 == 1; more = n / 128 % 2 == 1 }) rest
+  pub there_first : (l h n : ℕ) → IsByteRead board slot 0 l → IsByteRead board slot 1 h → l + h * 256 ≢ 0xffff → IsByteRead board slot 14 n → (slot.function == 0) ≡ true → IsLook slot (record { bridge = n % 128 == 1; more = n / 128 % 2 == 1 }) rest
   there_first l h n read_l read_h there read_n zero = elim (first slot device more rest low has) [
     | Later none ↦ absurd (some l h read_l read_h there none)
     | Own image behind others same vendor by_first walkable after others_are ↦
@@ -92,7 +92,7 @@ module _ (v : View) (high last : ℕ) (slot : Slot) (device : ℕ) (more : Bool)
         (subst (λ b. AreLastNodes (code slot + 1) slot.device b others) (ap (λ m. m / 128 % 2 == 1) (sym e)) (rw zero at others_are))
   ]
 
-  pub there_later : (l h n : ℕ) → IsRead board slot 0 l → IsRead board slot 1 h → l + h * 256 ≢ 0xffff → IsRead board slot 14 n → (slot.function == 0) ≡ false → IsLook slot (record { bridge = n % 128 == 1; more = more }) rest
+  pub there_later : (l h n : ℕ) → IsByteRead board slot 0 l → IsByteRead board slot 1 h → l + h * 256 ≢ 0xffff → IsByteRead board slot 14 n → (slot.function == 0) ≡ false → IsLook slot (record { bridge = n % 128 == 1; more = more }) rest
   there_later l h n read_l read_h there read_n later = elim (first slot device more rest low has) [
     | Later none ↦ absurd (some l h read_l read_h there none)
     | Own image behind others same vendor by_first walkable after others_are ↦

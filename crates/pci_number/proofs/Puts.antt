@@ -2,7 +2,7 @@
 use Rattle.std.proofs.Common.{◌≡◌, ℕ, inl, inr, refl, sym, ◌∙◌, set}
 use Rattle.pci_spec.specs.Slot.{Slot}
 use Rattle.number_spec.specs.Board.{Board}
-use Rattle.number_spec.specs.Access.{IsRead, IsWritten}
+use Rattle.number_spec.specs.Access.{IsByteRead, IsByteWritten}
 use Rattle.pci_number.specs.Steps.{IsNumberPut, IsTouched, IsLeftAt, IsShownAt}
 use Rattle.pci_number.proofs.Here.{read_here, write_here}
 use Rattle.pci_number.proofs.Bytes.{other_byte, alike_primary, alike_secondary, alike_subordinate, alike_then, shows_from}
@@ -10,16 +10,16 @@ use Rattle.pci_number.proofs.Bytes.{other_byte, alike_primary, alike_secondary, 
 pub untouched : (before after : Board) (slot : Slot) (offset : ℕ) → after ≡ before → IsTouched before slot offset after
 untouched before after slot offset same = λ v high last image behind others is seen last_there. (image, same ∙ is, inl refl)
 
-pub put_already : (before after : Board) (slot : Slot) (offset value number : ℕ) → IsRead before slot offset value → value ≡ number → after ≡ before → IsNumberPut before slot offset number after
+pub put_already : (before after : Board) (slot : Slot) (offset value number : ℕ) → IsByteRead before slot offset value → value ≡ number → after ≡ before → IsNumberPut before slot offset number after
 put_already before after slot offset value number read equal same = λ v high last image behind others is seen alone.
     (image, same ∙ is, inl refl, sym (read_here v high last slot seen before image behind others is alone offset value read) ∙ equal)
 
-pub touched : (before written after : Board) (slot : Slot) (offset : ℕ) → IsWritten before slot offset written → after ≡ written → IsTouched before slot offset after
+pub touched : (before written after : Board) (slot : Slot) (offset : ℕ) → IsByteWritten before slot offset written → after ≡ written → IsTouched before slot offset after
 touched before written after slot offset write same = λ v high last image behind others is seen alone.
     let w = write_here v high last slot seen before image behind others is alone offset written write in
     (set image offset w.0, same ∙ w.1, inr (w.0, refl))
 
-pub put_new : (before written after : Board) (slot : Slot) (offset value number : ℕ) → IsWritten before slot offset written → IsRead written slot offset value → value ≡ number → after ≡ written → IsNumberPut before slot offset number after
+pub put_new : (before written after : Board) (slot : Slot) (offset value number : ℕ) → IsByteWritten before slot offset written → IsByteRead written slot offset value → value ≡ number → after ≡ written → IsNumberPut before slot offset number after
 put_new before written after slot offset value number write read equal same = λ v high last image behind others is seen alone.
     let w = write_here v high last slot seen before image behind others is alone offset written write in
     (set image offset w.0, same ∙ w.1, inr (w.0, refl), sym (read_here v high last slot seen written (set image offset w.0) behind others w.1 alone offset value read) ∙ equal)

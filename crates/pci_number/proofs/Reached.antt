@@ -7,10 +7,10 @@ use Rattle.pci_spec.specs.Number.{byte_at, has_bit}
 use Rattle.pci_spec.specs.Header.{vendor_id}
 use Rattle.pci_spec.proofs.BusRanges.{second_side}
 use Rattle.number_spec.specs.Board.{Nodes, NoMore, Node}
-use Rattle.number_spec.specs.Walk.{has_more, is_found, comes_before, all_after, is_rising, is_all_found, is_walkable}
+use Rattle.number_spec.specs.Walk.{has_more, is_found, slot_comes_before, all_after, is_rising, is_all_found, is_walkable}
 use Rattle.pci_number.specs.Seen.{AreLastNodes}
 
-before : (device function d f : ℕ) → comes_before device function d f ≡ true → (device < d) ⊎ ((device ≡ d) × (function < f))
+before : (device function d f : ℕ) → slot_comes_before device function d f ≡ true → (device < d) ⊎ ((device ≡ d) × (function < f))
 before device function d f comes = elim (or_cases (nat_lt device d) (device == d && nat_lt function f) comes) [
   | inl less ↦ inl (ltb-true device d less)
   | inr same ↦ let parts = and_parts (device == d) (nat_lt function f) same in inr (eqb-true device d parts.0, ltb-true function f parts.1)
@@ -20,7 +20,7 @@ before device function d f comes = elim (or_cases (nat_lt device d) (device == d
 none_more : (nodes : Nodes) (device function : ℕ) → all_after device function nodes ≡ true → has_more nodes device ≡ false
 none_more NoMore device function after = refl
 none_more (Node d f image behind others) device function after =
-    let parts = and_parts (comes_before device function d f) (all_after device function others) after in
+    let parts = and_parts (slot_comes_before device function d f) (all_after device function others) after in
     let apart : (d == device && f == 0 && has_bit (byte_at image 14) 7) ≡ false = false_from_ne_true _ (λ meets.
     let outer = and_parts (d == device && f == 0) (has_bit (byte_at image 14) 7) meets in
     let met = and_parts (d == device) (f == 0) outer.0 in
@@ -79,7 +79,7 @@ reached : (all nodes : Nodes) (device function : ℕ) (more : Bool) → function
 reached all NoMore device function more low after rising found same own = tt
 reached all (Node d f image behind others) device function more low after rising found same own =
     let p = parts_of all d f image behind others rising found in
-    let comes = before device function d f (and_parts (comes_before device function d f) (all_after device function others) after).0 in
+    let comes = before device function d f (and_parts (slot_comes_before device function d f) (all_after device function others) after).0 in
     let from : device * 8 + function + 1 ≤ d * 8 + f = elim comes [ inl less ↦ omega (arith, less, low) | inr later ↦ omega (arith, later.0, later.1) ] in
     elim (cases_eq f 0) [
       | inl zero ↦

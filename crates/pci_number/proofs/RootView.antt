@@ -5,7 +5,7 @@ use Rattle.std.specs.List.{filter, list_all}
 use Rattle.std.proofs.lemmas.Bool.{and_parts, and_from, or_cases, or_left, or_right, eqb-true, eqb-false, eq-eqb, le-leb, leb-true, lt-ltb, ltb-true, cases_lt, cases_Bool, false_from_ne_true}
 use Rattle.std.proofs.lemmas.List.Folds.{list_all-map}
 use Rattle.pci_spec.proofs.BusRanges.{all_from, all_gives}
-use Rattle.number_spec.specs.Board.{Nodes, Root, Board, goes_to}
+use Rattle.number_spec.specs.Board.{Nodes, RootBus, Board, goes_to}
 use Rattle.number_spec.specs.Access.{nodes_behind, with_nodes}
 use Rattle.number_spec.specs.Ready.{IsReady}
 use Rattle.number_spec.proofs.Among.{only}
@@ -14,7 +14,7 @@ use Rattle.number_spec.proofs.Among.{only}
 abbrev count : ℕ → Board → ℕ
 count root board = length (filter (λ other. other.number == root) board)
 
-abbrev pub root_of : ℕ → Nodes → Root
+abbrev pub root_of : ℕ → Nodes → RootBus
 root_of root nodes = record { number = root; nodes = nodes }
 
 none_changed : (root : ℕ) (nodes : Nodes) (board : Board) → count root board ≡ 0 → with_nodes board root nodes ≡ board
@@ -56,7 +56,7 @@ nodes_twice root first second (r ∷ roots) = elim (cases_Bool (r.number == root
 ]
 
 abbrev pub numbers : Board → List ℕ
-numbers board = map (λ (r : Root). r.number) board
+numbers board = map (λ (r : RootBus). r.number) board
 
 pub numbers_stay : (root : ℕ) (nodes : Nodes) (board : Board) → numbers (with_nodes board root nodes) ≡ numbers board
 numbers_stay root nodes [] = refl
@@ -66,9 +66,9 @@ numbers_stay root nodes (r ∷ rest) = elim (cases_Bool (r.number == root)) [
 ]
 
 -- what is asked of these alone is answered as before
-pub all_same : (test : ℕ → Bool) (root : ℕ) (nodes : Nodes) (board : Board) → list_all (λ (other : Root). test other.number) (with_nodes board root nodes) ≡ list_all (λ (other : Root). test other.number) board
+pub all_same : (test : ℕ → Bool) (root : ℕ) (nodes : Nodes) (board : Board) → list_all (λ (other : RootBus). test other.number) (with_nodes board root nodes) ≡ list_all (λ (other : RootBus). test other.number) board
 all_same test root nodes board =
-    sym (list_all-map test (λ (r : Root). r.number) (with_nodes board root nodes)) ∙ ap (list_all test) (numbers_stay root nodes board) ∙ list_all-map test (λ (r : Root). r.number) board
+    sym (list_all-map test (λ (r : RootBus). r.number) (with_nodes board root nodes)) ∙ ap (list_all test) (numbers_stay root nodes board) ∙ list_all-map test (λ (r : RootBus). r.number) board
 
 -- what is beyond the last bus of a root is beyond each of its buses
 beyond_it : (root last bus n : ℕ) → (bus ≤ root) ⊎ (bus ≤ last) → (nat_le n root || nat_lt last n) ≡ true → (nat_le n root || nat_lt bus n) ≡ true
@@ -93,7 +93,7 @@ module _ (board : Board) (root last : ℕ) (ready : IsReady board root last) (no
       beyond_it root last bus r.number within (all_gives (λ other. nat_le other.number root || nat_lt last other.number) board ready.apart r has)))
 
   -- and to none before it
-  other_goes_not : (r : Root) → r.number ≢ root → (nat_le r.number root || nat_lt last r.number) ≡ true → goes_to (with_nodes board root nodes) bus r ≡ false
+  other_goes_not : (r : RootBus) → r.number ≢ root → (nat_le r.number root || nat_lt last r.number) ≡ true → goes_to (with_nodes board root nodes) bus r ≡ false
   other_goes_not r other apart = false_from_ne_true _ (λ goes.
       let parts = and_parts (nat_le r.number bus) (list_all (λ o. nat_le o.number r.number || nat_lt bus o.number) (with_nodes board root nodes)) goes in
       elim (cases_lt r.number root) [
@@ -113,7 +113,7 @@ module _ (board : Board) (root last : ℕ) (ready : IsReady board root last) (no
         ]
       ])
 
-  goes_there : (roots : List Root) → list_all (λ other. nat_le other.number root || nat_lt last other.number) roots ≡ true → filter (goes_to (with_nodes board root nodes) bus) (with_nodes roots root nodes) ≡ replicate (count root roots) (root_of root nodes)
+  goes_there : (roots : List RootBus) → list_all (λ other. nat_le other.number root || nat_lt last other.number) roots ≡ true → filter (goes_to (with_nodes board root nodes) bus) (with_nodes roots root nodes) ≡ replicate (count root roots) (root_of root nodes)
   goes_there [] apart = refl
   goes_there (r ∷ roots) apart =
       let parts = and_parts (nat_le r.number root || nat_lt last r.number) (list_all (λ other. nat_le other.number root || nat_lt last other.number) roots) apart in

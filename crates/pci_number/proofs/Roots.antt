@@ -4,7 +4,7 @@ use Rattle.std.specs.Bool.{◌==◌}
 use Rattle.std.specs.List.{flat_map}
 use Rattle.std.proofs.lemmas.Bool.{eq-eqb, ne_eqb}
 use Rattle.std.proofs.lemmas.List.{append-nil}
-use Rattle.number_spec.specs.Board.{Nodes, Board, image_at}
+use Rattle.number_spec.specs.Board.{Nodes, Board, node_image}
 use Rattle.number_spec.specs.Access.{nodes_behind, with_byte, with_nodes}
 use Rattle.number_spec.specs.Walk.{is_walkable}
 use Rattle.number_spec.specs.Numbered.{without_numbers}
@@ -37,7 +37,7 @@ seen_root board root last ready = record {
       ap (flat_map (with_root access)) (only_there board root last ready nodes access.bus (omega (arith, over)) (inr within))
       ∙ append-nil (with_root access (record { number = root; nodes = nodes }))
       ∙ rw other refl;
-  image = λ nodes place. ap (λ n. image_at n place) (nodes_there root nodes board (omega (arith, ready.one)));
+  image = λ nodes place. ap (λ n. node_image n place) (nodes_there root nodes board (omega (arith, ready.one)));
   byte = λ nodes place offset value.
       ap (λ n. with_nodes (with_nodes board root nodes) root (with_byte n place offset value)) (nodes_there root nodes board (omega (arith, ready.one)))
       ∙ nodes_twice root nodes (with_byte nodes place offset value) board;

@@ -6,15 +6,15 @@ use Rattle.pci_spec.specs.Slot.{Slot}
 use Rattle.pci_spec.specs.Number.{byte_at, number_at, has_bit}
 use Rattle.pci_spec.specs.Capability.{pointer_at}
 use Rattle.number_spec.specs.Board.{Board}
-use Rattle.number_spec.specs.Access.{IsRead}
+use Rattle.number_spec.specs.Access.{IsByteRead}
 use Rattle.number_spec.specs.Spare.{is_hot_plug, leads_to_slot, has_hot_plug_slot, spare_room}
 use Rattle.pci_number.specs.Spare.{IsSaidThere}
 use Rattle.pci_number.proofs.Here.{read_here}
 
 -- a byte that is read, on the board as it was
-pub read_there : (now before : Board) (slot : Slot) (offset value : ℕ) → now ≡ before → IsRead now slot offset value → IsSaidThere before slot (λ image. value ≡ byte_at image offset)
+pub read_there : (now before : Board) (slot : Slot) (offset value : ℕ) → now ≡ before → IsByteRead now slot offset value → IsSaidThere before slot (λ image. value ≡ byte_at image offset)
 read_there now before slot offset value same read = λ v high last image behind others is seen alone.
-    read_here v high last slot seen before image behind others is alone offset value (subst (λ b. IsRead b slot offset value) same read)
+    read_here v high last slot seen before image behind others is alone offset value (subst (λ b. IsByteRead b slot offset value) same read)
 
 -- ---- a slot of a PCI Express port
 
@@ -23,7 +23,7 @@ slot_says image place express capabilities of_express of_capabilities =
     let whole : byte_at image (place + 3) / 1 % 2 ≡ express % 2 = omega (arith, of_express) in
     rw (whole, of_capabilities) refl
 
-pub slot_there : (now before : Board) (slot : Slot) (place express capabilities : ℕ) → now ≡ before → IsRead before slot (place + 3) express → IsRead now slot (place + 20) capabilities → IsSaidThere before slot (λ image. (nat_eq (express % 2) 1 && nat_eq (capabilities / 64 % 2) 1) ≡ (has_bit (byte_at image (place + 3)) 0 && has_bit (byte_at image (place + 20)) 6))
+pub slot_there : (now before : Board) (slot : Slot) (place express capabilities : ℕ) → now ≡ before → IsByteRead before slot (place + 3) express → IsByteRead now slot (place + 20) capabilities → IsSaidThere before slot (λ image. (nat_eq (express % 2) 1 && nat_eq (capabilities / 64 % 2) 1) ≡ (has_bit (byte_at image (place + 3)) 0 && has_bit (byte_at image (place + 20)) 6))
 slot_there now before slot place express capabilities same first second = λ v high last image behind others is seen alone.
     slot_says image place express capabilities
     (read_there before before slot (place + 3) express refl first v high last image behind others is seen alone)

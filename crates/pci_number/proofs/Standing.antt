@@ -3,7 +3,7 @@ use Rattle.std.proofs.Common.{◌≡◌, ℕ, ◌+◌, ◌<◌, ◌≤◌, inl, 
 use Rattle.std.specs.Result.{IsErr}
 use Rattle.std.proofs.lemmas.Bool.{both_ways}
 use Rattle.pci_spec.specs.Slot.{Slot}
-use Rattle.number_spec.specs.Board.{Nodes, Node, Board, is_type_1, IsSingle}
+use Rattle.number_spec.specs.Board.{Nodes, Node, Board, is_type_1, HasOneAnswer}
 use Rattle.number_spec.specs.Numbered.{without_numbers}
 use Rattle.number_spec.specs.Room.{shows}
 use Rattle.number_spec.specs.Spare.{spare_room}
@@ -32,7 +32,7 @@ OfApart before bus last start P = OfClosed before bus start.taken last (λ v nod
 
 -- what is known of the nodes from a place on
 abbrev pub StoodUpTo : ℕ → Walk → List Board → List Board → View → Nodes → Type 0
-StoodUpTo last walk old new view left = IsClosed left × IsApart view left walk.taken last × Adds IsSingle old new
+StoodUpTo last walk old new view left = IsClosed left × IsApart view left walk.taken last × Adds HasOneAnswer old new
 
 -- with that as one fact, and taken apart
 module _ (spare : ℕ) (before now : Board) (bus place last : ℕ) (start walk : Walk) (old new : List Board) (more : Bool) where
@@ -44,7 +44,7 @@ module _ (spare : ℕ) (before now : Board) (bus place last : ℕ) (start walk :
 
 pub stand_start : (spare : ℕ) (before : Board) (bus last : ℕ) (start : Walk) (old : List Board) → IsWalkStanding (board_moment before old) (outset bus last spare start) 0 false start (board_moment before old)
 stand_start spare before bus last start old = standing_of spare before before bus 0 last start start old old false (λ v nodes is seen walkable closed apart.
-    came_first before bus start.taken last (StoodUpTo last start old old) v nodes is seen walkable (closed, apart, adds_none IsSingle old))
+    came_first before bus start.taken last (StoodUpTo last start old old) v nodes is seen walkable (closed, apart, adds_none HasOneAnswer old))
 
 -- a device
 pub stand_pass : (spare : ℕ) (before now : Board) (slot : Slot) (bus place last : ℕ) (start walk : Walk) (old new : List Board) (more : Bool) (found : Found) → IsPlaceOf slot bus place → IsLooked now slot more found → found.bridge ≡ false → IsWalkStanding (board_moment before old) (outset bus last spare start) place more walk (board_moment now new) → IsWalkStanding (board_moment before old) (outset bus last spare start) (place + 1) found.more walk (board_moment now new)
@@ -90,7 +90,7 @@ record Stands (slot : Slot) (last : ℕ) (walk after : Walk) (view : View) (imag
   above : walk.taken + 1 ≤ after.taken
   within : after.taken ≤ last
   inner : IsSpread (walk.taken + 1) after.taken nodes
-  stood : Adds IsSingle old new
+  stood : Adds HasOneAnswer old new
 
 stand_given : (spare : ℕ) (before now later : Board) (slot : Slot) (bus place last : ℕ) (start walk after : Walk) (old new newer : List Board) (more : Bool) (found : Found) → IsPlaceOf slot bus place → IsLooked now slot more found → found.bridge ≡ true → walk.taken < last → IsWalkStanding (board_moment before old) (outset bus last spare start) place more walk (board_moment now new) → ((b : Bridge now slot last walk old new found.more) → Stands slot last walk after b.view b.image b.behind b.others later old newer) → IsWalkStanding (board_moment before old) (outset bus last spare start) (place + 1) found.more after (board_moment later newer)
 stand_given spare before now later slot bus place last start walk walk_after old new newer more found at looked one left standing given = standing_of spare before later bus (place + 1) last start walk_after old newer found.more (λ v nodes is seen walkable closed apart.
@@ -106,9 +106,9 @@ stand_given spare before now later slot bus place last start walk walk_after old
       n.stood,
     ))
 
-pub stood_here : (now : Board) (slot : Slot) (last : ℕ) (walk : Walk) (old new newer : List Board) (more : Bool) (b : Bridge now slot last walk old new more) → walk.taken < last → IsOpenOk now slot (walk.taken + 1) last new newer → Adds IsSingle old newer
+pub stood_here : (now : Board) (slot : Slot) (last : ℕ) (walk : Walk) (old new newer : List Board) (more : Bool) (b : Bridge now slot last walk old new more) → walk.taken < last → IsOpenOk now slot (walk.taken + 1) last new newer → Adds HasOneAnswer old newer
 stood_here now slot last walk old new newer more b left gets =
-    adds_then IsSingle old new newer b.known.2 (gets b.view walk.taken b.image b.behind b.others b.is b.seen b.alone b.bridge (b.known.0.0 b.bridge) b.known.0.1 b.inner (omega arith) (omega (arith, left)) b.known.1)
+    adds_then HasOneAnswer old new newer b.known.2 (gets b.view walk.taken b.image b.behind b.others b.is b.seen b.alone b.bridge (b.known.0.0 b.bridge) b.known.0.1 b.inner (omega arith) (omega (arith, left)) b.known.1)
 
 -- what is said of such a bus is said of the one behind a bridge
 pub bus_there : (now mid : Board) (slot : Slot) (last : ℕ) (walk : Walk) (old new : List Board) (more : Bool) (b : Bridge now slot last walk old new more) (P : Type 0) → walk.taken < last → IsBusOpened now slot (walk.taken + 1) last true mid → OfApart mid (walk.taken + 1) last (one_more walk) P → P
@@ -120,35 +120,35 @@ bus_there now mid slot last walk old new more b P left gets said =
 
 -- such boards stood while the bridges behind it got their numbers, where that was done and where it stopped
 abbrev pub IsBusOk : Board → ℕ → ℕ → Walk → List Board → List Board → Type 0
-IsBusOk before bus last start old new = OfApart before bus last start (Adds IsSingle old new)
+IsBusOk before bus last start old new = OfApart before bus last start (Adds HasOneAnswer old new)
 
 abbrev pub IsBusEnd : Board → ℕ → ℕ → Walk → List Board → List Board → Type 0
-IsBusEnd before bus last start old new = OfApart before bus last start (Ends IsSingle old new)
+IsBusEnd before bus last start old new = OfApart before bus last start (Ends HasOneAnswer old new)
 
-pub stood_wide : (now mid : Board) (slot : Slot) (last : ℕ) (walk : Walk) (old new newer newest : List Board) (more : Bool) (b : Bridge now slot last walk old new more) → walk.taken < last → IsBusOpened now slot (walk.taken + 1) last true mid → IsOpenOk now slot (walk.taken + 1) last new newer → IsBusOk mid (walk.taken + 1) last (one_more walk) newer newest → Adds IsSingle old newest
+pub stood_wide : (now mid : Board) (slot : Slot) (last : ℕ) (walk : Walk) (old new newer newest : List Board) (more : Bool) (b : Bridge now slot last walk old new more) → walk.taken < last → IsBusOpened now slot (walk.taken + 1) last true mid → IsOpenOk now slot (walk.taken + 1) last new newer → IsBusOk mid (walk.taken + 1) last (one_more walk) newer newest → Adds HasOneAnswer old newest
 stood_wide now mid slot last walk old new newer newest more b left gets open_stood stood =
-    adds_then IsSingle old newer newest (stood_here now slot last walk old new newer more b left open_stood) (bus_there now mid slot last walk old new more b (Adds IsSingle newer newest) left gets stood)
+    adds_then HasOneAnswer old newer newest (stood_here now slot last walk old new newer more b left open_stood) (bus_there now mid slot last walk old new more b (Adds HasOneAnswer newer newest) left gets stood)
 
 module _ (spare : ℕ) (before now : Board) (slot : Slot) (bus place last : ℕ) (start walk : Walk) (old new newer : List Board) (more : Bool) (found : Found) (at : IsPlaceOf slot bus place) (looked : IsLooked now slot more found) (one : found.bridge ≡ true) (left : walk.taken < last) (standing : IsWalkStanding (board_moment before old) (outset bus last spare start) place more walk (board_moment now new)) where
   pub stand_left_open : {T E : Type 0} → (r : Result T E) → IsErr r → IsOpenEnd now slot (walk.taken + 1) last new newer → IsBusStood (board_moment before old) (outset bus last spare start) r newer
   stand_left_open r err gets = λ v nodes is seen walkable closed apart.
       let b = bridge_there spare before now slot bus place last start walk old new more found at looked one standing v nodes is seen walkable closed apart in
-      ended IsSingle r old newer err (ends_then IsSingle old new newer b.known.2
+      ended HasOneAnswer r old newer err (ends_then HasOneAnswer old new newer b.known.2
       (gets b.view walk.taken b.image b.behind b.others b.is b.seen b.alone b.bridge (b.known.0.0 b.bridge) b.known.0.1 b.inner (omega arith) (omega (arith, left)) b.known.1))
 
   module _ (mid : Board) (gets : IsBusOpened now slot (walk.taken + 1) last true mid) (stood : IsOpenOk now slot (walk.taken + 1) last new newer) (newest : List Board) where
     pub stand_left_bus : {T E : Type 0} → (r : Result T E) → IsErr r → IsBusEnd mid (walk.taken + 1) last (one_more walk) newer newest → IsBusStood (board_moment before old) (outset bus last spare start) r newest
     stand_left_bus r err ends = λ v nodes is seen walkable closed apart.
         let b = bridge_there spare before now slot bus place last start walk old new more found at looked one standing v nodes is seen walkable closed apart in
-        ended IsSingle r old newest err (ends_then IsSingle old newer newest (stood_here now slot last walk old new newer found.more b left stood)
-        (bus_there now mid slot last walk old new found.more b (Ends IsSingle newer newest) left gets ends))
+        ended HasOneAnswer r old newest err (ends_then HasOneAnswer old newer newest (stood_here now slot last walk old new newer found.more b left stood)
+        (bus_there now mid slot last walk old new found.more b (Ends HasOneAnswer newer newest) left gets ends))
 
   -- the bridge leads on
-  module _ (far : Board) (newest : List Board) (far_stood : (b : Bridge now slot last walk old new found.more) → Adds IsSingle old newest) (later : Board) (final : List Board) (put_stood : IsOneMore (board_moment far newest) (board_moment later final)) where
+  module _ (far : Board) (newest : List Board) (far_stood : (b : Bridge now slot last walk old new found.more) → Adds HasOneAnswer old newest) (later : Board) (final : List Board) (put_stood : IsOneMore (board_moment far newest) (board_moment later final)) where
     pub stand_left_led : {T E : Type 0} → (r : Result T E) → IsErr r → IsBusStood (board_moment before old) (outset bus last spare start) r final
     stand_left_led r err = λ v nodes is seen walkable closed apart.
         let b = bridge_there spare before now slot bus place last start walk old new more found at looked one standing v nodes is seen walkable closed apart in
-        ended IsSingle r old final err (ends_one IsSingle far old newest later final (far_stood b) put_stood)
+        ended HasOneAnswer r old final err (ends_one HasOneAnswer far old newest later final (far_stood b) put_stood)
 
     pub stand_led : (inside after : Walk) → IsBegun spare now far slot last walk inside → IsNumberPut far slot 0x1a after.taken later → IsLed far slot inside.taken last spare after.taken → inside.taken ≤ after.taken → IsWalkStanding (board_moment before old) (outset bus last spare start) (place + 1) found.more after (board_moment later final)
     stand_led inside after begun put led above = stand_given spare before now later slot bus place last start walk after old new final more found at looked one left standing (λ b.
@@ -169,7 +169,7 @@ module _ (spare : ℕ) (before now : Board) (slot : Slot) (bus place last : ℕ)
           above = omega (arith, a.above, above);
           within = within;
           inner = inner;
-          stood = adds_more IsSingle far old newest later final (far_stood b) put_stood
+          stood = adds_more HasOneAnswer far old newest later final (far_stood b) put_stood
               (single_with b.view walk.taken last slot.device slot.function b.image p.0 b.behind a.nodes b.others b.bridge alike a.same b.known.1
               (spread_lead walk.taken last slot.bus (walk.taken + 1) after.taken slot.device slot.function p.0 a.nodes b.others numbers (omega arith) (omega (arith, left)) within (inr inner) (closed_spread _ last b.others b.known.0.1)) later p.1);
         })
@@ -179,7 +179,7 @@ module _ (spare : ℕ) (before now : Board) (slot : Slot) (bus place last : ℕ)
 pub stand_left : {T E : Type 0} → (spare : ℕ) (before now : Board) (bus place last : ℕ) (start walk : Walk) (old mid new : List Board) (more : Bool) (r : Result T E) → IsErr r → new ≡ mid → IsWalkStanding (board_moment before old) (outset bus last spare start) place more walk (board_moment now mid) → IsBusStood (board_moment before old) (outset bus last spare start) r new
 stand_left spare before now bus place last start walk old mid new more r err same standing = λ v nodes is seen walkable closed apart.
     let h = standing v nodes is seen walkable closed apart in
-    ended IsSingle r old new err (ends_same IsSingle old mid new h.5 same)
+    ended HasOneAnswer r old new err (ends_same HasOneAnswer old mid new h.5 same)
 
 pub stand_done : (spare : ℕ) (before now : Board) (bus place last : ℕ) (start walk : Walk) (old new : List Board) (more : Bool) → IsWalkStanding (board_moment before old) (outset bus last spare start) place more walk (board_moment now new) → IsBusOk before bus last start old new
 stand_done spare before now bus place last start walk old new more standing = λ v nodes is seen walkable closed apart. (standing v nodes is seen walkable closed apart).5

@@ -1,7 +1,7 @@
 -- The board is single while numbers are given behind a root.
 use Rattle.std.proofs.Common.{ℕ, ◌≤◌, length, Bool, refl, sym, ◌∙◌, ap, subst, List, Result, Ok, ◌≡◌, ◌⊎◌, inl, inr, ◌∷◌, Err}
 use Rattle.std.specs.Result.{IsErr}
-use Rattle.number_spec.specs.Board.{Nodes, Board, answers, IsSingle}
+use Rattle.number_spec.specs.Board.{Nodes, Board, answers, HasOneAnswer}
 use Rattle.number_spec.specs.Access.{nodes_behind, with_nodes}
 use Rattle.number_spec.specs.Ready.{IsReady}
 use Rattle.pci_number.specs.Steps.{IsHushed}
@@ -31,11 +31,11 @@ hush_step before root last ready was b step =
       own = ap without_own_numbers there ∙ less.own;
       fewer = λ access. subst (λ x. length (answers x access) ≤ length (answers was access)) (sym step.is)
           (subst (λ y. length (answers (with_nodes before root step.to) access) ≤ length (answers y access)) (sym step.was_it) (fewer_answers before root last ready step.from step.to step.less access));
-      shut = λ beside shut. subst IsSingle (sym step.is) (apart_at_root before root last ready step.to less.same beside step.to refl (shut_spread root last step.to (subst AreShut there shut)));
+      shut = λ beside shut. subst HasOneAnswer (sym step.is) (apart_at_root before root last ready step.to less.same beside step.to refl (shut_spread root last step.to (subst AreShut there shut)));
     }
 
-still_single : (before : Board) (root last : ℕ) → IsReady before root last → IsSingle before → (was b : Board) → IsLessStep (root_view before root) (nodes_behind before root) was b → IsSingle b
-still_single before root last ready single was b step = subst IsSingle (sym step.is) (less_is_single before root last ready step.to (less_then (nodes_behind before root) step.from step.to step.start step.less) single)
+still_single : (before : Board) (root last : ℕ) → IsReady before root last → HasOneAnswer before → (was b : Board) → IsLessStep (root_view before root) (nodes_behind before root) was b → HasOneAnswer b
+still_single before root last ready single was b step = subst HasOneAnswer (sym step.is) (less_is_single before root last ready step.to (less_then (nodes_behind before root) step.from step.to step.start step.less) single)
 
 -- ---- whether that was done
 
@@ -56,8 +56,8 @@ throughout_hush before root last old new r err hush = λ ready.
       closed = ends.0;
       hushing = steps_as R (IsHushStep before root) (hush_step before root last ready) before old ends.0.board ends.0.history ends.1;
       done = stopped_there (nodes_behind ends.0.board root) r ends.0.history new err ends.2;
-      later = λ beside. ended IsSingle r ends.0.history new err (ends.0.history, adds_none IsSingle ends.0.history, ends.2);
-      always = λ single. ended IsSingle r old new err (stops_end R IsSingle (still_single before root last ready single) before old new ends);
+      later = λ beside. ended HasOneAnswer r ends.0.history new err (ends.0.history, adds_none HasOneAnswer ends.0.history, ends.2);
+      always = λ single. ended HasOneAnswer r old new err (stops_end R HasOneAnswer (still_single before root last ready single) before old new ends);
     }
 
 module _ (before mid : Board) (root last : ℕ) (bridges : Bool) (old hushed new : List Board) (hush : IsHushed before root bridges mid) (stood : IsHushOk before root old mid hushed) where
@@ -73,30 +73,30 @@ module _ (before mid : Board) (root last : ℕ) (bridges : Bool) (old hushed new
   throughout_left r err walk = λ ready.
       let R = IsLessStep (root_view before root) (nodes_behind before root) in
       let h = at_root_now before mid root last bridges hush ready in
-      let ends : IsSingleBeside before root → Ends IsSingle hushed new = λ beside. walk (root_view before root) h.nodes h.is h.seen h.walkable h.closed (apart_at_root before root last ready h.nodes h.same beside) in
+      let ends : IsSingleBeside before root → Ends HasOneAnswer hushed new = λ beside. walk (root_view before root) h.nodes h.is h.seen h.walkable h.closed (apart_at_root before root last ready h.nodes h.same beside) in
       record {
         closed = board_moment mid hushed;
         hushing = steps_as R (IsHushStep before root) (hush_step before root last ready) before old mid hushed (less_stood ready);
         done = closed_there (nodes_behind mid root) r hushed new (shut_there ready);
-        later = λ beside. ended IsSingle r hushed new err (ends beside);
-        always = λ single. ended IsSingle r old new err (ends_then IsSingle old hushed new (steps_add R IsSingle (still_single before root last ready single) before old mid hushed (less_stood ready)) (ends (single_beside before root last ready single)));
+        later = λ beside. ended HasOneAnswer r hushed new err (ends beside);
+        always = λ single. ended HasOneAnswer r old new err (ends_then HasOneAnswer old hushed new (steps_add R HasOneAnswer (still_single before root last ready single) before old mid hushed (less_stood ready)) (ends (single_beside before root last ready single)));
       }
 
   pub throughout_done : {T E : Type 0} → (x : T) → IsBusOk mid root last (start root) hushed new → IsReady before root last → IsSingleThroughout {T = T} {E = E} (board_moment before old) root (Ok x) new
   throughout_done x walk = λ ready.
       let R = IsLessStep (root_view before root) (nodes_behind before root) in
       let h = at_root_now before mid root last bridges hush ready in
-      let adds : IsSingleBeside before root → Adds IsSingle hushed new = λ beside. walk (root_view before root) h.nodes h.is h.seen h.walkable h.closed (apart_at_root before root last ready h.nodes h.same beside) in
+      let adds : IsSingleBeside before root → Adds HasOneAnswer hushed new = λ beside. walk (root_view before root) h.nodes h.is h.seen h.walkable h.closed (apart_at_root before root last ready h.nodes h.same beside) in
       record {
         closed = board_moment mid hushed;
         hushing = steps_as R (IsHushStep before root) (hush_step before root last ready) before old mid hushed (less_stood ready);
         done = shut_there ready;
         later = adds;
-        always = λ single. adds_then IsSingle old hushed new (steps_add R IsSingle (still_single before root last ready single) before old mid hushed (less_stood ready)) (adds (single_beside before root last ready single));
+        always = λ single. adds_then HasOneAnswer old hushed new (steps_add R HasOneAnswer (still_single before root last ready single) before old mid hushed (less_stood ready)) (adds (single_beside before root last ready single));
       }
 
 pub end_single : (spare : ℕ) (before mid after : Board) (root last : ℕ) (bridges : Bool) (walk : Walk) → IsHushed before root bridges mid → IsBusNumbered mid (outset root last spare (start root)) walk after → EndsSingle before root last after
 end_single spare before mid after root last bridges walk hushed numbered = λ ready beside.
     let h = at_root_now before mid root last bridges hushed ready in
     let n = numbered (root_view before root) h.nodes h.is h.seen h.walkable h.closed in
-    subst IsSingle (sym n.1) (spread_at_root before root last ready (last_behind root n.0) n.0 (n.2 ∙ h.same) beside (numbered_spread (spare_room spare) last root root n.0 n.3))
+    subst HasOneAnswer (sym n.1) (spread_at_root before root last ready (last_behind root n.0) n.0 (n.2 ∙ h.same) beside (numbered_spread (spare_room spare) last root root n.0 n.3))

@@ -9,7 +9,7 @@ use Rattle.number_spec.specs.Walk.{is_walkable, all_after, has_bus}
 use Rattle.number_spec.specs.Numbered.{without_numbers}
 use Rattle.number_spec.specs.Room.{shows, last_behind, have_numbers}
 use Rattle.number_spec.specs.Spare.{spare_room}
-use Rattle.number_spec.specs.NoBus.{first_of, first_without}
+use Rattle.number_spec.specs.NoBus.{first_slot, first_without}
 use Rattle.number_spec.proofs.Same.{first_device}
 use Rattle.number_spec.proofs.Spare.{spare_stays}
 use Rattle.number_spec.proofs.Roomy.{closed as shut_of}
@@ -29,11 +29,11 @@ use Rattle.pci_number.proofs.Places.{IsPlaceOf, At}
 use Rattle.pci_number.proofs.Hushing.{no_more}
 use Rattle.pci_number.proofs.Views.{inside, same_node, same_others}
 
-pub first_of_three : (a b x : Option Slot) → first_of a (first_of b x) ≡ first_of (first_of a b) x
+pub first_of_three : (a b x : Option Slot) → first_slot a (first_slot b x) ≡ first_slot (first_slot a b) x
 first_of_three (Some s) b x = refl
 first_of_three None b x = refl
 
-first_or_none : (a : Option Slot) → first_of a None ≡ a
+first_or_none : (a : Option Slot) → first_slot a None ≡ a
 first_or_none (Some s) = refl
 first_or_none None = refl
 
@@ -54,7 +54,7 @@ last_node bus taken d f image behind others u bridge numbers =
     let leads : subordinate_bus image ≡ u = (shown image bus (taken + 1) u numbers).subordinate in
     rw (has, leads) refl
 
-first_node : (bus taken d f : ℕ) (image : List ℕ) (behind others : Nodes) (u : ℕ) → is_type_1 image ≡ true → shows image bus (taken + 1) u ≡ true → first_without bus (Node d f image behind others) ≡ first_of (first_without (taken + 1) behind) (first_without bus others)
+first_node : (bus taken d f : ℕ) (image : List ℕ) (behind others : Nodes) (u : ℕ) → is_type_1 image ≡ true → shows image bus (taken + 1) u ≡ true → first_without bus (Node d f image behind others) ≡ first_slot (first_without (taken + 1) behind) (first_without bus others)
 first_node bus taken d f image behind others u bridge numbers =
     let has = has_bus_of image bus taken u bridge numbers in
     let second : secondary_bus image ≡ taken + 1 = (shown image bus (taken + 1) u numbers).secondary in
@@ -112,7 +112,7 @@ module _ (spare : ℕ) where
         so_far.0.1,
         (λ after numbered same.
             let w = so_far.1 (Node d f image behind after) (rw plain numbered) (same_others d f image behind others after same) in
-            (w.0, w.1, w.2, w.3, sym (last_device walk.taken d f image behind after plain) ∙ w.4, ap (first_of walk.without) (sym (first_device bus d f image behind after plain)) ∙ w.5)),
+            (w.0, w.1, w.2, w.3, sym (last_device walk.taken d f image behind after plain) ∙ w.4, ap (first_slot walk.without) (sym (first_device bus d f image behind after plain)) ∙ w.5)),
         (λ after same. so_far.2 (Node d f image behind after) (same_others d f image behind others after same)),
       )))
 
@@ -141,8 +141,8 @@ module _ (spare : ℕ) where
             let numbered_too : have_numbers (spare_room spare) last bus walk.taken after ≡ true = subst (λ n. have_numbers (spare_room spare) last bus n after ≡ true) same_taken numbered in
             let w = b.known.1 (Node d f b.image b.behind after) (rw (bridge, none_left, shut, numbered_too) refl) (same_others d f b.image b.behind b.others after same_after) in
             let end : last_behind walk.taken after ≡ last_behind start.taken w.0 = rw no_bus at w.4 in
-            let first : first_of walk.without (first_of (Some slot) (first_without bus after)) ≡ first_of start.without (first_without bus w.0) = rw bridge at (rw no_bus at w.5) in
-            (w.0, w.1, w.2, w.3, ap (λ n. last_behind n after) same_taken ∙ end, ap (λ o. first_of o (first_without bus after)) names ∙ sym (first_of_three walk.without (Some slot) (first_without bus after)) ∙ first)),
+            let first : first_slot walk.without (first_slot (Some slot) (first_without bus after)) ≡ first_slot start.without (first_without bus w.0) = rw bridge at (rw no_bus at w.5) in
+            (w.0, w.1, w.2, w.3, ap (λ n. last_behind n after) same_taken ∙ end, ap (λ o. first_slot o (first_without bus after)) names ∙ sym (first_of_three walk.without (Some slot) (first_without bus after)) ∙ first)),
         (λ after same_after. b.known.2 (Node d f b.image b.behind after) (same_others d f b.image b.behind b.others after same_after)),
       ))
 
@@ -157,7 +157,7 @@ module _ (spare : ℕ) where
     end : min last (last_behind (walk.taken + 1) nodes + spare_room spare new) ≡ after.taken
     above : walk.taken + 1 ≤ after.taken
     inner : have_numbers (spare_room spare) last (walk.taken + 1) (walk.taken + 1) nodes ≡ true
-    first : after.without ≡ first_of walk.without (first_without (walk.taken + 1) nodes)
+    first : after.without ≡ first_slot walk.without (first_without (walk.taken + 1) nodes)
 
   walk_given : (before now later : Board) (slot : Slot) (bus place last : ℕ) (start walk after : Walk) (more : Bool) (found : Found) → IsPlaceOf slot bus place → IsLooked now slot more found → found.bridge ≡ true → walk.taken < last → IsWalking before (outset bus last spare start) place more walk now → ((v : View) (nodes : Nodes) (b : Bridge now slot bus last start walk found.more v nodes) → Given slot last walk after b.view b.image b.behind b.others later) → IsWalking before (outset bus last spare start) (place + 1) found.more after later
   walk_given before now later slot bus place last start walk walk_after more found (At low) looked one left walking given = walking_of before later bus (place + 1) last start walk_after found.more (λ v nodes is seen walkable closed.
@@ -177,8 +177,8 @@ module _ (spare : ℕ) where
               w.2,
               w.3,
               sym (last_node bus walk.taken d f n.new n.nodes after walk_after.taken bridge n.numbers) ∙ w.4,
-              ap (λ o. first_of o (first_without bus after)) n.first ∙ sym (first_of_three walk.without (first_without (walk.taken + 1) n.nodes) (first_without bus after))
-                  ∙ ap (first_of walk.without) (sym (first_node bus walk.taken d f n.new n.nodes after walk_after.taken bridge n.numbers)) ∙ w.5,
+              ap (λ o. first_slot o (first_without bus after)) n.first ∙ sym (first_of_three walk.without (first_without (walk.taken + 1) n.nodes) (first_without bus after))
+                  ∙ ap (first_slot walk.without) (sym (first_node bus walk.taken d f n.new n.nodes after walk_after.taken bridge n.numbers)) ∙ w.5,
             )),
         (λ after same_after. b.known.2 (Node d f n.new n.nodes after) (same_node d f b.image n.new b.behind n.nodes b.others after b.bridge n.alike n.same same_after)),
       ))
@@ -198,7 +198,7 @@ module _ (spare : ℕ) where
     pub above : walk.taken + 1 ≤ inside.taken
     pub within : inside.taken ≤ last
     pub inner : have_numbers (spare_room spare) last (walk.taken + 1) (walk.taken + 1) nodes ≡ true
-    pub first : inside.without ≡ first_of walk.without (first_without (walk.taken + 1) nodes)
+    pub first : inside.without ≡ first_slot walk.without (first_without (walk.taken + 1) nodes)
 
   -- from one board to another, as it is seen from the bus
   abbrev pub IsBegun : Board → Board → Slot → ℕ → Walk → Walk → Type 0
@@ -220,7 +220,7 @@ module _ (spare : ℕ) where
         above = omega arith;
         within = omega (arith, left);
         inner = no_numbers (spare_room spare) last (walk.taken + 1) (walk.taken + 1) o.1 o.7;
-        first = sym (ap (first_of walk.without) (no_first (walk.taken + 1) o.1 o.7) ∙ first_or_none walk.without);
+        first = sym (ap (first_slot walk.without) (no_first (walk.taken + 1) o.1 o.7) ∙ first_or_none walk.without);
       }
 
   -- the bridges behind it have their numbers

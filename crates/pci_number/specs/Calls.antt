@@ -5,10 +5,10 @@ use Rattle.std.specs.List.Sorted.{IsStrictlyIncreasing}
 use Rattle.pci_spec.specs.Slot.{Slot}
 use Rattle.pci_spec.specs.System.{System}
 use Rattle.pci_spec.specs.NestingLaws.{HasNoBusFault}
-use Rattle.number_spec.specs.Board.{Root, Board, Place, answers, access_of, IsSingle}
+use Rattle.number_spec.specs.Board.{RootBus, Board, NodePlace, answers, access_of, HasOneAnswer}
 use Rattle.number_spec.specs.Walk.{is_walkable, walk}
 use Rattle.number_spec.specs.Spare.{spare_room}
-use Rattle.number_spec.specs.Listed.{IsListing, HasRoomyNumbers}
+use Rattle.number_spec.specs.Listed.{IsBoardListing, HasRoomyNumbers}
 use Rattle.pci_number.specs.Answer.{named_by, AnswersWhereReady}
 use Rattle.pci_number.specs.declared.number.Numbering.{Numbering}
 
@@ -16,9 +16,9 @@ use Rattle.pci_number.specs.declared.number.Numbering.{Numbering}
 -- that is there.
 pub record AreReady (last : ℕ → ℕ) (board : Board) : Type 0 where
   pub rising : IsStrictlyIncreasing (map (λ root. root.number) board)
-  pub apart : (root other : Root) → Contains board root → Contains board other
+  pub apart : (root other : RootBus) → Contains board root → Contains board other
       → root.number < other.number → last root.number < other.number
-  pub walkable : (root : Root) → Contains board root → IsTrue (is_walkable root.nodes)
+  pub walkable : (root : RootBus) → Contains board root → IsTrue (is_walkable root.nodes)
 
 -- The roots are numbered one after another, and each call answers that each bridge has its numbers.
 abbrev pub AreNumbered : ℕ → (ℕ → ℕ) → List ℕ → Board → Board → Type 0
@@ -44,22 +44,22 @@ abbrev pub RootsHaveNoBusFault : Type 0
 RootsHaveNoBusFault =
     (spare : ℕ) (last : ℕ → ℕ) (roots : List ℕ) (before after : Board) (s : System)
     → AreReady last before
-    → AreItsRoots roots before → AreNumbered spare last roots before after → IsListing after s
+    → AreItsRoots roots before → AreNumbered spare last roots before after → IsBoardListing after s
     → HasNoBusFault (map (λ root. root.number) before) s
 
 -- at most one node answers each access,
 abbrev pub RootsGetSingle : Type 0
 RootsGetSingle =
     (spare : ℕ) (last : ℕ → ℕ) (roots : List ℕ) (before after : Board) → AreReady last before
-    → AreItsRoots roots before → AreNumbered spare last roots before after → IsSingle after
+    → AreItsRoots roots before → AreNumbered spare last roots before after → HasOneAnswer after
 
 -- and each node that the walk finds answers one access, and no other.
 abbrev pub RootsAnswerOnce : Type 0
 RootsAnswerOnce =
     (spare : ℕ) (last : ℕ → ℕ) (roots : List ℕ) (before after : Board) → AreReady last before
     → AreItsRoots roots before → AreNumbered spare last roots before after
-    → (root : Root) → Contains after root
-    → (place : Place) → Contains (walk root.nodes root.nodes) place
+    → (root : RootBus) → Contains after root
+    → (place : NodePlace) → Contains (walk root.nodes root.nodes) place
     → (access : Slot)
     → Contains (answers after access) (root.number, place)
     ↔ (access ≡ access_of root.number root.nodes place)

@@ -4,7 +4,7 @@ use Rattle.std.specs.List.{Contains}
 use Rattle.pci_spec.specs.Slot.{Slot}
 use Rattle.pci_spec.specs.System.{System}
 use Rattle.pci_spec.specs.NestingLaws.{HasNoBusFault}
-use Rattle.number_spec.specs.Board.{Nodes, Root, Board, Place, answers, access_of}
+use Rattle.number_spec.specs.Board.{Nodes, RootBus, Board, NodePlace, answers, access_of}
 use Rattle.number_spec.specs.Walk.{walk}
 use Rattle.number_spec.specs.Numbered.{IsNumbered}
 use Rattle.number_spec.specs.Room.{IsNumberedWithRoom}
@@ -12,12 +12,12 @@ use Rattle.number_spec.specs.Spare.{spare_room}
 use Rattle.number_spec.specs.NoBus.{first_without, bridges}
 use Rattle.number_spec.specs.Access.{nodes_behind}
 use Rattle.number_spec.specs.Ready.{IsReady}
-use Rattle.number_spec.specs.Listed.{IsListing}
+use Rattle.number_spec.specs.Listed.{IsBoardListing}
 use Rattle.pci_number.specs.Answer.{named_by, AnswersWhereReady}
 use Rattle.pci_number.specs.declared.number.Numbering.{Numbering}
 
 -- each bridge behind a root has its numbers
-pub record IsRootNumbered (spare last : ℕ) (root : Root) : Type 0 where
+pub record IsRootNumbered (spare last : ℕ) (root : RootBus) : Type 0 where
   pub numbered : IsNumberedWithRoom (spare_room spare) root.number last root.nodes root.nodes
   pub none : first_without root.number root.nodes ≡ None
 
@@ -26,7 +26,7 @@ abbrev pub OneRootIsNumbered : Type 0
 OneRootIsNumbered =
     (spare root last : ℕ) (before after : Board) (answer : Numbering) → IsReady before root last
     → AnswersWhereReady spare before root last answer after → named_by answer ≡ None
-    → (r : Root) → Contains after r
+    → (r : RootBus) → Contains after r
     → ((r.number ≡ root) × IsRootNumbered spare last r) ⊎ ((r.number ≢ root) × Contains before r)
 
 -- What a walk lists of a board with one root has no bus-range fault and no orphan.
@@ -35,7 +35,7 @@ AloneHasNoBusFault =
     (spare root last : ℕ) (nodes : Nodes) (after : Board) (answer : Numbering) (s : System)
     → IsReady (record { number = root; nodes = nodes } ∷ []) root last
     → AnswersWhereReady spare (record { number = root; nodes = nodes } ∷ []) root last answer after
-    → named_by answer ≡ None → IsListing after s → HasNoBusFault (root ∷ []) s
+    → named_by answer ≡ None → IsBoardListing after s → HasNoBusFault (root ∷ []) s
 
 -- Where none are kept free, the n-th bridge behind the root has the n-th number.
 abbrev pub NoneFreeInOrder : Type 0
@@ -57,7 +57,7 @@ abbrev pub FoundAnswersOnceOnBoard : Type 0
 FoundAnswersOnceOnBoard =
     (spare root last : ℕ) (before after : Board) (answer : Numbering) → IsReady before root last
     → AnswersWhereReady spare before root last answer after
-    → (place : Place) → Contains (walk (nodes_behind after root) (nodes_behind after root)) place
+    → (place : NodePlace) → Contains (walk (nodes_behind after root) (nodes_behind after root)) place
     → (access : Slot)
     → Contains (answers after access) (root, place)
     ↔ (access ≡ access_of root (nodes_behind after root) place)

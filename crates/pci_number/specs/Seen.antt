@@ -4,7 +4,7 @@ use Rattle.pci_spec.specs.Slot.{Slot}
 use Rattle.pci_spec.specs.Number.{byte_at, has_bit}
 use Rattle.pci_spec.specs.Registers.{HEADER_TYPE}
 use Rattle.pci_spec.specs.Header.{vendor_id}
-use Rattle.number_spec.specs.Board.{Nodes, NoMore, Node, Board, Place, is_type_1, on_bus, behind_bridges, image_at, answers}
+use Rattle.number_spec.specs.Board.{Nodes, NoMore, Node, Board, NodePlace, is_type_1, on_bus, behind_bridges, node_image, answers}
 use Rattle.number_spec.specs.Access.{image_of, with_byte, with_byte_of}
 use Rattle.number_spec.specs.Walk.{all_after, is_walkable}
 use Rattle.number_spec.specs.Room.{shows}
@@ -12,7 +12,7 @@ use Rattle.number_spec.specs.Room.{shows}
 -- A board in which some nodes are left out: the board with them, and where their places are on it.
 pub record View : Type 0 where
   pub fill : Nodes → Board
-  pub at : Place → ℕ × Place
+  pub at : NodePlace → ℕ × NodePlace
 
 -- the place of a device and function on its bus
 abbrev pub code : Slot → ℕ
@@ -25,9 +25,9 @@ pub record IsSeen (v : View) (bus : ℕ) (from : ℕ) (high : ℕ) (last : ℕ) 
       → answers (v.fill nodes) access ≡ map v.at (on_bus nodes access)
   pub behind : (nodes : Nodes) (access : Slot) → high < access.bus → access.bus ≤ last
       → answers (v.fill nodes) access ≡ map v.at (behind_bridges nodes access)
-  pub image : (nodes : Nodes) (place : Place)
-      → image_of (v.fill nodes) (v.at place) ≡ image_at nodes place
-  pub byte : (nodes : Nodes) (place : Place) (offset value : ℕ)
+  pub image : (nodes : Nodes) (place : NodePlace)
+      → image_of (v.fill nodes) (v.at place) ≡ node_image nodes place
+  pub byte : (nodes : Nodes) (place : NodePlace) (offset value : ℕ)
       → with_byte_of (v.fill nodes) (v.at place) offset value
       ≡ v.fill (with_byte nodes place offset value)
 

@@ -1,7 +1,7 @@
 -- The board is single while numbers are given.
 use Rattle.std.specs.Prelude.{◌≡◌, ℕ, ◌+◌, ◌≤◌, ◌⊎◌, true, Bool, List, ◌∷◌, Result, Ok, Err, length}
 use Rattle.pci_spec.specs.Slot.{Slot}
-use Rattle.number_spec.specs.Board.{Nodes, NoMore, Node, Board, is_type_1, answers, IsSingle}
+use Rattle.number_spec.specs.Board.{Nodes, NoMore, Node, Board, is_type_1, answers, HasOneAnswer}
 use Rattle.number_spec.specs.Access.{nodes_behind, with_nodes}
 use Rattle.number_spec.specs.Walk.{all_after, is_walkable}
 use Rattle.number_spec.specs.Room.{shows}
@@ -21,7 +21,7 @@ use Rattle.pci_number.specs.declared.walk.Walk.{Walk}
 abbrev pub IsApart : View → Nodes → ℕ → ℕ → Type 0
 IsApart v nodes high last =
     (after : Nodes) → without_numbers after ≡ without_numbers nodes → IsSpread high last after
-    → IsSingle (v.fill after)
+    → HasOneAnswer (v.fill after)
 
 -- A bridge that forwards nothing gets a bus.
 abbrev pub IsShowStood : {T E : Type 0} → BoardMoment → Slot → ℕ → Result T E → List Board → Type 0
@@ -32,7 +32,7 @@ IsShowStood from slot bus result new =
     → is_type_1 image ≡ true → shows image 0 0 0 ≡ true → IsClosed others
     → high + 1 ≤ bus → bus ≤ last
     → IsApart v (Node slot.device slot.function image behind others) high last
-    → AddsOrEnds IsSingle result from.history new
+    → AddsOrEnds HasOneAnswer result from.history new
 
 -- The same, and the bridges on that bus are closed.
 abbrev pub IsOpenStood : BoardMoment → Slot → ℕ → ℕ → Result Bool Stop → List Board → Type 0
@@ -43,14 +43,14 @@ IsOpenStood from slot bus last result new =
     → is_type_1 image ≡ true → shows image 0 0 0 ≡ true → IsClosed others
     → is_walkable behind ≡ true → high + 1 ≤ bus → bus ≤ last
     → IsApart v (Node slot.device slot.function image behind others) high last
-    → AddsOrEnds IsSingle result from.history new
+    → AddsOrEnds HasOneAnswer result from.history new
 
 -- The bridges on a bus, which are closed, and those behind them get their numbers.
 abbrev pub IsBusStood : {T E : Type 0} → BoardMoment → Outset → Result T E → List Board → Type 0
 IsBusStood from o result new =
     (v : View) (nodes : Nodes) → from.board ≡ v.fill nodes
     → IsSeen v o.bus 0 o.start.taken o.last → is_walkable nodes ≡ true → IsClosed nodes
-    → IsApart v nodes o.start.taken o.last → AddsOrEnds IsSingle result from.history new
+    → IsApart v nodes o.start.taken o.last → AddsOrEnds HasOneAnswer result from.history new
 
 -- the walk over a bus under way
 abbrev pub IsWalkStanding : BoardMoment → Outset → ℕ → Bool → Walk → BoardMoment → Type 0
@@ -60,16 +60,16 @@ IsWalkStanding from o place more walk to =
     → IsApart v nodes o.start.taken o.last
     → (rest : Rest) × IsRestOf to.board place more rest
     × IsSeen rest.view o.bus place walk.taken o.last × IsClosed rest.nodes
-    × IsApart rest.view rest.nodes walk.taken o.last × Adds IsSingle from.history to.history
+    × IsApart rest.view rest.nodes walk.taken o.last × Adds HasOneAnswer from.history to.history
 
 -- What is behind the other roots is single.
 abbrev pub IsSingleBeside : Board → ℕ → Type 0
-IsSingleBeside before root = IsSingle (with_nodes before root NoMore)
+IsSingleBeside before root = HasOneAnswer (with_nodes before root NoMore)
 
 -- The board is single at the end.
 abbrev pub EndsSingle : Board → ℕ → ℕ → Board → Type 0
 EndsSingle before root last after = IsReady before root last → IsSingleBeside before root
-    → IsSingle after
+    → HasOneAnswer after
 
 -- A board that stood while the bridges on the root bus were closed, and the one before it.
 pub record IsHushStep (before : Board) (root : ℕ) (was : Board) (board : Board) : Type 0 where
@@ -80,7 +80,7 @@ pub record IsHushStep (before : Board) (root : ℕ) (was : Board) (board : Board
   -- no access has more answers than on the one before it
   pub fewer : (access : Slot) → length (answers board access) ≤ length (answers was access)
   -- it is single if no bridge on that bus forwards anything
-  pub shut : IsSingleBeside before root → AreShut (nodes_behind board root) → IsSingle board
+  pub shut : IsSingleBeside before root → AreShut (nodes_behind board root) → HasOneAnswer board
 
 -- The bridges on the root bus were closed, or numbering stopped before that was done: no write came
 -- after it but the one at which it stopped.
@@ -98,6 +98,6 @@ pub record IsSingleThroughout {T E : Type 0} (from : BoardMoment) (root : ℕ) (
   pub hushing : AddsSteps (IsHushStep from.board root) from closed
   pub done : ClosedOrStopped (nodes_behind closed.board root) answer closed.history new
   -- each board after that is single,
-  pub later : IsSingleBeside from.board root → AddsOrEnds IsSingle answer closed.history new
+  pub later : IsSingleBeside from.board root → AddsOrEnds HasOneAnswer answer closed.history new
   -- and each at all, if the board was single at the start
-  pub always : IsSingle from.board → AddsOrEnds IsSingle answer from.history new
+  pub always : HasOneAnswer from.board → AddsOrEnds HasOneAnswer answer from.history new

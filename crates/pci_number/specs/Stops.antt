@@ -3,7 +3,7 @@ use Rattle.std.specs.Prelude.{◌≡◌, ◌≢◌, ℕ, Option, Some, Result, O
 use Rattle.pci_spec.specs.Slot.{Slot}
 use Rattle.pci_spec.specs.Machine.{Write}
 use Rattle.number_spec.specs.Board.{Board}
-use Rattle.number_spec.specs.Access.{IsRead}
+use Rattle.number_spec.specs.Access.{IsByteRead}
 use Rattle.pci_number.specs.declared.stop.Stop.{Stop}
 use Rattle.pci_number.specs.declared.stop.Stop.TheVariants.{Stuck, Port}
 
@@ -33,4 +33,4 @@ abbrev pub IsNumberingStop : Board → Option Write → Stop → Type 0
 IsNumberingStop board last_write Port = Unit {0}
 IsNumberingStop board last_write (Stuck told) =
     (last_write ≡ Some (number_write told.slot told.offset told.number))
-    × (found : ℕ) × IsRead board told.slot told.offset found × (found ≢ told.number)
+    × (found : ℕ) × IsByteRead board told.slot told.offset found × (found ≢ told.number)

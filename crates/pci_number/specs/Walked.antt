@@ -6,7 +6,7 @@ use Rattle.number_spec.specs.Walk.{is_walkable}
 use Rattle.number_spec.specs.Numbered.{without_numbers}
 use Rattle.number_spec.specs.Room.{last_behind, have_numbers}
 use Rattle.number_spec.specs.Spare.{spare_room}
-use Rattle.number_spec.specs.NoBus.{first_of, first_without}
+use Rattle.number_spec.specs.NoBus.{first_slot, first_without}
 use Rattle.pci_number.specs.Seen.{View, IsSeen, IsClosed}
 use Rattle.pci_number.specs.declared.walk.Walk.{Walk}
 
@@ -23,7 +23,7 @@ outset bus last spare start = record { bus = bus; last = last; spare = spare; st
 
 -- the first bridge without a number, where one more has none
 abbrev pub named : Option Slot → Slot → Option Slot
-named without slot = first_of without (Some slot)
+named without slot = first_slot without (Some slot)
 
 -- The bridges on a bus and behind it have their numbers, with so many kept free, and all else is
 -- kept.
@@ -34,7 +34,7 @@ IsBusNumbered before o walk after =
     → (whole : Nodes) × (after ≡ v.fill whole) × (without_numbers whole ≡ without_numbers nodes)
     × (have_numbers (spare_room o.spare) o.last o.bus o.start.taken whole ≡ true)
     × (walk.taken ≡ last_behind o.start.taken whole)
-    × (walk.without ≡ first_of o.start.without (first_without o.bus whole))
+    × (walk.without ≡ first_slot o.start.without (first_without o.bus whole))
 
 -- All but bus numbers is kept.
 abbrev pub IsBusLeft : Board → Outset → Board → Type 0

@@ -5,7 +5,7 @@ use Rattle.number_spec.specs.Walk.{is_walkable}
 use Rattle.number_spec.specs.Numbered.{without_numbers}
 use Rattle.number_spec.specs.Room.{last_behind, have_numbers}
 use Rattle.number_spec.specs.Spare.{spare_room}
-use Rattle.number_spec.specs.NoBus.{first_of, first_without}
+use Rattle.number_spec.specs.NoBus.{first_slot, first_without}
 use Rattle.pci_number.specs.Seen.{View, IsSeen, IsClosed}
 use Rattle.pci_number.specs.Hushing.{Rest, IsRestOf, KeptUpTo}
 use Rattle.pci_number.specs.Walked.{Outset}
@@ -20,8 +20,8 @@ NumberedUpTo v nodes o walk rest =
     × (without_numbers whole ≡ without_numbers nodes)
     × (have_numbers (spare_room o.spare) o.last o.bus o.start.taken whole ≡ true)
     × (last_behind walk.taken after ≡ last_behind o.start.taken whole)
-    × (first_of walk.without (first_without o.bus after)
-    ≡ first_of o.start.without (first_without o.bus whole))
+    × (first_slot walk.without (first_without o.bus after)
+    ≡ first_slot o.start.without (first_without o.bus whole))
 
 abbrev pub IsWalking : Board → Outset → ℕ → Bool → Walk → Board → Type 0
 IsWalking before o place more walk now =

@@ -2,7 +2,7 @@
 ghost use Rattle.std.specs.Prelude.{◌≡◌, ◌+◌, ℕ, List, ◌∷◌, Option, Some, IfOk, OnOk, OnErr};
 ghost use Rattle.pci_spec.specs.Machine.{Write};
 ghost use Rattle.number_spec.specs.Board.{Board};
-ghost use Rattle.number_spec.specs.Access.{IsRead, IsWritten};
+ghost use Rattle.number_spec.specs.Access.{IsByteRead, IsByteWritten};
 ghost use Rattle.pci_number.specs.Stops.{failures_of_access, number_write};
 
 use pci_base::slot::Slot;
@@ -31,7 +31,7 @@ pub trait BoardPort {
 
     /// The byte at an offset of the node that answers, or FFh where none does.
     fn read(&mut self, access: Slot, offset: u8) -> Result<u8, AccessFailed>
-        ensures value { IfOk result (IsRead (board self.old) access offset) }
+        ensures value { IfOk result (IsByteRead (board self.old) access offset) }
         // looking changes nothing
         ensures same { board self.new ≡ board self.old }
         ensures same_history { history self.new ≡ history self.old }
@@ -41,7 +41,7 @@ pub trait BoardPort {
 
     /// Writes one of the three bus numbers of a bridge, bytes 18h to 1Ah. The byte may keep bits.
     fn write(&mut self, access: Slot, offset: u8, value: u8) -> Result<(), AccessFailed>
-        ensures written { OnOk result (IsWritten (board self.old) access offset (board self.new)) }
+        ensures written { OnOk result (IsByteWritten (board self.old) access offset (board self.new)) }
         ensures stood { OnOk result (history self.new ≡ board self.new ∷ history self.old) }
         ensures made { OnOk result
             (last_write self.new ≡ Some (number_write access offset value)) }

@@ -42,8 +42,8 @@ use Rattle.pci_plan.specs.Writes.{write_value}
 use Rattle.pci_place.specs.Above.{system_in}
 use Rattle.pci_plan.specs.Plans.{PlanValue, IsPlanValue, final_of}
 use Rattle.pci_plan.specs.Comparing.{ShowsAll, IsChangedAt, StartsAs, IsStartFault, moment}
-use Rattle.pci_plan.specs.Making.{IsAccessible, AreReadBack, AreMade, IsStop}
-use Rattle.pci_plan.specs.Applying.{ShowsSystem, AreSound, writes_before, writes_made, AreReadBackUntil, ReadBackBy, HasImages, AreSoundWhileReadBack, IsApplyFault}
+use Rattle.pci_plan.specs.Making.{IsAccessible, AreReadBack, AreWritesMade, IsApplyStop}
+use Rattle.pci_plan.specs.Applying.{ShowsSystem, AreSoundTargets, writes_before, writes_made, AreReadBackUntil, ReadBackBy, HasImages, AreSoundWhileReadBack, IsApplyFault}
 use Rattle.pci_plan.proofs.Compares.{register_access}
 use Rattle.plan_spec.proofs.Planning.Whole.{moved_system}
 use Rattle.pci_plan.proofs.Ended.{plan_ends}
@@ -238,7 +238,7 @@ module _ (p : PlanValue) (is : IsPlanValue p) where
   -- ---- making
 
   pub stop_fault : (before : List Target) (failures : ℕ) (after : List Target) (failures_after : ℕ) (fault : ApplyFault) → ShowsSystem before s
-      → IsStop (moment before failures) p.writes (moment after failures_after) fault → IsApplyFault (moment before failures) s p.writes (moment after failures_after) fault
+      → IsApplyStop (moment before failures) p.writes (moment after failures_after) fault → IsApplyFault (moment before failures) s p.writes (moment after failures_after) fault
   stop_fault before failures after failures_after (Changed at offset) shows stop = absurd stop
   stop_fault before failures after failures_after (Port done) shows stop = record {
     within = stop.within;
@@ -260,13 +260,13 @@ module _ (p : PlanValue) (is : IsPlanValue p) where
   }
 
   pub stop_made : (before : List Target) (failures : ℕ) (after : List Target) (failures_after : ℕ) (fault : ApplyFault)
-      → IsStop (moment before failures) p.writes (moment after failures_after) fault → after ≡ after_writes before (take (writes_before fault) p.writes)
+      → IsApplyStop (moment before failures) p.writes (moment after failures_after) fault → after ≡ after_writes before (take (writes_before fault) p.writes)
   stop_made before failures after failures_after (Changed at offset) stop = absurd stop
   stop_made before failures after failures_after (Port done) stop = stop.made
   stop_made before failures after failures_after (Stuck done) stop = stop.made
 
   pub stop_read_back : (before : List Target) (failures : ℕ) (after : List Target) (failures_after : ℕ) (fault : ApplyFault)
-      → IsStop (moment before failures) p.writes (moment after failures_after) fault → AreReadBackUntil (moment before failures) p.writes failures_after fault
+      → IsApplyStop (moment before failures) p.writes (moment after failures_after) fault → AreReadBackUntil (moment before failures) p.writes failures_after fault
   stop_read_back before failures after failures_after (Changed at offset) stop = absurd stop
   stop_read_back before failures after failures_after (Port done) stop = inr stop.read_back
   stop_read_back before failures after failures_after (Stuck done) stop =
@@ -274,14 +274,14 @@ module _ (p : PlanValue) (is : IsPlanValue p) where
       let others : stop.last ≡ done - 1 = omega (arith, is) in
       subst (AreReadBack before p.writes) others stop.read_back
 
-  pub all_made : (items : List CodeWrite) (before after : List Target) → map write_value items ≡ p.writes → AreMade before (map write_value items) (length items) after → AreMade before p.writes (length p.writes) after
+  pub all_made : (items : List CodeWrite) (before after : List Target) → map write_value items ≡ p.writes → AreWritesMade before (map write_value items) (length items) after → AreWritesMade before p.writes (length p.writes) after
   all_made items before after same made =
-      subst (λ ws. AreMade before ws (length ws) after) same
-      (subst (λ n. AreMade before (map write_value items) n after) (sym (length-map items write_value)) made)
+      subst (λ ws. AreWritesMade before ws (length ws) after) same
+      (subst (λ n. AreWritesMade before (map write_value items) n after) (sym (length-map items write_value)) made)
 
-  pub shows_final : (before after : List Target) → ShowsSystem before s → AreMade before p.writes (length p.writes) after → ShowsSystem after (final_of p)
+  pub shows_final : (before after : List Target) → ShowsSystem before s → AreWritesMade before p.writes (length p.writes) after → ShowsSystem after (final_of p)
   shows_final before after shows made =
-      plan_ends s (final_of p) is.admitted.system is.moved before after shows (subst (λ ws. AreMade before ws (length ws) after) is.writes made)
+      plan_ends s (final_of p) is.admitted.system is.moved before after shows (subst (λ ws. AreWritesMade before ws (length ws) after) is.writes made)
 
   -- ---- on the machine that the plan starts from
 
@@ -355,7 +355,7 @@ module _ (p : PlanValue) (is : IsPlanValue p) where
   past_safe k (inr past) = past
 
   pub left_sound : (k : ℕ) (before after : List Target) → before ≡ map target_of s → after ≡ after_writes before (take k p.writes)
-      → IsSound p.start.roots s ⊎ (p.safe_from ≤ k) → AreSound p.start.roots after
+      → IsSound p.start.roots s ⊎ (p.safe_from ≤ k) → AreSoundTargets p.start.roots after
   left_sound k before after start made from =
       (system_after s (take k p.writes), is.stops k (past_safe k from), made ∙ ap (λ ts. after_writes ts (take k p.writes)) start ∙ on_machine k)
 
@@ -389,18 +389,18 @@ module _ (p : PlanValue) (is : IsPlanValue p) where
   -- ---- by the answer
 
   pub made_by : {T : Type 0} (r : Result T ApplyFault) (items : List CodeWrite) (before : List Target) (failures : ℕ) (after : List Target) (failures_after : ℕ) → map write_value items ≡ p.writes
-      → OnOk r (AreMade before (map write_value items) (length items) after) → IfErr r (IsStop (moment before failures) (map write_value items) (moment after failures_after))
+      → OnOk r (AreWritesMade before (map write_value items) (length items) after) → IfErr r (IsApplyStop (moment before failures) (map write_value items) (moment after failures_after))
       → after ≡ after_writes before (take (writes_made p.writes r) p.writes)
   made_by (Ok x) items before failures after failures_after same made stop = (all_made items before after same made).made
   made_by (Err fault) items before failures after failures_after same made stop =
-      stop_made before failures after failures_after fault (subst (λ ws. IsStop (moment before failures) ws (moment after failures_after) fault) same stop)
+      stop_made before failures after failures_after fault (subst (λ ws. IsApplyStop (moment before failures) ws (moment after failures_after) fault) same stop)
 
   pub read_back_by : {T : Type 0} (r : Result T ApplyFault) (items : List CodeWrite) (before : List Target) (failures : ℕ) (after : List Target) (failures_after : ℕ) → map write_value items ≡ p.writes
-      → OnOk r (AreMade before (map write_value items) (length items) after) → IfErr r (IsStop (moment before failures) (map write_value items) (moment after failures_after))
+      → OnOk r (AreWritesMade before (map write_value items) (length items) after) → IfErr r (IsApplyStop (moment before failures) (map write_value items) (moment after failures_after))
       → ReadBackBy (moment before failures) p.writes failures_after r
   read_back_by (Ok x) items before failures after failures_after same made stop = (all_made items before after same made).read_back
   read_back_by (Err fault) items before failures after failures_after same made stop =
-      stop_read_back before failures after failures_after fault (subst (λ ws. IsStop (moment before failures) ws (moment after failures_after) fault) same stop)
+      stop_read_back before failures after failures_after fault (subst (λ ws. IsApplyStop (moment before failures) ws (moment after failures_after) fault) same stop)
 
   pub ok_on_machine : {T : Type 0} (r : Result T ApplyFault) (before : List Target) (failures : ℕ) (after : List Target) (failures_after : ℕ)
       → after ≡ after_writes before (take (writes_made p.writes r) p.writes) → IfErr r (IsApplyFault (moment before failures) s p.writes (moment after failures_after))

@@ -15,7 +15,7 @@ use Rattle.pci_image.specs.declared.register.Role.TheVariants as roles
 use Rattle.pci_plan.specs.declared.apply_fault.ApplyFault.{ApplyFault}
 use Rattle.pci_plan.specs.declared.apply_fault.ApplyFault.TheVariants.{Changed, Port, Stuck}
 use Rattle.pci_plan.proofs.WriteLists.{pair_of}
-use Rattle.pci_plan.specs.Comparing.{compared, ShowsAll, IsChangedAt, IsRegisterFault, IsFunctionFault, moment}
+use Rattle.pci_plan.specs.Comparing.{compared, ShowsAll, IsChangedAt, IsCompareFault, IsFunctionFault, moment}
 
 module _ (items : List Register) (image : List ℕ) (table : map pair_of items ≡ address_registers (layout image)) where
   -- each listed register is compared
@@ -56,7 +56,7 @@ command_compared image = in_head (0x04, 2) (address_registers (layout image))
 
 -- why a register doesn't compare is why its function doesn't
 pub register_fault : (targets : List Target) (failures : ℕ) (slot : Slot) (image : List ℕ) (offset width failures_after : ℕ) (fault : ApplyFault)
-    → Contains (compared image) (offset, width) → IsRegisterFault (moment targets failures) slot image (offset, width) failures_after fault → IsFunctionFault (moment targets failures) slot image failures_after fault
+    → Contains (compared image) (offset, width) → IsCompareFault (moment targets failures) slot image (offset, width) failures_after fault → IsFunctionFault (moment targets failures) slot image failures_after fault
 register_fault targets failures slot image offset width failures_after (Changed at place) listed (here, is, other) =
     (here, subst (λ o. IsChangedAt targets slot image o) (sym is) record { width = width; listed = listed; other = other })
 register_fault targets failures slot image offset width failures_after (Port done) listed fault = fault

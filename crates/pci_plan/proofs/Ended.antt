@@ -25,7 +25,7 @@ use Rattle.plan_spec.proofs.Planning.PlanStands.{are_changes, olds_of, news_of}
 use Rattle.pci_spec.specs.Port.{target_at, ShowsNumber}
 use Rattle.pci_machine.proofs.Targets.{find-map, target_at-slot}
 use Rattle.pci_plan.specs.Comparing.{compared, ShowsAll}
-use Rattle.pci_plan.specs.Making.{AreMade}
+use Rattle.pci_plan.specs.Making.{AreWritesMade}
 use Rattle.pci_plan.specs.Applying.{ShowsSystem}
 use Rattle.pci_plan.proofs.Makes.{same_place}
 
@@ -173,7 +173,7 @@ module _ (changes : List Change) (system : IsSystem (olds changes)) (moved : All
       subst (λ (f : Function). ShowsAll (after_writes targets (plan_writes changes)) f.slot f.image) made.is (change_ends made.from made.has)
 
 pub plan_ends : (s t : System) → IsSystem s → AllZip IsMoved s t → (before after : List Target) → ShowsSystem before s
-    → AreMade before (plan_writes (changes_between s t)) (length (plan_writes (changes_between s t))) after → ShowsSystem after t
+    → AreWritesMade before (plan_writes (changes_between s t)) (length (plan_writes (changes_between s t))) after → ShowsSystem after t
 plan_ends s t system pairs before after old made =
     let changes = changes_between s t in
     let is = are_changes s t system pairs in

@@ -17,7 +17,7 @@ use Rattle.pci_plan.specs.Writes.{write_value}
 use Rattle.pci_plan.specs.declared.apply_fault.ApplyFault.{ApplyFault}
 use Rattle.pci_plan.specs.declared.apply_fault.ApplyFault.TheVariants.{Changed, Port, Stuck}
 use Rattle.pci_plan.specs.Comparing.{IsRefusedAt, moment}
-use Rattle.pci_plan.specs.Making.{IsLastWrite, AreReadBack, AreMade, IsStop}
+use Rattle.pci_plan.specs.Making.{IsLastWrite, AreReadBack, AreWritesMade, IsApplyStop}
 
 pub fold_more : (targets : List Target) (ws : List Write) (w : Write) → after_writes targets (ws ++ w ∷ []) ≡ write_targets (after_writes targets ws) w
 fold_more targets [] w = refl
@@ -61,7 +61,7 @@ failed r Failed has lawful failures failures_after is there fine none bad counte
 
 -- ---- the next write
 
-module _ (before : List Target) (items : List CodeWrite) (i : ℕ) (within : i < length items) (w : CodeWrite) (here : w ≡ get_or items i w) (now : List Target) (made : AreMade before (map write_value items) i now) where
+module _ (before : List Target) (items : List CodeWrite) (i : ℕ) (within : i < length items) (w : CodeWrite) (here : w ≡ get_or items i w) (now : List Target) (made : AreWritesMade before (map write_value items) i now) where
   abbrev ws : List Write
   ws = map write_value items
 
@@ -91,7 +91,7 @@ module _ (before : List Target) (items : List CodeWrite) (i : ℕ) (within : i <
   first_refused failures failures_after (inr none) = inr (gone_before none)
 
   -- why this write is the last is why all stop
-  pub stop_at : (after : List Target) (failures failures_after : ℕ) (fault : ApplyFault) → IsLastWrite (moment now failures) (write_value w) i (moment after failures_after) fault → IsStop (moment before failures) ws (moment after failures_after) fault
+  pub stop_at : (after : List Target) (failures failures_after : ℕ) (fault : ApplyFault) → IsLastWrite (moment now failures) (write_value w) i (moment after failures_after) fault → IsApplyStop (moment before failures) ws (moment after failures_after) fault
   stop_at after failures failures_after (Changed slot offset) stop = absurd stop
   stop_at after failures failures_after (Port n) (inl (is, same, refused)) = record {
     within = omega (arith, is, within_ws);
@@ -124,7 +124,7 @@ module _ (before : List Target) (items : List CodeWrite) (i : ℕ) (within : i <
     otherwise = otherwise;
   }
 
-  pub one_more : (after : List Target) → after ≡ write_targets now (write_value w) → ShowsNumber after w.slot w.off w.width w.value → AreMade before ws (i + 1) after
+  pub one_more : (after : List Target) → after ≡ write_targets now (write_value w) → ShowsNumber after w.slot w.off w.width w.value → AreWritesMade before ws (i + 1) after
   one_more after e shown = record {
     within = omega (arith, within_ws);
     made = made_more after e;

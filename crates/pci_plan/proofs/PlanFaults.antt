@@ -10,7 +10,7 @@ use Rattle.pci_base.specs.WindowKinds.{kind_value}
 use Rattle.pci_tree.specs.Admission.{Admission}
 use Rattle.pci_place.specs.Above.{system_in}
 use Rattle.pci_place.specs.Pools.{pools_value}
-use Rattle.pci_plan.specs.Plans.{plan_fault_of, IsFaultOf}
+use Rattle.pci_plan.specs.Plans.{plan_fault_of, IsFaultOfPlan}
 use Rattle.pci_place.specs.declared.pools.Pools.{Pools}
 use Rattle.pci_base.specs.declared.window_kind.WindowKind.{WindowKind as CodeKind}
 use Rattle.pci_base.specs.declared.window_kind.WindowKind.TheVariants as classes
@@ -31,7 +31,7 @@ class_same classes.Memory = refl
 class_same classes.Prefetchable = refl
 
 -- two faults with one value are one, where judging refuses nothing
-by_value : (a : Admission) (pools : Pools) (e f : PlanFault) → plan_fault_of e ≡ plan_fault_of f → IsFaultOf a pools e → e ≡ f
+by_value : (a : Admission) (pools : Pools) (e f : PlanFault) → plan_fault_of e ≡ plan_fault_of f → IsFaultOfPlan a pools e → e ≡ f
 by_value a pools BadPools BadPools same is = refl
 by_value a pools (NoWindow slot) (NoWindow other) same is = let s : slot ≡ other = cc in ap NoWindow s
 by_value a pools (NoRoom c) (NoRoom d) same is = let s : kind_value c ≡ kind_value d = cc in ap NoRoom (sym (class_same c) ∙ ap class_back s ∙ class_same d)
@@ -47,16 +47,16 @@ by_value a pools (NoRoom c) (NoWindow other) same is = cc
 by_value a pools (NoRoom c) (NotAccepted y) same is = cc
 
 -- a fault that is there is answered, and no other
-pub refused_by : {T : Type 0} (a : Admission) (pools : Pools) → IsSystem (system_in a) → (result : Result T (Refused PlanFault)) (e : PlanFault) → result ≡ Err (refusals.Fault e) → IsFaultOf a pools e
-    → (f : PlanFault) → (result ≡ Err (refusals.Fault f)) ↔ IsFaultOf a pools f
+pub refused_by : {T : Type 0} (a : Admission) (pools : Pools) → IsSystem (system_in a) → (result : Result T (Refused PlanFault)) (e : PlanFault) → result ≡ Err (refusals.Fault e) → IsFaultOfPlan a pools e
+    → (f : PlanFault) → (result ≡ Err (refusals.Fault f)) ↔ IsFaultOfPlan a pools f
 refused_by a pools system result e is there f = (
-  λ same. (let one : e ≡ f = cc in subst (IsFaultOf a pools) one there),
+  λ same. (let one : e ≡ f = cc in subst (IsFaultOfPlan a pools) one there),
   λ other. is ∙ ap (λ x. Err (refusals.Fault x)) (by_value a pools e f (one_fault a.roots (system_in a) (pools_value pools) system (plan_fault_of e) (plan_fault_of f) there other) there),
 )
 
 -- where everything can be planned no fault is
 pub not_refused : {T : Type 0} (a : Admission) (pools : Pools) → CanBePlanned a.roots (system_in a) (pools_value pools) → (result : Result T (Refused PlanFault)) → ((f : PlanFault) → result ≡ Err (refusals.Fault f) → ⊥)
-    → (f : PlanFault) → (result ≡ Err (refusals.Fault f)) ↔ IsFaultOf a pools f
+    → (f : PlanFault) → (result ≡ Err (refusals.Fault f)) ↔ IsFaultOfPlan a pools f
 not_refused a pools can result never f = (λ same. absurd (never f same), λ there. absurd (none_refused a.roots (system_in a) (pools_value pools) can (plan_fault_of f) there))
 
 pub memory_is_none : {T : Type 0} (result : Result T (Refused PlanFault)) → result ≡ Err refusals.Memory → (f : PlanFault) → result ≡ Err (refusals.Fault f) → ⊥

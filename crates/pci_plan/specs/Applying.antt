@@ -16,8 +16,8 @@ abbrev pub ShowsSystem : List Target → System → Type 0
 ShowsSystem targets s = (f : Function) → Contains s f → ShowsAll targets f.slot f.image
 
 -- the functions are a sound system's, with the bits that header and probe give them
-abbrev pub AreSound : List ℕ → List Target → Type 0
-AreSound roots targets = (now : System) × IsSound roots now × (targets ≡ map target_of now)
+abbrev pub AreSoundTargets : List ℕ → List Target → Type 0
+AreSoundTargets roots targets = (now : System) × IsSound roots now × (targets ≡ map target_of now)
 
 -- how many writes were made
 abbrev pub writes_before : ApplyFault → ℕ

@@ -49,12 +49,12 @@ IsRefusedAt before slot failures_after =
     (before.failures < failures_after) ⊎ IsFalse (has_function before.targets slot)
 
 -- why one register, by its offset and width, doesn't compare
-abbrev pub IsRegisterFault : Moment → Slot → List ℕ → ℕ × ℕ → ℕ → ApplyFault → Type 0
-IsRegisterFault before slot image (offset, width) failures_after (Changed at place) =
+abbrev pub IsCompareFault : Moment → Slot → List ℕ → ℕ × ℕ → ℕ → ApplyFault → Type 0
+IsCompareFault before slot image (offset, width) failures_after (Changed at place) =
     (at ≡ slot) × (place ≡ offset) × ShowsOther before.targets slot image offset width
-IsRegisterFault before slot image (offset, width) failures_after (Port done) =
+IsCompareFault before slot image (offset, width) failures_after (Port done) =
     (done ≡ 0) × IsRefusedAt before slot failures_after
-IsRegisterFault before slot image (offset, width) failures_after (Stuck done) = ⊥
+IsCompareFault before slot image (offset, width) failures_after (Stuck done) = ⊥
 
 -- why a function doesn't
 abbrev pub IsFunctionFault : Moment → Slot → List ℕ → ℕ → ApplyFault → Type 0

@@ -33,7 +33,7 @@ pub record FillingOf (filling : Filling) : Type 0 where
   pub needs : AreAllNeeds roots system pools filling.needs.now
 
 -- a register is one of those that address decoding is set by
-abbrev pub IsListed : Record → Register → Type 0
-IsListed r register =
+abbrev pub IsDecodingRegister : Record → Register → Type 0
+IsDecodingRegister r register =
     Contains (address_registers (if is_some r.bridge then 1 else 0))
     (register.offset, register.width)

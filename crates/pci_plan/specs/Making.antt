@@ -15,8 +15,8 @@ IsAccessible w = IsTrue (is_access w.off w.width && fits w.width w.value)
 -- ---- one write
 
 -- after so many others it wasn't made, as it was refused
-abbrev pub IsRefused : Moment → Write → ℕ → Moment → ℕ → Type 0
-IsRefused before w done after n =
+abbrev pub IsWriteRefused : Moment → Write → ℕ → Moment → ℕ → Type 0
+IsWriteRefused before w done after n =
     (n ≡ done) × (after.targets ≡ before.targets) × IsRefusedAt before w.slot after.failures
 
 -- or it was made, and reading it back failed
@@ -35,7 +35,7 @@ pub record IsShownOtherwise (targets : List Target) (w : Write) : Type 0 where
 abbrev pub IsLastWrite : Moment → Write → ℕ → Moment → ApplyFault → Type 0
 IsLastWrite before w done after (Changed slot offset) = ⊥
 IsLastWrite before w done after (Port n) =
-    IsRefused before w done after n ⊎ IsUnread before w done after n
+    IsWriteRefused before w done after n ⊎ IsUnread before w done after n
 IsLastWrite before w done after (Stuck n) =
     (n ≡ done + 1) × (after.targets ≡ write_targets before.targets w)
     × IsShownOtherwise after.targets w
@@ -71,7 +71,7 @@ AreReadBackOrFailed before writes failures_after done =
     ⊎ IsLastUnread before writes failures_after done
 
 -- the first writes were made, and each was read back
-pub record AreMade (before : List Target) (writes : List Write) (count : ℕ)
+pub record AreWritesMade (before : List Target) (writes : List Write) (count : ℕ)
     (after : List Target) : Type 0 where
   pub within : count ≤ length writes
   pub made : after ≡ after_writes before (take count writes)
@@ -101,8 +101,8 @@ pub record IsStuckStop (before : List Target) (writes : List Write) (after : Lis
   pub read_back : AreReadBack before writes last
   pub otherwise : IsShownOtherwise after write
 
-abbrev pub IsStop : Moment → List Write → Moment → ApplyFault → Type 0
-IsStop before writes after (Changed slot offset) = ⊥
-IsStop before writes after (Port done) = IsPortStop before writes after done
-IsStop before writes after (Stuck done) =
+abbrev pub IsApplyStop : Moment → List Write → Moment → ApplyFault → Type 0
+IsApplyStop before writes after (Changed slot offset) = ⊥
+IsApplyStop before writes after (Port done) = IsPortStop before writes after done
+IsApplyStop before writes after (Stuck done) =
     IsStuckStop before.targets writes after.targets done

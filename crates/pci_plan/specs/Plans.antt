@@ -62,6 +62,6 @@ plan_fault_of (NoRoom class) = plan.NoRoom (kind_value class)
 plan_fault_of (NotAccepted fault) = plan.NotAccepted (fault_of fault)
 
 -- the fault stands, and none that is looked for before it
-abbrev pub IsFaultOf : Admission → Pools → PlanFault → Type 0
-IsFaultOf a pools fault =
+abbrev pub IsFaultOfPlan : Admission → Pools → PlanFault → Type 0
+IsFaultOfPlan a pools fault =
     IsPlanFaultOf a.roots (system_in a) (pools_value pools) (plan_fault_of fault)

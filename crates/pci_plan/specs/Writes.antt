@@ -13,8 +13,8 @@ abbrev pub write_value : CodeWrite → Write
 write_value w = record { slot = w.slot; offset = w.off; width = w.width; value = w.value }
 
 -- whether the write is of two or of four bytes
-abbrev pub is_plain : CodeWrite → Bool
-is_plain w = w.width == 2 || w.width == 4
+abbrev pub is_two_or_four : CodeWrite → Bool
+is_two_or_four w = w.width == 2 || w.width == 4
 
 -- the text of a write: its line without the end
 abbrev pub write_text : Write → List ℕ
@@ -23,7 +23,7 @@ write_text w =
     ++ (46 ∷ hex_digit w.width ∷ field (hex_number (w.width + w.width) w.value))
 
 abbrev pub printed : CodeWrite → Option (List ℕ)
-printed w = if is_plain w then Some (write_text (write_value w)) else None
+printed w = if is_two_or_four w then Some (write_text (write_value w)) else None
 
 -- whether Command enables a space
 abbrev pub is_image_on : List ℕ → Bool

@@ -5,7 +5,7 @@ ghost use Rattle.pci_spec.specs.Machine.{target_of, after_writes};
 ghost use Rattle.pci_place.specs.Above.{system_in};
 ghost use Rattle.pci_plan.specs.Comparing.{moment};
 ghost use Rattle.pci_plan.specs.Plans.{final_of};
-ghost use Rattle.pci_plan.specs.Applying.{ShowsSystem, AreSound, writes_made, ReadBackBy, HasImages, AreSoundWhileReadBack, IsApplyFault};
+ghost use Rattle.pci_plan.specs.Applying.{ShowsSystem, AreSoundTargets, writes_made, ReadBackBy, HasImages, AreSoundWhileReadBack, IsApplyFault};
 
 use super::apply_fault::ApplyFault;
 use super::compare::compare;
@@ -53,7 +53,7 @@ pub fn apply<P: ConfigPort, A: Allocator>(
     ensures sound { P.targets port.old ≡ map target_of (system_in plan.now.start)
         → IsSound plan.now.start.roots (system_in plan.now.start)
         ⊎ (plan.now.safe_from ≤ writes_made plan.now.writes result)
-        → AreSound plan.now.start.roots (P.targets port.new) }
+        → AreSoundTargets plan.now.start.roots (P.targets port.new) }
     // but for writes that read back it makes no difference which bits can be written
     ensures sound_images { HasImages (P.targets port.old) (system_in plan.now.start)
         → AreSoundWhileReadBack plan.now.start.roots (system_in plan.now.start)

@@ -2,7 +2,7 @@
 ghost use Rattle.std.specs.Prelude.{◌≡◌, IsTrue, OnOk, IfErr};
 ghost use Rattle.pci_spec.specs.Number.{number_at};
 ghost use Rattle.pci_spec.specs.Port.{is_access, ShowsNumber};
-ghost use Rattle.pci_plan.specs.Comparing.{ShowsAll, StartsAs, IsRegisterFault, IsFunctionFault, IsStartFault, moment};
+ghost use Rattle.pci_plan.specs.Comparing.{ShowsAll, StartsAs, IsCompareFault, IsFunctionFault, IsStartFault, moment};
 
 use super::apply_fault::ApplyFault;
 use pci_base::image::Image;
@@ -27,7 +27,7 @@ fn compare_register<P: ConfigPort>(
         (ShowsNumber (P.targets port.old) slot offset width (number_at image.now.0 offset width)) }
     ensures counted { OnOk result (P.failures port.new ≡ P.failures port.old) }
     ensures fault { IfErr result
-        (IsRegisterFault (moment (P.targets port.old) (P.failures port.old)) slot image.now.0
+        (IsCompareFault (moment (P.targets port.old) (P.failures port.old)) slot image.now.0
         (offset, width) (P.failures port.new)) }
 {
     match port.read(slot, offset, width) {

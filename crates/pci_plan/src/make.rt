@@ -5,7 +5,7 @@ ghost use Rattle.pci_spec.specs.Machine.{write_targets};
 ghost use Rattle.pci_spec.specs.Port.{ShowsNumber};
 ghost use Rattle.pci_plan.specs.Comparing.{moment};
 ghost use Rattle.pci_plan.specs.Writes.{write_value};
-ghost use Rattle.pci_plan.specs.Making.{IsAccessible, IsLastWrite, AreMade, IsStop};
+ghost use Rattle.pci_plan.specs.Making.{IsAccessible, IsLastWrite, AreWritesMade, IsApplyStop};
 
 use super::apply_fault::ApplyFault;
 use super::write::Write;
@@ -44,10 +44,10 @@ pub fn make<P: ConfigPort>(port: &mut P, writes: &[Write]) -> Result<(), ApplyFa
     // a port would refuse others by 41, a cause of a stop that 81 doesn't know
     requires { All IsAccessible writes.now }
     // each was read back, so what the port says it holds is what was written
-    ensures made { OnOk result (AreMade (P.targets port.old) (map write_value writes.now)
+    ensures made { OnOk result (AreWritesMade (P.targets port.old) (map write_value writes.now)
         (length writes.now) (P.targets port.new)) }
     ensures counted { OnOk result (P.failures port.new ≡ P.failures port.old) }
-    ensures stop { IfErr result (IsStop (moment (P.targets port.old) (P.failures port.old))
+    ensures stop { IfErr result (IsApplyStop (moment (P.targets port.old) (P.failures port.old))
         (map write_value writes.now) (moment (P.targets port.new) (P.failures port.new))) }
 {
     for (done, write) in writes.iter().enumerate() {

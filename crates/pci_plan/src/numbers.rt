@@ -12,7 +12,7 @@ ghost use Rattle.pci_place.specs.Classes.{is_io_kind};
 ghost use Rattle.pci_base.specs.WindowKinds.{kind_value, by_kind};
 ghost use Rattle.pci_place.specs.Places.{first_in};
 ghost use Rattle.pci_base.specs.Bounds.{spec_bounds_of};
-ghost use Rattle.pci_plan.specs.Fillings.{FillingOf, IsListed};
+ghost use Rattle.pci_plan.specs.Fillings.{FillingOf, IsDecodingRegister};
 
 use pci_base::bounds::Bounds;
 use pci_base::image::Image;
@@ -193,7 +193,7 @@ impl Filling<'_> {
         // new numbers are told of a function in a system that can be planned
         requires of { FillingOf self.now }
         // any offset that isn't a window's or a ROM's is taken for a BAR's
-        requires listed { IsListed self.now.record.now register }
+        requires listed { IsDecodingRegister self.now.record.now register }
         ensures { (of : FillingOf self.now)
             → result
             ≡ numbers.new_number of.roots of.system of.pools of.function

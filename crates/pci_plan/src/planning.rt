@@ -17,7 +17,7 @@ ghost use Rattle.pci_place.specs.Needs.{AreAllNeeds};
 ghost use Rattle.pci_place.specs.Places.{HasPlaces};
 ghost use Rattle.pci_plan.specs.Writes.{is_image_on};
 ghost use Rattle.pci_plan.specs.Numbered.{AreNewHeaders};
-ghost use Rattle.pci_plan.specs.Plans.{IsPlanIn, IsFaultOf};
+ghost use Rattle.pci_plan.specs.Plans.{IsPlanIn, IsFaultOfPlan};
 
 use super::numbered::number_all;
 use super::plan::Plan;
@@ -222,7 +222,7 @@ fn placed<A: Allocator + Copy>(
     ensures headers { IfOk result
         (λ headers. AreNewHeaders admitted.now (pools_value pools.now) headers.items) }
     ensures fault { (f : PlanFault) → (result ≡ Err (Refused.Fault f))
-        ↔ IsFaultOf admitted.now pools.now f }
+        ↔ IsFaultOfPlan admitted.now pools.now f }
 {
     // Read for what it says of the system.
     let _roots = roots_of(admitted);
@@ -281,7 +281,7 @@ pub fn plan<'a, A: Allocator + Copy>(
     ensures planned { IfOk result (IsPlanIn admitted.entry.now (pools_value pools.now)) }
     // both ways: what can be planned is refused for want of memory alone, and never by 73
     ensures fault { (f : PlanFault) → (result ≡ Err (Refused.Fault f))
-        ↔ IsFaultOf admitted.entry.now pools.now f }
+        ↔ IsFaultOfPlan admitted.entry.now pools.now f }
 {
     if pools.are_bad() {
         return Err(Refused::Fault(PlanFault::BadPools));

@@ -12,7 +12,7 @@ use Rattle.pci_image.specs.declared.fault.ImageFault.{ImageFault}
 use Rattle.pci_image.specs.declared.fault.ImageFault.TheVariants as of_image
 use Rattle.pci_probe.specs.declared.fault.DeriveFault.TheVariants as of_function
 use Rattle.pci_probe.specs.Fault.{IsHeaderFault}
-use Rattle.pci_probe.specs.ProbeFault.{fault_at}
+use Rattle.pci_probe.specs.ProbeFault.{probe_fault_at}
 
 module _ {X : Type 0} (fault : X → Option ProbeFault) where
   -- one function more
@@ -78,7 +78,7 @@ header-none b header =
     ∙ cond-false (has_other_layout b.image) (Some (HeaderKind b.slot)) None header.layout
 
 -- the fault of a function's header
-pub header-fault : (b : Block) (found : ImageFault) → IsHeaderFault b.image found → identity_fault b ≡ Some (fault_at b.slot (of_function.Header found))
+pub header-fault : (b : Block) (found : ImageFault) → IsHeaderFault b.image found → identity_fault b ≡ Some (probe_fault_at b.slot (of_function.Header found))
 header-fault b of_image.NoVendor is = cond-true (has_no_vendor b.image) (Some (NoVendor b.slot)) (of_layout b) is.there
 header-fault b of_image.HeaderKind is =
     cond-false (has_no_vendor b.image) (Some (NoVendor b.slot)) (of_layout b) (is.answers refl) ∙ cond-true (has_other_layout b.image) (Some (HeaderKind b.slot)) None is.there

@@ -11,8 +11,8 @@ use Rattle.pci_base.specs.declared.memory.Refused.TheVariants.{Fault, Memory}
 use Rattle.pci_probe.specs.Assuming.{assuming_of}
 use Rattle.pci_probe.specs.declared.assuming.Assuming.{Assuming}
 use Rattle.pci_probe.specs.declared.probe_fault.ProbeFault.{ProbeFault}
-use Rattle.pci_probe.specs.Derivation.{IsFaultOfFunction, told}
-use Rattle.pci_probe.specs.ProbeFault.{IsFirstFault, fault_value}
+use Rattle.pci_probe.specs.Derivation.{IsFaultOfFunction, told_function}
+use Rattle.pci_probe.specs.ProbeFault.{IsFirstProbeFault, fault_value}
 use Rattle.pci_probe.proofs.FirstOf.{first_of-more, first_of-found}
 use Rattle.pci_probe.proofs.ToldFunctions.{same_count, length-told_of, told_at}
 
@@ -28,11 +28,11 @@ fault_by assuming dump sizes slot header slot_is header_is =
 pub register_fault_by : (assuming : Assuming) (dump : List Block) (sizes : List SizesBlock) (refused : Refused ProbeFault) (k : ℕ) (b : Block) (s : SizesBlock)
     → None ≡ least_slot (lone_slots (slots_of dump) (sized_slots sizes)) → slots_of dump ≡ sized_slots sizes → first_of identity_fault dump ≡ None
     → k < length dump → b ≡ get_or dump k b → s ≡ get_or sizes k s
-    → first_of (read_back_fault (assuming_of assuming)) (take k (told_of dump sizes)) ≡ None → IsFaultOfFunction assuming (told b s) refused → IsFirstFault assuming dump sizes refused
+    → first_of (read_back_fault (assuming_of assuming)) (take k (told_of dump sizes)) ≡ None → IsFaultOfFunction assuming (told_function b s) refused → IsFirstProbeFault assuming dump sizes refused
 register_fault_by assuming dump sizes (Fault fault) k b s none same fine within b_is s_is before is =
     let count = same_count dump sizes same in
     let long = length-told_of dump sizes count in
     fault_by assuming dump sizes None None none fine
     ∙ first_of-found (read_back_fault (assuming_of assuming)) (told_of dump sizes) (k + 1) (fault_value fault)
-    (first_of-more (read_back_fault (assuming_of assuming)) (told_of dump sizes) k (told b s) (omega (arith, long, within)) (told_at dump sizes k b s within (omega (arith, count, within)) b_is s_is) before ∙ is)
+    (first_of-more (read_back_fault (assuming_of assuming)) (told_of dump sizes) k (told_function b s) (omega (arith, long, within)) (told_at dump sizes k b s within (omega (arith, count, within)) b_is s_is) before ∙ is)
 register_fault_by assuming dump sizes Memory k b s none same fine within b_is s_is before is = tt

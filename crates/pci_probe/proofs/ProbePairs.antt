@@ -19,7 +19,7 @@ use Rattle.pci_function.specs.Profile.{IsAnswering}
 use Rattle.pci_pair.specs.Pair.{IsPair}
 use Rattle.pci_pair.proofs.Pairs.{answering_pair}
 use Rattle.pci_machine.proofs.Targets.{find-none}
-use Rattle.pci_probe.specs.Derivation.{told}
+use Rattle.pci_probe.specs.Derivation.{told_function}
 use Rattle.pci_probe.proofs.FirstOf.{first_of-none, header_of-none}
 use Rattle.pci_probe.proofs.ToldFunctions.{same_count, length-told_of, told_at, slots-probe_of}
 
@@ -55,8 +55,8 @@ answers dump sizes k b p same headers within b_is p_is =
     let none : SizesBlock = record { slot = b.slot; lines = [] } in
     let s : SizesBlock = get_or sizes k none in
     let at = told_at dump sizes k b s within inside b_is (get_or_default sizes k none s inside) in
-    let probe : probe_block (told b s) ≡ p =
-    sym (p_is ∙ get_or-map probe_block (told_of dump sizes) k (told b s) p (omega (arith, long, within)) ∙ ap probe_block at) in
+    let probe : probe_block (told_function b s) ≡ p =
+    sym (p_is ∙ get_or-map probe_block (told_of dump sizes) k (told_function b s) p (omega (arith, long, within)) ∙ ap probe_block at) in
     let header = header_of-none b (first_of-none identity_fault dump k b within (sym b_is) headers) in
     subst (λ (q : Block). IsAnswering (function_of b q)) probe record { vendor = header.vendor; header = header.layout; probe = none_stray b.image s.lines }
 

@@ -13,7 +13,7 @@ use Rattle.pci_spec.proofs.Cells.{fits_first}
 use Rattle.pci_spec.proofs.SizesTexts.{cells_long, sizes_in}
 use Rattle.pci_spec.proofs.SizesFaults.{slot_of_part, slots_with, fault_slot, fault_line, fault_blank, fault_ended, fault_order}
 use Rattle.pci_dump.specs.declared.read_fault.ReadFault.TheVariants as faults
-use Rattle.pci_probe.specs.SizesFault.{IsFaultAfter, IsNoBlockAfter}
+use Rattle.pci_probe.specs.SizesFault.{IsSizesFaultAfter, IsNoBlockAfter}
 use Rattle.pci_probe.specs.declared.sizes_fault.TheConstants.{GREATEST}
 
 -- the cell in which the greatest block has a byte
@@ -63,7 +63,7 @@ module _ (blocks : List SizesBlock) (bytes : List ℕ) (sizes : IsSizes blocks) 
   at_line : (more : List ℕ) (fault : ℕ → TextFault) (a b : ℕ) → a ≡ b → IsSizesFaultOf (sizes_text_of blocks ++ (bytes ++ more)) (fault a) → IsSizesFaultOf (sizes_text_of blocks ++ (bytes ++ more)) (fault b)
   at_line more fault a b e h = subst (λ (n : ℕ). IsSizesFaultOf (sizes_text_of blocks ++ (bytes ++ more)) (fault n)) e h
 
-  pub order_here : (place : ℕ) → place ≤ length bytes → SlotIsLow blocks bytes place → IsFaultAfter blocks bytes (faults.Order (9 * length blocks + 1))
+  pub order_here : (place : ℕ) → place ≤ length bytes → SlotIsLow blocks bytes place → IsSizesFaultAfter blocks bytes (faults.Order (9 * length blocks + 1))
   order_here place within l more _ =
       let whole = l.whole in
       at_line more Order (9 * length blocks + 0 + 1) (9 * length blocks + 1) (omega arith) (fault_order blocks bytes more l.slot sizes room l.is_slot (omega (arith, whole, within)) l.text l.low)
@@ -72,7 +72,7 @@ module _ (blocks : List SizesBlock) (bytes : List ℕ) (sizes : IsSizes blocks) 
     line_is : 9 * length blocks + ends_before place + 1 ≡ line
     line_is = let e = ends_before place in omega (arith, is)
 
-    pub ended_here : place ≡ length bytes → 1 ≤ length bytes → IsFaultAfter blocks bytes (faults.Ended line)
+    pub ended_here : place ≡ length bytes → 1 ≤ length bytes → IsSizesFaultAfter blocks bytes (faults.Ended line)
     ended_here all some more end =
         let none : more ≡ [] = elim end [ inl whole ↦ absurd (let no : ⊥ = omega (arith, whole, all, some, within) in no) | inr none ↦ none ] in
         let here = fault_ended blocks bytes place sizes room within fits (sym all) (omega (arith, all, some)) follows in
@@ -80,15 +80,15 @@ module _ (blocks : List SizesBlock) (bytes : List ℕ) (sizes : IsSizes blocks) 
         (subst (λ (t : List ℕ). IsSizesFaultOf (sizes_text_of blocks ++ t) (Ended (9 * length blocks + ends_before place + 1))) (sym (append-nil bytes) ∙ ap (λ (t : List ℕ). bytes ++ t) (sym none)) here)
 
     module _ (here : place < length bytes) (wrong : Takes (cell_at place) (get_or bytes place 0) → ⊥) where
-      pub slot_here : place < 8 → IsFaultAfter blocks bytes (faults.BadSlot line)
+      pub slot_here : place < 8 → IsSizesFaultAfter blocks bytes (faults.BadSlot line)
       slot_here early more _ = at_line more BadSlot _ line line_is (fault_slot blocks bytes place sizes room within fits here wrong more early follows)
 
-      pub line_here : 8 ≤ place → place < 407 → IsFaultAfter blocks bytes (faults.BadLine line)
+      pub line_here : 8 ≤ place → place < 407 → IsSizesFaultAfter blocks bytes (faults.BadLine line)
       line_here late early more _ =
           let ends = later_ends place late in
           at_line more BadLine _ line line_is (fault_line blocks bytes place sizes room within fits here wrong more (omega (arith, ends)) (omega (arith, ends, early)) follows)
 
-      pub blank_here : 407 ≤ place → IsFaultAfter blocks bytes (faults.NoBlank line)
+      pub blank_here : 407 ≤ place → IsSizesFaultAfter blocks bytes (faults.NoBlank line)
       blank_here late more _ =
           let ends = later_ends place (omega (arith, late)) in
           at_line more NoBlank _ line line_is (fault_blank blocks bytes place sizes room within fits here wrong more (omega (arith, ends, late, within)) follows)

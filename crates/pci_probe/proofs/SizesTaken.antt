@@ -13,19 +13,19 @@ use Rattle.pci_dump.proofs.Filled.{between_new}
 use borrow.Rule.Slice.PartMut.{put_mid}
 use Rattle.pci_dump.specs.declared.read_fault.ReadFault.{ReadFault}
 use Rattle.pci_dump.specs.declared.read_fault.ReadFault.TheVariants as faults
-use Rattle.pci_probe.specs.SizesFault.{IsSizesTextFault, IsFaultAfter}
+use Rattle.pci_probe.specs.SizesFault.{IsSizesTextFault, IsSizesFaultAfter}
 
 -- ---- one block
 
 -- a byte after all that there is room for
-pub many_here : (blocks : List SizesBlock) (bytes : List ℕ) → IsSizes blocks → 1 ≤ length bytes → length blocks ≡ 4096 → IsFaultAfter blocks bytes (faults.TooMany 36865)
+pub many_here : (blocks : List SizesBlock) (bytes : List ℕ) → IsSizes blocks → 1 ≤ length bytes → length blocks ≡ 4096 → IsSizesFaultAfter blocks bytes (faults.TooMany 36865)
 many_here blocks [] sizes some full more end = absurd (let no : ⊥ = omega (arith, some) in no)
 many_here blocks (c ∷ bytes) sizes some full more end =
     subst (λ (n : ℕ). IsSizesTextFault (sizes_text_of blocks ++ c ∷ (bytes ++ more)) (faults.TooMany (9 * n + 0 + 1))) full (fault_many blocks c (bytes ++ more) sizes full)
 
 -- the fault of a text isn't one of its source
-pub no_io_after : (blocks : List SizesBlock) (bytes : List ℕ) (fault : ReadFault) → IsFaultAfter blocks bytes fault → fault ≢ faults.Io
-no_io_after blocks bytes fault h e = subst (λ (f : ReadFault). IsFaultAfter blocks bytes f) e h [] (inr refl)
+pub no_io_after : (blocks : List SizesBlock) (bytes : List ℕ) (fault : ReadFault) → IsSizesFaultAfter blocks bytes fault → fault ≢ faults.Io
+no_io_after blocks bytes fault h e = subst (λ (f : ReadFault). IsSizesFaultAfter blocks bytes f) e h [] (inr refl)
 
 pub sizes_more : (blocks : List SizesBlock) (b : SizesBlock) → IsSizes blocks → IsSizesBlock b → IsRising (sized_slots (blocks ++ b ∷ [])) → length blocks ≢ 4096 → IsSizes (blocks ++ b ∷ [])
 sizes_more blocks b sizes holds rising other =
@@ -56,7 +56,7 @@ nil_by [] e = refl
 nil_by (x ∷ xs) e = absurd (let no : ⊥ = omega (arith, e) in no)
 
 pub taken_fault : (old : List SizesBlock) (bytes : List ℕ) (blocks : List SizesBlock) (rest block more : List ℕ) (fault : ReadFault) → AreTaken old bytes blocks rest → rest ≡ block ++ more → length block ≡ min 408 (length rest) → 0 < length rest
-    → IsFaultAfter blocks block fault → IsFaultAfter old bytes fault
+    → IsSizesFaultAfter blocks block fault → IsSizesFaultAfter old bytes fault
 taken_fault old bytes blocks rest block more fault t split long some h after end =
     let all = ap length split ∙ length-append block more in
     let text : sizes_text_of blocks ++ (block ++ (more ++ after)) ≡ sizes_text_of old ++ (bytes ++ after) =
@@ -117,7 +117,7 @@ none_left None rest e h = absurd cc
 none_left (Some xs) rest e h = (let same : rest ≡ xs = cc in same) ∙ h
 
 pub read_fault : (before middle left : Option (List ℕ)) (blocks : List SizesBlock) (chunk bytes : List ℕ) (fault : ReadFault) → AreRead before middle blocks → Consumes middle left chunk → (length chunk % 408 ≡ 0) ⊎ IsAtEnd left
-    → IsFaultAfter blocks chunk fault → before ≡ Some bytes → IsSizesTextFault bytes fault
+    → IsSizesFaultAfter blocks chunk fault → before ≡ Some bytes → IsSizesTextFault bytes fault
 read_fault before middle left blocks chunk bytes fault r consumed end h known =
     let p = known_parts before middle left bytes (sizes_text_of blocks) chunk known r.text consumed in
     subst (λ (t : List ℕ). IsSizesTextFault t fault) (sym p.2) (h p.0 (elim end [ inl whole ↦ inl whole | inr over ↦ inr (none_left left p.0 p.1 over) ]))

@@ -12,7 +12,7 @@ use Rattle.pci_spec.specs.ProbeOf.{Told, told_of, probe_block, assumed_in}
 use Rattle.pci_spec.specs.Mark.{AssumedRegister}
 use Rattle.pci_spec.proofs.Pairing.{above_all}
 use Rattle.pci_machine.proofs.Targets.{map-map}
-use Rattle.pci_probe.specs.Derivation.{told}
+use Rattle.pci_probe.specs.Derivation.{told_function}
 
 -- ---- the functions
 
@@ -25,10 +25,10 @@ length-told_of (b ∷ dump) [] h = absurd (let no : ⊥ = omega (arith, h) in no
 length-told_of (b ∷ dump) (s ∷ sizes) h = ap suc (length-told_of dump sizes (let e : length dump ≡ length sizes = omega (arith, h) in e))
 
 pub told_at : (dump : List Block) (sizes : List SizesBlock) (k : ℕ) (b : Block) (s : SizesBlock) → k < length dump → k < length sizes → b ≡ get_or dump k b → s ≡ get_or sizes k s
-    → get_or (told_of dump sizes) k (told b s) ≡ told b s
+    → get_or (told_of dump sizes) k (told_function b s) ≡ told_function b s
 told_at [] sizes k b s within inside b_is s_is = absurd (let no : ⊥ = omega (arith, within) in no)
 told_at (x ∷ dump) [] k b s within inside b_is s_is = absurd (let no : ⊥ = omega (arith, inside) in no)
-told_at (x ∷ dump) (y ∷ sizes) zero b s within inside b_is s_is = λ i. told (sym b_is i) (sym s_is i)
+told_at (x ∷ dump) (y ∷ sizes) zero b s within inside b_is s_is = λ i. told_function (sym b_is i) (sym s_is i)
 told_at (x ∷ dump) (y ∷ sizes) (suc k) b s within inside b_is s_is = told_at dump sizes k b s (omega (arith, within)) (omega (arith, inside)) b_is s_is
 
 slots-told_of : (dump : List Block) (sizes : List SizesBlock) → length dump ≡ length sizes → map (λ (f : Told). f.slot) (told_of dump sizes) ≡ slots_of dump

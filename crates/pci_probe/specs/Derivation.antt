@@ -11,8 +11,8 @@ use Rattle.pci_probe.specs.declared.probe_fault.ProbeFault.{ProbeFault}
 use Rattle.pci_probe.specs.ProbeFault.{fault_value}
 
 -- a function that a dump shows and sizes tell of
-abbrev pub told : Block → SizesBlock → Told
-told block sizes = record { slot = block.slot; image = block.image; lines = sizes.lines }
+abbrev pub told_function : Block → SizesBlock → Told
+told_function block sizes = record { slot = block.slot; image = block.image; lines = sizes.lines }
 
 -- it has no probe, for the fault that is named
 abbrev pub IsFaultOfFunction : Assuming → Told → Refused ProbeFault → Type 0

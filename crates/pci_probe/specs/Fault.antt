@@ -26,20 +26,20 @@ pub record IsHeaderFault (image : List ℕ) (fault : ImageFault) : Type 0 where
   pub answers : fault ≡ HeaderKind → IsFalse (has_no_vendor image)
 
 -- the function has a header, and its first register without a read back is this
-abbrev pub IsRegisterFault : Assuming → List ℕ → List ResourceLine → NoProbe → Type 0
-IsRegisterFault assuming image lines fault =
+abbrev pub IsFirstRegisterFault : Assuming → List ℕ → List ResourceLine → NoProbe → Type 0
+IsFirstRegisterFault assuming image lines fault =
     HasHeader image × (no_probe (assuming_of assuming) image lines ≡ Some fault)
 
 -- the fault is that of a register
-abbrev pub IsFaultOf : DeriveFault → Option NoProbe → Type 0
-IsFaultOf (Header fault) found = ⊥
-IsFaultOf (NoSize register) found = found ≡ Some (spec.NoSize register)
-IsFaultOf (OtherSize register) found = found ≡ Some (spec.OtherSize register)
+abbrev pub IsOfRegister : DeriveFault → Option NoProbe → Type 0
+IsOfRegister (Header fault) found = ⊥
+IsOfRegister (NoSize register) found = found ≡ Some (spec.NoSize register)
+IsOfRegister (OtherSize register) found = found ≡ Some (spec.OtherSize register)
 
 -- why the function has no probe
 abbrev pub IsDeriveFault : Assuming → List ℕ → List ResourceLine → DeriveFault → Type 0
 IsDeriveFault assuming image lines (Header fault) = IsHeaderFault image fault
 IsDeriveFault assuming image lines (NoSize register) =
-    IsRegisterFault assuming image lines (spec.NoSize register)
+    IsFirstRegisterFault assuming image lines (spec.NoSize register)
 IsDeriveFault assuming image lines (OtherSize register) =
-    IsRegisterFault assuming image lines (spec.OtherSize register)
+    IsFirstRegisterFault assuming image lines (spec.OtherSize register)

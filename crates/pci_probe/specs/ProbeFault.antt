@@ -23,14 +23,14 @@ fault_value (NoSize slot register) = spec.NoSize slot register
 fault_value (OtherSize slot register) = spec.OtherSize slot register
 
 -- the fault of a function, with its slot; a header has no other faults
-abbrev pub fault_at : Slot → DeriveFault → spec.ProbeFault
-fault_at slot (of_function.Header of_image.HeaderKind) = spec.HeaderKind slot
-fault_at slot (of_function.Header _) = spec.NoVendor slot
-fault_at slot (of_function.NoSize register) = spec.NoSize slot register
-fault_at slot (of_function.OtherSize register) = spec.OtherSize slot register
+abbrev pub probe_fault_at : Slot → DeriveFault → spec.ProbeFault
+probe_fault_at slot (of_function.Header of_image.HeaderKind) = spec.HeaderKind slot
+probe_fault_at slot (of_function.Header _) = spec.NoVendor slot
+probe_fault_at slot (of_function.NoSize register) = spec.NoSize slot register
+probe_fault_at slot (of_function.OtherSize register) = spec.OtherSize slot register
 
 -- what is named is the first that there is
-abbrev pub IsFirstFault : Assuming → List Block → List SizesBlock → Refused ProbeFault → Type 0
-IsFirstFault assuming dump sizes (Fault fault) =
+abbrev pub IsFirstProbeFault : Assuming → List Block → List SizesBlock → Refused ProbeFault → Type 0
+IsFirstProbeFault assuming dump sizes (Fault fault) =
     probe_fault (assuming_of assuming) dump sizes ≡ Some (fault_value fault)
-IsFirstFault assuming dump sizes Memory = Unit {0}
+IsFirstProbeFault assuming dump sizes Memory = Unit {0}

@@ -19,8 +19,8 @@ IsSizesTextFault bytes (faults.TooMany n) = IsSizesFaultOf bytes (TooMany n)
 IsSizesTextFault bytes (faults.Ended n) = IsSizesFaultOf bytes (Ended n)
 
 -- It is the fault of each text of these blocks and bytes that goes on so; it ends after bytes that are no whole blocks.
-abbrev pub IsFaultAfter : List SizesBlock → List ℕ → ReadFault → Type 0
-IsFaultAfter blocks bytes fault =
+abbrev pub IsSizesFaultAfter : List SizesBlock → List ℕ → ReadFault → Type 0
+IsSizesFaultAfter blocks bytes fault =
     (more : List ℕ) → (length bytes % 408 ≡ 0) ⊎ (more ≡ [])
     → IsSizesTextFault (sizes_text_of blocks ++ (bytes ++ more)) fault
 

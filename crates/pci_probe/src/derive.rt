@@ -7,7 +7,7 @@ ghost use Rattle.pci_image.specs.Header.{HasHeader};
 ghost use Rattle.pci_image.specs.Layouts.{layout_number};
 ghost use Rattle.pci_probe.specs.Assuming.{assuming_of};
 ghost use Rattle.pci_probe.specs.Derived.{derived_of, IsNarrow};
-ghost use Rattle.pci_probe.specs.Fault.{IsDeriveFault, IsHeaderFault, IsFaultOf};
+ghost use Rattle.pci_probe.specs.Fault.{IsDeriveFault, IsHeaderFault, IsOfRegister};
 
 use super::assuming::Assuming;
 use super::derived::Derived;
@@ -41,7 +41,7 @@ fn taken(derived: Derived, assuming: Assuming, offset: u8) -> Result<(u32, bool)
     ensures read_back { IfOk result (λ taken. (taken.0 ≡ read_back_of (derived_of derived))
         × (taken.1 ≡ is_assumed (derived_of derived))) }
     ensures fault { IfErr result
-        (λ fault. IsFaultOf fault
+        (λ fault. IsOfRegister fault
         (register_fault (assuming_of assuming) offset (derived_of derived))) }
 {
     match derived {

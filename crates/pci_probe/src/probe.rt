@@ -7,8 +7,8 @@ ghost use Rattle.pci_spec.specs.ProbeOf as spec;
 ghost use Rattle.pci_image.specs.Header.{HasHeader};
 ghost use Rattle.pci_pair.specs.Pair.{IsPair};
 ghost use Rattle.pci_probe.specs.Assuming.{assuming_of};
-ghost use Rattle.pci_probe.specs.ProbeFault.{IsFirstFault, fault_value};
-ghost use Rattle.pci_probe.specs.Derivation.{IsFaultOfFunction, told};
+ghost use Rattle.pci_probe.specs.ProbeFault.{IsFirstProbeFault, fault_value};
+ghost use Rattle.pci_probe.specs.Derivation.{IsFaultOfFunction, told_function};
 
 use super::assuming::Assuming;
 use super::derive::{derive, layout_of};
@@ -57,10 +57,10 @@ fn add<A: Allocator>(
     requires room { length derivation.old.probe < 4096 }
     ensures told { OnOk result (no_probe (assuming_of assuming) block.now.image sizes.now.lines ≡ None) }
     ensures probe { OnOk result (derivation.new.probe
-        ≡ derivation.old.probe ++ probe_block (told block.now sizes.now) ∷ []) }
+        ≡ derivation.old.probe ++ probe_block (told_function block.now sizes.now) ∷ []) }
     ensures assumed { OnOk result (derivation.new.assumed.items
-        ≡ derivation.old.assumed.items ++ assumed_in (told block.now sizes.now)) }
-    ensures fault { IfErr result (IsFaultOfFunction assuming (told block.now sizes.now)) }
+        ≡ derivation.old.assumed.items ++ assumed_in (told_function block.now sizes.now)) }
+    ensures fault { IfErr result (IsFaultOfFunction assuming (told_function block.now sizes.now)) }
 {
     let mut image = Image([0; IMAGE_LEN]);
     let registers = match derive(&block.image, &sizes.lines, assuming, &mut image) {
@@ -100,7 +100,7 @@ pub fn probe_of<A: Allocator + Copy, B: Allocator, C: Allocator>(
     // none of 20, 21, 30 and 31 is left for `check` to find in it
     ensures pair { IfOk result
         (λ derivation. (roots : List ℕ) → IsPair roots dump.now derivation.probe) }
-    ensures fault { IfErr result (IsFirstFault assuming dump.now sizes.now) }
+    ensures fault { IfErr result (IsFirstProbeFault assuming dump.now sizes.now) }
 {
     let blocks = dump.blocks();
     let told = sizes.blocks();

@@ -23,7 +23,7 @@ pub enum ProbeFault {
 }
 
 impl ProbeFault {
-    ghost use Rattle.pci_probe.specs.ProbeFault.{fault_at, fault_value};
+    ghost use Rattle.pci_probe.specs.ProbeFault.{probe_fault_at, fault_value};
 
     /// The fault's number: 20, 21, 30, 32 or 33.
     pub fn number(self) -> u8
@@ -40,7 +40,7 @@ impl ProbeFault {
 
     /// The fault of the function at a slot.
     pub(crate) fn at(slot: Slot, fault: DeriveFault) -> ProbeFault
-        ensures { fault_value result ≡ fault_at slot fault }
+        ensures { fault_value result ≡ probe_fault_at slot fault }
     {
         match fault {
             DeriveFault::Header(ImageFault::HeaderKind) => ProbeFault::HeaderKind(slot),

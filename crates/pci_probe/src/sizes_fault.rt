@@ -5,7 +5,7 @@ ghost use Rattle.pci_spec.specs.Slot.{IsRising};
 ghost use Rattle.pci_spec.specs.SizesText.{IsSizes, sized_slots};
 ghost use Rattle.pci_spec.specs.SizesForm.{sizes_cells};
 ghost use Rattle.pci_spec.specs.SizesStops.{cell_at, ends_before, SlotFollows, SlotIsLow};
-ghost use Rattle.pci_probe.specs.SizesFault.{IsFaultAfter, IsNoBlockAfter};
+ghost use Rattle.pci_probe.specs.SizesFault.{IsSizesFaultAfter, IsNoBlockAfter};
 
 use super::sizes::SizesBlock;
 use super::sizes_block::{BLOCK_LEN, may_follow};
@@ -106,7 +106,7 @@ pub(crate) fn fault_after(blocks: &[SizesBlock], bytes: &[u8]) -> ReadFault
     requires some { 1 ≤ length bytes.now }
     requires few { length bytes.now ≤ 408 }
     requires no_block { IsNoBlockAfter blocks.now bytes.now }
-    ensures { IsFaultAfter blocks.now bytes.now result }
+    ensures { IsSizesFaultAfter blocks.now bytes.now result }
 {
     let first = 9 * (blocks.len() as u64) + 1;
     let place = first_misfit(bytes);

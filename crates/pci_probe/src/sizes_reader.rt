@@ -2,7 +2,7 @@
 ghost use Rattle.std.specs.Prelude.{◌≡◌, ◌≢◌, ◌≤◌, ◌<◌, ◌+◌, ◌++◌, ℕ, List, Some, length, take, IfOk, IfErr, OnOk, MatchResult};
 ghost use Rattle.std.specs.Io.KnownBytes.{Consumes, IsAtEnd};
 ghost use Rattle.pci_spec.specs.SizesText.{SizesBlock as BlockValue, IsSizes, sizes_text_of, IsSizesTextOf};
-ghost use Rattle.pci_probe.specs.SizesFault.{IsSizesTextFault, IsFaultAfter};
+ghost use Rattle.pci_probe.specs.SizesFault.{IsSizesTextFault, IsSizesFaultAfter};
 
 use super::sizes::{Sizes, SizesBlock};
 use super::sizes_block::{BLOCK_LEN, block_after};
@@ -47,7 +47,7 @@ fn take_block<A: Allocator>(bytes: &[u8], sizes: &mut Sizes<A>) -> Result<(), Re
     ensures text { OnOk result (sizes_text_of sizes.new ≡ sizes_text_of sizes.old ++ bytes.now) }
     ensures sizes { OnOk result (IsSizes sizes.new) }
     ensures fault { IfErr result
-        (λ fault. fault ≢ ReadFault.Memory → IsFaultAfter sizes.old bytes.now fault) }
+        (λ fault. fault ≢ ReadFault.Memory → IsSizesFaultAfter sizes.old bytes.now fault) }
     ensures no_io { IfErr result (λ fault. fault ≢ ReadFault.Io) }
 {
     let blocks = sizes.blocks();
@@ -70,7 +70,7 @@ fn take_blocks<A: Allocator>(bytes: &[u8], sizes: &mut Sizes<A>) -> Result<(), R
     ensures text { OnOk result (sizes_text_of sizes.new ≡ sizes_text_of sizes.old ++ bytes.now) }
     ensures sizes { OnOk result (IsSizes sizes.new) }
     ensures fault { IfErr result
-        (λ fault. fault ≢ ReadFault.Memory → IsFaultAfter sizes.old bytes.now fault) }
+        (λ fault. fault ≢ ReadFault.Memory → IsSizesFaultAfter sizes.old bytes.now fault) }
     ensures no_io { IfErr result (λ fault. fault ≢ ReadFault.Io) }
 {
     let mut rest = bytes;

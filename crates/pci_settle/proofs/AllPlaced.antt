@@ -13,8 +13,8 @@ use Rattle.pci_base.specs.declared.range.Range.{Range}
 use Rattle.pci_base.specs.Ranges.{decoded_range_of}
 use Rattle.pci_settle.specs.declared.spot.Spot.{Spot}
 use Rattle.pci_settle.specs.declared.placing.Wanted.{Wanted}
-use Rattle.pci_settle.specs.Spots.{extent_value, AreListed, range_at, IsPutIn}
-use Rattle.pci_settle.specs.Placings.{item_extent, at_places, lacks_first, placing_of, HasList, IsWanted, AreWanted}
+use Rattle.pci_settle.specs.Spots.{extent_value, AreRisingRanges, extent_range, IsPutIn}
+use Rattle.pci_settle.specs.Placings.{item_extent, at_places, lacks_first, placing_of, HasListAt, IsWanted, AreWanted}
 
 -- ---- some items placed before others
 
@@ -74,12 +74,12 @@ drop_all (suc n) [] past = refl
 drop_all (suc n) (i ∷ items) past = drop_all n items (omega (arith, past))
 
 pub record IsSoFar (lists : List (List Range)) (start : List DecodedRange) (wanted : List Wanted) (taken : List Range) (places : List ℕ) (n : ℕ) : Type 0 where
-  pub listed : AreListed taken
+  pub listed : AreRisingRanges taken
   pub count : length places ≡ length wanted
   pub so_far : (ranges : Item → List DecodedRange) (items : List Item) → AreWanted lists ranges items wanted
       → place_all ranges start items ≡ and_all (at_places (take n items) (take n places)) (place_all ranges (map decoded_range_of taken) (drop n items))
 
-pub so_far_none : (lists : List (List Range)) (wanted : List Wanted) (taken : List Range) (places : List ℕ) → AreListed taken → length places ≡ length wanted
+pub so_far_none : (lists : List (List Range)) (wanted : List Wanted) (taken : List Range) (places : List ℕ) → AreRisingRanges taken → length places ≡ length wanted
     → IsSoFar lists (map decoded_range_of taken) wanted taken places 0
 so_far_none lists wanted taken places listed count = record { listed = listed; count = count; so_far = λ ranges items are. refl }
 
@@ -89,7 +89,7 @@ in_drop (suc n) [] i listed = listed
 in_drop (suc n) (j ∷ items) i listed = in_tail j items i (in_drop n items i listed)
 
 -- so it is lawful
-lawful_item : (lists : List (List Range)) (ranges : Item → List DecodedRange) (items : List Item) (wanted : List Wanted) (n : ℕ) → AreWanted lists ranges items wanted → All (HasList n) wanted
+lawful_item : (lists : List (List Range)) (ranges : Item → List DecodedRange) (items : List Item) (wanted : List Wanted) (n : ℕ) → AreWanted lists ranges items wanted → All (HasListAt n) wanted
     → (w : Wanted) (i : Item) → Contains items i → 0 < i.extent.alignment
 lawful_item lists ranges items wanted n are lawful w i (k, less, here) =
     let long = are.count in
@@ -137,14 +137,14 @@ module _ (lists : List (List Range)) (start : List DecodedRange) (wanted : List 
   pub lacks_next : None ≡ first_place (ranges_at lists (get_or wanted n e)) now (extent_value (get_or wanted n e).extent) → place_all ranges start items ≡ lacks_first (drop n items)
   lacks_next none = next_is None none ∙ all_lack so next ∙ sym (at_drop_more lacks_first items n x inside)
 
-  pub places_next : (count : ℕ) → All (HasList count) wanted → (s : Spot) → Some s.at ≡ first_place (ranges_at lists (get_or wanted n e)) now (extent_value (get_or wanted n e).extent)
+  pub places_next : (count : ℕ) → All (HasListAt count) wanted → (s : Spot) → Some s.at ≡ first_place (ranges_at lists (get_or wanted n e)) now (extent_value (get_or wanted n e).extent)
       → (new : List Range) → IsPutIn taken new (get_or wanted n e).extent s
       → place_all ranges start items ≡ and_all (at_places (take (n + 1) items) (take (n + 1) (set places n s.at))) (place_all ranges (map decoded_range_of new) (drop (n + 1) items))
   places_next count lawful s found new put =
       let a = s.at in
       let same : HaveSame (taken_by next a ∷ now) (map decoded_range_of new) =
       subst (λ (y : ExtentValue). HaveSame (range_from a y.size ∷ now) (map decoded_range_of new)) (sym own.extent)
-      (subst (λ ys. HaveSame (decoded_range_of (range_at (get_or wanted n e).extent a) ∷ now) (map decoded_range_of ys)) (sym put.put) (put_same taken s.index (range_at (get_or wanted n e).extent a) put.between.within)) in
+      (subst (λ ys. HaveSame (decoded_range_of (extent_range (get_or wanted n e).extent a) ∷ now) (map decoded_range_of ys)) (sym put.put) (put_same taken s.index (extent_range (get_or wanted n e).extent a) put.between.within)) in
       let some : n < length places = (let count = is.count in omega (arith, count, within)) in
       let even : length (take n items) ≡ length (take n places) =
       (let l = length-take n items in let m = length-take n places in let less = inside in omega (arith, l, m, less, some)) in
@@ -158,9 +158,9 @@ module _ (lists : List (List Range)) (start : List DecodedRange) (wanted : List 
       ∙ ap (at_places (take (n + 1) items)) (sym (take_table places n a some)))
 
 pub so_far_next : (lists : List (List Range)) (start : List DecodedRange) (wanted : List Wanted) (taken : List Range) (places : List ℕ) (n count : ℕ)
-    → IsSoFar lists start wanted taken places n → All (HasList count) wanted → n < length wanted → (e : Wanted) (s : Spot)
+    → IsSoFar lists start wanted taken places n → All (HasListAt count) wanted → n < length wanted → (e : Wanted) (s : Spot)
     → Some s.at ≡ first_place (ranges_at lists (get_or wanted n e)) (map decoded_range_of taken) (extent_value (get_or wanted n e).extent)
-    → (new : List Range) → AreListed new → IsPutIn taken new (get_or wanted n e).extent s
+    → (new : List Range) → AreRisingRanges new → IsPutIn taken new (get_or wanted n e).extent s
     → IsSoFar lists start wanted new (set places n s.at) (n + 1)
 so_far_next lists start wanted taken places n count is lawful within e s found new listed put = record {
   listed = listed;

@@ -8,7 +8,7 @@ use Rattle.settle_spec.specs.Lists.{Request}
 use Rattle.settle_spec.specs.Parts.{bridge_over}
 use Rattle.settle_spec.specs.Items.{stays}
 use Rattle.settle_spec.proofs.Anew.{none_stays}
-use Rattle.pci_settle.specs.Kept.{AreKept}
+use Rattle.pci_settle.specs.Kept.{AreKeptParts}
 use Rattle.pci_settle.specs.Over.{open_range, class_window, AreOpenOver}
 use Rattle.pci_settle.proofs.Tables.{none_noted}
 
@@ -20,5 +20,5 @@ module _ (q : Request) (s : System) (anew : IsTrue q.anew) where
   pub over_anew : AreOpenOver q s []
   over_anew f listed = record { memory = sym (window_none MemoryWindow f.slot.bus); prefetch = sym (window_none PrefetchWindow f.slot.bus) }
 
-  pub kept_anew : AreKept s (stays q s) []
+  pub kept_anew : AreKeptParts s (stays q s) []
   kept_anew k f part at there = none_noted part ∙ sym (none_stays q s anew (record { function = f; part = part }))

@@ -18,20 +18,20 @@ use Rattle.pci_settle.specs.declared.spot.Spot.{Spot}
 use Rattle.pci_settle.specs.declared.spot.Start.{Start}
 use Rattle.pci_settle.specs.declared.placing.Wanted.{Wanted}
 use Rattle.pci_settle.specs.declared.placing.Cursor.{Cursor}
-use Rattle.pci_settle.specs.Spots.{extent_value, IsExtent, AreListed, range_at, place_if, IsPutIn, IsTakenBy, IsReached, IsStart}
-use Rattle.pci_settle.specs.Placings.{HasList, AreWanted, AreEnding, IsCursor, placing_of}
+use Rattle.pci_settle.specs.Spots.{extent_value, IsExtent, AreRisingRanges, extent_range, place_if, IsPutIn, IsTakenBy, IsReached, IsStart}
+use Rattle.pci_settle.specs.Placings.{HasListAt, AreWanted, AreEnding, IsCursor, placing_of}
 use Rattle.pci_settle.proofs.Inserted.{Under, At, Over, find_where}
 use Rattle.pci_settle.proofs.AllPlaced.{put_same, IsSoFar, so_far_none, so_far_next, so_far_lacks, ranges_at}
 
-module _ (old new : List Range) (d : Extent) (at : Spot) (listed : AreListed old) (put : IsPutIn old new d at) where
+module _ (old new : List Range) (d : Extent) (at : Spot) (listed : AreRisingRanges old) (put : IsPutIn old new d at) where
   takes_more : TakesMore (map decoded_range_of old) (map decoded_range_of new)
   takes_more t has =
       subst (λ xs. Contains (map decoded_range_of xs) t) (sym put.put)
-      ((put_same old at.index (range_at d at.at) put.between.within).to t (in_tail (decoded_range_of (range_at d at.at)) (map decoded_range_of old) t has))
+      ((put_same old at.index (extent_range d at.at) put.between.within).to t (in_tail (decoded_range_of (extent_range d at.at)) (map decoded_range_of old) t has))
 
   below_stays : (s : Spot) → s.index ≤ length old → ((k : ℕ) (c : Range) → k < s.index → (get_or old k c).last < s.at)
-      → (k : ℕ) (c : Range) → k < s.index → (get_or (insert old at.index (range_at d at.at)) k c).last < s.at
-  below_stays s within below k c less = elim (find_where old (range_at d at.at) at.index k put.between.within) [
+      → (k : ℕ) (c : Range) → k < s.index → (get_or (insert old at.index (extent_range d at.at)) k c).last < s.at
+  below_stays s within below k c less = elim (find_where old (extent_range d at.at) at.index k put.between.within) [
     | Under under is ↦ subst (λ (x : Range). x.last < s.at) (sym (is c)) (below k c less)
     | At here is ↦
         let inside : k < length old = omega (arith, less, within) in
@@ -46,7 +46,7 @@ module _ (old new : List Range) (d : Extent) (at : Spot) (listed : AreListed old
   reached_stays low e s is = record {
     least = λ b spot. is.least b (less_spot low (map decoded_range_of old) (map decoded_range_of new) (extent_value e) (extent_value e) b takes_more (same_extent (extent_value e)) spot);
     within =
-        let long : length new ≡ length old + 1 = ap length put.put ∙ length-insert old at.index (range_at d at.at) put.between.within in
+        let long : length new ≡ length old + 1 = ap length put.put ∙ length-insert old at.index (extent_range d at.at) put.between.within in
         let within = is.within in
         omega (arith, long, within);
     below = subst (λ xs. (k : ℕ) (c : Range) → k < s.index → (get_or xs k c).last < s.at) (sym put.put) (below_stays s is.within is.below);
@@ -73,7 +73,7 @@ cursors_first lists taken cursors count each = record {
   each = λ k d within. each (get_or lists k []) taken k d (omega (arith, within, count));
 }
 
-pub cursors_next : (lists : List (List Range)) (old new : List Range) (d : Extent) (at : Spot) (cursors : List Cursor) (n : ℕ) (c : Cursor) → AreListed old → IsPutIn old new d at
+pub cursors_next : (lists : List (List Range)) (old new : List Range) (d : Extent) (at : Spot) (cursors : List Cursor) (n : ℕ) (c : Cursor) → AreRisingRanges old → IsPutIn old new d at
     → AreCursors lists old cursors → n < length lists → IsCursor (get_or lists n []) new c → AreCursors lists new (set cursors n c)
 cursors_next lists old new d at cursors n c listed put are within is = record {
   count = length-set cursors n c ∙ are.count;
@@ -111,7 +111,7 @@ pub record IsPlacing (lists : List (List Range)) (start : List DecodedRange) (wa
   pub search : AreCursors lists taken cursors
   pub ends : AreEnding wanted places n
 
-pub placing_none : (lists : List (List Range)) (wanted : List Wanted) (taken : List Range) (places : List ℕ) (cursors : List Cursor) → AreListed taken → length places ≡ length wanted
+pub placing_none : (lists : List (List Range)) (wanted : List Wanted) (taken : List Range) (places : List ℕ) (cursors : List Cursor) → AreRisingRanges taken → length places ≡ length wanted
     → length cursors ≡ length lists → ((ranges taken : List Range) → All (IsCursor ranges taken) cursors)
     → IsPlacing lists (map decoded_range_of taken) wanted taken places cursors 0
 placing_none lists wanted taken places cursors listed count long each = record {
@@ -121,9 +121,9 @@ placing_none lists wanted taken places cursors listed count long each = record {
 }
 
 pub placing_next : (lists : List (List Range)) (start : List DecodedRange) (wanted : List Wanted) (taken : List Range) (places : List ℕ) (cursors : List Cursor) (n : ℕ)
-    → IsPlacing lists start wanted taken places cursors n → All (HasList (length lists)) wanted → n < length wanted → (w : Wanted) (s : Start)
+    → IsPlacing lists start wanted taken places cursors n → All (HasListAt (length lists)) wanted → n < length wanted → (w : Wanted) (s : Start)
     → Some s.spot.at ≡ first_place (ranges_at lists (get_or wanted n w)) (map decoded_range_of taken) (extent_value (get_or wanted n w).extent)
-    → (new : List Range) → AreListed new → IsPutIn taken new (get_or wanted n w).extent s.spot
+    → (new : List Range) → AreRisingRanges new → IsPutIn taken new (get_or wanted n w).extent s.spot
     → IsStart (get_or lists (get_or wanted n w).list []) new (get_or wanted n w).extent s
     → IsPlacing lists start wanted new (set places n s.spot.at) (set cursors (get_or wanted n w).list (record { extent = (get_or wanted n w).extent; start = s })) (n + 1)
 placing_next lists start wanted taken places cursors n is lawful within w s found new listed put begun = record {
@@ -144,7 +144,7 @@ some_if true a o is same = same
 some_if false a o is same = absurd (false≢true is)
 
 module _ {V : Type 0} (f : V → List Range) (lists : List V) (start : List DecodedRange) (wanted : List Wanted) (taken : List Range) (places : List ℕ) (cursors : List Cursor) (n : ℕ)
-    (is : IsPlacing (map f lists) start wanted taken places cursors n) (lawful : All (HasList (length lists)) wanted) (within : n < length wanted) (w : Wanted)
+    (is : IsPlacing (map f lists) start wanted taken places cursors n) (lawful : All (HasListAt (length lists)) wanted) (within : n < length wanted) (w : Wanted)
     (v : V) (ranges : List Range) (v_is : v ≡ get_or lists (get_or wanted n w).list v) (ranges_are : ranges ≡ f v) where
   abbrev own : Wanted
   own = get_or wanted n w
@@ -155,8 +155,8 @@ module _ {V : Type 0} (f : V → List Range) (lists : List V) (start : List Deco
   here : ranges ≡ get_or (map f lists) own.list []
   here = ranges_are ∙ ap f v_is ∙ sym (get_or-map f lists own.list v [] inside)
 
-  lawful_too : All (HasList (length (map f lists))) wanted
-  lawful_too = subst (λ m. All (HasList m) wanted) (sym (length-map lists f)) lawful
+  lawful_too : All (HasListAt (length (map f lists))) wanted
+  lawful_too = subst (λ m. All (HasListAt m) wanted) (sym (length-map lists f)) lawful
 
   pub start_here : (c : Cursor) → c ≡ get_or cursors own.list c → (s : Start) → ((rs ts : List Range) → IsCursor rs ts c → IsStart rs ts own.extent s) → IsStart ranges taken own.extent s
   start_here c c_is s begins =
@@ -171,7 +171,7 @@ module _ {V : Type 0} (f : V → List Range) (lists : List V) (start : List Deco
       (subst (λ rs. None ≡ first_place (map decoded_range_of rs) (map decoded_range_of taken) (extent_value own.extent)) here (none_if found a _ not place))
 
   pub next_here : (s : Start) (found : Bool) → found ≡ true → place_if found s.spot.at ≡ first_place (map decoded_range_of ranges) (map decoded_range_of taken) (extent_value own.extent)
-      → (new : List Range) → AreListed new → IsTakenBy taken new own.extent s.spot found → IsStart ranges new own.extent s
+      → (new : List Range) → AreRisingRanges new → IsTakenBy taken new own.extent s.spot found → IsStart ranges new own.extent s
       → IsPlacing (map f lists) start wanted new (set places n s.spot.at) (set cursors own.list (record { extent = own.extent; start = s })) (n + 1)
   next_here s found so place new listed put begun =
       placing_next (map f lists) start wanted taken places cursors n is lawful_too within w s

@@ -6,7 +6,7 @@ use Rattle.std.proofs.lemmas.List.Edits.{length-insert, get_or-insert_below, get
 use Rattle.pci_base.specs.declared.range.Range.{Range}
 use Rattle.pci_settle.specs.declared.extent.Extent.{Extent}
 use Rattle.pci_settle.specs.declared.spot.Spot.{Spot}
-use Rattle.pci_settle.specs.Spots.{AreInOrder, AreListed, IsBetween, range_at}
+use Rattle.pci_settle.specs.Spots.{FirstsRise, AreRisingRanges, IsBetweenTaken, extent_range}
 
 -- an element of the new list is an old one below the index, the new one, or an old one from the index on
 pub data Where (xs ys : List Range) (y : Range) (index : ℕ) (k : ℕ) : Type 0 where
@@ -28,23 +28,23 @@ find_where xs y index k within = elim (cases_lt k index) [
   ]
 ]
 
-module _ (xs : List Range) (e : Extent) (s : Spot) (listed : AreListed xs) (between : IsBetween xs e s) where
+module _ (xs : List Range) (e : Extent) (s : Spot) (listed : AreRisingRanges xs) (between : IsBetweenTaken xs e s) where
   abbrev new : List Range
-  new = insert xs s.index (range_at e s.at)
+  new = insert xs s.index (extent_range e s.at)
 
   long : length new ≡ length xs + 1
-  long = length-insert xs s.index (range_at e s.at) between.within
+  long = length-insert xs s.index (extent_range e s.at) between.within
 
-  inserted_order : AreInOrder new
+  inserted_order : FirstsRise new
   inserted_order j k d less within =
       let more = long in
-      elim (find_where xs (range_at e s.at) s.index k between.within) [
-        | Under k_under k_is ↦ elim (find_where xs (range_at e s.at) s.index j between.within) [
+      elim (find_where xs (extent_range e s.at) s.index k between.within) [
+        | Under k_under k_is ↦ elim (find_where xs (extent_range e s.at) s.index j between.within) [
           | Under j_under j_is ↦ subst (λ (x : Range). x.first ≤ (get_or new k d).first) (sym (j_is d)) (subst (λ (x : Range). (get_or xs j d).first ≤ x.first) (sym (k_is d)) (listed.order j k d less (let w = between.within in omega (arith, k_under, w))))
           | At j_at j_is ↦ absurd (let no : ⊥ = omega (arith, j_at, less, k_under) in no)
           | Over i j_over j_low j_is ↦ absurd (let no : ⊥ = omega (arith, j_over, j_low, less, k_under) in no)
         ]
-        | At k_at k_is ↦ elim (find_where xs (range_at e s.at) s.index j between.within) [
+        | At k_at k_is ↦ elim (find_where xs (extent_range e s.at) s.index j between.within) [
           | Under j_under j_is ↦
               let below = between.below j d j_under in
               let forward = listed.forward j d (let w = between.within in omega (arith, j_under, w)) in
@@ -54,7 +54,7 @@ module _ (xs : List Range) (e : Extent) (s : Spot) (listed : AreListed xs) (betw
         ]
         | Over h k_over k_low k_is ↦
             let inside : h < length xs = omega (arith, within, more, k_over) in
-            elim (find_where xs (range_at e s.at) s.index j between.within) [
+            elim (find_where xs (extent_range e s.at) s.index j between.within) [
               | Under j_under j_is ↦ subst (λ (x : Range). x.first ≤ (get_or new k d).first) (sym (j_is d)) (subst (λ (x : Range). (get_or xs j d).first ≤ x.first) (sym (k_is d)) (listed.order j h d (omega (arith, j_under, k_low)) inside))
               | At j_at j_is ↦
                   let above = between.above h d k_low inside in
@@ -63,10 +63,10 @@ module _ (xs : List Range) (e : Extent) (s : Spot) (listed : AreListed xs) (betw
             ]
       ]
 
-  pub inserted : AreListed new
+  pub inserted : AreRisingRanges new
   inserted = record {
     order = inserted_order;
-    forward = λ k d within. let more = long in elim (find_where xs (range_at e s.at) s.index k between.within) [
+    forward = λ k d within. let more = long in elim (find_where xs (extent_range e s.at) s.index k between.within) [
       | Under under is ↦ subst (λ (x : Range). x.first ≤ x.last) (sym (is d)) (listed.forward k d (let w = between.within in omega (arith, under, w)))
       | At at is ↦ subst (λ (x : Range). x.first ≤ x.last) (sym (is d)) (omega arith)
       | Over j over low is ↦ subst (λ (x : Range). x.first ≤ x.last) (sym (is d)) (listed.forward j d (omega (arith, within, more, over)))

@@ -10,43 +10,43 @@ use Rattle.pci_settle.specs.declared.item.Item.{Item}
 use Rattle.pci_settle.specs.declared.item.Part.TheVariants.{Bar}
 use Rattle.pci_settle.specs.Spots.{extent_value, IsExtent}
 use Rattle.pci_settle.specs.Placings.{item_extent}
-use Rattle.pci_settle.specs.Turns.{own_extent, HasExtent, IsValued}
+use Rattle.pci_settle.specs.Turns.{extent_of_item, HasExtent, IsValued}
 use Rattle.pci_settle.specs.Windows.{IsAround}
 
 -- what an index past the end is read as
 abbrev pub no_item : Item
 no_item = record { function = 0; part = Bar 0; extent = record { size = 0; alignment = 0; highest = 0 } }
 
-pub extents_more : (items : List Item) (n : ℕ) (done new : List Extent) → n < length items → done ≡ take n (map own_extent items) → new ≡ done ++ (get_or items n no_item).extent ∷ []
-    → new ≡ take (n + 1) (map own_extent items)
+pub extents_more : (items : List Item) (n : ℕ) (done new : List Extent) → n < length items → done ≡ take n (map extent_of_item items) → new ≡ done ++ (get_or items n no_item).extent ∷ []
+    → new ≡ take (n + 1) (map extent_of_item items)
 extents_more items n done new within is put =
-    let long = length-map items own_extent in
+    let long = length-map items extent_of_item in
     put
     ∙ ap (λ xs. xs ++ (get_or items n no_item).extent ∷ []) is
-    ∙ ap (λ e. take n (map own_extent items) ++ e ∷ []) (sym (get_or-map own_extent items n no_item (own_extent no_item) within))
-    ∙ sym (take_more (map own_extent items) n (own_extent no_item) (omega (arith, within, long)))
+    ∙ ap (λ e. take n (map extent_of_item items) ++ e ∷ []) (sym (get_or-map extent_of_item items n no_item (extent_of_item no_item) within))
+    ∙ sym (take_more (map extent_of_item items) n (extent_of_item no_item) (omega (arith, within, long)))
 
 -- ---- of sorted items
 
-module _ (items sorted : List Item) (moved : IsPermutation items sorted) (extents : List Extent) (are : extents ≡ map own_extent sorted) where
+module _ (items sorted : List Item) (moved : IsPermutation items sorted) (extents : List Extent) (are : extents ≡ map extent_of_item sorted) where
   pub extents_lawful : All HasExtent items → All IsExtent extents
   extents_lawful lawful = subst (All IsExtent) (sym are) (λ k d less. (
-      let long = length-map sorted own_extent in
+      let long = length-map sorted extent_of_item in
       let within : k < length sorted = omega (arith, less, long) in
-      subst IsExtent (sym (get_or-map own_extent sorted k no_item d within)) (All-permutation HasExtent items sorted moved lawful k no_item within)
+      subst IsExtent (sym (get_or-map extent_of_item sorted k no_item d within)) (All-permutation HasExtent items sorted moved lawful k no_item within)
       ))
 
   pub extents_some : 0 < length items → 0 < length extents
   extents_some some =
       let count = length_permutation items sorted moved in
-      let long = length-map sorted own_extent in
+      let long = length-map sorted extent_of_item in
       let same = ap length are in
       omega (arith, some, count, long, same)
 
-  same_extents : (value : Item → ItemValue) → IsValued value → (xs : List Item) → map extent_value (map own_extent xs) ≡ map item_extent (map value xs)
+  same_extents : (value : Item → ItemValue) → IsValued value → (xs : List Item) → map extent_value (map extent_of_item xs) ≡ map item_extent (map value xs)
   same_extents value valued [] = refl
   same_extents value valued (i ∷ xs) =
-      ap (λ e. e ∷ map extent_value (map own_extent xs)) (sym (valued i)) ∙ ap (λ es. (value i).extent ∷ es) (same_extents value valued xs)
+      ap (λ e. e ∷ map extent_value (map extent_of_item xs)) (sym (valued i)) ∙ ap (λ es. (value i).extent ∷ es) (same_extents value valued xs)
 
   pub around_turn : (page highest : ℕ) (window : Option Extent) → IsAround (extent_around page highest (map extent_value extents)) window
       → (value : Item → ItemValue) → IsValued value → map value sorted ≡ in_turn (map value items)

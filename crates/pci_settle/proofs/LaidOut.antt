@@ -15,7 +15,7 @@ use Rattle.pci_base.specs.declared.range.Range.{Range}
 use Rattle.pci_base.specs.Ranges.{decoded_range_of}
 use Rattle.pci_settle.specs.declared.extent.Extent.{Extent}
 use Rattle.pci_settle.specs.declared.spot.Spot.{Spot}
-use Rattle.pci_settle.specs.Spots.{extent_value, IsExtent, AreListed, IsSpotAt, range_at}
+use Rattle.pci_settle.specs.Spots.{extent_value, IsExtent, AreRisingRanges, IsSpotAt, extent_range}
 use Rattle.pci_settle.specs.Windows.{laid_first, laid_last, IsLaidBy}
 use Rattle.pci_settle.proofs.AllPlaced.{put_same}
 
@@ -31,21 +31,21 @@ laid_none taken e extent high low =
 pub laid_is : (taken : List Range) (e : Extent) (s : Spot) → IsExtent e → IsSpotAt taken 0 e s → laid_first taken e ≡ s.at
 laid_is taken e s extent is = only_least 0 (map decoded_range_of taken) (extent_value e) s.at extent.alignment is.least
 
-pub laid_by : (old new : List Range) (e : Extent) (index : ℕ) → index ≤ length old → new ≡ insert old index (range_at e (laid_first old e)) → (o : Option ℕ) → IsLaidBy old new e o
+pub laid_by : (old new : List Range) (e : Extent) (index : ℕ) → index ≤ length old → new ≡ insert old index (extent_range e (laid_first old e)) → (o : Option ℕ) → IsLaidBy old new e o
 laid_by old new e index within put None = tt
 laid_by old new e index within put (Some end) = (index, within, put)
 
 -- ---- all of them
 
 pub record IsLaid (extents : List Extent) (taken : List Range) (end n : ℕ) : Type 0 where
-  pub listed : AreListed taken
+  pub listed : AreRisingRanges taken
   pub laid : List DecodedRange
   pub same : HaveSame laid (map decoded_range_of taken)
   pub so_far : laid_out [] (map extent_value extents) ≡ laid_out laid (drop n (map extent_value extents))
   pub ends : end ≡ end_of laid
   pub small : end < 2 ^ 64
 
-pub laid_start : (extents : List Extent) → AreListed [] → IsLaid extents [] 0 0
+pub laid_start : (extents : List Extent) → AreRisingRanges [] → IsLaid extents [] 0 0
 laid_start extents listed = record { listed = listed; laid = []; same = record { to = λ t has. has; back = λ t has. has }; so_far = refl; ends = refl; small = omega arith }
 
 same_trans : (xs ys zs : List DecodedRange) → HaveSame xs ys → HaveSame ys zs → HaveSame xs zs
@@ -68,15 +68,15 @@ module _ (extents : List Extent) (taken : List Range) (end n : ℕ) (is : IsLaid
   first_same : first_spot 0 is.laid (extent_value now) ≡ laid_first taken now
   first_same = same_first_spot 0 is.laid (map decoded_range_of taken) (extent_value now) (lawful n d within).alignment is.same
 
-  pub laid_next : (new : List Range) (next : ℕ) → AreListed new → IsLaidBy taken new now (Some next) → next ≡ laid_last taken now + 1 → laid_last taken now + 1 < 2 ^ 64
+  pub laid_next : (new : List Range) (next : ℕ) → AreRisingRanges new → IsLaidBy taken new now (Some next) → next ≡ laid_last taken now + 1 → laid_last taken now + 1 < 2 ^ 64
       → (new_end : ℕ) → new_end ≡ max end next → IsLaid extents new new_end (n + 1)
   laid_next new next listed (index, low, put) next_is limit new_end new_end_is = record {
     listed = listed;
     laid = here ∷ is.laid;
     same = same_trans (here ∷ is.laid) (here ∷ map decoded_range_of taken) (map decoded_range_of new) (same_cons here is.laid (map decoded_range_of taken) is.same)
         (subst (λ a. HaveSame (range_from a now.size ∷ map decoded_range_of taken) (map decoded_range_of new)) (sym first_same)
-        (subst (λ ys. HaveSame (decoded_range_of (range_at now (laid_first taken now)) ∷ map decoded_range_of taken) (map decoded_range_of ys)) (sym put)
-        (put_same taken index (range_at now (laid_first taken now)) low)));
+        (subst (λ ys. HaveSame (decoded_range_of (extent_range now (laid_first taken now)) ∷ map decoded_range_of taken) (map decoded_range_of ys)) (sym put)
+        (put_same taken index (extent_range now (laid_first taken now)) low)));
     so_far = further;
     ends =
         let more = greatest_more (here.last + 1) (map (λ (t : DecodedRange). t.last + 1) is.laid) in
@@ -86,7 +86,7 @@ module _ (extents : List Extent) (taken : List Range) (end n : ℕ) (is : IsLaid
     small = (let was = is.small in omega (arith, was, next_is, limit, new_end_is));
   }
 
-  pub laid_some : (new : List Range) (o : Option ℕ) (next : ℕ) → AreListed new → IsLaidBy taken new now o
+  pub laid_some : (new : List Range) (o : Option ℕ) (next : ℕ) → AreRisingRanges new → IsLaidBy taken new now o
       → SomeIff o (laid_last taken now + 1 < 2 ^ 64) (laid_last taken now + 1) → o ≡ Some next
       → (new_end : ℕ) → new_end ≡ max end next → IsLaid extents new new_end (n + 1)
   laid_some new o next listed by told is_some new_end new_end_is =

@@ -13,11 +13,11 @@ use Rattle.pci_spec.proofs.Members.{in_nil, in_cons_cases, in_head, in_tail, in_
 use Rattle.plan_spec.specs.Plan.{raised_to}
 use Rattle.plan_spec.specs.Place.{range_from}
 use Rattle.plan_spec.proofs.Planning.Room.{raised}
-use Rattle.settle_spec.specs.FirstPlace.{Extent as ExtentValue, first_spot, ends_in, first_place}
+use Rattle.settle_spec.specs.FirstPlace.{Extent as ExtentValue, first_spot, ends_by, first_place}
 use Rattle.settle_spec.specs.Lists.{Request}
-use Rattle.settle_spec.specs.Parts.{Region, regions_of}
-use Rattle.settle_spec.specs.Stands.{window_region}
-use Rattle.settle_spec.specs.Items.{Item as ItemValue, Placing, AllPlaced, Lacks, and_placed, place_next, place_all, are_placed, taken_by, in_turn, own_item, is_own, has_of, items_of, items_on, laid_out, end_of, extent_around}
+use Rattle.settle_spec.specs.Parts.{FunctionPart, function_parts}
+use Rattle.settle_spec.specs.Stands.{window_part}
+use Rattle.settle_spec.specs.Items.{Item as ItemValue, Placing, AllPlaced, Lacks, and_placed, place_next, place_all, are_placed, taken_by, in_turn, own_item, is_own, has_of, items_of, bus_items, laid_out, end_of, extent_around}
 use Rattle.settle_spec.proofs.InTurn.{turn_same}
 use Rattle.settle_spec.proofs.LaidOut.{laid_keeps, end_behind}
 use Rattle.pci_settle.specs.declared.extent.Extent.{Extent}
@@ -47,9 +47,9 @@ told_fits there e (Some x) (on, inr (mark, large)) is = inr (ap extent_value mar
 
 -- ---- items
 
-module _ (q : Request) (s : System) (c : WindowKind) (keeps : Region → Bool) (d e : Function → ExtentValue) (bus : ℕ) where
+module _ (q : Request) (s : System) (c : WindowKind) (keeps : FunctionPart → Bool) (d e : Function → ExtentValue) (bus : ℕ) where
   abbrev window : (Function → ExtentValue) → Function → ItemValue
-  window x f = record { region = window_region c f; class = c; extent = x f }
+  window x f = record { region = window_part c f; class = c; extent = x f }
 
   -- a window is marked among some items, and among others it has its extent
   pub record HasLarge (xs ys : List ItemValue) : Type 0 where
@@ -65,10 +65,10 @@ module _ (q : Request) (s : System) (c : WindowKind) (keeps : Region → Bool) (
   AreSameOrLarge xs ys = (xs ≡ ys) ⊎ HasLarge xs ys
 
   abbrev own : Function → List ItemValue
-  own f = map (own_item c) (filter (λ r. is_own q s c r && not (keeps r)) (regions_of q s f))
+  own f = map (own_item c) (filter (λ r. is_own q s c r && not (keeps r)) (function_parts q s f))
 
   abbrev opens : Function → Bool
-  opens f = is_bridge f && has_of q s c f && not (keeps (window_region c f))
+  opens f = is_bridge f && has_of q s c f && not (keeps (window_part c f))
 
   abbrev on : (Function → ExtentValue) → Function → List ItemValue
   on x f = cond (are_siblings q.roots bus f.slot.bus) (items_of q s c keeps x f) []
@@ -77,7 +77,7 @@ module _ (q : Request) (s : System) (c : WindowKind) (keeps : Region → Bool) (
     of_function : (f : Function) → Contains s f → are_siblings q.roots bus f.slot.bus ≡ true → AreSameOrLarge (items_of q s c keeps d f) (items_of q s c keeps e f)
     of_function f listed beside = elim (cases_Bool (opens f)) [
       | inl is ↦
-          let both = and_parts (is_bridge f && has_of q s c f) (not (keeps (window_region c f))) is in
+          let both = and_parts (is_bridge f && has_of q s c f) (not (keeps (window_part c f))) is in
           let bridge = and_parts (is_bridge f) (has_of q s c f) both.0 in
           by is bridge.0 (fits f listed beside bridge.0 bridge.1)
       | inr off ↦ inl (ap (λ b. own f ++ cond b (window d f ∷ []) []) off ∙ sym (ap (λ b. own f ++ cond b (window e f ∷ []) []) off))
@@ -87,7 +87,7 @@ module _ (q : Request) (s : System) (c : WindowKind) (keeps : Region → Bool) (
         last x is = Contains-append_right (own f) (cond (opens f) (window x f ∷ []) []) (window x f) (subst (λ b. Contains (cond b (window x f ∷ []) []) (window x f)) (sym is) (in_head (window x f) []))
 
         by : opens f ≡ true → is_bridge f ≡ true → IsSameOrOver (d f) (e f) → AreSameOrLarge (items_of q s c keeps d f) (items_of q s c keeps e f)
-        by is bridge (inl same) = inl (ap (λ x. own f ++ cond (opens f) (record { region = window_region c f; class = c; extent = x } ∷ []) []) same)
+        by is bridge (inl same) = inl (ap (λ x. own f ++ cond (opens f) (record { region = window_part c f; class = c; extent = x } ∷ []) []) same)
         by is bridge (inr (mark, large)) = inr record { of = f; listed = listed; bridge = bridge; mark = mark; large = large; in_low = last d is; in_high = last e is }
 
     of_bus : (f : Function) → Contains s f → AreSameOrLarge (on d f) (on e f)
@@ -123,7 +123,7 @@ module _ (q : Request) (s : System) (c : WindowKind) (keeps : Region → Bool) (
         joined (on d f) (on e f) (flat_map (on d) fs) (flat_map (on e) fs) (of_bus f (all f (in_head f fs))) (of_functions fs (λ g listed. all g (in_tail f fs g listed)))
 
     -- the items of the bus are the same, or a window is marked
-    pub same_or_large : AreSameOrLarge (items_on q s c keeps d bus) (items_on q s c keeps e bus)
+    pub same_or_large : AreSameOrLarge (bus_items q s c keeps d bus) (bus_items q s c keeps e bus)
     same_or_large = elim (of_functions s (λ f listed. listed)) [
       | inl same ↦ inl (ap in_turn same)
       | inr has ↦ inr record {

@@ -19,7 +19,7 @@ use Rattle.plan_spec.proofs.Planning.AllItems.{slots_rise}
 use Rattle.settle_spec.specs.FirstPlace.{Extent as ExtentValue}
 use Rattle.settle_spec.specs.Lists.{Request}
 use Rattle.settle_spec.specs.Parts.{bridge_over}
-use Rattle.settle_spec.specs.Items.{Item as ItemValue, has_of, items_on, nothing, highest_in, extent_around, new_window, window_over, window_to}
+use Rattle.settle_spec.specs.Items.{Item as ItemValue, has_of, bus_items, nothing, highest_in, extent_around, new_window, new_window_over, window_to}
 use Rattle.settle_spec.proofs.Nested.{on_it, one_bridge}
 use Rattle.settle_spec.proofs.NewWindows.{window_is_around}
 use Rattle.settle_spec.proofs.ItemsBehind.{items_are_behind}
@@ -37,8 +37,8 @@ use Rattle.pci_settle.specs.declared.extent.Extent.{Extent}
 use Rattle.pci_settle.specs.Spots.{extent_value, IsExtent}
 use Rattle.pci_settle.specs.Placings.{item_extent}
 use Rattle.pci_settle.specs.Own.{IsWindowOf}
-use Rattle.pci_settle.specs.Buses.{AreWindows, AreBehind, Classing, IsLeft}
-use Rattle.pci_settle.specs.NewWindows.{highest_by, around_bus, nowhere, IsEntry, IsPut, window_in, IsTooLarge, IsLastTooLarge, first_large, AreNewWindows, IsMarkedOf, AreMarkedWindows, told_extent}
+use Rattle.pci_settle.specs.Buses.{AreWindows, AreBehind, Classing, TellsClasses}
+use Rattle.pci_settle.specs.NewWindows.{highest_by, around_bus, nowhere, IsEntry, IsNewWindowPut, new_window_in, IsTooLarge, IsLastTooLarge, first_large, AreNewWindows, IsMarkedOf, AreMarkedWindows, told_extent}
 use Rattle.pci_settle.proofs.Marked.{told_is, marked_is, IsSameOrOver, told_fits, AreSameOrLarge, same_or_large, around_large, around_mark, some_page}
 
 -- ---- upper halves
@@ -67,7 +67,7 @@ Entry = Bool → ExtentValue → Option Extent → Type 0
 -- the table has the windows of the functions from place k on, and nothing where no bridge leads
 pub record AreEntriesFrom (E : Entry) (p : Classing) (c : WindowKind) (k : ℕ) (windows : List (Option Extent)) : Type 0 where
   pub size : length windows ≡ 256
-  pub each : (q : Request) → IsLeft p q → (j : ℕ) (g : Function) → k ≤ j → slice_get p.system j ≡ Some g → is_bridge g ≡ true
+  pub each : (q : Request) → TellsClasses p q → (j : ℕ) (g : Function) → k ≤ j → slice_get p.system j ≡ Some g → is_bridge g ≡ true
       → E (has_of q p.system c g) (new_window q p.system c g) (get_or windows (secondary g) None)
   pub none : (bus : ℕ) → bridge_over p.system bus ≡ None → get_or windows bus None ≡ None
   pub lawful : AreWindows windows
@@ -82,7 +82,7 @@ AreMarkedFrom p c k windows = AreEntriesFrom IsMarkedOf p c k windows
 pub record IsNamedFrom (p : Classing) (c : WindowKind) (k : ℕ) (windows : List (Option Extent)) (j : ℕ) : Type 0 where
   pub up : k ≤ j
   pub marked : AreMarkedFrom p c k windows
-  pub last : (q : Request) → IsLeft p q → IsLastTooLarge q p.system c windows j
+  pub last : (q : Request) → TellsClasses p q → IsLastTooLarge q p.system c windows j
 
 -- so far the table has all windows, or a bridge is named
 abbrev pub AreWindowsOrLarge : Classing → WindowKind → ℕ → List (Option Extent) → Option ℕ → Type 0
@@ -140,7 +140,7 @@ module _ (p : Classing) (system : IsSystem p.system) (nested : IsNested p.roots 
     lawful = All-replicate (λ o. IfSome o IsExtent) 256 None tt;
   }
 
-  nested_for : (q : Request) → IsLeft p q → IsNested q.roots p.system
+  nested_for : (q : Request) → TellsClasses p q → IsNested q.roots p.system
   nested_for q left = subst (λ xs. IsNested xs p.system) (sym left.rooted) nested
 
   -- ---- the next function
@@ -175,7 +175,7 @@ module _ (p : Classing) (system : IsSystem p.system) (nested : IsNested p.roots 
       secondary_small = let small = (All-contains IsFunction p.system f system.each is.listed).image.bytes 0x19 in let to = leads_to in omega (arith, to, small)
 
       -- the entries of the bridges on the bus behind it are in the table
-      entries_behind : (E : Entry) → AreEntriesFrom E p c (k + 1) old → (q : Request) → IsLeft p q → (g : Function) → Contains p.system g → are_siblings q.roots b.secondary g.slot.bus ≡ true → is_bridge g ≡ true
+      entries_behind : (E : Entry) → AreEntriesFrom E p c (k + 1) old → (q : Request) → TellsClasses p q → (g : Function) → Contains p.system g → are_siblings q.roots b.secondary g.slot.bus ≡ true → is_bridge g ≡ true
           → E (has_of q p.system c g) (new_window q p.system c g) (get_or old (secondary g) None)
       entries_behind E was q left g listed beside_b bridge =
           let beside = subst (λ bus. are_siblings q.roots bus g.slot.bus ≡ true) leads_to beside_b in
@@ -187,11 +187,11 @@ module _ (p : Classing) (system : IsSystem p.system) (nested : IsNested p.roots 
           was.each q left j g (omega (arith, later)) at_j bridge
 
       -- the windows on that bus are in the table
-      are_behind : AreWindowsFrom p c (k + 1) old → (q : Request) → IsLeft p q → AreBehind q p.system c (new_window q p.system c) b.secondary old
+      are_behind : AreWindowsFrom p c (k + 1) old → (q : Request) → TellsClasses p q → AreBehind q p.system c (new_window q p.system c) b.secondary old
       are_behind was q left g listed beside bridge = entries_behind IsWindowOf was q left g listed beside bridge
 
       -- or the extents that it tells
-      told_behind : AreMarkedFrom p c (k + 1) old → (q : Request) → IsLeft p q → AreBehind q p.system c (told_extent old) b.secondary old
+      told_behind : AreMarkedFrom p c (k + 1) old → (q : Request) → TellsClasses p q → AreBehind q p.system c (told_extent old) b.secondary old
       told_behind was q left g listed beside bridge =
           told_is (has_of q p.system c g) (new_window q p.system c g) (get_or old (secondary g) None) (entries_behind IsMarkedOf was q left g listed beside bridge)
 
@@ -200,23 +200,23 @@ module _ (p : Classing) (system : IsSystem p.system) (nested : IsNested p.roots 
       highest_is MemoryWindow = refl
       highest_is PrefetchWindow = ap (λ w. if w then 0xffff_ffff_ffff_ffff else 0xffff_ffff) (ap (λ (x : decoded.Bridge). is_wide_in x.windows.prefetch) (same_bridge_of r f b is.value there) ∙ wide_window PrefetchWindow f.image f.probe)
 
-      around_is : (q : Request) (e : Function → ExtentValue) → around_bus q p.system c e b ≡ extent_around (page_size c) (highest_in c f.probe) (map item_extent (items_on q p.system c nothing e (secondary f)))
+      around_is : (q : Request) (e : Function → ExtentValue) → around_bus q p.system c e b ≡ extent_around (page_size c) (highest_in c f.probe) (map item_extent (bus_items q p.system c nothing e (secondary f)))
       around_is q e =
-          ap (λ n. extent_around (page_size c) (highest_by c b.windows) (map item_extent (items_on q p.system c nothing e n))) leads_to
-          ∙ ap (λ h. extent_around (page_size c) h (map item_extent (items_on q p.system c nothing e (secondary f)))) (highest_is c)
+          ap (λ n. extent_around (page_size c) (highest_by c b.windows) (map item_extent (bus_items q p.system c nothing e n))) leads_to
+          ∙ ap (λ h. extent_around (page_size c) h (map item_extent (bus_items q p.system c nothing e (secondary f)))) (highest_is c)
 
-      new_is : (q : Request) → IsLeft p q → around_bus q p.system c (new_window q p.system c) b ≡ new_window q p.system c f
+      new_is : (q : Request) → TellsClasses p q → around_bus q p.system c (new_window q p.system c) b ≡ new_window q p.system c f
       new_is q left = around_is q (new_window q p.system c) ∙ sym (window_is_around q p.system c system (nested_for q left) f is.listed is_one)
 
       abbrev behind : Request → (Function → ExtentValue) → List ItemValue
-      behind q e = items_on q p.system c nothing e b.secondary
+      behind q e = bus_items q p.system c nothing e b.secondary
 
-      has_is : (q : Request) → IsLeft p q → (e : Function → ExtentValue) → has_of q p.system c f ≡ nat_lt 0 (length (behind q e))
+      has_is : (q : Request) → TellsClasses p q → (e : Function → ExtentValue) → has_of q p.system c f ≡ nat_lt 0 (length (behind q e))
       has_is q left e =
           items_are_behind q p.system c e system (nested_for q left) f is.listed is_one
-          ∙ ap (λ n. nat_lt 0 (length (items_on q p.system c nothing e n))) (sym leads_to)
+          ∙ ap (λ n. nat_lt 0 (length (bus_items q p.system c nothing e n))) (sym leads_to)
 
-      entry_for : (q : Request) → IsLeft p q → (entry : Option Extent) → IsEntry (behind q (new_window q p.system c)) (around_bus q p.system c (new_window q p.system c) b) entry → IsWindowOf (has_of q p.system c f) (new_window q p.system c f) entry
+      entry_for : (q : Request) → TellsClasses p q → (entry : Option Extent) → IsEntry (behind q (new_window q p.system c)) (around_bus q p.system c (new_window q p.system c) b) entry → IsWindowOf (has_of q p.system c f) (new_window q p.system c f) entry
       entry_for q left None empty = has_is q left (new_window q p.system c) ∙ le-ltb 0 (length (behind q (new_window q p.system c))) (omega (arith, empty))
       entry_for q left (Some x) (some, same) = (has_is q left (new_window q p.system c) ∙ lt-ltb 0 (length (behind q (new_window q p.system c))) some, same ∙ new_is q left)
 
@@ -232,7 +232,7 @@ module _ (p : Classing) (system : IsSystem p.system) (nested : IsNested p.roots 
         entry_other : (bus : ℕ) → (bus ≡ secondary f → ⊥) → get_or new bus None ≡ get_or old bus None
         entry_other bus differ = ap (λ xs. get_or xs bus None) entry_put ∙ get_or-set_other old (secondary f) bus entry None differ
 
-        entries_more : (E : Entry) → AreEntriesFrom E p c (k + 1) old → ((q : Request) → IsLeft p q → E (has_of q p.system c f) (new_window q p.system c f) entry) → AreWindows new → AreEntriesFrom E p c k new
+        entries_more : (E : Entry) → AreEntriesFrom E p c (k + 1) old → ((q : Request) → TellsClasses p q → E (has_of q p.system c f) (new_window q p.system c f) entry) → AreWindows new → AreEntriesFrom E p c k new
         entries_more E was own lawful = record {
           size = ap length entry_put ∙ length-set old (secondary f) entry ∙ was.size;
           each = λ q left j g up at_j bridge. elim (cases_eq (secondary g) (secondary f)) [
@@ -269,7 +269,7 @@ module _ (p : Classing) (system : IsSystem p.system) (nested : IsNested p.roots 
             let no : ⊥ = omega (arith, both, numbers) in no)))
             (was j after within bridge)
 
-        named_more : (j : ℕ) → IsNamedFrom p c (k + 1) old j → ((q : Request) → IsLeft p q → IsMarkedOf (has_of q p.system c f) (new_window q p.system c f) entry) → AreWindows new → IsNamedFrom p c k new j
+        named_more : (j : ℕ) → IsNamedFrom p c (k + 1) old j → ((q : Request) → TellsClasses p q → IsMarkedOf (has_of q p.system c f) (new_window q p.system c f) entry) → AreWindows new → IsNamedFrom p c k new j
         named_more j was own lawful = (let later = was.up in record {
           up = omega (arith, later);
           marked = entries_more IsMarkedOf was.marked own lawful;
@@ -281,19 +281,19 @@ module _ (p : Classing) (system : IsSystem p.system) (nested : IsNested p.roots 
 
       -- ---- a window, or its mark
 
-      fits : AreMarkedFrom p c (k + 1) old → (q : Request) → IsLeft p q → (g : Function) → Contains p.system g → are_siblings q.roots b.secondary g.slot.bus ≡ true → is_bridge g ≡ true → has_of q p.system c g ≡ true
+      fits : AreMarkedFrom p c (k + 1) old → (q : Request) → TellsClasses p q → (g : Function) → Contains p.system g → are_siblings q.roots b.secondary g.slot.bus ≡ true → is_bridge g ≡ true → has_of q p.system c g ≡ true
           → IsSameOrOver (told_extent old g) (new_window q p.system c g)
       fits was q left g listed beside bridge has =
           told_fits (has_of q p.system c g) (new_window q p.system c g) (get_or old (secondary g) None) (entries_behind IsMarkedOf was q left g listed beside bridge) has
 
-      same_behind : AreMarkedFrom p c (k + 1) old → (q : Request) → IsLeft p q
+      same_behind : AreMarkedFrom p c (k + 1) old → (q : Request) → TellsClasses p q
           → AreSameOrLarge q p.system c nothing (told_extent old) (new_window q p.system c) b.secondary (behind q (told_extent old)) (behind q (new_window q p.system c))
       same_behind was q left = same_or_large q p.system c nothing (told_extent old) (new_window q p.system c) b.secondary (fits was q left)
 
       around_told : (q : Request) → behind q (told_extent old) ≡ behind q (new_window q p.system c) → around_bus q p.system c (told_extent old) b ≡ around_bus q p.system c (new_window q p.system c) b
       around_told q same = ap (λ xs. extent_around (page_size c) (highest_by c b.windows) (map item_extent xs)) same
 
-      marked_entry : (was : AreMarkedFrom p c (k + 1) old) (q : Request) → IsLeft p q → (entry : Option Extent) → IfSome entry (λ x. x.size < 2 ^ 64) → IsEntry (behind q (told_extent old)) (around_bus q p.system c (told_extent old) b) entry
+      marked_entry : (was : AreMarkedFrom p c (k + 1) old) (q : Request) → TellsClasses p q → (entry : Option Extent) → IfSome entry (λ x. x.size < 2 ^ 64) → IsEntry (behind q (told_extent old)) (around_bus q p.system c (told_extent old) b) entry
           → IsMarkedOf (has_of q p.system c f) (new_window q p.system c f) entry
       marked_entry was q left None small empty = has_is q left (told_extent old) ∙ le-ltb 0 (length (behind q (told_extent old))) (omega (arith, empty))
       marked_entry was q left (Some x) small (some, same) = (
@@ -308,7 +308,7 @@ module _ (p : Classing) (system : IsSystem p.system) (nested : IsNested p.roots 
         ],
       )
 
-      too_large_by : (q : Request) → IsLeft p q → (e : Function → ExtentValue) → 0 < length (behind q e) → 2 ^ 64 ≤ (new_window q p.system c f).size → IsTooLarge q p.system c k
+      too_large_by : (q : Request) → TellsClasses p q → (e : Function → ExtentValue) → 0 < length (behind q e) → 2 ^ 64 ≤ (new_window q p.system c f).size → IsTooLarge q p.system c k
       too_large_by q left e some size =
           let same : f ≡ function_in p.system k = sym (get_or_from_slice_get p.system k f no_function at) in
           let has : has_of q p.system c f ≡ true = has_is q left e ∙ lt-ltb 0 (length (behind q e)) some in
@@ -319,7 +319,7 @@ module _ (p : Classing) (system : IsSystem p.system) (nested : IsNested p.roots 
             large = subst (λ x. 2 ^ 64 ≤ (new_window q p.system c x).size) same size;
           }
 
-      large_size : (was : AreMarkedFrom p c (k + 1) old) (q : Request) → IsLeft p q → 2 ^ 64 ≤ (around_bus q p.system c (told_extent old) b).size → 2 ^ 64 ≤ (new_window q p.system c f).size
+      large_size : (was : AreMarkedFrom p c (k + 1) old) (q : Request) → TellsClasses p q → 2 ^ 64 ≤ (around_bus q p.system c (told_extent old) b).size → 2 ^ 64 ≤ (new_window q p.system c f).size
       large_size was q left large = subst (λ (e : ExtentValue). 2 ^ 64 ≤ e.size) (new_is q left) (elim (same_behind was q left) [
         | inl one ↦ subst (λ (e : ExtentValue). 2 ^ 64 ≤ e.size) (around_told q one) large
         | inr has ↦
@@ -327,13 +327,13 @@ module _ (p : Classing) (system : IsSystem p.system) (nested : IsNested p.roots 
             (in_map_from item_extent (behind q (new_window q p.system c)) _ has.in_high) has.large
       ])
 
-      mark_entry : (was : AreMarkedFrom p c (k + 1) old) (new : List (Option Extent)) → IsPut p c b old new false → (q : Request) → IsLeft p q → IsMarkedOf (has_of q p.system c f) (new_window q p.system c f) (Some nowhere)
+      mark_entry : (was : AreMarkedFrom p c (k + 1) old) (new : List (Option Extent)) → IsNewWindowPut p c b old new false → (q : Request) → TellsClasses p q → IsMarkedOf (has_of q p.system c f) (new_window q p.system c f) (Some nowhere)
       mark_entry was new is_put q left =
           let large = is_put.1 q (told_extent old) left (told_behind was q left) in
           (has_is q left (told_extent old) ∙ lt-ltb 0 (length (behind q (told_extent old))) large.some, inr (refl, large_size was q left large.large))
 
       -- the next entry
-      pub windows_more : (new : List (Option Extent)) (large : Option ℕ) (fit : Bool) → IsPut p c b old new fit → AreWindows new → AreWindowsOrLarge p c (k + 1) old large → AreWindowsOrLarge p c k new (first_large large fit k)
+      pub windows_more : (new : List (Option Extent)) (large : Option ℕ) (fit : Bool) → IsNewWindowPut p c b old new fit → AreWindows new → AreWindowsOrLarge p c (k + 1) old large → AreWindowsOrLarge p c k new (first_large large fit k)
       windows_more new None true is_put lawful was =
           entries_more is_put.entry new is_put.put was.size IsWindowOf was
           (λ q left. entry_for q left is_put.entry (is_put.is q (new_window q p.system c) left (are_behind was q left))) lawful
@@ -380,20 +380,20 @@ module _ (p : Classing) (system : IsSystem p.system) (nested : IsNested p.roots 
     pub step_same : r.bridge ≡ None → AreWindowsOrLarge p c (length p.system - (done + 1)) old large
     step_same none = subst (λ n. AreWindowsOrLarge p c n old large) next (windows_same place here.f r here.at here.is old none large before)
 
-    pub step_put : (b : Bridge) → r.bridge ≡ Some b → (new : List (Option Extent)) (fit : Bool) → IsPut p c b old new fit → AreWindows new → AreWindowsOrLarge p c (length p.system - (done + 1)) new (first_large large fit place)
+    pub step_put : (b : Bridge) → r.bridge ≡ Some b → (new : List (Option Extent)) (fit : Bool) → IsNewWindowPut p c b old new fit → AreWindows new → AreWindowsOrLarge p c (length p.system - (done + 1)) new (first_large large fit place)
     step_put b there new fit put lawful = subst (λ n. AreWindowsOrLarge p c n new (first_large large fit place)) next (windows_more place here.f r here.at here.is old b there new large fit put lawful before)
 
   -- ---- all functions
 
-  over_bus : (windows : List (Option Extent)) → AreWindowsFrom p c 0 windows → (q : Request) → IsLeft p q → (bus : ℕ) → window_in windows bus ≡ window_to q p.system c bus
+  over_bus : (windows : List (Option Extent)) → AreWindowsFrom p c 0 windows → (q : Request) → TellsClasses p q → (bus : ℕ) → new_window_in windows bus ≡ window_to q p.system c bus
   over_bus windows was q left bus = by (bridge_over p.system bus) refl
     where
-      by : (o : Option Function) → bridge_over p.system bus ≡ o → window_in windows bus ≡ window_to q p.system c bus
-      by None over = ap (option_map extent_value) (was.none bus over) ∙ sym (ap (window_over q p.system c) over)
+      by : (o : Option Function) → bridge_over p.system bus ≡ o → new_window_in windows bus ≡ window_to q p.system c bus
+      by None over = ap (option_map extent_value) (was.none bus over) ∙ sym (ap (new_window_over q p.system c) over)
       by (Some f) over =
           let leads = over_leads p.system bus f over in
           let own = was.each q left leads.0.0 f (omega arith) (at_place p.system f leads.0) leads.1 in
-          ap (window_in windows) (sym leads.2) ∙ entry_is (has_of q p.system c f) (new_window q p.system c f) (get_or windows (secondary f) None) own ∙ sym (ap (window_over q p.system c) over)
+          ap (new_window_in windows) (sym leads.2) ∙ entry_is (has_of q p.system c f) (new_window q p.system c f) (get_or windows (secondary f) None) own ∙ sym (ap (new_window_over q p.system c) over)
 
   pub whole_windows : (windows : List (Option Extent)) (large : Option ℕ) → AreWindowsOrLarge p c 0 windows large → AreNewWindows p c windows large
   whole_windows windows None was = λ q left. record {

@@ -41,11 +41,11 @@ use Rattle.pci_settle.specs.declared.item.Part.TheVariants as parts
 use Rattle.pci_settle.specs.declared.kept.Kept.{Kept}
 use Rattle.pci_settle.specs.declared.over.Over.{Over}
 use Rattle.pci_settle.specs.Kept.{kept_of, nothing_kept}
-use Rattle.pci_settle.specs.Over.{no_windows, IsOver}
-use Rattle.pci_settle.specs.Own.{is_own_bar, own_extent, bar_item, bar_items, rom_item, rom_items, window_items, Situation, situation, record_items, item_value, IsWindowOf, IsAsked, AreByRank}
+use Rattle.pci_settle.specs.Over.{no_windows, IsOverBus}
+use Rattle.pci_settle.specs.Own.{is_own_bar, extent_of_size, asked_bar_item, asked_bar_items, rom_item, asked_rom_items, asked_window_items, Situation, situation, asked_record_items, asked_item_value, IsWindowOf, IsAskedFor, AreByRank}
 use Rattle.pci_settle.specs.Spots.{IsExtent}
 use Rattle.pci_settle.specs.Turns.{HasExtent}
-use Rattle.pci_settle.specs.Buses.{window_behind, AreWindows, AreBehind, Listing, items_beside, AreOnBusTo, AreBelow, AreOnBus}
+use Rattle.pci_settle.specs.Buses.{window_behind, AreWindows, AreBehind, Listing, items_of_function, AreOnBusTo, AreBelow, AreItemsOnBus}
 use Rattle.pci_settle.proofs.Ranks.{first_rank, items_by_rank, items_in_slot}
 
 -- the record at a place
@@ -99,14 +99,14 @@ later_above s system k j f g at_k at_j up =
 
 -- ---- extents
 
-own_lawful : (first last highest : ℕ) → IsExtent (own_extent first last highest)
+own_lawful : (first last highest : ℕ) → IsExtent (extent_of_size first last highest)
 own_lawful first last highest = record { size = omega arith; alignment = omega arith }
 
 window_lawful_if : (k : ℕ) (keep : Bool) (e : Extent) → IsExtent e → All HasExtent (cond keep [] (record { function = k; part = parts.Window; extent = e } ∷ []))
 window_lawful_if k true e lawful = All-nil HasExtent
 window_lawful_if k false e lawful = All-cons HasExtent record { function = k; part = parts.Window; extent = e } [] lawful (All-nil HasExtent)
 
-window_lawful : (k : ℕ) (c : WindowKind) (kept : Kept) (window : Option Extent) → IfSome window IsExtent → All HasExtent (window_items k c kept window)
+window_lawful : (k : ℕ) (c : WindowKind) (kept : Kept) (window : Option Extent) → IfSome window IsExtent → All HasExtent (asked_window_items k c kept window)
 window_lawful k c kept None lawful = All-nil HasExtent
 window_lawful k c kept (Some e) lawful = window_lawful_if k (kept_of kept (Window c)) e lawful
 
@@ -114,16 +114,16 @@ rom_lawful_if : (k : ℕ) (b : Bool) (rom : CodeRom) → All HasExtent (cond b (
 rom_lawful_if k true rom = All-cons HasExtent (rom_item k rom) [] (own_lawful rom.first rom.last 0xffff_ffff) (All-nil HasExtent)
 rom_lawful_if k false rom = All-nil HasExtent
 
-rom_lawful : (k : ℕ) (c : WindowKind) (kept : Kept) (o : Option CodeRom) → All HasExtent (rom_items k c kept o)
+rom_lawful : (k : ℕ) (c : WindowKind) (kept : Kept) (o : Option CodeRom) → All HasExtent (asked_rom_items k c kept o)
 rom_lawful k c kept None = All-nil HasExtent
 rom_lawful k c kept (Some rom) = rom_lawful_if k (rom.on && same_class c MemoryWindow && not kept.rom) rom
 
-record_lawful : (o : Situation) (r : Record) → IfSome o.window IsExtent → All HasExtent (record_items o r)
+record_lawful : (o : Situation) (r : Record) → IfSome o.window IsExtent → All HasExtent (asked_record_items o r)
 record_lawful o r lawful =
     let own = filter (is_own_bar o.class o.over o.terms o.kept) r.bars.items in
-    All-append HasExtent (bar_items o.place o.probe o.class o.over o.terms o.kept r.bars.items) (window_items o.place o.class o.kept o.window ++ rom_items o.place o.class o.kept r.rom)
-    (All-map HasExtent (bar_item o.place o.probe) own (λ n d within. own_lawful (get_or own n d).first (get_or own n d).last (highest_of_bar (number_at o.probe (get_or own n d).reg 4))))
-    (All-append HasExtent (window_items o.place o.class o.kept o.window) (rom_items o.place o.class o.kept r.rom) (window_lawful o.place o.class o.kept o.window lawful) (rom_lawful o.place o.class o.kept r.rom))
+    All-append HasExtent (asked_bar_items o.place o.probe o.class o.over o.terms o.kept r.bars.items) (asked_window_items o.place o.class o.kept o.window ++ asked_rom_items o.place o.class o.kept r.rom)
+    (All-map HasExtent (asked_bar_item o.place o.probe) own (λ n d within. own_lawful (get_or own n d).first (get_or own n d).last (highest_of_bar (number_at o.probe (get_or own n d).reg 4))))
+    (All-append HasExtent (asked_window_items o.place o.class o.kept o.window) (asked_rom_items o.place o.class o.kept r.rom) (window_lawful o.place o.class o.kept o.window lawful) (rom_lawful o.place o.class o.kept r.rom))
 
 behind_lawful : (windows : List (Option Extent)) → AreWindows windows → (b : Option Bridge) → IfSome (window_behind windows b) IsExtent
 behind_lawful windows lawful None = tt
@@ -155,12 +155,12 @@ module _ (l : Listing) (system : IsSystem l.classing.system) where
       → AreOnBusTo l k items → AreOnBusTo l (k + 1) items
   skip_one k f at apart items before = record {
     all = λ a is. (
-        let make = items_beside a l in
+        let make = items_of_function a l in
         let apart' : are_siblings a.request.roots l.bus f.slot.bus ≡ false = ap (λ xs. are_siblings xs l.bus f.slot.bus) is.left.rooted ∙ apart in
         let none : make f ≡ [] = ap (λ b. cond b (items_of a.request l.classing.system l.class a.keeps a.extent f) []) apart' in
         let before_it = before.all a is in
         record {
-          by_rank = subst (AreByRank (map (item_value l.classing.system l.class) items))
+          by_rank = subst (AreByRank (map (asked_item_value l.classing.system l.class) items))
               (sym (more make l.classing.system k f at ∙ ap (λ xs. flat_map make (take k l.classing.system) ++ xs) none ∙ append-nil (flat_map make (take k l.classing.system)))) before_it.by_rank;
           below = λ j g up at_j i listed. before_it.below j g (omega (arith, up)) at_j i listed;
         });
@@ -203,9 +203,9 @@ module _ (l : Listing) (system : IsSystem l.classing.system) where
   pub below_bus : (items : List Item) → is_root l.classing.roots l.bus ≡ false → AreBelow l (l.bus + 1) items → AreOnBusTo l (length l.classing.system) items
   below_bus items other below = below_all (l.bus + 1) items (λ f listed beside. let same = own_bus l.classing.roots l.bus f.slot.bus other beside in omega (arith, same)) below
 
-  pub all_on_bus : (items : List Item) → AreOnBusTo l (length l.classing.system) items → AreOnBus l items
+  pub all_on_bus : (items : List Item) → AreOnBusTo l (length l.classing.system) items → AreItemsOnBus l items
   all_on_bus items are a is =
-      subst (λ fs. AreByRank (map (item_value l.classing.system l.class) items) (flat_map (items_beside a l) fs))
+      subst (λ fs. AreByRank (map (asked_item_value l.classing.system l.class) items) (flat_map (items_of_function a l) fs))
       (take_all (length l.classing.system) l.classing.system (omega arith)) (are.all a is).by_rank
 
   -- ---- bus by bus
@@ -317,44 +317,44 @@ module _ (l : Listing) (system : IsSystem l.classing.system) (records : List Rec
     -- a function of the bus
     pub bus_step : (probe : List ℕ) → (get_or l.classing.system k no_function).probe ≡ probe → (aboves : List Above) → AreAboves l.classing.system aboves → (other : ℕ) → other ≡ r.slot.bus → (d : Above) (over : Over) → over ≡ record { above = get_or aboves other d; windows = get_or l.classing.overs other no_windows }
         → (window : Option Extent) → window ≡ window_behind l.windows r.bridge → (keep : Kept) → ((part : Part) → kept_of keep part ≡ kept_of (get_or l.kept k nothing_kept) part)
-        → are_siblings l.classing.roots l.bus other ≡ true → (old next : List Item) → next ≡ old ++ record_items (situation k probe l.class over l.classing.terms window keep) r
+        → are_siblings l.classing.roots l.bus other ≡ true → (old next : List Item) → next ≡ old ++ asked_record_items (situation k probe l.class over l.classing.terms window keep) r
         → AreOnBusTo l k old → AreOnBusTo l (k + 1) next
     bus_step probe is_probe aboves are_above other on d over is_over window is_window keep is_kept beside old next e before =
         let f = found.f in
         let at = same_bus other on in
-        let new = record_items (situation k probe l.class over l.classing.terms window keep) r in
+        let new = asked_record_items (situation k probe l.class over l.classing.terms window keep) r in
         record {
           all = λ a is. (
               let beside' : are_siblings a.request.roots l.bus f.slot.bus ≡ true = ap (λ xs. are_siblings xs l.bus f.slot.bus) is.left.rooted ∙ ap (are_siblings l.classing.roots l.bus) (sym at) ∙ beside in
-              let over_at : IsOver a.request l.classing.system f.slot.bus record { above = get_or aboves f.slot.bus d; windows = get_or l.classing.overs f.slot.bus no_windows } =
+              let over_at : IsOverBus a.request l.classing.system f.slot.bus record { above = get_or aboves f.slot.bus d; windows = get_or l.classing.overs f.slot.bus no_windows } =
               record { above = are_above f d found.is.listed; windows_are = is.left.overs_are f found.is.listed } in
               let o = situation k probe l.class over l.classing.terms window keep in
-              let asked : IsAsked a l.classing.system f o r = record {
+              let asked : IsAskedFor a l.classing.system f o r = record {
                 terms = is.left.terms;
                 is = found.is;
                 here = get_or_from_slice_get l.classing.system k f no_function found.at;
                 probe_is = sym is_probe ∙ ap (λ (x : Function). x.probe) (get_or_from_slice_get l.classing.system k f no_function found.at);
-                over_is = subst (IsOver a.request l.classing.system f.slot.bus) (sym is_over) (subst (λ n. IsOver a.request l.classing.system f.slot.bus record { above = get_or aboves n d; windows = get_or l.classing.overs n no_windows }) (sym at) over_at);
+                over_is = subst (IsOverBus a.request l.classing.system f.slot.bus) (sym is_over) (subst (λ n. IsOverBus a.request l.classing.system f.slot.bus record { above = get_or aboves n d; windows = get_or l.classing.overs n no_windows }) (sym at) over_at);
                 new = subst (IsWindowOf (is_bridge f && has_of a.request l.classing.system l.class f) (a.extent f)) (sym is_window) (new_by a.request a.extent is.behind beside' r.bridge refl);
                 keeps_is = λ part there. is_kept part ∙ is.keeps_is k f part found.at there;
               } in
-              let make = items_beside a l in
+              let make = items_of_function a l in
               let own : make f ≡ items_of a.request l.classing.system l.class a.keeps a.extent f = ap (λ b. cond b (items_of a.request l.classing.system l.class a.keeps a.extent f) []) beside' in
               let all_are : flat_map make (take (k + 1) l.classing.system) ≡ flat_map make (take k l.classing.system) ++ items_of a.request l.classing.system l.class a.keeps a.extent f = more make l.classing.system k f found.at ∙ ap (λ xs. flat_map make (take k l.classing.system) ++ xs) own in
-              let values_are : map (item_value l.classing.system l.class) next ≡ map (item_value l.classing.system l.class) old ++ map (item_value l.classing.system l.class) new = ap (map (item_value l.classing.system l.class)) e ∙ map-append (item_value l.classing.system l.class) old new in
+              let values_are : map (asked_item_value l.classing.system l.class) next ≡ map (asked_item_value l.classing.system l.class) old ++ map (asked_item_value l.classing.system l.class) new = ap (map (asked_item_value l.classing.system l.class)) e ∙ map-append (asked_item_value l.classing.system l.class) old new in
               let before_it = before.all a is in
               let here = items_by_rank a l.classing.system f o r asked in
               let in_slot = items_in_slot a l.classing.system f o r asked in
               record {
                 by_rank = subst (λ xs. AreByRank xs (flat_map make (take (k + 1) l.classing.system))) (sym values_are)
-                    (subst (AreByRank (map (item_value l.classing.system l.class) old ++ map (item_value l.classing.system l.class) new)) (sym all_are) record {
-                      same = IsPermutation-append (map (item_value l.classing.system l.class) old) (flat_map make (take k l.classing.system)) (map (item_value l.classing.system l.class) new) (items_of a.request l.classing.system l.class a.keeps a.extent f) before_it.by_rank.same here.same;
-                      rising = pairs_append HasLowerRank (map (item_value l.classing.system l.class) old) (map (item_value l.classing.system l.class) new) before_it.by_rank.rising here.rising
+                    (subst (AreByRank (map (asked_item_value l.classing.system l.class) old ++ map (asked_item_value l.classing.system l.class) new)) (sym all_are) record {
+                      same = IsPermutation-append (map (asked_item_value l.classing.system l.class) old) (flat_map make (take k l.classing.system)) (map (asked_item_value l.classing.system l.class) new) (items_of a.request l.classing.system l.class a.keeps a.extent f) before_it.by_rank.same here.same;
+                      rising = pairs_append HasLowerRank (map (asked_item_value l.classing.system l.class) old) (map (asked_item_value l.classing.system l.class) new) before_it.by_rank.rising here.rising
                           (λ i j at_old at_new. let under = before_it.below k f (omega arith) found.at i at_old in let from = (in_slot j at_new).0 in omega (arith, under, from));
                     });
                 below = λ j g up at_j i listed. (
                     let above_it = later_above l.classing.system system k j f g found.at at_j (omega (arith, up)) in
-                    elim (Contains-append_cases (map (item_value l.classing.system l.class) old) (map (item_value l.classing.system l.class) new) i (subst (λ xs. Contains xs i) values_are listed)) [
+                    elim (Contains-append_cases (map (asked_item_value l.classing.system l.class) old) (map (asked_item_value l.classing.system l.class) new) i (subst (λ xs. Contains xs i) values_are listed)) [
                       | inl at_old ↦ before_it.below j g (omega (arith, up)) at_j i at_old
                       | inr at_new ↦ (let to = (in_slot i at_new).1 in omega (arith, to, above_it))
                     ]);

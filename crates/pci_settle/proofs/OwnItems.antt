@@ -20,8 +20,8 @@ use Rattle.pci_spec.proofs.Members.{in_filter_to}
 use Rattle.plan_spec.specs.Plan.{same_class, greatest, size_of, class_of, is_open, is_served, bridges_above}
 use Rattle.plan_spec.specs.Planning.Layout.{range_of}
 use Rattle.settle_spec.specs.Lists.{RootRange, Request}
-use Rattle.settle_spec.specs.Parts.{Region, is_empty, is_left, is_part, header_bars, header_parts, parts_of, regions_of, is_within, holds_range, bridge_over, upper_pools, new_class, is_in_memory, class_in}
-use Rattle.settle_spec.specs.Stands.{window_region}
+use Rattle.settle_spec.specs.Parts.{FunctionPart, is_empty, is_left, is_part, header_bars, header_parts, parts_of, function_parts, lies_within, holds_range, bridge_over, upper_pools, new_class, is_in_memory, class_in}
+use Rattle.settle_spec.specs.Stands.{window_part}
 use Rattle.settle_spec.specs.Items.{Item as ItemValue, highest_of, highest_of_bar, own_item, is_own, has_of, items_of}
 use Rattle.settle_spec.proofs.Classes.{class_planned}
 use Rattle.settle_spec.proofs.LaidOut.{greatest_more}
@@ -46,12 +46,12 @@ use Rattle.pci_settle.specs.declared.item.Part.TheVariants as parts
 use Rattle.pci_settle.specs.declared.over.Over.{Over}
 use Rattle.pci_settle.specs.declared.own.Terms.{Terms}
 use Rattle.pci_settle.specs.Kept.{kept_of}
-use Rattle.pci_settle.specs.Over.{is_held, open_range, class_window, IsOver}
+use Rattle.pci_settle.specs.Over.{range_holds, open_range, class_window, IsOverBus}
 use Rattle.pci_settle.proofs.Headers.{filter_same, header_has}
 use Rattle.pci_settle.specs.Lists.{root_range_value}
 use Rattle.pci_settle.proofs.Walks.{left_next, left_none}
 use Rattle.pci_settle.specs.Own as own
-use Rattle.pci_settle.specs.Own.{last_of, AreTerms, code_pools, class_anew, bar_number, is_left_bar, is_own_bar, bar_item, bar_items, rom_item, rom_items, window_items, Situation, record_items, item_value, IsWindowOf, Asking, IsAsked}
+use Rattle.pci_settle.specs.Own.{last_of, AreTerms, code_pools, class_anew, first_bar_register, is_left_bar, is_own_bar, asked_bar_item, asked_bar_items, rom_item, asked_rom_items, asked_window_items, Situation, asked_record_items, asked_item_value, IsWindowOf, Asking, IsAskedFor}
 
 -- ---- lists
 
@@ -127,12 +127,12 @@ not_and false b = refl
 
 -- ---- classes
 
-held_is : (kind : WindowKind) (r : DecodedRange) (o : Option Function) → is_held (open_range kind o) r ≡ holds_range kind r o
+held_is : (kind : WindowKind) (r : DecodedRange) (o : Option Function) → range_holds (open_range kind o) r ≡ holds_range kind r o
 held_is kind r None = refl
 held_is kind r (Some b) =
-    elim (is_open b kind) as (λ v. is_held (cond v (Some (range_of b (Window kind))) None) r ≡ (v && is_within r (range_of b (Window kind)))) [ true ↦ refl | false ↦ refl ]
+    elim (is_open b kind) as (λ v. range_holds (cond v (Some (range_of b (Window kind))) None) r ≡ (v && lies_within r (range_of b (Window kind)))) [ true ↦ refl | false ↦ refl ]
 
-told_if : (a : Bool) (o : Option DecodedRange) (r : DecodedRange) → is_held (cond a None o) r ≡ (not a && is_held o r)
+told_if : (a : Bool) (o : Option DecodedRange) (r : DecodedRange) → range_holds (cond a None o) r ≡ (not a && range_holds o r)
 told_if true o r = refl
 told_if false o r = refl
 
@@ -151,7 +151,7 @@ class_cases false true false true h l x plain = refl
 class_cases false true false false true l x plain = refl
 class_cases false true false false false l x plain = refl
 
-module _ (q : Request) (s : System) (f : Function) (r : Record) (over : Over) (t : Terms) (is : IsRecordOf s f r) (terms : AreTerms q.lists t) (over_is : IsOver q s f.slot.bus over) where
+module _ (q : Request) (s : System) (f : Function) (r : Record) (over : Over) (t : Terms) (is : IsRecordOf s f r) (terms : AreTerms q.lists t) (over_is : IsOverBus q s f.slot.bus over) where
   abbrev class_by_new : ℕ → WindowKind
   class_by_new n = cond (is_io (bar_at f.probe n)) IoWindow (cond (is_prefetchable (bar_at f.probe n)) (new_class q s f n) MemoryWindow)
 
@@ -177,15 +177,15 @@ module _ (q : Request) (s : System) (f : Function) (r : Record) (over : Over) (t
   held_by : (kind : WindowKind) (o : Option CodeRange) → option_map decoded_range_of o ≡ class_window q s kind f.slot.bus → (bar : CodeBar) (n : ℕ) → decoded_bar_of bar ≡ decoded_bar f.image f.probe n
       → own.is_held_bar o bar ≡ (is_prefetchable (bar_at f.probe n) && (not (q.anew || is_root q.roots f.slot.bus) && holds_range kind (range_of f (Bar n)) (bridge_over s f.slot.bus)))
   held_by kind o told bar n e =
-      ap (λ (x : DecodedBar). x.prefetchable && is_held (option_map decoded_range_of o) x.range) e
-      ∙ ap (λ w. is_prefetchable (bar_at f.probe n) && is_held w (range_of f (Bar n))) told
+      ap (λ (x : DecodedBar). x.prefetchable && range_holds (option_map decoded_range_of o) x.range) e
+      ∙ ap (λ w. is_prefetchable (bar_at f.probe n) && range_holds w (range_of f (Bar n))) told
       ∙ ap (λ b. is_prefetchable (bar_at f.probe n) && b) (told_if (q.anew || is_root q.roots f.slot.bus) (open_range kind (bridge_over s f.slot.bus)) (range_of f (Bar n))
       ∙ ap (λ b. not (q.anew || is_root q.roots f.slot.bus) && b) (held_is kind (range_of f (Bar n)) (bridge_over s f.slot.bus)))
 
   led : over.above.pref ≡ not (list_any (λ b. not (has_window PrefetchWindow b.probe)) (bridges_above s f.slot.bus))
   led = over_is.above.pref ∙ sym (not_twice (list_all (λ b. has_window PrefetchWindow b.probe) (bridges_above s f.slot.bus))) ∙ ap not (sym (any_fails (λ b. has_window PrefetchWindow b.probe) (bridges_above s f.slot.bus)))
 
-  pub class_by : (bar : CodeBar) (n : ℕ) → decoded_bar_of bar ≡ decoded_bar f.image f.probe n → own.class_of bar over t.prefetch_last ≡ class_in q s f (Bar n)
+  pub class_by : (bar : CodeBar) (n : ℕ) → decoded_bar_of bar ≡ decoded_bar f.image f.probe n → own.bar_class_of bar over t.prefetch_last ≡ class_in q s f (Bar n)
   class_by bar n e =
       let a : Bool = q.anew || is_root q.roots f.slot.bus in
       let reg = bar_at f.probe n in
@@ -198,7 +198,7 @@ module _ (q : Request) (s : System) (f : Function) (r : Record) (over : Over) (t
       ∙ class_cases (is_io reg) (is_prefetchable reg) a (is_in_memory s f n) h (not (list_any (λ b. not (has_window PrefetchWindow b.probe)) (bridges_above s f.slot.bus))) (new_class q s f n)
       (λ io. ap (λ b. not b && has_bit reg 3) io)
 
-module _ (a : Asking) (s : System) (f : Function) (o : Situation) (r : Record) (asked : IsAsked a s f o r) where
+module _ (a : Asking) (s : System) (f : Function) (o : Situation) (r : Record) (asked : IsAskedFor a s f o r) where
   left_is : (bar : CodeBar) (n : ℕ) → decoded_bar_of bar ≡ decoded_bar f.image f.probe n → is_left_bar bar o.over.above o.terms.has_io ≡ is_left a.request s f (Bar n)
   left_is bar n e =
       ap (λ b. b && not (o.terms.has_io && o.over.above.io)) (kind_io f bar n e)
@@ -208,11 +208,11 @@ module _ (a : Asking) (s : System) (f : Function) (o : Situation) (r : Record) (
 
   -- ---- BARs
 
-  abbrev region : Part → Region
+  abbrev region : Part → FunctionPart
   region p = record { function = f; part = p }
 
   -- what the table tells of a part of the function
-  abbrev pub noted : Region → Bool
+  abbrev pub noted : FunctionPart → Bool
   noted i = kept_of o.kept i.part
 
   abbrev is_mine : Part → Bool
@@ -226,8 +226,8 @@ module _ (a : Asking) (s : System) (f : Function) (o : Situation) (r : Record) (
 
   bar_test : (bar : CodeBar) (n : ℕ) → decoded_bar_of bar ≡ decoded_bar f.image f.probe n → is_own_bar o.class o.over o.terms o.kept bar ≡ mine_at n
   bar_test bar n e =
-      ap (λ b. not b && same_class o.class (own.class_of bar o.over o.terms.prefetch_last) && not (kept_of o.kept (Bar (bar_number bar)))) (left_is bar n e)
-      ∙ ap (λ d. not (is_left a.request s f (Bar n)) && same_class o.class d && not (kept_of o.kept (Bar (bar_number bar)))) (class_by a.request s f r o.over o.terms asked.is asked.terms asked.over_is bar n e)
+      ap (λ b. not b && same_class o.class (own.bar_class_of bar o.over o.terms.prefetch_last) && not (kept_of o.kept (Bar (first_bar_register bar)))) (left_is bar n e)
+      ∙ ap (λ d. not (is_left a.request s f (Bar n)) && same_class o.class d && not (kept_of o.kept (Bar (first_bar_register bar)))) (class_by a.request s f r o.over o.terms asked.is asked.terms asked.over_is bar n e)
       ∙ ap (λ m. not (is_left a.request s f (Bar n)) && same_class o.class (class_in a.request s f (Bar n)) && not (kept_of o.kept (Bar m))) (register_place bar.reg n (ap (λ (x : DecodedBar). x.register) e))
       ∙ and_later (not (is_left a.request s f (Bar n))) (same_class o.class (class_in a.request s f (Bar n))) (not (kept_of o.kept (Bar n)))
 
@@ -235,17 +235,17 @@ module _ (a : Asking) (s : System) (f : Function) (o : Situation) (r : Record) (
   highest_is bar n e =
       ap (λ r. highest_of_bar (number_at o.probe r 4)) (ap (λ (x : DecodedBar). x.register) e) ∙ ap (λ p. highest_of_bar (number_at p (bar_register n) 4)) asked.probe_is
 
-  bar_value : (bar : CodeBar) (n : ℕ) → decoded_bar_of bar ≡ decoded_bar f.image f.probe n → item_value s o.class (bar_item o.place o.probe bar) ≡ value_of (Bar n)
+  bar_value : (bar : CodeBar) (n : ℕ) → decoded_bar_of bar ≡ decoded_bar f.image f.probe n → asked_item_value s o.class (asked_bar_item o.place o.probe bar) ≡ value_of (Bar n)
   bar_value bar n e =
       let size = (bar_span f bar n e).1 in
       value_same o.class (function_in s o.place) f (Bar ((bar.reg - 0x10) / 4)) (Bar n) (span bar.first bar.last) (size_of f (Bar n)) (span bar.first bar.last) (size_of f (Bar n)) _ _
       asked.here (ap Bar (register_place bar.reg n (ap (λ (x : DecodedBar). x.register) e))) size size (highest_is bar n e)
 
-  pub bars_are : map (item_value s o.class) (bar_items o.place o.probe o.class o.over o.terms o.kept r.bars.items) ≡ map value_of (filter is_mine (filter (is_part a.request s f) (header_bars f)))
+  pub bars_are : map (asked_item_value s o.class) (asked_bar_items o.place o.probe o.class o.over o.terms o.kept r.bars.items) ≡ map value_of (filter is_mine (filter (is_part a.request s f) (header_bars f)))
   bars_are =
       let all = range_with_len 0 (bar_count (layout f.image)) in
-      map_twice (item_value s o.class) (bar_item o.place o.probe) (filter (is_own_bar o.class o.over o.terms o.kept) r.bars.items)
-      ∙ kept_same decoded_bar_of (decoded_bar f.image f.probe) (is_own_bar o.class o.over o.terms o.kept) mine_at bar_test (λ bar. item_value s o.class (bar_item o.place o.probe bar)) (λ n. value_of (Bar n)) bar_value
+      map_twice (asked_item_value s o.class) (asked_bar_item o.place o.probe) (filter (is_own_bar o.class o.over o.terms o.kept) r.bars.items)
+      ∙ kept_same decoded_bar_of (decoded_bar f.image f.probe) (is_own_bar o.class o.over o.terms o.kept) mine_at bar_test (λ bar. asked_item_value s o.class (asked_bar_item o.place o.probe bar)) (λ n. value_of (Bar n)) bar_value
       r.bars.items (bars_in f) (bars_of s f r asked.is)
       ∙ ap (map (λ n. value_of (Bar n))) (sym (filter_later (has_bar f.probe) (λ n. not (is_left a.request s f (Bar n))) (λ n. same_class o.class (class_in a.request s f (Bar n)) && not (kept_of o.kept (Bar n))) all))
       ∙ sym (map_twice value_of Bar (filter (λ n. is_mine (Bar n)) (filter (λ n. is_part a.request s f (Bar n)) all)))
@@ -270,18 +270,18 @@ module _ (a : Asking) (s : System) (f : Function) (o : Situation) (r : Record) (
       ∙ filter_off is_mine (is_open f PrefetchWindow) (Window PrefetchWindow) rom refl)
       ∙ one_kept value_of is_mine (is_part a.request s f Rom) Rom
 
-  rom_value : (rom : CodeRom) → Some (decoded_rom_of rom) ≡ decoded_rom f.image f.probe → item_value s o.class (rom_item o.place rom) ≡ value_of Rom
+  rom_value : (rom : CodeRom) → Some (decoded_rom_of rom) ≡ decoded_rom f.image f.probe → asked_item_value s o.class (rom_item o.place rom) ≡ value_of Rom
   rom_value rom e =
       let size = (rom_span f rom e).1 in
       value_same o.class (function_in s o.place) f Rom Rom (span rom.first rom.last) (size_of f Rom) (span rom.first rom.last) (size_of f Rom) 0xffff_ffff 0xffff_ffff asked.here refl size size refl
 
   roms_are : (rom : Option CodeRom) → option_map decoded_rom_of rom ≡ decoded_rom f.image f.probe
-      → map (item_value s o.class) (rom_items o.place o.class o.kept rom) ≡ value_rom (has_rom f.image f.probe && rom_is_on f.image)
+      → map (asked_item_value s o.class) (asked_rom_items o.place o.class o.kept rom) ≡ value_rom (has_rom f.image f.probe && rom_is_on f.image)
   roms_are None e = sym (ap (λ b. value_rom (b && rom_is_on f.image)) (no_rom (has_rom f.image f.probe) _ e))
   roms_are (Some rom) e =
       let there = rom_there (has_rom f.image f.probe) (decoded_rom_of rom) _ e in
       let on : rom.on ≡ rom_is_on f.image = ap (λ (x : DecodedRom). x.on) there.1 in
-      one_made (item_value s o.class) (rom.on && same_class o.class MemoryWindow && not o.kept.rom) (rom_item o.place rom)
+      one_made (asked_item_value s o.class) (rom.on && same_class o.class MemoryWindow && not o.kept.rom) (rom_item o.place rom)
       ∙ ap (λ i. cond (rom.on && same_class o.class MemoryWindow && not o.kept.rom) (i ∷ []) []) (rom_value rom e)
       ∙ ap (λ b. cond b (value_of Rom ∷ []) []) (and_later rom.on (same_class o.class MemoryWindow) (not o.kept.rom))
       ∙ ap value_rom on
@@ -290,27 +290,27 @@ module _ (a : Asking) (s : System) (f : Function) (o : Situation) (r : Record) (
   -- ---- the window
 
   abbrev value_window : Bool → List ItemValue
-  value_window b = cond b (record { region = window_region o.class f; class = o.class; extent = a.extent f } ∷ []) []
+  value_window b = cond b (record { region = window_part o.class f; class = o.class; extent = a.extent f } ∷ []) []
 
-  window_if : (keep : Bool) (e : Extent) → item_value s o.class record { function = o.place; part = parts.Window; extent = e } ≡ record { region = window_region o.class f; class = o.class; extent = a.extent f }
-      → map (item_value s o.class) (cond keep [] (record { function = o.place; part = parts.Window; extent = e } ∷ [])) ≡ value_window (not keep)
+  window_if : (keep : Bool) (e : Extent) → asked_item_value s o.class record { function = o.place; part = parts.Window; extent = e } ≡ record { region = window_part o.class f; class = o.class; extent = a.extent f }
+      → map (asked_item_value s o.class) (cond keep [] (record { function = o.place; part = parts.Window; extent = e } ∷ [])) ≡ value_window (not keep)
   window_if true e same = refl
   window_if false e same = ap (λ i. i ∷ []) same
 
   windows_are : (w : Option Extent) → IsWindowOf (is_bridge f && has_of a.request s o.class f) (a.extent f) w
-      → map (item_value s o.class) (window_items o.place o.class o.kept w) ≡ value_window (is_bridge f && has_of a.request s o.class f && not (kept_of o.kept (Window o.class)))
+      → map (asked_item_value s o.class) (asked_window_items o.place o.class o.kept w) ≡ value_window (is_bridge f && has_of a.request s o.class f && not (kept_of o.kept (Window o.class)))
   windows_are None off = sym (ap (λ b. value_window (b && not (kept_of o.kept (Window o.class)))) off)
   windows_are (Some e) (there, same) =
       let here = asked.here in
-      let first : item_value s o.class record { function = o.place; part = parts.Window; extent = e } ≡ record { region = window_region o.class f; class = o.class; extent = a.extent f } = cc in
+      let first : asked_item_value s o.class record { function = o.place; part = parts.Window; extent = e } ≡ record { region = window_part o.class f; class = o.class; extent = a.extent f } = cc in
       window_if (kept_of o.kept (Window o.class)) e first ∙ sym (ap (λ b. value_window (b && not (kept_of o.kept (Window o.class)))) there)
 
   -- ---- all of them
 
   abbrev mine : List ItemValue
-  mine = map (own_item o.class) (filter (λ i. is_own a.request s o.class i && not (noted i)) (regions_of a.request s f))
+  mine = map (own_item o.class) (filter (λ i. is_own a.request s o.class i && not (noted i)) (function_parts a.request s f))
 
-  mine_are : map (item_value s o.class) (bar_items o.place o.probe o.class o.over o.terms o.kept r.bars.items) ++ map (item_value s o.class) (rom_items o.place o.class o.kept r.rom) ≡ mine
+  mine_are : map (asked_item_value s o.class) (asked_bar_items o.place o.probe o.class o.over o.terms o.kept r.bars.items) ++ map (asked_item_value s o.class) (asked_rom_items o.place o.class o.kept r.rom) ≡ mine
   mine_are =
       let found : mine ≡ map value_of (filter is_mine (parts_of a.request s f)) =
       ap (map (own_item o.class)) (filter-map (λ i. is_own a.request s o.class i && not (noted i)) region (parts_of a.request s f))
@@ -320,15 +320,15 @@ module _ (a : Asking) (s : System) (f : Function) (o : Situation) (r : Record) (
       ap (λ ps. map value_of (filter is_mine ps)) (filter-append (is_part a.request s f) (header_bars f) others)
       ∙ ap (map value_of) (filter-append is_mine (filter (is_part a.request s f) (header_bars f)) (filter (is_part a.request s f) others))
       ∙ map-append value_of (filter is_mine (filter (is_part a.request s f) (header_bars f))) (filter is_mine (filter (is_part a.request s f) others)) in
-      ap (λ xs. xs ++ map (item_value s o.class) (rom_items o.place o.class o.kept r.rom)) bars_are
+      ap (λ xs. xs ++ map (asked_item_value s o.class) (asked_rom_items o.place o.class o.kept r.rom)) bars_are
       ∙ ap (λ xs. map value_of (filter is_mine (filter (is_part a.request s f) (header_bars f))) ++ xs) (roms_are r.rom (rom_of s f r asked.is) ∙ sym others_are)
       ∙ sym (found ∙ split)
 
-  pub values_are : map (item_value s o.class) (record_items o r)
-      ≡ map (item_value s o.class) (bar_items o.place o.probe o.class o.over o.terms o.kept r.bars.items) ++ (map (item_value s o.class) (window_items o.place o.class o.kept o.window) ++ map (item_value s o.class) (rom_items o.place o.class o.kept r.rom))
+  pub values_are : map (asked_item_value s o.class) (asked_record_items o r)
+      ≡ map (asked_item_value s o.class) (asked_bar_items o.place o.probe o.class o.over o.terms o.kept r.bars.items) ++ (map (asked_item_value s o.class) (asked_window_items o.place o.class o.kept o.window) ++ map (asked_item_value s o.class) (asked_rom_items o.place o.class o.kept r.rom))
   values_are =
-      map-append (item_value s o.class) (bar_items o.place o.probe o.class o.over o.terms o.kept r.bars.items) (window_items o.place o.class o.kept o.window ++ rom_items o.place o.class o.kept r.rom)
-      ∙ ap (λ xs. map (item_value s o.class) (bar_items o.place o.probe o.class o.over o.terms o.kept r.bars.items) ++ xs) (map-append (item_value s o.class) (window_items o.place o.class o.kept o.window) (rom_items o.place o.class o.kept r.rom))
+      map-append (asked_item_value s o.class) (asked_bar_items o.place o.probe o.class o.over o.terms o.kept r.bars.items) (asked_window_items o.place o.class o.kept o.window ++ asked_rom_items o.place o.class o.kept r.rom)
+      ∙ ap (λ xs. map (asked_item_value s o.class) (asked_bar_items o.place o.probe o.class o.over o.terms o.kept r.bars.items) ++ xs) (map-append (asked_item_value s o.class) (asked_window_items o.place o.class o.kept o.window) (asked_rom_items o.place o.class o.kept r.rom))
 
   -- what the table tells is what is to keep its place
   noted_part : (p : Part) → Contains (parts_of a.request s f) p → (is_own a.request s o.class (region p) && not (noted (region p))) ≡ (is_own a.request s o.class (region p) && not (a.keeps (region p)))
@@ -339,25 +339,25 @@ module _ (a : Asking) (s : System) (f : Function) (o : Situation) (r : Record) (
     | inr plain ↦ ap (λ b. is_own a.request s o.class (region p) && not b) (asked.keeps_is p (header_has f p (in_filter_to (is_part a.request s f) (header_parts f) p listed).0 plain))
   ]
 
-  noted_window : (is_bridge f && has_of a.request s o.class f && not (kept_of o.kept (Window o.class))) ≡ (is_bridge f && has_of a.request s o.class f && not (a.keeps (window_region o.class f)))
+  noted_window : (is_bridge f && has_of a.request s o.class f && not (kept_of o.kept (Window o.class))) ≡ (is_bridge f && has_of a.request s o.class f && not (a.keeps (window_part o.class f)))
   noted_window = elim (cases_Bool (is_bridge f)) [
     | inl bridge ↦ ap (λ b. is_bridge f && has_of a.request s o.class f && not b) (asked.keeps_is (Window o.class) bridge)
-    | inr other ↦ ap (λ b. b && has_of a.request s o.class f && not (kept_of o.kept (Window o.class))) other ∙ sym (ap (λ b. b && has_of a.request s o.class f && not (a.keeps (window_region o.class f))) other)
+    | inr other ↦ ap (λ b. b && has_of a.request s o.class f && not (kept_of o.kept (Window o.class))) other ∙ sym (ap (λ b. b && has_of a.request s o.class f && not (a.keeps (window_part o.class f))) other)
   ]
 
   kept_are : mine ++ value_window (is_bridge f && has_of a.request s o.class f && not (kept_of o.kept (Window o.class))) ≡ items_of a.request s o.class a.keeps a.extent f
   kept_are =
       ap (λ b. mine ++ value_window b) noted_window
-      ∙ ap (λ rs. map (own_item o.class) rs ++ value_window (is_bridge f && has_of a.request s o.class f && not (a.keeps (window_region o.class f))))
+      ∙ ap (λ rs. map (own_item o.class) rs ++ value_window (is_bridge f && has_of a.request s o.class f && not (a.keeps (window_part o.class f))))
       (filter-map (λ i. is_own a.request s o.class i && not (noted i)) region (parts_of a.request s f)
       ∙ ap (map region) (filter_same (λ p. is_own a.request s o.class (region p) && not (noted (region p))) (λ p. is_own a.request s o.class (region p) && not (a.keeps (region p))) (parts_of a.request s f) noted_part)
       ∙ sym (filter-map (λ i. is_own a.request s o.class i && not (a.keeps i)) region (parts_of a.request s f)))
 
-  pub items_are : IsPermutation (map (item_value s o.class) (record_items o r)) (items_of a.request s o.class a.keeps a.extent f)
+  pub items_are : IsPermutation (map (asked_item_value s o.class) (asked_record_items o r)) (items_of a.request s o.class a.keeps a.extent f)
   items_are =
-      let bars = map (item_value s o.class) (bar_items o.place o.probe o.class o.over o.terms o.kept r.bars.items) in
-      let windows = map (item_value s o.class) (window_items o.place o.class o.kept o.window) in
-      let roms = map (item_value s o.class) (rom_items o.place o.class o.kept r.rom) in
+      let bars = map (asked_item_value s o.class) (asked_bar_items o.place o.probe o.class o.over o.terms o.kept r.bars.items) in
+      let windows = map (asked_item_value s o.class) (asked_window_items o.place o.class o.kept o.window) in
+      let roms = map (asked_item_value s o.class) (asked_rom_items o.place o.class o.kept r.rom) in
       let right : bars ++ (roms ++ windows) ≡ items_of a.request s o.class a.keeps a.extent f =
       sym (append_assoc bars roms windows)
       ∙ ap (λ xs. xs ++ windows) mine_are

@@ -9,29 +9,29 @@ use Rattle.pci_spec.specs.Window.{WindowKind, page_size}
 use Rattle.pci_spec.specs.System.{System, Function}
 use Rattle.settle_spec.specs.FirstPlace.{Extent as ExtentValue}
 use Rattle.settle_spec.specs.Lists.{Request}
-use Rattle.settle_spec.specs.Items.{Item as ItemValue, in_turn, items_on, nothing, extent_around}
+use Rattle.settle_spec.specs.Items.{Item as ItemValue, in_turn, bus_items, nothing, extent_around}
 use Rattle.settle_spec.specs.PlacingLaws.{HasLowerRank}
 use Rattle.settle_spec.proofs.InTurn.{turn_same, ranks_differ}
 use Rattle.settle_spec.proofs.Moved.{turn_moved}
 use Rattle.pci_function.specs.declared.record.Bridge.{Bridge}
 use Rattle.pci_settle.specs.declared.extent.Extent.{Extent}
 use Rattle.pci_settle.specs.declared.item.Item.{Item}
-use Rattle.pci_settle.specs.Kept.{AreKept}
+use Rattle.pci_settle.specs.Kept.{AreKeptParts}
 use Rattle.pci_settle.proofs.Tables.{none_noted}
 use Rattle.pci_settle.specs.Spots.{IsExtent}
 use Rattle.pci_settle.specs.Placings.{item_extent}
 use Rattle.pci_settle.specs.Turns.{IsValued}
 use Rattle.pci_settle.specs.Windows.{IsAround}
-use Rattle.pci_settle.specs.Own.{Asking, AreByRank, item_value}
-use Rattle.pci_settle.specs.Buses.{AreBehind, Classing, IsLeft, Listing, IsListingOf, items_beside, AreOnBus}
-use Rattle.pci_settle.specs.NewWindows.{around_bus, highest_by, nowhere, IsPut}
+use Rattle.pci_settle.specs.Own.{Asking, AreByRank, asked_item_value}
+use Rattle.pci_settle.specs.Buses.{AreBehind, Classing, TellsClasses, Listing, IsListingOf, items_of_function, AreItemsOnBus}
+use Rattle.pci_settle.specs.NewWindows.{around_bus, highest_by, nowhere, IsNewWindowPut}
 
-module _ (l : Listing) (items : List Item) (on : AreOnBus l items) (a : Asking) (is : IsListingOf a l) where
+module _ (l : Listing) (items : List Item) (on : AreItemsOnBus l items) (a : Asking) (is : IsListingOf a l) where
   abbrev values : List ItemValue
-  values = map (item_value l.classing.system l.class) items
+  values = map (asked_item_value l.classing.system l.class) items
 
   abbrev all : List ItemValue
-  all = flat_map (items_beside a l) l.classing.system
+  all = flat_map (items_of_function a l) l.classing.system
 
   by_rank : AreByRank values all
   by_rank = on a is
@@ -40,14 +40,14 @@ module _ (l : Listing) (items : List Item) (on : AreOnBus l items) (a : Asking) 
   values_rise = by_rank.rising
 
   -- sorted they are those of the definitions
-  pub turn_is : in_turn values ≡ items_on a.request l.classing.system l.class a.keeps a.extent l.bus
+  pub turn_is : in_turn values ≡ bus_items a.request l.classing.system l.class a.keeps a.extent l.bus
   turn_is = turn_moved values all (ranks_differ values by_rank.rising) by_rank.same
 
-  pub count_is : length (items_on a.request l.classing.system l.class a.keeps a.extent l.bus) ≡ length items
-  count_is = length_permutation all (in_turn all) (turn_same all) ∙ length_permutation values all by_rank.same ∙ length-map items (item_value l.classing.system l.class)
+  pub count_is : length (bus_items a.request l.classing.system l.class a.keeps a.extent l.bus) ≡ length items
+  count_is = length_permutation all (in_turn all) (turn_same all) ∙ length_permutation values all by_rank.same ∙ length-map items (asked_item_value l.classing.system l.class)
 
 -- an empty table keeps nothing
-pub none_kept : (s : System) → AreKept s nothing []
+pub none_kept : (s : System) → AreKeptParts s nothing []
 none_kept s k f part at there = none_noted part
 
 -- ---- what is put into the table
@@ -68,7 +68,7 @@ IsAroundItems c highest items window =
     → IsAround (extent_around (page_size c) highest (map item_extent (in_turn (map value items)))) window
 
 module _ (p : Classing) (c : WindowKind) (b : Bridge) (windows : List (Option Extent)) (items : List Item)
-    (on : AreOnBus record { classing = p; class = c; bus = b.secondary; windows = windows; kept = [] } items) (new : List (Option Extent)) where
+    (on : AreItemsOnBus record { classing = p; class = c; bus = b.secondary; windows = windows; kept = [] } items) (new : List (Option Extent)) where
   -- what is behind the bridge where nothing keeps its place
   abbrev behind_it : Listing
   behind_it = record { classing = p; class = c; bus = b.secondary; windows = windows; kept = [] }
@@ -76,10 +76,10 @@ module _ (p : Classing) (c : WindowKind) (b : Bridge) (windows : List (Option Ex
   abbrev of_all : Request → (Function → ExtentValue) → Asking
   of_all q extent = record { request = q; keeps = nothing; extent = extent }
 
-  listed : (q : Request) (extent : Function → ExtentValue) → IsLeft p q → AreBehind q p.system c extent b.secondary windows → IsListingOf (of_all q extent) behind_it
+  listed : (q : Request) (extent : Function → ExtentValue) → TellsClasses p q → AreBehind q p.system c extent b.secondary windows → IsListingOf (of_all q extent) behind_it
   listed q extent left behind = record { left = left; keeps_is = none_kept p.system; behind = behind }
 
-  pub none_put : length items ≡ 0 → new ≡ set windows b.secondary None → IsPut p c b windows new true
+  pub none_put : length items ≡ 0 → new ≡ set windows b.secondary None → IsNewWindowPut p c b windows new true
   none_put empty put = record {
     entry = None;
     put = put;
@@ -89,18 +89,18 @@ module _ (p : Classing) (c : WindowKind) (b : Bridge) (windows : List (Option Ex
   }
 
   module _ (some : 0 < length items) (highest : ℕ) (is_highest : highest ≡ highest_by c b.windows) where
-    around_is : (q : Request) (extent : Function → ExtentValue) → IsLeft p q → AreBehind q p.system c extent b.secondary windows → (window : Option Extent) → IsAroundItems c highest items window
+    around_is : (q : Request) (extent : Function → ExtentValue) → TellsClasses p q → AreBehind q p.system c extent b.secondary windows → (window : Option Extent) → IsAroundItems c highest items window
         → IsAround (around_bus q p.system c extent b) window
     around_is q extent left behind window around =
         subst (λ xs. IsAround (extent_around (page_size c) (highest_by c b.windows) (map item_extent xs)) window)
         (turn_is behind_it items on (of_all q extent) (listed q extent left behind))
-        (subst (λ w. IsAround (extent_around (page_size c) w (map item_extent (in_turn (map (item_value p.system c) items)))) window) is_highest
-        (around (item_value p.system c) (λ i. refl) (values_rise behind_it items on (of_all q extent) (listed q extent left behind))))
+        (subst (λ w. IsAround (extent_around (page_size c) w (map item_extent (in_turn (map (asked_item_value p.system c) items)))) window) is_highest
+        (around (asked_item_value p.system c) (λ i. refl) (values_rise behind_it items on (of_all q extent) (listed q extent left behind))))
 
-    some_count : (q : Request) (extent : Function → ExtentValue) → IsLeft p q → AreBehind q p.system c extent b.secondary windows → 0 < length (items_on q p.system c nothing extent b.secondary)
+    some_count : (q : Request) (extent : Function → ExtentValue) → TellsClasses p q → AreBehind q p.system c extent b.secondary windows → 0 < length (bus_items q p.system c nothing extent b.secondary)
     some_count q extent left behind = let e = count_is behind_it items on (of_all q extent) (listed q extent left behind) in omega (arith, e, some)
 
-    pub some_put : (window : Extent) → IsExtent window → window.size < 2 ^ 64 → IsAroundItems c highest items (Some window) → new ≡ set windows b.secondary (Some window) → IsPut p c b windows new true
+    pub some_put : (window : Extent) → IsExtent window → window.size < 2 ^ 64 → IsAroundItems c highest items (Some window) → new ≡ set windows b.secondary (Some window) → IsNewWindowPut p c b windows new true
     some_put window lawful small around put = record {
       entry = Some window;
       put = put;
@@ -109,7 +109,7 @@ module _ (p : Classing) (c : WindowKind) (b : Bridge) (windows : List (Option Ex
       is = λ q extent left behind. (some_count q extent left behind, around_is q extent left behind (Some window) around);
     }
 
-    pub large_put : IsAroundItems c highest items None → new ≡ set windows b.secondary (Some nowhere) → IsPut p c b windows new false
+    pub large_put : IsAroundItems c highest items None → new ≡ set windows b.secondary (Some nowhere) → IsNewWindowPut p c b windows new false
     large_put around put = (
       put,
       λ q extent left behind. record {

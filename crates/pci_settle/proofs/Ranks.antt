@@ -10,7 +10,7 @@ use Rattle.pci_spec.specs.Window.{WindowKind, IoWindow, MemoryWindow, PrefetchWi
 use Rattle.pci_spec.specs.System.{System, Function, Part, Bar, Window, is_bridge, register_of}
 use Rattle.pci_spec.proofs.Members.{in_nil, in_cons_cases, in_filter_to, in_map_to, in_range_to, IsMade, pairs_nil, pairs_cons, pairs_append, pairs_map, pairs_filter, pairs_range}
 use Rattle.plan_spec.specs.Plan.{same_class}
-use Rattle.settle_spec.specs.Parts.{Region, is_part, header_bars}
+use Rattle.settle_spec.specs.Parts.{FunctionPart, is_part, header_bars}
 use Rattle.settle_spec.specs.Stands.{rank}
 use Rattle.settle_spec.specs.Items.{Item as ItemValue, own_item, is_own, has_of, items_of}
 use Rattle.settle_spec.specs.PlacingLaws.{HasLowerRank}
@@ -19,7 +19,7 @@ use Rattle.pci_function.specs.declared.record.Record.{Record}
 use Rattle.pci_settle.specs.declared.extent.Extent.{Extent}
 use Rattle.pci_settle.specs.declared.item.Part.TheVariants as parts
 use Rattle.pci_settle.specs.Kept.{kept_of}
-use Rattle.pci_settle.specs.Own.{bar_items, rom_item, rom_items, window_items, Situation, record_items, item_value, IsWindowOf, Asking, IsAsked, AreByRank}
+use Rattle.pci_settle.specs.Own.{asked_bar_items, rom_item, asked_rom_items, asked_window_items, Situation, asked_record_items, asked_item_value, IsWindowOf, Asking, IsAskedFor, AreByRank}
 use Rattle.pci_settle.proofs.OwnItems.{bars_are, values_are, items_are}
 
 -- the rank of register 0 of a slot
@@ -48,11 +48,11 @@ window_between PrefetchWindow = (omega arith, omega arith)
 single_rank : (i : ItemValue) → AllPairs HasLowerRank (i ∷ [])
 single_rank i = pairs_cons HasLowerRank i [] (λ j listed. absurd (in_nil j listed)) (pairs_nil HasLowerRank)
 
-module _ (a : Asking) (s : System) (f : Function) (o : Situation) (r : Record) (asked : IsAsked a s f o r) where
+module _ (a : Asking) (s : System) (f : Function) (o : Situation) (r : Record) (asked : IsAskedFor a s f o r) where
   abbrev kind : ℕ
   kind = layout f.image
 
-  abbrev region : Part → Region
+  abbrev region : Part → FunctionPart
   region p = record { function = f; part = p }
 
   -- ---- BARs
@@ -70,7 +70,7 @@ module _ (a : Asking) (s : System) (f : Function) (o : Situation) (r : Record) (
   value_of p = own_item o.class (region p)
 
   abbrev bar_values : List ItemValue
-  bar_values = map (item_value s o.class) (bar_items o.place o.probe o.class o.over o.terms o.kept r.bars.items)
+  bar_values = map (asked_item_value s o.class) (asked_bar_items o.place o.probe o.class o.over o.terms o.kept r.bars.items)
 
   bars_here : bar_values ≡ map value_of (filter is_mine bars)
   bars_here = bars_are a s f o r asked
@@ -95,17 +95,17 @@ module _ (a : Asking) (s : System) (f : Function) (o : Situation) (r : Record) (
   -- ---- the window
 
   abbrev window_values : List ItemValue
-  window_values = map (item_value s o.class) (window_items o.place o.class o.kept o.window)
+  window_values = map (asked_item_value s o.class) (asked_window_items o.place o.class o.kept o.window)
 
-  window_if : (keep : Bool) (e : Extent) (i : ItemValue) → Contains (map (item_value s o.class) (cond keep [] (record { function = o.place; part = parts.Window; extent = e } ∷ []))) i
-      → item_value s o.class record { function = o.place; part = parts.Window; extent = e } ≡ i
+  window_if : (keep : Bool) (e : Extent) (i : ItemValue) → Contains (map (asked_item_value s o.class) (cond keep [] (record { function = o.place; part = parts.Window; extent = e } ∷ []))) i
+      → asked_item_value s o.class record { function = o.place; part = parts.Window; extent = e } ≡ i
   window_if true e i listed = absurd (in_nil i listed)
-  window_if false e i listed = elim (in_cons_cases (item_value s o.class record { function = o.place; part = parts.Window; extent = e }) [] i listed) [
+  window_if false e i listed = elim (in_cons_cases (asked_item_value s o.class record { function = o.place; part = parts.Window; extent = e }) [] i listed) [
     | inl here ↦ here
     | inr none ↦ absurd (in_nil i none)
   ]
 
-  window_at : (w : Option Extent) → IsWindowOf (is_bridge f && has_of a.request s o.class f) (a.extent f) w → (i : ItemValue) → Contains (map (item_value s o.class) (window_items o.place o.class o.kept w)) i
+  window_at : (w : Option Extent) → IsWindowOf (is_bridge f && has_of a.request s o.class f) (a.extent f) w → (i : ItemValue) → Contains (map (asked_item_value s o.class) (asked_window_items o.place o.class o.kept w)) i
       → (kind ≡ 1) × (rank i.region ≡ first_rank f + window_register o.class)
   window_at None off i listed = absurd (in_nil i listed)
   window_at (Some e) (there, same) i listed = (
@@ -113,35 +113,35 @@ module _ (a : Asking) (s : System) (f : Function) (o : Situation) (r : Record) (
     ap (λ (j : ItemValue). rank j.region) (sym (window_if (kept_of o.kept (Window o.class)) e i listed)) ∙ ap (λ (g : Function). slot_number g.slot * 256 + window_register o.class) asked.here,
   )
 
-  window_rises_if : (keep : Bool) (e : Extent) → AllPairs HasLowerRank (map (item_value s o.class) (cond keep [] (record { function = o.place; part = parts.Window; extent = e } ∷ [])))
+  window_rises_if : (keep : Bool) (e : Extent) → AllPairs HasLowerRank (map (asked_item_value s o.class) (cond keep [] (record { function = o.place; part = parts.Window; extent = e } ∷ [])))
   window_rises_if true e = pairs_nil HasLowerRank
-  window_rises_if false e = single_rank (item_value s o.class record { function = o.place; part = parts.Window; extent = e })
+  window_rises_if false e = single_rank (asked_item_value s o.class record { function = o.place; part = parts.Window; extent = e })
 
-  window_rises : (w : Option Extent) → AllPairs HasLowerRank (map (item_value s o.class) (window_items o.place o.class o.kept w))
+  window_rises : (w : Option Extent) → AllPairs HasLowerRank (map (asked_item_value s o.class) (asked_window_items o.place o.class o.kept w))
   window_rises None = pairs_nil HasLowerRank
   window_rises (Some e) = window_rises_if (kept_of o.kept (Window o.class)) e
 
   -- ---- the ROM
 
   abbrev rom_values : List ItemValue
-  rom_values = map (item_value s o.class) (rom_items o.place o.class o.kept r.rom)
+  rom_values = map (asked_item_value s o.class) (asked_rom_items o.place o.class o.kept r.rom)
 
-  rom_if : (b : Bool) (rom : CodeRom) (i : ItemValue) → Contains (map (item_value s o.class) (cond b (rom_item o.place rom ∷ []) [])) i → rank i.region ≡ first_rank f + rom_register kind
+  rom_if : (b : Bool) (rom : CodeRom) (i : ItemValue) → Contains (map (asked_item_value s o.class) (cond b (rom_item o.place rom ∷ []) [])) i → rank i.region ≡ first_rank f + rom_register kind
   rom_if false rom i listed = absurd (in_nil i listed)
-  rom_if true rom i listed = elim (in_cons_cases (item_value s o.class (rom_item o.place rom)) [] i listed) [
+  rom_if true rom i listed = elim (in_cons_cases (asked_item_value s o.class (rom_item o.place rom)) [] i listed) [
     | inl here ↦ ap (λ (j : ItemValue). rank j.region) (sym here) ∙ ap (λ (g : Function). slot_number g.slot * 256 + rom_register (layout g.image)) asked.here
     | inr none ↦ absurd (in_nil i none)
   ]
 
-  rom_at : (w : Option CodeRom) (i : ItemValue) → Contains (map (item_value s o.class) (rom_items o.place o.class o.kept w)) i → rank i.region ≡ first_rank f + rom_register kind
+  rom_at : (w : Option CodeRom) (i : ItemValue) → Contains (map (asked_item_value s o.class) (asked_rom_items o.place o.class o.kept w)) i → rank i.region ≡ first_rank f + rom_register kind
   rom_at None i listed = absurd (in_nil i listed)
   rom_at (Some rom) i listed = rom_if (rom.on && same_class o.class MemoryWindow && not o.kept.rom) rom i listed
 
-  rom_rises_if : (b : Bool) (rom : CodeRom) → AllPairs HasLowerRank (map (item_value s o.class) (cond b (rom_item o.place rom ∷ []) []))
-  rom_rises_if true rom = single_rank (item_value s o.class (rom_item o.place rom))
+  rom_rises_if : (b : Bool) (rom : CodeRom) → AllPairs HasLowerRank (map (asked_item_value s o.class) (cond b (rom_item o.place rom ∷ []) []))
+  rom_rises_if true rom = single_rank (asked_item_value s o.class (rom_item o.place rom))
   rom_rises_if false rom = pairs_nil HasLowerRank
 
-  rom_rises : (w : Option CodeRom) → AllPairs HasLowerRank (map (item_value s o.class) (rom_items o.place o.class o.kept w))
+  rom_rises : (w : Option CodeRom) → AllPairs HasLowerRank (map (asked_item_value s o.class) (asked_rom_items o.place o.class o.kept w))
   rom_rises None = pairs_nil HasLowerRank
   rom_rises (Some rom) = rom_rises_if (rom.on && same_class o.class MemoryWindow && not o.kept.rom) rom
 
@@ -171,14 +171,14 @@ module _ (a : Asking) (s : System) (f : Function) (o : Situation) (r : Record) (
         | inr at_rom ↦ (let b = rom_at r.rom j at_rom in let up = bar_below_rom kind bar.0 less in omega (arith, a, b, up))
       ]
 
-  items_rise : AllPairs HasLowerRank (map (item_value s o.class) (record_items o r))
+  items_rise : AllPairs HasLowerRank (map (asked_item_value s o.class) (asked_record_items o r))
   items_rise =
       subst (AllPairs HasLowerRank) (sym (values_are a s f o r asked))
       (pairs_append HasLowerRank bar_values (window_values ++ rom_values) bars_rise
       (pairs_append HasLowerRank window_values rom_values (window_rises o.window) (rom_rises r.rom) below_rom) below_rest)
 
   -- they are of the registers of a slot
-  pub items_in_slot : (i : ItemValue) → Contains (map (item_value s o.class) (record_items o r)) i → (first_rank f ≤ rank i.region) × (rank i.region < first_rank f + 256)
+  pub items_in_slot : (i : ItemValue) → Contains (map (asked_item_value s o.class) (asked_record_items o r)) i → (first_rank f ≤ rank i.region) × (rank i.region < first_rank f + 256)
   items_in_slot i listed =
       let few = bars_few kind in
       let low = rom_low kind in
@@ -191,5 +191,5 @@ module _ (a : Asking) (s : System) (f : Function) (o : Situation) (r : Record) (
         ]
       ]
 
-  pub items_by_rank : AreByRank (map (item_value s o.class) (record_items o r)) (items_of a.request s o.class a.keeps a.extent f)
+  pub items_by_rank : AreByRank (map (asked_item_value s o.class) (asked_record_items o r)) (items_of a.request s o.class a.keeps a.extent f)
   items_by_rank = record { same = items_are a s f o r asked; rising = items_rise }

@@ -21,7 +21,7 @@ use Rattle.pci_tree.proofs.Regions.{IsBarAt, bar_at_register}
 use Rattle.pci_place.specs.Records.{IsRecordOf}
 use Rattle.pci_place.specs.Sizes.{span}
 use Rattle.pci_place.proofs.Parts.{bar_span, rom_of, rom_there, rom_span}
-use Rattle.pci_settle.specs.Own.{IsSpanned, IsSized}
+use Rattle.pci_settle.specs.Own.{IsSpanned, HasBarRegister}
 
 lawful_low : (kind : BarKind) (mask k : ℕ) → is_lawful kind mask k ≡ true → k ≤ 63
 lawful_low IoBar mask k h =
@@ -38,7 +38,7 @@ pow_low k low = pow-lt {i = k} {j = 64} (omega (arith, low))
 spanned : (first last size : ℕ) → first ≤ last → span first last ≡ size → size < 2 ^ 64 → IsSpanned first last
 spanned first last size some is low = record { some = some; few = subst (λ n. n < 2 ^ 64) (sym is) low }
 
-pub bars_sized : (s : System) (f : Function) (r : Record) → IsRecordOf s f r → All IsSized r.bars.items
+pub bars_sized : (s : System) (f : Function) (r : Record) → IsRecordOf s f r → All HasBarRegister r.bars.items
 bars_sized s f r is k d within =
     let bar = get_or r.bars.items k d in
     let at : (n : ℕ) × IsBarAt f bar n = bar_at_register r f bar is.value (Contains-get_or r.bars.items k d within) in

@@ -10,12 +10,12 @@ use Rattle.pci_spec.proofs.BusRanges.{all_gives, all_from}
 use Rattle.plan_spec.specs.Plan.{raised_to}
 use Rattle.plan_spec.specs.Place.{range_from}
 use Rattle.plan_spec.proofs.Planning.Room.{raised}
-use Rattle.settle_spec.specs.FirstPlace.{Extent as ExtentValue, are_apart, is_free, is_spot}
+use Rattle.settle_spec.specs.FirstPlace.{Extent as ExtentValue, ranges_are_apart, is_free_from, is_spot}
 use Rattle.pci_base.specs.declared.range.Range.{Range}
 use Rattle.pci_base.specs.Ranges.{decoded_range_of}
 use Rattle.pci_settle.specs.declared.extent.Extent.{Extent}
 use Rattle.pci_settle.specs.declared.spot.Spot.{Spot}
-use Rattle.pci_settle.specs.Spots.{extent_value, IsExtent, AreInOrder, IsSpotAt, IsReached}
+use Rattle.pci_settle.specs.Spots.{extent_value, IsExtent, FirstsRise, IsSpotAt, IsReached}
 
 -- what an index past the end is read as
 abbrev pub no_range : Range
@@ -26,21 +26,21 @@ no_range = record { first = 0; last = 0 }
 abbrev IsApart : ℕ → ℕ → Range → Type 0
 IsApart size b t = (b + (size - 1) < t.first) ⊎ (t.last < b)
 
-free_gives : (taken : List Range) (e : ExtentValue) (b : ℕ) → is_free (map decoded_range_of taken) e b ≡ true → (t : Range) → Contains taken t → IsApart e.size b t
+free_gives : (taken : List Range) (e : ExtentValue) (b : ℕ) → is_free_from (map decoded_range_of taken) e b ≡ true → (t : Range) → Contains taken t → IsApart e.size b t
 free_gives taken e b h t listed =
-    elim (or_cases (nat_lt (b + (e.size - 1)) t.first) (nat_lt t.last b) (all_gives (are_apart (range_from b e.size)) (map decoded_range_of taken) h (decoded_range_of t) (in_map_from decoded_range_of taken t listed))) [
+    elim (or_cases (nat_lt (b + (e.size - 1)) t.first) (nat_lt t.last b) (all_gives (ranges_are_apart (range_from b e.size)) (map decoded_range_of taken) h (decoded_range_of t) (in_map_from decoded_range_of taken t listed))) [
       | inl under ↦ inl (ltb-true (b + (e.size - 1)) t.first under)
       | inr over ↦ inr (ltb-true t.last b over)
     ]
 
-apart_by : (size b : ℕ) (t : Range) → IsApart size b t → are_apart (range_from b size) (decoded_range_of t) ≡ true
+apart_by : (size b : ℕ) (t : Range) → IsApart size b t → ranges_are_apart (range_from b size) (decoded_range_of t) ≡ true
 apart_by size b t (inl under) = or_left (nat_lt (b + (size - 1)) t.first) (nat_lt t.last b) (lt-ltb (b + (size - 1)) t.first under)
 apart_by size b t (inr over) = or_right (nat_lt (b + (size - 1)) t.first) (nat_lt t.last b) (lt-ltb t.last b over)
 
-free_from : (taken : List Range) (e : ExtentValue) (b : ℕ) → ((t : Range) → Contains taken t → IsApart e.size b t) → is_free (map decoded_range_of taken) e b ≡ true
-free_from taken e b each = all_from (are_apart (range_from b e.size)) (map decoded_range_of taken) (λ r listed.
+free_from : (taken : List Range) (e : ExtentValue) (b : ℕ) → ((t : Range) → Contains taken t → IsApart e.size b t) → is_free_from (map decoded_range_of taken) e b ≡ true
+free_from taken e b each = all_from (ranges_are_apart (range_from b e.size)) (map decoded_range_of taken) (λ r listed.
     let made = in_map_to decoded_range_of taken r listed in
-    subst (λ x. are_apart (range_from b e.size) x ≡ true) made.is (apart_by e.size b made.from (each made.from made.has)))
+    subst (λ x. ranges_are_apart (range_from b e.size) x ≡ true) made.is (apart_by e.size b made.from (each made.from made.has)))
 
 pub record IsFreeFrom (taken : List Range) (low : ℕ) (e : ExtentValue) (b : ℕ) : Type 0 where
   pub multiple : b % e.alignment ≡ 0
@@ -50,13 +50,13 @@ pub record IsFreeFrom (taken : List Range) (low : ℕ) (e : ExtentValue) (b : �
 pub spot_gives : (taken : List Range) (low : ℕ) (e : ExtentValue) (b : ℕ) → IsTrue (is_spot low (map decoded_range_of taken) e b) → IsFreeFrom taken low e b
 spot_gives taken low e b spot =
     let parts = and_parts (b % e.alignment == 0) _ spot in
-    let more = and_parts (nat_le low b) (is_free (map decoded_range_of taken) e b) parts.1 in
+    let more = and_parts (nat_le low b) (is_free_from (map decoded_range_of taken) e b) parts.1 in
     record { multiple = eqb-true (b % e.alignment) 0 parts.0; from = leb-true low b more.0; free = free_gives taken e b more.1 }
 
 pub spot_from : (taken : List Range) (low : ℕ) (e : ExtentValue) (b : ℕ) → IsFreeFrom taken low e b → IsTrue (is_spot low (map decoded_range_of taken) e b)
 spot_from taken low e b is =
     and_from (b % e.alignment == 0) _ (eq-eqb (b % e.alignment) 0 is.multiple)
-    (and_from (nat_le low b) (is_free (map decoded_range_of taken) e b) (le-leb low b is.from) (free_from taken e b is.free))
+    (and_from (nat_le low b) (is_free_from (map decoded_range_of taken) e b) (le-leb low b is.from) (free_from taken e b is.free))
 
 -- ---- the walk
 
@@ -174,7 +174,7 @@ along_ends taken low e at index is within ends above = record {
   between = record { ends = ends; within = within; below = is.below; above = above };
 }
 
-pub all_above : (taken : List Range) → AreInOrder taken → (index last : ℕ) → index < length taken → (d : Range) → last < (get_or taken index d).first
+pub all_above : (taken : List Range) → FirstsRise taken → (index last : ℕ) → index < length taken → (d : Range) → last < (get_or taken index d).first
     → (k : ℕ) (c : Range) → index ≤ k → k < length taken → last < (get_or taken k c).first
 all_above taken order index last within d under k c from less =
     let here : last < (get_or taken index c).first = subst (λ (x : Range). last < x.first) (get_or_default taken index d c within) under in

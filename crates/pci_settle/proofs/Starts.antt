@@ -1,6 +1,6 @@
 -- How far a search along ranges has come, and that it needn't go back.
 use Rattle.std.proofs.Common.{◌≡◌, ℕ, ◌+◌, ◌<◌, List, map, length, get_or, arith, None}
-use Rattle.settle_spec.specs.FirstPlace.{first_in}
+use Rattle.settle_spec.specs.FirstPlace.{first_place_in}
 use Rattle.pci_base.specs.declared.range.Range.{Range}
 use Rattle.pci_base.specs.Ranges.{decoded_range_of}
 use Rattle.pci_settle.specs.declared.extent.Extent.{Extent}
@@ -31,11 +31,11 @@ start_lowest ranges taken e s at index = record {
 -- the ranges so far have no place, and in the next one none is below a spot
 pub record IsSearched (ranges taken : List Range) (e : Extent) (old now : Start) (from : Spot) (index : ℕ) : Type 0 where
   pub same : now ≡ old
-  pub before : (k : ℕ) (d : Range) → k < index → first_in (decoded_range_of (get_or ranges k d)) (map decoded_range_of taken) (extent_value e) ≡ None
+  pub before : (k : ℕ) (d : Range) → k < index → first_place_in (decoded_range_of (get_or ranges k d)) (map decoded_range_of taken) (extent_value e) ≡ None
   pub reached : (d : Range) → index < length ranges → IsReached taken (get_or ranges index d).first e from
 
 pub searched_next : (ranges taken : List Range) (e : Extent) (old now : Start) (from next : Spot) (index : ℕ) (d : Range) → IsSearched ranges taken e old now from index → index < length ranges
-    → first_in (decoded_range_of (get_or ranges index d)) (map decoded_range_of taken) (extent_value e) ≡ None → next.at ≡ 0 → next.index ≡ 0
+    → first_place_in (decoded_range_of (get_or ranges index d)) (map decoded_range_of taken) (extent_value e) ≡ None → next.at ≡ 0 → next.index ≡ 0
     → IsSearched ranges taken e old now next (index + 1)
 searched_next ranges taken e old now from next index d is within none at low = record {
   same = is.same;

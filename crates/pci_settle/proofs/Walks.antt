@@ -3,7 +3,7 @@ use Rattle.std.proofs.Common.{◌≡◌, ◌||◌, ℕ, zero, suc, ◌+◌, ◌<
 use Rattle.std.specs.List.{list_any, filter}
 use Rattle.std.proofs.lemmas.List.{at_drop_more, get_or-map, length-map, append-nil, map-append}
 use Rattle.pci_spec.specs.Decoded.{Range}
-use Rattle.settle_spec.specs.FirstPlace.{are_apart}
+use Rattle.settle_spec.specs.FirstPlace.{ranges_are_apart}
 use Rattle.settle_spec.specs.Lists as lists
 use Rattle.pci_base.specs.declared.range.Range.{Range as CodeRange}
 use Rattle.pci_base.specs.Ranges.{decoded_range_of}
@@ -41,7 +41,7 @@ module _ {X Y : Type 0} (v : X → Y) where
 -- ---- looking for two
 
 abbrev pub shares_range : Range → List lists.RootRange → Bool
-shares_range r more = list_any (λ (q : lists.RootRange). not (are_apart r q.range)) more
+shares_range r more = list_any (λ (q : lists.RootRange). not (ranges_are_apart r q.range)) more
 
 module _ {X : Type 0} (v : X → lists.RootRange) where
   pub two_next : (xs : List X) (n : ℕ) (d : X) (all : Bool) → n < length xs → lists.share_address (drop n (map v xs)) ≡ all → shares_range (v (get_or xs n d)).range (drop (n + 1) (map v xs)) ≡ false

@@ -8,7 +8,7 @@ use Rattle.pci_spec.specs.Bus.{secondary, are_siblings}
 use Rattle.settle_spec.specs.FirstPlace.{Extent as ExtentValue}
 use Rattle.settle_spec.specs.Lists.{Request}
 use Rattle.settle_spec.specs.Stands.{rank}
-use Rattle.settle_spec.specs.Items.{Item as ItemValue, has_of, items_of, items_on}
+use Rattle.settle_spec.specs.Items.{Item as ItemValue, has_of, items_of, bus_items}
 use Rattle.pci_function.specs.declared.record.Bridge.{Bridge}
 use Rattle.pci_tree.specs.Admission.{Admission}
 use Rattle.pci_place.specs.Above.{system_in}
@@ -18,11 +18,11 @@ use Rattle.pci_settle.specs.declared.kept.Kept.{Kept}
 use Rattle.pci_settle.specs.declared.over.Left.{Left}
 use Rattle.pci_settle.specs.declared.over.OpenWindows.{OpenWindows}
 use Rattle.pci_settle.specs.declared.own.Terms.{Terms}
-use Rattle.pci_settle.specs.Kept.{AreKept}
+use Rattle.pci_settle.specs.Kept.{AreKeptParts}
 use Rattle.pci_settle.specs.Over.{AreOpenOver}
 use Rattle.pci_settle.specs.Spots.{IsExtent}
 use Rattle.pci_settle.specs.Turns.{HasExtent}
-use Rattle.pci_settle.specs.Own.{AreTerms, Asking, IsWindowOf, AreByRank, item_value}
+use Rattle.pci_settle.specs.Own.{AreTerms, Asking, IsWindowOf, AreByRank, asked_item_value}
 
 abbrev pub window_behind : List (Option Extent) → Option Bridge → Option Extent
 window_behind windows None = None
@@ -53,7 +53,7 @@ classing_of a t overs =
     record { roots = a.roots; system = system_in a; terms = t; overs = overs }
 
 -- these open windows tell the classes of what is asked for below these roots, in lists that tell this
-pub record IsLeft (p : Classing) (q : Request) : Type 0 where
+pub record TellsClasses (p : Classing) (q : Request) : Type 0 where
   pub rooted : q.roots ≡ p.roots
   pub terms : AreTerms q.lists p.terms
   pub overs_are : AreOpenOver q p.system p.overs
@@ -66,41 +66,41 @@ pub record Listing : Type 0 where
   pub windows : List (Option Extent)
   pub kept : List Kept
 
-abbrev pub listing : Classing → WindowKind → ℕ → List (Option Extent) → List Kept → Listing
-listing p c bus windows kept =
+abbrev pub bus_listing : Classing → WindowKind → ℕ → List (Option Extent) → List Kept → Listing
+bus_listing p c bus windows kept =
     record { classing = p; class = c; bus = bus; windows = windows; kept = kept }
 
 abbrev pub listing_of : Admission → WindowKind → ℕ → Terms → List (Option Extent) → Left → Listing
 listing_of a c bus t windows left =
-    listing (classing_of a t left.over.now) c bus windows left.kept.now
+    bus_listing (classing_of a t left.over.now) c bus windows left.kept.now
 
 -- what is asked for leaves the open windows, and what a test tells, where they stand, and has these new windows
 pub record IsListingOf (a : Asking) (l : Listing) : Type 0 where
-  pub left : IsLeft l.classing a.request
-  pub keeps_is : AreKept l.classing.system a.keeps l.kept
+  pub left : TellsClasses l.classing a.request
+  pub keeps_is : AreKeptParts l.classing.system a.keeps l.kept
   pub behind : AreBehind a.request l.classing.system l.class a.extent l.bus l.windows
 
 -- ---- items
 
 -- the items of a function, where it stands on the bus
-abbrev pub items_beside : Asking → Listing → Function → List ItemValue
-items_beside a l f =
+abbrev pub items_of_function : Asking → Listing → Function → List ItemValue
+items_of_function a l f =
     if are_siblings a.request.roots l.bus f.slot.bus
     then items_of a.request l.classing.system l.class a.keeps a.extent f else []
 
 -- the items of the first functions, by rising slots and registers, all below the next function
 pub record AreListedTo (s : System) (c : WindowKind) (k : ℕ) (items : List Item)
     (all : List ItemValue) : Type 0 where
-  pub by_rank : AreByRank (map (item_value s c) items) all
+  pub by_rank : AreByRank (map (asked_item_value s c) items) all
   pub below : (j : ℕ) (g : Function) → k ≤ j → slice_get s j ≡ Some g
-      → (i : ItemValue) → Contains (map (item_value s c) items) i
+      → (i : ItemValue) → Contains (map (asked_item_value s c) items) i
       → rank i.region < slot_number g.slot * 256
 
 -- the items of the bus among the first functions
 pub record AreOnBusTo (l : Listing) (k : ℕ) (items : List Item) : Type 0 where
   pub all : (a : Asking) → IsListingOf a l
       → AreListedTo l.classing.system l.class k items
-      (flat_map (items_beside a l) (take k l.classing.system))
+      (flat_map (items_of_function a l) (take k l.classing.system))
   pub lawful : AreWindows l.windows → All HasExtent items
 
 -- the items of the bus that are of functions below another bus: the first functions, and none of the rest
@@ -114,15 +114,15 @@ pub record AreBelow (l : Listing) (bus : ℕ) (items : List Item) : Type 0 where
   pub first : AreOnBusTo l count items
 
 -- then these are the items of the bus, by rising slots and registers
-abbrev pub AreOnBus : Listing → List Item → Type 0
-AreOnBus l items =
+abbrev pub AreItemsOnBus : Listing → List Item → Type 0
+AreItemsOnBus l items =
     (a : Asking) → IsListingOf a l
-    → AreByRank (map (item_value l.classing.system l.class) items)
-    (flat_map (items_beside a l) l.classing.system)
+    → AreByRank (map (asked_item_value l.classing.system l.class) items)
+    (flat_map (items_of_function a l) l.classing.system)
 
 -- and in turn these are
 abbrev pub AreInTurn : Listing → List Item → Type 0
 AreInTurn l items =
     (a : Asking) → IsListingOf a l
-    → map (item_value l.classing.system l.class) items
-    ≡ items_on a.request l.classing.system l.class a.keeps a.extent l.bus
+    → map (asked_item_value l.classing.system l.class) items
+    ≡ bus_items a.request l.classing.system l.class a.keeps a.extent l.bus

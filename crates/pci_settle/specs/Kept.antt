@@ -3,22 +3,22 @@ use Rattle.std.specs.Prelude.{◌≡◌, ℕ, ◌<◌, Bool, false, IsTrue, List
 use Rattle.std.specs.List.{All}
 use Rattle.pci_spec.specs.Window.{IoWindow, MemoryWindow, PrefetchWindow}
 use Rattle.pci_spec.specs.System.{System, Function, Part, Bar, Rom, Window, has_part}
-use Rattle.settle_spec.specs.Parts.{Region}
+use Rattle.settle_spec.specs.Parts.{FunctionPart}
 use Rattle.pci_base.specs.WindowKinds.{kind_value}
 use Rattle.pci_settle.specs.declared.kept.Kept.{Kept}
 use Rattle.pci_settle.specs.declared.kept.Part.{Part as CodePart}
 use Rattle.pci_settle.specs.declared.kept.Part.TheVariants as parts
 
-abbrev pub part_value : CodePart → Part
-part_value (parts.Bar n) = Bar n
-part_value parts.Rom = Rom
-part_value (parts.Window kind) = Window (kind_value kind)
+abbrev pub spec_part : CodePart → Part
+spec_part (parts.Bar n) = Bar n
+spec_part parts.Rom = Rom
+spec_part (parts.Window kind) = Window (kind_value kind)
 
 -- a header has six Base Address registers at most
-abbrev pub IsPart : CodePart → Type 0
-IsPart (parts.Bar n) = n < 6
-IsPart parts.Rom = Unit {0}
-IsPart (parts.Window kind) = Unit {0}
+abbrev pub IsCodePart : CodePart → Type 0
+IsCodePart (parts.Bar n) = n < 6
+IsCodePart parts.Rom = Unit {0}
+IsCodePart (parts.Window kind) = Unit {0}
 
 -- whether a part keeps its place
 abbrev pub kept_of : Kept → Part → Bool
@@ -40,7 +40,7 @@ nothing_kept = record {
 }
 
 -- a table by function in slot order has what a test tells of each part; a function without an entry keeps nothing
-abbrev pub AreKept : System → (Region → Bool) → List Kept → Type 0
-AreKept s keeps table =
+abbrev pub AreKeptParts : System → (FunctionPart → Bool) → List Kept → Type 0
+AreKeptParts s keeps table =
     (k : ℕ) (f : Function) (part : Part) → slice_get s k ≡ Some f → IsTrue (has_part f part)
     → kept_of (slice_index_or table k nothing_kept) part ≡ keeps record { function = f; part = part }

@@ -7,8 +7,8 @@ use Rattle.pci_spec.specs.System.{System, Function, is_bridge}
 use Rattle.pci_spec.specs.Bus.{secondary}
 use Rattle.settle_spec.specs.FirstPlace.{Extent as ExtentValue}
 use Rattle.settle_spec.specs.Lists.{Request}
-use Rattle.settle_spec.specs.Parts.{Region}
-use Rattle.settle_spec.specs.Items.{Item as ItemValue, has_of, items_on, nothing, extent_around, new_window, window_to}
+use Rattle.settle_spec.specs.Parts.{FunctionPart}
+use Rattle.settle_spec.specs.Items.{Item as ItemValue, has_of, bus_items, nothing, extent_around, new_window, window_to}
 use Rattle.pci_image.specs.declared.window.Windows.{Windows}
 use Rattle.pci_function.specs.declared.record.Bridge.{Bridge}
 use Rattle.pci_place.specs.Above.{is_wide_in}
@@ -18,7 +18,7 @@ use Rattle.pci_settle.specs.declared.own.Terms.{Terms}
 use Rattle.pci_settle.specs.Spots.{extent_value, IsExtent}
 use Rattle.pci_settle.specs.Placings.{item_extent}
 use Rattle.pci_settle.specs.Own.{AreTerms, Asking, IsWindowOf}
-use Rattle.pci_settle.specs.Buses.{AreBehind, Classing, IsLeft}
+use Rattle.pci_settle.specs.Buses.{AreBehind, Classing, TellsClasses}
 
 -- ---- of one bridge
 
@@ -32,7 +32,7 @@ highest_by PrefetchWindow w = if is_wide_in w.pref then 0xffff_ffff_ffff_ffff el
 abbrev pub around_bus : Request → System → WindowKind → (Function → ExtentValue) → Bridge → ExtentValue
 around_bus q s c extent b =
     extent_around (page_size c) (highest_by c b.windows)
-    (map item_extent (items_on q s c nothing extent b.secondary))
+    (map item_extent (bus_items q s c nothing extent b.secondary))
 
 -- there is an item, and the extent around them has 2^64 addresses or more
 pub record AreTooLarge (items : List ItemValue) (around : ExtentValue) : Type 0 where
@@ -47,9 +47,9 @@ IsEntry items around (Some x) = (0 < length items) × (extent_value x ≡ around
 -- what holds of the items behind a bridge, whatever is asked for
 abbrev pub OfItems : Classing → WindowKind → List (Option Extent) → Bridge → (List ItemValue → ExtentValue → Type 0) → Type 0
 OfItems p c windows b holds =
-    (q : Request) (extent : Function → ExtentValue) → IsLeft p q
+    (q : Request) (extent : Function → ExtentValue) → TellsClasses p q
     → AreBehind q p.system c extent b.secondary windows
-    → holds (items_on q p.system c nothing extent b.secondary) (around_bus q p.system c extent b)
+    → holds (bus_items q p.system c nothing extent b.secondary) (around_bus q p.system c extent b)
 
 -- what stands in a table for a window of 2^64 addresses or more: it has no place in any range
 abbrev pub nowhere : Extent
@@ -65,9 +65,9 @@ pub record IsWindowPut (p : Classing) (c : WindowKind) (b : Bridge)
   pub is : OfItems p c old b (λ items around. IsEntry items around entry)
 
 -- where it has fewer than 2^64 addresses; else it is marked
-abbrev pub IsPut : Classing → WindowKind → Bridge → List (Option Extent) → List (Option Extent) → Bool → Type 0
-IsPut p c b old new true = IsWindowPut p c b old new
-IsPut p c b old new false =
+abbrev pub IsNewWindowPut : Classing → WindowKind → Bridge → List (Option Extent) → List (Option Extent) → Bool → Type 0
+IsNewWindowPut p c b old new true = IsWindowPut p c b old new
+IsNewWindowPut p c b old new false =
     (new ≡ set old b.secondary (Some nowhere)) × OfItems p c old b AreTooLarge
 
 -- ---- of all bridges
@@ -79,18 +79,18 @@ pub record IsAnew (q : Request) (roots : List ℕ) (t : Terms) : Type 0 where
   pub terms : AreTerms q.lists t
 
 -- the window in a table over a bus
-abbrev pub window_in : List (Option Extent) → ℕ → Option ExtentValue
-window_in windows bus = option_map extent_value (slice_index_or windows bus None)
+abbrev pub new_window_in : List (Option Extent) → ℕ → Option ExtentValue
+new_window_in windows bus = option_map extent_value (slice_index_or windows bus None)
 
 -- a table has the new window over each bus, and so those of the bridges on each
 pub record HasNewWindows (q : Request) (s : System) (c : WindowKind) (t : Terms)
     (windows : List (Option Extent)) : Type 0 where
-  pub over : (bus : ℕ) → bus < 256 → window_in windows bus ≡ window_to q s c bus
+  pub over : (bus : ℕ) → bus < 256 → new_window_in windows bus ≡ window_to q s c bus
   pub terms : AreTerms q.lists t
   pub behind : (bus : ℕ) → AreBehind q s c (new_window q s c) bus windows
 
 -- what is asked for, with the new windows of a class
-abbrev pub asking_of : Request → System → WindowKind → (Region → Bool) → Asking
+abbrev pub asking_of : Request → System → WindowKind → (FunctionPart → Bool) → Asking
 asking_of q s c keeps = record { request = q; keeps = keeps; extent = new_window q s c }
 
 -- the new window of a function has 2^64 addresses or more
@@ -117,9 +117,9 @@ first_large None false k = Some k
 -- the table has the new window over each bus, or a bridge is named whose new window has 2^64 addresses or more
 abbrev pub AreNewWindows : Classing → WindowKind → List (Option Extent) → Option ℕ → Type 0
 AreNewWindows p c windows None =
-    (q : Request) → IsLeft p q → HasNewWindows q p.system c p.terms windows
+    (q : Request) → TellsClasses p q → HasNewWindows q p.system c p.terms windows
 AreNewWindows p c windows (Some k) =
-    (q : Request) → IsLeft p q → IsLastTooLarge q p.system c windows k
+    (q : Request) → TellsClasses p q → IsLastTooLarge q p.system c windows k
 
 -- ---- where some are too large
 
@@ -140,7 +140,7 @@ HasMarkedWindows q s c windows =
 
 abbrev pub AreMarkedWindows : Classing → WindowKind → List (Option Extent) → Type 0
 AreMarkedWindows p c windows =
-    (q : Request) → IsLeft p q → HasMarkedWindows q p.system c windows
+    (q : Request) → TellsClasses p q → HasMarkedWindows q p.system c windows
 
 -- the extents that a table tells, by the bus behind each bridge
 abbrev pub extent_or : Option Extent → ExtentValue

@@ -9,16 +9,16 @@ use Rattle.pci_spec.specs.Bus.{is_root}
 use Rattle.plan_spec.specs.Plan.{is_open}
 use Rattle.plan_spec.specs.Planning.Layout.{range_of}
 use Rattle.settle_spec.specs.Lists.{Request}
-use Rattle.settle_spec.specs.Parts.{is_within, bridge_over}
+use Rattle.settle_spec.specs.Parts.{lies_within, bridge_over}
 use Rattle.pci_base.specs.Ranges.{decoded_range_of}
 use Rattle.pci_place.specs.Above.{IsAbove}
 use Rattle.pci_settle.specs.declared.over.OpenWindows.{OpenWindows}
 use Rattle.pci_settle.specs.declared.over.Over.{Over}
 
 -- whether there is a range, and holds another
-abbrev pub is_held : Option Range → Range → Bool
-is_held None r = false
-is_held (Some outer) r = is_within r outer
+abbrev pub range_holds : Option Range → Range → Bool
+range_holds None r = false
+range_holds (Some outer) r = lies_within r outer
 
 -- the addresses of a window, where there is a bridge and the window is open
 abbrev pub open_range : WindowKind → Option Function → Option Range
@@ -44,6 +44,6 @@ AreOpenOver q s table =
     → AreClassWindows q s f.slot.bus (slice_index_or table f.slot.bus no_windows)
 
 -- what is over a bus
-pub record IsOver (q : Request) (s : System) (bus : ℕ) (o : Over) : Type 0 where
+pub record IsOverBus (q : Request) (s : System) (bus : ℕ) (o : Over) : Type 0 where
   pub above : IsAbove s bus o.above
   pub windows_are : AreClassWindows q s bus o.windows

@@ -11,7 +11,7 @@ use Rattle.plan_spec.specs.Plan.{same_class, greatest}
 use Rattle.plan_spec.specs.Plan as plan
 use Rattle.settle_spec.specs.FirstPlace.{Extent as ExtentValue}
 use Rattle.settle_spec.specs.Lists.{RootRange, Lists, Request}
-use Rattle.settle_spec.specs.Parts.{Region, is_empty}
+use Rattle.settle_spec.specs.Parts.{FunctionPart, is_empty}
 use Rattle.settle_spec.specs.Items.{Item as ItemValue, highest_of_bar, has_of, items_of}
 use Rattle.settle_spec.specs.PlacingLaws.{HasLowerRank}
 use Rattle.pci_base.specs.declared.range.Range.{Range as CodeRange}
@@ -32,7 +32,7 @@ use Rattle.pci_settle.specs.declared.kept.Kept.{Kept}
 use Rattle.pci_settle.specs.declared.over.Over.{Over}
 use Rattle.pci_settle.specs.declared.own.Terms.{Terms}
 use Rattle.pci_settle.specs.Kept.{kept_of}
-use Rattle.pci_settle.specs.Over.{is_held, IsOver}
+use Rattle.pci_settle.specs.Over.{range_holds, IsOverBus}
 use Rattle.pci_settle.specs.Spots.{extent_value}
 
 -- ---- what the lists tell
@@ -69,25 +69,25 @@ class_anew bar above (Some last) = bar_class bar above (code_pools last)
 
 abbrev pub is_held_bar : Option CodeRange → CodeBar → Bool
 is_held_bar window bar =
-    bar.prefetch && is_held (option_map decoded_range_of window) record { first = bar.first; last = bar.last }
+    bar.prefetch && range_holds (option_map decoded_range_of window) record { first = bar.first; last = bar.last }
 
-abbrev pub class_of : CodeBar → Over → Option ℕ → WindowKind
-class_of bar over last =
+abbrev pub bar_class_of : CodeBar → Over → Option ℕ → WindowKind
+bar_class_of bar over last =
     if is_held_bar over.windows.memory bar then MemoryWindow
     else if is_held_bar over.windows.prefetch bar && over.above.pref then PrefetchWindow
     else class_anew bar over.above last
 
 -- the Base Address register that starts it
-abbrev pub bar_number : CodeBar → ℕ
-bar_number bar = (bar.reg - BASE_ADDRESS) / 4
+abbrev pub first_bar_register : CodeBar → ℕ
+first_bar_register bar = (bar.reg - BASE_ADDRESS) / 4
 
 abbrev pub is_left_bar : CodeBar → Above → Bool → Bool
 is_left_bar bar above has_io = is_io_kind bar.kind && not (has_io && above.io)
 
 abbrev pub is_own_bar : WindowKind → Over → Terms → Kept → CodeBar → Bool
 is_own_bar c over t kept bar =
-    not (is_left_bar bar over.above t.has_io) && same_class c (class_of bar over t.prefetch_last)
-    && not (kept_of kept (Bar (bar_number bar)))
+    not (is_left_bar bar over.above t.has_io) && same_class c (bar_class_of bar over t.prefetch_last)
+    && not (kept_of kept (Bar (first_bar_register bar)))
 
 -- there is an address, and all of them can be counted in 64 bits
 pub record IsSpanned (first last : ℕ) : Type 0 where
@@ -95,43 +95,43 @@ pub record IsSpanned (first last : ℕ) : Type 0 where
   pub few : last - first + 1 < 2 ^ 64
 
 -- a BAR at a Base Address register
-pub record IsSized (bar : CodeBar) : Type 0 where
+pub record HasBarRegister (bar : CodeBar) : Type 0 where
   pub register : BASE_ADDRESS ≤ bar.reg
   pub aligned : bar.reg % 4 ≡ 0
   pub span : IsSpanned bar.first bar.last
 
-abbrev pub own_extent : ℕ → ℕ → ℕ → Extent
-own_extent first last highest = record {
+abbrev pub extent_of_size : ℕ → ℕ → ℕ → Extent
+extent_of_size first last highest = record {
   size = last - first + 1;
   alignment = last - first + 1;
   highest = highest;
 }
 
 -- with what the registers of its function read back
-abbrev pub bar_item : ℕ → List ℕ → CodeBar → Item
-bar_item k probe bar = record {
+abbrev pub asked_bar_item : ℕ → List ℕ → CodeBar → Item
+asked_bar_item k probe bar = record {
   function = k;
-  part = parts.Bar (bar_number bar);
-  extent = own_extent bar.first bar.last (highest_of_bar (number_at probe bar.reg 4));
+  part = parts.Bar (first_bar_register bar);
+  extent = extent_of_size bar.first bar.last (highest_of_bar (number_at probe bar.reg 4));
 }
 
-abbrev pub bar_items : ℕ → List ℕ → WindowKind → Over → Terms → Kept → List CodeBar → List Item
-bar_items k probe c over t kept bars = map (bar_item k probe) (filter (is_own_bar c over t kept) bars)
+abbrev pub asked_bar_items : ℕ → List ℕ → WindowKind → Over → Terms → Kept → List CodeBar → List Item
+asked_bar_items k probe c over t kept bars = map (asked_bar_item k probe) (filter (is_own_bar c over t kept) bars)
 
 -- ---- ROMs and windows
 
 abbrev pub rom_item : ℕ → CodeRom → Item
 rom_item k rom =
-    record { function = k; part = parts.Rom; extent = own_extent rom.first rom.last 0xffff_ffff }
+    record { function = k; part = parts.Rom; extent = extent_of_size rom.first rom.last 0xffff_ffff }
 
-abbrev pub rom_items : ℕ → WindowKind → Kept → Option CodeRom → List Item
-rom_items k c kept None = []
-rom_items k c kept (Some rom) =
+abbrev pub asked_rom_items : ℕ → WindowKind → Kept → Option CodeRom → List Item
+asked_rom_items k c kept None = []
+asked_rom_items k c kept (Some rom) =
     if rom.on && same_class c MemoryWindow && not kept.rom then rom_item k rom ∷ [] else []
 
-abbrev pub window_items : ℕ → WindowKind → Kept → Option Extent → List Item
-window_items k c kept None = []
-window_items k c kept (Some e) =
+abbrev pub asked_window_items : ℕ → WindowKind → Kept → Option Extent → List Item
+asked_window_items k c kept None = []
+asked_window_items k c kept (Some e) =
     if kept_of kept (Window c) then []
     else record { function = k; part = parts.Window; extent = e } ∷ []
 
@@ -153,21 +153,21 @@ situation k probe c over t window kept =
     record { place = k; probe = probe; class = c; over = over; terms = t; window = window; kept = kept }
 
 -- in the order of their registers
-abbrev pub record_items : Situation → Record → List Item
-record_items o r =
-    bar_items o.place o.probe o.class o.over o.terms o.kept r.bars.items
-    ++ (window_items o.place o.class o.kept o.window ++ rom_items o.place o.class o.kept r.rom)
+abbrev pub asked_record_items : Situation → Record → List Item
+asked_record_items o r =
+    asked_bar_items o.place o.probe o.class o.over o.terms o.kept r.bars.items
+    ++ (asked_window_items o.place o.class o.kept o.window ++ asked_rom_items o.place o.class o.kept r.rom)
 
 -- ---- their values
 
-abbrev pub part_value : WindowKind → CodePart → Part
-part_value c (parts.Bar n) = Bar n
-part_value c parts.Rom = Rom
-part_value c parts.Window = Window c
+abbrev pub class_part : WindowKind → CodePart → Part
+class_part c (parts.Bar n) = Bar n
+class_part c parts.Rom = Rom
+class_part c parts.Window = Window c
 
-abbrev pub item_value : System → WindowKind → Item → ItemValue
-item_value s c i = record {
-  region = record { function = function_in s i.function; part = part_value c i.part };
+abbrev pub asked_item_value : System → WindowKind → Item → ItemValue
+asked_item_value s c i = record {
+  region = record { function = function_in s i.function; part = class_part c i.part };
   class = c;
   extent = extent_value i.extent;
 }
@@ -180,16 +180,16 @@ IsWindowOf there e (Some x) = IsTrue there × (extent_value x ≡ e)
 -- what is asked for, which parts keep their places, and the extents of new windows
 pub record Asking : Type 0 where
   pub request : Request
-  pub keeps : Region → Bool
+  pub keeps : FunctionPart → Bool
   pub extent : Function → ExtentValue
 
 -- the record is that of a function of a system, with these windows over it, this new one, and what keeps its place
-pub record IsAsked (a : Asking) (s : System) (f : Function) (o : Situation) (r : Record) : Type 0 where
+pub record IsAskedFor (a : Asking) (s : System) (f : Function) (o : Situation) (r : Record) : Type 0 where
   pub terms : AreTerms a.request.lists o.terms
   pub is : IsRecordOf s f r
   pub here : function_in s o.place ≡ f
   pub probe_is : o.probe ≡ f.probe
-  pub over_is : IsOver a.request s f.slot.bus o.over
+  pub over_is : IsOverBus a.request s f.slot.bus o.over
   pub new : IsWindowOf (is_bridge f && has_of a.request s o.class f) (a.extent f) o.window
   pub keeps_is : (part : Part) → IsTrue (has_part f part)
       → kept_of o.kept part ≡ a.keeps record { function = f; part = part }
@@ -202,6 +202,6 @@ pub record AreByRank (items all : List ItemValue) : Type 0 where
 -- then its items are those of the function
 abbrev pub AreItemsOf : Situation → Record → Type 0
 AreItemsOf o r =
-    (a : Asking) (s : System) (f : Function) → IsAsked a s f o r
-    → AreByRank (map (item_value s o.class) (record_items o r))
+    (a : Asking) (s : System) (f : Function) → IsAskedFor a s f o r
+    → AreByRank (map (asked_item_value s o.class) (asked_record_items o r))
     (items_of a.request s o.class a.keeps a.extent f)

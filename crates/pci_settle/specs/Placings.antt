@@ -16,7 +16,7 @@ item_extent i = i.extent
 -- ---- what is wanted
 
 -- there is such a list
-pub record HasList (lists : ℕ) (w : Wanted) : Type 0 where
+pub record HasListAt (lists : ℕ) (w : Wanted) : Type 0 where
   pub extent : IsExtent w.extent
   pub list : w.list < lists
 

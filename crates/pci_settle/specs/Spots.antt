@@ -2,7 +2,7 @@
 use Rattle.std.specs.Prelude.{ℕ, ◌≡◌, ◌<◌, ◌≤◌, ◌^◌, Bool, true, false, if◌then◌else◌, IsTrue, List, length, map, slice_index_or, Option, None, Some}
 use Rattle.std.specs.List.{insert}
 use Rattle.plan_spec.specs.Place.{range_from}
-use Rattle.settle_spec.specs.FirstPlace.{Extent as ExtentValue, is_spot, first_in, IsLeastSpot}
+use Rattle.settle_spec.specs.FirstPlace.{Extent as ExtentValue, is_spot, first_place_in, IsLeastSpot}
 use Rattle.pci_base.specs.declared.range.Range.{Range}
 use Rattle.pci_base.specs.Ranges.{decoded_range_of}
 use Rattle.pci_settle.specs.declared.extent.Extent.{Extent}
@@ -19,13 +19,13 @@ pub record IsExtent (e : Extent) : Type 0 where
   pub alignment : 0 < e.alignment
 
 -- no first address is below one before it
-abbrev pub AreInOrder : List Range → Type 0
-AreInOrder taken =
+abbrev pub FirstsRise : List Range → Type 0
+FirstsRise taken =
     (j k : ℕ) (d : Range) → j < k → k < length taken
     → (slice_index_or taken j d).first ≤ (slice_index_or taken k d).first
 
 -- a place ends in 64 bits: what is taken before its index lies below it, and the rest above
-pub record IsBetween (taken : List Range) (e : Extent) (s : Spot) : Type 0 where
+pub record IsBetweenTaken (taken : List Range) (e : Extent) (s : Spot) : Type 0 where
   pub ends : (range_from s.at e.size).last < 2 ^ 64
   pub within : s.index ≤ length taken
   pub below : (k : ℕ) (d : Range) → k < s.index → (slice_index_or taken k d).last < s.at
@@ -35,12 +35,12 @@ pub record IsBetween (taken : List Range) (e : Extent) (s : Spot) : Type 0 where
 -- the least free place from an address on
 pub record IsSpotAt (taken : List Range) (low : ℕ) (e : Extent) (s : Spot) : Type 0 where
   pub least : IsLeastSpot low (map decoded_range_of taken) (extent_value e) s.at
-  pub between : IsBetween taken e s
+  pub between : IsBetweenTaken taken e s
 
 -- the place alone
-abbrev pub place_of : Option Spot → Option ℕ
-place_of None = None
-place_of (Some s) = Some s.at
+abbrev pub spot_place : Option Spot → Option ℕ
+spot_place None = None
+spot_place (Some s) = Some s.at
 
 abbrev pub place_if : Bool → ℕ → Option ℕ
 place_if found a = if found then Some a else None
@@ -56,7 +56,7 @@ pub record IsReached (taken : List Range) (low : ℕ) (e : Extent) (s : Spot) : 
 -- ranges before have no place, and in this one the search has come to a spot
 pub record IsStart (ranges taken : List Range) (e : Extent) (s : Start) : Type 0 where
   pub before : (k : ℕ) (d : Range) → k < s.range
-      → first_in (decoded_range_of (slice_index_or ranges k d)) (map decoded_range_of taken)
+      → first_place_in (decoded_range_of (slice_index_or ranges k d)) (map decoded_range_of taken)
       (extent_value e) ≡ None
   pub reached : (d : Range) → s.range < length ranges
       → IsReached taken (slice_index_or ranges s.range d).first e s.spot
@@ -64,19 +64,19 @@ pub record IsStart (ranges taken : List Range) (e : Extent) (s : Start) : Type 0
 -- ---- what is taken
 
 -- ranges by rising first addresses, none of them backward
-pub record AreListed (taken : List Range) : Type 0 where
-  pub order : AreInOrder taken
+pub record AreRisingRanges (taken : List Range) : Type 0 where
+  pub order : FirstsRise taken
   pub forward : (k : ℕ) (d : Range) → k < length taken
       → (slice_index_or taken k d).first ≤ (slice_index_or taken k d).last
 
 -- the addresses of an extent from a on
-abbrev pub range_at : Extent → ℕ → Range
-range_at e a = record { first = a; last = (range_from a e.size).last }
+abbrev pub extent_range : Extent → ℕ → Range
+extent_range e a = record { first = a; last = (range_from a e.size).last }
 
 -- what is taken once a place was given: it too, between what lies below it and what lies above
 pub record IsPutIn (old new : List Range) (e : Extent) (s : Spot) : Type 0 where
-  pub between : IsBetween old e s
-  pub put : new ≡ insert old s.index (range_at e s.at)
+  pub between : IsBetweenTaken old e s
+  pub put : new ≡ insert old s.index (extent_range e s.at)
 
 -- the same, where there is one
 abbrev pub IsTakenBy : List Range → List Range → Extent → Spot → Bool → Type 0

@@ -6,19 +6,19 @@ use Rattle.pci_settle.specs.declared.extent.Extent.{Extent}
 use Rattle.pci_settle.specs.Spots.{extent_value, IsExtent}
 
 -- an item is larger than another, or as large and of a lower number
-abbrev pub IsLarger : (Item → ℕ) → Item → Item → Type 0
-IsLarger number i j =
+abbrev pub IsLargerItem : (Item → ℕ) → Item → Item → Type 0
+IsLargerItem number i j =
     (j.extent.size < i.extent.size)
     ⊎ ((i.extent.size ≡ j.extent.size) × (number i < number j))
 
 -- it is of a greater alignment, or comes first in the same
-abbrev pub IsInTurn : (Item → ℕ) → Item → Item → Type 0
-IsInTurn number i j =
+abbrev pub IsItemInTurn : (Item → ℕ) → Item → Item → Type 0
+IsItemInTurn number i j =
     (j.extent.alignment < i.extent.alignment)
-    ⊎ ((i.extent.alignment ≡ j.extent.alignment) × IsLarger number i j)
+    ⊎ ((i.extent.alignment ≡ j.extent.alignment) × IsLargerItem number i j)
 
-abbrev pub own_extent : Item → Extent
-own_extent i = i.extent
+abbrev pub extent_of_item : Item → Extent
+extent_of_item i = i.extent
 
 abbrev pub HasExtent : Item → Type 0
 HasExtent i = IsExtent i.extent

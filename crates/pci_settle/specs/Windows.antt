@@ -6,7 +6,7 @@ use Rattle.settle_spec.specs.FirstPlace.{first_spot, Extent as ExtentValue}
 use Rattle.pci_base.specs.declared.range.Range.{Range}
 use Rattle.pci_base.specs.Ranges.{decoded_range_of}
 use Rattle.pci_settle.specs.declared.extent.Extent.{Extent}
-use Rattle.pci_settle.specs.Spots.{extent_value, range_at}
+use Rattle.pci_settle.specs.Spots.{extent_value, extent_range}
 
 -- where an extent starts that is laid out next, and its last address
 abbrev pub laid_first : List Range → Extent → ℕ
@@ -19,7 +19,7 @@ laid_last taken e = (range_from (laid_first taken e) e.size).last
 abbrev pub IsLaidBy : List Range → List Range → Extent → Option ℕ → Type 0
 IsLaidBy old new e None = ⊤
 IsLaidBy old new e (Some end) =
-    (index : ℕ) × (index ≤ length old) × (new ≡ insert old index (range_at e (laid_first old e)))
+    (index : ℕ) × (index ≤ length old) × (new ≡ insert old index (extent_range e (laid_first old e)))
 
 abbrev pub alignments : List ExtentValue → List ℕ
 alignments extents = map (λ (e : ExtentValue). e.alignment) extents

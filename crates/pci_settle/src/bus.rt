@@ -6,7 +6,7 @@ ghost use Rattle.pci_spec.specs.Bus.{is_root, are_siblings};
 ghost use Rattle.pci_base.specs.WindowKinds.{kind_value};
 ghost use Rattle.pci_place.specs.Above.{AreAboves, system_in};
 ghost use Rattle.pci_settle.specs.Kept.{kept_of, nothing_kept};
-ghost use Rattle.pci_settle.specs.Buses.{window_behind, AreWindows, listing_of, AreBelow, AreOnBus, AreInTurn};
+ghost use Rattle.pci_settle.specs.Buses.{window_behind, AreWindows, listing_of, AreBelow, AreItemsOnBus, AreInTurn};
 ghost use Rattle.pci_settle.specs.Turns.{HasExtent};
 
 use crate::extent::Extent;
@@ -133,7 +133,7 @@ pub fn items_on<A: Allocator, B: Allocator>(
 ) -> Result<Vec<Item, A>, OutOfMemory>
     // which windows lead to a BAR decides its class
     requires { AreAboves (system_in admitted.now) aboves.now }
-    ensures items { IfOk result (λ items. AreOnBus
+    ensures items { IfOk result (λ items. AreItemsOnBus
         (listing_of admitted.now (kind_value class) bus terms windows.now left.now) items.items) }
     // a window around them is laid out from what has addresses and alignments
     ensures lawful { AreWindows windows.now → IfOk result (λ items. All HasExtent items.items) }

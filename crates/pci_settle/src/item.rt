@@ -4,7 +4,7 @@ ghost use Rattle.std.specs.List.{AllPairs};
 ghost use Rattle.std.specs.List.Sorted.{IsPermutation};
 ghost use Rattle.settle_spec.specs.PlacingLaws.{HasLowerRank};
 ghost use Rattle.settle_spec.specs.Items.{Item as ItemValue, in_turn};
-ghost use Rattle.pci_settle.specs.Turns.{IsLarger, IsInTurn, IsValued};
+ghost use Rattle.pci_settle.specs.Turns.{IsLargerItem, IsItemInTurn, IsValued};
 
 use crate::extent::Extent;
 use pci_base::memory::OutOfMemory;
@@ -35,7 +35,7 @@ fn sort_by_size<A: Allocator + Copy>(items: &mut Vec<Item, A>) -> Result<(), Out
     ensures permutation { IsPermutation items.old.items items.new.items }
     ensures sorted { OnOk result ((number : Item → ℕ)
         → AllPairs (λ i j. number i < number j) items.old.items
-        → AllPairs (IsLarger number) items.new.items) }
+        → AllPairs (IsLargerItem number) items.new.items) }
 {
     match items.sort_by_key(|item| Reverse(item.extent.size)) {
         Ok(()) => Ok(()),
@@ -46,8 +46,8 @@ fn sort_by_size<A: Allocator + Copy>(items: &mut Vec<Item, A>) -> Result<(), Out
 /// Sorts items by falling alignment; those of one alignment stay in their order.
 fn sort_by_alignment<A: Allocator + Copy>(items: &mut Vec<Item, A>) -> Result<(), OutOfMemory>
     ensures permutation { IsPermutation items.old.items items.new.items }
-    ensures sorted { OnOk result ((number : Item → ℕ) → AllPairs (IsLarger number) items.old.items
-        → AllPairs (IsInTurn number) items.new.items) }
+    ensures sorted { OnOk result ((number : Item → ℕ) → AllPairs (IsLargerItem number) items.old.items
+        → AllPairs (IsItemInTurn number) items.new.items) }
 {
     match items.sort_by_key(|item| Reverse(item.extent.alignment)) {
         Ok(()) => Ok(()),

@@ -3,7 +3,7 @@ ghost use Rattle.std.specs.Prelude.{◌≡◌, IfOk, length, true, false};
 ghost use Rattle.pci_spec.specs.System.{Part as PartValue};
 ghost use Rattle.pci_base.specs.WindowKinds.{kind_value};
 ghost use Rattle.pci_spec.specs.System as system;
-ghost use Rattle.pci_settle.specs.Kept.{IsPart, part_value, kept_of, AreNone};
+ghost use Rattle.pci_settle.specs.Kept.{IsCodePart, spec_part, kept_of, AreNone};
 
 use pci_base::memory::OutOfMemory;
 use pci_base::window_kind::{ByKind, WindowKind};
@@ -57,7 +57,7 @@ impl Kept {
 
     /// Whether a part does.
     pub fn keeps(&self, part: Part) -> bool
-        ensures { result ≡ kept_of self.now (part_value part) }
+        ensures { result ≡ kept_of self.now (spec_part part) }
     {
         match part {
             Part::Bar(n) => self.bar(n),
@@ -69,10 +69,10 @@ impl Kept {
     /// Notes that a part does.
     pub fn note(&mut self, part: Part)
         // no header has more BAR registers, and the table has no entry for more
-        requires { IsPart part }
-        ensures noted { kept_of self.new (part_value part) ≡ true }
+        requires { IsCodePart part }
+        ensures noted { kept_of self.new (spec_part part) ≡ true }
         // the parts of a function are noted one after another
-        ensures others { (other : PartValue) → (other ≡ part_value part → ⊥)
+        ensures others { (other : PartValue) → (other ≡ spec_part part → ⊥)
             → kept_of self.new other ≡ kept_of self.old other }
     {
         match part {
@@ -87,10 +87,10 @@ impl Kept {
     /// Notes that a part doesn't.
     pub fn clear(&mut self, part: Part)
         // no header has more BAR registers, and the table has no entry for more
-        requires { IsPart part }
-        ensures cleared { kept_of self.new (part_value part) ≡ false }
+        requires { IsCodePart part }
+        ensures cleared { kept_of self.new (spec_part part) ≡ false }
         // the parts of a function are cleared one after another
-        ensures others { (other : PartValue) → (other ≡ part_value part → ⊥)
+        ensures others { (other : PartValue) → (other ≡ spec_part part → ⊥)
             → kept_of self.new other ≡ kept_of self.old other }
     {
         match part {

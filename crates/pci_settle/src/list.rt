@@ -4,7 +4,7 @@ ghost use Rattle.std.specs.List.{filter, list_any};
 ghost use Rattle.pci_spec.specs.Bus.{is_root};
 ghost use Rattle.plan_spec.specs.Plan.{is_backward};
 ghost use Rattle.settle_spec.specs.Lists as lists;
-ghost use Rattle.settle_spec.specs.FirstPlace.{are_apart as are_ranges_apart};
+ghost use Rattle.settle_spec.specs.FirstPlace.{ranges_are_apart as are_ranges_apart};
 ghost use Rattle.pci_tree.specs.Roots.{buses_of};
 ghost use Rattle.pci_base.specs.Ranges.{decoded_range_of};
 ghost use Rattle.pci_settle.specs.Lists.{root_range_value, lists_value};

@@ -3,7 +3,7 @@ ghost use Rattle.std.specs.Prelude.{◌≡◌, IfOk};
 ghost use Rattle.pci_base.specs.WindowKinds.{kind_value};
 ghost use Rattle.pci_place.specs.Above.{AreAboves, system_in, is_wide_in};
 ghost use Rattle.pci_settle.specs.Buses.{AreWindows, classing_of};
-ghost use Rattle.pci_settle.specs.NewWindows.{highest_by, nowhere, IsPut, first_large, AreNewWindows, AreMarkedWindows};
+ghost use Rattle.pci_settle.specs.NewWindows.{highest_by, nowhere, IsNewWindowPut, first_large, AreNewWindows, AreMarkedWindows};
 
 use crate::bus::items_on;
 use crate::extent::Extent;
@@ -66,7 +66,7 @@ fn put_window<A: Allocator + Copy, B: Allocator>(
 ) -> Result<bool, OutOfMemory>
     requires above { AreAboves (system_in admitted.now) aboves.now }
     requires lawful { AreWindows windows.old }
-    ensures put { IfOk result (IsPut (classing_of admitted.now terms overs.now)
+    ensures put { IfOk result (IsNewWindowPut (classing_of admitted.now terms overs.now)
         (kind_value class) bridge.now windows.old windows.new) }
     ensures lawful { AreWindows windows.new }
 {

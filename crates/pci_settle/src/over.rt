@@ -1,12 +1,12 @@
 //! The windows over a bus, which tell the classes of the BARs on it.
 ghost use Rattle.std.specs.Prelude.{◌≡◌, slice_index_or};
 ghost use Rattle.std.specs.Option.{option_map};
-ghost use Rattle.settle_spec.specs.Parts.{is_within};
+ghost use Rattle.settle_spec.specs.Parts.{lies_within};
 ghost use Rattle.pci_base.specs.Ranges.{decoded_range_of};
 ghost use Rattle.pci_base.specs.WindowKinds.{kind_value};
 ghost use Rattle.pci_image.specs.Windows.{window_of};
 ghost use Rattle.pci_tree.specs.Passes.{range_in};
-ghost use Rattle.pci_settle.specs.Over.{is_held, no_windows};
+ghost use Rattle.pci_settle.specs.Over.{range_holds, no_windows};
 
 use crate::kept::Kept;
 use pci_base::range::Range;
@@ -48,14 +48,14 @@ pub struct Left<'a> {
 
 /// Whether a range lies in another.
 pub fn is_within(inner: Range, outer: Range) -> bool
-    ensures { result ≡ is_within (decoded_range_of inner) (decoded_range_of outer) }
+    ensures { result ≡ lies_within (decoded_range_of inner) (decoded_range_of outer) }
 {
     outer.first <= inner.first && inner.last <= outer.last
 }
 
 /// Whether there is a range that holds another.
 pub fn is_held(outer: Option<Range>, inner: Range) -> bool
-    ensures { result ≡ is_held (option_map decoded_range_of outer) (decoded_range_of inner) }
+    ensures { result ≡ range_holds (option_map decoded_range_of outer) (decoded_range_of inner) }
 {
     match outer {
         None => false,

@@ -8,7 +8,7 @@ ghost use Rattle.settle_spec.specs.Lists as lists;
 ghost use Rattle.pci_base.specs.WindowKinds.{kind_value};
 ghost use Rattle.pci_place.specs.Pools.{pools_value};
 ghost use Rattle.pci_settle.specs.Lists.{root_range_value, lists_value};
-ghost use Rattle.pci_settle.specs.Own.{AreTerms, pools_to, class_anew, class_of, bar_number, is_left_bar, is_own_bar, IsSpanned, IsSized, bar_item, bar_items, rom_item, rom_items, window_items, situation, record_items, AreItemsOf};
+ghost use Rattle.pci_settle.specs.Own.{AreTerms, pools_to, class_anew, bar_class_of, first_bar_register, is_left_bar, is_own_bar, IsSpanned, HasBarRegister, asked_bar_item, asked_bar_items, rom_item, asked_rom_items, asked_window_items, situation, asked_record_items, AreItemsOf};
 
 use crate::extent::Extent;
 use crate::item::{Item, Part};
@@ -91,7 +91,7 @@ fn class_anew(bar: &Bar, above: Above, terms: Terms) -> WindowKind
 
 /// The class of a BAR: a prefetchable one is of the class of the open window over it that holds it.
 pub fn class_of(bar: &Bar, over: &Over, terms: Terms) -> WindowKind
-    ensures { kind_value result ≡ class_of bar.now over.now terms.prefetch_last }
+    ensures { kind_value result ≡ bar_class_of bar.now over.now terms.prefetch_last }
 {
     let range = Range {
         first: bar.first,
@@ -115,15 +115,15 @@ pub fn is_left_bar(bar: &Bar, above: Above, terms: Terms) -> bool
 
 /// Which Base Address register starts a BAR, counted from 0.
 fn bar_number(bar: &Bar) -> u8
-    requires { IsSized bar.now }
-    ensures { result ≡ bar_number bar.now }
+    requires { HasBarRegister bar.now }
+    ensures { result ≡ first_bar_register bar.now }
 {
     (bar.reg - BASE_ADDRESS) / 4
 }
 
 /// Whether a BAR is placed in a class.
 fn is_own_bar(bar: &Bar, class: WindowKind, over: &Over, terms: Terms, kept: &Kept) -> bool
-    requires { IsSized bar.now }
+    requires { HasBarRegister bar.now }
     ensures { result ≡ is_own_bar (kind_value class) over.now terms kept.now bar.now }
 {
     !is_left_bar(bar, over.above, terms)
@@ -146,8 +146,8 @@ fn highest_of_bar(mask: u32) -> u64
 
 /// The item of a BAR, whose size is its alignment.
 fn bar_item(function: usize, probe: &Image, bar: &Bar) -> Item
-    requires { IsSized bar.now }
-    ensures { result ≡ bar_item function probe.now.0 bar.now }
+    requires { HasBarRegister bar.now }
+    ensures { result ≡ asked_bar_item function probe.now.0 bar.now }
 {
     let size = bar.last - bar.first + 1;
     Item {
@@ -189,9 +189,9 @@ fn add_bars<A: Allocator>(
     terms: Terms,
     kept: &Kept,
 ) -> Result<(), OutOfMemory>
-    requires { All IsSized bars.now }
+    requires { All HasBarRegister bars.now }
     ensures { OnOk result (items.new.items ≡ items.old.items
-        ++ bar_items function probe.now.0 (kind_value class) over.now terms kept.now bars.now) }
+        ++ asked_bar_items function probe.now.0 (kind_value class) over.now terms kept.now bars.now) }
 {
     for bar in bars {
         if is_own_bar(bar, class, over, terms, kept) {
@@ -211,7 +211,7 @@ fn add_rom<A: Allocator>(
 ) -> Result<(), OutOfMemory>
     requires { IfSome rom (λ rom. IsSpanned rom.first rom.last) }
     ensures { OnOk result
-        (items.new.items ≡ items.old.items ++ rom_items function (kind_value class) kept.now rom) }
+        (items.new.items ≡ items.old.items ++ asked_rom_items function (kind_value class) kept.now rom) }
 {
     if let Some(rom) = rom {
         if rom.on && class == WindowKind::Memory && !kept.rom {
@@ -230,7 +230,7 @@ fn add_window<A: Allocator>(
     kept: &Kept,
 ) -> Result<(), OutOfMemory>
     ensures { OnOk result (items.new.items
-        ≡ items.old.items ++ window_items function (kind_value class) kept.now window) }
+        ≡ items.old.items ++ asked_window_items function (kind_value class) kept.now window) }
 {
     if let Some(extent) = window {
         if !kept.window(class) {
@@ -259,11 +259,11 @@ pub fn add_items<A: Allocator>(
     kept: &Kept,
 ) -> Result<(), OutOfMemory>
     // else a register's number or a BAR's size would be below 0
-    requires bars { All IsSized «record».now.bars.items }
+    requires bars { All HasBarRegister «record».now.bars.items }
     // else its size would be below 0, too
     requires rom { IfSome «record».now.rom (λ rom. IsSpanned rom.first rom.last) }
     ensures items { OnOk result (items.new.items ≡ items.old.items
-        ++ record_items (situation function probe.now.0 (kind_value class) over.now terms window kept.now)
+        ++ asked_record_items (situation function probe.now.0 (kind_value class) over.now terms window kept.now)
         «record».now) }
     // they are those of the definitions, whatever system the record is of
     ensures exact { AreItemsOf (situation function probe.now.0 (kind_value class) over.now terms window kept.now)

@@ -8,8 +8,8 @@ ghost use Rattle.pci_spec.specs.Decoded.{Range as DecodedRange};
 ghost use Rattle.settle_spec.specs.FirstPlace.{first_place as place_in_ranges};
 ghost use Rattle.settle_spec.specs.Items.{Item, place_all as items_placed};
 ghost use Rattle.pci_base.specs.Ranges.{decoded_range_of};
-ghost use Rattle.pci_settle.specs.Spots.{extent_value, IsExtent, AreListed, IsTakenBy, IsStart, place_if};
-ghost use Rattle.pci_settle.specs.Placings.{HasList, AreWanted, AreEnding, IsCursor, placing_of};
+ghost use Rattle.pci_settle.specs.Spots.{extent_value, IsExtent, AreRisingRanges, IsTakenBy, IsStart, place_if};
+ghost use Rattle.pci_settle.specs.Placings.{HasListAt, AreWanted, AreEnding, IsCursor, placing_of};
 
 use crate::extent::Extent;
 use crate::spot::{Start, first_place};
@@ -71,14 +71,14 @@ pub fn place_next<A: Allocator>(
     // without an address it has no last one, and of 0 there is no multiple
     requires extent { IsExtent extent }
     // what is free lies between two that follow one another
-    requires listed { AreListed taken.old.items }
+    requires listed { AreRisingRanges taken.old.items }
     // no place lies before it, so the search can begin there
     requires start { IsStart ranges.now taken.old.items extent start.old }
     ensures place { IfOk result (λ found. place_if found start.new.spot.at
         ≡ place_in_ranges (map decoded_range_of ranges.now)
         (map decoded_range_of taken.old.items) (extent_value extent)) }
     ensures taken { IfOk result (IsTakenBy taken.old.items taken.new.items extent start.new.spot) }
-    ensures listed { AreListed taken.new.items }
+    ensures listed { AreRisingRanges taken.new.items }
     ensures start { IfOk result (λ found. IsStart ranges.now taken.new.items extent start.new) }
 {
     if !first_place(ranges, taken.as_slice(), extent, start) {
@@ -113,9 +113,9 @@ pub fn place_all<A: Allocator + Copy, B: Allocator>(
     places: &mut [u64],
 ) -> Result<Option<usize>, OutOfMemory>
     // each names its list by index
-    requires wanted { All (HasList (length lists.now)) wanted.now }
+    requires wanted { All (HasListAt (length lists.now)) wanted.now }
     // what is free lies between two that follow one another
-    requires listed { AreListed taken.old.items }
+    requires listed { AreRisingRanges taken.old.items }
     // an extent's place stands at its index
     requires count { length places.old ≡ length wanted.now }
     ensures placing { IfOk result (λ lack. (ranges : Item → List DecodedRange) (items : List Item)
@@ -127,7 +127,7 @@ pub fn place_all<A: Allocator + Copy, B: Allocator>(
     // so the last address of each can be told
     ensures ends { IfOk result (λ lack. IfNone lack
         (AreEnding wanted.now places.new (length wanted.now))) }
-    ensures listed { AreListed taken.new.items }
+    ensures listed { AreRisingRanges taken.new.items }
 {
     let mut cursors = cursors_for(alloc, lists.len())?;
     for (index, wanted) in wanted.iter().enumerate() {

@@ -1,11 +1,11 @@
 //! The first free place in ranges of addresses.
 ghost use Rattle.std.specs.Prelude.{ℕ, ◌≡◌, ◌≤◌, ◌<◌, ◌+◌, ◌^◌, IfSome, IfNone, IsTrue, List, map, SomeIff};
 ghost use Rattle.std.specs.List.Sorted.{IsPermutation};
-ghost use Rattle.settle_spec.specs.FirstPlace.{is_spot, ends_in as place_ends_in, first_in, first_place as place_in_ranges};
+ghost use Rattle.settle_spec.specs.FirstPlace.{is_spot, ends_by as place_ends_in, first_place_in, first_place as place_in_ranges};
 ghost use Rattle.plan_spec.specs.Plan.{raised_to};
 ghost use Rattle.plan_spec.specs.Place.{range_from};
 ghost use Rattle.pci_base.specs.Ranges.{decoded_range_of};
-ghost use Rattle.pci_settle.specs.Spots.{extent_value, IsExtent, AreInOrder, IsBetween, IsSpotAt, place_of, place_if, IsReached, IsStart};
+ghost use Rattle.pci_settle.specs.Spots.{extent_value, IsExtent, FirstsRise, IsBetweenTaken, IsSpotAt, spot_place, place_if, IsReached, IsStart};
 
 use crate::extent::Extent;
 use pci_base::range::Range;
@@ -77,7 +77,7 @@ fn behind(range: Range, alignment: u64) -> Option<u64>
 /// above all addresses of 64 bits.
 fn next_spot(taken: &[Range], low: u64, from: Spot, extent: Extent) -> Option<Spot>
     requires extent { IsExtent extent }
-    requires order { AreInOrder taken.now }
+    requires order { FirstsRise taken.now }
     requires reached { IsReached taken.now low extent from }
     ensures found { IfSome result (IsSpotAt taken.now low extent) }
     ensures none { IfNone result ((b : ℕ)
@@ -106,7 +106,7 @@ pub fn first_spot(taken: &[Range], low: u64, extent: Extent) -> Option<Spot>
     // without an address it has no last one, and of 0 there is no multiple
     requires extent { IsExtent extent }
     // what is free lies between two that follow one another
-    requires order { AreInOrder taken.now }
+    requires order { FirstsRise taken.now }
     ensures found { IfSome result (IsSpotAt taken.now low extent) }
     ensures none { IfNone result ((b : ℕ)
         → IsTrue (is_spot low (map decoded_range_of taken.now) (extent_value extent) b)
@@ -128,9 +128,9 @@ fn ends_in(range: Range, extent: Extent, at: u64) -> bool
 /// The first place in a range, of which `from` says that it isn't below it.
 fn spot_in(range: Range, taken: &[Range], from: Spot, extent: Extent) -> Option<Spot>
     requires extent { IsExtent extent }
-    requires order { AreInOrder taken.now }
+    requires order { FirstsRise taken.now }
     requires reached { IsReached taken.now range.first extent from }
-    ensures place { place_of result ≡ first_in (decoded_range_of range)
+    ensures place { spot_place result ≡ first_place_in (decoded_range_of range)
         (map decoded_range_of taken.now) (extent_value extent) }
     ensures spot { IfSome result (IsSpotAt taken.now range.first extent) }
 {
@@ -147,13 +147,13 @@ pub fn first_place(ranges: &[Range], taken: &[Range], extent: Extent, start: &mu
     // without an address it has no last one, and of 0 there is no multiple
     requires extent { IsExtent extent }
     // what is free lies between two that follow one another
-    requires order { AreInOrder taken.now }
+    requires order { FirstsRise taken.now }
     // no place lies before it, so the search can begin there
     requires start { IsStart ranges.now taken.now extent start.old }
     ensures place { place_if result start.new.spot.at
         ≡ place_in_ranges (map decoded_range_of ranges.now)
         (map decoded_range_of taken.now) (extent_value extent) }
-    ensures between { IsTrue result → IsBetween taken.now extent start.new.spot }
+    ensures between { IsTrue result → IsBetweenTaken taken.now extent start.new.spot }
     // no place is before it, so that the next search can go on there
     ensures start { IsStart ranges.now taken.now extent start.new }
 {
@@ -171,7 +171,7 @@ pub fn first_place(ranges: &[Range], taken: &[Range], extent: Extent, start: &mu
 /// Sorts what is taken by rising first addresses, so that free places can be looked for along it.
 pub fn sort_by_first<A: Allocator>(taken: &mut Vec<Range, A>)
     ensures permutation { IsPermutation taken.old.items taken.new.items }
-    ensures order { AreInOrder taken.new.items }
+    ensures order { FirstsRise taken.new.items }
 {
     taken.sort_unstable_by_key(|range| range.first);
 }

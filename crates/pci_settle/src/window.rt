@@ -4,13 +4,13 @@ ghost use Rattle.std.specs.List.{All, AllPairs};
 ghost use Rattle.std.specs.List.Sorted.{IsPermutation};
 ghost use Rattle.pci_spec.specs.Window.{page_size};
 ghost use Rattle.plan_spec.specs.Plan.{greatest};
-ghost use Rattle.settle_spec.specs.FirstPlace.{least_of};
+ghost use Rattle.settle_spec.specs.FirstPlace.{least_number};
 ghost use Rattle.settle_spec.specs.Items.{Item as ItemValue, in_turn, laid_out, end_of as end_behind, extent_around};
 ghost use Rattle.settle_spec.specs.PlacingLaws.{HasLowerRank};
 ghost use Rattle.pci_base.specs.WindowKinds.{kind_value};
-ghost use Rattle.pci_settle.specs.Spots.{extent_value, IsExtent, AreListed};
+ghost use Rattle.pci_settle.specs.Spots.{extent_value, IsExtent, AreRisingRanges};
 ghost use Rattle.pci_settle.specs.Placings.{item_extent};
-ghost use Rattle.pci_settle.specs.Turns.{own_extent, HasExtent, IsValued};
+ghost use Rattle.pci_settle.specs.Turns.{extent_of_item, HasExtent, IsValued};
 ghost use Rattle.pci_settle.specs.Windows.{laid_last, IsLaidBy, alignments, highests, IsAround};
 
 use crate::extent::Extent;
@@ -28,11 +28,11 @@ fn laid_next<A: Allocator>(
     extent: Extent,
 ) -> Result<Option<u64>, OutOfMemory>
     requires extent { IsExtent extent }
-    requires listed { AreListed taken.old.items }
+    requires listed { AreRisingRanges taken.old.items }
     ensures end { IfOk result (λ end. SomeIff end
         (laid_last taken.old.items extent + 1 < 2 ^ 64) (laid_last taken.old.items extent + 1)) }
     ensures laid { IfOk result (IsLaidBy taken.old.items taken.new.items extent) }
-    ensures listed { AreListed taken.new.items }
+    ensures listed { AreRisingRanges taken.new.items }
 {
     let Some(spot) = first_spot(taken.as_slice(), 0, extent) else {
         return Ok(None);
@@ -94,7 +94,7 @@ fn alignment_around(page: u64, extents: &[Extent]) -> u64
 
 /// The least of an address and the highest ones that some extents may have.
 fn highest_around(highest: u64, extents: &[Extent]) -> u64
-    ensures { result ≡ least_of (highest ∷ highests (map extent_value extents.now)) }
+    ensures { result ≡ least_number (highest ∷ highests (map extent_value extents.now)) }
 {
     let mut least = highest;
     for extent in extents {
@@ -134,7 +134,7 @@ pub fn extent_around<A: Allocator>(
 
 /// The extents of items.
 fn extents_of<A: Allocator>(alloc: A, items: &[Item]) -> Result<Vec<Extent, A>, OutOfMemory>
-    ensures { IfOk result (λ extents. extents.items ≡ map own_extent items.now) }
+    ensures { IfOk result (λ extents. extents.items ≡ map extent_of_item items.now) }
 {
     let mut extents = Vec::new(alloc);
     for item in items {

@@ -9,8 +9,8 @@ use Rattle.pci_spec.specs.Window.{IoWindow, MemoryWindow, PrefetchWindow}
 use Rattle.pci_spec.specs.Decoded.{DecodedBar, DecodedRom, decoded_bar, decoded_rom}
 use Rattle.pci_spec.specs.System.{System, Function, Part, Bar, Rom, Window, register_of}
 use Rattle.pci_spec.specs.Mark.{AssumedRegister, is_size_assumed}
-use Rattle.settle_spec.specs.Parts.{Region, header_bars, header_parts}
-use Rattle.settle_spec.specs.Assumed.{is_assumed_part, is_assumed, all_parts_of, assumed_region}
+use Rattle.settle_spec.specs.Parts.{FunctionPart, header_bars, header_parts}
+use Rattle.settle_spec.specs.Assumed.{is_assumed_part, is_assumed_register, all_parts_of, assumed_region}
 use Rattle.pci_image.specs.declared.bar.Bar.{Bar as CodeBar}
 use Rattle.pci_image.specs.declared.rom.Rom.{Rom as CodeRom}
 use Rattle.pci_image.specs.Bars.{decoded_bar_of}
@@ -29,7 +29,7 @@ use Rattle.pci_settle_writes.proofs.Firsts.{first-append, first-filter, first-ma
 -- where no register is named none is found
 pub none_named : (s : System) → option_map assumed_part (assumed_region [] s) ≡ None
 none_named s = ap (option_map assumed_part) (none_found (flat_map all_parts_of s)) where
-  no_part : (x : Region) → is_assumed [] x ≡ false
+  no_part : (x : FunctionPart) → is_assumed_register [] x ≡ false
   no_part x = part_by x.function x.part where
     and_none : (b : Bool) → (b && false) ≡ false
     and_none true = refl
@@ -40,9 +40,9 @@ none_named s = ap (option_map assumed_part) (none_found (flat_map all_parts_of s
     part_by f Rom = and_none (has_rom f.image f.probe && rom_is_on f.image)
     part_by f (Window kind) = refl
 
-  none_found : (xs : List Region) → find (is_assumed []) xs ≡ None
+  none_found : (xs : List FunctionPart) → find (is_assumed_register []) xs ≡ None
   none_found [] = refl
-  none_found (x ∷ xs) = ap (λ b. cond b (Some x) (find (is_assumed []) xs)) (no_part x) ∙ none_found xs
+  none_found (x ∷ xs) = ap (λ b. cond b (Some x) (find (is_assumed_register []) xs)) (no_part x) ∙ none_found xs
 
 one_of : {X Z : Type 0} (value : X → Z) (b : Bool) (x : X) → option_map value (cond b (Some x) None) ≡ cond b (Some (value x)) None
 one_of value true x = refl
@@ -88,9 +88,9 @@ module _ (named : List AssumedRegister) (s : System) (f : Function) (r : Record)
       ∙ ap (λ o. option_or (first (register_of f) lacks (header_bars f)) o) (rom_is ∙ sym (one_of (register_of f) (lacks Rom) Rom))
       ∙ sym (first-append (register_of f) lacks (header_bars f) others)
 
-  pub record_is : record_assumed named r ≡ first assumed_part (is_assumed named) (all_parts_of f)
+  pub record_is : record_assumed named r ≡ first assumed_part (is_assumed_register named) (all_parts_of f)
   record_is =
       ap (option_map (Assumed r.slot)) parts_are
       ∙ ap (λ slot. option_map (Assumed slot) (first (register_of f) lacks (header_parts f))) (same_slot_of r f is.value)
       ∙ map_twice (Assumed f.slot) (register_of f) (find lacks (header_parts f))
-      ∙ sym (first-map assumed_part (is_assumed named) (λ p. record { function = f; part = p }) (header_parts f))
+      ∙ sym (first-map assumed_part (is_assumed_register named) (λ p. record { function = f; part = p }) (header_parts f))

@@ -24,7 +24,7 @@ use Rattle.pci_settle.specs.declared.own.Terms.{Terms}
 use Rattle.pci_settle.specs.Own.{AreTerms}
 use Rattle.pci_settle_writes.specs.declared.way.Way.{Way}
 use Rattle.pci_settle_writes.specs.Shut.{IsWay, is_image_changed, is_shut_by, closing_by}
-use Rattle.pci_settle_writes.specs.Stages.{AreOf, AreSettled}
+use Rattle.pci_settle_writes.specs.Stages.{AreOf, AreSettledBlocks}
 use Rattle.pci_settle_writes.proofs.StagedWrites.{same_at}
 use Rattle.pci_settle_writes.proofs.Ways.{on_root, behind_bridge, itself_is, shut_is, closing_is}
 
@@ -44,7 +44,7 @@ module _ (q : Request) (roots : List ℕ) (s : System) (system : IsSystem s) (ne
   -- ---- the next function
 
   module _ (k : ℕ) (f : Function) (r : Record) (at : slice_get s k ≡ Some f) (is : IsRecordOf s f r) (above : Above) (over : IsAbove s f.slot.bus above) (t : Terms) (terms : AreTerms q.lists t) where
-    module _ (start settled : List Block) (of : AreOf s start) (new : AreSettled q s settled) where
+    module _ (start settled : List Block) (of : AreOf s start) (new : AreSettledBlocks q s settled) where
       -- its address registers change where its blocks show it
       pub changed_is : (b n : Block) → b ≡ get_or start k b → n ≡ get_or settled k n → is_image_changed b.image n.image ≡ is_changed q s f
       changed_is b n b_at n_at =

@@ -4,7 +4,7 @@ use Rattle.std.specs.Bool.{if◌then◌else◌}
 use Rattle.pci_spec.specs.Machine.{Write}
 use Rattle.pci_spec.specs.System.{System, register_of}
 use Rattle.settle_spec.specs.Lists.{Request, are_bad_lists}
-use Rattle.settle_spec.specs.Parts.{Region}
+use Rattle.settle_spec.specs.Parts.{FunctionPart}
 use Rattle.settle_spec.specs.Stands.{stands}
 use Rattle.settle_spec.specs.Items.{stays}
 use Rattle.settle_spec.specs.Places.{lacking}
@@ -18,11 +18,11 @@ module _ (q : Request) (s : System) where
   pub ends_fine : are_bad_lists q.roots q.lists ≡ false → settle q s ≡ after_lists q s
   ends_fine fine = ap (λ b. if b then BadLists else after_lists q s) fine
 
-  abbrev by_staying : Option Region → Settling
+  abbrev by_staying : Option FunctionPart → Settling
   by_staying o = or_fixed o (or_lack (lacking q s) (then_writes q (settle_writes q s)))
 
   -- a fixed part doesn't stand
-  pub ends_unstanding : (r : Region) → fixed_without (stands q s) q s ≡ Some r → after_lists q s ≡ Fixed r.function.slot (register_of r.function r.part)
+  pub ends_unstanding : (r : FunctionPart) → fixed_without (stands q s) q s ≡ Some r → after_lists q s ≡ Fixed r.function.slot (register_of r.function r.part)
   ends_unstanding r is = ap (λ o. or_fixed o (by_staying (fixed_without (stays q s) q s))) is
 
   module _ (stand : fixed_without (stands q s) q s ≡ None) where
@@ -30,7 +30,7 @@ module _ (q : Request) (s : System) where
     past_standing = ap (λ o. or_fixed o (by_staying (fixed_without (stays q s) q s))) stand
 
     -- a fixed part doesn't stay
-    pub ends_unstaying : (r : Region) → fixed_without (stays q s) q s ≡ Some r → after_lists q s ≡ Fixed r.function.slot (register_of r.function r.part)
+    pub ends_unstaying : (r : FunctionPart) → fixed_without (stays q s) q s ≡ Some r → after_lists q s ≡ Fixed r.function.slot (register_of r.function r.part)
     ends_unstaying r is = past_standing ∙ ap by_staying is
 
     module _ (stay : fixed_without (stays q s) q s ≡ None) where

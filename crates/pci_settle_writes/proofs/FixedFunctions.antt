@@ -6,18 +6,18 @@ use Rattle.std.proofs.lemmas.List.{drop_more, drop_all}
 use Rattle.std.proofs.lemmas.Option.{slice_get_within, get_or_from_slice_get}
 use Rattle.pci_spec.specs.System.{System, Function}
 use Rattle.settle_spec.specs.Lists.{Request}
-use Rattle.settle_spec.specs.Parts.{Region}
-use Rattle.settle_spec.specs.Stands.{is_fixed}
+use Rattle.settle_spec.specs.Parts.{FunctionPart}
+use Rattle.settle_spec.specs.Stands.{is_fixed_part}
 use Rattle.pci_settle_writes.specs.declared.lack.SettleFault.{SettleFault}
 use Rattle.pci_settle_writes.specs.Fixed.{first}
 use Rattle.pci_settle_writes.proofs.Firsts.{first-append, or_some, or_none}
 
 -- a part of a fixed function that a table says no to
-abbrev pub off : Request → (Region → Bool) → Region → Bool
-off q test x = is_fixed q x && not (test x)
+abbrev pub off : Request → (FunctionPart → Bool) → FunctionPart → Bool
+off q test x = is_fixed_part q x && not (test x)
 
 -- what is told of a part, the parts of a function, and the test
-module _ (value : Region → SettleFault) (parts : Function → List Region) (found : Region → Bool) (s : System) where
+module _ (value : FunctionPart → SettleFault) (parts : Function → List FunctionPart) (found : FunctionPart → Bool) (s : System) where
   -- among the functions from place k on
   abbrev pub first_from : ℕ → Option SettleFault
   first_from k = first value found (flat_map parts (drop k s))

@@ -14,8 +14,8 @@ use Rattle.pci_spec.proofs.Members.{in_range_to}
 use Rattle.plan_spec.specs.Plan.{is_open}
 use Rattle.plan_spec.specs.Planning.Layout.{range_of}
 use Rattle.settle_spec.specs.Lists.{Request}
-use Rattle.settle_spec.specs.Parts.{Region, is_part, is_left, header_bars, header_parts, parts_of, regions_of}
-use Rattle.settle_spec.specs.Stands.{is_fixed}
+use Rattle.settle_spec.specs.Parts.{FunctionPart, is_part, is_left, header_bars, header_parts, parts_of, function_parts}
+use Rattle.settle_spec.specs.Stands.{is_fixed_part}
 use Rattle.pci_image.specs.declared.bar.Bar.{Bar as CodeBar}
 use Rattle.pci_image.specs.Bars.{decoded_bar_of}
 use Rattle.pci_function.specs.declared.record.Bridge.{Bridge}
@@ -56,8 +56,8 @@ first_of_four value false false true d x y z w = refl
 first_of_four value false false false true x y z w = refl
 first_of_four value false false false false x y z w = refl
 
-module _ (q : Request) (s : System) (f : Function) (r : Record) (is : IsRecordOf s f r) (above : Above) (over : IsAbove s f.slot.bus above) (t : Terms) (terms : AreTerms q.lists t) (told : Kept) (test : Region → Bool) where
-  abbrev region : Part → Region
+module _ (q : Request) (s : System) (f : Function) (r : Record) (is : IsRecordOf s f r) (above : Above) (over : IsAbove s f.slot.bus above) (t : Terms) (terms : AreTerms q.lists t) (told : Kept) (test : FunctionPart → Bool) where
+  abbrev region : Part → FunctionPart
   region part = record { function = f; part = part }
 
   abbrev IsTold : Type 0
@@ -157,10 +157,10 @@ module _ (q : Request) (s : System) (f : Function) (r : Record) (is : IsRecordOf
         ∙ sym (first-append (register_of f) lacks (header_bars f) others)
         ∙ sym (first-filter (register_of f) (is_part q s f) fails (header_parts f))
 
-    abbrev off : Region → Bool
-    off x = is_fixed q x && not (test x)
+    abbrev off : FunctionPart → Bool
+    off x = is_fixed_part q x && not (test x)
 
-    pub record_is : (fixed : Bool) → fixed ≡ list_any (same_slot f.slot) q.fixed → record_without fixed above t told r ≡ first fixed_part off (regions_of q s f)
+    pub record_is : (fixed : Bool) → fixed ≡ list_any (same_slot f.slot) q.fixed → record_without fixed above t told r ≡ first fixed_part off (function_parts q s f)
     record_is fixed same =
         let flag = list_any (same_slot f.slot) q.fixed in
         let told_by : (b : Bool) → cond b (option_map (Fixed r.slot) (part_without above t told r)) None ≡ first (λ part. fixed_part (region part)) (λ part. b && fails part) (parts_of q s f) = λ b.

@@ -9,7 +9,7 @@ use Rattle.pci_spec.specs.System.{System}
 use Rattle.pci_spec.specs.Decoded.{HasRecords}
 use Rattle.pci_spec.specs.Decoded as decoded
 use Rattle.settle_spec.specs.Lists.{Lists, Request}
-use Rattle.settle_spec.specs.Parts.{Region, regions}
+use Rattle.settle_spec.specs.Parts.{FunctionPart, system_parts}
 use Rattle.settle_spec.specs.Stands.{stands}
 use Rattle.settle_spec.specs.Items.{stays}
 use Rattle.settle_spec.proofs.Anew.{none_stands, none_stays}
@@ -31,11 +31,11 @@ use Rattle.pci_settle_writes.specs.Requests.{IsAskedOf}
 use Rattle.pci_settle_writes.specs.Told.{IsTableOf}
 use Rattle.settle_spec.specs.Writes.{fixed_without}
 use Rattle.pci_settle_writes.specs.Fixed.{fixed_part}
-use Rattle.pci_settle_writes.specs.Endings.{AreFixedKept, AreTold}
+use Rattle.pci_settle_writes.specs.Endings.{AreFixedKept, AreAskedFor}
 use Rattle.pci_settle_writes.proofs.Refusals.{fixed_kept}
 
 -- a table that has nothing, of a test that nothing passes
-table_of_none : (s : System) (test : Region → Bool) (table : List Kept) → ((r : Region) → test r ≡ false) → length table ≡ length s → AreNone table
+table_of_none : (s : System) (test : FunctionPart → Bool) (table : List Kept) → ((r : FunctionPart) → test r ≡ false) → length table ≡ length s → AreNone table
     → IsTableOf s test table
 table_of_none s test table never count none = record {
   count = count;
@@ -57,14 +57,14 @@ module _ (a : Admission) (l : Lists) where
   -- where all is placed anew
   module _ (table : List Kept) (count : length table ≡ length (system_in a)) (none : AreNone table) (q : Request) (is : IsAskedOf q a.roots l) (anew : IsTrue q.anew) where
     pub stand_anew : IsTableOf (system_in a) (stands q (system_in a)) table
-    stand_anew = table_of_none (system_in a) (stands q (system_in a)) table (none_stands q (system_in a) anew (length (regions q (system_in a)))) count none
+    stand_anew = table_of_none (system_in a) (stands q (system_in a)) table (none_stands q (system_in a) anew (length (system_parts q (system_in a)))) count none
 
     stay_anew : IsTableOf (system_in a) (stays q (system_in a)) table
     stay_anew = table_of_none (system_in a) (stays q (system_in a)) table (none_stays q (system_in a) anew) count none
 
     -- the table says no to nothing that is fixed
-    pub told_anew : (left : Left) → left.over.now ≡ [] → left.kept.now ≡ [] → ((test : Region → Bool) → IsTableOf (system_in a) test table → None ≡ option_map fixed_part (fixed_without test q (system_in a)))
-        → AreTold q a l left table
+    pub told_anew : (left : Left) → left.over.now ≡ [] → left.kept.now ≡ [] → ((test : FunctionPart → Bool) → IsTableOf (system_in a) test table → None ≡ option_map fixed_part (fixed_without test q (system_in a)))
+        → AreAskedFor q a l left table
     told_anew left no_windows none_kept found = record {
       asked = is;
       leaving = leaves a.roots (system_in a) l left no_windows none_kept q record { rooted = is.roots_are; anew = anew; lists = is.lists_are };
@@ -97,7 +97,7 @@ module _ (a : Admission) (l : Lists) where
     pub rest_can_be_left : CanBeLeft a.roots (system_in a) l left
     rest_can_be_left = record { request = asked a.roots l fixed; leaving = leaving_rest }
 
-    pub told_rest : AreFixedKept (asked a.roots l fixed) (system_in a) → AreTold (asked a.roots l fixed) a l left staying
+    pub told_rest : AreFixedKept (asked a.roots l fixed) (system_in a) → AreAskedFor (asked a.roots l fixed) a l left staying
     told_rest kept = record {
       asked = asked_is fixed;
       leaving = leaving_rest;

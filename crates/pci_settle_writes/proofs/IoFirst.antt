@@ -25,11 +25,11 @@ use Rattle.pci_settled.specs.declared.anew.Unplaced.{Unplaced}
 use Rattle.pci_settled.specs.declared.anew.Unplaced.TheVariants as unplaced
 use Rattle.pci_settled.specs.Candidates.{candidate_value}
 use Rattle.pci_settle.specs.declared.over.Left.{Left}
-use Rattle.pci_settled.specs.Placed.{IsFirstTooLarge, IsLeaving, IsUnplacedOff}
+use Rattle.pci_settled.specs.Placed.{IsFirstWindowTooLarge, IsLeaving, IsUnplacedOff}
 use Rattle.pci_stay.specs.declared.windows.TooLarge.{TooLarge}
 use Rattle.pci_settle_writes.specs.declared.lack.SettleFault.{SettleFault}
 use Rattle.pci_settle_writes.specs.declared.lack.SettleFault.TheVariants as fault
-use Rattle.pci_settle_writes.specs.Lacks.{IsFaultOf, too_large, unplaced_class}
+use Rattle.pci_settle_writes.specs.Lacks.{IsSettleFaultOf, too_large, unplaced_class}
 use Rattle.pci_settle_writes.specs.Endings.{IsLack, IsLargeInIo}
 use Rattle.settle_spec.specs.Writes.{or_lack}
 use Rattle.pci_settled.specs.Spaces.{space_lack}
@@ -110,7 +110,7 @@ large_by_all q s k is = record {
 -- the first that can't be placed in the lists of I/O alone
 abbrev pub IsAlone : Request → System → Unplaced → Type 0
 IsAlone q s (unplaced.Lacks x) = lacking (io_alone q) s ≡ Some (candidate_value s x)
-IsAlone q s (unplaced.TooLarge class k) = IsFirstTooLarge (io_alone q) s (kind_value class) k
+IsAlone q s (unplaced.TooLarge class k) = IsFirstWindowTooLarge (io_alone q) s (kind_value class) k
 
 pub class_io : (c : WindowKind) → same_class c IoWindow ≡ true → c ≡ IoWindow
 class_io c is = sym (same_class_is c IoWindow is)
@@ -129,7 +129,7 @@ alone_room q s (unplaced.Lacks x) is memory = alone_memory q s (candidate_value 
 alone_room q s (unplaced.TooLarge class k) is memory = alone_free q s (is.io memory)
 
 -- and where it is, it is what has no place
-pub alone_fault : (a : Admission) (q : Request) (u : Unplaced) (f : SettleFault) → IsAlone q (system_in a) u → kind_value (unplaced_class u) ≡ IoWindow → IsFaultOf (system_in a) u f → IsLack a q (refused.Fault f)
+pub alone_fault : (a : Admission) (q : Request) (u : Unplaced) (f : SettleFault) → IsAlone q (system_in a) u → kind_value (unplaced_class u) ≡ IoWindow → IsSettleFaultOf (system_in a) u f → IsLack a q (refused.Fault f)
 alone_fault a q (unplaced.Lacks x) fault.BadLists is io of = absurd of
 alone_fault a q (unplaced.Lacks x) (fault.Assumed slot reg) is io of = absurd of
 alone_fault a q (unplaced.Lacks x) (fault.TooLarge class slot) is io of = absurd of
@@ -164,7 +164,7 @@ alone_large a q (refused.Fault (fault.TooLarge class slot)) is =
       λ memory. absurd (let both : Io ≡ Memory = sym (ap window_space is.0) ∙ memory in let no : ⊥ = cc in no),
     )
 
-pub large_in_io : (a : Admission) (q : Request) (w : TooLarge) (f : SettleFault) → (kind_value w.class ≡ IoWindow) × IsTooLarge q (system_in a) IoWindow w.function → IsFaultOf (system_in a) (too_large w) f
+pub large_in_io : (a : Admission) (q : Request) (w : TooLarge) (f : SettleFault) → (kind_value w.class ≡ IoWindow) × IsTooLarge q (system_in a) IoWindow w.function → IsSettleFaultOf (system_in a) (too_large w) f
     → IsLargeInIo a q (refused.Fault f)
 large_in_io a q w fault.BadLists is of = absurd of
 large_in_io a q w (fault.Assumed slot reg) is of = absurd of

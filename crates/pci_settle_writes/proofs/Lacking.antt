@@ -13,7 +13,7 @@ use Rattle.pci_spec.specs.System.{System, Function, Space, Io, Memory, IsFunctio
 use Rattle.settle_spec.specs.FirstPlace.{first_place}
 use Rattle.settle_spec.specs.Lists.{Request}
 use Rattle.settle_spec.specs.Items.{Item, Placing, AllPlaced, Lacks, and_placed, place_next, place_all, taken_by}
-use Rattle.settle_spec.specs.Places.{placed_of, space_items, taken_at, ranges_for, placing_within, placing_on, first_lack, lacking_on, lacking}
+use Rattle.settle_spec.specs.Places.{placed_of, space_items, taken_at, ranges_of_item, placing_within, placing_on, first_lack, lacking_on, lacking}
 use Rattle.settle_spec.specs.Writes.{Settling, NoRoom, or_lack}
 use Rattle.settle_spec.proofs.Buses.{of_space}
 use Rattle.pci_spec.proofs.Members.{in_head, in_tail}
@@ -24,10 +24,10 @@ use Rattle.pci_place.specs.Items.{no_function, function_in}
 use Rattle.pci_place.specs.Records.{IsRecordOf}
 use Rattle.pci_settle.specs.declared.item.Part.{Part as CodePart}
 use Rattle.pci_settle.specs.declared.item.Part.TheVariants as parts
-use Rattle.pci_settle.specs.Own.{part_value}
+use Rattle.pci_settle.specs.Own.{class_part}
 use Rattle.pci_settled.specs.declared.candidate.Candidate.{Candidate}
 use Rattle.pci_settled.specs.Candidates.{candidate_value}
-use Rattle.pci_settled.specs.Places.{IsPart}
+use Rattle.pci_settled.specs.Places.{IsPlacesPart}
 use Rattle.pci_settled.proofs.Parts.{real_in}
 use Rattle.pci_settle_writes.specs.Lacks.{part_register, lack_by, no_room}
 
@@ -54,7 +54,7 @@ pub record IsItem (q : Request) (s : System) (i : Item) : Type 0 where
   pub has : Contains (space_items q s space bus) i
 
 placing_step : (q : Request) (s : System) (space : Space) (bus : ℕ)
-    → placing_on q s space bus ≡ place_all (ranges_for q s (λ over. placed_of (placing_within q s space 255 over))) (taken_at q s space bus) (space_items q s space bus)
+    → placing_on q s space bus ≡ place_all (ranges_of_item q s (λ over. placed_of (placing_within q s space 255 over))) (taken_at q s space bus) (space_items q s space bus)
 unfolding placing_within
 placing_step q s space bus = refl
 
@@ -64,7 +64,7 @@ first_cases (Lacks j) other i e = inl cc
 
 module _ (q : Request) (s : System) where
   pub space_has : (space : Space) (bus : ℕ) (i : Item) → placing_on q s space bus ≡ Lacks i → Contains (space_items q s space bus) i
-  space_has space bus i e = lacks_in (ranges_for q s (λ over. placed_of (placing_within q s space 255 over))) (taken_at q s space bus) (space_items q s space bus) i (sym (placing_step q s space bus) ∙ e)
+  space_has space bus i e = lacks_in (ranges_of_item q s (λ over. placed_of (placing_within q s space 255 over))) (taken_at q s space bus) (space_items q s space bus) i (sym (placing_step q s space bus) ∙ e)
 
   on_bus : (space : Space) (bus : ℕ) (i : Item) → placing_on q s space bus ≡ Lacks i → IsItem q s i
   on_bus space bus i e = record { space = space; bus = bus; has = space_has space bus i e }
@@ -106,7 +106,7 @@ module _ (s : System) (system : IsSystem s) (x : Candidate) where
   abbrev f : Function
   f = function_in s x.item.function
 
-  part_by : (part : CodePart) → has_part f (part_value (kind_value x.class) part) ≡ true → IsPart part
+  part_by : (part : CodePart) → has_part f (class_part (kind_value x.class) part) ≡ true → IsPlacesPart part
   part_by (parts.Bar n) there =
       let low = ltb-true n (bar_count (layout f.image)) there in
       let few = few_by (layout f.image == 1) in
@@ -114,7 +114,7 @@ module _ (s : System) (system : IsSystem s) (x : Candidate) where
   part_by parts.Rom there = tt
   part_by parts.Window there = tt
 
-  pub lack_named : (q : Request) → lacking q s ≡ Some (candidate_value s x) → (x.item.function < length s) × IsPart x.item.part
+  pub lack_named : (q : Request) → lacking q s ≡ Some (candidate_value s x) → (x.item.function < length s) × IsPlacesPart x.item.part
   lack_named q e =
       let item = lack_is_item q s (candidate_value s x) e in
       let listed = (of_space q s item.space item.bus (candidate_value s x) item.has).listed in
@@ -124,7 +124,7 @@ module _ (s : System) (system : IsSystem s) (x : Candidate) where
 -- ---- how it is named
 
 register_by : (f : Function) (r : Record) (bridge : is_some r.bridge ≡ is_bridge f) (x : Candidate) (part : CodePart)
-    → register_of f (part_value (kind_value x.class) part) ≡ part_register (is_some r.bridge) (kind_value x.class) part
+    → register_of f (class_part (kind_value x.class) part) ≡ part_register (is_some r.bridge) (kind_value x.class) part
 register_by f r bridge x (parts.Bar n) = refl
 register_by f r bridge x parts.Rom = sym (ap rom_place bridge)
 register_by f r bridge x parts.Window = refl
@@ -135,6 +135,6 @@ lack_is s x f r at is other =
     let here : function_in s x.item.function ≡ f = get_or_from_slice_get s x.item.function f no_function at in
     let slot : f.slot ≡ r.slot = sym (same_slot_of r f is.value) in
     let register = register_by f r (same_bridge r f is.value) x x.item.part in
-    ap (λ (g : Function). NoRoom c g.slot (register_of g (part_value c x.item.part)) x.item.extent.size x.item.extent.alignment) here
-    ∙ ap (λ (t : Slot). NoRoom c t (register_of f (part_value c x.item.part)) x.item.extent.size x.item.extent.alignment) slot
+    ap (λ (g : Function). NoRoom c g.slot (register_of g (class_part c x.item.part)) x.item.extent.size x.item.extent.alignment) here
+    ∙ ap (λ (t : Slot). NoRoom c t (register_of f (class_part c x.item.part)) x.item.extent.size x.item.extent.alignment) slot
     ∙ ap (λ (n : ℕ). NoRoom c r.slot n x.item.extent.size x.item.extent.alignment) register

@@ -8,8 +8,8 @@ use Rattle.pci_spec.specs.Machine.{Write}
 use Rattle.pci_spec.specs.Slot.{same_slot}
 use Rattle.pci_spec.specs.System.{System, IsSystem, Io, Memory, window_space}
 use Rattle.settle_spec.specs.Lists.{Lists, Request, are_bad_lists}
-use Rattle.settle_spec.specs.Parts.{Region, regions}
-use Rattle.settle_spec.specs.Stands.{is_fixed, stands}
+use Rattle.settle_spec.specs.Parts.{FunctionPart, system_parts}
+use Rattle.settle_spec.specs.Stands.{is_fixed_part, stands}
 use Rattle.settle_spec.specs.Items.{stays}
 use Rattle.settle_spec.specs.Places.{lacking}
 use Rattle.settle_spec.specs.Writes.{Settled, or_lack, fixed_without, fixed_write, settle_writes}
@@ -28,14 +28,14 @@ use Rattle.pci_stay.specs.declared.windows.TooLarge.{TooLarge}
 use Rattle.pci_stay.specs.Windows.{HasWholeWindow}
 use Rattle.pci_settle_writes.specs.declared.lack.SettleFault.{SettleFault}
 use Rattle.pci_settle_writes.specs.declared.lack.SettleFault.TheVariants as fault
-use Rattle.pci_settle_writes.specs.Lacks.{IsNamed, IsFaultOf, too_large}
+use Rattle.pci_settle_writes.specs.Lacks.{IsOfSystem, IsSettleFaultOf, too_large}
 use Rattle.pci_settle_writes.specs.Fixed.{fixed_part, fixed_register}
-use Rattle.pci_settle_writes.specs.Endings.{then_writes, after_lists, AreFixedKept, IsStayKnown, IsTooLargeAsked, IsLack, IsLackOff, IsEndedBy, IsRefusal, IsSized}
+use Rattle.pci_settle_writes.specs.Endings.{then_writes, after_lists, AreFixedKept, IsStayKnown, IsTooLargeAsked, IsLack, IsLackOff, IsEndedBy, IsRefusal, HasNoAssumed}
 use Rattle.pci_settle_writes.proofs.Lacking.{lack_named}
 use Rattle.pci_settle_writes.proofs.Endings.{ends_fine, ends_unstanding, ends_unstaying, ends_written, ends_settled, past_fixed}
 
 module _ (roots : List ℕ) (l : Lists) (left : Left) where
-  pub named : (s : System) → IsSystem s → CanBeLeft roots s l left → (u : Unplaced) → IsUnplacedOff roots s l left (refused.Fault u) → IsNamed s u
+  pub named : (s : System) → IsSystem s → CanBeLeft roots s l left → (u : Unplaced) → IsUnplacedOff roots s l left (refused.Fault u) → IsOfSystem s u
   named s system can (unplaced.Lacks x) is = lack_named s system x can.request (is can.request can.leaving)
   named s system can (unplaced.TooLarge class k) is = (is can.request can.leaving).large.within
 
@@ -49,7 +49,7 @@ none_in p none [] = refl
 none_in p none (x ∷ xs) = ap (λ b. cond b (Some x) (find p xs)) (none x) ∙ none_in p none xs
 
 module _ (a : Admission) (l : Lists) (left : Left) where
-  pub lack_of_fault : (u : Unplaced) (f : SettleFault) → IsUnplacedOff a.roots (system_in a) l left (refused.Fault u) → IsFaultOf (system_in a) u f
+  pub lack_of_fault : (u : Unplaced) (f : SettleFault) → IsUnplacedOff a.roots (system_in a) l left (refused.Fault u) → IsSettleFaultOf (system_in a) u f
       → IsLackOff a l left (refused.Fault f)
   lack_of_fault (unplaced.Lacks x) fault.BadLists is of = absurd of
   lack_of_fault (unplaced.Lacks x) (fault.Assumed slot reg) is of = absurd of
@@ -71,12 +71,12 @@ module _ (a : Admission) (l : Lists) (left : Left) where
 
 module _ (a : Admission) (q : Request) where
   -- where nothing is fixed, each fixed part stays
-  no_fixed : (test : Region → Bool) → q.fixed ≡ [] → fixed_without test q (system_in a) ≡ None
-  no_fixed test none = none_in (λ r. is_fixed q r && not (test r)) (λ r. ap (λ slots. list_any (same_slot r.function.slot) slots && not (test r)) none) (regions q (system_in a))
+  no_fixed : (test : FunctionPart → Bool) → q.fixed ≡ [] → fixed_without test q (system_in a) ≡ None
+  no_fixed test none = none_in (λ r. is_fixed_part q r && not (test r)) (λ r. ap (λ slots. list_any (same_slot r.function.slot) slots && not (test r)) none) (system_parts q (system_in a))
 
   -- a bridge whose new window is too large, and nothing is fixed only where nothing lacks a place in I/O
   pub asked_too_large : (w : TooLarge) (f : SettleFault) → IsTooLarge q (system_in a) (kind_value w.class) w.function → HasWholeWindow (system_in a)
-      → IsFaultOf (system_in a) (too_large w) f → (q.fixed ≡ [] → space_lack q (system_in a) Io q.roots ≡ None) → IsTooLargeAsked a q (refused.Fault f)
+      → IsSettleFaultOf (system_in a) (too_large w) f → (q.fixed ≡ [] → space_lack q (system_in a) Io q.roots ≡ None) → IsTooLargeAsked a q (refused.Fault f)
   asked_too_large w fault.BadLists large whole of room = absurd of
   asked_too_large w (fault.Assumed slot reg) large whole of room = absurd of
   asked_too_large w (fault.NoRoom lack) large whole of room = absurd of
@@ -123,10 +123,10 @@ module _ (a : Admission) (q : Request) where
   ended_too_large left stand (refused.Fault (fault.Fixed slot reg)) is = absurd is
 
   -- something fixed is in the way
-  ended_fixed : (f : SettleFault) (r : Region) → Some f ≡ Some (fixed_part r) → IsEndedBy a q (refused.Fault (fixed_part r)) → IsEndedBy a q (refused.Fault f)
+  ended_fixed : (f : SettleFault) (r : FunctionPart) → Some f ≡ Some (fixed_part r) → IsEndedBy a q (refused.Fault (fixed_part r)) → IsEndedBy a q (refused.Fault f)
   ended_fixed f r e is = subst (λ x. IsEndedBy a q (refused.Fault x)) (sym (same_Some f (fixed_part r) e)) is
 
-  unstanding_by : (f : SettleFault) (o : Option Region) → fixed_without (stands q (system_in a)) q (system_in a) ≡ o → Some f ≡ option_map fixed_part o → IsEndedBy a q (refused.Fault f)
+  unstanding_by : (f : SettleFault) (o : Option FunctionPart) → fixed_without (stands q (system_in a)) q (system_in a) ≡ o → Some f ≡ option_map fixed_part o → IsEndedBy a q (refused.Fault f)
   unstanding_by f None at e = absurd (none-some f (sym e))
   unstanding_by f (Some r) at e = ended_fixed f r e (ends_unstanding q (system_in a) r at)
 
@@ -134,7 +134,7 @@ module _ (a : Admission) (q : Request) where
   unstanding f e = unstanding_by f (fixed_without (stands q (system_in a)) q (system_in a)) refl e
 
   module _ (stand : None ≡ option_map fixed_part (fixed_without (stands q (system_in a)) q (system_in a))) where
-    unstaying_by : (f : SettleFault) (o : Option Region) → fixed_without (stays q (system_in a)) q (system_in a) ≡ o → Some f ≡ option_map fixed_part o → IsEndedBy a q (refused.Fault f)
+    unstaying_by : (f : SettleFault) (o : Option FunctionPart) → fixed_without (stays q (system_in a)) q (system_in a) ≡ o → Some f ≡ option_map fixed_part o → IsEndedBy a q (refused.Fault f)
     unstaying_by f None at e = absurd (none-some f (sym e))
     unstaying_by f (Some r) at e = ended_fixed f r e (ends_unstaying q (system_in a) (none_found fixed_part (fixed_without (stands q (system_in a)) q (system_in a)) stand) r at)
 
@@ -172,7 +172,7 @@ module _ (a : Admission) (q : Request) where
       ended_settled none = ends_settled q (system_in a) kept.stand kept.stay room writes are (none_found fixed_register (fixed_write q writes) none)
 
   -- where the lists are fine, and no read back is assumed
-  pub refusal_of_ended : are_bad_lists q.roots q.lists ≡ false → IsSized a → (e : Refused SettleFault) → IsEndedBy a q e → IsRefusal a q e
+  pub refusal_of_ended : are_bad_lists q.roots q.lists ≡ false → HasNoAssumed a → (e : Refused SettleFault) → IsEndedBy a q e → IsRefusal a q e
   refusal_of_ended fine sized refused.Memory is = tt
   refusal_of_ended fine sized (refused.Fault fault.BadLists) is = absurd is
   refusal_of_ended fine sized (refused.Fault (fault.Assumed slot reg)) is = absurd is

@@ -28,11 +28,11 @@ use Rattle.pci_place.specs.Records.{IsRecordOf}
 use Rattle.pci_settle.specs.declared.own.Terms.{Terms}
 use Rattle.pci_settle.specs.Own.{AreTerms}
 use Rattle.pci_settled.specs.declared.places.Places.{Places}
-use Rattle.pci_settled.specs.Places.{range_in}
-use Rattle.pci_settling.specs.Images.{is_kept, IsPlaced}
-use Rattle.pci_settling.specs.Live.{IsRequestOf, HasAllPlaces, AreLiveBuses, is_live_on, is_live_behind}
+use Rattle.pci_settled.specs.Places.{place_range_in}
+use Rattle.pci_settling.specs.Images.{is_window_kept, HasPlacesAndWindows}
+use Rattle.pci_settling.specs.Live.{IsRequestOfTerms, HasAllPlaces, AreLiveBuses, is_live_on, is_live_behind}
 use Rattle.pci_settling.specs.declared.settled.Behind.{Behind}
-use Rattle.pci_settling.specs.Settled.{IsTold}
+use Rattle.pci_settling.specs.Settled.{IsCommandTold}
 use Rattle.pci_plan.proofs.PlannedDumps.{ArePlanned, next_planned, function_here}
 use Rattle.pci_settle.specs.declared.kept.Kept.{Kept}
 use Rattle.pci_settle.specs.Kept.{kept_of}
@@ -41,19 +41,19 @@ use Rattle.pci_settle_writes.specs.Told.{IsTableOf}
 
 -- ---- what is asked for
 
-pub request_by : (q : Request) (roots : List ℕ) (l : Lists) (t : Terms) → IsAskedOf q roots l → AreTerms l t → IsRequestOf q roots t
+pub request_by : (q : Request) (roots : List ℕ) (l : Lists) (t : Terms) → IsAskedOf q roots l → AreTerms l t → IsRequestOfTerms q roots t
 request_by q roots l t asked terms = record { rooted = asked.roots_are; terms = subst (λ x. AreTerms x t) (sym asked.lists_are) terms }
 
 -- ---- what stays
 
-kept_window : (t : Kept) (c : WindowKind) → is_kept t.windows c ≡ kept_of t (Window c)
+kept_window : (t : Kept) (c : WindowKind) → is_window_kept t.windows c ≡ kept_of t (Window c)
 kept_window t IoWindow = refl
 kept_window t MemoryWindow = refl
 kept_window t PrefetchWindow = refl
 
 -- ---- what is told of a function
 
-module _ (roots : List ℕ) (s : System) (system : IsSystem s) (nested : IsNested roots s) (q : Request) (t : Terms) (table : List Places) (of : IsRequestOf q roots t) (placed : HasAllPlaces q s table) where
+module _ (roots : List ℕ) (s : System) (system : IsSystem s) (nested : IsNested roots s) (q : Request) (t : Terms) (table : List Places) (of : IsRequestOfTerms q roots t) (placed : HasAllPlaces q s table) where
   -- the table of buses with live functions says whether the bus behind a bridge is one
   behind_now : (space : Space) (live : List Bool) → AreLiveBuses roots s space t table live → (f : Function) (r : Record) → IsRecordOf s f r → is_live_behind live r.bridge ≡ has_live_behind s (is_live q s space) f
   behind_now space live has f r is = by r.bridge refl
@@ -74,13 +74,13 @@ module _ (roots : List ℕ) (s : System) (system : IsSystem s) (nested : IsNeste
 
   -- the places of a function are right, and the windows that stay
   pub placed_here : (staying : List Kept) → IsTableOf s (stays q s) staying → (k : ℕ) (f : Function) (r : Record) → slice_get s k ≡ Some f → IsRecordOf s f r
-      → (d p : Places) → p ≡ get_or table k d → (n h : Kept) → h ≡ get_or staying k n → IsPlaced q s f r p h.windows
+      → (d p : Places) → p ≡ get_or table k d → (n h : Kept) → h ≡ get_or staying k n → HasPlacesAndWindows q s f r p h.windows
   placed_here staying stay k f r at is d p p_is n h h_is = record {
     places = record {
       system = system;
       nested = nested_for;
       is = is;
-      each = λ part there. ap (λ x. range_in x part) p_is ∙ placed.each k f d part at there;
+      each = λ part there. ap (λ x. place_range_in x part) p_is ∙ placed.each k f d part at there;
     };
     windows = λ c there. kept_window h c ∙ ap (λ x. kept_of x (Window c)) h_is ∙ stay.each k f n (Window c) at there;
   }
@@ -88,7 +88,7 @@ module _ (roots : List ℕ) (s : System) (system : IsSystem s) (nested : IsNeste
   -- and so is what tells its Command
   pub told_here : (io memory : List Bool) → AreLiveBuses roots s Io t table io → AreLiveBuses roots s Memory t table memory → (aboves : List Above) → AreAboves s aboves
       → (f : Function) (r : Record) → IsRecordOf s f r → (bus : ℕ) → bus ≡ f.slot.bus → (none : Above) (here : Behind) → here.io ≡ is_live_behind io r.bridge → here.memory ≡ is_live_behind memory r.bridge
-      → IsTold q s f (get_or aboves bus none) t here
+      → IsCommandTold q s f (get_or aboves bus none) t here
   told_here io memory io_is memory_is aboves are f r is bus on_bus none here here_io_is here_memory_is = record {
     over = subst (λ n. IsAbove s f.slot.bus (get_or aboves n none)) (sym on_bus) (are f none is.listed);
     terms = of.terms;

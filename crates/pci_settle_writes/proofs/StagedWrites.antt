@@ -14,7 +14,7 @@ use Rattle.settle_spec.specs.Registers.{settled_function}
 use Rattle.settle_spec.specs.Writes.{change_of, closing_command, closing_from, opening_from, closings}
 use Rattle.pci_plan.specs.Writes.{block_change}
 use Rattle.pci_plan.proofs.WriteLists.{flat_map_more}
-use Rattle.pci_settle_writes.specs.Stages.{AreOf, AreClosed, AreSettled, command_at}
+use Rattle.pci_settle_writes.specs.Stages.{AreOf, AreClosed, AreSettledBlocks, command_at}
 
 -- ---- what stands side by side
 
@@ -38,7 +38,7 @@ module _ (q : Request) (s : System) where
         let value : c ≡ closing_command q s f = c_at ∙ ap (λ cs. get_or cs k c) are ∙ get_or-map (closing_command q s) s k f c within ∙ ap (closing_command q s) (sym f_at) in
         ap (λ x. command_at x (command b.image) c) slot ∙ ap (λ x. command_at f.slot (command x) c) image ∙ ap (command_at f.slot (command f.image)) value
 
-    pub opening_at : (start settled : List Block) (closed : List ℕ) → AreOf s start → AreClosed q s closed → AreSettled q s settled → (b n : Block) (c : ℕ) → b ≡ get_or start k b → n ≡ get_or settled k n → c ≡ get_or closed k c
+    pub opening_at : (start settled : List Block) (closed : List ℕ) → AreOf s start → AreClosed q s closed → AreSettledBlocks q s settled → (b n : Block) (c : ℕ) → b ≡ get_or start k b → n ≡ get_or settled k n → c ≡ get_or closed k c
         → command_at b.slot c (command n.image) ≡ opening_from q s f
     opening_at start settled closed of are new b n c b_at n_at c_at =
         let slot = same_at (λ (x : Block). x.slot) (λ (x : Function). x.slot) start s of.slots k b f within b_at f_at in
@@ -49,7 +49,7 @@ module _ (q : Request) (s : System) where
     abbrev bare : Slot → List ℕ → Function
     bare slot image = record { slot = slot; image = image; probe = [] }
 
-    pub setting_at : (start settled : List Block) → AreOf s start → AreSettled q s settled → (b n : Block) → b ≡ get_or start k b → n ≡ get_or settled k n
+    pub setting_at : (start settled : List Block) → AreOf s start → AreSettledBlocks q s settled → (b n : Block) → b ≡ get_or start k b → n ≡ get_or settled k n
         → registers_of (block_change b n) ≡ registers_of (change_of q s f)
     setting_at start settled of new b n b_at n_at =
         let slot = same_at (λ (x : Block). x.slot) (λ (x : Function). x.slot) start s of.slots k b f within b_at f_at in
@@ -115,7 +115,7 @@ module _ (q : Request) (s : System) (start : List Block) (of : AreOf s start) wh
       ∙ closing_more before k at
       ∙ ap (λ n. before ++ closings q s (drop n s)) last
 
-  module _ (k : ℕ) (less : k < length start) (settled : List Block) (new : AreSettled q s settled) (b n : Block) (b_at : b ≡ get_or start k b) (n_at : n ≡ get_or settled k n) (before so_far all : List Write) where
+  module _ (k : ℕ) (less : k < length start) (settled : List Block) (new : AreSettledBlocks q s settled) (b n : Block) (b_at : b ≡ get_or start k b) (n_at : n ≡ get_or settled k n) (before so_far all : List Write) where
     within : k < length s
     within = let count = count_of s start of in omega (arith, count, less)
 

@@ -10,7 +10,7 @@ use Rattle.pci_tree.specs.Admission.{Admission, IsAdmitted}
 use Rattle.pci_place.specs.Above.{system_in}
 use Rattle.pci_place.proofs.Owned.{map_twice}
 use Rattle.pci_settle_writes.specs.Dumps.{IsSettledDump}
-use Rattle.pci_settle_writes.specs.Stages.{AreOf, AreSettled}
+use Rattle.pci_settle_writes.specs.Stages.{AreOf, AreSettledBlocks}
 
 images_in : (blocks probe : List Block) → length blocks ≡ length probe → map (λ (f : Function). f.image) (system_of blocks probe) ≡ map (λ (b : Block). b.image) blocks
 images_in [] probe same = refl
@@ -33,7 +33,7 @@ module _ (a : Admission) (is : IsAdmitted a) where
     settled_count : length settled ≡ length a.dump
     settled_count = same_length settled a.dump to.slots
 
-    pub settled_of : AreSettled q (system_in a) settled
+    pub settled_of : AreSettledBlocks q (system_in a) settled
     settled_of =
         sym (images_in settled a.probe (settled_count ∙ same_length a.dump a.probe is.slots))
         ∙ ap (λ (s : System). map (λ (f : Function). f.image) s) to.system

@@ -4,7 +4,7 @@ use Rattle.std.specs.Bool.{if◌then◌else◌}
 use Rattle.pci_spec.specs.Machine.{Write}
 use Rattle.pci_spec.specs.System.{System}
 use Rattle.settle_spec.specs.Lists.{Request, are_bad_lists}
-use Rattle.settle_spec.specs.Parts.{Region}
+use Rattle.settle_spec.specs.Parts.{FunctionPart}
 use Rattle.settle_spec.specs.Stands.{stands}
 use Rattle.settle_spec.specs.Items.{Item, stays}
 use Rattle.settle_spec.specs.Places.{lacking}
@@ -21,7 +21,7 @@ from_lists : (bad : Bool) (other : Settling) (writes : List Write) → (if bad t
 from_lists true other writes is = cc
 from_lists false other writes is = is
 
-from_fixed : (o : Option Region) (other : Settling) (writes : List Write) → or_fixed o other ≡ Settled writes → other ≡ Settled writes
+from_fixed : (o : Option FunctionPart) (other : Settling) (writes : List Write) → or_fixed o other ≡ Settled writes → other ≡ Settled writes
 from_fixed None other writes is = is
 from_fixed (Some r) other writes is = cc
 

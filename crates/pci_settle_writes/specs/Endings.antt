@@ -120,7 +120,7 @@ IsLackOff a l left e = (q : Request) → IsLeaving q a.roots (system_in a) l lef
 -- ---- with a table of what stays
 
 -- it is that of what is asked for, and nothing fixed is in the way
-pub record AreTold (q : Request) (a : Admission) (l : Lists) (left : Left)
+pub record AreAskedFor (q : Request) (a : Admission) (l : Lists) (left : Left)
     (staying : List Kept) : Type 0 where
   pub asked : IsAskedOf q a.roots l
   pub leaving : IsLeaving q a.roots (system_in a) l left
@@ -147,8 +147,8 @@ IsEndedBy a q (refused.Fault (fault.Fixed slot reg)) =
 -- ---- the whole
 
 -- no part that the titles of the probe name has an assumed read back
-abbrev pub IsSized : Admission → Type 0
-IsSized a = assumed_region (all_named a.probe) (system_in a) ≡ None
+abbrev pub HasNoAssumed : Admission → Type 0
+HasNoAssumed a = assumed_region (all_named a.probe) (system_in a) ≡ None
 
 -- the lists are fine, and this is the first part whose read back is assumed
 abbrev pub IsAssumedFirst : Admission → Request → SettleFault → Type 0
@@ -164,9 +164,9 @@ IsRefusal a q (refused.Fault fault.BadLists) = settle q (system_in a) ≡ BadLis
 IsRefusal a q (refused.Fault (fault.Assumed slot reg)) =
     IsAssumedFirst a q (fault.Assumed slot reg)
 IsRefusal a q (refused.Fault (fault.NoRoom lack)) =
-    IsSized a × (settle q (system_in a) ≡ no_room lack)
+    HasNoAssumed a × (settle q (system_in a) ≡ no_room lack)
 IsRefusal a q (refused.Fault (fault.TooLarge class slot)) =
-    IsFalse (are_bad_lists q.roots q.lists) × IsSized a
+    IsFalse (are_bad_lists q.roots q.lists) × HasNoAssumed a
     × IsTooLargeAt a q (kind_value class) slot
 IsRefusal a q (refused.Fault (fault.Fixed slot reg)) =
-    IsSized a × (settle q (system_in a) ≡ spec.Fixed slot reg)
+    HasNoAssumed a × (settle q (system_in a) ≡ spec.Fixed slot reg)

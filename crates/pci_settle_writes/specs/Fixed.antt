@@ -8,7 +8,7 @@ use Rattle.pci_spec.specs.Window.{WindowKind, IoWindow, MemoryWindow, PrefetchWi
 use Rattle.pci_spec.specs.Decoded.{DecodedWindow}
 use Rattle.pci_spec.specs.Machine.{Write}
 use Rattle.pci_spec.specs.System.{Bar, Window, register_of}
-use Rattle.settle_spec.specs.Parts.{Region}
+use Rattle.settle_spec.specs.Parts.{FunctionPart}
 use Rattle.pci_image.specs.declared.bar.Bar.{Bar as CodeBar}
 use Rattle.pci_function.specs.declared.record.Bridge.{Bridge}
 use Rattle.pci_function.specs.declared.record.Record.{Record}
@@ -25,11 +25,11 @@ use Rattle.pci_settle_writes.specs.declared.lack.SettleFault.TheVariants.{Assume
 -- ---- what is named
 
 -- a part of a function whose registers may not be written
-abbrev pub fixed_part : Region → SettleFault
+abbrev pub fixed_part : FunctionPart → SettleFault
 fixed_part r = Fixed r.function.slot (register_of r.function r.part)
 
 -- a part whose read back is assumed
-abbrev pub assumed_part : Region → SettleFault
+abbrev pub assumed_part : FunctionPart → SettleFault
 assumed_part r = Assumed r.function.slot (register_of r.function r.part)
 
 -- a register that may not

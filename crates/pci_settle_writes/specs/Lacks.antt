@@ -15,18 +15,18 @@ use Rattle.pci_settled.specs.declared.candidate.Candidate.{Candidate}
 use Rattle.pci_settled.specs.declared.anew.Unplaced.{Unplaced}
 use Rattle.pci_settled.specs.declared.anew.Unplaced.TheVariants as unplaced
 use Rattle.pci_settled.specs.Candidates.{candidate_value}
-use Rattle.pci_settled.specs.Places.{IsPart}
+use Rattle.pci_settled.specs.Places.{IsPlacesPart}
 use Rattle.pci_stay.specs.declared.windows.TooLarge.{TooLarge}
 use Rattle.pci_settle_writes.specs.declared.lack.Lack.{Lack}
 use Rattle.pci_settle_writes.specs.declared.lack.SettleFault.{SettleFault}
 use Rattle.pci_settle_writes.specs.declared.lack.SettleFault.TheVariants as fault
 
-abbrev pub fault_number : SettleFault → ℕ
-fault_number fault.BadLists = 70
-fault_number (fault.Assumed slot reg) = 76
-fault_number (fault.NoRoom lack) = 72
-fault_number (fault.TooLarge class slot) = 72
-fault_number (fault.Fixed slot reg) = 74
+abbrev pub settle_fault_number : SettleFault → ℕ
+settle_fault_number fault.BadLists = 70
+settle_fault_number (fault.Assumed slot reg) = 76
+settle_fault_number (fault.NoRoom lack) = 72
+settle_fault_number (fault.TooLarge class slot) = 72
+settle_fault_number (fault.Fixed slot reg) = 74
 
 abbrev pub part_register : Bool → WindowKind → CodePart → ℕ
 part_register bridge c (parts.Bar n) = bar_register n
@@ -43,9 +43,9 @@ lack_by r x = record {
 }
 
 -- it is of a function of the system
-abbrev pub IsNamed : System → Unplaced → Type 0
-IsNamed s (unplaced.Lacks x) = (x.item.function < length s) × IsPart x.item.part
-IsNamed s (unplaced.TooLarge class k) = k < length s
+abbrev pub IsOfSystem : System → Unplaced → Type 0
+IsOfSystem s (unplaced.Lacks x) = (x.item.function < length s) × IsPlacesPart x.item.part
+IsOfSystem s (unplaced.TooLarge class k) = k < length s
 
 -- the class of what can't be placed
 abbrev pub unplaced_class : Unplaced → CodeKind
@@ -61,13 +61,13 @@ abbrev pub no_room : Lack → Settling
 no_room l = NoRoom (kind_value l.class) l.slot l.register l.size l.alignment
 
 -- the fault names just that
-abbrev pub IsFaultOf : System → Unplaced → SettleFault → Type 0
-IsFaultOf s u fault.BadLists = ⊥
-IsFaultOf s u (fault.Assumed slot reg) = ⊥
-IsFaultOf s u (fault.Fixed slot reg) = ⊥
-IsFaultOf s (unplaced.Lacks x) (fault.NoRoom lack) =
+abbrev pub IsSettleFaultOf : System → Unplaced → SettleFault → Type 0
+IsSettleFaultOf s u fault.BadLists = ⊥
+IsSettleFaultOf s u (fault.Assumed slot reg) = ⊥
+IsSettleFaultOf s u (fault.Fixed slot reg) = ⊥
+IsSettleFaultOf s (unplaced.Lacks x) (fault.NoRoom lack) =
     (other : Settling) → or_lack (Some (candidate_value s x)) other ≡ no_room lack
-IsFaultOf s (unplaced.Lacks x) (fault.TooLarge class slot) = ⊥
-IsFaultOf s (unplaced.TooLarge class k) (fault.NoRoom lack) = ⊥
-IsFaultOf s (unplaced.TooLarge class k) (fault.TooLarge named slot) =
+IsSettleFaultOf s (unplaced.Lacks x) (fault.TooLarge class slot) = ⊥
+IsSettleFaultOf s (unplaced.TooLarge class k) (fault.NoRoom lack) = ⊥
+IsSettleFaultOf s (unplaced.TooLarge class k) (fault.TooLarge named slot) =
     (named ≡ class) × (slot ≡ (function_in s k).slot)

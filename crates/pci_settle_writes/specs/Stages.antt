@@ -19,8 +19,8 @@ abbrev pub AreClosed : Request → System → List ℕ → Type 0
 AreClosed q s closed = closed ≡ map (closing_command q s) s
 
 -- blocks of the functions as they are to be
-abbrev pub AreSettled : Request → System → List Block → Type 0
-AreSettled q s settled =
+abbrev pub AreSettledBlocks : Request → System → List Block → Type 0
+AreSettledBlocks q s settled =
     map (λ (b : Block). b.image) settled ≡ map (λ f. (settled_function q s f).image) s
 
 -- a write to Command, where it changes something

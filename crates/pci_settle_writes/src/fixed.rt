@@ -3,7 +3,7 @@ ghost use Rattle.std.specs.Prelude.{◌≡◌, Bool, length, map};
 ghost use Rattle.std.specs.Option.{option_map};
 ghost use Rattle.std.specs.List.{All};
 ghost use Rattle.settle_spec.specs.Lists.{Request};
-ghost use Rattle.settle_spec.specs.Parts.{Region};
+ghost use Rattle.settle_spec.specs.Parts.{FunctionPart};
 ghost use Rattle.settle_spec.specs.Writes as spec;
 ghost use Rattle.pci_base.specs.WindowKinds.{kind_value};
 ghost use Rattle.pci_place.specs.Above.{system_in};
@@ -125,7 +125,7 @@ pub fn fixed_without<A: Allocator>(
     requires fixed { length fixed.now ≡ 65536 }
     // a function's entry stands where its record does
     requires count { length table.now ≡ length (system_in admitted.now) }
-    ensures { (q : Request) (test : Region → Bool)
+    ensures { (q : Request) (test : FunctionPart → Bool)
         → IsAskedOf q admitted.now.roots (lists_value lists.now) → AreFlags q.fixed fixed.now
         → IsTableOf (system_in admitted.now) test table.now
         → result ≡ option_map fixed_part (spec.fixed_without test q (system_in admitted.now)) }

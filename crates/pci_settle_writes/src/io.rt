@@ -9,7 +9,7 @@ ghost use Rattle.pci_settle.specs.Lists.{lists_value};
 ghost use Rattle.pci_settled.specs.Spaces.{space_lack};
 ghost use Rattle.pci_stand.specs.Known.{asked};
 ghost use Rattle.pci_stay.specs.Staying.{AreStaying, asked_in_io};
-ghost use Rattle.pci_settle_writes.specs.Lacks.{IsNamed, IsFaultOf, too_large, unplaced_class};
+ghost use Rattle.pci_settle_writes.specs.Lacks.{IsOfSystem, IsSettleFaultOf, too_large, unplaced_class};
 ghost use Rattle.pci_settle_writes.specs.Endings.{IsLack, IsLargeInIo, IsUnfixedLack};
 
 use crate::lack::{SettleFault, fault_of};
@@ -30,8 +30,8 @@ use std::alloc::Allocator;
 /// The fault of a bridge whose new window is too large.
 pub fn fault_of_window<A: Allocator>(admitted: &Admitted<A>, window: TooLarge) -> SettleFault
     // the fault names a function that is there
-    requires { IsNamed (system_in admitted.now) (too_large window) }
-    ensures { IsFaultOf (system_in admitted.now) (too_large window) result }
+    requires { IsOfSystem (system_in admitted.now) (too_large window) }
+    ensures { IsSettleFaultOf (system_in admitted.now) (too_large window) result }
 {
     let unplaced = Unplaced::TooLarge {
         class: window.class,

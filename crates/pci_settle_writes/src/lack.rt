@@ -3,8 +3,8 @@ ghost use Rattle.std.specs.Prelude.{◌≡◌, Some};
 ghost use Rattle.std.specs.Option.{is_some};
 ghost use Rattle.pci_base.specs.WindowKinds.{kind_value};
 ghost use Rattle.pci_place.specs.Above.{system_in};
-ghost use Rattle.pci_settled.specs.Places.{IsPart};
-ghost use Rattle.pci_settle_writes.specs.Lacks.{fault_number, part_register, lack_by, IsNamed, IsFaultOf};
+ghost use Rattle.pci_settled.specs.Places.{IsPlacesPart};
+ghost use Rattle.pci_settle_writes.specs.Lacks.{settle_fault_number, part_register, lack_by, IsOfSystem, IsSettleFaultOf};
 
 use pci_base::offset::BASE_ADDRESS;
 use pci_base::slot::Slot;
@@ -51,7 +51,7 @@ pub enum SettleFault {
 impl SettleFault {
     /// The fault's number, 70, 72, 74 or 76.
     pub fn number(&self) -> u8
-        ensures { result ≡ fault_number self.now }
+        ensures { result ≡ settle_fault_number self.now }
     {
         match self {
             SettleFault::BadLists => 70,
@@ -73,9 +73,9 @@ struct Named {
 /// Its class, its slot and its register.
 impl fmt::Display for Named {
     ghost use Rattle.pci_base.specs.WindowKinds.{kind_value};
-    ghost use Rattle.pci_settle_writes.specs.FaultText.{part_text};
+    ghost use Rattle.pci_settle_writes.specs.FaultText.{class_part_text};
 
-    ghost output = { λ p. Some (part_text (kind_value p.class) p.slot p.register) };
+    ghost output = { λ p. Some (class_part_text (kind_value p.class) p.slot p.register) };
 
     fn fmt<W: fmt::Write>(&self, f: &mut fmt::Formatter<W>) -> fmt::Result {
         let (name, slot, register) = (self.class.name(), self.slot, self.register);
@@ -140,7 +140,7 @@ impl fmt::Display for SettleFault {
 
 /// The offset that names a part of a function.
 fn register_of(record: &Record, class: WindowKind, part: Part) -> u8
-    requires { IsPart part }
+    requires { IsPlacesPart part }
     ensures { result ≡ part_register (is_some «record».now.bridge) (kind_value class) part }
 {
     match part {
@@ -152,7 +152,7 @@ fn register_of(record: &Record, class: WindowKind, part: Part) -> u8
 
 /// What an item of a function lacks.
 fn lack_of(record: &Record, candidate: Candidate) -> Lack
-    requires { IsPart candidate.item.part }
+    requires { IsPlacesPart candidate.item.part }
     ensures { result ≡ lack_by «record».now candidate }
 {
     Lack {
@@ -167,8 +167,8 @@ fn lack_of(record: &Record, candidate: Candidate) -> Lack
 /// The fault where this can't be placed.
 pub fn fault_of<A: Allocator>(admitted: &Admitted<A>, unplaced: Unplaced) -> SettleFault
     // the fault names a part of a function that is there
-    requires { IsNamed (system_in admitted.now) unplaced }
-    ensures { IsFaultOf (system_in admitted.now) unplaced result }
+    requires { IsOfSystem (system_in admitted.now) unplaced }
+    ensures { IsSettleFaultOf (system_in admitted.now) unplaced result }
 {
     let outline = admitted.outline();
     let records = outline.records();

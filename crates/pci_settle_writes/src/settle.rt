@@ -18,7 +18,7 @@ ghost use Rattle.pci_stay.specs.Staying.{AreStaying};
 ghost use Rattle.pci_settle_writes.specs.Requests.{request, IsAskedOf};
 ghost use Rattle.pci_settle_writes.specs.Told.{IsTableOf};
 ghost use Rattle.pci_settle_writes.specs.Dumps.{IsSettledDump, IsSettledBy};
-ghost use Rattle.pci_settle_writes.specs.Endings.{IsLackOff, IsTooLargeAsked, AreTold, IsEnded, IsEndedBy, IsRefusal, IsSized};
+ghost use Rattle.pci_settle_writes.specs.Endings.{IsLackOff, IsTooLargeAsked, AreAskedFor, IsEnded, IsEndedBy, IsRefusal, HasNoAssumed};
 
 use crate::assumed::first_assumed;
 use crate::dump::settled_dump;
@@ -116,11 +116,11 @@ fn settle_held<A: Allocator + Copy, B: Allocator>(
         (λ x. map (λ b. b.title) x.dump ≡ map (λ b. b.title) admitted.now.dump) }
     ensures ends { IfOk result (λ x. (q : Request)
         → AreFlags q.fixed fixed.now
-        → AreTold q admitted.now (lists_value lists.now) left.now staying.now
+        → AreAskedFor q admitted.now (lists_value lists.now) left.now staying.now
         → IsEnded q admitted.now x.dump (map write_value x.writes.all.items) x.writes.closings) }
     ensures refusal { IfErr result (λ e. (q : Request)
         → AreFlags q.fixed fixed.now
-        → AreTold q admitted.now (lists_value lists.now) left.now staying.now
+        → AreAskedFor q admitted.now (lists_value lists.now) left.now staying.now
         → IsEndedBy admitted.now q e) }
 {
     let table = places(alloc, admitted, lists, left)?;
@@ -294,7 +294,7 @@ pub fn settle<A: Allocator + Copy, B: Allocator>(
     ensures titles { IfOk result
         (λ x. map (λ b. b.title) x.dump ≡ map (λ b. b.title) admitted.now.dump) }
     // what a guessed size would move is never moved
-    ensures sized { OnOk result (IsSized admitted.now) }
+    ensures sized { OnOk result (HasNoAssumed admitted.now) }
     ensures dump { IfOk result (λ x. IsSettledDump
         (request admitted.now.roots (lists_value lists.now) fixed.now anew) admitted.now x.dump) }
     ensures settled { IfOk result (λ x. spec.settle

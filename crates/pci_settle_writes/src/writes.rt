@@ -10,7 +10,7 @@ ghost use Rattle.pci_plan.specs.Writes.{write_value};
 ghost use Rattle.pci_settle.specs.Lists.{lists_value};
 ghost use Rattle.pci_settle_writes.specs.Requests.{IsAskedOf};
 ghost use Rattle.pci_settle_writes.specs.Dumps.{IsSettledDump};
-ghost use Rattle.pci_settle_writes.specs.Stages.{AreOf, AreClosed, AreSettled, command_at};
+ghost use Rattle.pci_settle_writes.specs.Stages.{AreOf, AreClosed, AreSettledBlocks, command_at};
 
 use crate::shut::closing_commands;
 use pci_base::memory::OutOfMemory;
@@ -78,7 +78,7 @@ fn add_settings<A: Allocator>(
 ) -> Result<(), OutOfMemory>
     requires { length settled.now ≡ length start.now }
     ensures { OnOk result ((q : Request) (s : System) → AreOf s start.now
-        → AreSettled q s settled.now → map write_value writes.new.items
+        → AreSettledBlocks q s settled.now → map write_value writes.new.items
         ≡ map write_value writes.old.items ++ flat_map (λ f. registers_of (change_of q s f)) s) }
 {
     for k in 0..start.len() {
@@ -97,7 +97,7 @@ fn add_openings<A: Allocator>(
     requires closed { length closed.now ≡ length start.now }
     requires settled { length settled.now ≡ length start.now }
     ensures { OnOk result ((q : Request) (s : System) → AreOf s start.now → AreClosed q s closed.now
-        → AreSettled q s settled.now → map write_value writes.new.items
+        → AreSettledBlocks q s settled.now → map write_value writes.new.items
         ≡ map write_value writes.old.items ++ flat_map (opening_from q s) s) }
 {
     for k in 0..start.len() {
@@ -118,7 +118,7 @@ fn writes_by<A: Allocator>(
     requires closed { length closed.now ≡ length start.now }
     requires settled { length settled.now ≡ length start.now }
     ensures writes { IfOk result (λ writes. (q : Request) (s : System) → AreOf s start.now
-        → AreClosed q s closed.now → AreSettled q s settled.now
+        → AreClosed q s closed.now → AreSettledBlocks q s settled.now
         → map write_value writes.all.items ≡ settle_writes q s) }
     ensures closings { IfOk result (λ writes. (q : Request) (s : System) → AreOf s start.now
         → AreClosed q s closed.now → writes.closings ≡ length (closings q s s)) }

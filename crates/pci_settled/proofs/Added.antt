@@ -11,13 +11,13 @@ use Rattle.pci_settle.specs.declared.extent.Extent.{Extent}
 use Rattle.pci_settle.specs.declared.item.Item.{Item}
 use Rattle.pci_settle.specs.declared.own.Terms.{Terms}
 use Rattle.pci_settle.specs.Turns.{HasExtent}
-use Rattle.pci_settle.specs.Buses.{listing, AreInTurn}
+use Rattle.pci_settle.specs.Buses.{bus_listing, AreInTurn}
 use Rattle.pci_settle.specs.NewWindows.{asking_of}
 use Rattle.settle_spec.specs.Items.{stays}
 use Rattle.pci_settled.specs.Staying.{setting, classing}
 use Rattle.pci_settled.specs.declared.candidate.Candidate.{Candidate}
 use Rattle.pci_settled.specs.declared.staying.Staying.{Staying}
-use Rattle.pci_settled.specs.Candidates.{of_class, candidate_value, IsLawful, AreAddedOf}
+use Rattle.pci_settled.specs.Candidates.{of_class, candidate_value, HasAddressAndAlignment, AreAddedOf}
 
 module _ {X Y : Type 0} (f : X → Y) (old : List Y) (xs : List X) where
   pub more_of : (n : ℕ) (d : X) (done new : List Y) → n < length xs → done ≡ old ++ take n (map f xs) → new ≡ done ++ f (get_or xs n d) ∷ [] → new ≡ old ++ take (n + 1) (map f xs)
@@ -33,13 +33,13 @@ module _ {X Y : Type 0} (f : X → Y) (old : List Y) (xs : List X) where
   all_of n done past is = let long = length-map xs f in is ∙ ap (λ ys. old ++ ys) (take_all n (map f xs) (omega (arith, past, long)))
 
 module _ (s : System) (class : Class) (items : List Item) (old new : List Candidate) (added : new ≡ old ++ map (of_class class) items) where
-  pub added_of : (roots : List ℕ) (t : Terms) (st : Staying) (windows : List (Option Extent)) (bus : ℕ) → AreInTurn (listing (classing (setting roots s t st)) (kind_value class) bus windows st.left.kept.now) items
+  pub added_of : (roots : List ℕ) (t : Terms) (st : Staying) (windows : List (Option Extent)) (bus : ℕ) → AreInTurn (bus_listing (classing (setting roots s t st)) (kind_value class) bus windows st.left.kept.now) items
       → AreAddedOf (setting roots s t st) (kind_value class) windows bus old new
   added_of roots t st windows bus turn q stay has =
       ap (map (candidate_value s)) added
       ∙ map-append (candidate_value s) old (map (of_class class) items)
       ∙ ap (λ ys. map (candidate_value s) old ++ ys) (map_twice (candidate_value s) (of_class class) items ∙ turn (asking_of q s (kind_value class) (stays q s)) record { left = stay.left; keeps_is = stay.keeps_is; behind = has.behind bus })
 
-  pub added_lawful : All HasExtent items → All IsLawful old → All IsLawful new
+  pub added_lawful : All HasExtent items → All HasAddressAndAlignment old → All HasAddressAndAlignment new
   added_lawful lawful before =
-      subst (All IsLawful) (sym added) (All-append IsLawful old (map (of_class class) items) before (All-map IsLawful (of_class class) items (λ n d within. lawful n d within)))
+      subst (All HasAddressAndAlignment) (sym added) (All-append HasAddressAndAlignment old (map (of_class class) items) before (All-map HasAddressAndAlignment (of_class class) items (λ n d within. lawful n d within)))

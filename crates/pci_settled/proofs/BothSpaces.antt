@@ -20,7 +20,7 @@ use Rattle.pci_settle.specs.Spots.{IsExtent}
 use Rattle.pci_settle.specs.Own.{AreTerms}
 use Rattle.pci_settle.specs.Buses.{AreWindows}
 use Rattle.pci_settle.specs.declared.over.Left.{Left}
-use Rattle.pci_settle.specs.Kept.{AreKept}
+use Rattle.pci_settle.specs.Kept.{AreKeptParts}
 use Rattle.pci_settle.specs.Over.{AreOpenOver}
 use Rattle.pci_settled.specs.declared.anew.Unplaced.{Unplaced}
 use Rattle.pci_settled.specs.declared.anew.Unplaced.TheVariants as unplaced
@@ -32,9 +32,9 @@ use Rattle.pci_settled.specs.declared.staying.Staying.{Staying}
 use Rattle.pci_stand.specs.Held.{AreHeld, AreHeldIn}
 use Rattle.pci_settled.specs.Staying.{IsStaying, setting}
 use Rattle.pci_settled.specs.Candidates.{candidate_value, HasWindowsIn, KnowsRequest, pass}
-use Rattle.pci_settled.specs.Places.{range_in}
-use Rattle.pci_settled.specs.Spaces.{HasNone, KeepsOthers, space_lack, AreSpacePlacesIn}
-use Rattle.pci_settled.specs.Placed.{IsTooLargeIn, HasPlacesIn, IsUnplacedIn, AreAllNone, IsLeaving, CanBeLeft, ArePlacesOff, IsUnplacedOff}
+use Rattle.pci_settled.specs.Places.{place_range_in}
+use Rattle.pci_settled.specs.Spaces.{HasNone, KeepsOtherSpace, space_lack, AreSpacePlacesIn}
+use Rattle.pci_settled.specs.Placed.{IsSpaceTooLarge, HasPlacesIn, IsUnplacedIn, AreAllNone, IsLeaving, CanBeLeft, ArePlacesOff, IsUnplacedOff}
 
 -- ---- what lacks a place
 
@@ -69,7 +69,7 @@ module _ (roots : List ℕ) (s : System) (space : Space) (l : Lists) (t : Terms)
       → (q : Request) → IsStaying q (setting roots s t st) → q.lists ≡ l → space_lack q s space q.roots ≡ Some (candidate_value s c)
   space_lacks w table c windows are q stay same = (are q stay same (windows q stay)).lack_is
 
-  pub too_large : (e : Refused Unplaced) → IsTooLargeIn (setting roots s t st) space e → IsUnplacedIn (setting roots s t st) space l e
+  pub too_large : (e : Refused Unplaced) → IsSpaceTooLarge (setting roots s t st) space e → IsUnplacedIn (setting roots s t st) space l e
   too_large refused.Memory is = tt
   too_large (refused.Fault (unplaced.Lacks x)) is = absurd is
   too_large (refused.Fault (unplaced.TooLarge class k)) (of, is) = (of, λ q stay same. is q stay)
@@ -85,7 +85,7 @@ six_none n = elim (cases_lt n 6) [
 abbrev pub none_at_all : Places
 none_at_all = record { bars = replicate 6 None; rom = None; windows = record { io = None; memory = None; prefetchable = None } }
 
-none_in : (part : Part) → range_in none_at_all part ≡ None
+none_in : (part : Part) → place_range_in none_at_all part ≡ None
 none_in (Bar n) = six_none n
 none_in Rom = refl
 none_in (Window IoWindow) = refl
@@ -97,7 +97,7 @@ none_first table none k d part low = absurd (let long : length table ≡ 0 = ap 
 
 pub none_more : (old new : List Places) → AreAllNone old → new ≡ old ++ none_at_all ∷ [] → AreAllNone new
 none_more old new none put =
-    let test : Places → Type 0 = λ entry. (part : Part) → range_in entry part ≡ None in
+    let test : Places → Type 0 = λ entry. (part : Part) → place_range_in entry part ≡ None in
     let all = All-append test old (none_at_all ∷ []) (λ k d low part. none k d part low) (All-cons test none_at_all [] none_in (All-nil test)) in
     subst AreAllNone (sym put) (λ k d part low. all k d low part)
 
@@ -114,7 +114,7 @@ not_both : (x : Space) → x ≡ Io → x ≡ Memory → ⊥
 not_both x one other = let same : Io ≡ Memory = sym one ∙ other in (let no : ⊥ = cc in no)
 
 -- what was noted of I/O says nothing of memory
-pub still_none : (s : System) (start table : List Places) → length start ≡ length s → AreAllNone start → KeepsOthers s Io start table → HasNone s Memory table
+pub still_none : (s : System) (start table : List Places) → length start ≡ length s → AreAllNone start → KeepsOtherSpace s Io start table → HasNone s Memory table
 still_none s start table count none kept k f d part at there of =
     let inside = slice_get_within s k f at in
     kept.others k f d part at there (λ io. not_both (space_of f part) io of) ∙ none k d part (omega (arith, inside, count))
@@ -127,14 +127,14 @@ module _ (roots : List ℕ) (s : System) (l : Lists) (t : Terms) (terms : AreTer
       terms = subst (λ x. AreTerms x t) (sym leaving.lists) terms;
       overs_are = subst (λ (x : Left). AreOpenOver q s x.over.now) (sym left_is) leaving.overs_are;
     };
-    keeps_is = subst (λ (x : Left). AreKept s (stays q s) x.kept.now) (sym left_is) leaving.keeps_is;
+    keeps_is = subst (λ (x : Left). AreKeptParts s (stays q s) x.kept.now) (sym left_is) leaving.keeps_is;
     held_is = subst (AreHeld q s) (sym held_is) (are q leaving.rooted leaving.lists leaving.keeps_is);
   }
 
   pub request_known : CanBeLeft roots s l left → KnowsRequest (setting roots s t st) l
   request_known can = record { request = can.request; stay = stay_of can.request can.leaving; lists = can.leaving.lists }
 
-  pub both_placed : (first table : List Places) → length table ≡ length s → HasPlacesIn (setting roots s t st) Io l first → KeepsOthers s Memory first table → HasPlacesIn (setting roots s t st) Memory l table → ArePlacesOff roots s l left table
+  pub both_placed : (first table : List Places) → length table ≡ length s → HasPlacesIn (setting roots s t st) Io l first → KeepsOtherSpace s Memory first table → HasPlacesIn (setting roots s t st) Memory l table → ArePlacesOff roots s l left table
   both_placed first table count io kept memory q leaving =
       let placed = io q (stay_of q leaving) leaving.lists in
       let other = memory q (stay_of q leaving) leaving.lists in

@@ -9,7 +9,7 @@ use Rattle.pci_spec.specs.Bus.{is_root}
 use Rattle.pci_spec.specs.Decoded.{Range as DecodedRange}
 use Rattle.plan_spec.proofs.Planning.Safe.{slots_of}
 use Rattle.settle_spec.specs.FirstPlace.{is_high}
-use Rattle.settle_spec.specs.Lists.{Lists, Request, ranges_of}
+use Rattle.settle_spec.specs.Lists.{Lists, Request, class_ranges}
 use Rattle.settle_spec.specs.Parts.{bridge_over}
 use Rattle.settle_spec.specs.Items.{Placed}
 use Rattle.settle_spec.specs.Places.{root_ranges, window_ranges, wide_ranges}
@@ -78,15 +78,15 @@ module _ (q : Request) (l : Lists) (same : q.lists ≡ l) (lists : List (List Ra
   had_is of = ap of same
 
   column_gives : (space : Space) → HasColumn l space lists bus → (c : WindowKind) (wide : Bool) → window_space c ≡ space
-      → ranges_of q c bus ++ cond wide (wide_ranges q c bus) [] ≡ list_at lists (3 * bus + kind_number c wide)
+      → class_ranges q c bus ++ cond wide (wide_ranges q c bus) [] ≡ list_at lists (3 * bus + kind_number c wide)
   column_gives Io is IoWindow wide of =
-      plain_alone (ranges_of q IoWindow bus) wide ∙ had_is (λ x. had bus x.io) ∙ sym is ∙ at_zero lists (3 * bus)
+      plain_alone (class_ranges q IoWindow bus) wide ∙ had_is (λ x. had bus x.io) ∙ sym is ∙ at_zero lists (3 * bus)
   column_gives Memory is IoWindow wide of = absurd (let no : ⊥ = cc in no)
   column_gives Io is MemoryWindow wide of = absurd (let no : ⊥ = cc in no)
-  column_gives Memory is MemoryWindow false of = append-nil (ranges_of q MemoryWindow bus) ∙ had_is (λ x. had bus x.memory) ∙ sym is.plain_is ∙ at_zero lists (3 * bus)
+  column_gives Memory is MemoryWindow false of = append-nil (class_ranges q MemoryWindow bus) ∙ had_is (λ x. had bus x.memory) ∙ sym is.plain_is ∙ at_zero lists (3 * bus)
   column_gives Memory is MemoryWindow true of = had_is (λ x. had bus x.memory ++ had bus x.prefetch) ∙ sym is.wide_is
   column_gives Io is PrefetchWindow wide of = absurd (let no : ⊥ = cc in no)
-  column_gives Memory is PrefetchWindow wide of = plain_alone (ranges_of q PrefetchWindow bus) wide ∙ had_is (λ x. had bus x.prefetch) ∙ sym is.prefetch_is
+  column_gives Memory is PrefetchWindow wide of = plain_alone (class_ranges q PrefetchWindow bus) wide ∙ had_is (λ x. had bus x.prefetch) ∙ sym is.prefetch_is
 
 pub root_lists_for : (q : Request) (s : System) (l : Lists) (space : Space) (root : ℕ) (lists : List (List Range)) (placed : ℕ → List Placed) → IsSystem s → is_root q.roots root ≡ true → q.lists ≡ l
     → HasRootColumns q.roots l space 256 lists → AreListsFor q s space placed root lists

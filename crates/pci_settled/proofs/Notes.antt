@@ -10,7 +10,7 @@ use Rattle.pci_spec.specs.Header.{layout, bar_count}
 use Rattle.pci_spec.specs.Window.{WindowKind}
 use Rattle.pci_spec.specs.System.{System, Function, Part, IsSystem, has_part}
 use Rattle.plan_spec.proofs.Planning.AllItems.{slots_rise}
-use Rattle.settle_spec.specs.Parts.{Region}
+use Rattle.settle_spec.specs.Parts.{FunctionPart}
 use Rattle.settle_spec.specs.Stands.{rank}
 use Rattle.settle_spec.specs.Items.{Item as ItemValue, Placed}
 use Rattle.settle_spec.specs.Places.{place_among, first_lack}
@@ -19,14 +19,14 @@ use Rattle.pci_base.specs.declared.range.Range.{Range}
 use Rattle.pci_place.specs.Items.{function_in, no_function}
 use Rattle.pci_settle.specs.declared.item.Part.{Part as CodePart}
 use Rattle.pci_settle.specs.declared.item.Part.TheVariants as parts
-use Rattle.pci_settle.specs.Own.{part_value}
+use Rattle.pci_settle.specs.Own.{class_part}
 use Rattle.pci_settle.specs.Placings.{at_places, lacks_first}
 use Rattle.pci_settle.proofs.Walks.{left_next}
 use Rattle.pci_settled.specs.declared.candidate.Candidate.{Candidate}
 use Rattle.pci_settled.specs.declared.places.Places.{Places}
 use Rattle.pci_settled.specs.Candidates.{candidate_value, IsWithin, HasPart}
-use Rattle.pci_settled.specs.BusPlaces.{bus_placing, AreWithin}
-use Rattle.pci_settled.specs.Places.{IsPart, range_in, placed_at, or_kept, AreNotable}
+use Rattle.pci_settled.specs.BusPlaces.{bus_placing, AreInTable}
+use Rattle.pci_settled.specs.Places.{IsPlacesPart, place_range_in, placed_at, or_kept, AreNotable}
 use Rattle.pci_settled.proofs.Parts.{rank_one}
 
 -- ---- items at their places
@@ -73,7 +73,7 @@ one_place s system k m f at_k at_m = elim (cases_eq k m) [
 
 -- ---- the notes of the items from a place on
 
-abbrev pub region : Function → Part → Region
+abbrev pub region : Function → Part → FunctionPart
 region f part = record { function = f; part = part }
 
 abbrev all_at : System → List Candidate → List ℕ → List Placed
@@ -82,7 +82,7 @@ all_at s candidates firsts = at_places (map (candidate_value s) candidates) firs
 pub record AreNoted (candidates : List Candidate) (firsts : List ℕ) (old now : List Places) (from : ℕ) : Type 0 where
   pub size : length now ≡ length old
   pub each : (s : System) → IsSystem s → length s ≡ length old → All (HasPart s) candidates → (k : ℕ) (f : Function) (d : Places) (part : Part) → slice_get s k ≡ Some f → has_part f part ≡ true
-      → range_in (get_or now k d) part ≡ or_kept (placed_at (place_among (region f part) (drop from (all_at s candidates firsts)))) (range_in (get_or old k d) part)
+      → place_range_in (get_or now k d) part ≡ or_kept (placed_at (place_among (region f part) (drop from (all_at s candidates firsts)))) (place_range_in (get_or old k d) part)
 
 module _ (candidates : List Candidate) (firsts : List ℕ) (count : length firsts ≡ length candidates) (old : List Places) where
   long : (s : System) → length (all_at s candidates firsts) ≡ length candidates
@@ -94,7 +94,7 @@ module _ (candidates : List Candidate) (firsts : List ℕ) (count : length first
   noted_none n past = record {
     size = refl;
     each = λ s system same parts k f d part at there.
-        ap (λ ps. or_kept (placed_at (place_among (region f part) ps)) (range_in (get_or old k d) part))
+        ap (λ ps. or_kept (placed_at (place_among (region f part) ps)) (place_range_in (get_or old k d) part))
         (sym (drop_none n (all_at s candidates firsts) (let e = long s in omega (arith, e, past))));
   }
 
@@ -136,9 +136,9 @@ module _ (candidates : List Candidate) (firsts : List ℕ) (count : length first
       among : (f : Function) (part : Part) → place_among (region f part) (drop n (all_at s candidates firsts)) ≡ cond (rank value.region == rank (region f part)) (Some (record { item = value; at = first })) (later f part)
       among f part = ap (place_among (region f part)) head
 
-      module _ (set_is : range_in entry own ≡ Some range) (others : (d : Places) (other : Part) → (other ≡ own → ⊥) → range_in entry other ≡ range_in (get_or now m d) other) where
+      module _ (set_is : place_range_in entry own ≡ Some range) (others : (d : Places) (other : Part) → (other ≡ own → ⊥) → place_range_in entry other ≡ place_range_in (get_or now m d) other) where
         by_part : (k : ℕ) (f : Function) (d : Places) (part : Part) → slice_get s k ≡ Some f → has_part f part ≡ true
-            → range_in (get_or new k d) part ≡ or_kept (placed_at (place_among (region f part) (drop n (all_at s candidates firsts)))) (range_in (get_or old k d) part)
+            → place_range_in (get_or new k d) part ≡ or_kept (placed_at (place_among (region f part) (drop n (all_at s candidates firsts)))) (place_range_in (get_or old k d) part)
         by_part k f d part at there = elim (cases_Bool (rank value.region == rank (region f part))) [
           | inl hit ↦
               let listed_f : Contains s f = (k, slice_get_within s k f at, get_or_from_slice_get s k f f at) in
@@ -146,21 +146,21 @@ module _ (candidates : List Candidate) (firsts : List ℕ) (count : length first
               let one = rank_one s system (function_in s m) f own part listed_own listed_f there_own there (eqb-true (rank value.region) (rank (region f part)) hit) in
               let place : k ≡ m = one_place s system k m f at (subst (λ g. slice_get s m ≡ Some g) one.function at_own) in
               let size = was.size in
-              ap (λ j. range_in (get_or new j d) part) place
-              ∙ ap (λ xs. range_in (get_or xs m d) part) put
-              ∙ ap (λ e. range_in e part) (get_or-set_same now m entry d (omega (arith, low, size)))
-              ∙ ap (range_in entry) (sym one.part)
+              ap (λ j. place_range_in (get_or new j d) part) place
+              ∙ ap (λ xs. place_range_in (get_or xs m d) part) put
+              ∙ ap (λ e. place_range_in e part) (get_or-set_same now m entry d (omega (arith, low, size)))
+              ∙ ap (place_range_in entry) (sym one.part)
               ∙ set_is
               ∙ ap (λ r. Some r) range_is
-              ∙ sym (ap (λ o. or_kept (placed_at o) (range_in (get_or old k d) part)) (among f part ∙ ap (λ b. cond b (Some (record { item = value; at = first })) (later f part)) hit))
+              ∙ sym (ap (λ o. or_kept (placed_at o) (place_range_in (get_or old k d) part)) (among f part ∙ ap (λ b. cond b (Some (record { item = value; at = first })) (later f part)) hit))
           | inr miss ↦
               kept k f d part at there miss
               ∙ was.each s system same parts k f d part at there
-              ∙ sym (ap (λ o. or_kept (placed_at o) (range_in (get_or old k d) part)) (among f part ∙ ap (λ b. cond b (Some (record { item = value; at = first })) (later f part)) miss))
+              ∙ sym (ap (λ o. or_kept (placed_at o) (place_range_in (get_or old k d) part)) (among f part ∙ ap (λ b. cond b (Some (record { item = value; at = first })) (later f part)) miss))
         ]
           where
             kept : (k : ℕ) (f : Function) (d : Places) (part : Part) → slice_get s k ≡ Some f → has_part f part ≡ true → (rank value.region == rank (region f part)) ≡ false
-                → range_in (get_or new k d) part ≡ range_in (get_or now k d) part
+                → place_range_in (get_or new k d) part ≡ place_range_in (get_or now k d) part
             kept k f d part at there miss = elim (cases_eq k m) [
               | inl place ↦
                   let function : f ≡ function_in s m = (
@@ -168,19 +168,19 @@ module _ (candidates : List Candidate) (firsts : List ℕ) (count : length first
                   let e : f ≡ function_in s m = cc in e
                   ) in
                   let size = was.size in
-                  ap (λ xs. range_in (get_or xs k d) part) put
-                  ∙ ap (λ j. range_in (get_or (set now m entry) j d) part) place
-                  ∙ ap (λ e. range_in e part) (get_or-set_same now m entry d (omega (arith, low, size)))
+                  ap (λ xs. place_range_in (get_or xs k d) part) put
+                  ∙ ap (λ j. place_range_in (get_or (set now m entry) j d) part) place
+                  ∙ ap (λ e. place_range_in e part) (get_or-set_same now m entry d (omega (arith, low, size)))
                   ∙ others d part (λ one. both_ways (rank value.region == rank (region f part)) miss
                   (eq-eqb (rank value.region) (rank (region f part)) (ap (λ p. rank (region (function_in s m) p)) (sym one) ∙ ap (λ g. rank (region g part)) (sym function))))
-                  ∙ ap (λ j. range_in (get_or now j d) part) (sym place)
+                  ∙ ap (λ j. place_range_in (get_or now j d) part) (sym place)
               | inr other ↦
-                  ap (λ xs. range_in (get_or xs k d) part) put
-                  ∙ ap (λ e. range_in e part) (get_or-set_other now m k entry d other)
+                  ap (λ xs. place_range_in (get_or xs k d) part) put
+                  ∙ ap (λ e. place_range_in e part) (get_or-set_other now m k entry d other)
             ]
 
-    pub noted_more : ((s : System) → range_in entry (candidate_value s c).region.part ≡ Some range)
-        → ((s : System) (d : Places) (other : Part) → (other ≡ (candidate_value s c).region.part → ⊥) → range_in entry other ≡ range_in (get_or now m d) other)
+    pub noted_more : ((s : System) → place_range_in entry (candidate_value s c).region.part ≡ Some range)
+        → ((s : System) (d : Places) (other : Part) → (other ≡ (candidate_value s c).region.part → ⊥) → place_range_in entry other ≡ place_range_in (get_or now m d) other)
         → AreNoted candidates firsts old new n
     noted_more set_is others = record {
       size = ap length put ∙ length-set now m entry ∙ was.size;
@@ -193,19 +193,19 @@ pub lacks_at : (s : System) (candidates : List Candidate) (places : List ℕ) (k
 lacks_at s candidates places k d within = ap (λ xs. first_lack (lacks_first xs) None) (left_next (candidate_value s) candidates k d within)
 
 -- a part that a function has is one of the table's
-pub are_part : (s : System) (candidates : List Candidate) → All (HasPart s) candidates → All (λ (c : Candidate). IsPart c.item.part) candidates
+pub are_part : (s : System) (candidates : List Candidate) → All (HasPart s) candidates → All (λ (c : Candidate). IsPlacesPart c.item.part) candidates
 are_part s candidates each k d less = by_part (get_or candidates k d).item.part (function_in s (get_or candidates k d).item.function) (kind_value (get_or candidates k d).class) (each k d less)
   where
     few : (kind : ℕ) → bar_count kind ≤ 6
     few kind = elim (kind == 1) as (λ b. cond b 2 6 ≤ 6) [ true ↦ omega arith | false ↦ omega arith ]
 
-    by_part : (p : CodePart) (f : Function) (c : WindowKind) → has_part f (part_value c p) ≡ true → IsPart p
+    by_part : (p : CodePart) (f : Function) (c : WindowKind) → has_part f (class_part c p) ≡ true → IsPlacesPart p
     by_part (parts.Bar n) f c there = let low = ltb-true n (bar_count (layout f.image)) there in let most = few (layout f.image) in omega (arith, low, most)
     by_part parts.Rom f c there = tt
     by_part parts.Window f c there = tt
 
 -- so what is placed on a bus can be noted
-pub notable : (s : System) (candidates : List Candidate) (places : List ℕ) (lack : Option ℕ) → AreWithin s candidates places lack → (functions : ℕ) → functions ≡ length s → AreNotable functions candidates places lack
+pub notable : (s : System) (candidates : List Candidate) (places : List ℕ) (lack : Option ℕ) → AreInTable s candidates places lack → (functions : ℕ) → functions ≡ length s → AreNotable functions candidates places lack
 notable s candidates places lack within functions same = record {
   each = subst (λ n. All (IsWithin n) candidates) (sym same) within.functions;
   parts = are_part s candidates within.parts;

@@ -5,7 +5,7 @@ use Rattle.settle_spec.specs.Lists.{Lists, Request}
 use Rattle.pci_base.specs.declared.memory.Refused.{Refused}
 use Rattle.pci_base.specs.declared.memory.Refused.TheVariants as refused
 use Rattle.pci_settle.specs.declared.over.Left.{Left}
-use Rattle.pci_settle.specs.Kept.{AreKept}
+use Rattle.pci_settle.specs.Kept.{AreKeptParts}
 use Rattle.pci_settle.specs.Over.{AreOpenOver}
 use Rattle.pci_settle.proofs.Anew.{over_anew, kept_anew}
 use Rattle.settle_spec.specs.Items.{stays}
@@ -21,7 +21,7 @@ module _ (roots : List ℕ) (s : System) (l : Lists) (left : Left) (no_windows :
     rooted = anew.rooted;
     lists = anew.lists;
     overs_are = subst (AreOpenOver q s) (sym no_windows) (over_anew q s anew.anew);
-    keeps_is = subst (AreKept s (stays q s)) (sym none_kept) (kept_anew q s anew.anew);
+    keeps_is = subst (AreKeptParts s (stays q s)) (sym none_kept) (kept_anew q s anew.anew);
   }
 
   abbrev q1 : Request

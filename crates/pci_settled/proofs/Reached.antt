@@ -15,7 +15,7 @@ use Rattle.settle_spec.specs.FirstPlace.{first_place}
 use Rattle.settle_spec.specs.Lists.{Request}
 use Rattle.settle_spec.specs.Stands.{rank}
 use Rattle.settle_spec.specs.Items.{Item, Placed, Placing, AllPlaced, Lacks, and_placed, place_next, place_all, taken_by}
-use Rattle.settle_spec.specs.Places.{placed_of, place_among, space_items, taken_at, ranges_for, placing_on}
+use Rattle.settle_spec.specs.Places.{placed_of, place_among, space_items, taken_at, ranges_of_item, placing_on}
 use Rattle.settle_spec.proofs.Nested.{one_bridge, is_no_root, at_secondary}
 use Rattle.settle_spec.proofs.Buses.{of_space, placing_by_bus}
 use Rattle.pci_settle.proofs.NewWindows.{comes_later}
@@ -55,7 +55,7 @@ module _ (q : Request) (s : System) (system : IsSystem s) (nested : IsNested q.r
 
   pub item_here : (p : Placed) → Contains here p → Contains (space_items q s space bus) p.item
   item_here p listed =
-      placed_in (ranges_for q s (λ over. placed_of (placing_on q s space over))) (taken_at q s space bus) (space_items q s space bus) p
+      placed_in (ranges_of_item q s (λ over. placed_of (placing_on q s space over))) (taken_at q s space bus) (space_items q s space bus) p
       (subst (λ r. Contains (placed_of r) p) (placing_by_bus q s system nested space bus low) listed)
 
   is_other : (f : Function) (part : Part) → Contains s f → has_part f part ≡ true → (space_of f part ≡ space → are_siblings q.roots bus f.slot.bus ≡ true → ⊥)

@@ -15,9 +15,9 @@ use Rattle.plan_spec.specs.Planning.Layout.{range_of}
 use Rattle.plan_spec.proofs.Planning.Behind.{any_from}
 use Rattle.settle_spec.specs.FirstPlace.{is_high}
 use Rattle.settle_spec.specs.Lists.{Request}
-use Rattle.settle_spec.specs.Parts.{Region, addresses, bridge_over, is_part, class_in}
-use Rattle.settle_spec.specs.Stands.{window_region, stands}
-use Rattle.settle_spec.specs.Items.{Placed, has_room, holds_within, holds, stays}
+use Rattle.settle_spec.specs.Parts.{FunctionPart, addresses, bridge_over, is_part, class_in}
+use Rattle.settle_spec.specs.Stands.{window_part, stands}
+use Rattle.settle_spec.specs.Items.{Placed, has_room, holds_within, has_room_behind, stays}
 use Rattle.settle_spec.specs.Places.{placed_of, place_among, placed_range, root_ranges, window_ranges, placing_on, new_place, first_lack}
 use Rattle.settle_spec.proofs.Nested.{on_it, is_no_root, at_secondary}
 use Rattle.settle_spec.proofs.BridgeOver.{over_is}
@@ -31,13 +31,13 @@ use Rattle.pci_function.specs.declared.record.Record.{Record}
 use Rattle.pci_tree.specs.Passes as passes
 use Rattle.pci_place.specs.Records.{IsRecordOf}
 use Rattle.pci_settle.specs.declared.kept.Kept.{Kept}
-use Rattle.pci_settle.specs.Kept.{kept_of, nothing_kept, AreKept}
+use Rattle.pci_settle.specs.Kept.{kept_of, nothing_kept, AreKeptParts}
 use Rattle.pci_stand.proofs.OfRecord.{window_is}
 use Rattle.pci_settled.specs.declared.places.Places.{Places}
 use Rattle.pci_settled.specs.Columns.{kind_number, list_at, AreListsFor, range_list}
-use Rattle.pci_settled.specs.Windows.{window_at, plain_of, prefetch_of, range_alone}
-use Rattle.pci_settled.specs.Places.{range_in, placed_at, or_kept, NotesOf}
-use Rattle.pci_settled.specs.Spaces.{HasWindowsOver, HasNone, KeepsOthers, HasNewPlaces, space_lack}
+use Rattle.pci_settled.specs.Windows.{window_range_at, plain_of, prefetch_of, range_alone}
+use Rattle.pci_settled.specs.Places.{place_range_in, placed_at, or_kept, NotesOf}
+use Rattle.pci_settled.specs.Spaces.{HasWindowsOver, HasNone, KeepsOtherSpace, HasNewPlaces, space_lack}
 use Rattle.pci_settled.proofs.Notes.{region}
 use Rattle.pci_settled.proofs.Parts.{in_space}
 use Rattle.pci_settled.proofs.Reached.{not_here, leads, reached, reached_first, reached_more, not_yet, reached_before}
@@ -45,14 +45,14 @@ use Rattle.pci_settled.proofs.Reached.{not_here, leads, reached, reached_first, 
 -- ---- what stays is a part that is looked at
 
 module _ (q : Request) (s : System) where
-  stands_held : (depth : ℕ) (r : Region) → holds_within q s (suc depth) r ≡ true → stands q s r ≡ true
+  stands_held : (depth : ℕ) (r : FunctionPart) → holds_within q s (suc depth) r ≡ true → stands q s r ≡ true
   unfolding holds_within
   stands_held depth r is = (and_parts (stands q s r) (has_room q s (holds_within q s depth) r.function r.part) is).0
 
-  stays_part : IsNested q.roots s → (r : Region) → Contains s r.function → stays q s r ≡ true → is_part q s r.function r.part ≡ true
+  stays_part : IsNested q.roots s → (r : FunctionPart) → Contains s r.function → stays q s r ≡ true → is_part q s r.function r.part ≡ true
   stays_part nested r listed is =
       (stands_by_itself q s nested).only r listed
-      (stands_held 255 r (and_parts (holds q s r) (list_all (λ b. holds q s (window_region (class_in q s r.function r.part) b)) (bridges_above s r.function.slot.bus)) is).0)
+      (stands_held 255 r (and_parts (has_room_behind q s r) (list_all (λ b. has_room_behind q s (window_part (class_in q s r.function r.part) b)) (bridges_above s r.function.slot.bus)) is).0)
 
 -- ---- windows
 
@@ -113,7 +113,7 @@ not_noted o old none = ap (λ x. or_kept (placed_at x) old) none
 -- each part has its new place where its bus is a root, or one of the first bridges leads there, and else none
 pub record IsPlacedTo (q : Request) (s : System) (space : Space) (n : ℕ) (table : List Places) : Type 0 where
   pub each : (k : ℕ) (f : Function) (d : Places) (part : Part) → slice_get s k ≡ Some f → has_part f part ≡ true → space_of f part ≡ space
-      → range_in (get_or table k d) part ≡ cond (reached q.roots s n f.slot.bus) (placed_at (new_place q s (region f part))) None
+      → place_range_in (get_or table k d) part ≡ cond (reached q.roots s n f.slot.bus) (placed_at (new_place q s (region f part))) None
 
 module _ (q : Request) (s : System) (system : IsSystem s) (nested : IsNested q.roots s) (space : Space) where
   listed_at : (k : ℕ) (f : Function) → slice_get s k ≡ Some f → Contains s f
@@ -131,12 +131,12 @@ module _ (q : Request) (s : System) (system : IsSystem s) (nested : IsNested q.r
     each = λ k f d part at there of. elim (cases_Bool (is_root q.roots f.slot.bus)) [
       | inl on ↦
           noted k f d part at there
-          ∙ either_noted (place_among (region f part) (placed_of (placing_on q s space root))) (range_in (get_or old k d) part) (none k f d part at there of)
+          ∙ either_noted (place_among (region f part) (placed_of (placing_on q s space root))) (place_range_in (get_or old k d) part) (none k f d part at there of)
           ∙ ap placed_at (new_is f part root of (roots_are_one q s space f.slot.bus root on is_one))
           ∙ sym (ap (λ b. cond b (placed_at (new_place q s (region f part))) None) (reached_first q.roots s f.slot.bus ∙ on))
       | inr off ↦
           noted k f d part at there
-          ∙ not_noted (place_among (region f part) (placed_of (placing_on q s space root))) (range_in (get_or old k d) part)
+          ∙ not_noted (place_among (region f part) (placed_of (placing_on q s space root))) (place_range_in (get_or old k d) part)
           (not_here q s system nested space root low f part (listed_at k f at) there (λ same beside. elim (or_cases (root == f.slot.bus) (is_root q.roots root && is_root q.roots f.slot.bus) beside) [
             | inl one ↦ both_ways (is_root q.roots f.slot.bus) off (subst (λ n. is_root q.roots n ≡ true) (eqb-true root f.slot.bus one) is_one)
             | inr both ↦ both_ways (is_root q.roots f.slot.bus) off (and_parts (is_root q.roots root) (is_root q.roots f.slot.bus) both).1
@@ -176,40 +176,40 @@ module _ (q : Request) (s : System) (system : IsSystem s) (nested : IsNested q.r
       no_root = false_from_ne_true (is_root q.roots (secondary g)) (is_no_root q.roots s system nested g (secondary g) listed_g bridge (at_secondary q.roots s system nested g (secondary g) listed_g bridge refl))
 
       -- its windows are those over the bus behind it: each where it stays, or at its place in the table
-      module _ (r : Record) (b : Bridge) (is : IsRecordOf s g r) (there : r.bridge ≡ Some b) (kept : List Kept) (keeps : AreKept s (stays q s) kept) (table : List Places) (was : IsPlacedTo q s space n table) (d : Places) where
+      module _ (r : Record) (b : Bridge) (is : IsRecordOf s g r) (there : r.bridge ≡ Some b) (kept : List Kept) (keeps : AreKeptParts s (stays q s) kept) (table : List Places) (was : IsPlacedTo q s space n table) (d : Places) where
         abbrev own : Kept
         own = get_or kept n nothing_kept
 
         abbrev over_it : WindowKind → List DecodedRange
-        over_it c = cond (stays q s (window_region c g)) (addresses (window_region c g) ∷ []) (placed_range (place_among (window_region c g) (placed_of (placing_on q s space g.slot.bus))))
+        over_it c = cond (stays q s (window_part c g)) (addresses (window_part c g) ∷ []) (placed_range (place_among (window_part c g) (placed_of (placing_on q s space g.slot.bus))))
 
-        stays_is : (c : WindowKind) → kept_of own (Window c) ≡ stays q s (window_region c g)
+        stays_is : (c : WindowKind) → kept_of own (Window c) ≡ stays q s (window_part c g)
         stays_is c = keeps n g (Window c) at_n bridge
 
-        staying : (c : WindowKind) → stays q s (window_region c g) ≡ true → range_alone (passes.range_in (window_of b.windows c)) ≡ addresses (window_region c g) ∷ []
+        staying : (c : WindowKind) → stays q s (window_part c g) ≡ true → range_alone (passes.range_in (window_of b.windows c)) ≡ addresses (window_part c g) ∷ []
         staying c on =
-            ap range_alone (window_is s g r b is there c ∙ ap (λ x. cond x (Some (range_of g (Window c))) None) (stays_part q s nested (window_region c g) listed_g on))
+            ap range_alone (window_is s g r b is there c ∙ ap (λ x. cond x (Some (range_of g (Window c))) None) (stays_part q s nested (window_part c g) listed_g on))
 
-        moving : (c : WindowKind) → window_space c ≡ space → range_alone (option_map decoded_range_of (range_in (get_or table n d) (Window c))) ≡ placed_range (place_among (window_region c g) (placed_of (placing_on q s space g.slot.bus)))
+        moving : (c : WindowKind) → window_space c ≡ space → range_alone (option_map decoded_range_of (place_range_in (get_or table n d) (Window c))) ≡ placed_range (place_among (window_part c g) (placed_of (placing_on q s space g.slot.bus)))
         moving c of =
             ap (λ o. range_alone (option_map decoded_range_of o))
             (was.each n g d (Window c) at_n bridge of ∙ ap (λ x. cond x (placed_at (new_place q s (region g (Window c)))) None) (reached_before q.roots s system nested n g at_n))
             ∙ list_placed (new_place q s (region g (Window c)))
             ∙ ap (λ x. placed_range (place_among (region g (Window c)) (placed_of (placing_on q s x g.slot.bus)))) of
 
-        by_stay : (c : WindowKind) → window_space c ≡ space → (on : Bool) → kept_of own (Window c) ≡ on → stays q s (window_region c g) ≡ on → range_alone (window_at own b (get_or table n d) c) ≡ over_it c
+        by_stay : (c : WindowKind) → window_space c ≡ space → (on : Bool) → kept_of own (Window c) ≡ on → stays q s (window_part c g) ≡ on → range_alone (window_range_at own b (get_or table n d) c) ≡ over_it c
         by_stay c of true told is_on =
-            ap (λ x. range_alone (cond x (passes.range_in (window_of b.windows c)) (option_map decoded_range_of (range_in (get_or table n d) (Window c))))) told
+            ap (λ x. range_alone (cond x (passes.range_in (window_of b.windows c)) (option_map decoded_range_of (place_range_in (get_or table n d) (Window c))))) told
             ∙ staying c is_on
-            ∙ sym (ap (λ x. cond x (addresses (window_region c g) ∷ []) (placed_range (place_among (window_region c g) (placed_of (placing_on q s space g.slot.bus))))) is_on)
+            ∙ sym (ap (λ x. cond x (addresses (window_part c g) ∷ []) (placed_range (place_among (window_part c g) (placed_of (placing_on q s space g.slot.bus))))) is_on)
         by_stay c of false told off =
-            ap (λ x. range_alone (cond x (passes.range_in (window_of b.windows c)) (option_map decoded_range_of (range_in (get_or table n d) (Window c))))) told
+            ap (λ x. range_alone (cond x (passes.range_in (window_of b.windows c)) (option_map decoded_range_of (place_range_in (get_or table n d) (Window c))))) told
             ∙ moving c of
-            ∙ sym (ap (λ x. cond x (addresses (window_region c g) ∷ []) (placed_range (place_among (window_region c g) (placed_of (placing_on q s space g.slot.bus))))) off)
+            ∙ sym (ap (λ x. cond x (addresses (window_part c g) ∷ []) (placed_range (place_among (window_part c g) (placed_of (placing_on q s space g.slot.bus))))) off)
 
-        pub windows_over : HasWindowsOver q s space (λ over. placed_of (placing_on q s space over)) (secondary g) (window_at own b (get_or table n d))
+        pub windows_over : HasWindowsOver q s space (λ over. placed_of (placing_on q s space over)) (secondary g) (window_range_at own b (get_or table n d))
         windows_over c of =
-            by_stay c of (stays q s (window_region c g)) (stays_is c) refl
+            by_stay c of (stays q s (window_part c g)) (stays_is c) refl
             ∙ sym (ap (window_ranges q s (λ over. placed_of (placing_on q s space over)) c) (over_is q.roots s system nested (secondary g) g (listed_g, bridge, refl)))
 
       pub placed_more : secondary g < 256 → (old new : List Places) → IsPlacedTo q s space n old → NotesOf s (placed_of (placing_on q s space (secondary g))) old new → IsPlacedTo q s space (n + 1) new
@@ -220,7 +220,7 @@ module _ (q : Request) (s : System) (system : IsSystem s) (nested : IsNested q.r
               let before : reached q.roots s n f.slot.bus ≡ false = ap (reached q.roots s n) (sym same) ∙ not_yet q.roots s system nested n g at_n bridge in
               let now : reached q.roots s (n + 1) f.slot.bus ≡ true = reached_more q.roots s n g at_n f.slot.bus ∙ or_right (reached q.roots s n f.slot.bus) (leads f.slot.bus g) (and_from (is_bridge g) (secondary g == f.slot.bus) bridge hit) in
               noted k f d part at there
-              ∙ either_noted (place_among (region f part) (placed_of (placing_on q s space (secondary g)))) (range_in (get_or old k d) part)
+              ∙ either_noted (place_among (region f part) (placed_of (placing_on q s space (secondary g)))) (place_range_in (get_or old k d) part)
               (was.each k f d part at there of ∙ ap (λ b. cond b (placed_at (new_place q s (region f part))) None) before)
               ∙ ap placed_at (new_is f part (secondary g) of (ap (placing_on q s space) (sym same)))
               ∙ sym (ap (λ b. cond b (placed_at (new_place q s (region f part))) None) now)
@@ -228,7 +228,7 @@ module _ (q : Request) (s : System) (system : IsSystem s) (nested : IsNested q.r
               let same : reached q.roots s (n + 1) f.slot.bus ≡ reached q.roots s n f.slot.bus =
               reached_more q.roots s n g at_n f.slot.bus ∙ ap (λ b. reached q.roots s n f.slot.bus || (b && secondary g == f.slot.bus)) bridge ∙ ap (λ b. reached q.roots s n f.slot.bus || b) miss ∙ or_nothing (reached q.roots s n f.slot.bus) in
               noted k f d part at there
-              ∙ not_noted (place_among (region f part) (placed_of (placing_on q s space (secondary g)))) (range_in (get_or old k d) part)
+              ∙ not_noted (place_among (region f part) (placed_of (placing_on q s space (secondary g)))) (place_range_in (get_or old k d) part)
               (not_here q s system nested space (secondary g) low f part (listed_at k f at) there
               (λ is beside. both_ways (secondary g == f.slot.bus) miss (eq-eqb (secondary g) f.slot.bus (on_it q.roots s system nested g f.slot.bus listed_g bridge beside))))
               ∙ was.each k f d part at there of
@@ -260,19 +260,19 @@ module _ (q : Request) (s : System) (system : IsSystem s) (nested : IsNested q.r
 
   -- ---- parts of the other space
 
-  pub others_kept : (bus : ℕ) → bus < 256 → (old new : List Places) → length new ≡ length old → NotesOf s (placed_of (placing_on q s space bus)) old new → KeepsOthers s space old new
+  pub others_kept : (bus : ℕ) → bus < 256 → (old new : List Places) → length new ≡ length old → NotesOf s (placed_of (placing_on q s space bus)) old new → KeepsOtherSpace s space old new
   others_kept bus low old new size noted = record {
     count = size;
     others = λ k f d part at there other.
         noted k f d part at there
-        ∙ not_noted (place_among (region f part) (placed_of (placing_on q s space bus))) (range_in (get_or old k d) part)
+        ∙ not_noted (place_among (region f part) (placed_of (placing_on q s space bus))) (place_range_in (get_or old k d) part)
         (not_here q s system nested space bus low f part (listed_at k f at) there (λ is beside. other is));
   }
 
-pub others_same : (s : System) (space : Space) (table : List Places) → KeepsOthers s space table table
+pub others_same : (s : System) (space : Space) (table : List Places) → KeepsOtherSpace s space table table
 others_same s space table = record { count = refl; others = λ k f d part at there other. refl }
 
-pub others_more : (s : System) (space : Space) (a b c : List Places) → KeepsOthers s space a b → KeepsOthers s space b c → KeepsOthers s space a c
+pub others_more : (s : System) (space : Space) (a b c : List Places) → KeepsOtherSpace s space a b → KeepsOtherSpace s space b c → KeepsOtherSpace s space a c
 others_more s space a b c first second = record {
   count = second.count ∙ first.count;
   others = λ k f d part at there other. second.others k f d part at there other ∙ first.others k f d part at there other;

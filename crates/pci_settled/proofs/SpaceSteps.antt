@@ -15,7 +15,7 @@ use Rattle.pci_spec.proofs.BusRanges.{root_means}
 use Rattle.pci_spec.proofs.Members.{in_head, in_filter_to, in_range_to}
 use Rattle.settle_spec.specs.Lists.{Lists, Request}
 use Rattle.settle_spec.specs.Items.{Placing, place_all}
-use Rattle.settle_spec.specs.Places.{placed_of, first_lack, ranges_for, space_items, taken_at, placing_on}
+use Rattle.settle_spec.specs.Places.{placed_of, first_lack, ranges_of_item, space_items, taken_at, placing_on}
 use Rattle.settle_spec.proofs.Buses.{placing_by_bus}
 use Rattle.pci_base.specs.declared.range.Range.{Range}
 use Rattle.pci_base.specs.Ranges.{decoded_range_of}
@@ -38,10 +38,10 @@ use Rattle.pci_settled.specs.declared.places.Places.{Places}
 use Rattle.pci_settled.specs.Candidates.{candidate_value, HasSpaceWindows, HasWindowsIn, KnowsWindows, KnowsRequest, pass}
 use Rattle.pci_settled.specs.Staying.{IsStaying, setting}
 use Rattle.pci_settled.specs.Columns.{range_list}
-use Rattle.pci_settled.specs.Windows.{window_at, plain_of, prefetch_of}
+use Rattle.pci_settled.specs.Windows.{window_range_at, plain_of, prefetch_of}
 use Rattle.pci_settled.specs.BusPlaces.{ArePlacesIn}
-use Rattle.pci_settled.specs.Places.{range_in, NotesOf}
-use Rattle.pci_settled.specs.Spaces.{HasWindowsOver, windows_by, AreNotedFor, AreNotedOnRoots, AreNotedBehind, HasNone, KeepsOthers, AreSpacePlaces, space_lack}
+use Rattle.pci_settled.specs.Places.{place_range_in, NotesOf}
+use Rattle.pci_settled.specs.Spaces.{HasWindowsOver, windows_by, AreNotedFor, AreNotedOnRoots, AreNotedBehind, HasNone, KeepsOtherSpace, AreSpacePlaces, space_lack}
 use Rattle.pci_settled.proofs.SpacePlaces.{window_lists_for, IsPlacedTo, placed_roots, placed_nowhere, placed_same, no_root, windows_over, placed_more, placed_all, others_kept, others_same, others_more, lack_same}
 
 -- ---- roots
@@ -94,15 +94,15 @@ three_are a b c x y z e f g = ap (λ u. u ∷ (b ∷ (c ∷ []))) e ∙ ap (λ u
 
 pub behind_noted : (roots : List ℕ) (s : System) (space : Space) (t : Terms) (st : Staying) (w : SpaceWindows) (b : Bridge) → is_root roots b.secondary ≡ false → (k : ℕ) (old new : List Places) → k < length old → (e : Places)
     → (own : Kept) → ((part : Part) → kept_of own part ≡ kept_of (get_or st.left.kept.now k nothing_kept) part)
-    → (plain prefetch : Option Range) → option_map decoded_range_of plain ≡ plain_of space (window_at own b (get_or old k e)) → option_map decoded_range_of prefetch ≡ prefetch_of space (window_at own b (get_or old k e))
+    → (plain prefetch : Option Range) → option_map decoded_range_of plain ≡ plain_of space (window_range_at own b (get_or old k e)) → option_map decoded_range_of prefetch ≡ prefetch_of space (window_range_at own b (get_or old k e))
     → (lists : List (List Range)) → lists ≡ range_list plain ∷ (range_list plain ∷ (range_list prefetch ∷ []))
     → (placing : Placing) → ArePlacesIn (pass roots s space t st w) b.secondary lists placing → (IsSystem s → NotesOf s (placed_of placing) old new) → AreNotedBehind (pass roots s space t st w) k b old new
 behind_noted roots s space t st w b off k old new within e own own_is plain prefetch plain_is prefetch_is lists lists_are placing are noted q placed d system stay has over =
     let p = get_or old k e in
-    let windows = window_at own b p in
+    let windows = window_range_at own b p in
     let same : windows_by st old k d b ≡ windows =
-    fun_ext (λ c. ap (λ x. window_at (get_or st.left.kept.now k nothing_kept) b x c) (get_or_default old k d e within)
-    ∙ ap (λ on. cond on (passes.range_in (window_of b.windows c)) (option_map decoded_range_of (range_in p (Window c)))) (sym (own_is (Window c)))) in
+    fun_ext (λ c. ap (λ x. window_range_at (get_or st.left.kept.now k nothing_kept) b x c) (get_or_default old k d e within)
+    ∙ ap (λ on. cond on (passes.range_in (window_of b.windows c)) (option_map decoded_range_of (place_range_in p (Window c)))) (sym (own_is (Window c)))) in
     let for = window_lists_for q s space placed b.secondary plain prefetch windows (ap (λ rs. is_root rs b.secondary) stay.left.rooted ∙ off) plain_is prefetch_is
     (subst (HasWindowsOver q s space placed b.secondary) same over) in
     subst (λ r. NotesOf s (placed_of r) old new) (subst (λ ls. ArePlacesIn (pass roots s space t st w) b.secondary ls placing) lists_are are q placed stay has for) (noted system)
@@ -111,7 +111,7 @@ behind_noted roots s space t st w b off k old new within e own own_is plain pref
 
 pub record IsSpaceTo (roots : List ℕ) (s : System) (space : Space) (l : Lists) (t : Terms) (st : Staying) (w : SpaceWindows) (n : ℕ) (start table : List Places) : Type 0 where
   pub count : length table ≡ length s
-  pub others : KeepsOthers s space start table
+  pub others : KeepsOtherSpace s space start table
   pub lacks : (q : Request) → IsStaying q (setting roots s t st) → q.lists ≡ l → HasSpaceWindows q s space t w → space_lack q s space q.roots ≡ None
   pub placed : (q : Request) → IsStaying q (setting roots s t st) → q.lists ≡ l → HasSpaceWindows q s space t w → IsPlacedTo q s space n table
 
@@ -135,8 +135,8 @@ module _ (roots : List ℕ) (s : System) (system : IsSystem s) (nested : IsNeste
       let noted = are q stay same has in
       lack_same q s space root noted.on q.roots refl ∙ sym noted.lacking
 
-  pub roots_others : (old new : List Places) (lack : Option Candidate) → length new ≡ length old → AreNotedOnRoots (pass roots s space t st w) l old new lack → KeepsOthers s space old new
-  roots_others old new lack size (inl none) = subst (KeepsOthers s space old) (sym none.same) (others_same s space old)
+  pub roots_others : (old new : List Places) (lack : Option Candidate) → length new ≡ length old → AreNotedOnRoots (pass roots s space t st w) l old new lack → KeepsOtherSpace s space old new
+  roots_others old new lack size (inl none) = subst (KeepsOtherSpace s space old) (sym none.same) (others_same s space old)
   roots_others old new lack size (inr (root, are)) =
       let noted = are q1 known.stay known.lists (windows q1 known.stay) in
       others_kept q1 s system (nested_for q1 known.stay) space root noted.small old new size noted.noted
@@ -202,7 +202,7 @@ module _ (roots : List ℕ) (s : System) (system : IsSystem s) (nested : IsNeste
               subst (λ bus. HasWindowsOver q s space placed bus (windows_by st old n no_places b)) (sym leads_to)
               (windows_over q s system (nested_for q stay) space n here.f here.at is_one r b here.is there st.left.kept.now stay.keeps_is old (was.placed q stay same has) no_places) in
               subst (λ r. NotesOf s (placed_of r) old new) (sym (placing_by_bus q s system (nested_for q stay) space (secondary here.f) small))
-              (subst (λ bus. NotesOf s (placed_of (place_all (ranges_for q s placed) (taken_at q s space bus) (space_items q s space bus))) old new) leads_to (are q placed no_places system stay has over))
+              (subst (λ bus. NotesOf s (placed_of (place_all (ranges_of_item q s placed) (taken_at q s space bus) (space_items q s space bus))) old new) leads_to (are q placed no_places system stay has over))
 
   -- ---- all of them
 

@@ -16,7 +16,7 @@ use Rattle.plan_spec.proofs.Planning.Safe.{slots_of}
 use Rattle.settle_spec.specs.FirstPlace.{is_high}
 use Rattle.settle_spec.specs.Lists.{Request}
 use Rattle.settle_spec.specs.Items.{Item as ItemValue, Placed}
-use Rattle.settle_spec.specs.Places.{space_items, ranges_for}
+use Rattle.settle_spec.specs.Places.{space_items, ranges_of_item}
 use Rattle.settle_spec.proofs.Buses.{of_space}
 use Rattle.pci_function.specs.declared.record.Record.{Record}
 use Rattle.pci_function.specs.Values.{record_value}
@@ -29,10 +29,10 @@ use Rattle.pci_base.specs.declared.range.Range.{Range}
 use Rattle.pci_settle.specs.declared.item.Part.TheVariants.{Bar}
 use Rattle.pci_settle.specs.declared.placing.Wanted.{Wanted}
 use Rattle.pci_settle.specs.Spots.{extent_value}
-use Rattle.pci_settle.specs.Placings.{HasList, AreWanted, AreEnding}
+use Rattle.pci_settle.specs.Placings.{HasListAt, AreWanted, AreEnding}
 use Rattle.pci_settled.specs.declared.candidate.Candidate.{Candidate}
-use Rattle.pci_settled.specs.Candidates.{candidate_value, IsLawful, IsWithin, HasPart}
-use Rattle.pci_settled.specs.Columns.{kind_number, column, list_number, wanted_value, list_at, AreListsFor}
+use Rattle.pci_settled.specs.Candidates.{candidate_value, HasAddressAndAlignment, IsWithin, HasPart}
+use Rattle.pci_settled.specs.Columns.{kind_number, column, list_number, candidate_wanted, list_at, AreListsFor}
 use Rattle.pci_settled.specs.Places.{AreEndingAt}
 use Rattle.pci_settled.proofs.Parts.{real_in}
 
@@ -49,7 +49,7 @@ no_candidate = record { class = classes.Io; item = record { function = 0; part =
 -- one more is wanted
 pub wanted_more : (roots : List ℕ) (s : System) (records : List Record) → HasRecords s (map record_value records) → (c : Candidate) → c.item.function < length records → (r : Record) → r ≡ get_or records c.item.function r
     → (bus : ℕ) → bus ≡ r.slot.bus → (m : ℕ) → m ≡ column roots bus → (n : ℕ) → n ≡ kind_number (kind_value c.class) (is_high (extent_value c.item.extent)) → (old : List Wanted)
-    → old ++ record { extent = c.item.extent; list = 3 * m + n } ∷ [] ≡ old ++ wanted_value roots s c ∷ []
+    → old ++ record { extent = c.item.extent; list = 3 * m + n } ∷ [] ≡ old ++ candidate_wanted roots s c ∷ []
 wanted_more roots s records has c within r is bus on m m_is n n_is old =
     ap (λ k. old ++ record { extent = c.item.extent; list = 3 * k + n } ∷ []) (m_is ∙ ap (column roots) (on ∙ bus_is s records has c.item.function r within is))
     ∙ ap (λ k. old ++ record { extent = c.item.extent; list = 3 * column roots (function_in s c.item.function).slot.bus + k } ∷ []) n_is
@@ -105,23 +105,23 @@ module _ (q : Request) (s : System) (system : IsSystem s) (space : Space) (bus :
             omega (arith, some, at, few)
       ]
 
-  module _ (wanted : List Wanted) (is : wanted ≡ map (wanted_value q.roots s) candidates) where
+  module _ (wanted : List Wanted) (is : wanted ≡ map (candidate_wanted q.roots s) candidates) where
     count_is : length wanted ≡ length candidates
-    count_is = ap length is ∙ length-map candidates (wanted_value q.roots s)
+    count_is = ap length is ∙ length-map candidates (candidate_wanted q.roots s)
 
-    wanted_at : (k : ℕ) (w : Wanted) (d : Candidate) → k < length candidates → get_or wanted k w ≡ wanted_value q.roots s (get_or candidates k d)
-    wanted_at k w d less = ap (λ ws. get_or ws k w) is ∙ get_or-map (wanted_value q.roots s) candidates k d w less
+    wanted_at : (k : ℕ) (w : Wanted) (d : Candidate) → k < length candidates → get_or wanted k w ≡ candidate_wanted q.roots s (get_or candidates k d)
+    wanted_at k w d less = ap (λ ws. get_or ws k w) is ∙ get_or-map (candidate_wanted q.roots s) candidates k d w less
 
-    pub wanted_lawful : (count : ℕ) → 3 ≤ count → (is_root q.roots bus ≡ true → count ≡ 768) → (d : Candidate) → All IsLawful candidates → All (HasList count) wanted
+    pub wanted_lawful : (count : ℕ) → 3 ≤ count → (is_root q.roots bus ≡ true → count ≡ 768) → (d : Candidate) → All HasAddressAndAlignment candidates → All (HasListAt count) wanted
     wanted_lawful count some all d lawful = λ k w less. (
         let long = count_is in
         let within : k < length candidates = omega (arith, less, long) in
-        subst (HasList count) (sym (wanted_at k w d within)) record {
+        subst (HasListAt count) (sym (wanted_at k w d within)) record {
           extent = lawful k d within;
           list = number_in count some all (candidate_value s (get_or candidates k d)) (listed_at k d within);
         })
 
-    pub are_wanted : (placed : ℕ → List Placed) (lists : List (List Range)) → AreListsFor q s space placed bus lists → (d : Candidate) → AreWanted lists (ranges_for q s placed) (map (candidate_value s) candidates) wanted
+    pub are_wanted : (placed : ℕ → List Placed) (lists : List (List Range)) → AreListsFor q s space placed bus lists → (d : Candidate) → AreWanted lists (ranges_of_item q s placed) (map (candidate_value s) candidates) wanted
     are_wanted placed lists for d = record {
       count = length-map candidates (candidate_value s) ∙ sym count_is;
       each = λ k i w less. (
@@ -131,7 +131,7 @@ module _ (q : Request) (s : System) (system : IsSystem s) (space : Space) (bus :
           let own = wanted_at k w d within in
           record {
             extent = ap (λ (j : ItemValue). j.extent) here ∙ ap (λ (x : Wanted). extent_value x.extent) (sym own);
-            list = ap (ranges_for q s placed) here ∙ for (candidate_value s (get_or candidates k d)) (listed_at k d within) ∙ ap (λ (x : Wanted). list_at lists x.list) (sym own);
+            list = ap (ranges_of_item q s placed) here ∙ for (candidate_value s (get_or candidates k d)) (listed_at k d within) ∙ ap (λ (x : Wanted). list_at lists x.list) (sym own);
           });
     }
 
@@ -145,5 +145,5 @@ module _ (q : Request) (s : System) (system : IsSystem s) (space : Space) (bus :
     are_ending places (Some k) c ends = tt
     are_ending places None c ends = λ k d less. (
         let long = count_is in
-        let w = wanted_value q.roots s c in
+        let w = candidate_wanted q.roots s c in
         subst (λ (x : Wanted). get_or places k 0 + (x.extent.size - 1) < 2 ^ 64) (wanted_at k w d less) (ends k w (omega (arith, less, long))))

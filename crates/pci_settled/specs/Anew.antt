@@ -11,7 +11,7 @@ use Rattle.pci_settled.specs.declared.places.Places.{Places}
 use Rattle.pci_settled.specs.declared.anew.Unplaced.{Unplaced}
 use Rattle.pci_settled.specs.declared.anew.Unplaced.TheVariants as unplaced
 use Rattle.pci_settled.specs.Candidates.{candidate_value}
-use Rattle.pci_settled.specs.Placed.{ArePlaced}
+use Rattle.pci_settled.specs.Placed.{ArePartsPlaced}
 use Rattle.pci_settled.specs.Placed as placed
 
 -- all is placed anew below these roots, in these lists
@@ -22,11 +22,11 @@ pub record IsAnewIn (q : Request) (roots : List ℕ) (l : Lists) : Type 0 where
 
 -- each part of a function has the place that it gets
 abbrev pub ArePlacedAnew : Request → System → List Places → Type 0
-ArePlacedAnew q s table = ArePlaced q s table
+ArePlacedAnew q s table = ArePartsPlaced q s table
 
 -- a new window is too large, and where it is of memory, nothing lacks a place in I/O
-abbrev pub IsFirstTooLarge : Request → System → WindowKind → ℕ → Type 0
-IsFirstTooLarge q s c k = placed.IsFirstTooLarge q s c k
+abbrev pub IsTooLargeAnew : Request → System → WindowKind → ℕ → Type 0
+IsTooLargeAnew q s c k = placed.IsFirstWindowTooLarge q s c k
 
 abbrev pub AreNewPlaces : List ℕ → System → Lists → List Places → Type 0
 AreNewPlaces roots s l table = (q : Request) → IsAnewIn q roots l → ArePlacedAnew q s table
@@ -36,4 +36,4 @@ IsUnplaced roots s l refused.Memory = ⊤
 IsUnplaced roots s l (refused.Fault (unplaced.Lacks x)) =
     (q : Request) → IsAnewIn q roots l → lacking q s ≡ Some (candidate_value s x)
 IsUnplaced roots s l (refused.Fault (unplaced.TooLarge class k)) =
-    (q : Request) → IsAnewIn q roots l → IsFirstTooLarge q s (kind_value class) k
+    (q : Request) → IsAnewIn q roots l → IsTooLargeAnew q s (kind_value class) k

@@ -4,12 +4,12 @@ use Rattle.std.specs.List.{All}
 use Rattle.pci_spec.specs.System.{System}
 use Rattle.settle_spec.specs.Lists.{Request}
 use Rattle.settle_spec.specs.Items.{Placed, Placing, place_all}
-use Rattle.settle_spec.specs.Places.{space_items, taken_at, ranges_for}
+use Rattle.settle_spec.specs.Places.{space_items, taken_at, ranges_of_item}
 use Rattle.pci_base.specs.declared.range.Range.{Range}
 use Rattle.pci_settle.specs.Placings.{placing_of}
 use Rattle.pci_settled.specs.declared.candidate.Candidate.{Candidate}
 use Rattle.pci_settled.specs.Staying.{IsStaying}
-use Rattle.pci_settled.specs.Candidates.{candidate_value, IsWithin, IsLawful, HasPart, Pass, HasWindowsOf}
+use Rattle.pci_settled.specs.Candidates.{candidate_value, IsWithin, HasAddressAndAlignment, HasPart, Pass, HasAskedWindows}
 use Rattle.pci_settled.specs.Columns.{AreListsFor}
 use Rattle.pci_settled.specs.Places.{AreEndingAt}
 
@@ -18,11 +18,11 @@ abbrev pub bus_placing : System → List Candidate → List ℕ → Option ℕ �
 bus_placing s candidates places lack = placing_of (map (candidate_value s) candidates) places lack
 
 -- each item is a part of a function, and has an entry in the table of places
-pub record AreWithin (s : System) (candidates : List Candidate) (places : List ℕ)
+pub record AreInTable (s : System) (candidates : List Candidate) (places : List ℕ)
     (lack : Option ℕ) : Type 0 where
   pub functions : All (IsWithin (length s)) candidates
   pub parts : All (HasPart s) candidates
-  pub lawful : All IsLawful candidates
+  pub lawful : All HasAddressAndAlignment candidates
   pub count : length places ≡ length candidates
   pub lacking : IfSome lack (λ k. k < length candidates)
   pub ends : IfNone lack (AreEndingAt candidates places)
@@ -30,8 +30,8 @@ pub record AreWithin (s : System) (candidates : List Candidate) (places : List �
 -- they are those in some lists of ranges, whatever is told of places on other buses
 abbrev pub ArePlacesIn : Pass → ℕ → List (List Range) → Placing → Type 0
 ArePlacesIn p bus lists placing =
-    (q : Request) (placed : ℕ → List Placed) → IsStaying q p.setting → HasWindowsOf q p
+    (q : Request) (placed : ℕ → List Placed) → IsStaying q p.setting → HasAskedWindows q p
     → AreListsFor q p.setting.system p.space placed bus lists
     → placing
-    ≡ place_all (ranges_for q p.setting.system placed) (taken_at q p.setting.system p.space bus)
+    ≡ place_all (ranges_of_item q p.setting.system placed) (taken_at q p.setting.system p.space bus)
     (space_items q p.setting.system p.space bus)

@@ -3,7 +3,7 @@ use Rattle.std.specs.Prelude.{◌≡◌, ℕ, ◌<◌, IsTrue, List, ◌++◌, m
 use Rattle.pci_spec.specs.Window.{WindowKind, IoWindow, MemoryWindow, PrefetchWindow}
 use Rattle.pci_spec.specs.System.{System, Space, Io, Memory, has_part}
 use Rattle.settle_spec.specs.Lists.{Lists, Request}
-use Rattle.settle_spec.specs.Items.{Item as ItemValue, items_on, new_window, stays}
+use Rattle.settle_spec.specs.Items.{Item as ItemValue, bus_items, new_window, stays}
 use Rattle.settle_spec.specs.Places.{space_items}
 use Rattle.pci_base.specs.declared.window_kind.WindowKind.{WindowKind as Class}
 use Rattle.pci_base.specs.Space.{space_of}
@@ -13,7 +13,7 @@ use Rattle.pci_settle.specs.declared.extent.Extent.{Extent}
 use Rattle.pci_settle.specs.declared.item.Item.{Item}
 use Rattle.pci_settle.specs.declared.own.Terms.{Terms}
 use Rattle.pci_settle.specs.Spots.{IsExtent}
-use Rattle.pci_settle.specs.Own.{item_value}
+use Rattle.pci_settle.specs.Own.{asked_item_value}
 use Rattle.pci_settle.specs.Buses.{AreWindows}
 use Rattle.pci_settle.specs.NewWindows.{HasNewWindows}
 use Rattle.pci_settled.specs.declared.candidate.Candidate.{Candidate}
@@ -26,11 +26,11 @@ abbrev pub of_class : Class → Item → Candidate
 of_class class i = record { class = class; item = i }
 
 abbrev pub candidate_value : System → Candidate → ItemValue
-candidate_value s c = item_value s (kind_value c.class) c.item
+candidate_value s c = asked_item_value s (kind_value c.class) c.item
 
 -- it has an address, and an alignment
-abbrev pub IsLawful : Candidate → Type 0
-IsLawful c = IsExtent c.item.extent
+abbrev pub HasAddressAndAlignment : Candidate → Type 0
+HasAddressAndAlignment c = IsExtent c.item.extent
 
 -- it is of one of so many functions
 abbrev pub IsWithin : ℕ → Candidate → Type 0
@@ -49,7 +49,7 @@ AreAddedOf p c windows bus old new =
     (q : Request) → IsStaying q p → HasNewWindows q p.system c p.terms windows
     → map (candidate_value p.system) new
     ≡ map (candidate_value p.system) old
-    ++ items_on q p.system c (stays q p.system) (new_window q p.system c) bus
+    ++ bus_items q p.system c (stays q p.system) (new_window q p.system c) bus
 
 -- ---- of a space
 
@@ -88,18 +88,18 @@ pass_value p = record {
 }
 
 -- they are those of what is asked for
-abbrev pub HasWindowsOf : Request → Pass → Type 0
-HasWindowsOf q p = HasSpaceWindows q p.setting.system p.space p.setting.terms p.windows
+abbrev pub HasAskedWindows : Request → Pass → Type 0
+HasAskedWindows q p = HasSpaceWindows q p.setting.system p.space p.setting.terms p.windows
 
 -- they are the new windows, whatever is asked for in these terms
 abbrev pub HasWindowsIn : Pass → Type 0
-HasWindowsIn p = (q : Request) → IsStaying q p.setting → HasWindowsOf q p
+HasWindowsIn p = (q : Request) → IsStaying q p.setting → HasAskedWindows q p
 
 -- something can be asked for of which they are the new windows
 pub record KnowsWindows (p : Pass) : Type 0 where
   pub request : Request
   pub stay : IsStaying request p.setting
-  pub has : HasWindowsOf request p
+  pub has : HasAskedWindows request p
 
 -- something can be asked for in these lists of which this stays
 pub record KnowsRequest (p : Setting) (l : Lists) : Type 0 where
@@ -110,6 +110,6 @@ pub record KnowsRequest (p : Setting) (l : Lists) : Type 0 where
 -- the items of a bus in a space
 abbrev pub AreCandidatesOf : Pass → ℕ → List Candidate → Type 0
 AreCandidatesOf p bus candidates =
-    (q : Request) → IsStaying q p.setting → HasWindowsOf q p
+    (q : Request) → IsStaying q p.setting → HasAskedWindows q p
     → map (candidate_value p.setting.system) candidates
     ≡ space_items q p.setting.system p.space bus

@@ -8,7 +8,7 @@ use Rattle.pci_spec.specs.Bus.{is_root}
 use Rattle.settle_spec.specs.FirstPlace.{is_high}
 use Rattle.settle_spec.specs.Lists.{RootRange, Lists, Request, is_had_by}
 use Rattle.settle_spec.specs.Items.{Item as ItemValue, Placed}
-use Rattle.settle_spec.specs.Places.{space_items, ranges_for}
+use Rattle.settle_spec.specs.Places.{space_items, ranges_of_item}
 use Rattle.pci_base.specs.declared.range.Range.{Range}
 use Rattle.pci_base.specs.Ranges.{decoded_range_of}
 use Rattle.pci_settle.specs.declared.placing.Wanted.{Wanted}
@@ -31,8 +31,8 @@ abbrev pub list_number : List ℕ → ItemValue → ℕ
 list_number roots i =
     3 * column roots i.region.function.slot.bus + kind_number i.class (is_high i.extent)
 
-abbrev pub wanted_value : List ℕ → System → Candidate → Wanted
-wanted_value roots s c =
+abbrev pub candidate_wanted : List ℕ → System → Candidate → Wanted
+candidate_wanted roots s c =
     record { extent = c.item.extent; list = list_number roots (candidate_value s c) }
 
 abbrev pub list_at : List (List Range) → ℕ → List DecodedRange
@@ -42,7 +42,7 @@ list_at lists n = map decoded_range_of (slice_index_or lists n [])
 abbrev pub AreListsFor : Request → System → Space → (ℕ → List Placed) → ℕ → List (List Range) → Type 0
 AreListsFor q s space placed bus lists =
     (i : ItemValue) → Contains (space_items q s space bus) i
-    → ranges_for q s placed i ≡ list_at lists (list_number q.roots i)
+    → ranges_of_item q s placed i ≡ list_at lists (list_number q.roots i)
 
 -- ---- of roots
 

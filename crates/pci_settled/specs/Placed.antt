@@ -10,7 +10,7 @@ use Rattle.pci_base.specs.declared.memory.Refused.TheVariants as refused
 use Rattle.pci_base.specs.WindowKinds.{kind_value}
 use Rattle.pci_settle.specs.declared.extent.Extent.{Extent}
 use Rattle.pci_settle.specs.declared.over.Left.{Left}
-use Rattle.pci_settle.specs.Kept.{AreKept}
+use Rattle.pci_settle.specs.Kept.{AreKeptParts}
 use Rattle.pci_settle.specs.Over.{AreOpenOver}
 use Rattle.pci_settle.specs.NewWindows.{HasNewWindows, IsTooLarge}
 use Rattle.pci_settled.specs.declared.places.Places.{Places}
@@ -18,7 +18,7 @@ use Rattle.pci_settled.specs.declared.anew.Unplaced.{Unplaced}
 use Rattle.pci_settled.specs.declared.anew.Unplaced.TheVariants as unplaced
 use Rattle.pci_settled.specs.Staying.{Setting, IsStaying}
 use Rattle.pci_settled.specs.Candidates.{candidate_value}
-use Rattle.pci_settled.specs.Places.{range_in, placed_at}
+use Rattle.pci_settled.specs.Places.{place_range_in, placed_at}
 use Rattle.pci_settled.specs.Spaces.{HasNewPlaces, space_lack}
 
 -- ---- windows
@@ -28,16 +28,16 @@ HasClassWindows p c windows =
     (q : Request) → IsStaying q p → HasNewWindows q p.system c p.terms windows
 
 -- a new window of a class is too large, or there was no memory
-abbrev pub IsTooLargeOf : Setting → WindowKind → Refused Unplaced → Type 0
-IsTooLargeOf p c refused.Memory = ⊤
-IsTooLargeOf p c (refused.Fault (unplaced.Lacks x)) = ⊥
-IsTooLargeOf p c (refused.Fault (unplaced.TooLarge class k)) =
+abbrev pub IsClassTooLarge : Setting → WindowKind → Refused Unplaced → Type 0
+IsClassTooLarge p c refused.Memory = ⊤
+IsClassTooLarge p c (refused.Fault (unplaced.Lacks x)) = ⊥
+IsClassTooLarge p c (refused.Fault (unplaced.TooLarge class k)) =
     (kind_value class ≡ c) × ((q : Request) → IsStaying q p → IsTooLarge q p.system c k)
 
-abbrev pub IsTooLargeIn : Setting → Space → Refused Unplaced → Type 0
-IsTooLargeIn p space refused.Memory = ⊤
-IsTooLargeIn p space (refused.Fault (unplaced.Lacks x)) = ⊥
-IsTooLargeIn p space (refused.Fault (unplaced.TooLarge class k)) =
+abbrev pub IsSpaceTooLarge : Setting → Space → Refused Unplaced → Type 0
+IsSpaceTooLarge p space refused.Memory = ⊤
+IsSpaceTooLarge p space (refused.Fault (unplaced.Lacks x)) = ⊥
+IsSpaceTooLarge p space (refused.Fault (unplaced.TooLarge class k)) =
     (window_space (kind_value class) ≡ space)
     × ((q : Request) → IsStaying q p → IsTooLarge q p.system (kind_value class) k)
 
@@ -67,19 +67,19 @@ IsUnplacedIn p space l (refused.Fault (unplaced.TooLarge class k)) =
 abbrev pub AreAllNone : List Places → Type 0
 AreAllNone table =
     (k : ℕ) (d : Places) (part : Part) → k < length table
-    → range_in (slice_index_or table k d) part ≡ None
+    → place_range_in (slice_index_or table k d) part ≡ None
 
 -- nothing on the roots lacks a place, and each part of a function has the one that it gets: none for what stays
-pub record ArePlaced (q : Request) (s : System) (table : List Places) : Type 0 where
+pub record ArePartsPlaced (q : Request) (s : System) (table : List Places) : Type 0 where
   pub count : length table ≡ length s
   pub lack : lacking q s ≡ None
   pub each : (k : ℕ) (f : Function) (d : Places) (part : Part) → slice_get s k ≡ Some f
       → IsTrue (has_part f part)
-      → range_in (slice_index_or table k d) part
+      → place_range_in (slice_index_or table k d) part
       ≡ placed_at (new_place q s record { function = f; part = part })
 
 -- a new window is too large, and where it is of memory, nothing lacks a place in I/O
-pub record IsFirstTooLarge (q : Request) (s : System) (c : WindowKind) (k : ℕ) : Type 0 where
+pub record IsFirstWindowTooLarge (q : Request) (s : System) (c : WindowKind) (k : ℕ) : Type 0 where
   pub large : IsTooLarge q s c k
   pub io : window_space c ≡ Memory → space_lack q s Io q.roots ≡ None
 
@@ -90,7 +90,7 @@ pub record IsLeaving (q : Request) (roots : List ℕ) (s : System) (l : Lists) (
   pub rooted : q.roots ≡ roots
   pub lists : q.lists ≡ l
   pub overs_are : AreOpenOver q s left.over.now
-  pub keeps_is : AreKept s (stays q s) left.kept.now
+  pub keeps_is : AreKeptParts s (stays q s) left.kept.now
 
 -- something can be asked for that leaves them
 pub record CanBeLeft (roots : List ℕ) (s : System) (l : Lists) (left : Left) : Type 0 where
@@ -99,7 +99,7 @@ pub record CanBeLeft (roots : List ℕ) (s : System) (l : Lists) (left : Left) :
 
 -- all that doesn't stay has its place
 abbrev pub ArePlacesOff : List ℕ → System → Lists → Left → List Places → Type 0
-ArePlacesOff roots s l left table = (q : Request) → IsLeaving q roots s l left → ArePlaced q s table
+ArePlacesOff roots s l left table = (q : Request) → IsLeaving q roots s l left → ArePartsPlaced q s table
 
 -- an item on the roots is the first that lacks a place, or a new window is too large, or there was no memory
 abbrev pub IsUnplacedOff : List ℕ → System → Lists → Left → Refused Unplaced → Type 0
@@ -107,4 +107,4 @@ IsUnplacedOff roots s l left refused.Memory = ⊤
 IsUnplacedOff roots s l left (refused.Fault (unplaced.Lacks x)) =
     (q : Request) → IsLeaving q roots s l left → lacking q s ≡ Some (candidate_value s x)
 IsUnplacedOff roots s l left (refused.Fault (unplaced.TooLarge class k)) =
-    (q : Request) → IsLeaving q roots s l left → IsFirstTooLarge q s (kind_value class) k
+    (q : Request) → IsLeaving q roots s l left → IsFirstWindowTooLarge q s (kind_value class) k

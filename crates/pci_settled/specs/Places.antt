@@ -12,21 +12,21 @@ use Rattle.pci_settle.specs.declared.item.Part.{Part as CodePart}
 use Rattle.pci_settle.specs.declared.item.Part.TheVariants as parts
 use Rattle.pci_settled.specs.declared.candidate.Candidate.{Candidate}
 use Rattle.pci_settled.specs.declared.places.Places.{Places}
-use Rattle.pci_settled.specs.Candidates.{IsWithin, IsLawful}
+use Rattle.pci_settled.specs.Candidates.{IsWithin, HasAddressAndAlignment}
 
 -- a header has six Base Address registers at most
-abbrev pub IsPart : CodePart → Type 0
-IsPart (parts.Bar n) = n < 6
-IsPart parts.Rom = Unit {0}
-IsPart parts.Window = Unit {0}
+abbrev pub IsPlacesPart : CodePart → Type 0
+IsPlacesPart (parts.Bar n) = n < 6
+IsPlacesPart parts.Rom = Unit {0}
+IsPlacesPart parts.Window = Unit {0}
 
 -- the addresses of a part
-abbrev pub range_in : Places → Part → Option Range
-range_in p (Bar n) = slice_index_or p.bars n None
-range_in p Rom = p.rom
-range_in p (Window IoWindow) = p.windows.io
-range_in p (Window MemoryWindow) = p.windows.memory
-range_in p (Window PrefetchWindow) = p.windows.prefetchable
+abbrev pub place_range_in : Places → Part → Option Range
+place_range_in p (Bar n) = slice_index_or p.bars n None
+place_range_in p Rom = p.rom
+place_range_in p (Window IoWindow) = p.windows.io
+place_range_in p (Window MemoryWindow) = p.windows.memory
+place_range_in p (Window PrefetchWindow) = p.windows.prefetchable
 
 -- those of an item at its place
 abbrev pub placed_at : Option Placed → Option Range
@@ -50,16 +50,16 @@ abbrev pub NotesOf : System → List Placed → List Places → List Places → 
 NotesOf s placed old new =
     (k : ℕ) (f : Function) (d : Places) (part : Part) → slice_get s k ≡ Some f
     → IsTrue (has_part f part)
-    → range_in (slice_index_or new k d) part
+    → place_range_in (slice_index_or new k d) part
     ≡ or_kept (placed_at (place_among record { function = f; part = part } placed))
-    (range_in (slice_index_or old k d) part)
+    (place_range_in (slice_index_or old k d) part)
 
 -- items of so many functions can be noted where they are placed
 pub record AreNotable (functions : ℕ) (candidates : List Candidate) (places : List ℕ)
     (lack : Option ℕ) : Type 0 where
   pub each : All (IsWithin functions) candidates
-  pub parts : All (λ c. IsPart c.item.part) candidates
-  pub lawful : All IsLawful candidates
+  pub parts : All (λ c. IsPlacesPart c.item.part) candidates
+  pub lawful : All HasAddressAndAlignment candidates
   pub count : length places ≡ length candidates
   pub lacking : IfSome lack (λ k. k < length candidates)
   pub ends : IfNone lack (AreEndingAt candidates places)

@@ -8,16 +8,16 @@ use Rattle.pci_spec.specs.Decoded.{Range as DecodedRange}
 use Rattle.settle_spec.specs.Lists.{Lists, Request}
 use Rattle.settle_spec.specs.Parts.{bridge_over}
 use Rattle.settle_spec.specs.Items.{Item as ItemValue, Placed, place_all}
-use Rattle.settle_spec.specs.Places.{placed_of, space_items, taken_at, window_ranges, ranges_for, placing_on, new_place, first_lack}
+use Rattle.settle_spec.specs.Places.{placed_of, space_items, taken_at, window_ranges, ranges_of_item, placing_on, new_place, first_lack}
 use Rattle.pci_function.specs.declared.record.Bridge.{Bridge}
 use Rattle.pci_settle.specs.Kept.{nothing_kept}
 use Rattle.pci_settled.specs.declared.candidate.Candidate.{Candidate}
 use Rattle.pci_settled.specs.declared.staying.Staying.{Staying}
 use Rattle.pci_settled.specs.declared.places.Places.{Places}
-use Rattle.pci_settled.specs.Candidates.{candidate_value, Pass, HasWindowsOf}
+use Rattle.pci_settled.specs.Candidates.{candidate_value, Pass, HasAskedWindows}
 use Rattle.pci_settled.specs.Staying.{IsStaying}
-use Rattle.pci_settled.specs.Windows.{window_at, range_alone}
-use Rattle.pci_settled.specs.Places.{range_in, placed_at, NotesOf}
+use Rattle.pci_settled.specs.Windows.{window_range_at, range_alone}
+use Rattle.pci_settled.specs.Places.{place_range_in, placed_at, NotesOf}
 
 -- ---- of a bus
 
@@ -43,7 +43,7 @@ pub record HaveNoRoot (roots : List ℕ) (old new : List Places) (lack : Option 
 abbrev pub AreNotedOnRoots : Pass → Lists → List Places → List Places → Option Candidate → Type 0
 AreNotedOnRoots p l old new lack =
     HaveNoRoot p.setting.roots old new lack
-    ⊎ ((root : ℕ) × ((q : Request) → IsStaying q p.setting → q.lists ≡ l → HasWindowsOf q p
+    ⊎ ((root : ℕ) × ((q : Request) → IsStaying q p.setting → q.lists ≡ l → HasAskedWindows q p
     → AreNotedFor q p old new lack root))
 
 -- these windows are those over a bus
@@ -55,17 +55,17 @@ HasWindowsOver q s space placed bus windows =
 -- the windows of a bridge: those that it keeps, and those that it has in a table of places
 abbrev pub windows_by : Staying → List Places → ℕ → Places → Bridge → WindowKind → Option DecodedRange
 windows_by st table k d b =
-    window_at (slice_index_or st.left.kept.now k nothing_kept) b (slice_index_or table k d)
+    window_range_at (slice_index_or st.left.kept.now k nothing_kept) b (slice_index_or table k d)
 
 -- what is placed in them is noted
 abbrev pub AreNotedBehind : Pass → ℕ → Bridge → List Places → List Places → Type 0
 AreNotedBehind p k b old new =
     (q : Request) (placed : ℕ → List Placed) (d : Places) → IsSystem p.setting.system
-    → IsStaying q p.setting → HasWindowsOf q p
+    → IsStaying q p.setting → HasAskedWindows q p
     → HasWindowsOver q p.setting.system p.space placed b.secondary
     (windows_by p.setting.staying old k d b)
     → NotesOf p.setting.system
-    (placed_of (place_all (ranges_for q p.setting.system placed)
+    (placed_of (place_all (ranges_of_item q p.setting.system placed)
     (taken_at q p.setting.system p.space b.secondary)
     (space_items q p.setting.system p.space b.secondary))) old new
 
@@ -76,21 +76,21 @@ abbrev pub HasNone : System → Space → List Places → Type 0
 HasNone s space table =
     (k : ℕ) (f : Function) (d : Places) (part : Part) → slice_get s k ≡ Some f
     → IsTrue (has_part f part) → space_of f part ≡ space
-    → range_in (slice_index_or table k d) part ≡ None
+    → place_range_in (slice_index_or table k d) part ≡ None
 
 -- parts of another space keep theirs
-pub record KeepsOthers (s : System) (space : Space) (old new : List Places) : Type 0 where
+pub record KeepsOtherSpace (s : System) (space : Space) (old new : List Places) : Type 0 where
   pub count : length new ≡ length old
   pub others : (k : ℕ) (f : Function) (d : Places) (part : Part) → slice_get s k ≡ Some f
       → IsTrue (has_part f part) → (space_of f part ≡ space → ⊥)
-      → range_in (slice_index_or new k d) part ≡ range_in (slice_index_or old k d) part
+      → place_range_in (slice_index_or new k d) part ≡ place_range_in (slice_index_or old k d) part
 
 -- each part of a space has its new place
 abbrev pub HasNewPlaces : Request → System → Space → List Places → Type 0
 HasNewPlaces q s space table =
     (k : ℕ) (f : Function) (d : Places) (part : Part) → slice_get s k ≡ Some f
     → IsTrue (has_part f part) → space_of f part ≡ space
-    → range_in (slice_index_or table k d) part
+    → place_range_in (slice_index_or table k d) part
     ≡ placed_at (new_place q s record { function = f; part = part })
 
 -- the first item on the roots that has no place in a space: all roots are one bus
@@ -106,5 +106,5 @@ pub record AreSpacePlaces (q : Request) (s : System) (space : Space) (table : Li
 
 abbrev pub AreSpacePlacesIn : Pass → Lists → List Places → Option Candidate → Type 0
 AreSpacePlacesIn p l table lack =
-    (q : Request) → IsStaying q p.setting → q.lists ≡ l → HasWindowsOf q p
+    (q : Request) → IsStaying q p.setting → q.lists ≡ l → HasAskedWindows q p
     → AreSpacePlaces q p.setting.system p.space table lack

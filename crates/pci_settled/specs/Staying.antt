@@ -6,8 +6,8 @@ use Rattle.settle_spec.specs.Items.{stays}
 use Rattle.pci_tree.specs.Admission.{Admission}
 use Rattle.pci_place.specs.Above.{system_in}
 use Rattle.pci_settle.specs.declared.own.Terms.{Terms}
-use Rattle.pci_settle.specs.Kept.{AreKept}
-use Rattle.pci_settle.specs.Buses.{Classing, IsLeft}
+use Rattle.pci_settle.specs.Kept.{AreKeptParts}
+use Rattle.pci_settle.specs.Buses.{Classing, TellsClasses}
 use Rattle.pci_stand.specs.Held.{AreHeld}
 use Rattle.pci_settled.specs.declared.staying.Staying.{Staying}
 use Rattle.pci_settled.specs.declared.setting.Setting as declared
@@ -39,6 +39,6 @@ classing p = record {
 
 -- what is asked for below its roots, in lists that tell its terms, leaves these windows and parts where they stand
 pub record IsStaying (q : Request) (p : Setting) : Type 0 where
-  pub left : IsLeft (classing p) q
-  pub keeps_is : AreKept p.system (stays q p.system) p.staying.left.kept.now
+  pub left : TellsClasses (classing p) q
+  pub keeps_is : AreKeptParts p.system (stays q p.system) p.staying.left.kept.now
   pub held_is : AreHeld q p.system p.staying.held.now

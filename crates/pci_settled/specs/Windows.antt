@@ -11,13 +11,13 @@ use Rattle.pci_tree.specs.Passes as passes
 use Rattle.pci_settle.specs.declared.kept.Kept.{Kept}
 use Rattle.pci_settle.specs.Kept.{kept_of}
 use Rattle.pci_settled.specs.declared.places.Places.{Places}
-use Rattle.pci_settled.specs.Places.{range_in}
+use Rattle.pci_settled.specs.Places.{place_range_in}
 
 -- the addresses of a bridge's window: those that it keeps, or those that it gets
-abbrev pub window_at : Kept → Bridge → Places → WindowKind → Option DecodedRange
-window_at kept b p c =
+abbrev pub window_range_at : Kept → Bridge → Places → WindowKind → Option DecodedRange
+window_range_at kept b p c =
     if kept_of kept (Window c) then passes.range_in (window_of b.windows c)
-    else option_map decoded_range_of (range_in p (Window c))
+    else option_map decoded_range_of (place_range_in p (Window c))
 
 -- of windows by class, that of what is plain in a space
 abbrev pub plain_of : Space → (WindowKind → Option DecodedRange) → Option DecodedRange

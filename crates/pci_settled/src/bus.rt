@@ -10,8 +10,8 @@ ghost use Rattle.pci_tree.specs.Roots.{buses_of};
 ghost use Rattle.pci_place.specs.Above.{AreAboves, system_in};
 ghost use Rattle.pci_settled.specs.Candidates.{AreSpaceWindows, KnowsWindows, IsWithin, pass_value};
 ghost use Rattle.pci_stand.specs.Held.{AreByLevel};
-ghost use Rattle.pci_settled.specs.Columns.{kind_number, column, wanted_value};
-ghost use Rattle.pci_settled.specs.BusPlaces.{bus_placing, ArePlacesIn, AreWithin};
+ghost use Rattle.pci_settled.specs.Columns.{kind_number, column, candidate_wanted};
+ghost use Rattle.pci_settled.specs.BusPlaces.{bus_placing, ArePlacesIn, AreInTable};
 
 use crate::candidate::{Candidate, candidates_on};
 use crate::setting::Pass;
@@ -69,7 +69,7 @@ fn wanted_of<A: Allocator>(
 ) -> Result<Vec<Wanted, A>, OutOfMemory>
     requires { All (IsWithin (length records.now)) candidates.now }
     ensures { IfOk result (λ wanted. (s : System) → HasRecords s (map record_value records.now)
-        → wanted.items ≡ map (wanted_value (buses_of roots.now) s) candidates.now) }
+        → wanted.items ≡ map (candidate_wanted (buses_of roots.now) s) candidates.now) }
 {
     let mut wanted = Vec::new(alloc);
     for candidate in candidates {
@@ -110,7 +110,7 @@ pub fn place_bus<A: Allocator + Copy, B: Allocator>(
         (bus_placing (system_in pass.now.setting.now.admitted.now) places.candidates.items
         places.places.items places.lack)) }
     // by it each place is noted where its function's record is
-    ensures within { IfOk result (λ places. AreWithin (system_in pass.now.setting.now.admitted.now)
+    ensures within { IfOk result (λ places. AreInTable (system_in pass.now.setting.now.admitted.now)
         places.candidates.items places.places.items places.lack) }
 {
     let candidates = candidates_on(alloc, pass, bus)?;

@@ -4,7 +4,7 @@ ghost use Rattle.std.specs.List.{All};
 ghost use Rattle.pci_base.specs.WindowKinds.{kind_value};
 ghost use Rattle.pci_place.specs.Above.{AreAboves, system_in};
 ghost use Rattle.pci_settle.specs.Buses.{AreWindows};
-ghost use Rattle.pci_settled.specs.Candidates.{of_class, IsLawful, AreAddedOf, AreSpaceWindows, AreCandidatesOf, windows_of, pass_value};
+ghost use Rattle.pci_settled.specs.Candidates.{of_class, HasAddressAndAlignment, AreAddedOf, AreSpaceWindows, AreCandidatesOf, windows_of, pass_value};
 ghost use Rattle.pci_settled.specs.Staying.{setting_value};
 
 use crate::setting::Pass;
@@ -74,8 +74,8 @@ fn add_class<A: Allocator + Copy, B: Allocator>(
         (windows_of (kind_value class) pass.now.windows.now) bus
         candidates.old.items candidates.new.items) }
     ensures lawful { AreWindows (windows_of (kind_value class) pass.now.windows.now)
-        → All IsLawful candidates.old.items
-        → OnOk result (All IsLawful candidates.new.items) }
+        → All HasAddressAndAlignment candidates.old.items
+        → OnOk result (All HasAddressAndAlignment candidates.new.items) }
 {
     let setting = pass.setting;
     let admitted = setting.admitted;
@@ -101,7 +101,7 @@ pub fn candidates_on<A: Allocator + Copy, B: Allocator>(
     ensures items { IfOk result (λ candidates. AreCandidatesOf (pass_value pass.now) bus
         candidates.items) }
     // places are looked for by sizes and alignments
-    ensures lawful { AreSpaceWindows pass.now.windows.now → IfOk result (λ candidates. All IsLawful candidates.items) }
+    ensures lawful { AreSpaceWindows pass.now.windows.now → IfOk result (λ candidates. All HasAddressAndAlignment candidates.items) }
 {
     let mut candidates = Vec::new(alloc);
     let out = &mut candidates;

@@ -8,8 +8,8 @@ ghost use Rattle.pci_settle.specs.Own.{AreTerms};
 ghost use Rattle.pci_settle.specs.Buses.{AreWindows};
 ghost use Rattle.pci_settled.specs.Candidates.{AreSpaceWindows, HasWindowsIn, KnowsRequest};
 ghost use Rattle.pci_stand.specs.Held.{AreByLevel};
-ghost use Rattle.pci_settled.specs.Spaces.{HasNone, KeepsOthers};
-ghost use Rattle.pci_settled.specs.Placed.{HasClassWindows, IsTooLargeOf, IsTooLargeIn, IsUnplacedIn, HasPlacesIn, AreAllNone, CanBeLeft, ArePlacesOff, IsUnplacedOff};
+ghost use Rattle.pci_settled.specs.Spaces.{HasNone, KeepsOtherSpace};
+ghost use Rattle.pci_settled.specs.Placed.{HasClassWindows, IsClassTooLarge, IsSpaceTooLarge, IsUnplacedIn, HasPlacesIn, AreAllNone, CanBeLeft, ArePlacesOff, IsUnplacedOff};
 ghost use Rattle.pci_settled.specs.Staying.{setting_value};
 
 use crate::anew::Unplaced;
@@ -43,7 +43,7 @@ fn class_windows<A: Allocator + Copy, B: Allocator>(
     ensures windows { OnOk result (HasClassWindows (setting_value setting.now)
         (kind_value class) windows.new) }
     ensures lawful { AreWindows windows.new }
-    ensures fault { IfErr result (IsTooLargeOf (setting_value setting.now)
+    ensures fault { IfErr result (IsClassTooLarge (setting_value setting.now)
         (kind_value class)) }
 {
     let admitted = setting.admitted;
@@ -68,7 +68,7 @@ fn space_windows<A: Allocator + Copy, B: Allocator>(
       windows = windows;
     }) }
     ensures lawful { IfOk result AreSpaceWindows }
-    ensures fault { IfErr result (IsTooLargeIn (setting_value setting.now)
+    ensures fault { IfErr result (IsSpaceTooLarge (setting_value setting.now)
         (space_of space)) }
 {
     let mut plain = [None; BUSES];
@@ -101,7 +101,7 @@ fn place_in<A: Allocator + Copy, B: Allocator>(
     requires none { HasNone (system_in setting.now.admitted.now) (space_of space) table.old }
     ensures placed { OnOk result (HasPlacesIn (setting_value setting.now)
         (space_of space) (lists_value lists.now) table.new) }
-    ensures others { OnOk result (KeepsOthers (system_in setting.now.admitted.now) (space_of space)
+    ensures others { OnOk result (KeepsOtherSpace (system_in setting.now.admitted.now) (space_of space)
         table.old table.new) }
     ensures fault { IfErr result (IsUnplacedIn (setting_value setting.now)
         (space_of space) (lists_value lists.now)) }

@@ -5,11 +5,11 @@ ghost use Rattle.std.specs.List.{All};
 ghost use Rattle.pci_spec.specs.System.{System, IsSystem, Part as PartValue};
 ghost use Rattle.settle_spec.specs.Places.{placed_of, first_lack};
 ghost use Rattle.pci_base.specs.WindowKinds.{kind_value};
-ghost use Rattle.pci_settle.specs.Own.{part_value};
+ghost use Rattle.pci_settle.specs.Own.{class_part};
 ghost use Rattle.pci_settle.specs.Placings.{at_places};
-ghost use Rattle.pci_settled.specs.Candidates.{IsWithin, IsLawful, HasPart, candidate_value};
+ghost use Rattle.pci_settled.specs.Candidates.{IsWithin, HasAddressAndAlignment, HasPart, candidate_value};
 ghost use Rattle.pci_settled.specs.BusPlaces.{bus_placing};
-ghost use Rattle.pci_settled.specs.Places.{IsPart, range_in, AreEndingAt, NotesOf, AreNotable};
+ghost use Rattle.pci_settled.specs.Places.{IsPlacesPart, place_range_in, AreEndingAt, NotesOf, AreNotable};
 
 use crate::bus::BusPlaces;
 use crate::candidate::Candidate;
@@ -40,10 +40,10 @@ impl Places {
 
     /// Sets the addresses of a part.
     fn set(&mut self, class: WindowKind, part: Part, range: Range)
-        requires { IsPart part }
-        ensures set { range_in self.new (part_value (kind_value class) part) ≡ Some range }
-        ensures others { (other : PartValue) → (other ≡ part_value (kind_value class) part → ⊥)
-            → range_in self.new other ≡ range_in self.old other }
+        requires { IsPlacesPart part }
+        ensures set { place_range_in self.new (class_part (kind_value class) part) ≡ Some range }
+        ensures others { (other : PartValue) → (other ≡ class_part (kind_value class) part → ⊥)
+            → place_range_in self.new other ≡ place_range_in self.old other }
     {
         match part {
             Part::Bar(n) => self.bars[usize::from(n)] = Some(range),
@@ -60,8 +60,8 @@ impl Places {
 /// Notes where items are placed, by function and part. What is listed first counts, so it is noted last.
 fn note(candidates: &[Candidate], firsts: &[u64], table: &mut [Places])
     requires functions { All (IsWithin (length table.old)) candidates.now }
-    requires lawful { All IsLawful candidates.now }
-    requires parts { All (λ c. IsPart c.item.part) candidates.now }
+    requires lawful { All HasAddressAndAlignment candidates.now }
+    requires parts { All (λ c. IsPlacesPart c.item.part) candidates.now }
     requires count { length firsts.now ≡ length candidates.now }
     requires ends { AreEndingAt candidates.now firsts.now }
     ensures noted { (s : System) → IsSystem s → length s ≡ length table.old

@@ -8,7 +8,7 @@ ghost use Rattle.pci_settle.specs.Lists.{lists_value};
 ghost use Rattle.pci_settle.specs.Own.{AreTerms};
 ghost use Rattle.pci_stand.specs.Held.{AreByLevel};
 ghost use Rattle.pci_settled.specs.Candidates.{AreSpaceWindows, HasWindowsIn, KnowsWindows, KnowsRequest, pass_value};
-ghost use Rattle.pci_settled.specs.Spaces.{IsFirstRoot, AreNotedOnRoots, AreNotedBehind, HasNone, KeepsOthers, AreSpacePlacesIn};
+ghost use Rattle.pci_settled.specs.Spaces.{IsFirstRoot, AreNotedOnRoots, AreNotedBehind, HasNone, KeepsOtherSpace, AreSpacePlacesIn};
 ghost use Rattle.pci_settled.specs.Staying.{setting_value};
 
 use crate::bus::place_bus;
@@ -134,7 +134,7 @@ pub fn place_space<A: Allocator + Copy, B: Allocator>(
     ensures placed { IfOk result (AreSpacePlacesIn (pass_value pass.now)
         (lists_value lists.now) table.new) }
     // both spaces are placed in one table
-    ensures others { OnOk result (KeepsOthers (system_in pass.now.setting.now.admitted.now)
+    ensures others { OnOk result (KeepsOtherSpace (system_in pass.now.setting.now.admitted.now)
         (space_of pass.now.space) table.old table.new) }
 {
     let outline = pass.setting.admitted.outline();

@@ -4,7 +4,7 @@ ghost use Rattle.std.specs.Option.{option_map};
 ghost use Rattle.pci_base.specs.Ranges.{decoded_range_of};
 ghost use Rattle.pci_base.specs.Space.{space_of};
 ghost use Rattle.pci_base.specs.WindowKinds.{kind_value};
-ghost use Rattle.pci_settled.specs.Windows.{window_at, plain_of, prefetch_of};
+ghost use Rattle.pci_settled.specs.Windows.{window_range_at, plain_of, prefetch_of};
 
 use crate::places::Places;
 use pci_base::range::Range;
@@ -17,7 +17,7 @@ use pci_settle::over::open_range;
 /// The addresses of a bridge's window: those that it keeps, or those that it gets.
 fn window_at(kept: &Kept, bridge: &Bridge, places: &Places, kind: WindowKind) -> Option<Range>
     ensures { option_map decoded_range_of result
-        ≡ window_at kept.now bridge.now places.now (kind_value kind) }
+        ≡ window_range_at kept.now bridge.now places.now (kind_value kind) }
 {
     if kept.window(kind) {
         open_range(&bridge.windows, kind)
@@ -29,7 +29,7 @@ fn window_at(kept: &Kept, bridge: &Bridge, places: &Places, kind: WindowKind) ->
 /// The window of a bridge in which what is plain is placed: that of I/O, or of memory.
 pub fn plain_window(kept: &Kept, bridge: &Bridge, places: &Places, space: Space) -> Option<Range>
     ensures { option_map decoded_range_of result
-        ≡ plain_of (space_of space) (window_at kept.now bridge.now places.now) }
+        ≡ plain_of (space_of space) (window_range_at kept.now bridge.now places.now) }
 {
     match space {
         Space::Io => window_at(kept, bridge, places, WindowKind::Io),
@@ -40,7 +40,7 @@ pub fn plain_window(kept: &Kept, bridge: &Bridge, places: &Places, space: Space)
 /// The window of a bridge in which what is prefetchable is placed.
 pub fn prefetch_window(kept: &Kept, bridge: &Bridge, places: &Places, space: Space) -> Option<Range>
     ensures { option_map decoded_range_of result
-        ≡ prefetch_of (space_of space) (window_at kept.now bridge.now places.now) }
+        ≡ prefetch_of (space_of space) (window_range_at kept.now bridge.now places.now) }
 {
     match space {
         Space::Io => None,

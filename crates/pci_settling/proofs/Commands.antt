@@ -13,12 +13,12 @@ use Rattle.pci_place.specs.declared.above.Above.{Above}
 use Rattle.pci_settle.specs.declared.own.Terms.{Terms}
 use Rattle.pci_settled.specs.declared.places.Places.{Places}
 use Rattle.pci_settling.specs.declared.settled.Behind.{Behind}
-use Rattle.pci_settling.specs.Images.{HasPlaces}
+use Rattle.pci_settling.specs.Images.{HasPartPlaces}
 use Rattle.pci_settling.specs.Claims.{is_enabled_by}
-use Rattle.pci_settling.specs.Settled.{command_by, IsTold}
+use Rattle.pci_settling.specs.Settled.{command_by, IsCommandTold}
 use Rattle.pci_settling.proofs.PlacedClaims.{enabled_is}
 
-pub command_is : (q : Request) (s : System) (f : Function) (r : Record) (p : Places) → HasPlaces q s f r p → (above : Above) (t : Terms) (behind : Behind) → IsTold q s f above t behind
+pub command_is : (q : Request) (s : System) (f : Function) (r : Record) (p : Places) → HasPartPlaces q s f r p → (above : Above) (t : Terms) (behind : Behind) → IsCommandTold q s f above t behind
     → command_by p above t r behind.io behind.memory ≡ settled_command q s f
 command_is q s f r p has above t behind told =
     let first : is_enabled_by Io p above t r behind.io ≡ is_enabled_in q s Io f = enabled_is q s f r p has above told.over t told.terms Io (is_live q s Io) behind.io told.io in

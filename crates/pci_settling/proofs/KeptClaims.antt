@@ -14,7 +14,7 @@ use Rattle.pci_spec.specs.System.{System, Function, Space, Io, Memory, Part, Bar
 use Rattle.pci_spec.proofs.Members.{in_head, in_tail}
 use Rattle.plan_spec.specs.Plan.{is_open}
 use Rattle.settle_spec.specs.Lists.{Request}
-use Rattle.settle_spec.specs.Parts.{Region, is_part, is_left, is_empty, header_bars, header_parts, same_space, has_left}
+use Rattle.settle_spec.specs.Parts.{FunctionPart, is_part, is_left, is_empty, header_bars, header_parts, are_same_space, has_left}
 use Rattle.settle_spec.specs.Registers.{has_own}
 use Rattle.pci_base.specs.Space.{is_on}
 use Rattle.pci_image.specs.declared.bar.Bar.{Bar as CodeBar}
@@ -31,7 +31,7 @@ use Rattle.pci_place.proofs.Parts.{bars_in, bars_of, rom_of, rom_there}
 use Rattle.pci_place.proofs.Owned.{no_rom, lacking_above}
 use Rattle.pci_settle.specs.declared.own.Terms.{Terms}
 use Rattle.pci_settle.specs.Own.{AreTerms, is_left_bar}
-use Rattle.pci_settling.specs.Claims.{is_bar_of, has_left_bar, is_kept_bar, is_rom_on, has_kept}
+use Rattle.pci_settling.specs.Claims.{is_bar_in, has_left_bar, is_kept_bar, is_rom_on, has_kept}
 
 -- ---- lists
 
@@ -89,7 +89,7 @@ and_swap true false = refl
 and_swap false true = refl
 and_swap false false = refl
 
-space_by : (space : Space) (bar : CodeBar) (io : Bool) → is_io_kind bar.kind ≡ io → is_bar_of space bar ≡ same_space space (if io then Io else Memory)
+space_by : (space : Space) (bar : CodeBar) (io : Bool) → is_io_kind bar.kind ≡ io → is_bar_in space bar ≡ are_same_space space (if io then Io else Memory)
 space_by Io bar true e = e
 space_by Io bar false e = e
 space_by Memory bar true e = ap not e
@@ -125,7 +125,7 @@ module _ (s : System) (f : Function) (r : Record) (is : IsRecordOf s f r) where
   on_is Memory = ap (λ (y : decoded.Record). is_on y.command Memory) is.value
 
 -- the space of a BAR is that of the register that starts it
-pub bar_space : (f : Function) (space : Space) (bar : CodeBar) (n : ℕ) → decoded_bar_of bar ≡ decoded_bar f.image f.probe n → is_bar_of space bar ≡ same_space space (space_of f (Bar n))
+pub bar_space : (f : Function) (space : Space) (bar : CodeBar) (n : ℕ) → decoded_bar_of bar ≡ decoded_bar f.image f.probe n → is_bar_in space bar ≡ are_same_space space (space_of f (Bar n))
 bar_space f space bar n e = space_by space bar (is_io (bar_at f.probe n)) (kind_io f bar n e)
 
 module _ (q : Request) (s : System) (f : Function) (r : Record) (is : IsRecordOf s f r) (above : Above) (over : IsAbove s f.slot.bus above) (t : Terms) (terms : AreTerms q.lists t) where
@@ -146,7 +146,7 @@ module _ (q : Request) (s : System) (f : Function) (r : Record) (is : IsRecordOf
 
   module _ (space : Space) where
     abbrev is_of : Part → Bool
-    is_of part = same_space space (space_of f part)
+    is_of part = are_same_space space (space_of f part)
 
     abbrev others : List Part
     others = Window IoWindow ∷ Window MemoryWindow ∷ Window PrefetchWindow ∷ Rom ∷ []
@@ -164,19 +164,19 @@ module _ (q : Request) (s : System) (f : Function) (r : Record) (is : IsRecordOf
         let there = rom_there (has_rom f.image f.probe) (decoded_rom_of rom) _ e in
         ap (λ (x : DecodedRom). x.on) there.1 ∙ sym (ap (λ b. b && rom_is_on f.image) there.0)
 
-    own_others : (same_space space Memory && is_rom_on r.rom) ≡ list_any own others
+    own_others : (are_same_space space Memory && is_rom_on r.rom) ≡ list_any own others
     own_others =
         let io = is_open f IoWindow in
         let memory = is_open f MemoryWindow in
         let prefetch = is_open f PrefetchWindow in
-        ap (λ b. same_space space Memory && b) (rom_on_is r.rom (rom_of s f r is))
-        ∙ own_order io memory prefetch (same_space space Io) (same_space space Memory) (has_rom f.image f.probe && rom_is_on f.image)
+        ap (λ b. are_same_space space Memory && b) (rom_on_is r.rom (rom_of s f r is))
+        ∙ own_order io memory prefetch (are_same_space space Io) (are_same_space space Memory) (has_rom f.image f.probe && rom_is_on f.image)
 
     pub kept_are : has_kept space above t r ≡ has_own q s space f
     kept_are =
-        ap (λ b. b || (same_space space Memory && is_rom_on r.rom))
+        ap (λ b. b || (are_same_space space Memory && is_rom_on r.rom))
         (any_bar s f r is (is_kept_bar space above t) (λ n. is_of (Bar n) && not (is_left q s f (Bar n))) own kept_same (λ n listed. kept_order (has_bar f.probe n) (is_left q s f (Bar n)) (is_of (Bar n))))
         ∙ ap (λ b. list_any own (header_bars f) || b) own_others
         ∙ sym (list_any-append own (header_bars f) others)
-        ∙ sym (any_map (λ (x : Region). same_space space (space_of x.function x.part) && not (is_window x.part)) (λ p. record { function = f; part = p }) (filter (is_part q s f) (header_parts f))
+        ∙ sym (any_map (λ (x : FunctionPart). are_same_space space (space_of x.function x.part) && not (is_window x.part)) (λ p. record { function = f; part = p }) (filter (is_part q s f) (header_parts f))
         ∙ any_filter (is_part q s f) (λ part. is_of part && not (is_window part)) (header_parts f))

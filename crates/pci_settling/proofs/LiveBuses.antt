@@ -28,9 +28,9 @@ use Rattle.pci_place.proofs.Records.{FunctionAt, same_count, function_at}
 use Rattle.pci_settle.specs.declared.own.Terms.{Terms}
 use Rattle.pci_settle.proofs.NewWindows.{comes_later}
 use Rattle.pci_settled.specs.declared.places.Places.{Places}
-use Rattle.pci_settling.specs.Images.{HasPlaces}
+use Rattle.pci_settling.specs.Images.{HasPartPlaces}
 use Rattle.pci_settling.specs.Claims.{has_kept}
-use Rattle.pci_settling.specs.Live.{IsRequestOf, HasAllPlaces, AreLiveBuses, is_live_behind, is_live_by}
+use Rattle.pci_settling.specs.Live.{IsRequestOfTerms, HasAllPlaces, AreLiveBuses, is_live_behind, is_live_by}
 use Rattle.pci_settling.proofs.KeptClaims.{kept_are}
 use Rattle.pci_settling.proofs.PlacedClaims.{enabled_is}
 
@@ -48,7 +48,7 @@ live_on s space q bus g = g.slot.bus == bus && is_live q s space g
 -- the table has the buses of the functions from place n on
 pub record AreLiveFrom (roots : List ℕ) (s : System) (space : Space) (t : Terms) (table : List Places) (n : ℕ) (live : List Bool) : Type 0 where
   pub size : length live ≡ 256
-  pub each : (q : Request) (bus : ℕ) → IsRequestOf q roots t → HasAllPlaces q s table → bus < 256 → get_or live bus false ≡ list_any (live_on s space q bus) (drop n s)
+  pub each : (q : Request) (bus : ℕ) → IsRequestOfTerms q roots t → HasAllPlaces q s table → bus < 256 → get_or live bus false ≡ list_any (live_on s space q bus) (drop n s)
 
 module _ (roots : List ℕ) (s : System) (system : IsSystem s) (nested : IsNested roots s) (space : Space) (t : Terms) (table : List Places) where
   abbrev on : Request → ℕ → Function → Bool
@@ -90,11 +90,11 @@ module _ (roots : List ℕ) (s : System) (system : IsSystem s) (nested : IsNeste
           ∙ sym (ap (λ x. x && list_any (on q (secondary f)) s) bridge)
 
   -- a function of the system, its record and its place in the table
-  module _ (k : ℕ) (f : Function) (r : Record) (at : slice_get s k ≡ Some f) (is : IsRecordOf s f r) (d : Places) (above : Above) (over : IsAbove s f.slot.bus above) (q : Request) (of : IsRequestOf q roots t) (placed : HasAllPlaces q s table) where
+  module _ (k : ℕ) (f : Function) (r : Record) (at : slice_get s k ≡ Some f) (is : IsRecordOf s f r) (d : Places) (above : Above) (over : IsAbove s f.slot.bus above) (q : Request) (of : IsRequestOfTerms q roots t) (placed : HasAllPlaces q s table) where
     nested_for : IsNested q.roots s
     nested_for = subst (λ xs. IsNested xs s) (sym of.rooted) nested
 
-    pub placed_here : HasPlaces q s f r (get_or table k d)
+    pub placed_here : HasPartPlaces q s f r (get_or table k d)
     placed_here = record {
       system = system;
       nested = nested_for;

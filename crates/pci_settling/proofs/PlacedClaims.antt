@@ -14,7 +14,7 @@ use Rattle.pci_spec.specs.System.{System, Function, Space, Io, Memory, Part, Bar
 use Rattle.pci_spec.proofs.Members.{in_range_to}
 use Rattle.pci_spec.proofs.Records.{memory_window_there}
 use Rattle.settle_spec.specs.Lists.{Request}
-use Rattle.settle_spec.specs.Parts.{Region, is_part, is_left, header_bars, header_parts, same_space, has_left}
+use Rattle.settle_spec.specs.Parts.{FunctionPart, is_part, is_left, header_bars, header_parts, are_same_space, has_left}
 use Rattle.settle_spec.specs.Items.{Placed}
 use Rattle.settle_spec.specs.Places.{new_place}
 use Rattle.settle_spec.specs.Registers.{got_place, is_enabled_if}
@@ -31,8 +31,8 @@ use Rattle.pci_place.specs.Above.{IsAbove}
 use Rattle.pci_settle.specs.declared.own.Terms.{Terms}
 use Rattle.pci_settle.specs.Own.{AreTerms}
 use Rattle.pci_settled.specs.declared.places.Places.{Places}
-use Rattle.pci_settled.specs.Places.{range_in, placed_at}
-use Rattle.pci_settling.specs.Images.{HasPlaces}
+use Rattle.pci_settled.specs.Places.{place_range_in, placed_at}
+use Rattle.pci_settling.specs.Images.{HasPartPlaces}
 use Rattle.pci_settling.specs.Claims.{is_placed_bar, has_placed_window, has_placed, is_enabled_by}
 use Rattle.pci_settling.proofs.PlacedParts.{placed_is_part}
 use Rattle.pci_settling.proofs.PlacedImages.{low_bus, window_changes, register_place}
@@ -64,8 +64,8 @@ by_place None test other true both = and_false test ∙ sym (and_false other)
 by_place None test other false both = and_false test ∙ sym (and_false other)
 by_place (Some x) test other is both = ap (λ b. b && (is && true)) (both x refl).0 ∙ sym (ap (λ b. b && (is && true)) (both x refl).1)
 
-module _ (q : Request) (s : System) (f : Function) (r : Record) (p : Places) (placed : HasPlaces q s f r p) (above : Above) (over : IsAbove s f.slot.bus above) (t : Terms) (terms : AreTerms q.lists t) (space : Space) where
-  abbrev region : Part → Region
+module _ (q : Request) (s : System) (f : Function) (r : Record) (p : Places) (placed : HasPartPlaces q s f r p) (above : Above) (over : IsAbove s f.slot.bus above) (t : Terms) (terms : AreTerms q.lists t) (space : Space) where
+  abbrev region : Part → FunctionPart
   region part = record { function = f; part = part }
 
   abbrev place : Part → Option Placed
@@ -75,7 +75,7 @@ module _ (q : Request) (s : System) (f : Function) (r : Record) (p : Places) (pl
   all = range_with_len 0 (bar_count (layout f.image))
 
   abbrev is_of : Part → Bool
-  is_of part = same_space space (space_of f part)
+  is_of part = are_same_space space (space_of f part)
 
   -- ---- what got a place
 
@@ -85,18 +85,18 @@ module _ (q : Request) (s : System) (f : Function) (r : Record) (p : Places) (pl
   abbrev got : Part → Bool
   got part = changes part && (is_of part && is_some (place part))
 
-  at_part : (part : Part) → has_part f part ≡ true → is_some (range_in p part) ≡ is_some (place part)
+  at_part : (part : Part) → has_part f part ≡ true → is_some (place_range_in p part) ≡ is_some (place part)
   at_part part there = ap is_some (placed.each part there) ∙ some_placed (place part)
 
-  placed_same : (bar : CodeBar) (n : ℕ) → decoded_bar_of bar ≡ decoded_bar f.image f.probe n → is_placed_bar space p bar ≡ (is_of (Bar n) && is_some (range_in p (Bar n)))
+  placed_same : (bar : CodeBar) (n : ℕ) → decoded_bar_of bar ≡ decoded_bar f.image f.probe n → is_placed_bar space p bar ≡ (is_of (Bar n) && is_some (place_range_in p (Bar n)))
   placed_same bar n e =
-      ap (λ b. b && is_some (range_in p (Bar ((bar.reg - 0x10) / 4)))) (bar_space f space bar n e)
-      ∙ ap (λ m. is_of (Bar n) && is_some (range_in p (Bar m))) (register_place bar.reg n (ap (λ (x : DecodedBar). x.register) e))
+      ap (λ b. b && is_some (place_range_in p (Bar ((bar.reg - 0x10) / 4)))) (bar_space f space bar n e)
+      ∙ ap (λ m. is_of (Bar n) && is_some (place_range_in p (Bar m))) (register_place bar.reg n (ap (λ (x : DecodedBar). x.register) e))
 
   is_there : (part : Part) → has_part f part ≡ true → is_window part ≡ false → (x : Placed) → place part ≡ Some x → is_part q s f part ≡ true
   is_there part there plain x some = placed_is_part q s placed.system placed.nested f placed.is.listed (low_bus q s f r p placed) part there plain x some
 
-  got_bar : (n : ℕ) → Contains all n → (has_bar f.probe n && (is_of (Bar n) && is_some (range_in p (Bar n)))) ≡ got (Bar n)
+  got_bar : (n : ℕ) → Contains all n → (has_bar f.probe n && (is_of (Bar n) && is_some (place_range_in p (Bar n)))) ≡ got (Bar n)
   got_bar n listed =
       let low = (in_range_to 0 (bar_count (layout f.image)) n listed).1 in
       let there = lt-ltb n (bar_count (layout f.image)) (omega (arith, low)) in
@@ -105,12 +105,12 @@ module _ (q : Request) (s : System) (f : Function) (r : Record) (p : Places) (pl
       let is = is_there (Bar n) there refl x some in
       ((and_parts (has_bar f.probe n) (not (is_left q s f (Bar n))) is).0, ap (λ b. b || false) is))
 
-  got_rom : (same_space space Memory && is_some p.rom) ≡ got Rom
+  got_rom : (are_same_space space Memory && is_some p.rom) ≡ got Rom
   got_rom =
-      ap (λ b. same_space space Memory && b) (at_part Rom refl)
-      ∙ by_place (place Rom) true (changes Rom) (same_space space Memory) (λ x some. (refl, ap (λ b. b || false) (is_there Rom refl refl x some)))
+      ap (λ b. are_same_space space Memory && b) (at_part Rom refl)
+      ∙ by_place (place Rom) true (changes Rom) (are_same_space space Memory) (λ x some. (refl, ap (λ b. b || false) (is_there Rom refl refl x some)))
 
-  window_got : (c : WindowKind) → is_bridge f ≡ true → (has_window c f.probe && (is_of (Window c) && is_some (range_in p (Window c)))) ≡ got (Window c)
+  window_got : (c : WindowKind) → is_bridge f ≡ true → (has_window c f.probe && (is_of (Window c) && is_some (place_range_in p (Window c)))) ≡ got (Window c)
   window_got c bridge =
       ap (λ b. has_window c f.probe && (is_of (Window c) && b)) (at_part (Window c) bridge)
       ∙ sym (ap (λ b. b && (is_of (Window c) && is_some (place (Window c)))) (window_changes (is_bridge f) (has_window c f.probe) (is_closed c f.image) ∙ ap (λ b. b && has_window c f.probe) bridge))
@@ -131,32 +131,32 @@ module _ (q : Request) (s : System) (f : Function) (r : Record) (p : Places) (pl
       let io_is : is_some w.io ≡ has_window IoWindow f.probe = ap (λ (x : decoded.Bridge). is_some x.windows.io) value ∙ some_if (has_window IoWindow f.probe) (decoded_window IoWindow f.image f.probe) in
       let prefetch_is : is_some w.pref ≡ has_window PrefetchWindow f.probe = ap (λ (x : decoded.Bridge). is_some x.windows.prefetch) value ∙ some_if (has_window PrefetchWindow f.probe) (decoded_window PrefetchWindow f.image f.probe) in
       let has = memory_window_there f.image f.probe (placed.is.decodable.windows MemoryWindow (eqb-true (layout f.image) 1 bridge)) in
-      let io : (is_some w.io && (same_space space Io && is_some p.windows.io)) ≡ got (Window IoWindow) =
-      ap (λ x. x && (same_space space Io && is_some p.windows.io)) io_is ∙ window_got IoWindow bridge in
-      let memory : (same_space space Memory && is_some p.windows.memory) ≡ got (Window MemoryWindow) =
-      sym (ap (λ x. x && (same_space space Memory && is_some p.windows.memory)) has) ∙ window_got MemoryWindow bridge in
-      let prefetch : (is_some w.pref && (same_space space Memory && is_some p.windows.prefetchable)) ≡ got (Window PrefetchWindow) =
-      ap (λ x. x && (same_space space Memory && is_some p.windows.prefetchable)) prefetch_is ∙ window_got PrefetchWindow bridge in
-      ap (λ x. x || ((same_space space Memory && is_some p.windows.memory) || (is_some w.pref && (same_space space Memory && is_some p.windows.prefetchable)))) io
-      ∙ ap (λ x. got (Window IoWindow) || (x || (is_some w.pref && (same_space space Memory && is_some p.windows.prefetchable)))) memory
+      let io : (is_some w.io && (are_same_space space Io && is_some p.windows.io)) ≡ got (Window IoWindow) =
+      ap (λ x. x && (are_same_space space Io && is_some p.windows.io)) io_is ∙ window_got IoWindow bridge in
+      let memory : (are_same_space space Memory && is_some p.windows.memory) ≡ got (Window MemoryWindow) =
+      sym (ap (λ x. x && (are_same_space space Memory && is_some p.windows.memory)) has) ∙ window_got MemoryWindow bridge in
+      let prefetch : (is_some w.pref && (are_same_space space Memory && is_some p.windows.prefetchable)) ≡ got (Window PrefetchWindow) =
+      ap (λ x. x && (are_same_space space Memory && is_some p.windows.prefetchable)) prefetch_is ∙ window_got PrefetchWindow bridge in
+      ap (λ x. x || ((are_same_space space Memory && is_some p.windows.memory) || (is_some w.pref && (are_same_space space Memory && is_some p.windows.prefetchable)))) io
+      ∙ ap (λ x. got (Window IoWindow) || (x || (is_some w.pref && (are_same_space space Memory && is_some p.windows.prefetchable)))) memory
       ∙ ap (λ x. got (Window IoWindow) || (got (Window MemoryWindow) || x)) prefetch
 
   placed_are : has_placed space p r ≡ got_place q s space f
   placed_are =
-      ap (λ b. b || (has_placed_window space p r.bridge || (same_space space Memory && is_some p.rom)))
-      (any_bar s f r placed.is (is_placed_bar space p) (λ n. is_of (Bar n) && is_some (range_in p (Bar n))) got placed_same got_bar)
-      ∙ ap (λ b. list_any got (header_bars f) || (b || (same_space space Memory && is_some p.rom))) (windows_are r.bridge refl)
+      ap (λ b. b || (has_placed_window space p r.bridge || (are_same_space space Memory && is_some p.rom)))
+      (any_bar s f r placed.is (is_placed_bar space p) (λ n. is_of (Bar n) && is_some (place_range_in p (Bar n))) got placed_same got_bar)
+      ∙ ap (λ b. list_any got (header_bars f) || (b || (are_same_space space Memory && is_some p.rom))) (windows_are r.bridge refl)
       ∙ ap (λ b. list_any got (header_bars f) || (windows_got || b)) got_rom
       ∙ ap (λ b. list_any got (header_bars f) || b) (or_order (got (Window IoWindow)) (got (Window MemoryWindow)) (got (Window PrefetchWindow)) (got Rom))
       ∙ sym (list_any-append got (header_bars f) (Window IoWindow ∷ Window MemoryWindow ∷ Window PrefetchWindow ∷ Rom ∷ []))
-      ∙ sym (any_map (λ (x : Region). same_space space (space_of x.function x.part) && is_some (new_place q s x)) region (filter changes (header_parts f))
+      ∙ sym (any_map (λ (x : FunctionPart). are_same_space space (space_of x.function x.part) && is_some (new_place q s x)) region (filter changes (header_parts f))
       ∙ any_filter changes (λ part. is_of part && is_some (place part)) (header_parts f))
 
   -- ---- Command
 
   pub enabled_is : (live : Function → Bool) (behind : Bool) → behind ≡ has_live_behind s live f → is_enabled_by space p above t r behind ≡ is_enabled_if q s space live f
   enabled_is live behind same =
-      ap (λ b. not (same_space space Io && b) && (is_on r.command space || has_placed space p r || behind)) (left_are q s f r placed.is above over t terms)
-      ∙ ap (λ b. not (same_space space Io && has_left q s f) && (b || has_placed space p r || behind)) (on_is s f r placed.is space)
-      ∙ ap (λ b. not (same_space space Io && has_left q s f) && (is_space_on f space || b || behind)) placed_are
-      ∙ ap (λ b. not (same_space space Io && has_left q s f) && (is_space_on f space || got_place q s space f || b)) same
+      ap (λ b. not (are_same_space space Io && b) && (is_on r.command space || has_placed space p r || behind)) (left_are q s f r placed.is above over t terms)
+      ∙ ap (λ b. not (are_same_space space Io && has_left q s f) && (b || has_placed space p r || behind)) (on_is s f r placed.is space)
+      ∙ ap (λ b. not (are_same_space space Io && has_left q s f) && (is_space_on f space || b || behind)) placed_are
+      ∙ ap (λ b. not (are_same_space space Io && has_left q s f) && (is_space_on f space || got_place q s space f || b)) same

@@ -20,7 +20,7 @@ use Rattle.plan_spec.specs.Plan.{is_open}
 use Rattle.plan_spec.specs.Planning.Showing.{bar_value, rom_value}
 use Rattle.plan_spec.proofs.Planning.LowBits.{low_bits}
 use Rattle.settle_spec.specs.Lists.{Request}
-use Rattle.settle_spec.specs.Parts.{Region, is_part, is_left, header_bars}
+use Rattle.settle_spec.specs.Parts.{FunctionPart, is_part, is_left, header_bars}
 use Rattle.settle_spec.specs.Items.{Placed, stays}
 use Rattle.settle_spec.specs.Places.{new_place}
 use Rattle.settle_spec.specs.Registers.{with_number, with_bounds, with_place, closed_if_open, shown, settled_image}
@@ -36,9 +36,9 @@ use Rattle.pci_place.proofs.Parts.{bars_in, bars_of}
 use Rattle.pci_base.specs.declared.range.Range.{Range}
 use Rattle.pci_base.specs.declared.window_kind.ByKind.{ByKind}
 use Rattle.pci_settled.specs.declared.places.Places.{Places}
-use Rattle.pci_settled.specs.Places.{range_in, placed_at}
+use Rattle.pci_settled.specs.Places.{place_range_in, placed_at}
 use Rattle.pci_settling.specs.Shown.{nibble, with_bar, with_closed, with_window, with_optional}
-use Rattle.pci_settling.specs.Images.{where_placed, with_placed_bar, with_bars, with_bridge, with_placed_rom, with_parts, is_kept, HasPlaces, IsPlaced}
+use Rattle.pci_settling.specs.Images.{where_placed, with_placed_bar, with_bars, with_bridge, with_placed_rom, with_parts, is_window_kept, HasPartPlaces, HasPlacesAndWindows}
 use Rattle.pci_settling.proofs.PlacedParts.{placed_is_part}
 
 -- ---- folds
@@ -113,14 +113,14 @@ by_place None test some none any off on other first second = (elim test as (λ b
 by_place (Some x) test some none any off on other first second = ap (λ b. cond b (any (Some x)) none) (on x refl).1 ∙ (on x refl).0 ∙ sym (second x)
 
 -- its bus is one of 256
-pub low_bus : (q : Request) (s : System) (f : Function) (r : Record) (p : Places) → HasPlaces q s f r p → f.slot.bus < 256
+pub low_bus : (q : Request) (s : System) (f : Function) (r : Record) (p : Places) → HasPartPlaces q s f r p → f.slot.bus < 256
 low_bus q s f r p has = (All-contains IsFunction s f has.system.each has.is.listed).slot.0
 
-module _ (q : Request) (s : System) (f : Function) (r : Record) (image : List ℕ) (p : Places) (kept : ByKind Bool) (image_is : image ≡ f.image) (placed : IsPlaced q s f r p kept) where
-  abbrev has : HasPlaces q s f r p
+module _ (q : Request) (s : System) (f : Function) (r : Record) (image : List ℕ) (p : Places) (kept : ByKind Bool) (image_is : image ≡ f.image) (placed : HasPlacesAndWindows q s f r p kept) where
+  abbrev has : HasPartPlaces q s f r p
   has = placed.places
 
-  abbrev region : Part → Region
+  abbrev region : Part → FunctionPart
   region part = record { function = f; part = part }
 
   abbrev place : Part → Option Placed
@@ -155,7 +155,7 @@ module _ (q : Request) (s : System) (f : Function) (r : Record) (image : List �
   own_some (Window c) x im plain = cc
 
   -- a part shows its place, where it has one
-  own_step : (part : Part) → has_part f part ≡ true → is_window part ≡ false → (im : List ℕ) → step_if im part ≡ where_placed (at_place part) (range_in p part) im
+  own_step : (part : Part) → has_part f part ≡ true → is_window part ≡ false → (im : List ℕ) → step_if im part ≡ where_placed (at_place part) (place_range_in p part) im
   own_step part there plain im =
       by_place (place part) (changes part) (λ x. with_place f part x im) im (λ o. shown q s (region part) o im)
       (λ none. own_none (stays q s (region part)) part im plain)
@@ -167,7 +167,7 @@ module _ (q : Request) (s : System) (f : Function) (r : Record) (image : List �
   all = range_with_len 0 (bar_count (layout f.image))
 
   abbrev bar_step : List ℕ → ℕ → List ℕ
-  bar_step im n = where_placed (at_place (Bar n)) (range_in p (Bar n)) im
+  bar_step im n = where_placed (at_place (Bar n)) (place_range_in p (Bar n)) im
 
   -- a BAR that isn't implemented has no place
   bar_if : (n : ℕ) → Contains all n → (im : List ℕ) → step_if im (Bar n) ≡ cond (has_bar f.probe n) (bar_step im n) im
@@ -194,8 +194,8 @@ module _ (q : Request) (s : System) (f : Function) (r : Record) (image : List �
             ∙ ap (λ g. with_number (if is_wide (bar_at f.probe n) then 8 else 4) g (x.first + number_at f.image g 4 % 2 ^ first_bit (bar_kind (bar_at f.probe n))) im) register
             ∙ ap (λ low. with_number (if is_wide (bar_at f.probe n) then 8 else 4) (bar_register n) (x.first + low) im) (sym (low_bits f n))
       ] in
-      shows (range_in p (Bar ((bar.reg - 0x10) / 4)))
-      ∙ ap (λ m. where_placed (at_place (Bar n)) (range_in p (Bar m)) im) (register_place bar.reg n register)
+      shows (place_range_in p (Bar ((bar.reg - 0x10) / 4)))
+      ∙ ap (λ m. where_placed (at_place (Bar n)) (place_range_in p (Bar m)) im) (register_place bar.reg n register)
 
   bars_are : with_bars f.image p r.bars.items f.image ≡ fold step_if f.image (header_bars f)
   bars_are =
@@ -215,30 +215,30 @@ module _ (q : Request) (s : System) (f : Function) (r : Record) (image : List �
   window_off c off im =
       ap (λ b. cond b (step im (Window c)) im) (window_changes (is_bridge f) (has_window c f.probe) (is_closed c f.image) ∙ off)
 
-  window_on : (c : WindowKind) → is_implemented f (Window c) ≡ true → (im : List ℕ) → with_window c (is_kept kept c) (decoded_window c f.image f.probe) (range_in p (Window c)) im ≡ step_if im (Window c)
+  window_on : (c : WindowKind) → is_implemented f (Window c) ≡ true → (im : List ℕ) → with_window c (is_window_kept kept c) (decoded_window c f.image f.probe) (place_range_in p (Window c)) im ≡ step_if im (Window c)
   window_on c on im =
       let there = (and_parts (is_bridge f) (has_window c f.probe) on).0 in
       let w = decoded_window c f.image f.probe in
       let opened : is_some (window_range c f.image) ≡ is_open f c =
       some_range (is_closed c f.image) _ ∙ sym (open_by (is_bridge f) (has_window c f.probe) (is_closed c f.image) on) in
-      let each : (o : Option Placed) → with_window c (is_kept kept c) w (placed_at o) im ≡ shown q s (region (Window c)) o im = λ o.
-      elim o as (λ o. with_window c (is_kept kept c) w (placed_at o) im ≡ shown q s (region (Window c)) o im) [
+      let each : (o : Option Placed) → with_window c (is_window_kept kept c) w (placed_at o) im ≡ shown q s (region (Window c)) o im = λ o.
+      elim o as (λ o. with_window c (is_window_kept kept c) w (placed_at o) im ≡ shown q s (region (Window c)) o im) [
         | None ↦
             ap (λ b. cond b im (with_closed c w im)) (placed.windows c there)
             ∙ ap (λ b. cond (stays q s (region (Window c))) im (cond b (with_bounds c (closed_bounds c (nibble w.wide)) im) im)) opened
         | Some x ↦ refl
       ] in
-      ap (λ o. with_window c (is_kept kept c) w o im) (has.each (Window c) there)
+      ap (λ o. with_window c (is_window_kept kept c) w o im) (has.each (Window c) there)
       ∙ each (place (Window c))
       ∙ sym (ap (λ b. cond b (step im (Window c)) im) (window_changes (is_bridge f) (has_window c f.probe) (is_closed c f.image) ∙ on))
 
-  optional_is : (c : WindowKind) → is_bridge f ≡ true → (im : List ℕ) → with_optional c (is_kept kept c) (optional_window c f.image f.probe) (range_in p (Window c)) im ≡ step_if im (Window c)
+  optional_is : (c : WindowKind) → is_bridge f ≡ true → (im : List ℕ) → with_optional c (is_window_kept kept c) (optional_window c f.image f.probe) (place_range_in p (Window c)) im ≡ step_if im (Window c)
   optional_is c bridge im = elim (cases_Bool (has_window c f.probe)) [
     | inl has ↦
-        ap (λ b. with_optional c (is_kept kept c) (if b then Some (decoded_window c f.image f.probe) else None) (range_in p (Window c)) im) has
+        ap (λ b. with_optional c (is_window_kept kept c) (if b then Some (decoded_window c f.image f.probe) else None) (place_range_in p (Window c)) im) has
         ∙ window_on c (and_from (is_bridge f) (has_window c f.probe) bridge has) im
     | inr none ↦
-        ap (λ b. with_optional c (is_kept kept c) (if b then Some (decoded_window c f.image f.probe) else None) (range_in p (Window c)) im) none
+        ap (λ b. with_optional c (is_window_kept kept c) (if b then Some (decoded_window c f.image f.probe) else None) (place_range_in p (Window c)) im) none
         ∙ sym (window_off c (ap (λ b. is_bridge f && b) none ∙ and_false (is_bridge f)) im)
   ]
 
@@ -282,7 +282,7 @@ module _ (q : Request) (s : System) (f : Function) (r : Record) (image : List �
       ∙ ap (λ im. step_if im Rom) (windows_are r.bridge refl (with_bars f.image p r.bars.items f.image))
       ∙ ap (λ im. step_if (windows_step im) Rom) bars_are
       ∙ sym (fold-append step_if f.image (header_bars f) others)
-      ∙ sym (fold_kept (λ im (x : Region). shown q s x (new_place q s x) im) region changes f.image (header_bars f ++ others))
+      ∙ sym (fold_kept (λ im (x : FunctionPart). shown q s x (new_place q s x) im) region changes f.image (header_bars f ++ others))
 
   pub images_are : with_parts image p kept r ≡ settled_image q s f
   images_are = ap (λ im. with_parts im p kept r) image_is ∙ same_parts

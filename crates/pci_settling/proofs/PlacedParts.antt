@@ -7,7 +7,7 @@ use Rattle.pci_spec.specs.System.{System, Function, Space, Part, IsSystem, is_wi
 use Rattle.pci_spec.specs.Bus.{IsNested}
 use Rattle.pci_spec.proofs.Members.{in_head, in_tail}
 use Rattle.settle_spec.specs.Lists.{Request}
-use Rattle.settle_spec.specs.Parts.{Region, is_part}
+use Rattle.settle_spec.specs.Parts.{FunctionPart, is_part}
 use Rattle.settle_spec.specs.Stands.{rank}
 use Rattle.settle_spec.specs.Items.{Item, Placed}
 use Rattle.settle_spec.specs.Places.{placed_of, space_items, placing_on, new_place}
@@ -41,7 +41,7 @@ module _ (q : Request) (s : System) (system : IsSystem s) (nested : IsNested q.r
   placed_is_part part there plain p placed =
       let space = space_of f part in
       let bus = f.slot.bus in
-      let region : Region = record { function = f; part = part } in
+      let region : FunctionPart = record { function = f; part = part } in
       let found = find_gives (λ (x : Placed). rank x.item.region == rank region) (placed_of (placing_on q s space bus)) p placed in
       let item = item_here q s system nested space bus low p found.0 in
       let real = real_in q s space bus p.item item in

@@ -9,7 +9,7 @@ use Rattle.pci_spec.specs.Window.{WindowKind, IoWindow, MemoryWindow, PrefetchWi
 use Rattle.pci_spec.specs.System.{System, Function, Part, Bar, Window, IsSystem, has_part}
 use Rattle.pci_spec.specs.Bus.{IsNested}
 use Rattle.settle_spec.specs.Lists.{Request}
-use Rattle.settle_spec.specs.Stands.{window_region}
+use Rattle.settle_spec.specs.Stands.{window_part}
 use Rattle.settle_spec.specs.Items.{stays}
 use Rattle.settle_spec.specs.Places.{new_place}
 use Rattle.pci_base.specs.declared.range.Range.{Range}
@@ -20,7 +20,7 @@ use Rattle.pci_function.specs.declared.record.Bridge.{Bridge}
 use Rattle.pci_function.specs.declared.record.Record.{Record}
 use Rattle.pci_place.specs.Records.{IsRecordOf}
 use Rattle.pci_settled.specs.declared.places.Places.{Places}
-use Rattle.pci_settled.specs.Places.{range_in, placed_at}
+use Rattle.pci_settled.specs.Places.{place_range_in, placed_at}
 use Rattle.pci_settling.specs.Shown.{with_bar, with_rom, with_optional}
 
 -- ---- by what is decoded
@@ -33,7 +33,7 @@ where_placed shown (Some place) image = shown place image
 abbrev pub with_placed_bar : List ℕ → Places → List ℕ → CodeBar → List ℕ
 with_placed_bar old p image bar =
     where_placed (with_bar (number_at old bar.reg 4) bar)
-    (range_in p (Bar ((bar.reg - BASE_ADDRESS) / 4))) image
+    (place_range_in p (Bar ((bar.reg - BASE_ADDRESS) / 4))) image
 
 abbrev pub with_bars : List ℕ → Places → List CodeBar → List ℕ → List ℕ
 with_bars old p bars image = fold (with_placed_bar old p) image bars
@@ -61,22 +61,22 @@ with_parts old p kept r =
 -- ---- by the definitions
 
 -- a function of a system, its record, and the places that its parts get: none for what stays
-pub record HasPlaces (q : Request) (s : System) (f : Function) (r : Record) (p : Places) : Type 0 where
+pub record HasPartPlaces (q : Request) (s : System) (f : Function) (r : Record) (p : Places) : Type 0 where
   pub system : IsSystem s
   pub nested : IsNested q.roots s
   pub is : IsRecordOf s f r
   pub each : (part : Part) → IsTrue (has_part f part)
-      → range_in p part ≡ placed_at (new_place q s record { function = f; part = part })
+      → place_range_in p part ≡ placed_at (new_place q s record { function = f; part = part })
 
 -- whether the window of a kind is one of those that stay
-abbrev pub is_kept : ByKind Bool → WindowKind → Bool
-is_kept kept IoWindow = kept.io
-is_kept kept MemoryWindow = kept.memory
-is_kept kept PrefetchWindow = kept.prefetchable
+abbrev pub is_window_kept : ByKind Bool → WindowKind → Bool
+is_window_kept kept IoWindow = kept.io
+is_window_kept kept MemoryWindow = kept.memory
+is_window_kept kept PrefetchWindow = kept.prefetchable
 
 -- and the windows that stay
-pub record IsPlaced (q : Request) (s : System) (f : Function) (r : Record) (p : Places)
+pub record HasPlacesAndWindows (q : Request) (s : System) (f : Function) (r : Record) (p : Places)
     (kept : ByKind Bool) : Type 0 where
-  pub places : HasPlaces q s f r p
+  pub places : HasPartPlaces q s f r p
   pub windows : (c : WindowKind) → IsTrue (has_part f (Window c))
-      → is_kept kept c ≡ stays q s (window_region c f)
+      → is_window_kept kept c ≡ stays q s (window_part c f)

@@ -11,7 +11,7 @@ use Rattle.pci_place.specs.declared.above.Above.{Above}
 use Rattle.pci_settle.specs.declared.own.Terms.{Terms}
 use Rattle.pci_settle.specs.Own.{AreTerms}
 use Rattle.pci_settled.specs.declared.places.Places.{Places}
-use Rattle.pci_settled.specs.Places.{range_in, placed_at}
+use Rattle.pci_settled.specs.Places.{place_range_in, placed_at}
 use Rattle.pci_settling.specs.Claims.{has_kept, is_enabled_by}
 
 -- a function on a bus is live
@@ -19,7 +19,7 @@ abbrev pub is_live_on : Request → System → Space → ℕ → Bool
 is_live_on q s space bus = list_any (λ g. g.slot.bus == bus && is_live q s space g) s
 
 -- what is asked for has these roots, and lists that tell this
-pub record IsRequestOf (q : Request) (roots : List ℕ) (t : Terms) : Type 0 where
+pub record IsRequestOfTerms (q : Request) (roots : List ℕ) (t : Terms) : Type 0 where
   pub rooted : q.roots ≡ roots
   pub terms : AreTerms q.lists t
 
@@ -28,13 +28,13 @@ pub record HasAllPlaces (q : Request) (s : System) (table : List Places) : Type 
   pub count : length table ≡ length s
   pub each : (k : ℕ) (f : Function) (d : Places) (part : Part) → slice_get s k ≡ Some f
       → IsTrue (has_part f part)
-      → range_in (slice_index_or table k d) part
+      → place_range_in (slice_index_or table k d) part
       ≡ placed_at (new_place q s record { function = f; part = part })
 
 -- the table says for each bus whether one is, at the places of another table
 abbrev pub AreLiveBuses : List ℕ → System → Space → Terms → List Places → List Bool → Type 0
 AreLiveBuses roots s space t table live =
-    (q : Request) (bus : ℕ) → IsRequestOf q roots t → HasAllPlaces q s table → bus < 256
+    (q : Request) (bus : ℕ) → IsRequestOfTerms q roots t → HasAllPlaces q s table → bus < 256
     → slice_index_or live bus false ≡ is_live_on q s space bus
 
 -- ---- of a record

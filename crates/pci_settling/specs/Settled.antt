@@ -20,7 +20,7 @@ command_by p above t r io memory =
     + (if is_enabled_by Memory p above t r memory then 2 else 0)
 
 -- what tells its Command beside its places: the windows above it, the lists, and whether something live is behind it
-pub record IsTold (q : Request) (s : System) (f : Function) (above : Above) (t : Terms)
+pub record IsCommandTold (q : Request) (s : System) (f : Function) (above : Above) (t : Terms)
     (behind : Behind) : Type 0 where
   pub over : IsAbove s f.slot.bus above
   pub terms : AreTerms q.lists t

@@ -4,7 +4,7 @@ ghost use Rattle.std.specs.List.{All, list_any};
 ghost use Rattle.pci_base.specs.Space.{space_of};
 ghost use Rattle.pci_settling.specs.Shown.{HasRegister};
 ghost use Rattle.pci_settling.specs.Claims as claims;
-ghost use Rattle.pci_settling.specs.Claims.{is_bar_of, has_left_bar, is_placed_bar, has_placed_window, is_kept_bar, is_rom_on};
+ghost use Rattle.pci_settling.specs.Claims.{is_bar_in, has_left_bar, is_placed_bar, has_placed_window, is_kept_bar, is_rom_on};
 
 use pci_base::offset::BASE_ADDRESS;
 use pci_base::space::Space;
@@ -17,7 +17,7 @@ use pci_settled::places::Places;
 
 /// Whether a BAR is of a space.
 fn is_bar_of(space: Space, bar: &Bar) -> bool
-    ensures { result ≡ is_bar_of (space_of space) bar.now }
+    ensures { result ≡ is_bar_in (space_of space) bar.now }
 {
     match space {
         Space::Io => bar.kind == BarKind::Io,

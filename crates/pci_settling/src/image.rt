@@ -5,7 +5,7 @@ ghost use Rattle.pci_spec.specs.System.{System, Function};
 ghost use Rattle.settle_spec.specs.Lists.{Request};
 ghost use Rattle.settle_spec.specs.Registers.{settled_image};
 ghost use Rattle.pci_settling.specs.Shown.{HasRegister};
-ghost use Rattle.pci_settling.specs.Images.{with_placed_bar, with_bars, with_windows, with_parts, IsPlaced};
+ghost use Rattle.pci_settling.specs.Images.{with_placed_bar, with_bars, with_windows, with_parts, HasPlacesAndWindows};
 
 use crate::write::{write_bar, write_rom, write_window};
 use pci_base::image::{IMAGE_LEN, Image};
@@ -76,7 +76,7 @@ pub fn settled_image(record: &Record, image: &Image, places: &Places, kept: &ByK
     // places are told by the number of a BAR's register, so each has one
     requires { All HasRegister «record».now.bars.items }
     ensures { (q : Request) (s : System) (f : Function)
-        → image.now.0 ≡ f.image → IsPlaced q s f «record».now places.now kept.now
+        → image.now.0 ≡ f.image → HasPlacesAndWindows q s f «record».now places.now kept.now
         → result.0 ≡ settled_image q s f }
 {
     with_parts(record, image, places, kept)

@@ -5,8 +5,8 @@ ghost use Rattle.pci_spec.specs.System.{System, Function};
 ghost use Rattle.settle_spec.specs.Lists.{Request};
 ghost use Rattle.settle_spec.specs.Registers as registers;
 ghost use Rattle.pci_settling.specs.Shown.{HasRegister};
-ghost use Rattle.pci_settling.specs.Images.{IsPlaced};
-ghost use Rattle.pci_settling.specs.Settled.{command_by, IsTold};
+ghost use Rattle.pci_settling.specs.Images.{HasPlacesAndWindows};
+ghost use Rattle.pci_settling.specs.Settled.{command_by, IsCommandTold};
 
 use crate::claim::is_enabled;
 use crate::image::settled_image;
@@ -58,8 +58,8 @@ pub fn settled_function(
     // places are told by the number of a BAR's register, so each has one
     requires { All HasRegister «record».now.bars.items }
     ensures { (q : Request) (s : System) (f : Function)
-        → image.now.0 ≡ f.image → IsPlaced q s f «record».now places.now kept.now
-        → IsTold q s f above terms behind
+        → image.now.0 ≡ f.image → HasPlacesAndWindows q s f «record».now places.now kept.now
+        → IsCommandTold q s f above terms behind
         → result.0 ≡ (registers.settled_function q s f).image }
 {
     let mut settled = settled_image(record, image, places, kept);

@@ -14,7 +14,7 @@ use Rattle.pci_spec.specs.Decoded as decoded
 use Rattle.pci_spec.specs.System as system
 use Rattle.pci_spec.proofs.Members.{in_nil, in_cons_cases, in_map_to, in_filter_to, IsMade}
 use Rattle.settle_spec.specs.Lists.{Request}
-use Rattle.settle_spec.specs.Parts.{regions_of}
+use Rattle.settle_spec.specs.Parts.{function_parts}
 use Rattle.stand_laws.specs.Order.{level}
 use Rattle.pci_base.specs.Ranges.{range_of_decoded}
 use Rattle.pci_base.specs.declared.space.Space.{Space as CodeSpace}
@@ -39,57 +39,57 @@ use Rattle.pci_settle.specs.Own.{AreTerms, is_left_bar}
 use Rattle.pci_stand.specs.declared.region.Owner.{Owner}
 use Rattle.pci_settle.specs.declared.kept.Part.TheVariants as parts
 use Rattle.pci_stand.specs.declared.region.Region.{Region as CodeRegion}
-use Rattle.pci_stand.specs.Regions.{owned, bar_region, bar_regions, window_regions, bridge_regions, rom_region, rom_regions, record_regions}
-use Rattle.pci_stand.specs.Known.{known, known_of, IsForward, AreParts}
+use Rattle.pci_stand.specs.Regions.{owned_region, owned_bar_region, owned_bar_regions, owned_window_regions, owned_bridge_regions, owned_rom_region, owned_rom_regions, record_regions}
+use Rattle.pci_stand.specs.Known.{known, known_of, HasAddress, AreParts}
 use Rattle.pci_stand.proofs.OfRecord.{IsOwner, record_parts}
 
 -- ---- the parts of a record are of its function, and have addresses
 
 pub record IsOf (o : Owner) (x : CodeRegion) : Type 0 where
   pub function : x.function ≡ o.function
-  pub forward : IsForward x
+  pub forward : HasAddress x
 
 module _ (o : Owner) (above : Above) (t : Terms) (r : Record) (lawful : IsLawful r) where
-  in_window : (kind : CodeKind) (space : CodeSpace) (w : Option decoded.Range) (z : system.Space) → IfSome w (λ v. IsSpanIn z v.first v.last) → (x : CodeRegion) → Contains (window_regions o kind space w) x → IsOf o x
+  in_window : (kind : CodeKind) (space : CodeSpace) (w : Option decoded.Range) (z : system.Space) → IfSome w (λ v. IsSpanIn z v.first v.last) → (x : CodeRegion) → Contains (owned_window_regions o kind space w) x → IsOf o x
   in_window kind space None z span x listed = absurd (in_nil x listed)
-  in_window kind space (Some v) z span x listed = elim (in_cons_cases (owned o (parts.Window kind) space false (range_of_decoded v)) [] x listed) [
+  in_window kind space (Some v) z span x listed = elim (in_cons_cases (owned_region o (parts.Window kind) space false (range_of_decoded v)) [] x listed) [
     | inl same ↦ subst (IsOf o) same record { function = refl; forward = span.0 }
     | inr none ↦ absurd (in_nil x none)
   ]
 
-  in_bridge : (b : Option Bridge) → IfSome b (λ (c : Bridge). (kind : WindowKind) → IfSome (window_in kind c.windows) (λ w. IsSpanIn (system.window_space kind) w.first w.last)) → (x : CodeRegion) → Contains (bridge_regions o b) x → IsOf o x
+  in_bridge : (b : Option Bridge) → IfSome b (λ (c : Bridge). (kind : WindowKind) → IfSome (window_in kind c.windows) (λ w. IsSpanIn (system.window_space kind) w.first w.last)) → (x : CodeRegion) → Contains (owned_bridge_regions o b) x → IsOf o x
   in_bridge None spans x listed = absurd (in_nil x listed)
-  in_bridge (Some b) spans x listed = elim (Contains-append_cases (window_regions o kinds.Io spaces.Io (range_in b.windows.io)) (window_regions o kinds.Memory spaces.Mem b.windows.mem.range ++ window_regions o kinds.Prefetchable spaces.Mem (range_in b.windows.pref)) x listed) [
+  in_bridge (Some b) spans x listed = elim (Contains-append_cases (owned_window_regions o kinds.Io spaces.Io (range_in b.windows.io)) (owned_window_regions o kinds.Memory spaces.Mem b.windows.mem.range ++ owned_window_regions o kinds.Prefetchable spaces.Mem (range_in b.windows.pref)) x listed) [
     | inl first ↦ in_window kinds.Io spaces.Io (range_in b.windows.io) system.Io (spans IoWindow) x first
-    | inr more ↦ elim (Contains-append_cases (window_regions o kinds.Memory spaces.Mem b.windows.mem.range) (window_regions o kinds.Prefetchable spaces.Mem (range_in b.windows.pref)) x more) [
+    | inr more ↦ elim (Contains-append_cases (owned_window_regions o kinds.Memory spaces.Mem b.windows.mem.range) (owned_window_regions o kinds.Prefetchable spaces.Mem (range_in b.windows.pref)) x more) [
       | inl second ↦ in_window kinds.Memory spaces.Mem b.windows.mem.range system.Memory (spans MemoryWindow) x second
       | inr third ↦ in_window kinds.Prefetchable spaces.Mem (range_in b.windows.pref) system.Memory (spans PrefetchWindow) x third
     ]
   ]
 
-  in_rom_if : (on : Bool) (rom : CodeRom) → rom.first ≤ rom.last → (x : CodeRegion) → Contains (cond on (rom_region o rom ∷ []) []) x → IsOf o x
+  in_rom_if : (on : Bool) (rom : CodeRom) → rom.first ≤ rom.last → (x : CodeRegion) → Contains (cond on (owned_rom_region o rom ∷ []) []) x → IsOf o x
   in_rom_if false rom span x listed = absurd (in_nil x listed)
-  in_rom_if true rom span x listed = elim (in_cons_cases (rom_region o rom) [] x listed) [
+  in_rom_if true rom span x listed = elim (in_cons_cases (owned_rom_region o rom) [] x listed) [
     | inl same ↦ subst (IsOf o) same record { function = refl; forward = span }
     | inr none ↦ absurd (in_nil x none)
   ]
 
-  in_rom : (rom : Option CodeRom) → IfSome rom (λ x. IsSpanIn system.Memory x.first x.last) → (x : CodeRegion) → Contains (rom_regions o rom) x → IsOf o x
+  in_rom : (rom : Option CodeRom) → IfSome rom (λ x. IsSpanIn system.Memory x.first x.last) → (x : CodeRegion) → Contains (owned_rom_regions o rom) x → IsOf o x
   in_rom None span x listed = absurd (in_nil x listed)
   in_rom (Some rom) span x listed = in_rom_if rom.on rom span.0 x listed
 
-  in_bars : (x : CodeRegion) → Contains (bar_regions o above t r.bars.items) x → IsOf o x
+  in_bars : (x : CodeRegion) → Contains (owned_bar_regions o above t r.bars.items) x → IsOf o x
   in_bars x listed =
       let kept = filter (λ bar. not (is_left_bar bar above t.has_io)) r.bars.items in
-      let made : IsMade (bar_region o above) kept x = in_map_to (bar_region o above) kept x listed in
+      let made : IsMade (owned_bar_region o above) kept x = in_map_to (owned_bar_region o above) kept x listed in
       let has = (in_filter_to (λ bar. not (is_left_bar bar above t.has_io)) r.bars.items made.from made.has).0 in
       let span = All-contains (λ (b : CodeBar). IsSpanIn (space_in b.kind) b.first b.last) r.bars.items made.from lawful.bars has in
       subst (IsOf o) made.is record { function = refl; forward = span.0 }
 
   pub in_record : (x : CodeRegion) → Contains (record_regions o above t r) x → IsOf o x
-  in_record x listed = elim (Contains-append_cases (bar_regions o above t r.bars.items) (bridge_regions o r.bridge ++ rom_regions o r.rom) x listed) [
+  in_record x listed = elim (Contains-append_cases (owned_bar_regions o above t r.bars.items) (owned_bridge_regions o r.bridge ++ owned_rom_regions o r.rom) x listed) [
     | inl bar ↦ in_bars x bar
-    | inr more ↦ elim (Contains-append_cases (bridge_regions o r.bridge) (rom_regions o r.rom) x more) [
+    | inr more ↦ elim (Contains-append_cases (owned_bridge_regions o r.bridge) (owned_rom_regions o r.rom) x more) [
       | inl window ↦ in_bridge r.bridge lawful.windows x window
       | inr rom ↦ in_rom r.rom lawful.rom x rom
     ]
@@ -105,17 +105,17 @@ one_more make s k f at =
 
 -- the parts of the first functions
 pub record ArePartsTo (q : Request) (s : System) (k : ℕ) (rs : List CodeRegion) : Type 0 where
-  pub same : map (known s) rs ≡ map (known_of q s) (flat_map (regions_of q s) (take k s))
+  pub same : map (known s) rs ≡ map (known_of q s) (flat_map (function_parts q s) (take k s))
   pub within : All (λ (r : CodeRegion). r.function < length s) rs
-  pub forward : All IsForward rs
+  pub forward : All HasAddress rs
 
 pub parts_none : (q : Request) (s : System) (rs : List CodeRegion) → rs ≡ [] → ArePartsTo q s 0 rs
-parts_none q s rs none = subst (ArePartsTo q s 0) (sym none) record { same = refl; within = All-nil (λ (r : CodeRegion). r.function < length s); forward = All-nil IsForward }
+parts_none q s rs none = subst (ArePartsTo q s 0) (sym none) record { same = refl; within = All-nil (λ (r : CodeRegion). r.function < length s); forward = All-nil HasAddress }
 
 module _ (q : Request) (s : System) (records : List Record) (has : HasRecords s (map record_value records)) where
   pub parts_all : (k : ℕ) (rs : List CodeRegion) → length records ≤ k → ArePartsTo q s k rs → AreParts q s rs
   parts_all k rs end are = record {
-    same = are.same ∙ ap (λ fs. map (known_of q s) (flat_map (regions_of q s) fs)) (take_all k s (let e = same_count s records has in omega (arith, e, end)));
+    same = are.same ∙ ap (λ fs. map (known_of q s) (flat_map (function_parts q s) fs)) (take_all k s (let e = same_count s records has in omega (arith, e, end)));
     within = are.within;
     forward = are.forward;
   }
@@ -150,11 +150,11 @@ module _ (q : Request) (s : System) (records : List Record) (has : HasRecords s 
           same = ap (map (known s)) put
               ∙ map-append (known s) old new_ones
               ∙ ap (λ xs. xs ++ map (known s) new_ones) before.same
-              ∙ ap (λ xs. map (known_of q s) (flat_map (regions_of q s) (take k s)) ++ xs) (record_parts q s f o above t r owner over terms)
-              ∙ sym (map-append (known_of q s) (flat_map (regions_of q s) (take k s)) (regions_of q s f))
-              ∙ ap (map (known_of q s)) (sym (one_more (regions_of q s) s k f found.at));
+              ∙ ap (λ xs. map (known_of q s) (flat_map (function_parts q s) (take k s)) ++ xs) (record_parts q s f o above t r owner over terms)
+              ∙ sym (map-append (known_of q s) (flat_map (function_parts q s) (take k s)) (function_parts q s f))
+              ∙ ap (map (known_of q s)) (sym (one_more (function_parts q s) s k f found.at));
           within = subst (All (λ (x : CodeRegion). x.function < length s)) (sym put) (All-append (λ (x : CodeRegion). x.function < length s) old new_ones before.within
               (λ n e low. let here = (of (get_or new_ones n e) (Contains-get_or new_ones n e low)).function in let in_s = slice_get_within s k f found.at in omega (arith, here, at, in_s)));
-          forward = subst (All IsForward) (sym put) (All-append IsForward old new_ones before.forward
+          forward = subst (All HasAddress) (sym put) (All-append HasAddress old new_ones before.forward
               (λ n e low. (of (get_or new_ones n e) (Contains-get_or new_ones n e low)).forward));
         }

@@ -14,8 +14,8 @@ use Rattle.pci_spec.specs.System.{System, Function, Space, Io, Memory, Part, Bar
 use Rattle.pci_spec.specs.Bus.{is_root, are_siblings}
 use Rattle.pci_spec.proofs.Members.{in_nil, in_head, in_tail, in_flat_map_to, IsInPiece, in_map_to, in_map_from, IsMade, in_filter_to, in_filter_from}
 use Rattle.settle_spec.specs.Lists.{Lists, Request}
-use Rattle.settle_spec.specs.Parts.{Region, is_part, parts_of, header_parts, regions_of, regions, addresses, same_space}
-use Rattle.settle_spec.specs.Stands.{region_space}
+use Rattle.settle_spec.specs.Parts.{FunctionPart, is_part, parts_of, header_parts, function_parts, system_parts, addresses, are_same_space}
+use Rattle.settle_spec.specs.Stands.{part_space}
 use Rattle.settle_spec.specs.Items.{stays, taken_on}
 use Rattle.settle_spec.specs.Places.{taken_at}
 use Rattle.settle_spec.proofs.SameTaken.{HaveSame}
@@ -27,15 +27,15 @@ use Rattle.pci_base.specs.Space as code
 use Rattle.pci_base.specs.declared.space.Space.TheVariants as spaces
 use Rattle.pci_place.specs.Items.{function_in, no_function}
 use Rattle.pci_settle.specs.declared.kept.Kept.{Kept}
-use Rattle.pci_settle.specs.Kept.{part_value, AreKept}
-use Rattle.pci_settle.specs.Spots.{AreInOrder, AreListed}
+use Rattle.pci_settle.specs.Kept.{spec_part, AreKeptParts}
+use Rattle.pci_settle.specs.Spots.{FirstsRise, AreRisingRanges}
 use Rattle.pci_settle.proofs.Headers.{header_has}
 use Rattle.pci_settle.proofs.Tables.{none_noted}
 use Rattle.pci_stand.specs.declared.region.Region.{Region as CodeRegion}
 use Rattle.pci_stand.specs.Known.{Known, asked, known, known_of, region_value, AreParts}
 use Rattle.pci_stand.proofs.Passing.{levels_one, spaces_one, one_space}
 use Rattle.pci_stand.specs.declared.held.Held.{Held}
-use Rattle.pci_stand.specs.Held.{is_kept, held_of, held_range, is_on, IsForward, IsHeldBy, AreHeld, AreHeldIn}
+use Rattle.pci_stand.specs.Held.{is_kept, held_of, held_range, is_level_on, IsForward, IsHeldBy, AreHeld, AreHeldIn}
 
 -- ---- filters of a slice
 
@@ -81,28 +81,28 @@ module _ (held : List Held) (n i j : ℕ) (bound : i ≤ length held) (before : 
     | inr fine ↦ fine
   ]
 
-  other_level : (space : Space) (h : Held) → (h.level ≡ n → ⊥) → is_on n space h ≡ false
-  other_level space h differ = false_from_ne_true (is_on n space h) (λ is. differ (eqb-true h.level n (and_parts (h.level == n) (same_space space (code.space_of h.space)) is).0))
+  other_level : (space : Space) (h : Held) → (h.level ≡ n → ⊥) → is_level_on n space h ≡ false
+  other_level space h differ = false_from_ne_true (is_level_on n space h) (λ is. differ (eqb-true h.level n (and_parts (h.level == n) (are_same_space space (code.space_of h.space)) is).0))
 
 module _ (held : List Held) (n : ℕ) (space : Space) (i j : ℕ) (bound : i ≤ length held) (before : AllWithin (λ h. h.level < n) held 0 i) (after : AllWithin (λ h. n + 1 ≤ h.level) held j (length held)) where
   -- those of a level stand in a row
-  pub row_filter : filter (is_on n space) (slice_range held i j) ≡ filter (is_on n space) held
+  pub row_filter : filter (is_level_on n space) (slice_range held i j) ≡ filter (is_level_on n space) held
   row_filter =
-      filter_slice (is_on n space) held i j (row_order held n i j bound before after)
+      filter_slice (is_level_on n space) held i j (row_order held n i j bound before after)
       (λ k d low within. other_level held n i j bound before after space (get_or held k d) (λ same. (let up = before k d (omega arith) low in let no : ⊥ = omega (arith, same, up) in no)))
       (λ k d high within. other_level held n i j bound before after space (get_or held k d) (λ same. (let up = after k d high within in let no : ⊥ = omega (arith, same, up) in no)))
 
   -- so what is added of the row and then sorted is what is added of all
-  pub row_sorted : (old added new : List Range) → old ≡ [] → added ≡ old ++ map held_range (filter (is_on n space) (slice_range held i j)) → IsPermutation added new
-      → IsPermutation (map held_range (filter (is_on n space) held)) new
+  pub row_sorted : (old added new : List Range) → old ≡ [] → added ≡ old ++ map held_range (filter (is_level_on n space) (slice_range held i j)) → IsPermutation added new
+      → IsPermutation (map held_range (filter (is_level_on n space) held)) new
   row_sorted old added new none put sorted =
       subst (λ xs. IsPermutation xs new)
-      (put ∙ ap (λ xs. xs ++ map held_range (filter (is_on n space) (slice_range held i j))) none ∙ ap (map held_range) row_filter) sorted
+      (put ∙ ap (λ xs. xs ++ map held_range (filter (is_level_on n space) (slice_range held i j))) none ∙ ap (map held_range) row_filter) sorted
 
 -- ---- parts of a system
 
-regions_by : (q p : Request) (s : System) → q.lists ≡ p.lists → regions q s ≡ regions p s
-regions_by q p s same = ap (λ ls. regions (record { roots = []; lists = ls; fixed = []; anew = false }) s) same
+regions_by : (q p : Request) (s : System) → q.lists ≡ p.lists → system_parts q s ≡ system_parts p s
+regions_by q p s same = ap (λ ls. system_parts (record { roots = []; lists = ls; fixed = []; anew = false }) s) same
 
 level_by : (q p : Request) (bus : ℕ) → q.roots ≡ p.roots → level q bus ≡ level p bus
 level_by q p bus same = ap (λ rs. cond (is_root rs bus) 0 (bus + 1)) same
@@ -112,13 +112,13 @@ part_there q s f (Bar n) listed is = header_has f (Bar n) listed refl
 part_there q s f Rom listed is = header_has f Rom listed refl
 part_there q s f (Window kind) listed is = (and_parts (is_bridge f) (has_window kind f.probe) (and_parts (is_bridge f && has_window kind f.probe) (not (is_closed kind f.image)) is).0).0
 
-pub record IsThere (s : System) (r : Region) : Type 0 where
+pub record IsThere (s : System) (r : FunctionPart) : Type 0 where
   pub listed : Contains s r.function
   pub there : has_part r.function r.part ≡ true
 
-pub there_of : (q : Request) (s : System) (r : Region) → Contains (regions q s) r → IsThere s r
+pub there_of : (q : Request) (s : System) (r : FunctionPart) → Contains (system_parts q s) r → IsThere s r
 there_of q s r has =
-    let piece : IsInPiece (regions_of q s) s r = in_flat_map_to (regions_of q s) s r has in
+    let piece : IsInPiece (function_parts q s) s r = in_flat_map_to (function_parts q s) s r has in
     let f = piece.of in
     let made : IsMade (λ p. record { function = f; part = p }) (parts_of q s f) r = in_map_to (λ p. record { function = f; part = p }) (parts_of q s f) r piece.piece in
     let kept = in_filter_to (is_part q s f) (header_parts f) made.from made.has in
@@ -157,8 +157,8 @@ module _ (roots : List ℕ) (l : Lists) (s : System) (rs : List CodeRegion) (par
       let x = chosen_from held same (get_or held k d) (Contains-get_or held k d low) in
       subst IsForward x.is (All-contains (λ (r : CodeRegion). r.range.first ≤ r.range.last) rs x.from parts.forward x.listed))
 
-  module _ (q : Request) (rooted : q.roots ≡ roots) (lists : q.lists ≡ l) (keeps : AreKept s (stays q s) kept) where
-    module _ (x : CodeRegion) (r : Region) (in_code : Contains rs x) (in_system : Contains (regions q0 s) r) (same : known_of q0 s r ≡ known s x) where
+  module _ (q : Request) (rooted : q.roots ≡ roots) (lists : q.lists ≡ l) (keeps : AreKeptParts s (stays q s) kept) where
+    module _ (x : CodeRegion) (r : FunctionPart) (in_code : Contains rs x) (in_system : Contains (system_parts q0 s) r) (same : known_of q0 s r ≡ known s x) where
       region_is : r ≡ region_value s x
       region_is = ap (λ (k : Known). k.region) same
 
@@ -166,7 +166,7 @@ module _ (roots : List ℕ) (l : Lists) (s : System) (rs : List CodeRegion) (par
       kept_is =
           let inside = All-contains (λ (y : CodeRegion). y.function < length s) rs x parts.within in_code in
           let is = subst (IsThere s) region_is (there_of q0 s r in_system) in
-          keeps x.function (function_in s x.function) (part_value x.part) (slice_get-get_or s x.function no_function inside) is.there ∙ ap (stays q s) (sym region_is)
+          keeps x.function (function_in s x.function) (spec_part x.part) (slice_get-get_or s x.function no_function inside) is.there ∙ ap (stays q s) (sym region_is)
 
       held_by : is_kept kept x ≡ true → IsHeldBy q s (held_of x) r
       held_by is = record {
@@ -181,11 +181,11 @@ module _ (roots : List ℕ) (l : Lists) (s : System) (rs : List CodeRegion) (par
     are_held held same = record {
       each = λ h listed.
           let x = chosen_from held same h listed in
-          let made : IsMade (known_of q0 s) (regions q0 s) (known s x.from) = in_map_to (known_of q0 s) (regions q0 s) (known s x.from) (subst (λ ks. Contains ks (known s x.from)) parts.same (in_map_from (known s) rs x.from x.listed)) in
+          let made : IsMade (known_of q0 s) (system_parts q0 s) (known s x.from) = in_map_to (known_of q0 s) (system_parts q0 s) (known s x.from) (subst (λ ks. Contains ks (known s x.from)) parts.same (in_map_from (known s) rs x.from x.listed)) in
           (made.from, subst (λ y. IsHeldBy q s y made.from) x.is (held_by x.from made.from x.listed made.has made.is x.keeps));
       all = λ r listed is.
           let in_system = subst (λ ts. Contains ts r) (regions_by q q0 s lists) listed in
-          let made : IsMade (known s) rs (known_of q0 s r) = in_map_to (known s) rs (known_of q0 s r) (subst (λ ks. Contains ks (known_of q0 s r)) (sym parts.same) (in_map_from (known_of q0 s) (regions q0 s) r in_system)) in
+          let made : IsMade (known s) rs (known_of q0 s r) = in_map_to (known s) rs (known_of q0 s r) (subst (λ ks. Contains ks (known_of q0 s r)) (sym parts.same) (in_map_from (known_of q0 s) (system_parts q0 s) r in_system)) in
           let on = kept_is made.from r made.has in_system (sym made.is) ∙ is in (
             held_of made.from,
             Contains-permutation chosen held (held_of made.from) same (in_map_from held_of (filter (is_kept kept) rs) made.from (in_filter_from (is_kept kept) rs made.from made.has on)),
@@ -194,7 +194,7 @@ module _ (roots : List ℕ) (l : Lists) (s : System) (rs : List CodeRegion) (par
     }
 
 -- where no function has an entry, nothing stays
-pub none_held : (q : Request) (s : System) → AreKept s (stays q s) [] → AreHeld q s []
+pub none_held : (q : Request) (s : System) → AreKeptParts s (stays q s) [] → AreHeld q s []
 none_held q s keeps = record {
   each = λ h listed. absurd (in_nil h listed);
   all = λ r listed is.
@@ -210,7 +210,7 @@ nothing_held roots s l (x ∷ kept) held empty none q rooted lists keeps = absur
 
 -- ---- what is taken
 
-module _ (held : List Held) (n : ℕ) (space : Space) (taken : List Range) (same : IsPermutation (map held_range (filter (is_on n space) held)) taken) where
+module _ (held : List Held) (n : ℕ) (space : Space) (taken : List Range) (same : IsPermutation (map held_range (filter (is_level_on n space) held)) taken) where
   record IsOnIt (x : Range) : Type 0 where
     pub from : Held
     pub listed : Contains held from
@@ -220,10 +220,10 @@ module _ (held : List Held) (n : ℕ) (space : Space) (taken : List Range) (same
 
   on_it : (x : Range) → Contains taken x → IsOnIt x
   on_it x listed =
-      let all = filter (is_on n space) held in
+      let all = filter (is_level_on n space) held in
       let made : IsMade held_range all x = in_map_to held_range all x (Contains-permutation taken (map held_range all) x (IsPermutation-sym (map held_range all) taken same) listed) in
-      let passed = in_filter_to (is_on n space) held made.from made.has in
-      let both = and_parts (made.from.level == n) (same_space space (code.space_of made.from.space)) passed.1 in
+      let passed = in_filter_to (is_level_on n space) held made.from made.has in
+      let both = and_parts (made.from.level == n) (are_same_space space (code.space_of made.from.space)) passed.1 in
       record {
         from = made.from;
         listed = passed.0;
@@ -232,7 +232,7 @@ module _ (held : List Held) (n : ℕ) (space : Space) (taken : List Range) (same
         is = made.is;
       }
 
-  pub taken_listed : All IsForward held → AreInOrder taken → AreListed taken
+  pub taken_listed : All IsForward held → FirstsRise taken → AreRisingRanges taken
   taken_listed forward order = record {
     order = order;
     forward = λ k d within. (
@@ -242,8 +242,8 @@ module _ (held : List Held) (n : ℕ) (space : Space) (taken : List Range) (same
 
   module _ (q : Request) (s : System) (are : AreHeld q s held) (bus : ℕ) (here : n ≡ level q bus) where
     module _ (c : WindowKind) (of : window_space c ≡ space) where
-      abbrev passes : Region → Bool
-      passes r = are_siblings q.roots bus r.function.slot.bus && same_space (window_space c) (region_space r) && stays q s r
+      abbrev passes : FunctionPart → Bool
+      passes r = are_siblings q.roots bus r.function.slot.bus && are_same_space (window_space c) (part_space r) && stays q s r
 
       pub same_on : HaveSame (map decoded_range_of taken) (taken_on q s c (stays q s) bus)
       same_on = record {
@@ -254,30 +254,30 @@ module _ (held : List Held) (n : ℕ) (space : Space) (taken : List Range) (same
             let r = by.0 in
             let is = by.1 in
             let beside = levels_one q bus r.function.slot.bus (sym here ∙ sym x.level_is ∙ is.level_is) in
-            let in_space = spaces_one (window_space c) (region_space r) (of ∙ x.space_is ∙ is.space_is) in
-            let ok = and_from (are_siblings q.roots bus r.function.slot.bus && same_space (window_space c) (region_space r)) (stays q s r)
-            (and_from (are_siblings q.roots bus r.function.slot.bus) (same_space (window_space c) (region_space r)) beside in_space) is.stays_is in
+            let in_space = spaces_one (window_space c) (part_space r) (of ∙ x.space_is ∙ is.space_is) in
+            let ok = and_from (are_siblings q.roots bus r.function.slot.bus && are_same_space (window_space c) (part_space r)) (stays q s r)
+            (and_from (are_siblings q.roots bus r.function.slot.bus) (are_same_space (window_space c) (part_space r)) beside in_space) is.stays_is in
             subst (Contains (taken_on q s c (stays q s) bus)) (sym is.range_is ∙ ap decoded_range_of x.is ∙ made.is)
-            (in_map_from addresses (filter passes (regions q s)) r (in_filter_from passes (regions q s) r is.listed ok));
+            (in_map_from addresses (filter passes (system_parts q s)) r (in_filter_from passes (system_parts q s) r is.listed ok));
         back = λ t listed.
-            let made : IsMade addresses (filter passes (regions q s)) t = in_map_to addresses (filter passes (regions q s)) t listed in
+            let made : IsMade addresses (filter passes (system_parts q s)) t = in_map_to addresses (filter passes (system_parts q s)) t listed in
             let r = made.from in
-            let passed = in_filter_to passes (regions q s) r made.has in
-            let two = and_parts (are_siblings q.roots bus r.function.slot.bus && same_space (window_space c) (region_space r)) (stays q s r) passed.1 in
-            let one = and_parts (are_siblings q.roots bus r.function.slot.bus) (same_space (window_space c) (region_space r)) two.0 in
+            let passed = in_filter_to passes (system_parts q s) r made.has in
+            let two = and_parts (are_siblings q.roots bus r.function.slot.bus && are_same_space (window_space c) (part_space r)) (stays q s r) passed.1 in
+            let one = and_parts (are_siblings q.roots bus r.function.slot.bus) (are_same_space (window_space c) (part_space r)) two.0 in
             let by = are.all r passed.0 two.1 in
             let h = by.0 in
             let is = by.2 in
-            let on : is_on n space h ≡ true = and_from (h.level == n) (same_space space (code.space_of h.space))
+            let on : is_level_on n space h ≡ true = and_from (h.level == n) (are_same_space space (code.space_of h.space))
             (eq-eqb h.level n (is.level_is ∙ sym (one_level q s bus r.function.slot.bus one.0) ∙ sym here))
-            (spaces_one space (code.space_of h.space) (sym of ∙ one_space (window_space c) (region_space r) one.1 ∙ sym is.space_is)) in
-            let all = filter (is_on n space) held in
+            (spaces_one space (code.space_of h.space) (sym of ∙ one_space (window_space c) (part_space r) one.1 ∙ sym is.space_is)) in
+            let all = filter (is_level_on n space) held in
             subst (Contains (map decoded_range_of taken)) (is.range_is ∙ made.is)
             (in_map_from decoded_range_of taken (held_range h)
-            (Contains-permutation (map held_range all) taken (held_range h) same (in_map_from held_range all h (in_filter_from (is_on n space) held h by.1 on))));
+            (Contains-permutation (map held_range all) taken (held_range h) same (in_map_from held_range all h (in_filter_from (is_level_on n space) held h by.1 on))));
       }
 
-pub same_taken : (held : List Held) (n : ℕ) (space : Space) (taken : List Range) → IsPermutation (map held_range (filter (is_on n space) held)) taken
+pub same_taken : (held : List Held) (n : ℕ) (space : Space) (taken : List Range) → IsPermutation (map held_range (filter (is_level_on n space) held)) taken
     → (q : Request) (s : System) → AreHeld q s held → (bus : ℕ) → n ≡ level q bus → HaveSame (map decoded_range_of taken) (taken_at q s space bus)
 same_taken held n Io taken same q s are bus here = same_on held n Io taken same q s are bus here IoWindow refl
 same_taken held n Memory taken same q s are bus here = same_on held n Memory taken same q s are bus here MemoryWindow refl

@@ -14,9 +14,9 @@ use Rattle.pci_spec.specs.Bus.{is_root}
 use Rattle.pci_spec.proofs.BusRanges.{all_gives, all_from}
 use Rattle.plan_spec.specs.Plan.{bridges_above, is_open, is_served}
 use Rattle.plan_spec.specs.Planning.Layout.{range_of}
-use Rattle.settle_spec.specs.Lists.{RootRange, Lists, Request, is_had_by, ranges_of}
-use Rattle.settle_spec.specs.Parts.{Region, addresses, is_within, bridge_over, holds_range, upper_pools, is_empty, new_class, is_in_memory, is_in_prefetch, prefetchable_class, class_in}
-use Rattle.settle_spec.specs.Stands.{region_space, window_region, is_in_window, is_in_place}
+use Rattle.settle_spec.specs.Lists.{RootRange, Lists, Request, is_had_by, class_ranges}
+use Rattle.settle_spec.specs.Parts.{FunctionPart, addresses, lies_within, bridge_over, holds_range, upper_pools, is_empty, new_class, is_in_memory, is_in_prefetch, prefetchable_class, class_in}
+use Rattle.settle_spec.specs.Stands.{part_space, window_part, is_in_window, is_in_place}
 use Rattle.settle_spec.specs.Stands as settle
 use Rattle.settle_spec.proofs.BridgeOver.{over_leads, over_is}
 use Rattle.stand_laws.specs.Order.{level}
@@ -33,10 +33,10 @@ use Rattle.pci_settle.specs.declared.kept.Part.{Part as CodePart}
 use Rattle.pci_settle.specs.declared.kept.Part.TheVariants as parts
 use Rattle.pci_stand.specs.declared.region.Region.{Region as CodeRegion}
 use Rattle.pci_settle.specs.declared.kept.Kept.{Kept}
-use Rattle.pci_settle.specs.Kept.{part_value, kept_of, nothing_kept}
+use Rattle.pci_settle.specs.Kept.{spec_part, kept_of, nothing_kept}
 use Rattle.pci_stand.specs.Tables.{stands_in}
-use Rattle.pci_settle.specs.Over.{is_held}
-use Rattle.pci_stand.specs.Places.{is_listed, is_in_lists, bar_window, held_in, part_window, window_for, is_in_windows}
+use Rattle.pci_settle.specs.Over.{range_holds}
+use Rattle.pci_stand.specs.Places.{is_listed_range, is_range_in_lists, bar_window, held_in, part_window, window_for, is_in_windows}
 use Rattle.pci_stand.specs.Known.{Known, region_value, is_led}
 use Rattle.pci_stand.specs.Boards.{IsBoard, IsKnown, AreOpen}
 use Rattle.pci_stand.proofs.Indexes.{table_at}
@@ -44,20 +44,20 @@ use Rattle.pci_stand.proofs.OfRecord.{window_is}
 
 -- ---- on a root
 
-listed_same : (bus : ℕ) (r : Range) (list : List RootRange) → is_listed bus r list ≡ list_any (is_within r) (map (λ (x : RootRange). x.range) (filter (λ (x : RootRange). is_had_by x.root bus) list))
+listed_same : (bus : ℕ) (r : Range) (list : List RootRange) → is_listed_range bus r list ≡ list_any (lies_within r) (map (λ (x : RootRange). x.range) (filter (λ (x : RootRange). is_had_by x.root bus) list))
 listed_same bus r [] = refl
 listed_same bus r (x ∷ list) =
     let more = map (λ (y : RootRange). y.range) (filter (λ (y : RootRange). is_had_by y.root bus) list) in
-    elim (is_had_by x.root bus) as (λ b. ((b && is_within r x.range) || is_listed bus r list) ≡ list_any (is_within r) (map (λ (y : RootRange). y.range) (cond b (x ∷ filter (λ (y : RootRange). is_had_by y.root bus) list) (filter (λ (y : RootRange). is_had_by y.root bus) list)))) [
-      | true ↦ ap (λ b. is_within r x.range || b) (listed_same bus r list)
+    elim (is_had_by x.root bus) as (λ b. ((b && lies_within r x.range) || is_listed_range bus r list) ≡ list_any (lies_within r) (map (λ (y : RootRange). y.range) (cond b (x ∷ filter (λ (y : RootRange). is_had_by y.root bus) list) (filter (λ (y : RootRange). is_had_by y.root bus) list)))) [
+      | true ↦ ap (λ b. lies_within r x.range || b) (listed_same bus r list)
       | false ↦ listed_same bus r list
     ]
 
-in_lists : (q : Request) (bus : ℕ) (r : Range) (space : Space) → is_in_lists q.lists bus space r ≡ settle.is_in_lists q bus r space
+in_lists : (q : Request) (bus : ℕ) (r : Range) (space : Space) → is_range_in_lists q.lists bus space r ≡ settle.is_in_lists q bus r space
 in_lists q bus r Io = listed_same bus r q.lists.io
 in_lists q bus r Memory =
-    ap (λ b. b || is_listed bus r q.lists.prefetch) (listed_same bus r q.lists.memory)
-    ∙ ap (λ b. list_any (is_within r) (ranges_of q MemoryWindow bus) || b) (listed_same bus r q.lists.prefetch)
+    ap (λ b. b || is_listed_range bus r q.lists.prefetch) (listed_same bus r q.lists.memory)
+    ∙ ap (λ b. list_any (lies_within r) (class_ranges q MemoryWindow bus) || b) (listed_same bus r q.lists.prefetch)
 
 -- ---- a wide window is there
 
@@ -109,25 +109,25 @@ module _ (holds stands : WindowKind → Bool) where
   by_hold false false true new m p plain either = ap fits (sym (plain refl))
   by_hold false false false new m p plain either = ap fits (sym (plain refl))
 
-held_open : (there : Bool) (w r : Range) → is_held (cond there (Some w) None) r ≡ (there && is_within r w)
+held_open : (there : Bool) (w r : Range) → range_holds (cond there (Some w) None) r ≡ (there && lies_within r w)
 held_open true w r = refl
 held_open false w r = refl
 
 module _ (q : Request) (s : System) (records : List Record) (lists : Lists) (board : IsBoard q s records lists) (r : CodeRegion) (is : IsKnown q s r) (small : r.bus < 256) (table : List Kept) (opens : AreOpen s table) where
-  abbrev v : Region
+  abbrev v : FunctionPart
   v = region_value s r
 
   abbrev bus : ℕ
   bus = v.function.slot.bus
 
-  abbrev test : Region → Bool
+  abbrev test : FunctionPart → Bool
   test = stands_in s table
 
   -- what is known
   range_same : decoded_range_of r.range ≡ addresses v
   range_same = ap (λ (k : Known). k.range) is.all
 
-  space_same : code.space_of r.space ≡ region_space v
+  space_same : code.space_of r.space ≡ part_space v
   space_same = ap (λ (k : Known). k.space) is.all
 
   bus_same : r.bus ≡ bus
@@ -140,7 +140,7 @@ module _ (q : Request) (s : System) (records : List Record) (lists : Lists) (boa
   prefetch_same = ap (λ (k : Known). k.prefetch) is.all
 
   abbrev in_place_by : Bool → Bool
-  in_place_by root = cond root (settle.is_in_lists q bus (addresses v) (region_space v)) (is_in_window test (class_in q s v.function v.part) (addresses v) (bridge_over s bus))
+  in_place_by root = cond root (settle.is_in_lists q bus (addresses v) (part_space v)) (is_in_window test (class_in q s v.function v.part) (addresses v) (bridge_over s bus))
 
   root_of : r.level ≡ 0 → is_root q.roots bus ≡ true
   root_of low = true_from_ne_false (is_root q.roots bus) never
@@ -151,9 +151,9 @@ module _ (q : Request) (s : System) (records : List Record) (lists : Lists) (boa
           let same = level_same in
           omega (arith, low, high, same)
 
-  pub on_root : r.level ≡ 0 → is_in_lists lists r.bus (code.space_of r.space) (decoded_range_of r.range) ≡ is_in_place q s test v
+  pub on_root : r.level ≡ 0 → is_range_in_lists lists r.bus (code.space_of r.space) (decoded_range_of r.range) ≡ is_in_place q s test v
   on_root low =
-      ap (λ l. is_in_lists l r.bus (code.space_of r.space) (decoded_range_of r.range)) (sym board.same)
+      ap (λ l. is_range_in_lists l r.bus (code.space_of r.space) (decoded_range_of r.range)) (sym board.same)
       ∙ in_lists q r.bus (decoded_range_of r.range) (code.space_of r.space)
       ∙ ap (λ n. settle.is_in_lists q n (decoded_range_of r.range) (code.space_of r.space)) bus_same
       ∙ ap (λ x. settle.is_in_lists q bus x (code.space_of r.space)) range_same
@@ -209,20 +209,20 @@ module _ (q : Request) (s : System) (records : List Record) (lists : Lists) (boa
           holds c = held_in b.windows c r
 
           abbrev stands : WindowKind → Bool
-          stands c = test (window_region c f)
+          stands c = test (window_part c f)
 
-          held_is : (c : WindowKind) → holds c ≡ (is_open f c && is_within (addresses v) (range_of f (Window c)))
+          held_is : (c : WindowKind) → holds c ≡ (is_open f c && lies_within (addresses v) (range_of f (Window c)))
           held_is c =
-              ap (λ o. is_held o (decoded_range_of r.range)) (window_is s f x b found.is b_is c)
+              ap (λ o. range_holds o (decoded_range_of r.range)) (window_is s f x b found.is b_is c)
               ∙ held_open (is_open f c) (range_of f (Window c)) (decoded_range_of r.range)
-              ∙ ap (λ y. is_open f c && is_within y (range_of f (Window c))) range_same
+              ∙ ap (λ y. is_open f c && lies_within y (range_of f (Window c))) range_same
 
           -- only an open window stands
-          fits_is : (c : WindowKind) → fits holds stands c ≡ (is_within (addresses v) (range_of f (Window c)) && stands c)
+          fits_is : (c : WindowKind) → fits holds stands c ≡ (lies_within (addresses v) (range_of f (Window c)) && stands c)
           fits_is c = elim (cases_Bool (stands c)) [
             | inl is_on ↦
-                ap (λ y. y && stands c) (held_is c ∙ ap (λ y. y && is_within (addresses v) (range_of f (Window c))) (opens c f found.is.listed is_on))
-            | inr off ↦ ap (λ y. holds c && y) off ∙ and_false (holds c) ∙ sym (ap (λ y. is_within (addresses v) (range_of f (Window c)) && y) off ∙ and_false (is_within (addresses v) (range_of f (Window c))))
+                ap (λ y. y && stands c) (held_is c ∙ ap (λ y. y && lies_within (addresses v) (range_of f (Window c))) (opens c f found.is.listed is_on))
+            | inr off ↦ ap (λ y. holds c && y) off ∙ and_false (holds c) ∙ sym (ap (λ y. lies_within (addresses v) (range_of f (Window c)) && y) off ∙ and_false (lies_within (addresses v) (range_of f (Window c))))
           ]
 
           new_plain : (n : ℕ) → is_led s bus ≡ false → new_class q s v.function n ≡ MemoryWindow
@@ -243,11 +243,11 @@ module _ (q : Request) (s : System) (records : List Record) (lists : Lists) (boa
           prefetchable : (n : ℕ) → v.part ≡ Bar n → fits holds stands (cond (is_led s bus && not (holds MemoryWindow)) PrefetchWindow MemoryWindow) ≡ fits holds stands (prefetchable_class q s v.function n)
           prefetchable n here =
               let at : addresses v ≡ range_of v.function (Bar n) = ap (range_of v.function) here in
-              let memory : is_in_memory s v.function n ≡ holds MemoryWindow = ap (holds_range MemoryWindow (range_of v.function (Bar n))) over_it ∙ ap (λ y. is_open f MemoryWindow && is_within y (range_of f (Window MemoryWindow))) (sym at) ∙ sym (held_is MemoryWindow) in
+              let memory : is_in_memory s v.function n ≡ holds MemoryWindow = ap (holds_range MemoryWindow (range_of v.function (Bar n))) over_it ∙ ap (λ y. is_open f MemoryWindow && lies_within y (range_of f (Window MemoryWindow))) (sym at) ∙ sym (held_is MemoryWindow) in
               let prefetch : is_in_prefetch s v.function n ≡ (holds PrefetchWindow && is_led s bus) =
               ap (λ y. holds_range PrefetchWindow (range_of v.function (Bar n)) y && not (list_any (λ b. not (has_window PrefetchWindow b.probe)) (bridges_above s bus))) over_it
               ∙ ap (λ y. y && not (list_any (λ b. not (has_window PrefetchWindow b.probe)) (bridges_above s bus)))
-              (ap (λ y. is_open f PrefetchWindow && is_within y (range_of f (Window PrefetchWindow))) (sym at) ∙ sym (held_is PrefetchWindow))
+              (ap (λ y. is_open f PrefetchWindow && lies_within y (range_of f (Window PrefetchWindow))) (sym at) ∙ sym (held_is PrefetchWindow))
               ∙ ap (λ y. holds PrefetchWindow && y) (ap not (any_fails (λ b. has_window PrefetchWindow b.probe) (bridges_above s bus)) ∙ not_not (is_led s bus)) in
               by_hold holds stands (is_led s bus) (holds MemoryWindow) (holds PrefetchWindow) (new_class q s v.function n) refl refl (new_plain n) (new_either (not (is_empty q.lists.prefetch) && is_served s (upper_pools q.lists.prefetch) v.function n))
               ∙ sym (ap (fits holds stands) (
@@ -256,15 +256,15 @@ module _ (q : Request) (s : System) (records : List Record) (lists : Lists) (boa
               ∙ ap (λ y. cond y MemoryWindow (cond (is_in_prefetch s v.function n) PrefetchWindow (new_class q s v.function n))) memory
               ∙ ap (λ y. cond (holds MemoryWindow) MemoryWindow (cond y PrefetchWindow (new_class q s v.function n))) prefetch))
 
-          by_part : (p : CodePart) → r.part ≡ p → fits holds stands (chosen p (region_space v) ((is_prefetchable_part v.function v.part && is_led s bus) && not (holds MemoryWindow))) ≡ fits holds stands (class_in q s v.function v.part)
+          by_part : (p : CodePart) → r.part ≡ p → fits holds stands (chosen p (part_space v) ((is_prefetchable_part v.function v.part && is_led s bus) && not (holds MemoryWindow))) ≡ fits holds stands (class_in q s v.function v.part)
           by_part (parts.Window kind) e =
-              sym (ap (λ o. fits holds stands (class_in q s v.function o)) (ap part_value e))
+              sym (ap (λ o. fits holds stands (class_in q s v.function o)) (ap spec_part e))
           by_part parts.Rom e =
-              let here : v.part ≡ Rom = ap part_value e in
+              let here : v.part ≡ Rom = ap spec_part e in
               ap (λ o. fits holds stands (bar_window (space_of v.function o) ((is_prefetchable_part v.function o && is_led s bus) && not (holds MemoryWindow)))) here
               ∙ sym (ap (λ o. fits holds stands (class_in q s v.function o)) here)
           by_part (parts.Bar n) e =
-              let here : v.part ≡ Bar n = ap part_value e in
+              let here : v.part ≡ Bar n = ap spec_part e in
               ap (λ o. fits holds stands (bar_window (space_of v.function o) ((is_prefetchable_part v.function o && is_led s bus) && not (holds MemoryWindow)))) here
               ∙ by_bar n here (is_io (bar_at v.function.probe n)) (is_prefetchable (bar_at v.function.probe n))
               ∙ sym (ap (λ o. fits holds stands (class_in q s v.function o)) here)
@@ -278,8 +278,8 @@ module _ (q : Request) (s : System) (records : List Record) (lists : Lists) (boa
           pub in_its_window : (entry : Kept) (d : Kept) → entry ≡ get_or table k d → k < length table → is_in_windows b.windows entry r ≡ is_in_place q s test v
           in_its_window entry d entry_is within =
               let c = window_for b.windows r in
-              let chosen_is : c ≡ chosen r.part (region_space v) ((is_prefetchable_part v.function v.part && is_led s bus) && not (holds MemoryWindow)) =
-              ap (λ z. chosen r.part z (r.prefetch && not (holds MemoryWindow))) space_same ∙ ap (λ y. chosen r.part (region_space v) (y && not (holds MemoryWindow))) prefetch_same in
+              let chosen_is : c ≡ chosen r.part (part_space v) ((is_prefetchable_part v.function v.part && is_led s bus) && not (holds MemoryWindow)) =
+              ap (λ z. chosen r.part z (r.prefetch && not (holds MemoryWindow))) space_same ∙ ap (λ y. chosen r.part (part_space v) (y && not (holds MemoryWindow))) prefetch_same in
               let class = class_in q s v.function v.part in
               let told : kept_of entry (Window c) ≡ stands c =
               ap (λ y. kept_of y (Window c)) (entry_is ∙ get_or_default table k d nothing_kept within) ∙ sym (table_at s board.system table k f (Window c) found.at) in

@@ -9,7 +9,7 @@ use Rattle.pci_spec.specs.Slot.{Slot, same_slot, slot_number}
 use Rattle.pci_spec.specs.Window.{WindowKind, IoWindow, MemoryWindow, PrefetchWindow}
 use Rattle.pci_spec.specs.System.{System, Function, Part, Bar, Rom, Window, IsSystem}
 use Rattle.plan_spec.proofs.Planning.AllItems.{slots_rise}
-use Rattle.settle_spec.specs.Parts.{Region}
+use Rattle.settle_spec.specs.Parts.{FunctionPart}
 use Rattle.pci_settle.specs.declared.kept.Kept.{Kept}
 use Rattle.pci_settle.specs.Kept.{kept_of, nothing_kept}
 use Rattle.pci_stand.specs.Tables.{index_of, stands_in}
@@ -41,10 +41,10 @@ part_cases (Window c) (Bar m) = inr (λ e. cc)
 part_cases (Window c) Rom = inr (λ e. cc)
 part_cases (Window c) (Window d) = window_cases c d
 
-abbrev region : Function → Part → Region
+abbrev region : Function → Part → FunctionPart
 region f p = record { function = f; part = p }
 
-same_region : (t : Region) (f : Function) (p : Part) → t.function ≡ f → t.part ≡ p → t ≡ region f p
+same_region : (t : FunctionPart) (f : Function) (p : Part) → t.function ≡ f → t.part ≡ p → t ≡ region f p
 same_region t f p e h = ap (λ g. region g t.part) e ∙ ap (region f) h
 
 -- ---- functions by their slots
@@ -90,13 +90,13 @@ module _ (s : System) (system : IsSystem s) where
 
   module _ (table : List Kept) (k : ℕ) (f : Function) (at : slice_get s k ≡ Some f) (within : k < length table) (p : Part) (entry : Kept) (value : Bool)
       (noted : kept_of entry p ≡ value) (others : (o : Part) → (o ≡ p → ⊥) → kept_of entry o ≡ kept_of (get_or table k nothing_kept) o) where
-    abbrev part : Region
+    abbrev part : FunctionPart
     part = record { function = f; part = p }
 
     pub noted_here : stands_in s (set table k entry) part ≡ value
     noted_here = table_at (set table k entry) k f p at ∙ ap (λ t. kept_of t p) (get_or-set_same table k entry nothing_kept within) ∙ noted
 
-    pub noted_others : (t : Region) → Contains s t.function → (t ≡ part) ⊎ (stands_in s (set table k entry) t ≡ stands_in s table t)
+    pub noted_others : (t : FunctionPart) → Contains s t.function → (t ≡ part) ⊎ (stands_in s (set table k entry) t ≡ stands_in s table t)
     noted_others t (m, in_m, is_m) =
         let there : slice_get s m ≡ Some t.function = slice_get-get_or s m t.function in_m ∙ ap Some is_m in
         elim (cases_eq m k) [

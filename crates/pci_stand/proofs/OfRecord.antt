@@ -17,7 +17,7 @@ use Rattle.pci_spec.proofs.Records.{memory_window_there}
 use Rattle.plan_spec.specs.Plan.{is_open}
 use Rattle.plan_spec.specs.Planning.Layout.{range_of}
 use Rattle.settle_spec.specs.Lists.{Request}
-use Rattle.settle_spec.specs.Parts.{Region, is_empty, is_left, is_part, header_bars, parts_of, regions_of}
+use Rattle.settle_spec.specs.Parts.{FunctionPart, is_empty, is_left, is_part, header_bars, parts_of, function_parts}
 use Rattle.stand_laws.specs.Order.{level}
 use Rattle.pci_base.specs.Space as code
 use Rattle.pci_base.specs.Ranges.{range_of_decoded}
@@ -52,8 +52,8 @@ use Rattle.pci_settle.specs.Own.{AreTerms, is_left_bar}
 use Rattle.pci_stand.specs.declared.region.Owner.{Owner}
 use Rattle.pci_settle.specs.declared.kept.Part.{Part as CodePart}
 use Rattle.pci_settle.specs.declared.kept.Part.TheVariants as parts
-use Rattle.pci_settle.specs.Kept.{part_value}
-use Rattle.pci_stand.specs.Regions.{owned, bar_space, bar_region, bar_regions, window_regions, bridge_regions, rom_region, rom_regions, record_regions}
+use Rattle.pci_settle.specs.Kept.{spec_part}
+use Rattle.pci_stand.specs.Regions.{owned_region, bar_space, owned_bar_region, owned_bar_regions, owned_window_regions, owned_bridge_regions, owned_rom_region, owned_rom_regions, record_regions}
 use Rattle.pci_stand.specs.Known.{Known, known, known_of}
 
 filter_twice : {X : Type 0} (has kept : X → Bool) (xs : List X) → filter (λ x. has x && kept x) xs ≡ filter kept (filter has xs)
@@ -152,17 +152,17 @@ pub record IsOwner (q : Request) (s : System) (f : Function) (o : Owner) (r : Re
   pub command : o.command ≡ command f.image
 
 module _ (q : Request) (s : System) (f : Function) (o : Owner) (above : Above) (t : Terms) (r : Record) (owner : IsOwner q s f o r) (over : IsAbove s f.slot.bus above) (terms : AreTerms q.lists t) where
-  abbrev region : Part → Region
+  abbrev region : Part → FunctionPart
   region p = record { function = f; part = p }
 
   abbrev value : Part → Known
   value p = known_of q s (region p)
 
   -- a part of the code is one of the function where it has its space, and so on
-  owned_is : (part : CodePart) (p : Part) (space : CodeSpace) (z : Space) (prefetch : Bool) (w : Range) → part_value part ≡ p → code.space_of space ≡ z → space_of f p ≡ z → is_enabled f p ≡ is_space_on f z
-      → prefetch ≡ (known_of q s (region p)).prefetch → w ≡ range_of f p → known s (owned o part space prefetch (range_of_decoded w)) ≡ value p
+  owned_is : (part : CodePart) (p : Part) (space : CodeSpace) (z : Space) (prefetch : Bool) (w : Range) → spec_part part ≡ p → code.space_of space ≡ z → space_of f p ≡ z → is_enabled f p ≡ is_space_on f z
+      → prefetch ≡ (known_of q s (region p)).prefetch → w ≡ range_of f p → known s (owned_region o part space prefetch (range_of_decoded w)) ≡ value p
   owned_is part p space z prefetch w is_part_value in_space of_space enabled led range =
-      known_same (function_in s o.function) f (part_value part) p o.bus f.slot.bus o.level (value p).level o.fixed (value p).fixed
+      known_same (function_in s o.function) f (spec_part part) p o.bus f.slot.bus o.level (value p).level o.fixed (value p).fixed
       (code.is_on o.command (code.space_of space)) (is_enabled f p) (code.space_of space) (space_of f p) prefetch (value p).prefetch w (range_of f p)
       owner.here is_part_value owner.bus owner.level owner.fixed
       (ap (code.is_on o.command) in_space ∙ on_is o.command f z owner.command ∙ sym enabled)
@@ -177,7 +177,7 @@ module _ (q : Request) (s : System) (f : Function) (o : Owner) (above : Above) (
       ∙ ap (λ b. is_io (bar_at f.probe n) && b) (not_and (is_empty q.lists.io) above.io)
       ∙ ap (λ b. is_io (bar_at f.probe n) && (is_empty q.lists.io || b)) (lacking_above s f r owner.is above over))
 
-  bar_value : (bar : CodeBar) (n : ℕ) → decoded_bar_of bar ≡ decoded_bar f.image f.probe n → known s (bar_region o above bar) ≡ value (Bar n)
+  bar_value : (bar : CodeBar) (n : ℕ) → decoded_bar_of bar ≡ decoded_bar f.image f.probe n → known s (owned_bar_region o above bar) ≡ value (Bar n)
   bar_value bar n e =
       owned_is (parts.Bar ((bar.reg - 0x10) / 4)) (Bar n) (bar_space bar.kind) (space_of f (Bar n)) (bar.prefetch && above.pref) (record { first = bar.first; last = bar.last })
       (ap Bar (register_place bar.reg n (ap (λ (x : DecodedBar). x.register) e)))
@@ -186,11 +186,11 @@ module _ (q : Request) (s : System) (f : Function) (o : Owner) (above : Above) (
       (ap (λ b. b && above.pref) (ap (λ (x : DecodedBar). x.prefetchable) e) ∙ ap (λ b. is_prefetchable (bar_at f.probe n) && b) over.pref)
       (ap (λ (x : DecodedBar). x.range) e)
 
-  bars_are : map (known s) (bar_regions o above t r.bars.items) ≡ map value (filter (is_part q s f) (header_bars f))
+  bars_are : map (known s) (owned_bar_regions o above t r.bars.items) ≡ map value (filter (is_part q s f) (header_bars f))
   bars_are =
       let all = range_with_len 0 (bar_count (layout f.image)) in
-      map_twice (known s) (bar_region o above) (filter (λ bar. not (is_left_bar bar above t.has_io)) r.bars.items)
-      ∙ kept_same decoded_bar_of (decoded_bar f.image f.probe) (λ bar. not (is_left_bar bar above t.has_io)) (λ n. not (is_left q s f (Bar n))) left_is (λ bar. known s (bar_region o above bar)) (λ n. value (Bar n)) bar_value
+      map_twice (known s) (owned_bar_region o above) (filter (λ bar. not (is_left_bar bar above t.has_io)) r.bars.items)
+      ∙ kept_same decoded_bar_of (decoded_bar f.image f.probe) (λ bar. not (is_left_bar bar above t.has_io)) (λ n. not (is_left q s f (Bar n))) left_is (λ bar. known s (owned_bar_region o above bar)) (λ n. value (Bar n)) bar_value
       r.bars.items (bars_in f) (bars_of s f r owner.is)
       ∙ ap (map (λ n. value (Bar n))) (sym (filter_twice (has_bar f.probe) (λ n. not (is_left q s f (Bar n))) all))
       ∙ sym (map_twice value Bar (filter (λ n. is_part q s f (Bar n)) all))
@@ -202,21 +202,21 @@ module _ (q : Request) (s : System) (f : Function) (o : Owner) (above : Above) (
   one b p = cond b (p ∷ []) []
 
   window_if : (c : WindowKind) (kind : CodeKind) (space : CodeSpace) (w : Option Range) → kind_value kind ≡ c → code.space_of space ≡ window_space c
-      → w ≡ cond (is_open f c) (Some (range_of f (Window c))) None → map (known s) (window_regions o kind space w) ≡ map value (one (is_open f c) (Window c))
+      → w ≡ cond (is_open f c) (Some (range_of f (Window c))) None → map (known s) (owned_window_regions o kind space w) ≡ map value (one (is_open f c) (Window c))
   window_if c kind space w named in_space is = elim (cases_Bool (is_open f c)) [
     | inl opens ↦
-        ap (λ x. map (known s) (window_regions o kind space x)) (is ∙ ap (λ b. cond b (Some (range_of f (Window c))) None) opens)
+        ap (λ x. map (known s) (owned_window_regions o kind space x)) (is ∙ ap (λ b. cond b (Some (range_of f (Window c))) None) opens)
         ∙ ap (λ k. k ∷ []) (owned_is (parts.Window kind) (Window c) space (window_space c) false (range_of f (Window c)) (ap Window named) in_space refl refl refl refl)
         ∙ sym (ap (λ b. map value (one b (Window c))) opens)
     | inr closed ↦
-        ap (λ x. map (known s) (window_regions o kind space x)) (is ∙ ap (λ b. cond b (Some (range_of f (Window c))) None) closed)
+        ap (λ x. map (known s) (owned_window_regions o kind space x)) (is ∙ ap (λ b. cond b (Some (range_of f (Window c))) None) closed)
         ∙ sym (ap (λ b. map value (one b (Window c))) closed)
   ]
 
   abbrev windows : List Part
   windows = one (is_open f IoWindow) (Window IoWindow) ++ (one (is_open f MemoryWindow) (Window MemoryWindow) ++ one (is_open f PrefetchWindow) (Window PrefetchWindow))
 
-  windows_by : (bridge : Option Bridge) → r.bridge ≡ bridge → map (known s) (bridge_regions o bridge) ≡ map value windows
+  windows_by : (bridge : Option Bridge) → r.bridge ≡ bridge → map (known s) (owned_bridge_regions o bridge) ≡ map value windows
   windows_by None e =
       let off : is_bridge f ≡ false = sym (same_bridge r f owner.is.value) ∙ ap is_some e in
       sym (ap (λ b. map value (one (b && has_window IoWindow f.probe && not (is_closed IoWindow f.image)) (Window IoWindow)
@@ -227,25 +227,25 @@ module _ (q : Request) (s : System) (f : Function) (o : Owner) (above : Above) (
       let second = window_if MemoryWindow kinds.Memory spaces.Mem b.windows.mem.range refl refl (window_is s f r b owner.is e MemoryWindow) in
       let third = window_if PrefetchWindow kinds.Prefetchable spaces.Mem (range_in b.windows.pref) refl refl (window_is s f r b owner.is e PrefetchWindow) in
       three (known s) value
-      (window_regions o kinds.Io spaces.Io (range_in b.windows.io)) (window_regions o kinds.Memory spaces.Mem b.windows.mem.range) (window_regions o kinds.Prefetchable spaces.Mem (range_in b.windows.pref))
+      (owned_window_regions o kinds.Io spaces.Io (range_in b.windows.io)) (owned_window_regions o kinds.Memory spaces.Mem b.windows.mem.range) (owned_window_regions o kinds.Prefetchable spaces.Mem (range_in b.windows.pref))
       (one (is_open f IoWindow) (Window IoWindow)) (one (is_open f MemoryWindow) (Window MemoryWindow)) (one (is_open f PrefetchWindow) (Window PrefetchWindow)) first second third
 
   -- ---- the ROM
 
   roms_are : (rom : Option CodeRom) → option_map decoded_rom_of rom ≡ decoded_rom f.image f.probe
-      → map (known s) (rom_regions o rom) ≡ map value (one (has_rom f.image f.probe && rom_is_on f.image) Rom)
+      → map (known s) (owned_rom_regions o rom) ≡ map value (one (has_rom f.image f.probe && rom_is_on f.image) Rom)
   roms_are None e = sym (ap (λ b. map value (one (b && rom_is_on f.image) Rom)) (no_rom (has_rom f.image f.probe) _ e))
   roms_are (Some rom) e =
       let there = rom_there (has_rom f.image f.probe) (decoded_rom_of rom) _ e in
       let on : rom.on ≡ rom_is_on f.image = ap (λ (x : DecodedRom). x.on) there.1 in
       elim (cases_Bool (rom_is_on f.image)) [
         | inl is_on ↦
-            ap (λ b. map (known s) (cond b (rom_region o rom ∷ []) [])) (on ∙ is_on)
+            ap (λ b. map (known s) (cond b (owned_rom_region o rom ∷ []) [])) (on ∙ is_on)
             ∙ ap (λ k. k ∷ []) (owned_is parts.Rom Rom spaces.Mem Memory false (record { first = rom.first; last = rom.last }) refl refl refl
             (ap (λ b. is_space_on f Memory && b) is_on ∙ with_true (is_space_on f Memory)) refl (ap (λ (x : DecodedRom). x.range) there.1))
             ∙ sym (ap (λ b. map value (one (b && rom_is_on f.image) Rom)) there.0 ∙ ap (λ b. map value (one b Rom)) is_on)
         | inr off ↦
-            ap (λ b. map (known s) (cond b (rom_region o rom ∷ []) [])) (on ∙ off)
+            ap (λ b. map (known s) (cond b (owned_rom_region o rom ∷ []) [])) (on ∙ off)
             ∙ sym (ap (λ b. map value (one (b && rom_is_on f.image) Rom)) there.0 ∙ ap (λ b. map value (one b Rom)) off)
       ]
 
@@ -254,14 +254,14 @@ module _ (q : Request) (s : System) (f : Function) (o : Owner) (above : Above) (
   others_are : filter (is_part q s f) (Window IoWindow ∷ Window MemoryWindow ∷ Window PrefetchWindow ∷ Rom ∷ []) ≡ windows ++ one (is_part q s f Rom) Rom
   others_are = four (is_open f IoWindow) (is_open f MemoryWindow) (is_open f PrefetchWindow) (is_part q s f Rom) (Window IoWindow) (Window MemoryWindow) (Window PrefetchWindow) Rom
 
-  pub record_parts : map (known s) (record_regions o above t r) ≡ map (known_of q s) (regions_of q s f)
+  pub record_parts : map (known s) (record_regions o above t r) ≡ map (known_of q s) (function_parts q s f)
   record_parts =
       let bars = filter (is_part q s f) (header_bars f) in
       let rom = one (is_part q s f Rom) Rom in
-      map-append (known s) (bar_regions o above t r.bars.items) (bridge_regions o r.bridge ++ rom_regions o r.rom)
-      ∙ ap (λ xs. map (known s) (bar_regions o above t r.bars.items) ++ xs) (map-append (known s) (bridge_regions o r.bridge) (rom_regions o r.rom))
-      ∙ ap (λ xs. xs ++ (map (known s) (bridge_regions o r.bridge) ++ map (known s) (rom_regions o r.rom))) bars_are
-      ∙ ap (λ xs. map value bars ++ (xs ++ map (known s) (rom_regions o r.rom))) (windows_by r.bridge refl)
+      map-append (known s) (owned_bar_regions o above t r.bars.items) (owned_bridge_regions o r.bridge ++ owned_rom_regions o r.rom)
+      ∙ ap (λ xs. map (known s) (owned_bar_regions o above t r.bars.items) ++ xs) (map-append (known s) (owned_bridge_regions o r.bridge) (owned_rom_regions o r.rom))
+      ∙ ap (λ xs. xs ++ (map (known s) (owned_bridge_regions o r.bridge) ++ map (known s) (owned_rom_regions o r.rom))) bars_are
+      ∙ ap (λ xs. map value bars ++ (xs ++ map (known s) (owned_rom_regions o r.rom))) (windows_by r.bridge refl)
       ∙ ap (λ xs. map value bars ++ (map value windows ++ xs)) (roms_are r.rom (rom_of s f r owner.is))
       ∙ ap (λ xs. map value bars ++ xs) (sym (map-append value windows rom) ∙ ap (map value) (sym others_are))
       ∙ sym (map-append value bars (filter (is_part q s f) (Window IoWindow ∷ Window MemoryWindow ∷ Window PrefetchWindow ∷ Rom ∷ [])))

@@ -10,12 +10,12 @@ use Rattle.pci_spec.specs.Decoded.{Range as DecodedRange}
 use Rattle.pci_spec.specs.System.{System, Space, Io, Memory}
 use Rattle.pci_spec.specs.Bus.{is_root, are_siblings, IsNested}
 use Rattle.pci_spec.proofs.Members.{in_nil, in_map_to, in_map_from, IsMade}
-use Rattle.settle_spec.specs.FirstPlace.{are_apart}
+use Rattle.settle_spec.specs.FirstPlace.{ranges_are_apart}
 use Rattle.settle_spec.specs.Lists.{Request}
-use Rattle.settle_spec.specs.Parts.{Region, regions, addresses, is_part, same_space}
-use Rattle.settle_spec.specs.Stands.{region_space, is_in_place, takes_from, precedes, stands_if}
+use Rattle.settle_spec.specs.Parts.{FunctionPart, system_parts, addresses, is_part, are_same_space}
+use Rattle.settle_spec.specs.Stands.{part_space, is_in_place, takes_from, part_precedes, stands_if}
 use Rattle.stand_laws.specs.Order.{level, comes_first}
-use Rattle.stand_laws.specs.Passes.{IsAmong, AreTaken}
+use Rattle.stand_laws.specs.Passes.{IsAmong, AreTakenBeside}
 use Rattle.stand_laws.proofs.Order.{not_itself}
 use Rattle.stand_laws.proofs.Standing.{one_level, part_of}
 use Rattle.stand_laws.proofs.Passes.{free_of_taken, told_more}
@@ -27,7 +27,7 @@ use Rattle.pci_stand.specs.Known.{Known, region_value}
 use Rattle.pci_stand.specs.Boards.{IsKnown}
 use Rattle.pci_stand.specs.Tables.{stands_in}
 use Rattle.pci_stand.specs.Taken.{is_free, IsWithTaken, in_space, in_other, taken_with, IsGoneTo}
-use Rattle.pci_stand.specs.Passing.{AreOrdered, IsStandingOn, AreTakenOn, IsPassed}
+use Rattle.pci_stand.specs.Passing.{AreOrdered, IsStandingOn, AreTakenOn, AreFirstPassed}
 
 -- ---- a range more
 
@@ -82,11 +82,11 @@ levels_one q bus other same = elim (cases_Bool (is_root q.roots bus)) [
     or_first : (x y : Bool) → x ≡ true → (x || y) ≡ true
     or_first x y e = ap (λ b. b || y) e
 
-pub spaces_one : (a b : Space) → a ≡ b → same_space a b ≡ true
-spaces_one Io b same = subst (λ z. same_space Io z ≡ true) same refl
-spaces_one Memory b same = subst (λ z. same_space Memory z ≡ true) same refl
+pub spaces_one : (a b : Space) → a ≡ b → are_same_space a b ≡ true
+spaces_one Io b same = subst (λ z. are_same_space Io z ≡ true) same refl
+spaces_one Memory b same = subst (λ z. are_same_space Memory z ≡ true) same refl
 
-pub one_space : (a b : Space) → same_space a b ≡ true → a ≡ b
+pub one_space : (a b : Space) → are_same_space a b ≡ true → a ≡ b
 one_space Io Io same = refl
 one_space Io Memory same = absurd (both_ways false refl same)
 one_space Memory Io same = absurd (both_ways false refl same)
@@ -99,14 +99,14 @@ first_level a b x h = elim (or_cases (nat_lt a b) (a == b && x) h) [
 ]
 
 module _ (q : Request) (s : System) (nested : IsNested q.roots s) (rs : List CodeRegion) (ordered : AreOrdered q s rs) where
-  abbrev vs : List Region
+  abbrev vs : List FunctionPart
   vs = map (region_value s) rs
 
   long : length vs ≡ length rs
   long = length-map rs (region_value s)
 
   module _ (count : ℕ) (within : count < length rs) (r : CodeRegion) (r_is : r ≡ get_or rs count r) where
-    abbrev v : Region
+    abbrev v : FunctionPart
     v = region_value s r
 
     v_is : get_or vs count v ≡ v
@@ -131,32 +131,32 @@ module _ (q : Request) (s : System) (nested : IsNested q.roots s) (rs : List Cod
           let first : comes_first q v (get_or vs k v) ≡ true = subst (λ x. comes_first q x (get_or vs k v) ≡ true) v_is (ordered.order.order count k v (omega (arith, from, differ)) (let l = long in omega (arith, inside, l))) in
           let other = get_or rs k d in
           let other_is : get_or vs k v ≡ region_value s other = get_or-map (region_value s) rs k d v inside in
-          let up = first_level (level q v.function.slot.bus) (level q (region_value s other).function.slot.bus) (precedes q v (region_value s other)) (subst (λ x. comes_first q v x ≡ true) other_is first) in
+          let up = first_level (level q v.function.slot.bus) (level q (region_value s other).function.slot.bus) (part_precedes q v (region_value s other)) (subst (λ x. comes_first q v x ≡ true) other_is first) in
           let there : other.level ≡ level q (region_value s other).function.slot.bus = ap (λ (k : Known). k.level) (ordered.known k d inside).all in
           let here = level_is in
           omega (arith, up, there, here)
     ]
 
     -- on another bus than before nothing is taken yet
-    none_yet : (bus : ℕ) (table : List Kept) → ((t : Region) → Contains (regions q s) t → stands_in s table t ≡ true → level q t.function.slot.bus ≤ bus) → bus < r.level → (space : Space) → AreTakenOn q s (stands_in s table) r.level space []
+    none_yet : (bus : ℕ) (table : List Kept) → ((t : FunctionPart) → Contains (system_parts q s) t → stands_in s table t ≡ true → level q t.function.slot.bus ≤ bus) → bus < r.level → (space : Space) → AreTakenOn q s (stands_in s table) r.level space []
     none_yet bus table below up space = record {
       each = λ x listed. absurd (in_nil x listed);
       all = λ t by. absurd (let low = below t by.listed by.stands in let on = by.on in let no : ⊥ = omega (arith, low, on, up) in no);
     }
 
-    pub gone : (bus new : ℕ) (io mem new_io new_mem : List Range) (table : List Kept) → IsGoneTo r.level (taken_with bus io mem) (taken_with new new_io new_mem) → IsPassed q s rs count (taken_with bus io mem) table → IsPassed q s rs count (taken_with new new_io new_mem) table
+    pub gone : (bus new : ℕ) (io mem new_io new_mem : List Range) (table : List Kept) → IsGoneTo r.level (taken_with bus io mem) (taken_with new new_io new_mem) → AreFirstPassed q s rs count (taken_with bus io mem) table → AreFirstPassed q s rs count (taken_with new new_io new_mem) table
     gone bus new io mem new_io new_mem table to passed = elim (cases_eq bus r.level) [
       | inl same ↦
           let kept = to.same same in
-          subst (λ n. IsPassed q s rs count (taken_with n new_io new_mem) table) (same ∙ sym to.there)
-          (subst (λ xs. IsPassed q s rs count (taken_with bus xs new_mem) table) (sym kept.0) (subst (λ xs. IsPassed q s rs count (taken_with bus io xs) table) (sym kept.1) passed))
+          subst (λ n. AreFirstPassed q s rs count (taken_with n new_io new_mem) table) (same ∙ sym to.there)
+          (subst (λ xs. AreFirstPassed q s rs count (taken_with bus xs new_mem) table) (sym kept.0) (subst (λ xs. AreFirstPassed q s rs count (taken_with bus io xs) table) (sym kept.1) passed))
       | inr differ ↦
           let none = to.other differ in
           let least = passed.above count r (omega arith) within in
           let here : (get_or rs count r).level ≡ r.level = ap (λ (x : CodeRegion). x.level) (sym r_is) in
           let up : bus < r.level = omega (arith, least, here, differ) in
-          subst (λ n. IsPassed q s rs count (taken_with n new_io new_mem) table) (sym to.there)
-          (subst (λ xs. IsPassed q s rs count (taken_with r.level xs new_mem) table) (sym none.0) (subst (λ xs. IsPassed q s rs count (taken_with r.level [] xs) table) (sym none.1) record {
+          subst (λ n. AreFirstPassed q s rs count (taken_with n new_io new_mem) table) (sym to.there)
+          (subst (λ xs. AreFirstPassed q s rs count (taken_with r.level xs new_mem) table) (sym none.0) (subst (λ xs. AreFirstPassed q s rs count (taken_with r.level [] xs) table) (sym none.1) record {
             size = passed.size;
             told = passed.told;
             io_taken = none_yet bus table passed.below up Io;
@@ -166,8 +166,8 @@ module _ (q : Request) (s : System) (nested : IsNested q.roots s) (rs : List Cod
           }))
     ]
 
-    module _ (io mem : List Range) (table : List Kept) (passed : IsPassed q s rs count (taken_with r.level io mem) table) where
-      abbrev test : Region → Bool
+    module _ (io mem : List Range) (table : List Kept) (passed : AreFirstPassed q s rs count (taken_with r.level io mem) table) where
+      abbrev test : FunctionPart → Bool
       test = stands_in s table
 
       abbrev taken_in : Space → List Range
@@ -178,7 +178,7 @@ module _ (q : Request) (s : System) (nested : IsNested q.roots s) (rs : List Cod
       taken_is Memory = passed.mem_taken
 
       -- what is taken in its space is of those beside it
-      beside_taken : (space : Space) → space ≡ region_space v → AreTaken q s test v (map decoded_range_of (taken_in space))
+      beside_taken : (space : Space) → space ≡ part_space v → AreTakenBeside q s test v (map decoded_range_of (taken_in space))
       beside_taken space of = record {
         each = λ x listed. (
             let made : IsMade decoded_range_of (taken_in space) x = in_map_to decoded_range_of (taken_in space) x listed in
@@ -188,32 +188,32 @@ module _ (q : Request) (s : System) (nested : IsNested q.roots s) (rs : List Cod
               t,
               by.listed,
               by.stands,
-              and_from (are_siblings q.roots t.function.slot.bus v.function.slot.bus) (same_space (region_space t) (region_space v)) (levels_one q t.function.slot.bus v.function.slot.bus (by.on ∙ level_is))
-                  (spaces_one (region_space t) (region_space v) (by.in_space ∙ of)),
+              and_from (are_siblings q.roots t.function.slot.bus v.function.slot.bus) (are_same_space (part_space t) (part_space v)) (levels_one q t.function.slot.bus v.function.slot.bus (by.on ∙ level_is))
+                  (spaces_one (part_space t) (part_space v) (by.in_space ∙ of)),
               one.2 ∙ made.is,
             ));
         all = λ t listed is beside. (
-            let sides = and_parts (are_siblings q.roots t.function.slot.bus v.function.slot.bus) (same_space (region_space t) (region_space v)) beside in
+            let sides = and_parts (are_siblings q.roots t.function.slot.bus v.function.slot.bus) (are_same_space (part_space t) (part_space v)) beside in
             let has = (taken_is space).all t record {
               listed = listed;
               stands = is;
               on = one_level q s t.function.slot.bus v.function.slot.bus sides.0 ∙ sym level_is;
-              in_space = one_space (region_space t) (region_space v) sides.1 ∙ sym of;
+              in_space = one_space (part_space t) (part_space v) sides.1 ∙ sym of;
             } in
             subst (Contains (map decoded_range_of (taken_in space))) (sym has.2) (in_map_from decoded_range_of (taken_in space) has.0 has.1));
       }
 
-      free_is : (space : Space) → space ≡ region_space v → is_free r.range (taken_in space) ≡ list_all (λ t. not (takes_from q t v && test t)) (regions q s)
+      free_is : (space : Space) → space ≡ part_space v → is_free r.range (taken_in space) ≡ list_all (λ t. not (takes_from q t v && test t)) (system_parts q s)
       free_is space of =
-          ap (λ x. list_all (λ (t : Range). are_apart (decoded_range_of t) x) (taken_in space)) range_is
-          ∙ sym (list_all-map (λ (x : DecodedRange). are_apart x (addresses v)) decoded_range_of (taken_in space))
+          ap (λ x. list_all (λ (t : Range). ranges_are_apart (decoded_range_of t) x) (taken_in space)) range_is
+          ∙ sym (list_all-map (λ (x : DecodedRange). ranges_are_apart x (addresses v)) decoded_range_of (taken_in space))
           ∙ free_of_taken q s nested vs ordered.order count test passed.told (let l = long in omega (arith, within, l)) v v_is (map decoded_range_of (taken_in space)) (beside_taken space of)
 
       -- so it stands where it is in place, and is free
-      pub stands_where : q.anew ≡ false → (space : Space) → space ≡ region_space v → stands_if q s test v ≡ (is_in_place q s test v && is_free r.range (taken_in space))
+      pub stands_where : q.anew ≡ false → (space : Space) → space ≡ part_space v → stands_if q s test v ≡ (is_in_place q s test v && is_free r.range (taken_in space))
       stands_where none space of =
-          ap (λ b. not b && is_part q s v.function v.part && is_in_place q s test v && list_all (λ t. not (takes_from q t v && test t)) (regions q s)) none
-          ∙ ap (λ b. b && is_in_place q s test v && list_all (λ t. not (takes_from q t v && test t)) (regions q s)) (part_of q s v is_known.listed).is
+          ap (λ b. not b && is_part q s v.function v.part && is_in_place q s test v && list_all (λ t. not (takes_from q t v && test t)) (system_parts q s)) none
+          ∙ ap (λ b. b && is_in_place q s test v && list_all (λ t. not (takes_from q t v && test t)) (system_parts q s)) (part_of q s v is_known.listed).is
           ∙ ap (λ b. is_in_place q s test v && b) (sym (free_is space of))
 
       -- it isn't told yet
@@ -229,7 +229,7 @@ module _ (q : Request) (s : System) (nested : IsNested q.roots s) (rs : List Cod
               let l = long in
               itself (subst (λ x. comes_first q x v ≡ true) among.is (subst (λ x. comes_first q (get_or vs among.at v) x ≡ true) v_is (ordered.order.order among.at count v low (omega (arith, within, l)))))
 
-      pub told_not : stands_if q s test v ≡ false → IsPassed q s rs (count + 1) (taken_with r.level io mem) table
+      pub told_not : stands_if q s test v ≡ false → AreFirstPassed q s rs (count + 1) (taken_with r.level io mem) table
       told_not off = record {
         size = passed.size;
         told = told_more q s nested vs ordered.order count test passed.told (let l = long in omega (arith, within, l)) v v_is test (not_yet ∙ sym off) (λ t listed. inr refl);
@@ -239,14 +239,14 @@ module _ (q : Request) (s : System) (nested : IsNested q.roots s) (rs : List Cod
         above = λ k d from inside. passed.above k d (omega (arith, from)) inside;
       }
 
-      module _ (next : List Kept) (size : length next ≡ length s) (here : stands_in s next v ≡ true) (others : (t : Region) → Contains s t.function → (t ≡ v) ⊎ (stands_in s next t ≡ test t)) where
-        abbrev now : Region → Bool
+      module _ (next : List Kept) (size : length next ≡ length s) (here : stands_in s next v ≡ true) (others : (t : FunctionPart) → Contains s t.function → (t ≡ v) ⊎ (stands_in s next t ≡ test t)) where
+        abbrev now : FunctionPart → Bool
         now = stands_in s next
 
-        still : (t : Region) → Contains s t.function → test t ≡ true → now t ≡ true
+        still : (t : FunctionPart) → Contains s t.function → test t ≡ true → now t ≡ true
         still t listed is = elim (others t listed) [ inl same ↦ ap now same ∙ here | inr kept ↦ kept ∙ is ]
 
-        by_still : (space : Space) (t : Region) → IsStandingOn q s test r.level space t → IsStandingOn q s now r.level space t
+        by_still : (space : Space) (t : FunctionPart) → IsStandingOn q s test r.level space t → IsStandingOn q s now r.level space t
         by_still space t by = record {
           listed = by.listed;
           stands = still t (part_of q s t by.listed).listed by.stands;
@@ -255,7 +255,7 @@ module _ (q : Request) (s : System) (nested : IsNested q.roots s) (rs : List Cod
         }
 
         -- one that is told stood before
-        by_kept : (space : Space) (t : Region) → stands_in s next t ≡ test t → IsStandingOn q s now r.level space t → IsStandingOn q s test r.level space t
+        by_kept : (space : Space) (t : FunctionPart) → stands_in s next t ≡ test t → IsStandingOn q s now r.level space t → IsStandingOn q s test r.level space t
         by_kept space t kept by = record {
           listed = by.listed;
           stands = sym kept ∙ by.stands;
@@ -264,7 +264,7 @@ module _ (q : Request) (s : System) (nested : IsNested q.roots s) (rs : List Cod
         }
 
         -- in its space it is taken too
-        taken_more : (space : Space) → space ≡ region_space v → (old new : List Range) → (k : ℕ) → k ≤ length old → new ≡ insert old k r.range → AreTakenOn q s test r.level space old → AreTakenOn q s now r.level space new
+        taken_more : (space : Space) → space ≡ part_space v → (old new : List Range) → (k : ℕ) → k ≤ length old → new ≡ insert old k r.range → AreTakenOn q s test r.level space old → AreTakenOn q s now r.level space new
         taken_more space of old new k bound put was = subst (AreTakenOn q s now r.level space) (sym put) record {
           each = λ x listed. elim (in_insert_to old k r.range x bound listed) [
             | inl same ↦ (
@@ -286,33 +286,33 @@ module _ (q : Request) (s : System) (nested : IsNested q.roots s) (rs : List Cod
         }
 
         -- and in the other one nothing more is
-        taken_same : (space : Space) → (space ≡ region_space v → ⊥) → (old : List Range) → AreTakenOn q s test r.level space old → AreTakenOn q s now r.level space old
+        taken_same : (space : Space) → (space ≡ part_space v → ⊥) → (old : List Range) → AreTakenOn q s test r.level space old → AreTakenOn q s now r.level space old
         taken_same space off old was = record {
           each = λ x listed. (let one = was.each x listed in (one.0, by_still space one.0 one.1, one.2));
           all = λ t by. elim (others t (part_of q s t by.listed).listed) [
-            | inl same ↦ absurd (off (sym by.in_space ∙ ap region_space same))
+            | inl same ↦ absurd (off (sym by.in_space ∙ ap part_space same))
             | inr kept ↦ was.all t (by_kept space t kept by)
           ];
         }
 
-        pub told_so : stands_if q s test v ≡ true → (space : Space) → space ≡ region_space v → (new_io new_mem : List Range) → IsWithTaken true r.range (in_space space io mem) (in_space space new_io new_mem) → in_other space new_io new_mem ≡ in_other space io mem
-            → IsPassed q s rs (count + 1) (taken_with r.level new_io new_mem) next
+        pub told_so : stands_if q s test v ≡ true → (space : Space) → space ≡ part_space v → (new_io new_mem : List Range) → IsWithTaken true r.range (in_space space io mem) (in_space space new_io new_mem) → in_other space new_io new_mem ≡ in_other space io mem
+            → AreFirstPassed q s rs (count + 1) (taken_with r.level new_io new_mem) next
         told_so is space of new_io new_mem put other = record {
           size = size;
           told = told_more q s nested vs ordered.order count test passed.told (let l = long in omega (arith, within, l)) v v_is now (here ∙ sym is) others;
           io_taken = in_io space of put other;
           mem_taken = in_mem space of put other;
           below = λ t listed on. elim (others t (part_of q s t listed).listed) [
-            | inl same ↦ (let at : level q t.function.slot.bus ≡ r.level = ap (λ (x : Region). level q x.function.slot.bus) same ∙ sym level_is in omega (arith, at))
+            | inl same ↦ (let at : level q t.function.slot.bus ≡ r.level = ap (λ (x : FunctionPart). level q x.function.slot.bus) same ∙ sym level_is in omega (arith, at))
             | inr kept ↦ passed.below t listed (sym kept ∙ on)
           ];
           above = λ k d from inside. passed.above k d (omega (arith, from)) inside;
         }
           where
-            in_io : (space : Space) → space ≡ region_space v → IsWithTaken true r.range (in_space space io mem) (in_space space new_io new_mem) → in_other space new_io new_mem ≡ in_other space io mem → AreTakenOn q s now r.level Io new_io
+            in_io : (space : Space) → space ≡ part_space v → IsWithTaken true r.range (in_space space io mem) (in_space space new_io new_mem) → in_other space new_io new_mem ≡ in_other space io mem → AreTakenOn q s now r.level Io new_io
             in_io Io of put other = taken_more Io of io new_io put.0 put.1 put.2 passed.io_taken
             in_io Memory of put other = subst (AreTakenOn q s now r.level Io) (sym other) (taken_same Io (λ same. let no : Io ≡ Memory = same ∙ sym of in cc) io passed.io_taken)
 
-            in_mem : (space : Space) → space ≡ region_space v → IsWithTaken true r.range (in_space space io mem) (in_space space new_io new_mem) → in_other space new_io new_mem ≡ in_other space io mem → AreTakenOn q s now r.level Memory new_mem
+            in_mem : (space : Space) → space ≡ part_space v → IsWithTaken true r.range (in_space space io mem) (in_space space new_io new_mem) → in_other space new_io new_mem ≡ in_other space io mem → AreTakenOn q s now r.level Memory new_mem
             in_mem Memory of put other = taken_more Memory of mem new_mem put.0 put.1 put.2 passed.mem_taken
             in_mem Io of put other = subst (AreTakenOn q s now r.level Memory) (sym other) (taken_same Memory (λ same. let no : Memory ≡ Io = same ∙ sym of in cc) mem passed.mem_taken)

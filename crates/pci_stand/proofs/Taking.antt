@@ -8,7 +8,7 @@ use Rattle.std.proofs.lemmas.List.Edits.{length-insert}
 use Rattle.std.proofs.lemmas.List.Folds.{list_all_at}
 use Rattle.std.proofs.lemmas.List.Sorted.{IsPartitionedBy-ltb}
 use Rattle.pci_spec.proofs.BusRanges.{all_from}
-use Rattle.settle_spec.specs.FirstPlace.{are_apart}
+use Rattle.settle_spec.specs.FirstPlace.{ranges_are_apart}
 use Rattle.pci_base.specs.declared.range.Range.{Range}
 use Rattle.pci_base.specs.Ranges.{decoded_range_of}
 use Rattle.pci_settle.proofs.Inserted.{Under, At, Over, find_where}
@@ -32,7 +32,7 @@ module _ (xs : List Range) (r : Range) (apart : AreApartInOrder xs) (index : ℕ
   pub not_free : AllWithin (λ x. r.first ≤ x.last) xs index (length xs) → (d : Range) → index < length xs → (get_or xs index d).first ≤ r.last → is_free r xs ≡ false
   not_free after d within begins =
       let ends = after index d (omega arith) within in
-      list_all_at (λ t. are_apart (decoded_range_of t) (decoded_range_of r)) xs index d within
+      list_all_at (λ t. ranges_are_apart (decoded_range_of t) (decoded_range_of r)) xs index d within
       (or_from (nat_lt (get_or xs index d).last r.first) (nat_lt r.last (get_or xs index d).first) (le-ltb (get_or xs index d).last r.first ends) (le-ltb r.last (get_or xs index d).first begins))
 
   module _ (gap : IsGap xs r index) where
@@ -47,14 +47,14 @@ module _ (xs : List Range) (r : Range) (apart : AreApartInOrder xs) (index : ℕ
     ]
 
     pub free : is_free r xs ≡ true
-    free = all_from (λ t. are_apart (decoded_range_of t) (decoded_range_of r)) xs (λ t listed. of_listed t listed)
+    free = all_from (λ t. ranges_are_apart (decoded_range_of t) (decoded_range_of r)) xs (λ t listed. of_listed t listed)
       where
-        of_listed : (t : Range) → Contains xs t → are_apart (decoded_range_of t) (decoded_range_of r) ≡ true
+        of_listed : (t : Range) → Contains xs t → ranges_are_apart (decoded_range_of t) (decoded_range_of r) ≡ true
         of_listed t (k, within, at) = elim (cases_lt k index) [
           | inl low ↦ (let ends = gap.before k t (omega arith) low in
-              subst (λ (x : Range). are_apart (decoded_range_of x) (decoded_range_of r) ≡ true) at (or_left (nat_lt (get_or xs k t).last r.first) (nat_lt r.last (get_or xs k t).first) (lt-ltb (get_or xs k t).last r.first ends)))
+              subst (λ (x : Range). ranges_are_apart (decoded_range_of x) (decoded_range_of r) ≡ true) at (or_left (nat_lt (get_or xs k t).last r.first) (nat_lt r.last (get_or xs k t).first) (lt-ltb (get_or xs k t).last r.first ends)))
           | inr high ↦ (let begins = all_above k t high within in
-              subst (λ (x : Range). are_apart (decoded_range_of x) (decoded_range_of r) ≡ true) at (or_right (nat_lt (get_or xs k t).last r.first) (nat_lt r.last (get_or xs k t).first) (lt-ltb r.last (get_or xs k t).first begins)))
+              subst (λ (x : Range). ranges_are_apart (decoded_range_of x) (decoded_range_of r) ≡ true) at (or_right (nat_lt (get_or xs k t).last r.first) (nat_lt r.last (get_or xs k t).first) (lt-ltb r.last (get_or xs k t).first begins)))
         ]
 
     module _ (forward : r.first ≤ r.last) where

@@ -16,8 +16,8 @@ use Rattle.pci_spec.proofs.Members.{in_nil, in_map_to, in_map_from, in_filter_fr
 use Rattle.pci_spec.proofs.Regions.{bar_count-le}
 use Rattle.plan_spec.proofs.Planning.AllItems.{pairs_unmap}
 use Rattle.settle_spec.specs.Lists.{Request}
-use Rattle.settle_spec.specs.Parts.{Region, regions, regions_of, parts_of, header_bars, header_parts, addresses, is_part}
-use Rattle.settle_spec.specs.Stands.{is_fixed, is_on, count, rank, first_by, precedes, stands}
+use Rattle.settle_spec.specs.Parts.{FunctionPart, system_parts, function_parts, parts_of, header_bars, header_parts, addresses, is_part}
+use Rattle.settle_spec.specs.Stands.{is_fixed_part, is_part_on, count, rank, first_by, part_precedes, stands}
 use Rattle.stand_laws.specs.Order.{level, comes_first}
 use Rattle.stand_laws.specs.Passes.{IsAmong}
 use Rattle.stand_laws.proofs.Ranks.{ranks_rise}
@@ -29,13 +29,13 @@ use Rattle.pci_settle.specs.declared.kept.Part.{Part as CodePart}
 use Rattle.pci_settle.specs.declared.kept.Part.TheVariants as parts
 use Rattle.pci_stand.specs.declared.region.Region.{Region as CodeRegion}
 use Rattle.pci_settle.specs.declared.kept.Kept.{Kept}
-use Rattle.pci_stand.specs.Known.{Known, region_value, known, known_of, IsForward, AreParts}
+use Rattle.pci_stand.specs.Known.{Known, region_value, known, known_of, HasAddress, AreParts}
 use Rattle.pci_stand.specs.Boards.{IsKnown, AreOpen}
-use Rattle.pci_stand.specs.Order.{span_of, turn_number, turn_of, IsInTurn}
-use Rattle.pci_settle.specs.Kept.{IsPart, part_value, kept_of, nothing_kept, AreNone}
+use Rattle.pci_stand.specs.Order.{span_of, turn_number, turn_of, IsPartInTurn}
+use Rattle.pci_settle.specs.Kept.{IsCodePart, spec_part, kept_of, nothing_kept, AreNone}
 use Rattle.pci_stand.specs.Tables.{index_of, stands_in}
 use Rattle.pci_stand.specs.Taken.{taken_with}
-use Rattle.pci_stand.specs.Passing.{IsReady, AreOrdered, AreTakenOn, IsPassed, AreStanding}
+use Rattle.pci_stand.specs.Passing.{CanBeNoted, AreOrdered, AreTakenOn, AreFirstPassed, AreStanding}
 use Rattle.pci_stand.proofs.Indexes.{table_at}
 
 -- ---- slices
@@ -82,10 +82,10 @@ module _ (q : Request) (s : System) where
   number r = rank (region_value s r)
 
   module _ (r t : CodeRegion) (r_is : IsKnown q s r) (t_is : IsKnown q s t) where
-    abbrev v : Region
+    abbrev v : FunctionPart
     v = region_value s r
 
-    abbrev w : Region
+    abbrev w : FunctionPart
     w = region_value s t
 
     size_of_r : count (addresses v) ≡ span_of r + 1
@@ -112,26 +112,26 @@ module _ (q : Request) (s : System) where
           | inr both ↦ (let e = both.0 in inr (omega (arith, e, a, b), both.1))
         ])
 
-    turn_r : turn_of r ≡ turn_number (is_fixed q v) (is_on v)
+    turn_r : turn_of r ≡ turn_number (is_fixed_part q v) (is_part_on v)
     turn_r = ap (λ (k : Known). turn_number k.fixed k.on) r_is.all
 
-    turn_t : turn_of t ≡ turn_number (is_fixed q w) (is_on w)
+    turn_t : turn_of t ≡ turn_number (is_fixed_part q w) (is_part_on w)
     turn_t = ap (λ (k : Known). turn_number k.fixed k.on) t_is.all
 
-    turn_first : (turn_of r < turn_of t) ⊎ ((turn_of r ≡ turn_of t) × ((span_of t < span_of r) ⊎ ((span_of r ≡ span_of t) × (number r < number t)))) → precedes q v w ≡ true
+    turn_first : (turn_of r < turn_of t) ⊎ ((turn_of r ≡ turn_of t) × ((span_of t < span_of r) ⊎ ((span_of r ≡ span_of t) × (number r < number t)))) → part_precedes q v w ≡ true
     turn_first h =
         let a = turn_r in
         let b = turn_t in
-        by_turn (is_fixed q v) (is_on v) (is_fixed q w) (is_on w) rest (elim h [
-          | inl less ↦ inl (subst (λ n. n < turn_number (is_fixed q w) (is_on w)) a (subst (λ n. turn_of r < n) b less))
+        by_turn (is_fixed_part q v) (is_part_on v) (is_fixed_part q w) (is_part_on w) rest (elim h [
+          | inl less ↦ inl (subst (λ n. n < turn_number (is_fixed_part q w) (is_part_on w)) a (subst (λ n. turn_of r < n) b less))
           | inr both ↦ inr (sym a ∙ both.0 ∙ b, larger_first both.1)
         ])
 
-    comes : IsInTurn number r t → comes_first q v w ≡ true
+    comes : IsPartInTurn number r t → comes_first q v w ≡ true
     comes h =
         let a : r.level ≡ level q v.function.slot.bus = ap (λ (k : Known). k.level) r_is.all in
         let b : t.level ≡ level q w.function.slot.bus = ap (λ (k : Known). k.level) t_is.all in
-        by_level (level q v.function.slot.bus) (level q w.function.slot.bus) (precedes q v w) (elim h [
+        by_level (level q v.function.slot.bus) (level q w.function.slot.bus) (part_precedes q v w) (elim h [
           | inl less ↦ inl (subst (λ n. n < level q w.function.slot.bus) a (subst (λ n. r.level < n) b less))
           | inr both ↦ inr (sym a ∙ both.0 ∙ b, turn_first both.1)
         ])
@@ -139,14 +139,14 @@ module _ (q : Request) (s : System) where
   -- ---- what was collected
 
   module _ (collected : List CodeRegion) (are : AreParts q s collected) where
-    pub values_are : map (region_value s) collected ≡ regions q s
+    pub values_are : map (region_value s) collected ≡ system_parts q s
     values_are =
         sym (map_twice (λ (k : Known). k.region) (known s) collected)
         ∙ ap (map (λ (k : Known). k.region)) are.same
-        ∙ map_twice (λ (k : Known). k.region) (known_of q s) (regions q s)
-        ∙ itself (regions q s)
+        ∙ map_twice (λ (k : Known). k.region) (known_of q s) (system_parts q s)
+        ∙ itself (system_parts q s)
       where
-        itself : (xs : List Region) → map (λ x. x) xs ≡ xs
+        itself : (xs : List FunctionPart) → map (λ x. x) xs ≡ xs
         itself [] = refl
         itself (x ∷ xs) = ap (λ ys. x ∷ ys) (itself xs)
 
@@ -157,14 +157,14 @@ module _ (q : Request) (s : System) where
 
     known_in : (x : CodeRegion) → Contains collected x → IsKnown q s x
     known_in x listed =
-        let has : Contains (map (known_of q s) (regions q s)) (known s x) = subst (λ ks. Contains ks (known s x)) are.same (in_map_from (known s) collected x listed) in
-        let made : IsMade (known_of q s) (regions q s) (known s x) = in_map_to (known_of q s) (regions q s) (known s x) has in
+        let has : Contains (map (known_of q s) (system_parts q s)) (known s x) = subst (λ ks. Contains ks (known s x)) are.same (in_map_from (known s) collected x listed) in
+        let made : IsMade (known_of q s) (system_parts q s) (known s x) = in_map_to (known_of q s) (system_parts q s) (known s x) has in
         let same : made.from ≡ region_value s x = ap (λ (k : Known). k.region) made.is in
         record {
-          listed = subst (Contains (regions q s)) same made.has;
+          listed = subst (Contains (system_parts q s)) same made.has;
           all = sym made.is ∙ ap (known_of q s) same;
           within = All-contains (λ (r : CodeRegion). r.function < length s) collected x are.within listed;
-          forward = All-contains IsForward collected x are.forward listed;
+          forward = All-contains HasAddress collected x are.forward listed;
         }
 
     module _ (rs : List CodeRegion) (moved : IsPermutation collected rs) where
@@ -174,17 +174,17 @@ module _ (q : Request) (s : System) where
       all_known : All (IsKnown q s) rs
       all_known k d low = known_sorted (get_or rs k d) (Contains-get_or rs k d low)
 
-      has_all : (r : Region) → Contains (regions q s) r → Contains (map (region_value s) rs) r
+      has_all : (r : FunctionPart) → Contains (system_parts q s) r → Contains (map (region_value s) rs) r
       has_all r listed =
           let made : IsMade (region_value s) collected r = in_map_to (region_value s) collected r (subst (λ xs. Contains xs r) (sym values_are) listed) in
           subst (Contains (map (region_value s) rs)) made.is (in_map_from (region_value s) rs made.from (Contains-permutation collected rs made.from moved made.has))
 
-      has_only : (r : Region) → Contains (map (region_value s) rs) r → Contains (regions q s) r
+      has_only : (r : FunctionPart) → Contains (map (region_value s) rs) r → Contains (system_parts q s) r
       has_only r listed =
           let made : IsMade (region_value s) rs r = in_map_to (region_value s) rs r listed in
-          subst (Contains (regions q s)) made.is (known_sorted made.from made.has).listed
+          subst (Contains (system_parts q s)) made.is (known_sorted made.from made.has).listed
 
-      pub ordered : AllPairs (IsInTurn number) rs → AreOrdered q s rs
+      pub ordered : AllPairs (IsPartInTurn number) rs → AreOrdered q s rs
       ordered turn = record {
         known = all_known;
         order = record {
@@ -196,7 +196,7 @@ module _ (q : Request) (s : System) where
       }
 
       -- a header has six Base Address registers at most
-      ready_part : (p : CodePart) (f : Function) → Contains (header_parts f) (part_value p) → IsPart p
+      ready_part : (p : CodePart) (f : Function) → Contains (header_parts f) (spec_part p) → IsCodePart p
       ready_part (parts.Bar n) f listed = elim (Contains-append_cases (header_bars f) (Window IoWindow ∷ Window MemoryWindow ∷ Window PrefetchWindow ∷ Rom ∷ []) (Bar n) listed) [
         | inl bar ↦
             let made : IsMade Bar (range_with_len 0 (bar_count (layout f.image))) (Bar n) = in_map_to Bar (range_with_len 0 (bar_count (layout f.image))) (Bar n) bar in
@@ -217,15 +217,15 @@ module _ (q : Request) (s : System) where
       ready_part parts.Rom f listed = tt
       ready_part (parts.Window kind) f listed = tt
 
-      in_header : (r : Region) → Contains (regions q s) r → Contains (header_parts r.function) r.part
+      in_header : (r : FunctionPart) → Contains (system_parts q s) r → Contains (header_parts r.function) r.part
       in_header r has =
-          let piece : IsInPiece (regions_of q s) s r = in_flat_map_to (regions_of q s) s r has in
+          let piece : IsInPiece (function_parts q s) s r = in_flat_map_to (function_parts q s) s r has in
           let f = piece.of in
           let made : IsMade (λ p. record { function = f; part = p }) (parts_of q s f) r = in_map_to (λ p. record { function = f; part = p }) (parts_of q s f) r piece.piece in
           let kept = in_filter_to (is_part q s f) (header_parts f) made.from made.has in
-          subst (λ (x : Region). Contains (header_parts x.function) x.part) made.is kept.0
+          subst (λ (x : FunctionPart). Contains (header_parts x.function) x.part) made.is kept.0
 
-      pub ready : (functions : ℕ) → functions ≡ length s → All (IsReady functions) rs
+      pub ready : (functions : ℕ) → functions ≡ length s → All (CanBeNoted functions) rs
       ready functions same k d low =
           let is = all_known k d low in
           let within = is.within in
@@ -238,10 +238,10 @@ module _ (q : Request) (s : System) where
   -- ---- at the beginning, and in the end
 
   module _ (nested : IsNested q.roots s) (rs : List CodeRegion) (order : AreOrdered q s rs) where
-    pub passed_none : (table : List Kept) → length table ≡ length s → AreNone table → (bus : ℕ) (io mem : List Range) → bus ≡ 0 → io ≡ [] → mem ≡ [] → IsPassed q s rs 0 (taken_with bus io mem) table
+    pub passed_none : (table : List Kept) → length table ≡ length s → AreNone table → (bus : ℕ) (io mem : List Range) → bus ≡ 0 → io ≡ [] → mem ≡ [] → AreFirstPassed q s rs 0 (taken_with bus io mem) table
     passed_none table size none bus io mem low no_io no_mem =
-        subst (λ n. IsPassed q s rs 0 (taken_with n io mem) table) (sym low)
-        (subst (λ xs. IsPassed q s rs 0 (taken_with 0 xs mem) table) (sym no_io) (subst (λ xs. IsPassed q s rs 0 (taken_with 0 [] xs) table) (sym no_mem) record {
+        subst (λ n. AreFirstPassed q s rs 0 (taken_with n io mem) table) (sym low)
+        (subst (λ xs. AreFirstPassed q s rs 0 (taken_with 0 xs mem) table) (sym no_io) (subst (λ xs. AreFirstPassed q s rs 0 (taken_with 0 [] xs) table) (sym no_mem) record {
           size = size;
           told = told_none q s nested (map (region_value s) rs) order.order (stands_in s table) nothing_on;
           io_taken = none_taken Io;
@@ -263,7 +263,7 @@ module _ (q : Request) (s : System) where
           | inr past ↦ ap (λ t. kept_of t p) (get_or_past table k nothing_kept past) ∙ none_of p
         ]
 
-        nothing_on : (t : Region) → stands_in s table t ≡ false
+        nothing_on : (t : FunctionPart) → stands_in s table t ≡ false
         nothing_on t = in_entry (index_of s t.function.slot) t.part
 
         none_taken : (space : Space) → AreTakenOn q s (stands_in s table) 0 space []
@@ -283,12 +283,12 @@ module _ (q : Request) (s : System) where
     has_in_header f (Window PrefetchWindow) there = Contains-append_right (header_bars f) (Window IoWindow ∷ Window MemoryWindow ∷ Window PrefetchWindow ∷ Rom ∷ []) (Window PrefetchWindow) (2, omega arith, refl)
 
     -- only open windows stand
-    pub open_alone : (count bus : ℕ) (io mem : List Range) (table : List Kept) → IsPassed q s rs count (taken_with bus io mem) table → AreOpen s table
+    pub open_alone : (count bus : ℕ) (io mem : List Range) (table : List Kept) → AreFirstPassed q s rs count (taken_with bus io mem) table → AreOpen s table
     open_alone count bus io mem table passed c b listed is =
         let among = passed.told.only (record { function = b; part = Window c }) listed is in
         (part_of q s (record { function = b; part = Window c }) (order.order.only (record { function = b; part = Window c }) (subst (Contains (map (region_value s) rs)) among.is (Contains-get_or (map (region_value s) rs) among.at (record { function = b; part = Window c }) among.within)))).is
 
-    pub all_stand : IsSystem s → (bus : ℕ) (io mem : List Range) (table : List Kept) → IsPassed q s rs (length rs) (taken_with bus io mem) table → AreStanding q s table
+    pub all_stand : IsSystem s → (bus : ℕ) (io mem : List Range) (table : List Kept) → AreFirstPassed q s rs (length rs) (taken_with bus io mem) table → AreStanding q s table
     all_stand system bus io mem table passed = record {
       count = passed.size;
       opens = open_alone (length rs) bus io mem table passed;
@@ -302,17 +302,17 @@ module _ (q : Request) (s : System) where
         long : length (map (region_value s) rs) ≡ length rs
         long = length-map rs (region_value s)
 
-        never : (r : Region) → is_part q s r.function r.part ≡ false → IsAmong (map (region_value s) rs) (length rs) r → ⊥
+        never : (r : FunctionPart) → is_part q s r.function r.part ≡ false → IsAmong (map (region_value s) rs) (length rs) r → ⊥
         never r off among =
             both_ways (is_part q s r.function r.part) off
             (part_of q s r (order.order.only r (subst (Contains (map (region_value s) rs)) among.is (Contains-get_or (map (region_value s) rs) among.at r among.within)))).is
 
         told : (f : Function) (p : Part) → Contains s f → has_part f p ≡ true → stands_in s table (record { function = f; part = p }) ≡ stands q s (record { function = f; part = p })
         told f p in_f there =
-            let r : Region = record { function = f; part = p } in
+            let r : FunctionPart = record { function = f; part = p } in
             elim (cases_Bool (is_part q s f p)) [
               | inl is ↦
-                  let listed : Contains (regions q s) r = in_flat_map_from (regions_of q s) s f r in_f (in_map_from (λ o. record { function = f; part = o }) (parts_of q s f) p (in_filter_from (is_part q s f) (header_parts f) p (has_in_header f p there) is)) in
+                  let listed : Contains (system_parts q s) r = in_flat_map_from (function_parts q s) s f r in_f (in_map_from (λ o. record { function = f; part = o }) (parts_of q s f) p (in_filter_from (is_part q s f) (header_parts f) p (has_in_header f p there) is)) in
                   told_all q s nested (map (region_value s) rs) order.order (length rs) (stands_in s table) (let l = long in omega (arith, l)) passed.told r listed
               | inr off ↦
                   false_from_ne_true (stands_in s table r) (λ is. never r off (passed.told.only r in_f is))

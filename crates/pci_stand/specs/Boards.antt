@@ -7,13 +7,13 @@ use Rattle.pci_spec.specs.System.{System, Function, IsSystem}
 use Rattle.pci_spec.specs.Bus.{IsNested}
 use Rattle.plan_spec.specs.Plan.{is_open}
 use Rattle.settle_spec.specs.Lists.{Lists, Request}
-use Rattle.settle_spec.specs.Parts.{regions}
-use Rattle.settle_spec.specs.Stands.{window_region}
+use Rattle.settle_spec.specs.Parts.{system_parts}
+use Rattle.settle_spec.specs.Stands.{window_part}
 use Rattle.pci_function.specs.declared.record.Record.{Record}
 use Rattle.pci_function.specs.Values.{record_value}
 use Rattle.pci_stand.specs.declared.region.Region.{Region}
 use Rattle.pci_settle.specs.declared.kept.Kept.{Kept}
-use Rattle.pci_stand.specs.Known.{region_value, known, known_of, IsForward}
+use Rattle.pci_stand.specs.Known.{region_value, known, known_of, HasAddress}
 use Rattle.pci_stand.specs.Tables.{stands_in}
 
 -- a lawful system with these records and lists, of which nothing is placed anew
@@ -26,13 +26,13 @@ pub record IsBoard (q : Request) (s : System) (records : List Record) (lists : L
 
 -- a part of the system, of which the code knows all
 pub record IsKnown (q : Request) (s : System) (r : Region) : Type 0 where
-  pub listed : Contains (regions q s) (region_value s r)
+  pub listed : Contains (system_parts q s) (region_value s r)
   pub all : known s r ≡ known_of q s (region_value s r)
   pub within : r.function < length s
-  pub forward : IsForward r
+  pub forward : HasAddress r
 
 -- no window stands that isn't open
 abbrev pub AreOpen : System → List Kept → Type 0
 AreOpen s table =
-    (c : WindowKind) (b : Function) → Contains s b → IsTrue (stands_in s table (window_region c b))
+    (c : WindowKind) (b : Function) → Contains s b → IsTrue (stands_in s table (window_part c b))
     → IsTrue (is_open b c)

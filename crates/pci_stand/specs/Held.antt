@@ -4,15 +4,15 @@ use Rattle.std.specs.List.{All, Contains}
 use Rattle.std.specs.List.Sorted.{IsNonDecreasingBy}
 use Rattle.pci_spec.specs.System.{System, Space}
 use Rattle.settle_spec.specs.Lists.{Lists, Request}
-use Rattle.settle_spec.specs.Parts.{Region, regions, addresses, same_space}
-use Rattle.settle_spec.specs.Stands.{region_space}
+use Rattle.settle_spec.specs.Parts.{FunctionPart, system_parts, addresses, are_same_space}
+use Rattle.settle_spec.specs.Stands.{part_space}
 use Rattle.settle_spec.specs.Items.{stays}
 use Rattle.stand_laws.specs.Order.{level}
 use Rattle.pci_base.specs.declared.range.Range.{Range}
 use Rattle.pci_base.specs.Ranges.{decoded_range_of}
 use Rattle.pci_base.specs.Space as code
 use Rattle.pci_settle.specs.declared.kept.Kept.{Kept}
-use Rattle.pci_settle.specs.Kept.{part_value, kept_of, nothing_kept, AreKept}
+use Rattle.pci_settle.specs.Kept.{spec_part, kept_of, nothing_kept, AreKeptParts}
 use Rattle.pci_stand.specs.declared.region.Region.{Region as CodeRegion}
 use Rattle.pci_stand.specs.declared.held.Held.{Held}
 
@@ -20,7 +20,7 @@ use Rattle.pci_stand.specs.declared.held.Held.{Held}
 
 -- whether a table tells of a part that it keeps its place
 abbrev pub is_kept : List Kept → CodeRegion → Bool
-is_kept kept r = kept_of (slice_index_or kept r.function nothing_kept) (part_value r.part)
+is_kept kept r = kept_of (slice_index_or kept r.function nothing_kept) (spec_part r.part)
 
 abbrev pub held_of : CodeRegion → Held
 held_of r = record { level = r.level; space = r.space; range = r.range }
@@ -32,8 +32,8 @@ abbrev pub held_range : Held → Range
 held_range h = h.range
 
 -- whether it is on a level, in a space
-abbrev pub is_on : ℕ → Space → Held → Bool
-is_on n space h = h.level == n && same_space space (code.space_of h.space)
+abbrev pub is_level_on : ℕ → Space → Held → Bool
+is_level_on n space h = h.level == n && are_same_space space (code.space_of h.space)
 
 abbrev pub IsForward : Held → Type 0
 IsForward h = h.range.first ≤ h.range.last
@@ -46,20 +46,20 @@ pub record AreByLevel (held : List Held) : Type 0 where
 -- ---- what stays
 
 -- these are the addresses of a part that stays
-pub record IsHeldBy (q : Request) (s : System) (h : Held) (r : Region) : Type 0 where
-  pub listed : Contains (regions q s) r
+pub record IsHeldBy (q : Request) (s : System) (h : Held) (r : FunctionPart) : Type 0 where
+  pub listed : Contains (system_parts q s) r
   pub stays_is : IsTrue (stays q s r)
   pub level_is : h.level ≡ level q r.function.slot.bus
-  pub space_is : code.space_of h.space ≡ region_space r
+  pub space_is : code.space_of h.space ≡ part_space r
   pub range_is : decoded_range_of h.range ≡ addresses r
 
 -- these are the addresses of all parts that stay
 pub record AreHeld (q : Request) (s : System) (held : List Held) : Type 0 where
-  pub each : (h : Held) → Contains held h → (r : Region) × IsHeldBy q s h r
-  pub all : (r : Region) → Contains (regions q s) r → IsTrue (stays q s r)
+  pub each : (h : Held) → Contains held h → (r : FunctionPart) × IsHeldBy q s h r
+  pub all : (r : FunctionPart) → Contains (system_parts q s) r → IsTrue (stays q s r)
       → (h : Held) × Contains held h × IsHeldBy q s h r
 
 -- whatever is asked for below these roots, in these lists, of which a table tells what stays
 abbrev pub AreHeldIn : List ℕ → System → Lists → List Kept → List Held → Type 0
 AreHeldIn roots s l kept held =
-    (q : Request) → q.roots ≡ roots → q.lists ≡ l → AreKept s (stays q s) kept → AreHeld q s held
+    (q : Request) → q.roots ≡ roots → q.lists ≡ l → AreKeptParts s (stays q s) kept → AreHeld q s held

@@ -8,13 +8,13 @@ use Rattle.pci_spec.specs.System.{System, Space, is_enabled, is_prefetchable_par
 use Rattle.plan_spec.specs.Plan.{bridges_above}
 use Rattle.plan_spec.specs.Planning.Layout.{range_of}
 use Rattle.settle_spec.specs.Lists.{Lists, Request}
-use Rattle.settle_spec.specs.Parts.{Region, regions}
+use Rattle.settle_spec.specs.Parts.{FunctionPart, system_parts}
 use Rattle.stand_laws.specs.Order.{level}
 use Rattle.pci_base.specs.Ranges.{decoded_range_of}
 use Rattle.pci_base.specs.Space as code
 use Rattle.pci_place.specs.Items.{function_in}
 use Rattle.pci_stand.specs.declared.region.Region.{Region as CodeRegion}
-use Rattle.pci_settle.specs.Kept.{part_value}
+use Rattle.pci_settle.specs.Kept.{spec_part}
 
 -- what is asked for: nothing is placed anew
 abbrev pub asked : List ℕ → Lists → List Slot → Request
@@ -22,7 +22,7 @@ asked roots lists fixed =
     record { roots = roots; lists = lists; fixed = fixed; anew = false }
 
 pub record Known : Type 0 where
-  pub region : Region
+  pub region : FunctionPart
   pub bus : ℕ
   pub level : ℕ
   pub fixed : Bool
@@ -31,8 +31,8 @@ pub record Known : Type 0 where
   pub prefetch : Bool
   pub range : Range
 
-abbrev pub region_value : System → CodeRegion → Region
-region_value s r = record { function = function_in s r.function; part = part_value r.part }
+abbrev pub region_value : System → CodeRegion → FunctionPart
+region_value s r = record { function = function_in s r.function; part = spec_part r.part }
 
 abbrev pub known : System → CodeRegion → Known
 known s r = record {
@@ -50,7 +50,7 @@ known s r = record {
 abbrev pub is_led : System → ℕ → Bool
 is_led s bus = list_all (λ b. has_window PrefetchWindow b.probe) (bridges_above s bus)
 
-abbrev pub known_of : Request → System → Region → Known
+abbrev pub known_of : Request → System → FunctionPart → Known
 known_of q s r = record {
   region = r;
   bus = r.function.slot.bus;
@@ -63,11 +63,11 @@ known_of q s r = record {
 }
 
 -- a part has an address
-abbrev pub IsForward : CodeRegion → Type 0
-IsForward r = r.range.first ≤ r.range.last
+abbrev pub HasAddress : CodeRegion → Type 0
+HasAddress r = r.range.first ≤ r.range.last
 
 -- the parts of a system, in the order of slots and registers
 pub record AreParts (q : Request) (s : System) (rs : List CodeRegion) : Type 0 where
-  pub same : map (known s) rs ≡ map (known_of q s) (regions q s)
+  pub same : map (known s) rs ≡ map (known_of q s) (system_parts q s)
   pub within : All (λ r. r.function < length s) rs
-  pub forward : All IsForward rs
+  pub forward : All HasAddress rs

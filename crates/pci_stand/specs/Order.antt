@@ -13,13 +13,13 @@ abbrev pub turn_of : Region → ℕ
 turn_of r = turn_number r.fixed r.on
 
 -- a part is larger than another, or as large and of a lower number
-abbrev pub IsLarger : (Region → ℕ) → Region → Region → Type 0
-IsLarger number r t =
+abbrev pub IsLargerPart : (Region → ℕ) → Region → Region → Type 0
+IsLargerPart number r t =
     (span_of t < span_of r) ⊎ ((span_of r ≡ span_of t) × (number r < number t))
 
 abbrev pub IsSooner : (Region → ℕ) → Region → Region → Type 0
-IsSooner number r t = (turn_of r < turn_of t) ⊎ ((turn_of r ≡ turn_of t) × IsLarger number r t)
+IsSooner number r t = (turn_of r < turn_of t) ⊎ ((turn_of r ≡ turn_of t) × IsLargerPart number r t)
 
 -- it is on a lower bus, or comes first on the same
-abbrev pub IsInTurn : (Region → ℕ) → Region → Region → Type 0
-IsInTurn number r t = (r.level < t.level) ⊎ ((r.level ≡ t.level) × IsSooner number r t)
+abbrev pub IsPartInTurn : (Region → ℕ) → Region → Region → Type 0
+IsPartInTurn number r t = (r.level < t.level) ⊎ ((r.level ≡ t.level) × IsSooner number r t)

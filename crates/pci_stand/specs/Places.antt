@@ -5,7 +5,7 @@ use Rattle.pci_spec.specs.Window.{WindowKind, IoWindow, MemoryWindow, PrefetchWi
 use Rattle.pci_spec.specs.Decoded.{Range}
 use Rattle.pci_spec.specs.System.{Space, Io, Memory}
 use Rattle.settle_spec.specs.Lists.{RootRange, Lists, is_had_by}
-use Rattle.settle_spec.specs.Parts.{is_within}
+use Rattle.settle_spec.specs.Parts.{lies_within}
 use Rattle.pci_base.specs.Ranges.{decoded_range_of}
 use Rattle.pci_base.specs.Space.{space_of}
 use Rattle.pci_base.specs.WindowKinds.{kind_value}
@@ -17,26 +17,26 @@ use Rattle.pci_settle.specs.declared.kept.Part.TheVariants as parts
 use Rattle.pci_stand.specs.declared.region.Region.{Region}
 use Rattle.pci_settle.specs.declared.kept.Kept.{Kept}
 use Rattle.pci_settle.specs.Kept.{kept_of}
-use Rattle.pci_settle.specs.Over.{is_held}
+use Rattle.pci_settle.specs.Over.{range_holds}
 use Rattle.pci_spec.specs.System as system
 
 -- whether a root has a range that holds another
-abbrev pub has_range : ℕ → Range → RootRange → Bool
-has_range bus r one = is_had_by one.root bus && is_within r one.range
+abbrev pub root_range_holds : ℕ → Range → RootRange → Bool
+root_range_holds bus r one = is_had_by one.root bus && lies_within r one.range
 
-abbrev pub is_listed : ℕ → Range → List RootRange → Bool
-is_listed bus r list = list_any (has_range bus r) list
+abbrev pub is_listed_range : ℕ → Range → List RootRange → Bool
+is_listed_range bus r list = list_any (root_range_holds bus r) list
 
-abbrev pub is_in_lists : Lists → ℕ → Space → Range → Bool
-is_in_lists lists bus Io r = is_listed bus r lists.io
-is_in_lists lists bus Memory r = is_listed bus r lists.memory || is_listed bus r lists.prefetch
+abbrev pub is_range_in_lists : Lists → ℕ → Space → Range → Bool
+is_range_in_lists lists bus Io r = is_listed_range bus r lists.io
+is_range_in_lists lists bus Memory r = is_listed_range bus r lists.memory || is_listed_range bus r lists.prefetch
 
 abbrev pub bar_window : Space → Bool → WindowKind
 bar_window Io prefetch = IoWindow
 bar_window Memory prefetch = if prefetch then PrefetchWindow else MemoryWindow
 
 abbrev pub held_in : Windows → WindowKind → Region → Bool
-held_in w c r = is_held (range_in (window_of w c)) (decoded_range_of r.range)
+held_in w c r = range_holds (range_in (window_of w c)) (decoded_range_of r.range)
 
 abbrev pub part_window : Part → WindowKind → WindowKind
 part_window (parts.Bar n) c = c

@@ -25,8 +25,8 @@ use Rattle.pci_settle.specs.declared.kept.Part.{Part}
 use Rattle.pci_settle.specs.declared.kept.Part.TheVariants as parts
 use Rattle.pci_stand.specs.declared.region.Region.{Region}
 
-abbrev pub owned : Owner → Part → Space → Bool → Range → Region
-owned o part space prefetch range = record {
+abbrev pub owned_region : Owner → Part → Space → Bool → Range → Region
+owned_region o part space prefetch range = record {
   function = o.function;
   bus = o.bus;
   level = o.level;
@@ -46,41 +46,41 @@ bar_space Mem32 = spaces.Mem
 bar_space Mem64 = spaces.Mem
 
 -- a BAR at a Base Address register
-abbrev pub IsAtRegister : Bar → Type 0
-IsAtRegister bar = BASE_ADDRESS ≤ bar.reg
+abbrev pub HasBarNumber : Bar → Type 0
+HasBarNumber bar = BASE_ADDRESS ≤ bar.reg
 
-abbrev pub bar_region : Owner → Above → Bar → Region
-bar_region o above bar =
-    owned o (parts.Bar ((bar.reg - BASE_ADDRESS) / 4)) (bar_space bar.kind)
+abbrev pub owned_bar_region : Owner → Above → Bar → Region
+owned_bar_region o above bar =
+    owned_region o (parts.Bar ((bar.reg - BASE_ADDRESS) / 4)) (bar_space bar.kind)
     (bar.prefetch && above.pref) record { first = bar.first; last = bar.last }
 
-abbrev pub bar_regions : Owner → Above → Terms → List Bar → List Region
-bar_regions o above t bars =
-    map (bar_region o above) (filter (λ bar. not (is_left_bar bar above t.has_io)) bars)
+abbrev pub owned_bar_regions : Owner → Above → Terms → List Bar → List Region
+owned_bar_regions o above t bars =
+    map (owned_bar_region o above) (filter (λ bar. not (is_left_bar bar above t.has_io)) bars)
 
 -- ---- windows and the ROM
 
-abbrev pub window_regions : Owner → WindowKind → Space → Option decoded.Range → List Region
-window_regions o kind space None = []
-window_regions o kind space (Some r) =
-    owned o (parts.Window kind) space false (range_of_decoded r) ∷ []
+abbrev pub owned_window_regions : Owner → WindowKind → Space → Option decoded.Range → List Region
+owned_window_regions o kind space None = []
+owned_window_regions o kind space (Some r) =
+    owned_region o (parts.Window kind) space false (range_of_decoded r) ∷ []
 
-abbrev pub bridge_regions : Owner → Option Bridge → List Region
-bridge_regions o None = []
-bridge_regions o (Some b) =
-    window_regions o kinds.Io spaces.Io (range_in b.windows.io)
-    ++ (window_regions o kinds.Memory spaces.Mem b.windows.mem.range
-    ++ window_regions o kinds.Prefetchable spaces.Mem (range_in b.windows.pref))
+abbrev pub owned_bridge_regions : Owner → Option Bridge → List Region
+owned_bridge_regions o None = []
+owned_bridge_regions o (Some b) =
+    owned_window_regions o kinds.Io spaces.Io (range_in b.windows.io)
+    ++ (owned_window_regions o kinds.Memory spaces.Mem b.windows.mem.range
+    ++ owned_window_regions o kinds.Prefetchable spaces.Mem (range_in b.windows.pref))
 
-abbrev pub rom_region : Owner → Rom → Region
-rom_region o rom =
-    owned o parts.Rom spaces.Mem false record { first = rom.first; last = rom.last }
+abbrev pub owned_rom_region : Owner → Rom → Region
+owned_rom_region o rom =
+    owned_region o parts.Rom spaces.Mem false record { first = rom.first; last = rom.last }
 
-abbrev pub rom_regions : Owner → Option Rom → List Region
-rom_regions o None = []
-rom_regions o (Some rom) = if rom.on then rom_region o rom ∷ [] else []
+abbrev pub owned_rom_regions : Owner → Option Rom → List Region
+owned_rom_regions o None = []
+owned_rom_regions o (Some rom) = if rom.on then owned_rom_region o rom ∷ [] else []
 
 -- in the order of their registers
 abbrev pub record_regions : Owner → Above → Terms → Record → List Region
 record_regions o above t r =
-    bar_regions o above t r.bars.items ++ (bridge_regions o r.bridge ++ rom_regions o r.rom)
+    owned_bar_regions o above t r.bars.items ++ (owned_bridge_regions o r.bridge ++ owned_rom_regions o r.rom)

@@ -2,7 +2,7 @@
 use Rattle.std.specs.Prelude.{◌≡◌, ◌≢◌, ℕ, ◌<◌, ◌≤◌, Bool, true, false, List, [], length, slice_index_or}
 use Rattle.std.specs.List.{list_all, insert, AllWithin}
 use Rattle.pci_spec.specs.System.{Space, Io, Memory}
-use Rattle.settle_spec.specs.FirstPlace.{are_apart}
+use Rattle.settle_spec.specs.FirstPlace.{ranges_are_apart}
 use Rattle.pci_base.specs.declared.range.Range.{Range}
 use Rattle.pci_base.specs.Ranges.{decoded_range_of}
 
@@ -16,7 +16,7 @@ pub record AreApartInOrder (taken : List Range) : Type 0 where
 -- whether none of them has an address of a range
 abbrev pub is_free : Range → List Range → Bool
 is_free r taken =
-    list_all (λ t. are_apart (decoded_range_of t) (decoded_range_of r)) taken
+    list_all (λ t. ranges_are_apart (decoded_range_of t) (decoded_range_of r)) taken
 
 -- ranges before an index end below a range, and those from there on begin above it
 pub record IsGap (taken : List Range) (r : Range) (index : ℕ) : Type 0 where

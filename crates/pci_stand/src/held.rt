@@ -5,8 +5,8 @@ ghost use Rattle.std.specs.List.Sorted.{IsPermutation, IsNonDecreasingBy};
 ghost use Rattle.pci_base.specs.Space.{space_of};
 ghost use Rattle.pci_place.specs.Above.{system_in};
 ghost use Rattle.pci_settle.specs.Lists.{lists_value};
-ghost use Rattle.pci_settle.specs.Spots.{AreListed};
-ghost use Rattle.pci_stand.specs.Held.{is_kept, held_of, held_level, held_range, is_on, AreByLevel, AreHeldIn};
+ghost use Rattle.pci_settle.specs.Spots.{AreRisingRanges};
+ghost use Rattle.pci_stand.specs.Held.{is_kept, held_of, held_level, held_range, is_level_on, AreByLevel, AreHeldIn};
 
 use crate::collect::regions;
 use crate::region::Region;
@@ -99,7 +99,7 @@ fn first_from(held: &[Held], level: u32) -> usize
 
 /// Whether a part is on a level, in a space.
 fn is_on(one: &Held, level: u16, space: Space) -> bool
-    ensures { result ≡ is_on level (space_of space) one.now }
+    ensures { result ≡ is_level_on level (space_of space) one.now }
 {
     one.level == level
         && match space {
@@ -116,7 +116,7 @@ fn add_taken<A: Allocator>(
     space: Space,
 ) -> Result<(), OutOfMemory>
     ensures { OnOk result (taken.new.items
-        ≡ taken.old.items ++ map held_range (filter (is_on level (space_of space)) held.now)) }
+        ≡ taken.old.items ++ map held_range (filter (is_level_on level (space_of space)) held.now)) }
 {
     for one in held {
         if is_on(one, level, space) {
@@ -136,9 +136,9 @@ pub fn taken_on<A: Allocator>(
     // those of a level stand in a row, whose ends are found by halving
     requires { AreByLevel held.now }
     ensures taken { IfOk result (λ taken. IsPermutation
-        (map held_range (filter (is_on level (space_of space)) held.now)) taken.items) }
+        (map held_range (filter (is_level_on level (space_of space)) held.now)) taken.items) }
     // places are looked for between them
-    ensures listed { IfOk result (λ taken. AreListed taken.items) }
+    ensures listed { IfOk result (λ taken. AreRisingRanges taken.items) }
 {
     let first = first_from(held, level as u32);
     let end = first_from(held, level as u32 + 1);

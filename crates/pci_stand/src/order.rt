@@ -2,7 +2,7 @@
 ghost use Rattle.std.specs.Prelude.{◌≡◌, ◌<◌, ℕ, OnOk};
 ghost use Rattle.std.specs.List.{AllPairs};
 ghost use Rattle.std.specs.List.Sorted.{IsPermutation};
-ghost use Rattle.pci_stand.specs.Order.{turn_of, span_of, IsLarger, IsSooner, IsInTurn};
+ghost use Rattle.pci_stand.specs.Order.{turn_of, span_of, IsLargerPart, IsSooner, IsPartInTurn};
 
 use crate::region::Region;
 use pci_base::memory::OutOfMemory;
@@ -33,7 +33,7 @@ fn sort_by_size<A: Allocator + Copy>(regions: &mut Vec<Region, A>) -> Result<(),
     ensures permutation { IsPermutation regions.old.items regions.new.items }
     ensures sorted { OnOk result ((number : Region → ℕ)
         → AllPairs (λ r t. number r < number t) regions.old.items
-        → AllPairs (IsLarger number) regions.new.items) }
+        → AllPairs (IsLargerPart number) regions.new.items) }
 {
     match regions.sort_by_key(|region| Reverse(span_of(region))) {
         Ok(()) => Ok(()),
@@ -44,7 +44,7 @@ fn sort_by_size<A: Allocator + Copy>(regions: &mut Vec<Region, A>) -> Result<(),
 /// Sorts parts by whether they are fixed and on; those of one kind stay in their order.
 fn sort_by_turn<A: Allocator + Copy>(regions: &mut Vec<Region, A>) -> Result<(), OutOfMemory>
     ensures permutation { IsPermutation regions.old.items regions.new.items }
-    ensures sorted { OnOk result ((number : Region → ℕ) → AllPairs (IsLarger number) regions.old.items
+    ensures sorted { OnOk result ((number : Region → ℕ) → AllPairs (IsLargerPart number) regions.old.items
         → AllPairs (IsSooner number) regions.new.items) }
 {
     match regions.sort_by_key(|region| turn_of(region)) {
@@ -57,7 +57,7 @@ fn sort_by_turn<A: Allocator + Copy>(regions: &mut Vec<Region, A>) -> Result<(),
 fn sort_by_level<A: Allocator + Copy>(regions: &mut Vec<Region, A>) -> Result<(), OutOfMemory>
     ensures permutation { IsPermutation regions.old.items regions.new.items }
     ensures sorted { OnOk result ((number : Region → ℕ) → AllPairs (IsSooner number) regions.old.items
-        → AllPairs (IsInTurn number) regions.new.items) }
+        → AllPairs (IsPartInTurn number) regions.new.items) }
 {
     match regions.sort_by_key(|region| region.level) {
         Ok(()) => Ok(()),
@@ -73,7 +73,7 @@ pub fn sort_regions<A: Allocator + Copy>(regions: &mut Vec<Region, A>) -> Result
     // by any number that rises along them
     ensures sorted { OnOk result ((number : Region → ℕ)
         → AllPairs (λ r t. number r < number t) regions.old.items
-        → AllPairs (IsInTurn number) regions.new.items) }
+        → AllPairs (IsPartInTurn number) regions.new.items) }
 {
     sort_by_size(regions)?;
     sort_by_turn(regions)?;

@@ -9,7 +9,7 @@ ghost use Rattle.pci_settle.specs.Lists.{lists_value};
 ghost use Rattle.pci_stand.specs.Boards.{IsBoard};
 ghost use Rattle.pci_stand.specs.Known.{asked};
 ghost use Rattle.pci_stand.specs.Taken.{AreApartInOrder, taken_with};
-ghost use Rattle.pci_stand.specs.Passing.{IsReady, AreOrdered, IsPassed, AreStanding};
+ghost use Rattle.pci_stand.specs.Passing.{CanBeNoted, AreOrdered, AreFirstPassed, AreStanding};
 
 use crate::collect::regions;
 use crate::order::sort_regions;
@@ -43,7 +43,7 @@ fn note_one<A: Allocator + Copy>(
 ) -> Result<(), OutOfMemory>
     requires over { IsBridgeToBus board.now.records.now board.now.over.now }
     requires count { length table.old ≡ length board.now.records.now }
-    requires ready { All (IsReady (length board.now.records.now)) regions.now }
+    requires ready { All (CanBeNoted (length board.now.records.now)) regions.now }
     requires index { index < length regions.now }
     requires io { AreApartInOrder taken.old.io.items }
     requires mem { AreApartInOrder taken.old.mem.items }
@@ -51,9 +51,9 @@ fn note_one<A: Allocator + Copy>(
     ensures mem { AreApartInOrder taken.new.mem.items }
     ensures passed { OnOk result ((q : Request) → (s : System)
         → IsBoard q s board.now.records.now (lists_value board.now.lists) → AreOrdered q s regions.now
-        → IsPassed q s regions.now index
+        → AreFirstPassed q s regions.now index
         (taken_with taken.old.level taken.old.io.items taken.old.mem.items) table.old
-        → IsPassed q s regions.now (index + 1)
+        → AreFirstPassed q s regions.now (index + 1)
         (taken_with taken.new.level taken.new.io.items taken.new.mem.items) table.new) }
 {
     let region = &regions[index];
@@ -76,14 +76,14 @@ fn note_all<A: Allocator + Copy>(
 ) -> Result<(), OutOfMemory>
     requires over { IsBridgeToBus board.now.records.now board.now.over.now }
     requires count { length table.old ≡ length board.now.records.now }
-    requires ready { All (IsReady (length board.now.records.now)) regions.now }
+    requires ready { All (CanBeNoted (length board.now.records.now)) regions.now }
     requires io { AreApartInOrder taken.old.io.items }
     requires mem { AreApartInOrder taken.old.mem.items }
     ensures passed { OnOk result ((q : Request) → (s : System)
         → IsBoard q s board.now.records.now (lists_value board.now.lists) → AreOrdered q s regions.now
-        → IsPassed q s regions.now 0
+        → AreFirstPassed q s regions.now 0
         (taken_with taken.old.level taken.old.io.items taken.old.mem.items) table.old
-        → IsPassed q s regions.now (length regions.now)
+        → AreFirstPassed q s regions.now (length regions.now)
         (taken_with taken.new.level taken.new.io.items taken.new.mem.items) table.new) }
 {
     for index in 0..regions.len() {

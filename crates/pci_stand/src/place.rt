@@ -10,12 +10,12 @@ ghost use Rattle.pci_base.specs.WindowKinds.{kind_value};
 ghost use Rattle.pci_image.specs.Windows.{window_of};
 ghost use Rattle.pci_tree.specs.Passes.{range_in};
 ghost use Rattle.pci_tree.specs.Ways.{IsBridgeToBus};
-ghost use Rattle.pci_settle.specs.Over.{is_held};
+ghost use Rattle.pci_settle.specs.Over.{range_holds};
 ghost use Rattle.pci_settle.specs.Lists.{root_range_value, lists_value};
 ghost use Rattle.pci_stand.specs.Boards.{IsBoard, IsKnown, AreOpen};
 ghost use Rattle.pci_stand.specs.Known.{region_value};
 ghost use Rattle.pci_stand.specs.Tables.{stands_in};
-ghost use Rattle.pci_stand.specs.Places.{has_range, is_listed, is_in_lists, window_for, is_in_windows};
+ghost use Rattle.pci_stand.specs.Places.{root_range_holds, is_listed_range, is_range_in_lists, window_for, is_in_windows};
 
 use crate::region::Region;
 use pci_base::range::{Range, RootRange};
@@ -30,7 +30,7 @@ use pci_settle::over::is_within;
 
 /// Whether a root has a range of a list that holds another.
 fn has_range(one: RootRange, bus: u8, range: Range) -> bool
-    ensures { result ≡ has_range bus (decoded_range_of range) (root_range_value one) }
+    ensures { result ≡ root_range_holds bus (decoded_range_of range) (root_range_value one) }
 {
     match one.root {
         Some(root) if root != bus => false,
@@ -40,7 +40,7 @@ fn has_range(one: RootRange, bus: u8, range: Range) -> bool
 
 /// Whether a root has a range in a list that holds another.
 fn is_listed(list: &[RootRange], bus: u8, range: Range) -> bool
-    ensures { result ≡ list_any (has_range bus (decoded_range_of range))
+    ensures { result ≡ list_any (root_range_holds bus (decoded_range_of range))
         (map root_range_value list.now) }
 {
     for one in list {
@@ -53,7 +53,7 @@ fn is_listed(list: &[RootRange], bus: u8, range: Range) -> bool
 
 /// Whether a root has a range of a space that holds another.
 fn is_in_lists(lists: &Lists, bus: u8, space: Space, range: Range) -> bool
-    ensures { result ≡ is_in_lists (lists_value lists.now) bus (space_of space)
+    ensures { result ≡ is_range_in_lists (lists_value lists.now) bus (space_of space)
         (decoded_range_of range) }
 {
     match space {
@@ -64,7 +64,7 @@ fn is_in_lists(lists: &Lists, bus: u8, space: Space, range: Range) -> bool
 
 /// Whether a window of a bridge is there and open, and holds a range.
 fn is_held(windows: &Windows, kind: WindowKind, range: Range) -> bool
-    ensures { result ≡ is_held (range_in (window_of windows.now (kind_value kind)))
+    ensures { result ≡ range_holds (range_in (window_of windows.now (kind_value kind)))
         (decoded_range_of range) }
 {
     let Some(window) = windows.get(kind) else {

@@ -2,7 +2,7 @@
 ghost use Rattle.std.specs.Prelude.{◌≡◌, ◌++◌, OnOk};
 ghost use Rattle.std.specs.List.{All};
 ghost use Rattle.pci_tree.specs.Passes.{range_in};
-ghost use Rattle.pci_stand.specs.Regions.{owned, bar_space, IsAtRegister, bar_regions, window_regions, bridge_regions, rom_regions, record_regions};
+ghost use Rattle.pci_stand.specs.Regions.{owned_region, bar_space, HasBarNumber, owned_bar_regions, owned_window_regions, owned_bridge_regions, owned_rom_regions, record_regions};
 
 use pci_base::memory::OutOfMemory;
 use pci_base::offset::BASE_ADDRESS;
@@ -53,7 +53,7 @@ pub struct Region {
 impl Owner {
     /// A part of the function.
     fn region(self, part: Part, space: Space, prefetch: bool, range: Range) -> Region
-        ensures { result ≡ owned self part space prefetch range }
+        ensures { result ≡ owned_region self part space prefetch range }
     {
         Region {
             function: self.function,
@@ -87,9 +87,9 @@ fn add_bars<A: Allocator>(
     above: Above,
     terms: Terms,
 ) -> Result<(), OutOfMemory>
-    requires { All IsAtRegister bars.now }
+    requires { All HasBarNumber bars.now }
     ensures { OnOk result
-        (out.new.items ≡ out.old.items ++ bar_regions owner above terms bars.now) }
+        (out.new.items ≡ out.old.items ++ owned_bar_regions owner above terms bars.now) }
 {
     for bar in bars {
         if !is_left_bar(bar, above, terms) {
@@ -114,7 +114,7 @@ fn add_window<A: Allocator>(
     window: Option<Window>,
 ) -> Result<(), OutOfMemory>
     ensures { OnOk result
-        (out.new.items ≡ out.old.items ++ window_regions owner kind space (range_in window)) }
+        (out.new.items ≡ out.old.items ++ owned_window_regions owner kind space (range_in window)) }
 {
     let Some(window) = window else {
         return Ok(());
@@ -131,7 +131,7 @@ fn add_windows<A: Allocator>(
     owner: Owner,
     bridge: Option<Bridge>,
 ) -> Result<(), OutOfMemory>
-    ensures { OnOk result (out.new.items ≡ out.old.items ++ bridge_regions owner bridge) }
+    ensures { OnOk result (out.new.items ≡ out.old.items ++ owned_bridge_regions owner bridge) }
 {
     let Some(bridge) = bridge else {
         return Ok(());
@@ -148,7 +148,7 @@ fn add_rom<A: Allocator>(
     owner: Owner,
     rom: Option<Rom>,
 ) -> Result<(), OutOfMemory>
-    ensures { OnOk result (out.new.items ≡ out.old.items ++ rom_regions owner rom) }
+    ensures { OnOk result (out.new.items ≡ out.old.items ++ owned_rom_regions owner rom) }
 {
     if let Some(rom) = rom {
         if rom.on {
@@ -172,7 +172,7 @@ pub fn add_regions<A: Allocator>(
     terms: Terms,
 ) -> Result<(), OutOfMemory>
     // a part is named by the number of its BAR's register
-    requires { All IsAtRegister «record».now.bars.items }
+    requires { All HasBarNumber «record».now.bars.items }
     ensures { OnOk result
         (out.new.items ≡ out.old.items ++ record_regions owner above terms «record».now) }
 {

@@ -9,7 +9,7 @@ use Rattle.pci_spec.specs.System.{System}
 use Rattle.pci_spec.specs.Decoded.{HasRecords}
 use Rattle.pci_spec.specs.Decoded as decoded
 use Rattle.settle_spec.specs.Lists.{Lists, Request}
-use Rattle.settle_spec.specs.Stands.{window_region, stands}
+use Rattle.settle_spec.specs.Stands.{window_part, stands}
 use Rattle.settle_laws.proofs.IoAlone.{none_in_memory}
 use Rattle.pci_base.specs.declared.memory.Refused.{Refused}
 use Rattle.pci_base.specs.declared.memory.Refused.TheVariants as refused
@@ -27,7 +27,7 @@ use Rattle.pci_settle.specs.declared.over.OpenWindows.{OpenWindows}
 use Rattle.pci_settle.specs.declared.own.Terms.{Terms}
 use Rattle.pci_settle.specs.Spots.{IsExtent}
 use Rattle.pci_settle.specs.Own.{AreTerms}
-use Rattle.pci_settle.specs.Buses.{AreWindows, Classing, classing_of, IsLeft}
+use Rattle.pci_settle.specs.Buses.{AreWindows, Classing, classing_of, TellsClasses}
 use Rattle.pci_stand.specs.Known.{asked}
 use Rattle.pci_stay.specs.declared.windows.TooLarge.{TooLarge}
 use Rattle.pci_stay.specs.Windows.{AreOpenFor, HasWindowsOf, IsTooLargeOf, AreAllLawful}
@@ -37,14 +37,14 @@ use Rattle.pci_stay.proofs.Opened.{tree_of}
 
 -- what is asked for, by the open windows over each bus
 pub left_of : (a : Admission) (l : Lists) (fixed : List Slot) → IsAdmitted a → (records : List Record) {values : List decoded.Record} → map record_value records ≡ values → HasRecords (system_in a) values
-    → (terms : Terms) → AreTerms l terms → (over : List OpenWindows) → ((q : Request) (s : System) → AreOpenFor q s records over) → IsLeft (classing_of a terms over) (asked a.roots l fixed)
+    → (terms : Terms) → AreTerms l terms → (over : List OpenWindows) → ((q : Request) (s : System) → AreOpenFor q s records over) → TellsClasses (classing_of a terms over) (asked a.roots l fixed)
 left_of a l fixed admitted records same has terms are over opened = record {
   rooted = refl;
   terms = are;
   overs_are = opened (asked a.roots l fixed) (system_in a) (tree_of a l fixed admitted records same has);
 }
 
-pub too_large_in_io : (p : Classing) (q : Request) → IsLeft p q → (x : Refused TooLarge) → IsTooLargeOf p IoWindow x → IsTooLargeInIo q p.system x
+pub too_large_in_io : (p : Classing) (q : Request) → TellsClasses p q → (x : Refused TooLarge) → IsTooLargeOf p IoWindow x → IsTooLargeInIo q p.system x
 too_large_in_io p q left refused.Memory told = tt
 too_large_in_io p q left (refused.Fault x) told = (told.0, told.1 q left)
 
@@ -56,8 +56,8 @@ io_lawful io lawful Io = lawful
 io_lawful io lawful Memory = no_windows
 io_lawful io lawful Prefetchable = no_windows
 
-pub new_in_io : (p : Classing) (windows : ByKind (List (Option Extent))) (roots : List ℕ) (io : List RootRange) (fixed : List Slot) → IsLeft p (asked_in_io roots io fixed) → HasWindowsOf p IoWindow windows.io
+pub new_in_io : (p : Classing) (windows : ByKind (List (Option Extent))) (roots : List ℕ) (io : List RootRange) (fixed : List Slot) → TellsClasses p (asked_in_io roots io fixed) → HasWindowsOf p IoWindow windows.io
     → (class : WindowKind) → HasNewWhereStands (asked_in_io roots io fixed) p class (by_kind windows class)
 new_in_io p windows roots io fixed left has Io f listed is = inl (has (asked_in_io roots io fixed) left)
-new_in_io p windows roots io fixed left has Memory f listed is = absurd (both_ways (stands (asked_in_io roots io fixed) p.system (window_region (kind_value Memory) f)) (none_in_memory (asked_in_io roots io fixed) p.system (window_region (kind_value Memory) f) refl) is)
-new_in_io p windows roots io fixed left has Prefetchable f listed is = absurd (both_ways (stands (asked_in_io roots io fixed) p.system (window_region (kind_value Prefetchable) f)) (none_in_memory (asked_in_io roots io fixed) p.system (window_region (kind_value Prefetchable) f) refl) is)
+new_in_io p windows roots io fixed left has Memory f listed is = absurd (both_ways (stands (asked_in_io roots io fixed) p.system (window_part (kind_value Memory) f)) (none_in_memory (asked_in_io roots io fixed) p.system (window_part (kind_value Memory) f) refl) is)
+new_in_io p windows roots io fixed left has Prefetchable f listed is = absurd (both_ways (stands (asked_in_io roots io fixed) p.system (window_part (kind_value Prefetchable) f)) (none_in_memory (asked_in_io roots io fixed) p.system (window_part (kind_value Prefetchable) f) refl) is)

@@ -11,8 +11,8 @@ use Rattle.pci_spec.specs.Decoded.{HasRecords, Range}
 use Rattle.plan_spec.specs.Plan.{is_open}
 use Rattle.plan_spec.specs.Planning.Layout.{range_of}
 use Rattle.settle_spec.specs.Lists.{Request}
-use Rattle.settle_spec.specs.Parts.{Region}
-use Rattle.settle_spec.specs.Stands.{window_region, stands}
+use Rattle.settle_spec.specs.Parts.{FunctionPart}
+use Rattle.settle_spec.specs.Stands.{window_part, stands}
 use Rattle.settle_spec.specs.Items.{has_places, has_room}
 use Rattle.stand_laws.proofs.Standing.{stands_by_itself}
 use Rattle.stand_laws.proofs.Holding.{both_same, holds_alone}
@@ -21,13 +21,13 @@ use Rattle.pci_function.specs.Values.{record_value}
 use Rattle.pci_place.specs.Records.{IsRecordOf}
 use Rattle.pci_place.proofs.Records.{same_count, function_at}
 use Rattle.pci_settle.specs.declared.kept.Kept.{Kept}
-use Rattle.pci_settle.specs.Kept.{kept_of, nothing_kept, AreKept}
+use Rattle.pci_settle.specs.Kept.{kept_of, nothing_kept, AreKeptParts}
 use Rattle.pci_settle.proofs.NewWindows.{comes_later}
 use Rattle.pci_stand.specs.Boards.{AreOpen}
 use Rattle.pci_stand.specs.Passing.{AreStanding}
 use Rattle.pci_stand.specs.Tables.{stands_in}
 use Rattle.pci_stand.proofs.Indexes.{table_at}
-use Rattle.pci_stay.specs.Holding.{told_in, IsHeldFrom, IsHolding, AreHolding}
+use Rattle.pci_stay.specs.Holding.{told_in, IsHeldFrom, IsWindowHolding, AreHolding}
 
 and_true : (b : Bool) → (b && true) ≡ b
 and_true true = refl
@@ -90,7 +90,7 @@ module _ (q : Request) (s : System) (system : IsSystem s) (nested : IsNested q.r
       ap (λ b. cond b (stands_in s table record { function = f; part = p }) (stands q s record { function = f; part = p })) there
       ∙ table_at s system table j f p at
 
-  pub told_kept : (table : List Kept) → AreKept s (told_in q s table) table
+  pub told_kept : (table : List Kept) → AreKeptParts s (told_in q s table) table
   told_kept table j f p at there = sym (told_at table j f p at there)
 
   pub held_last : (table : List Kept) → AreStanding q s table → IsHeldFrom q s table (length s)
@@ -117,28 +117,28 @@ module _ (q : Request) (s : System) (system : IsSystem s) (nested : IsNested q.r
     listed = (k, slice_get_within s k f at, get_or_from_slice_get s k f f at)
 
     -- a window of which nothing is noted doesn't hold, nor does one that isn't open
-    not_open : (c : WindowKind) → is_open f c ≡ false → stands q s (window_region c f) ≡ false
-    not_open c closed = false_from_ne_true (stands q s (window_region c f)) (λ is. both_ways (is_open f c) closed ((stands_by_itself q s nested).only (window_region c f) listed is))
+    not_open : (c : WindowKind) → is_open f c ≡ false → stands q s (window_part c f) ≡ false
+    not_open c closed = false_from_ne_true (stands q s (window_part c f)) (λ is. both_ways (is_open f c) closed ((stands_by_itself q s nested).only (window_part c f) listed is))
 
-    no_stand : (c : WindowKind) → stands q s (window_region c f) ≡ false → IsHolding q s old f c false
+    no_stand : (c : WindowKind) → stands q s (window_part c f) ≡ false → IsWindowHolding q s old f c false
     no_stand c off = sym (ap (λ b. b && has_places q s (told_in q s old) f c) off)
 
-    pub closed_holds : (c : WindowKind) → is_open f c ≡ false → IsHolding q s old f c false
+    pub closed_holds : (c : WindowKind) → is_open f c ≡ false → IsWindowHolding q s old f c false
     closed_holds c closed = no_stand c (not_open c closed)
 
-    pub other_holds : (c : WindowKind) → is_bridge f ≡ false → IsHolding q s old f c false
+    pub other_holds : (c : WindowKind) → is_bridge f ≡ false → IsWindowHolding q s old f c false
     other_holds c other = closed_holds c (false_from_ne_true (is_open f c) (λ opens. both_ways (is_bridge f) other (open_bridge f c opens)))
 
-    pub noted_stands : (c : WindowKind) → is_bridge f ≡ true → kept_of (get_or old k nothing_kept) (Window c) ≡ stands q s (window_region c f)
+    pub noted_stands : (c : WindowKind) → is_bridge f ≡ true → kept_of (get_or old k nothing_kept) (Window c) ≡ stands q s (window_part c f)
     noted_stands c bridge = was.rest k f (Window c) (omega arith) at bridge
 
-    pub unnoted_holds : (c : WindowKind) → kept_of (get_or old k nothing_kept) (Window c) ≡ false → IsHolding q s old f c false
+    pub unnoted_holds : (c : WindowKind) → kept_of (get_or old k nothing_kept) (Window c) ≡ false → IsWindowHolding q s old f c false
     unnoted_holds c off = elim (cases_Bool (is_bridge f)) [
       | inl bridge ↦ no_stand c (sym (noted_stands c bridge) ∙ off)
       | inr other ↦ other_holds c other
     ]
 
-    pub noted_holds : (c : WindowKind) (room : Bool) → is_bridge f ≡ true → kept_of (get_or old k nothing_kept) (Window c) ≡ true → room ≡ has_places q s (told_in q s old) f c → IsHolding q s old f c room
+    pub noted_holds : (c : WindowKind) (room : Bool) → is_bridge f ≡ true → kept_of (get_or old k nothing_kept) (Window c) ≡ true → room ≡ has_places q s (told_in q s old) f c → IsWindowHolding q s old f c room
     noted_holds c room bridge on is = is ∙ sym (ap (λ b. b && has_places q s (told_in q s old) f c) (sym (noted_stands c bridge) ∙ on))
 
     -- no window of another function than a bridge is there
@@ -163,7 +163,7 @@ module _ (q : Request) (s : System) (system : IsSystem s) (nested : IsNested q.r
         alone (Window c) there g one = absurd (both_ways (is_bridge f) other there)
 
     module _ (entry : Kept) (io memory prefetch : Bool) (with : IsWithWindows entry (get_or old k nothing_kept) io memory prefetch)
-        (io_holds : IsHolding q s old f IoWindow io) (memory_holds : IsHolding q s old f MemoryWindow memory) (prefetch_holds : IsHolding q s old f PrefetchWindow prefetch) where
+        (io_holds : IsWindowHolding q s old f IoWindow io) (memory_holds : IsWindowHolding q s old f MemoryWindow memory) (prefetch_holds : IsWindowHolding q s old f PrefetchWindow prefetch) where
       abbrev new : List Kept
       new = set old k entry
 
@@ -177,7 +177,7 @@ module _ (q : Request) (s : System) (system : IsSystem s) (nested : IsNested q.r
       elsewhere j differ = get_or-set_other old k j entry nothing_kept differ
 
       -- of another function both tables tell the same
-      other_same : (t : Region) → Contains s t.function → (t.function ≡ f → ⊥) → told_in q s new t ≡ told_in q s old t
+      other_same : (t : FunctionPart) → Contains s t.function → (t.function ≡ f → ⊥) → told_in q s new t ≡ told_in q s old t
       other_same t in_t differ =
           let there = at_place s t.function in_t in
           let m = in_t.0 in
@@ -194,7 +194,7 @@ module _ (q : Request) (s : System) (system : IsSystem s) (nested : IsNested q.r
           let bus : t.function.slot.bus ≡ f.slot.bus = ap (λ (x : Function). x.slot.bus) same in
           (let no : ⊥ = omega (arith, order, bus, up) in no))))
 
-      window_told : (c : WindowKind) → kept_of entry (Window c) ≡ (stands q s (window_region c f) && has_places q s (told_in q s old) f c)
+      window_told : (c : WindowKind) → kept_of entry (Window c) ≡ (stands q s (window_part c f) && has_places q s (told_in q s old) f c)
       window_told IoWindow = with.io_is ∙ io_holds
       window_told MemoryWindow = with.memory_is ∙ memory_holds
       window_told PrefetchWindow = with.prefetch_is ∙ prefetch_holds
@@ -232,8 +232,8 @@ module _ (q : Request) (s : System) (system : IsSystem s) (nested : IsNested q.r
                     let one : f ≡ b = cc in
                     let flag : kept_of entry (Window c) ≡ true =
                     sym (table_at s system new m b (Window c) there ∙ ap (λ n. kept_of (get_or new n nothing_kept) (Window c)) same ∙ ap (λ x. kept_of x (Window c)) here) ∙ is in
-                    let stands_it : stands q s (window_region c f) ≡ true = (and_parts (stands q s (window_region c f)) (has_places q s (told_in q s old) f c) (sym (window_told c) ∙ flag)).0 in
-                    subst (λ x. is_open x c ≡ true) one ((stands_by_itself q s nested).only (window_region c f) listed stands_it)
+                    let stands_it : stands q s (window_part c f) ≡ true = (and_parts (stands q s (window_part c f)) (has_places q s (told_in q s old) f c) (sym (window_told c) ∙ flag)).0 in
+                    subst (λ x. is_open x c ≡ true) one ((stands_by_itself q s nested).only (window_part c f) listed stands_it)
                 | inr differ ↦
                     was.opens c b in_b
                     (table_at s system old m b (Window c) there ∙ ap (λ x. kept_of x (Window c)) (sym (elsewhere m differ)) ∙ sym (table_at s system new m b (Window c) there) ∙ is)
@@ -257,7 +257,7 @@ module _ (q : Request) (s : System) (system : IsSystem s) (nested : IsNested q.r
         alone Rom none = sym (and_true (stands q s record { function = f; part = Rom }))
         alone (Window c) none =
             let off : stands q s record { function = f; part = Window c } ≡ false = false_from_ne_true (stands q s record { function = f; part = Window c })
-            (λ is. both_ways (is_bridge f) none (open_bridge f c ((stands_by_itself q s nested).only (window_region c f) in_f is))) in
+            (λ is. both_ways (is_bridge f) none (open_bridge f c ((stands_by_itself q s nested).only (window_part c f) in_f is))) in
             off ∙ sym (ap (λ b. b && has_room q s (told_in q s table) f (Window c)) off)
 
     pub all_hold : AreHolding q s table

@@ -27,16 +27,16 @@ use Rattle.pci_tree.proofs.Lifting.{same_bridge}
 use Rattle.pci_place.specs.Records.{IsRecordOf}
 use Rattle.pci_place.proofs.Records.{FunctionAt, function_at, same_count}
 use Rattle.pci_stand.proofs.OfRecord.{window_is}
-use Rattle.settle_spec.specs.FirstPlace.{Extent as ExtentValue, ends_in, first_spot, first_place, else_at}
+use Rattle.settle_spec.specs.FirstPlace.{Extent as ExtentValue, ends_by, first_spot, first_place, else_at}
 use Rattle.settle_spec.specs.Lists.{Request}
-use Rattle.settle_spec.specs.Parts.{Region}
-use Rattle.settle_spec.specs.Stands.{window_region}
-use Rattle.settle_spec.specs.Items.{Item as ItemValue, has_of, items_on, nothing, new_window, window_around, are_placed, place_all}
+use Rattle.settle_spec.specs.Parts.{FunctionPart}
+use Rattle.settle_spec.specs.Stands.{window_part}
+use Rattle.settle_spec.specs.Items.{Item as ItemValue, has_of, bus_items, nothing, new_window, window_around, are_placed, place_all}
 use Rattle.settle_spec.proofs.FirstSpot.{least_spot, spot_gives}
 use Rattle.settle_spec.proofs.NewWindows.{window_is_around}
 use Rattle.pci_settle.specs.declared.extent.Extent.{Extent}
 use Rattle.pci_settle.specs.Spots.{extent_value}
-use Rattle.pci_settle.specs.Buses.{AreBehind, Classing, IsLeft}
+use Rattle.pci_settle.specs.Buses.{AreBehind, Classing, TellsClasses}
 use Rattle.pci_settle.specs.NewWindows.{nowhere, IsTooLarge, AreNewWindows, AreMarkedWindows, HasMarkedWindows, told_extent}
 use Rattle.pci_settle.proofs.Marked.{told_is, told_fits, same_or_large, none_placed, some_page}
 use Rattle.pci_stay.specs.declared.windows.TooLarge.{TooLarge}
@@ -46,7 +46,7 @@ use Rattle.pci_stay.specs.Holding.{HasNewBeside, HasNewWhereStands}
 use Rattle.pci_stay.proofs.Held.{some_range, some_open, record_at}
 
 -- what ends in no range from its first place on has none
-no_place : (r : Range) (now : List Range) (e : ExtentValue) → ends_in r e (first_spot r.first now e) ≡ false → first_place (r ∷ []) now e ≡ None
+no_place : (r : Range) (now : List Range) (e : ExtentValue) → ends_by r e (first_spot r.first now e) ≡ false → first_place (r ∷ []) now e ≡ None
 no_place r now e off = ap (λ b. else_at (cond b (Some (first_spot r.first now e)) None) None) off
 
 -- a mark has no place
@@ -54,7 +54,7 @@ mark_none : (r : Range) (now : List Range) → first_place (r ∷ []) now (exten
 mark_none r now =
     let e : ExtentValue = extent_value nowhere in
     let a = first_spot r.first now e in
-    no_place r now e (false_from_ne_true (ends_in r e a) (λ is.
+    no_place r now e (false_from_ne_true (ends_by r e a) (λ is.
     let below = leb-true (a + (e.size - 1)) e.highest (and_parts (nat_le (a + (e.size - 1)) r.last) (nat_le (a + (e.size - 1)) e.highest) is).1 in
     let no : ⊥ = omega (arith, below) in no))
 
@@ -62,7 +62,7 @@ mark_none r now =
 large_none : (r : Range) (now : List Range) (e : ExtentValue) → 0 < e.alignment → 2 ^ 64 ≤ e.size → r.last < 2 ^ 64 → (IsWhole r → ⊥) → first_place (r ∷ []) now e ≡ None
 large_none r now e pos large small narrow =
     let a = first_spot r.first now e in
-    no_place r now e (false_from_ne_true (ends_in r e a) (λ is.
+    no_place r now e (false_from_ne_true (ends_by r e a) (λ is.
     let ends = leb-true (a + (e.size - 1)) r.last (and_parts (nat_le (a + (e.size - 1)) r.last) (nat_le (a + (e.size - 1)) e.highest) is).0 in
     let from = (spot_gives r.first now e a (least_spot r.first now e pos).free).from in
     narrow record { first = omega (arith, ends, from, large, small); last = omega (arith, ends, large, small) }))
@@ -74,26 +74,26 @@ module _ (q : Request) (s : System) (system : IsSystem s) (nested : IsNested q.r
   new_aligned : (f : Function) → Contains s f → is_bridge f ≡ true → 0 < (new_window q s c f).alignment
   new_aligned f listed bridge = subst (λ (e : ExtentValue). 0 < e.alignment) (sym (window_is_around q s c system nested f listed bridge)) (some_max (page_size c) _ (some_page c))
 
-  pub same_room : (keeps : Region → Bool) (windows : List (Option Extent)) (r : Range) (bus : ℕ) → HasMarkedWindows q s c windows → r.last < 2 ^ 64 → (IsWhole r → ⊥) → HasSameRoom q s c keeps (told_extent windows) r bus
+  pub same_room : (keeps : FunctionPart → Bool) (windows : List (Option Extent)) (r : Range) (bus : ℕ) → HasMarkedWindows q s c windows → r.last < 2 ^ 64 → (IsWhole r → ⊥) → HasSameRoom q s c keeps (told_extent windows) r bus
   same_room keeps windows r bus marked small narrow taken =
       elim (same_or_large q s c keeps (told_extent windows) (new_window q s c) bus
       (λ f listed beside bridge has. told_fits (has_of q s c f) (new_window q s c f) (get_or windows (secondary f) None) (marked f listed bridge) has)) [
         | inl same ↦ ap (λ xs. are_placed (place_all (λ i. r ∷ []) taken xs)) same
         | inr has ↦
-            none_placed (λ i. r ∷ []) taken (items_on q s c keeps (told_extent windows) bus) _ has.in_low
+            none_placed (λ i. r ∷ []) taken (bus_items q s c keeps (told_extent windows) bus) _ has.in_low
             (λ now. subst (λ (e : ExtentValue). first_place (r ∷ []) now e ≡ None) (sym has.mark) (mark_none r now))
-            ∙ sym (none_placed (λ i. r ∷ []) taken (items_on q s c keeps (new_window q s c) bus) _ has.in_high
+            ∙ sym (none_placed (λ i. r ∷ []) taken (bus_items q s c keeps (new_window q s c) bus) _ has.in_high
             (λ now. large_none r now (new_window q s c has.of) (new_aligned has.of has.listed has.bridge) has.large small narrow))
       ]
 
 -- the items of a bus are listed with such extents, and a range has room for them exactly where it has with their own
-pub record IsRoomBeside (p : Classing) (q : Request) (c : WindowKind) (windows : List (Option Extent)) (keeps : Region → Bool) (r : Range) (bus : ℕ) : Type 0 where
+pub record IsRoomBeside (p : Classing) (q : Request) (c : WindowKind) (windows : List (Option Extent)) (keeps : FunctionPart → Bool) (r : Range) (bus : ℕ) : Type 0 where
   pub extent : Function → ExtentValue
   pub behind : AreBehind q p.system c extent bus windows
   pub same : HasSameRoom q p.system c keeps extent r bus
 
 pub room_beside : (p : Classing) (q : Request) → IsSystem p.system → IsNested q.roots p.system → (c : WindowKind) (windows : List (Option Extent)) (f : Function) → is_open f c ≡ true → (range_of f (Window c)).last < 2 ^ 64
-    → (keeps : Region → Bool) (bus : ℕ) → HasNewBeside q p c windows f → IsRoomBeside p q c windows keeps (range_of f (Window c)) bus
+    → (keeps : FunctionPart → Bool) (bus : ℕ) → HasNewBeside q p c windows f → IsRoomBeside p q c windows keeps (range_of f (Window c)) bus
 room_beside p q system nested c windows f shows small keeps bus (inl new) = record {
   extent = new_window q p.system c;
   behind = new.behind bus;
@@ -210,7 +210,7 @@ all_new p io memory prefetchable None None None a a_marks b b_marks d d_marks = 
     each kinds.Memory = b
     each kinds.Prefetchable = d
 
-pub new_beside : (p : Classing) (q : Request) → IsLeft p q → (windows : ByKind (List (Option Extent))) (large : Option TooLarge) → AreAllNew p windows large
+pub new_beside : (p : Classing) (q : Request) → TellsClasses p q → (windows : ByKind (List (Option Extent))) (large : Option TooLarge) → AreAllNew p windows large
     → (large ≡ None) ⊎ ((f : Function) (c : WindowKind) → Contains p.system f → is_open f c ≡ true → IsWhole (range_of f (Window c)) → ⊥)
     → (class : CodeKind) → HasNewWhereStands q p class (by_kind windows class)
 new_beside p q left windows None all known class f listed stand = inl (all class q left)
@@ -224,7 +224,7 @@ module _ (s : System) (records : List Record) (has : HasRecords s (map record_va
   known_beside large (inl none) = inl none
   known_beside large (inr narrow) = inr (none_whole s records has narrow)
 
-module _ (p : Classing) (q : Request) (left : IsLeft p q) (records : List Record) (has : HasRecords p.system (map record_value records)) where
+module _ (p : Classing) (q : Request) (left : TellsClasses p q) (records : List Record) (has : HasRecords p.system (map record_value records)) where
   -- the named one is too large, and an open window has all addresses
   pub large_beside : (windows : ByKind (List (Option Extent))) (large : Option TooLarge) → AreAllNew p windows large → (w : TooLarge) → (large ≡ Some w) × HasWhole records
       → IsTooLarge q p.system (kind_value w.class) w.function × HasWholeWindow p.system

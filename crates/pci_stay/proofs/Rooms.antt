@@ -15,9 +15,9 @@ use Rattle.pci_spec.specs.Bus.{is_root, are_siblings}
 use Rattle.pci_spec.specs.Decoded as decoded
 use Rattle.pci_spec.proofs.Members.{IsInPiece, in_flat_map_to, in_map_to, in_map_from, IsMade, in_filter_to}
 use Rattle.settle_spec.specs.Lists.{Request}
-use Rattle.settle_spec.specs.Parts.{Region, regions, regions_of, parts_of, is_part, header_parts, addresses, same_space}
-use Rattle.settle_spec.specs.Stands.{window_region, region_space}
-use Rattle.settle_spec.specs.Items.{Item as ItemValue, items_on, new_window, taken_on, are_placed, place_all, has_places}
+use Rattle.settle_spec.specs.Parts.{FunctionPart, system_parts, function_parts, parts_of, is_part, header_parts, addresses, are_same_space}
+use Rattle.settle_spec.specs.Stands.{window_part, part_space}
+use Rattle.settle_spec.specs.Items.{Item as ItemValue, bus_items, new_window, taken_on, are_placed, place_all, has_places}
 use Rattle.settle_spec.proofs.SameTaken.{HaveSame, same_places}
 use Rattle.pci_base.specs.declared.range.Range.{Range}
 use Rattle.pci_base.specs.Ranges.{decoded_range_of}
@@ -28,10 +28,10 @@ use Rattle.pci_place.proofs.Owned.{map_twice}
 use Rattle.pci_settle.specs.declared.item.Item.{Item}
 use Rattle.pci_settle.specs.declared.kept.Kept.{Kept}
 use Rattle.pci_settle.specs.declared.placing.Wanted.{Wanted}
-use Rattle.pci_settle.specs.Kept.{part_value, AreKept}
-use Rattle.pci_settle.specs.Own.{item_value}
+use Rattle.pci_settle.specs.Kept.{spec_part, AreKeptParts}
+use Rattle.pci_settle.specs.Own.{asked_item_value}
 use Rattle.pci_settle.specs.Buses.{Listing, AreInTurn}
-use Rattle.pci_settle.specs.Placings.{HasList, IsWanted, AreWanted, placing_of, lacks_first}
+use Rattle.pci_settle.specs.Placings.{HasListAt, IsWanted, AreWanted, placing_of, lacks_first}
 use Rattle.pci_settle.specs.Turns.{HasExtent}
 use Rattle.pci_settle.proofs.Headers.{filter_same, header_has}
 use Rattle.pci_stand.specs.declared.region.Region.{Region as CodeRegion}
@@ -40,11 +40,11 @@ use Rattle.pci_stand.proofs.Whole.{known_sorted}
 use Rattle.pci_stay.specs.Rooms.{region_range, is_taken_on, wanted_value, IsRoomOf}
 
 -- a part of a system is one that its function has
-pub part_there : (q : Request) (s : System) (r : Region) → Contains (regions q s) r → has_part r.function r.part ≡ true
-part_there q s r listed = subst (λ (x : Region). has_part x.function x.part ≡ true) made.is (there made.from (in_filter_to (is_part q s piece.of) (header_parts piece.of) made.from made.has))
+pub part_there : (q : Request) (s : System) (r : FunctionPart) → Contains (system_parts q s) r → has_part r.function r.part ≡ true
+part_there q s r listed = subst (λ (x : FunctionPart). has_part x.function x.part ≡ true) made.is (there made.from (in_filter_to (is_part q s piece.of) (header_parts piece.of) made.from made.has))
   where
-    piece : IsInPiece (regions_of q s) s r
-    piece = in_flat_map_to (regions_of q s) s r listed
+    piece : IsInPiece (function_parts q s) s r
+    piece = in_flat_map_to (function_parts q s) s r listed
 
     made : IsMade (λ p. record { function = piece.of; part = p }) (parts_of q s piece.of) r
     made = in_map_to (λ p. record { function = piece.of; part = p }) (parts_of q s piece.of) r piece.piece
@@ -68,25 +68,25 @@ and_later : (a b d : Bool) → (a && (b && d)) ≡ (a && b && d)
 and_later true b d = refl
 and_later false b d = refl
 
-module _ (q : Request) (s : System) (c : WindowKind) (keeps : Region → Bool) (rs : List CodeRegion) (table : List Kept) (parts : AreParts q s rs) (keeps_is : AreKept s keeps table) (bus : ℕ) (no_root : is_root q.roots bus ≡ false) where
+module _ (q : Request) (s : System) (c : WindowKind) (keeps : FunctionPart → Bool) (rs : List CodeRegion) (table : List Kept) (parts : AreParts q s rs) (keeps_is : AreKeptParts s keeps table) (bus : ℕ) (no_root : is_root q.roots bus ≡ false) where
   abbrev by_value : CodeRegion → Bool
-  by_value x = bus == x.bus && (same_space (window_space c) (space_of x.space) && keeps (region_value s x))
+  by_value x = bus == x.bus && (are_same_space (window_space c) (space_of x.space) && keeps (region_value s x))
 
-  abbrev by_region : Region → Bool
-  by_region r = are_siblings q.roots bus r.function.slot.bus && same_space (window_space c) (region_space r) && keeps r
+  abbrev by_region : FunctionPart → Bool
+  by_region r = are_siblings q.roots bus r.function.slot.bus && are_same_space (window_space c) (part_space r) && keeps r
 
   told : (x : CodeRegion) → Contains rs x → is_taken_on bus (window_space c) table x ≡ by_value x
   told x listed =
       let is = known_sorted q s rs parts rs (IsPermutation-refl rs) x listed in
       let at : slice_get s x.function ≡ Some (region_value s x).function = slice_get-get_or s x.function no_function is.within in
-      ap (λ b. bus == x.bus && (same_space (window_space c) (space_of x.space) && b))
-      (keeps_is x.function (region_value s x).function (part_value x.part) at (part_there q s (region_value s x) is.listed))
+      ap (λ b. bus == x.bus && (are_same_space (window_space c) (space_of x.space) && b))
+      (keeps_is x.function (region_value s x).function (spec_part x.part) at (part_there q s (region_value s x) is.listed))
 
-  same_test : (x : CodeRegion) (r : Region) → known s x ≡ known_of q s r → by_value x ≡ by_region r
+  same_test : (x : CodeRegion) (r : FunctionPart) → known s x ≡ known_of q s r → by_value x ≡ by_region r
   same_test x r e =
-      ap (λ (k : Known). bus == k.bus && (same_space (window_space c) k.space && keeps k.region)) e
-      ∙ and_later (bus == r.function.slot.bus) (same_space (window_space c) (region_space r)) (keeps r)
-      ∙ ap (λ b. b && same_space (window_space c) (region_space r) && keeps r)
+      ap (λ (k : Known). bus == k.bus && (are_same_space (window_space c) k.space && keeps k.region)) e
+      ∙ and_later (bus == r.function.slot.bus) (are_same_space (window_space c) (part_space r)) (keeps r)
+      ∙ ap (λ b. b && are_same_space (window_space c) (part_space r) && keeps r)
       (sym (ap (λ b. bus == r.function.slot.bus || (b && is_root q.roots r.function.slot.bus)) no_root ∙ or_false (bus == r.function.slot.bus)))
 
   -- what the table tells to keep its place on a bus is taken there
@@ -94,7 +94,7 @@ module _ (q : Request) (s : System) (c : WindowKind) (keeps : Region → Bool) (
   taken_is =
       map_twice decoded_range_of region_range (filter (is_taken_on bus (window_space c) table) rs)
       ∙ ap (map (λ (x : CodeRegion). decoded_range_of x.range)) (filter_same (is_taken_on bus (window_space c) table) by_value rs told)
-      ∙ kept_same (known s) (known_of q s) by_value by_region same_test (λ (x : CodeRegion). decoded_range_of x.range) addresses (λ x r e. ap (λ (k : Known). k.range) e) rs (regions q s) parts.same
+      ∙ kept_same (known s) (known_of q s) by_value by_region same_test (λ (x : CodeRegion). decoded_range_of x.range) addresses (λ x r e. ap (λ (k : Known). k.range) e) rs (system_parts q s) parts.same
 
 -- ---- places
 
@@ -122,9 +122,9 @@ placed_where items places (Some k) true none within = cc
 placed_where items places (Some k) false none within = lacking items k within
 
 -- each item is wanted in a list
-pub wanted_lawful : (items : List Item) → All HasExtent items → (wanted : List Wanted) → wanted ≡ map wanted_value items → (lists : ℕ) → lists ≡ 1 → All (HasList lists) wanted
+pub wanted_lawful : (items : List Item) → All HasExtent items → (wanted : List Wanted) → wanted ≡ map wanted_value items → (lists : ℕ) → lists ≡ 1 → All (HasListAt lists) wanted
 wanted_lawful items lawful wanted is lists one =
-    subst (All (HasList lists)) (sym is) (All-map (HasList lists) wanted_value items (λ n d within. record { extent = lawful n d within; list = omega (arith, one) }))
+    subst (All (HasListAt lists)) (sym is) (All-map (HasListAt lists) wanted_value items (λ n d within. record { extent = lawful n d within; list = omega (arith, one) }))
 
 module _ (l : Listing) (rs : List CodeRegion) (range : Range)
     (items : List Item) (turn : AreInTurn l items) (lawful : All HasExtent items) (wanted : List Wanted) (wanted_is : wanted ≡ map wanted_value items)
@@ -132,37 +132,37 @@ module _ (l : Listing) (rs : List CodeRegion) (range : Range)
     (lists : List (List Range)) (lists_are : lists ≡ (range ∷ []) ∷ []) (places : List ℕ) (lack : Option ℕ) (within : IfSome lack (λ k. k < length wanted))
     (placing : (ranges : ItemValue → List decoded.Range) (all : List ItemValue) → AreWanted lists ranges all wanted → place_all ranges (map decoded_range_of taken) all ≡ placing_of all places lack) where
   abbrev values : List ItemValue
-  values = map (item_value l.classing.system l.class) items
+  values = map (asked_item_value l.classing.system l.class) items
 
   long : length wanted ≡ length items
   long = ap length wanted_is ∙ length-map items wanted_value
 
-  module _ (q : Request) (keeps : Region → Bool) (b : Function) (is : IsRoomOf l rs range q keeps b) where
+  module _ (q : Request) (keeps : FunctionPart → Bool) (b : Function) (is : IsRoomOf l rs range q keeps b) where
     abbrev in_window : ItemValue → List decoded.Range
-    in_window i = addresses (window_region l.class b) ∷ []
+    in_window i = addresses (window_part l.class b) ∷ []
 
-    values_are : values ≡ items_on q l.classing.system l.class keeps is.extent l.bus
+    values_are : values ≡ bus_items q l.classing.system l.class keeps is.extent l.bus
     values_are = turn record { request = q; keeps = keeps; extent = is.extent } is.listed
 
     are_wanted : AreWanted lists in_window values wanted
     are_wanted = record {
-      count = length-map items (item_value l.classing.system l.class) ∙ sym long;
+      count = length-map items (asked_item_value l.classing.system l.class) ∙ sym long;
       each = λ k i w less. each k i w (let size = long in omega (arith, less, size));
     }
       where
         each : (k : ℕ) (i : ItemValue) (w : Wanted) → k < length items → IsWanted lists in_window (get_or values k i) (get_or wanted k w)
         each k i w less =
             let item = item_at items k less in
-            let value : get_or values k i ≡ item_value l.classing.system l.class item.0 = get_or-map (item_value l.classing.system l.class) items k item.0 i less ∙ ap (item_value l.classing.system l.class) item.1 in
+            let value : get_or values k i ≡ asked_item_value l.classing.system l.class item.0 = get_or-map (asked_item_value l.classing.system l.class) items k item.0 i less ∙ ap (asked_item_value l.classing.system l.class) item.1 in
             let want : get_or wanted k w ≡ wanted_value item.0 = ap (λ ws. get_or ws k w) wanted_is ∙ get_or-map wanted_value items k item.0 w less ∙ ap wanted_value item.1 in
-            subst (λ x. IsWanted lists in_window x (get_or wanted k w)) (sym value) (subst (IsWanted lists in_window (item_value l.classing.system l.class item.0)) (sym want) record {
+            subst (λ x. IsWanted lists in_window x (get_or wanted k w)) (sym value) (subst (IsWanted lists in_window (asked_item_value l.classing.system l.class item.0)) (sym want) record {
               extent = refl;
               list = ap (λ r. r ∷ []) (sym is.range_is) ∙ sym (ap (λ ls. map decoded_range_of (get_or ls 0 [])) lists_are);
             })
 
     aligned : (i : ItemValue) → Contains values i → 0 < i.extent.alignment
     aligned i listed =
-        let made : IsMade (item_value l.classing.system l.class) items i = in_map_to (item_value l.classing.system l.class) items i listed in
+        let made : IsMade (asked_item_value l.classing.system l.class) items i = in_map_to (asked_item_value l.classing.system l.class) items i listed in
         let has = All-contains HasExtent items made.from lawful made.has in
         subst (λ (x : ItemValue). 0 < x.extent.alignment) made.is has.alignment
 
@@ -175,8 +175,8 @@ module _ (l : Listing) (rs : List CodeRegion) (range : Range)
         ∙ ap (λ xs. are_placed (place_all in_window xs values)) (taken_is q l.classing.system l.class keeps rs l.kept is.parts is.listed.keeps_is l.bus is.no_root)
         ∙ ap (λ xs. are_placed (place_all in_window (taken_on q l.classing.system l.class keeps l.bus) xs)) values_are
         ∙ is.same (taken_on q l.classing.system l.class keeps l.bus)
-        ∙ ap (λ n. are_placed (place_all in_window (taken_on q l.classing.system l.class keeps n) (items_on q l.classing.system l.class keeps (new_window q l.classing.system l.class) n))) (sym is.bus_is)
+        ∙ ap (λ n. are_placed (place_all in_window (taken_on q l.classing.system l.class keeps n) (bus_items q l.classing.system l.class keeps (new_window q l.classing.system l.class) n))) (sym is.bus_is)
       where
         within_values : (o : Option ℕ) → IfSome o (λ k. k < length wanted) → IfSome o (λ k. k < length values)
         within_values None none = tt
-        within_values (Some k) less = (let size = long in let m = length-map items (item_value l.classing.system l.class) in omega (arith, less, size, m))
+        within_values (Some k) less = (let size = long in let m = length-map items (asked_item_value l.classing.system l.class) in omega (arith, less, size, m))

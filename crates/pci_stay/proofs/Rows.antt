@@ -11,7 +11,7 @@ use Rattle.pci_spec.specs.System.{Space}
 use Rattle.pci_base.specs.declared.range.Range.{Range}
 use Rattle.pci_settle.specs.declared.kept.Kept.{Kept}
 use Rattle.pci_stand.specs.declared.region.Region.{Region}
-use Rattle.pci_stand.specs.Passing.{IsReady}
+use Rattle.pci_stand.specs.Passing.{CanBeNoted}
 use Rattle.pci_stay.specs.Rooms.{region_range, is_taken, is_taken_on}
 
 module _ {X : Type 0} (test : X → Bool) where
@@ -97,11 +97,11 @@ in_take : (n : ℕ) (rs : List Region) (r : Region) → Contains (take n rs) r �
 in_take n rs r listed = subst (λ xs. Contains xs r) (take-append-drop n rs) (Contains-append_left (take n rs) (drop n rs) r listed)
 
 -- what is taken are ranges of parts, none of them backward
-pub row_forward : (rs : List Region) (bus : ℕ) (space : Space) (table : List Kept) (functions : ℕ) → All (IsReady functions) rs → (n : ℕ) (taken : List Range) → IsPermutation (taken_to rs bus space table n) taken
+pub row_forward : (rs : List Region) (bus : ℕ) (space : Space) (table : List Kept) (functions : ℕ) → All (CanBeNoted functions) rs → (n : ℕ) (taken : List Range) → IsPermutation (taken_to rs bus space table n) taken
     → (k : ℕ) (d : Range) → k < length taken → (get_or taken k d).first ≤ (get_or taken k d).last
 row_forward rs bus space table functions ready n taken moved k d low =
     let x = get_or taken k d in
     let there = Contains-permutation taken (taken_to rs bus space table n) x (IsPermutation-sym (taken_to rs bus space table n) taken moved) (Contains-get_or taken k d low) in
     let made : IsMade region_range (filter (on rs bus space table) (take n rs)) x = in_map_to region_range (filter (on rs bus space table) (take n rs)) x there in
     let has = in_take n rs made.from (in_filter_to (on rs bus space table) (take n rs) made.from made.has).0 in
-    subst (λ (y : Range). y.first ≤ y.last) made.is (All-contains (IsReady functions) rs made.from ready has).forward
+    subst (λ (y : Range). y.first ≤ y.last) made.is (All-contains (CanBeNoted functions) rs made.from ready has).forward

@@ -16,9 +16,9 @@ use Rattle.pci_spec.proofs.Regions.{register_of-lt}
 use Rattle.plan_spec.specs.Plan.{bridges_above}
 use Rattle.plan_spec.proofs.Planning.Safe.{slots_of, order_of}
 use Rattle.settle_spec.specs.Lists.{Request}
-use Rattle.settle_spec.specs.Parts.{Region, regions, regions_of, parts_of, is_part, header_bars, header_parts, addresses, is_within, class_in, bridge_over}
-use Rattle.settle_spec.specs.Stands.{rank, window_region, region_space, is_in_lists, is_in_window, is_in_place, takes_from, stands}
-use Rattle.settle_spec.specs.Items.{has_room, holds, stays}
+use Rattle.settle_spec.specs.Parts.{FunctionPart, system_parts, function_parts, parts_of, is_part, header_bars, header_parts, addresses, lies_within, class_in, bridge_over}
+use Rattle.settle_spec.specs.Stands.{rank, window_part, part_space, is_in_lists, is_in_window, is_in_place, takes_from, stands}
+use Rattle.settle_spec.specs.Items.{has_room, has_room_behind, stays}
 use Rattle.settle_spec.proofs.BridgeOver.{over_is}
 use Rattle.stand_laws.proofs.Standing.{part_of, stands_by_itself}
 use Rattle.stand_laws.proofs.Holding.{holds_by_bus, stays_on_root, stays_by_bus}
@@ -51,27 +51,27 @@ header_from f (Window IoWindow) there = Contains-append_right (header_bars f) (W
 header_from f (Window MemoryWindow) there = Contains-append_right (header_bars f) (Window IoWindow ∷ Window MemoryWindow ∷ Window PrefetchWindow ∷ Rom ∷ []) (Window MemoryWindow) (1, omega arith, refl)
 header_from f (Window PrefetchWindow) there = Contains-append_right (header_bars f) (Window IoWindow ∷ Window MemoryWindow ∷ Window PrefetchWindow ∷ Rom ∷ []) (Window PrefetchWindow) (2, omega arith, refl)
 
-part_listed : (q : Request) (s : System) (f : Function) (p : Part) → Contains s f → has_part f p ≡ true → is_part q s f p ≡ true → Contains (regions q s) record { function = f; part = p }
+part_listed : (q : Request) (s : System) (f : Function) (p : Part) → Contains s f → has_part f p ≡ true → is_part q s f p ≡ true → Contains (system_parts q s) record { function = f; part = p }
 part_listed q s f p in_f there is =
-    in_flat_map_from (regions_of q s) s f record { function = f; part = p } in_f
+    in_flat_map_from (function_parts q s) s f record { function = f; part = p } in_f
     (in_map_from (λ o. record { function = f; part = o }) (parts_of q s f) p (in_filter_from (is_part q s f) (header_parts f) p (header_from f p there) is))
 
 module _ (q : Request) (s : System) (system : IsSystem s) (nested : IsNested q.roots s) where
-  -- what holds stands, and what stands is a part
-  stands_of : (r : Region) → Contains s r.function → holds q s r ≡ true → stands q s r ≡ true
-  stands_of r listed is = (and_parts (stands q s r) (has_room q s (holds q s) r.function r.part) (sym (holds_by_bus q s system nested r listed) ∙ is)).0
+  -- what has_room_behind stands, and what stands is a part
+  stands_of : (r : FunctionPart) → Contains s r.function → has_room_behind q s r ≡ true → stands q s r ≡ true
+  stands_of r listed is = (and_parts (stands q s r) (has_room q s (has_room_behind q s) r.function r.part) (sym (holds_by_bus q s system nested r listed) ∙ is)).0
 
-  is_part_of : (r : Region) → Contains s r.function → stands q s r ≡ true → is_part q s r.function r.part ≡ true
+  is_part_of : (r : FunctionPart) → Contains s r.function → stands q s r ≡ true → is_part q s r.function r.part ≡ true
   is_part_of r listed is = (stands_by_itself q s nested).only r listed is
 
-  no_part_holds : (r : Region) → Contains s r.function → is_part q s r.function r.part ≡ false → holds q s r ≡ false
-  no_part_holds r listed off = false_from_ne_true (holds q s r) (λ is. both_ways (is_part q s r.function r.part) off (is_part_of r listed (stands_of r listed is)))
+  no_part_holds : (r : FunctionPart) → Contains s r.function → is_part q s r.function r.part ≡ false → has_room_behind q s r ≡ false
+  no_part_holds r listed off = false_from_ne_true (has_room_behind q s r) (λ is. both_ways (is_part q s r.function r.part) off (is_part_of r listed (stands_of r listed is)))
 
-  no_hold_stays : (r : Region) → holds q s r ≡ false → stays q s r ≡ false
-  no_hold_stays r off = ap (λ b. b && list_all (λ f. holds q s (window_region (class_in q s r.function r.part) f)) (bridges_above s r.function.slot.bus)) off
+  no_hold_stays : (r : FunctionPart) → has_room_behind q s r ≡ false → stays q s r ≡ false
+  no_hold_stays r off = ap (λ b. b && list_all (λ f. has_room_behind q s (window_part (class_in q s r.function r.part) f)) (bridges_above s r.function.slot.bus)) off
 
   module _ (rs : List CodeRegion) (parts : AreParts q s rs) where
-    abbrev value : CodeRegion → Region
+    abbrev value : CodeRegion → FunctionPart
     value = region_value s
 
     pub known_of_code : (x : CodeRegion) → Contains rs x → IsKnown q s x
@@ -110,7 +110,7 @@ module _ (q : Request) (s : System) (system : IsSystem s) (nested : IsNested q.r
     ]
 
     -- the place of a part among those of the code
-    place_of : (r : Region) → Contains (regions q s) r → (i : ℕ) × (i < length rs) × ((d : CodeRegion) → value (get_or rs i d) ≡ r)
+    place_of : (r : FunctionPart) → Contains (system_parts q s) r → (i : ℕ) × (i < length rs) × ((d : CodeRegion) → value (get_or rs i d) ≡ r)
     place_of r listed =
         let there : Contains (map value rs) r = subst (λ xs. Contains xs r) (sym (values_are q s rs parts)) listed in
         let i = there.0 in
@@ -136,13 +136,13 @@ module _ (q : Request) (s : System) (system : IsSystem s) (nested : IsNested q.r
     -- ---- one part
 
     module _ (n : ℕ) (x : CodeRegion) (within : n < length rs) (x_is : x ≡ get_or rs n x) (old : List Kept) (was : IsStayedTo q s rs n old) where
-      abbrev v : Region
+      abbrev v : FunctionPart
       v = value x
 
       abbrev bus : ℕ
       bus = v.function.slot.bus
 
-      abbrev test : Region → Bool
+      abbrev test : FunctionPart → Bool
       test = stands_in s old
 
       in_rs : Contains rs x
@@ -151,25 +151,25 @@ module _ (q : Request) (s : System) (system : IsSystem s) (nested : IsNested q.r
       in_v : Contains s v.function
       in_v = in_system x in_rs
 
-      before : test v ≡ holds q s v
-      before = ap (λ y. test (value y)) x_is ∙ was.rest n x (omega arith) within ∙ ap (λ y. holds q s (value y)) (sym x_is)
+      before : test v ≡ has_room_behind q s v
+      before = ap (λ y. test (value y)) x_is ∙ was.rest n x (omega arith) within ∙ ap (λ y. has_room_behind q s (value y)) (sym x_is)
 
-      in_place_if : (stand : Region → Bool) → is_in_place q s stand v
-          ≡ cond (is_root q.roots bus) (is_in_lists q bus (addresses v) (region_space v)) (is_in_window stand (class_in q s v.function v.part) (addresses v) (bridge_over s bus))
+      in_place_if : (stand : FunctionPart → Bool) → is_in_place q s stand v
+          ≡ cond (is_root q.roots bus) (is_in_lists q bus (addresses v) (part_space v)) (is_in_window stand (class_in q s v.function v.part) (addresses v) (bridge_over s bus))
       in_place_if stand = refl
 
       stands_there : stands q s v ≡ true → is_in_place q s (stands q s) v ≡ true
       stands_there is =
           let all = sym ((stands_by_itself q s nested).each v (known_of_code x in_rs).listed) ∙ is in
-          let front = (and_parts (not q.anew && is_part q s v.function v.part && is_in_place q s (stands q s) v) (list_all (λ t. not (takes_from q t v && stands q s t)) (regions q s)) all).0 in
+          let front = (and_parts (not q.anew && is_part q s v.function v.part && is_in_place q s (stands q s) v) (list_all (λ t. not (takes_from q t v && stands q s t)) (system_parts q s)) all).0 in
           (and_parts (not q.anew && is_part q s v.function v.part) (is_in_place q s (stands q s) v) front).1
 
-      -- the window over a part that holds comes before it, and is told of
-      module _ (b : Function) (leads : LeadsTo s b bus) (c : WindowKind) (is : stands q s (window_region c b) ≡ true) where
-        abbrev over : Region
-        over = window_region c b
+      -- the window over a part that has_room_behind comes before it, and is told of
+      module _ (b : Function) (leads : LeadsTo s b bus) (c : WindowKind) (is : stands q s (window_part c b) ≡ true) where
+        abbrev over : FunctionPart
+        over = window_part c b
 
-        listed_over : Contains (regions q s) over
+        listed_over : Contains (system_parts q s) over
         listed_over = part_listed q s b (Window c) leads.0 leads.1 (is_part_of over leads.0 is)
 
         lower : rank over < rank v
@@ -204,14 +204,14 @@ module _ (q : Request) (s : System) (system : IsSystem s) (nested : IsNested q.r
       true_and : (a b : Bool) → a ≡ true → (a && b) ≡ b
       true_and a b is = ap (λ y. y && b) is
 
-      -- a part that holds stays where it is in place by what the table tells
-      pub stays_is : stays q s v ≡ (holds q s v && is_in_place q s test v)
-      stays_is = elim (cases_Bool (holds q s v)) [
+      -- a part that has_room_behind stays where it is in place by what the table tells
+      pub stays_is : stays q s v ≡ (has_room_behind q s v && is_in_place q s test v)
+      stays_is = elim (cases_Bool (has_room_behind q s v)) [
         | inr off ↦ no_hold_stays v off ∙ sym (ap (λ b. b && is_in_place q s test v) off)
         | inl on ↦ elim (cases_Bool (is_root q.roots bus)) [
           | inl root ↦
-              let lists : (stand : Region → Bool) → is_in_place q s stand v ≡ is_in_lists q bus (addresses v) (region_space v) = λ stand.
-              ap (λ b. cond b (is_in_lists q bus (addresses v) (region_space v)) (is_in_window stand (class_in q s v.function v.part) (addresses v) (bridge_over s bus))) root in
+              let lists : (stand : FunctionPart → Bool) → is_in_place q s stand v ≡ is_in_lists q bus (addresses v) (part_space v) = λ stand.
+              ap (λ b. cond b (is_in_lists q bus (addresses v) (part_space v)) (is_in_window stand (class_in q s v.function v.part) (addresses v) (bridge_over s bus))) root in
               let place : is_in_place q s test v ≡ true = lists test ∙ sym (lists (stands q s)) ∙ stands_there (stands_of v in_v on) in
               stays_on_root q s system nested v root ∙ on ∙ sym (ap (λ b. b && is_in_place q s test v) on ∙ place)
           | inr behind ↦
@@ -219,12 +219,12 @@ module _ (q : Request) (s : System) (system : IsSystem s) (nested : IsNested q.r
               let b = one.0 in
               let leads = one.1 in
               let c = class_in q s v.function v.part in
-              let there : (stand : Region → Bool) → is_in_place q s stand v ≡ (is_within (addresses v) (addresses (window_region c b)) && stand (window_region c b)) = λ stand.
-              ap (λ y. cond y (is_in_lists q bus (addresses v) (region_space v)) (is_in_window stand c (addresses v) (bridge_over s bus))) behind
+              let there : (stand : FunctionPart → Bool) → is_in_place q s stand v ≡ (lies_within (addresses v) (addresses (window_part c b)) && stand (window_part c b)) = λ stand.
+              ap (λ y. cond y (is_in_lists q bus (addresses v) (part_space v)) (is_in_window stand c (addresses v) (bridge_over s bus))) behind
               ∙ ap (is_in_window stand c (addresses v)) (over_is q.roots s system nested bus b leads) in
-              let both = and_parts (is_within (addresses v) (addresses (window_region c b))) (stands q s (window_region c b)) (sym (there (stands q s)) ∙ stands_there (stands_of v in_v on)) in
+              let both = and_parts (lies_within (addresses v) (addresses (window_part c b))) (stands q s (window_part c b)) (sym (there (stands q s)) ∙ stands_there (stands_of v in_v on)) in
               stays_by_bus q s system nested v b leads
-              ∙ ap (λ y. holds q s v && y) (sym (told_over b leads c both.1) ∙ sym (true_and (is_within (addresses v) (addresses (window_region c b))) (test (window_region c b)) both.0) ∙ sym (there test))
+              ∙ ap (λ y. has_room_behind q s v && y) (sym (told_over b leads c both.1) ∙ sym (true_and (lies_within (addresses v) (addresses (window_part c b))) (test (window_part c b)) both.0) ∙ sym (there test))
         ]
       ]
 
@@ -244,7 +244,7 @@ module _ (q : Request) (s : System) (system : IsSystem s) (nested : IsNested q.r
         told = λ i d less low. elim (cases_eq i n) [
           | inl same ↦
               let here : get_or rs i d ≡ x = get_or_default rs i d x low ∙ ap (λ m. get_or rs m x) same ∙ sym x_is in
-              ap (λ y. test (value y)) here ∙ before ∙ sym (stays_is ∙ ap (λ b. holds q s v && b) place ∙ with_true (holds q s v)) ∙ ap (λ y. stays q s (value y)) (sym here)
+              ap (λ y. test (value y)) here ∙ before ∙ sym (stays_is ∙ ap (λ b. has_room_behind q s v && b) place ∙ with_true (has_room_behind q s v)) ∙ ap (λ y. stays q s (value y)) (sym here)
           | inr differ ↦ was.told i d (omega (arith, less, differ)) low
         ];
         rest = λ i d from low. was.rest i d (omega (arith, from)) low;
@@ -262,7 +262,7 @@ module _ (q : Request) (s : System) (system : IsSystem s) (nested : IsNested q.r
         here : stands_in s new v ≡ false
         here = noted_here s system old x.function v.function (function_at x in_rs) inside v.part entry false cleared kept
 
-        others_same : (t : Region) → Contains s t.function → (t ≡ v) ⊎ (stands_in s new t ≡ test t)
+        others_same : (t : FunctionPart) → Contains s t.function → (t ≡ v) ⊎ (stands_in s new t ≡ test t)
         others_same t in_t = noted_others s system old x.function v.function (function_at x in_rs) inside v.part entry false cleared kept t in_t
 
         -- another part of those of the code
@@ -284,19 +284,19 @@ module _ (q : Request) (s : System) (system : IsSystem s) (nested : IsNested q.r
         pub stayed_less : IsStayedTo q s rs (n + 1) new
         stayed_less = record {
           count = length-set old x.function entry ∙ was.count;
-          opens = λ c b in_b is. elim (others_same (window_region c b) in_b) [
+          opens = λ c b in_b is. elim (others_same (window_part c b) in_b) [
             | inl same ↦ absurd (both_ways (stands_in s new v) here (ap (stands_in s new) (sym same) ∙ is))
             | inr same ↦ was.opens c b in_b (sym same ∙ is)
           ];
           told = λ i d less low. elim (cases_eq i n) [
             | inl same ↦
                 let at : get_or rs i d ≡ x = get_or_default rs i d x low ∙ ap (λ m. get_or rs m x) same ∙ sym x_is in
-                ap (λ y. stands_in s new (value y)) at ∙ here ∙ sym (stays_is ∙ ap (λ b. holds q s v && b) off ∙ with_false (holds q s v)) ∙ ap (λ y. stays q s (value y)) (sym at)
+                ap (λ y. stands_in s new (value y)) at ∙ here ∙ sym (stays_is ∙ ap (λ b. has_room_behind q s v && b) off ∙ with_false (has_room_behind q s v)) ∙ ap (λ y. stays q s (value y)) (sym at)
             | inr differ ↦ same_at i d differ low ∙ was.told i d (omega (arith, less, differ)) low
           ];
           rest = λ i d from low. same_at i d (λ same. let no : ⊥ = omega (arith, from, same) in no) low ∙ was.rest i d (omega (arith, from)) low;
           others = λ r in_r there none. elim (others_same r in_r) [
-            | inl same ↦ absurd (none (subst (Contains (regions q s)) (sym same) (known_of_code x in_rs).listed))
+            | inl same ↦ absurd (none (subst (Contains (system_parts q s)) (sym same) (known_of_code x in_rs).listed))
             | inr same ↦ same ∙ was.others r in_r there none
           ];
         }
@@ -307,7 +307,7 @@ module _ (q : Request) (s : System) (system : IsSystem s) (nested : IsNested q.r
     all_stay n past table are = record {
       count = are.count;
       each = λ k f p at there. (
-          let r : Region = record { function = f; part = p } in
+          let r : FunctionPart = record { function = f; part = p } in
           let in_f : Contains s f = (k, slice_get_within s k f at, get_or_from_slice_get s k f f at) in
           sym (table_at s system table k f p at)
           ∙ elim (cases_Bool (is_part q s f p)) [
@@ -321,7 +321,7 @@ module _ (q : Request) (s : System) (system : IsSystem s) (nested : IsNested q.r
           ]);
     }
       where
-        listed_stays : (table : List Kept) → IsStayedTo q s rs n table → (i : ℕ) → i < length rs → i < n → (r : Region) → ((d : CodeRegion) → value (get_or rs i d) ≡ r) → stands_in s table r ≡ stays q s r
+        listed_stays : (table : List Kept) → IsStayedTo q s rs n table → (i : ℕ) → i < length rs → i < n → (r : FunctionPart) → ((d : CodeRegion) → value (get_or rs i d) ≡ r) → stands_in s table r ≡ stays q s r
         listed_stays table are i low less r same =
             let x = code_at rs i low in
             ap (stands_in s table) (sym (same x)) ∙ are.told i x less low ∙ ap (stays q s) (same x)

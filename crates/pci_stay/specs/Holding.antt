@@ -7,16 +7,16 @@ use Rattle.pci_spec.specs.Bus.{IsNested}
 use Rattle.plan_spec.specs.Plan.{is_open}
 use Rattle.plan_spec.specs.Planning.Layout.{range_of}
 use Rattle.settle_spec.specs.Lists.{Request}
-use Rattle.settle_spec.specs.Parts.{Region}
-use Rattle.settle_spec.specs.Stands.{window_region, stands}
-use Rattle.settle_spec.specs.Items.{has_places, has_room, holds}
+use Rattle.settle_spec.specs.Parts.{FunctionPart}
+use Rattle.settle_spec.specs.Stands.{window_part, stands}
+use Rattle.settle_spec.specs.Items.{has_places, has_room, has_room_behind}
 use Rattle.pci_base.specs.declared.window_kind.WindowKind.{WindowKind as CodeKind}
 use Rattle.pci_base.specs.declared.window_kind.ByKind.{ByKind}
 use Rattle.pci_base.specs.WindowKinds.{kind_value, by_kind}
 use Rattle.pci_settle.specs.declared.extent.Extent.{Extent}
 use Rattle.pci_settle.specs.declared.kept.Kept.{Kept}
 use Rattle.pci_settle.specs.Kept.{kept_of, nothing_kept}
-use Rattle.pci_settle.specs.Buses.{Classing, IsLeft}
+use Rattle.pci_settle.specs.Buses.{Classing, TellsClasses}
 use Rattle.pci_settle.specs.NewWindows.{HasNewWindows, HasMarkedWindows}
 use Rattle.pci_stand.specs.declared.region.Region.{Region as CodeRegion}
 use Rattle.pci_stand.specs.Boards.{AreOpen}
@@ -35,7 +35,7 @@ HasNewBeside q p c windows f =
 abbrev pub HasNewWhereStands : Request → Classing → CodeKind → List (Option Extent) → Type 0
 HasNewWhereStands q p class windows =
     (f : Function) → Contains p.system f
-    → IsTrue (stands q p.system (window_region (kind_value class) f))
+    → IsTrue (stands q p.system (window_part (kind_value class) f))
     → HasNewBeside q p (kind_value class) windows f
 
 -- what is asked for of a lawful system, with the parts, the open windows and the new ones
@@ -43,17 +43,17 @@ pub record IsAsking (p : Classing) (windows : ByKind (List (Option Extent))) (re
     (q : Request) : Type 0 where
   pub system : IsSystem p.system
   pub nested : IsNested q.roots p.system
-  pub left : IsLeft p q
+  pub left : TellsClasses p q
   pub parts : AreParts q p.system regions
   pub new : (class : CodeKind) → HasNewWhereStands q p class (by_kind windows class)
 
 -- a request leaves the open windows over each bus, and these are the new ones of each class of which a window stands
 pub record IsKnowing (p : Classing) (windows : ByKind (List (Option Extent))) (q : Request) : Type 0 where
-  pub left : IsLeft p q
+  pub left : TellsClasses p q
   pub new : (class : CodeKind) → HasNewWhereStands q p class (by_kind windows class)
 
 -- what a table tells of a part that its function has; of another one, whether it stands
-abbrev pub told_in : Request → System → List Kept → Region → Bool
+abbrev pub told_in : Request → System → List Kept → FunctionPart → Bool
 told_in q s table r =
     if has_part r.function r.part then stands_in s table r else stands q s r
 
@@ -71,15 +71,15 @@ pub record IsHeldFrom (q : Request) (s : System) (table : List Kept) (k : ℕ) :
       ≡ stands q s record { function = f; part = part }
 
 -- whether a window stands with room, by what a table tells
-abbrev pub IsHolding : Request → System → List Kept → Function → WindowKind → Bool → Type 0
-IsHolding q s table f c holds =
-    holds ≡ (stands q s (window_region c f) && has_places q s (told_in q s table) f c)
+abbrev pub IsWindowHolding : Request → System → List Kept → Function → WindowKind → Bool → Type 0
+IsWindowHolding q s table f c has_room_behind =
+    has_room_behind ≡ (stands q s (window_part c f) && has_places q s (told_in q s table) f c)
 
--- a table by function in slot order, with what holds of each
+-- a table by function in slot order, with what has_room_behind of each
 pub record AreHolding (q : Request) (s : System) (table : List Kept) : Type 0 where
   pub count : length table ≡ length s
   pub opens : AreOpen s table
   pub each : (k : ℕ) (f : Function) (part : Part) → slice_get s k ≡ Some f
       → IsTrue (has_part f part)
       → kept_of (slice_index_or table k nothing_kept) part
-      ≡ holds q s record { function = f; part = part }
+      ≡ has_room_behind q s record { function = f; part = part }

@@ -6,16 +6,16 @@ use Rattle.pci_spec.specs.System.{System, Function, Space, IsSystem}
 use Rattle.pci_spec.specs.Bus.{secondary, is_root}
 use Rattle.settle_spec.specs.FirstPlace.{Extent as ExtentValue}
 use Rattle.settle_spec.specs.Lists.{Request}
-use Rattle.settle_spec.specs.Parts.{Region, addresses, same_space}
-use Rattle.settle_spec.specs.Stands.{window_region}
-use Rattle.settle_spec.specs.Items.{place_all, are_placed, items_on, new_window}
+use Rattle.settle_spec.specs.Parts.{FunctionPart, addresses, are_same_space}
+use Rattle.settle_spec.specs.Stands.{window_part}
+use Rattle.settle_spec.specs.Items.{place_all, are_placed, bus_items, new_window}
 use Rattle.pci_base.specs.declared.range.Range.{Range}
 use Rattle.pci_base.specs.Ranges.{decoded_range_of}
 use Rattle.pci_base.specs.Space.{space_of}
 use Rattle.pci_settle.specs.declared.item.Item.{Item}
 use Rattle.pci_settle.specs.declared.kept.Kept.{Kept}
 use Rattle.pci_settle.specs.declared.placing.Wanted.{Wanted}
-use Rattle.pci_settle.specs.Kept.{part_value, kept_of, nothing_kept}
+use Rattle.pci_settle.specs.Kept.{spec_part, kept_of, nothing_kept}
 use Rattle.pci_settle.specs.Buses.{Listing, IsListingOf}
 use Rattle.pci_stand.specs.declared.region.Region.{Region as CodeRegion}
 use Rattle.pci_stand.specs.Known.{AreParts}
@@ -31,8 +31,8 @@ region_range r = r.range
 -- whether a part is of a space and keeps its place
 abbrev pub is_taken : Space → List Kept → CodeRegion → Bool
 is_taken space table r =
-    same_space space (space_of r.space)
-    && kept_of (slice_index_or table r.function nothing_kept) (part_value r.part)
+    are_same_space space (space_of r.space)
+    && kept_of (slice_index_or table r.function nothing_kept) (spec_part r.part)
 
 -- and is on a bus
 abbrev pub is_taken_on : ℕ → Space → List Kept → CodeRegion → Bool
@@ -44,21 +44,21 @@ abbrev pub wanted_value : Item → Wanted
 wanted_value i = record { extent = i.extent; list = 0 }
 
 -- with these extents of new windows a range has room for the items of a bus exactly where it has with their own
-abbrev pub HasSameRoom : Request → System → WindowKind → (Region → Bool) → (Function → ExtentValue) → DecodedRange → ℕ → Type 0
+abbrev pub HasSameRoom : Request → System → WindowKind → (FunctionPart → Bool) → (Function → ExtentValue) → DecodedRange → ℕ → Type 0
 HasSameRoom q s c keeps extent r bus =
     (taken : List DecodedRange)
-    → are_placed (place_all (λ i. r ∷ []) taken (items_on q s c keeps extent bus))
-    ≡ are_placed (place_all (λ i. r ∷ []) taken (items_on q s c keeps (new_window q s c) bus))
+    → are_placed (place_all (λ i. r ∷ []) taken (bus_items q s c keeps extent bus))
+    ≡ are_placed (place_all (λ i. r ∷ []) taken (bus_items q s c keeps (new_window q s c) bus))
 
 -- this is listed for the bus behind a bridge, and these are the parts of the system, and the bridge's window
 pub record IsRoomOf (l : Listing) (regions : List CodeRegion) (range : Range) (q : Request)
-    (keeps : Region → Bool) (b : Function) : Type 0 where
+    (keeps : FunctionPart → Bool) (b : Function) : Type 0 where
   pub system : IsSystem l.classing.system
   pub extent : Function → ExtentValue
   pub listed : IsListingOf record { request = q; keeps = keeps; extent = extent } l
   pub parts : AreParts q l.classing.system regions
   pub bus_is : secondary b ≡ l.bus
   pub no_root : IsFalse (is_root q.roots l.bus)
-  pub range_is : decoded_range_of range ≡ addresses (window_region l.class b)
+  pub range_is : decoded_range_of range ≡ addresses (window_part l.class b)
   pub same : HasSameRoom q l.classing.system l.class keeps extent
-      (addresses (window_region l.class b)) l.bus
+      (addresses (window_part l.class b)) l.bus

@@ -5,8 +5,8 @@ use Rattle.pci_spec.specs.Slot.{Slot}
 use Rattle.pci_spec.specs.Window.{IoWindow}
 use Rattle.pci_spec.specs.System.{System, Function, Part, has_part}
 use Rattle.settle_spec.specs.Lists.{Request}
-use Rattle.settle_spec.specs.Parts.{Region, regions}
-use Rattle.settle_spec.specs.Items.{holds, stays}
+use Rattle.settle_spec.specs.Parts.{FunctionPart, system_parts}
+use Rattle.settle_spec.specs.Items.{has_room_behind, stays}
 use Rattle.pci_base.specs.declared.memory.Refused.{Refused}
 use Rattle.pci_base.specs.declared.memory.Refused.TheVariants as refused
 use Rattle.pci_base.specs.declared.range.RootRange.{RootRange}
@@ -32,9 +32,9 @@ pub record IsStayedTo (q : Request) (s : System) (rs : List CodeRegion) (n : ℕ
       ≡ stays q s (region_value s (slice_index_or rs i d))
   pub rest : (i : ℕ) (d : CodeRegion) → n ≤ i → i < length rs
       → stands_in s table (region_value s (slice_index_or rs i d))
-      ≡ holds q s (region_value s (slice_index_or rs i d))
-  pub others : (r : Region) → Contains s r.function → IsTrue (has_part r.function r.part)
-      → (Contains (regions q s) r → ⊥) → stands_in s table r ≡ false
+      ≡ has_room_behind q s (region_value s (slice_index_or rs i d))
+  pub others : (r : FunctionPart) → Contains s r.function → IsTrue (has_part r.function r.part)
+      → (Contains (system_parts q s) r → ⊥) → stands_in s table r ≡ false
 
 -- a table by function in slot order, with what stays of each
 pub record AreStaying (q : Request) (s : System) (table : List Kept) : Type 0 where

@@ -21,7 +21,7 @@ use Rattle.pci_function.specs.Values.{record_value}
 use Rattle.pci_tree.specs.Passes.{range_in}
 use Rattle.pci_settle.specs.declared.extent.Extent.{Extent}
 use Rattle.pci_settle.specs.declared.over.OpenWindows.{OpenWindows}
-use Rattle.pci_settle.specs.Buses.{AreWindows, Classing, IsLeft}
+use Rattle.pci_settle.specs.Buses.{AreWindows, Classing, TellsClasses}
 use Rattle.pci_settle.specs.Over.{AreOpenOver}
 use Rattle.pci_settle.specs.NewWindows.{HasNewWindows, IsTooLarge, AreMarkedWindows}
 use Rattle.pci_stay.specs.declared.windows.TooLarge.{TooLarge}
@@ -41,14 +41,14 @@ AreOpenFor q s records table = IsTree q s records → AreOpenOver q s table
 
 abbrev pub HasWindowsOf : Classing → WindowKind → List (Option Extent) → Type 0
 HasWindowsOf p c windows =
-    (q : Request) → IsLeft p q → HasNewWindows q p.system c p.terms windows
+    (q : Request) → TellsClasses p q → HasNewWindows q p.system c p.terms windows
 
 -- a new window of a class is too large, or there was no memory
 abbrev pub IsTooLargeOf : Classing → WindowKind → Refused TooLarge → Type 0
 IsTooLargeOf p c refused.Memory = ⊤
 IsTooLargeOf p c (refused.Fault x) =
     (kind_value x.class ≡ c)
-    × ((q : Request) → IsLeft p q → IsTooLarge q p.system c x.function)
+    × ((q : Request) → TellsClasses p q → IsTooLarge q p.system c x.function)
 
 -- a table for each class has its new windows
 abbrev pub HasAllWindows : Classing → ByKind (List (Option Extent)) → Type 0
@@ -75,7 +75,7 @@ abbrev pub AreAllNew : Classing → ByKind (List (Option Extent)) → Option Too
 AreAllNew p windows None = HasAllWindows p windows
 AreAllNew p windows (Some x) =
     HasAllMarked p windows
-    × ((q : Request) → IsLeft p q → IsTooLarge q p.system (kind_value x.class) x.function)
+    × ((q : Request) → TellsClasses p q → IsTooLarge q p.system (kind_value x.class) x.function)
 
 -- ---- windows of all addresses
 

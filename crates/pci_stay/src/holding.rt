@@ -7,10 +7,10 @@ ghost use Rattle.settle_spec.specs.Lists.{Request};
 ghost use Rattle.pci_base.specs.WindowKinds.{kind_value};
 ghost use Rattle.pci_place.specs.Above.{AreAboves, system_in};
 ghost use Rattle.pci_settle.specs.Buses.{classing_of};
-ghost use Rattle.pci_stand.specs.Passing.{IsReady, AreStanding};
+ghost use Rattle.pci_stand.specs.Passing.{CanBeNoted, AreStanding};
 ghost use Rattle.pci_stay.specs.Windows.{AreAllLawful};
 ghost use Rattle.pci_stay.specs.Rooms.{region_bus};
-ghost use Rattle.pci_stay.specs.Holding.{IsAsking, IsHeldFrom, IsHolding, AreHolding};
+ghost use Rattle.pci_stay.specs.Holding.{IsAsking, IsHeldFrom, IsWindowHolding, AreHolding};
 
 use crate::room::has_places;
 use pci_base::memory::OutOfMemory;
@@ -41,14 +41,14 @@ fn window_holds<A: Allocator + Copy, B: Allocator>(
     requires above { AreAboves (system_in admitted.now) aboves.now }
     requires lawful { AreAllLawful windows.now }
     requires order { IsNonDecreasingBy region_bus regions.now }
-    requires ready { All (IsReady (length table.now)) regions.now }
+    requires ready { All (CanBeNoted (length table.now)) regions.now }
     requires function { function < length table.now }
     requires count { length table.now ≡ length (system_in admitted.now) }
     ensures { IfOk result (λ holds. (q : Request) → (f : Function)
         → IsAsking (classing_of admitted.now terms over.now) windows.now regions.now q
         → slice_get (system_in admitted.now) function ≡ Some f
         → IsHeldFrom q (system_in admitted.now) table.now (function + 1)
-        → IsHolding q (system_in admitted.now) table.now f (kind_value class) holds) }
+        → IsWindowHolding q (system_in admitted.now) table.now f (kind_value class) holds) }
 {
     if !table[function].window(class) {
         return Ok(false);
@@ -91,7 +91,7 @@ fn hold_bridge<A: Allocator + Copy, B: Allocator>(
     requires above { AreAboves (system_in admitted.now) aboves.now }
     requires lawful { AreAllLawful windows.now }
     requires order { IsNonDecreasingBy region_bus regions.now }
-    requires ready { All (IsReady (length table.old)) regions.now }
+    requires ready { All (CanBeNoted (length table.old)) regions.now }
     requires function { function < length table.old }
     requires count { length table.old ≡ length (system_in admitted.now) }
     ensures { OnOk result ((q : Request) → (f : Function)
@@ -139,7 +139,7 @@ pub fn hold_all<A: Allocator + Copy, B: Allocator>(
     // the parts of a bus stand in a row, whose ends are found by halving
     requires order { IsNonDecreasingBy region_bus regions.now }
     // each part names a function that the table has
-    requires ready { All (IsReady (length table.old)) regions.now }
+    requires ready { All (CanBeNoted (length table.old)) regions.now }
     // a function's entry stands where its record does
     requires count { length table.old ≡ length (system_in admitted.now) }
     ensures { OnOk result ((q : Request)

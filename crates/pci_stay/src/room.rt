@@ -4,13 +4,13 @@ ghost use Rattle.std.specs.List.{All};
 ghost use Rattle.std.specs.List.Sorted.{IsNonDecreasingBy};
 ghost use Rattle.pci_spec.specs.System.{Function, window_space};
 ghost use Rattle.settle_spec.specs.Lists.{Request};
-ghost use Rattle.settle_spec.specs.Parts.{Region as RegionValue};
+ghost use Rattle.settle_spec.specs.Parts.{FunctionPart as RegionValue};
 ghost use Rattle.settle_spec.specs.Items.{has_places};
 ghost use Rattle.pci_base.specs.Space.{space_of};
 ghost use Rattle.pci_base.specs.WindowKinds.{kind_value};
 ghost use Rattle.pci_place.specs.Above.{AreAboves, system_in};
-ghost use Rattle.pci_settle.specs.Buses.{AreWindows, classing_of, listing};
-ghost use Rattle.pci_stand.specs.Passing.{IsReady};
+ghost use Rattle.pci_settle.specs.Buses.{AreWindows, classing_of, bus_listing};
+ghost use Rattle.pci_stand.specs.Passing.{CanBeNoted};
 ghost use Rattle.pci_stay.specs.Rooms.{region_bus, wanted_value, IsRoomOf};
 
 use crate::taken::taken_on;
@@ -76,10 +76,10 @@ pub fn has_places<A: Allocator + Copy, B: Allocator>(
     // the parts of a bus stand in a row, whose ends are found by halving
     requires order { IsNonDecreasingBy region_bus regions.now }
     // each part names a function that the table has
-    requires ready { All (IsReady (length table.now)) regions.now }
+    requires ready { All (CanBeNoted (length table.now)) regions.now }
     ensures { IfOk result (λ room. (q : Request) → (keeps : RegionValue → Bool) → (b : Function)
         → IsRoomOf
-        (listing (classing_of admitted.now terms over.now) (kind_value class) bus windows.now table.now)
+        (bus_listing (classing_of admitted.now terms over.now) (kind_value class) bus windows.now table.now)
         regions.now range q keeps b
         → room ≡ has_places q (system_in admitted.now) keeps b (kind_value class)) }
 {

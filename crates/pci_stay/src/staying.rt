@@ -9,7 +9,7 @@ ghost use Rattle.pci_settle.specs.Buses.{classing_of};
 ghost use Rattle.pci_settle.specs.Lists.{lists_value};
 ghost use Rattle.pci_stand.specs.Boards.{IsBoard};
 ghost use Rattle.pci_stand.specs.Known.{asked, AreParts};
-ghost use Rattle.pci_stand.specs.Passing.{IsReady};
+ghost use Rattle.pci_stand.specs.Passing.{CanBeNoted};
 ghost use Rattle.pci_stay.specs.Windows.{AreAllLawful};
 ghost use Rattle.pci_stay.specs.Holding.{IsKnowing, AreHolding};
 ghost use Rattle.pci_stay.specs.Staying.{IsStayedTo, AreStaying, IsTooLargeFor, IsTooLargeInIo, asked_in_io};
@@ -45,7 +45,7 @@ fn stay_one(
 )
     requires over { IsBridgeToBus records.now over.now }
     requires count { length table.old ≡ length records.now }
-    requires ready { All (IsReady (length records.now)) regions.now }
+    requires ready { All (CanBeNoted (length records.now)) regions.now }
     requires index { index < length regions.now }
     ensures { (q : Request) → (s : System) → IsBoard q s records.now (lists_value lists.now)
         → AreParts q s regions.now
@@ -68,7 +68,7 @@ fn stay_all(
 )
     requires over { IsBridgeToBus records.now over.now }
     requires count { length table.old ≡ length records.now }
-    requires ready { All (IsReady (length records.now)) regions.now }
+    requires ready { All (CanBeNoted (length records.now)) regions.now }
     ensures { (q : Request) → (s : System) → IsBoard q s records.now (lists_value lists.now)
         → AreParts q s regions.now → AreHolding q s table.old → AreStaying q s table.new }
 {

@@ -2,10 +2,10 @@
 ghost use Rattle.std.specs.Prelude.{◌≡◌, ◌<◌, ◌≤◌, IfOk, length, map};
 ghost use Rattle.std.specs.List.{All, AllWithin, filter};
 ghost use Rattle.std.specs.List.Sorted.{IsPermutation, IsNonDecreasingBy};
-ghost use Rattle.settle_spec.specs.Parts.{same_space};
+ghost use Rattle.settle_spec.specs.Parts.{are_same_space};
 ghost use Rattle.pci_base.specs.Space.{space_of};
-ghost use Rattle.pci_settle.specs.Spots.{AreListed};
-ghost use Rattle.pci_stand.specs.Passing.{IsReady};
+ghost use Rattle.pci_settle.specs.Spots.{AreRisingRanges};
+ghost use Rattle.pci_stand.specs.Passing.{CanBeNoted};
 ghost use Rattle.pci_stay.specs.Rooms.{region_bus, region_range, is_taken, is_taken_on};
 
 use pci_base::memory::OutOfMemory;
@@ -28,7 +28,7 @@ fn first_from(regions: &[Region], bus: u16) -> usize
 
 /// Whether two spaces are one.
 fn is_same(space: Space, other: Space) -> bool
-    ensures { result ≡ same_space (space_of space) (space_of other) }
+    ensures { result ≡ are_same_space (space_of space) (space_of other) }
 {
     match space {
         Space::Io => other == Space::Io,
@@ -56,11 +56,11 @@ pub fn taken_on<A: Allocator>(
     // the parts of a bus stand in a row, whose ends are found by halving
     requires order { IsNonDecreasingBy region_bus regions.now }
     // each part names a function that the table has
-    requires ready { All (IsReady (length table.now)) regions.now }
+    requires ready { All (CanBeNoted (length table.now)) regions.now }
     ensures taken { IfOk result (λ taken. IsPermutation
         (map region_range (filter (is_taken_on bus (space_of space) table.now) regions.now))
         taken.items) }
-    ensures listed { IfOk result (λ taken. AreListed taken.items) }
+    ensures listed { IfOk result (λ taken. AreRisingRanges taken.items) }
 {
     let first = first_from(regions, bus as u16);
     let end = first_from(regions, bus as u16 + 1);

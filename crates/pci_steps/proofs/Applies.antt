@@ -13,8 +13,8 @@ use Rattle.pci_plan.specs.declared.apply_fault.ApplyFault.{ApplyFault}
 use Rattle.pci_plan.specs.Writes.{write_value}
 use Rattle.pci_plan.specs.Plans.{PlanValue, IsPlanValue, final_of}
 use Rattle.pci_plan.specs.Comparing.{IsStartFault, moment}
-use Rattle.pci_plan.specs.Making.{IsAccessible, AreMade, IsStop}
-use Rattle.pci_plan.specs.Applying.{ShowsSystem, AreSound, writes_made, ReadBackBy, IsApplyFault}
+use Rattle.pci_plan.specs.Making.{IsAccessible, AreWritesMade, IsApplyStop}
+use Rattle.pci_plan.specs.Applying.{ShowsSystem, AreSoundTargets, writes_made, ReadBackBy, IsApplyFault}
 use Rattle.pci_plan.proofs.Applied.{accesses, shows_start, start_fault, start_made, start_read_back, stop_fault, stop_made, stop_read_back, all_made, shows_final, ok_on_machine, left_sound}
 use Rattle.pci_steps.specs.Steps.{all_shown}
 use Rattle.pci_steps.specs.Going.{IsWritable, AreAllShown, IsCompareStop, AreStopped}
@@ -30,7 +30,7 @@ all_writable p is items same w has =
 pub record IsRun (compares : List Write) (items : List CodeWrite) (before : List Target) (failures : ℕ) (after : List Target) (failures_after : ℕ)
     (r : Result (Unit {0}) ApplyFault) : Type 0 where
   pub compared : OnOk r (AreAllShown before compares)
-  pub made : OnOk r (AreMade before (map write_value items) (length items) after)
+  pub made : OnOk r (AreWritesMade before (map write_value items) (length items) after)
   pub stopped : IfErr r (AreStopped (moment before failures) compares (map write_value items) (moment after failures_after))
 
 module _ (p : PlanValue) (is : IsPlanValue p) (compares : List Write) (start : compares ≡ all_shown p.start.dump) (items : List CodeWrite) (same : map write_value items ≡ p.writes)
@@ -41,8 +41,8 @@ module _ (p : PlanValue) (is : IsPlanValue p) (compares : List Write) (start : c
   reason_of : (fault : ApplyFault) → IsCompareStop (moment before failures) compares (moment after failures_after) fault → IsStartFault (moment before failures) p.start.dump failures_after fault
   reason_of fault stop = start_fault_of p.start.dump before failures after failures_after fault (subst (λ cs. IsCompareStop (moment before failures) cs (moment after failures_after) fault) start stop)
 
-  stop_of : (fault : ApplyFault) → IsStop (moment before failures) (map write_value items) (moment after failures_after) fault → IsStop (moment before failures) p.writes (moment after failures_after) fault
-  stop_of fault stop = subst (λ ws. IsStop (moment before failures) ws (moment after failures_after) fault) same stop
+  stop_of : (fault : ApplyFault) → IsApplyStop (moment before failures) (map write_value items) (moment after failures_after) fault → IsApplyStop (moment before failures) p.writes (moment after failures_after) fault
+  stop_of fault stop = subst (λ ws. IsApplyStop (moment before failures) ws (moment after failures_after) fault) same stop
 
   shows : AreAllShown before compares → ShowsSystem before (system_in p.start)
   shows shown = shows_start p is before (starts_as p.start.dump before (subst (AreAllShown before) start shown))
@@ -80,5 +80,5 @@ module _ (p : PlanValue) (is : IsPlanValue p) (compares : List Write) (start : c
   ran_own_machine r run = ok_on_machine p is r before failures after failures_after (ran_made r run) (ran_fault r run)
 
   pub ran_sound : (r : Result (Unit {0}) ApplyFault) → Ran r → before ≡ map target_of (system_in p.start) → IsSound p.start.roots (system_in p.start) ⊎ (p.safe_from ≤ writes_made p.writes r)
-      → AreSound p.start.roots after
+      → AreSoundTargets p.start.roots after
   ran_sound r run machine from = left_sound p is (writes_made p.writes r) before after machine (ran_made r run) from

@@ -12,7 +12,7 @@ use Rattle.pci_plan.specs.declared.apply_fault.ApplyFault.TheVariants.{Changed, 
 use Rattle.pci_steps.specs.declared.step.Kind.{Kind}
 use Rattle.pci_steps.specs.declared.step.Kind.TheVariants.{Compare, Make, ReadBack}
 use Rattle.pci_steps.specs.Steps.{Step, unless_same, judged}
-use Rattle.pci_steps.specs.Going.{Answers, GoesOn, IsStepFault}
+use Rattle.pci_steps.specs.Going.{StepAnswers, StepIsDone, IsStepFault}
 
 -- ---- a number that is shown beside the wanted one
 
@@ -37,8 +37,8 @@ module _ (before : List Target) (failures : ℕ) (w : Write) (done : ℕ) (after
   abbrev step_of : Kind → Step
   step_of kind = record { kind = kind; register = w; done = done }
 
-  pub goes_on : (kind : Kind) (shown : Option ℕ) (r : Result (Unit {0}) ApplyFault) → Answers kind (moment before failures) w shown (moment after failures_after) → r ≡ judged (step_of kind) shown
-      → OnOk r (GoesOn before kind w after)
+  pub goes_on : (kind : Kind) (shown : Option ℕ) (r : Result (Unit {0}) ApplyFault) → StepAnswers kind (moment before failures) w shown (moment after failures_after) → r ≡ judged (step_of kind) shown
+      → OnOk r (StepIsDone before kind w after)
   goes_on kind shown (Err f) a e = tt
   goes_on Compare None (Ok x) a e = absurd (let bad : ⊥ = cc in bad)
   goes_on Compare (Some n) (Ok x) a e = (a.same, subst (λ m. ShowsNumber before w.slot w.offset w.width m) (same_where_ok n w.value (Changed w.slot w.offset) e) a.shows.0)
@@ -47,7 +47,7 @@ module _ (before : List Target) (failures : ℕ) (w : Write) (done : ℕ) (after
   goes_on ReadBack None (Ok x) a e = absurd (let bad : ⊥ = cc in bad)
   goes_on ReadBack (Some n) (Ok x) a e = (a.same, subst (λ m. ShowsNumber before w.slot w.offset w.width m) (same_where_ok n w.value (Stuck done) e) a.shows.0)
 
-  pub goes_quietly : (kind : Kind) (shown : Option ℕ) (r : Result (Unit {0}) ApplyFault) → Answers kind (moment before failures) w shown (moment after failures_after) → r ≡ judged (step_of kind) shown
+  pub goes_quietly : (kind : Kind) (shown : Option ℕ) (r : Result (Unit {0}) ApplyFault) → StepAnswers kind (moment before failures) w shown (moment after failures_after) → r ≡ judged (step_of kind) shown
       → OnOk r (failures_after ≡ failures)
   goes_quietly kind shown (Err f) a e = tt
   goes_quietly Compare None (Ok x) a e = absurd (let bad : ⊥ = cc in bad)
@@ -59,7 +59,7 @@ module _ (before : List Target) (failures : ℕ) (w : Write) (done : ℕ) (after
 
   -- ---- where it is the last one
 
-  pub keeps : (kind : Kind) (shown : Option ℕ) (r : Result (Unit {0}) ApplyFault) → Answers kind (moment before failures) w shown (moment after failures_after) → r ≡ judged (step_of kind) shown
+  pub keeps : (kind : Kind) (shown : Option ℕ) (r : Result (Unit {0}) ApplyFault) → StepAnswers kind (moment before failures) w shown (moment after failures_after) → r ≡ judged (step_of kind) shown
       → OnErr r (after ≡ before)
   keeps kind shown (Ok x) a e = tt
   keeps Compare shown (Err f) a e = a.same
@@ -67,7 +67,7 @@ module _ (before : List Target) (failures : ℕ) (w : Write) (done : ℕ) (after
   keeps Make (Some n) (Err f) a e = absurd (let bad : ⊥ = cc in bad)
   keeps ReadBack shown (Err f) a e = a.same
 
-  pub ends : (kind : Kind) (shown : Option ℕ) (r : Result (Unit {0}) ApplyFault) → Answers kind (moment before failures) w shown (moment after failures_after) → r ≡ judged (step_of kind) shown
+  pub ends : (kind : Kind) (shown : Option ℕ) (r : Result (Unit {0}) ApplyFault) → StepAnswers kind (moment before failures) w shown (moment after failures_after) → r ≡ judged (step_of kind) shown
       → IfErr r (IsStepFault kind (moment before failures) w done failures_after)
   ends kind shown (Ok x) a e = tt
   ends Compare None (Err f) a e =

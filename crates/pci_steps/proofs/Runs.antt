@@ -10,14 +10,14 @@ use Rattle.pci_spec.specs.Port.{has_function, is_access, fits, ShowsNumber}
 use Rattle.pci_plan.specs.declared.apply_fault.ApplyFault.{ApplyFault}
 use Rattle.pci_plan.specs.declared.apply_fault.ApplyFault.TheVariants.{Changed, Port, Stuck}
 use Rattle.pci_plan.specs.Comparing.{IsRefusedAt, moment}
-use Rattle.pci_plan.specs.Making.{AreMade, IsStop}
+use Rattle.pci_plan.specs.Making.{AreWritesMade, IsApplyStop}
 use Rattle.pci_plan.proofs.Makes.{fold_more, has_after, has_after_one}
 use Rattle.pci_steps.specs.Steps.{Step, steps_of}
-use Rattle.pci_steps.specs.Going.{IsReadable, IsWritable, IsTaken, GoesOn, IsShown, IsStepFault, IsNumberFault, IsWriteFault, IsReadBackFault, AreFirstShown, AreAllShown, AreStopped}
+use Rattle.pci_steps.specs.Going.{TakesRead, IsWritable, TakesStep, StepIsDone, ReadShows, IsStepFault, IsNumberFault, IsWriteFault, IsReadBackFault, AreFirstShown, AreAllShown, AreStopped}
 use Rattle.pci_steps.proofs.Places.{IsStepAt, length_steps}
 
 -- what can be written can be read
-readable_too : (w : Write) → IsWritable w → IsReadable w
+readable_too : (w : Write) → IsWritable w → TakesRead w
 readable_too w written = (and_parts (is_access w.offset w.width) (fits w.width w.value) written).0
 
 module _ (before : List Target) (cs ws : List Write) where
@@ -27,7 +27,7 @@ module _ (before : List Target) (cs ws : List Write) where
   pub record IsBetween (n : ℕ) (now : List Target) : Type 0 where
     pub index : ℕ
     pub place : n ≡ length cs + (index + index)
-    pub made : AreMade before ws index now
+    pub made : AreWritesMade before ws index now
 
   -- or one more was made, which isn't read back yet
   pub record IsWithin (n : ℕ) (now : List Target) : Type 0 where
@@ -36,7 +36,7 @@ module _ (before : List Target) (cs ws : List Write) where
     pub listed : slice_get ws index ≡ Some register
     pub place : n ≡ length cs + (index + index + 1)
     pub earlier : List Target
-    pub made : AreMade before ws index earlier
+    pub made : AreWritesMade before ws index earlier
     pub now_is : now ≡ write_targets earlier register
     pub there : has_function earlier register.slot ≡ true
 
@@ -47,7 +47,7 @@ module _ (before : List Target) (cs ws : List Write) where
     pub shown : AreFirstShown before cs n
     pub phase : IsPhase n now
 
-  none_made : (now : List Target) → now ≡ before → AreMade before ws 0 now
+  none_made : (now : List Target) → now ≡ before → AreWritesMade before ws 0 now
   none_made now same = record { within = omega arith; made = same; read_back = λ k w less listed. absurd (let bad : ⊥ = omega (arith, less) in bad) }
 
   compared_to : (n : ℕ) (now : List Target) → n ≤ length cs → now ≡ before → IsPhase n now
@@ -67,12 +67,12 @@ module _ (before : List Target) (cs ws : List Write) where
   taken : (i : ℕ) (w : Write) → slice_get ws i ≡ Some w → take (i + 1) ws ≡ take i ws ++ w ∷ []
   taken i w at = take_more ws i w (slice_get_within ws i w at) ∙ ap (λ x. take i ws ++ x ∷ []) (get_or_from_slice_get ws i w w at)
 
-  made_more : (i : ℕ) (w : Write) (earlier now : List Target) → slice_get ws i ≡ Some w → AreMade before ws i earlier → now ≡ write_targets earlier w → now ≡ after_writes before (take (i + 1) ws)
+  made_more : (i : ℕ) (w : Write) (earlier now : List Target) → slice_get ws i ≡ Some w → AreWritesMade before ws i earlier → now ≡ write_targets earlier w → now ≡ after_writes before (take (i + 1) ws)
   made_more i w earlier now at made is =
       is ∙ ap (λ ts. write_targets ts w) made.made ∙ sym (fold_more before (take i ws) w) ∙ ap (after_writes before) (sym (taken i w at))
 
-  one_more : (i : ℕ) (w : Write) (earlier now : List Target) → slice_get ws i ≡ Some w → AreMade before ws i earlier → now ≡ write_targets earlier w
-      → ShowsNumber now w.slot w.offset w.width w.value → AreMade before ws (i + 1) now
+  one_more : (i : ℕ) (w : Write) (earlier now : List Target) → slice_get ws i ≡ Some w → AreWritesMade before ws i earlier → now ≡ write_targets earlier w
+      → ShowsNumber now w.slot w.offset w.width w.value → AreWritesMade before ws (i + 1) now
   one_more i w earlier now at made is shown =
       let more = made_more i w earlier now at made is in
       record {
@@ -89,7 +89,7 @@ module _ (before : List Target) (cs ws : List Write) where
         ];
       }
 
-  compare_goes : (n : ℕ) (now after : List Target) (w : Write) → n < length cs → slice_get cs n ≡ Some w → AreFirstShown before cs n → now ≡ before → IsShown now w after → IsGoing (n + 1) after
+  compare_goes : (n : ℕ) (now after : List Target) (w : Write) → n < length cs → slice_get cs n ≡ Some w → AreFirstShown before cs n → now ≡ before → ReadShows now w after → IsGoing (n + 1) after
   compare_goes n now after w within at shown same went = record {
     shown = λ k x less listed. elim (cases_lt k n) [
       | inl earlier ↦ shown k x earlier listed
@@ -101,9 +101,9 @@ module _ (before : List Target) (cs ws : List Write) where
     phase = compared_to (n + 1) after (omega (arith, within)) (went.0 ∙ same);
   }
 
-  pub goes : (n : ℕ) (step : Step) (now after : List Target) → IsGoing n now → IsStepAt cs ws n step → GoesOn now step.kind step.register after → IsGoing (n + 1) after
+  pub goes : (n : ℕ) (step : Step) (now after : List Target) → IsGoing n now → IsStepAt cs ws n step → StepIsDone now step.kind step.register after → IsGoing (n + 1) after
   goes n step now after going (inl c) went =
-      let went_so : IsShown now c.register after = subst (λ (s : Step). GoesOn now s.kind s.register after) c.is went in
+      let went_so : ReadShows now c.register after = subst (λ (s : Step). StepIsDone now s.kind s.register after) c.is went in
       let within = c.within in
       elim going.phase [
         | inl (less, same) ↦ compare_goes n now after c.register within c.listed going.shown same went_so
@@ -111,7 +111,7 @@ module _ (before : List Target) (cs ws : List Write) where
         | inr (inr w) ↦ (let place = w.place in absurd (let bad : ⊥ = omega (arith, place, within) in bad))
       ]
   goes n step now after going (inr (inl m)) went =
-      let went_so = subst (λ (s : Step). GoesOn now s.kind s.register after) m.is went in
+      let went_so = subst (λ (s : Step). StepIsDone now s.kind s.register after) m.is went in
       let at = m.place in
       elim going.phase [
         | inl (less, same) ↦ absurd (let bad : ⊥ = omega (arith, at, less) in bad)
@@ -126,7 +126,7 @@ module _ (before : List Target) (cs ws : List Write) where
                 listed = m.listed;
                 place = omega (arith, at);
                 earlier = now;
-                made = subst (λ i. AreMade before ws i now) same b.made;
+                made = subst (λ i. AreWritesMade before ws i now) same b.made;
                 now_is = went_so.0;
                 there = went_so.1;
               });
@@ -134,7 +134,7 @@ module _ (before : List Target) (cs ws : List Write) where
         | inr (inr w) ↦ (let place = w.place in absurd (let bad : ⊥ = omega (arith, place, at) in bad))
       ]
   goes n step now after going (inr (inr r)) went =
-      let went_so : IsShown now r.register after = subst (λ (s : Step). GoesOn now s.kind s.register after) r.is went in
+      let went_so : ReadShows now r.register after = subst (λ (s : Step). StepIsDone now s.kind s.register after) r.is went in
       let at = r.place in
       elim going.phase [
         | inl (less, same) ↦ absurd (let bad : ⊥ = omega (arith, at, less) in bad)
@@ -149,7 +149,7 @@ module _ (before : List Target) (cs ws : List Write) where
               phase = inr (inl record {
                 index = w.index + 1;
                 place = omega (arith, place);
-                made = subst (AreMade before ws (w.index + 1)) (sym went_so.0) (one_more w.index w.register w.earlier now w.listed w.made w.now_is shows);
+                made = subst (AreWritesMade before ws (w.index + 1)) (sym went_so.0) (one_more w.index w.register w.earlier now w.listed w.made w.now_is shows);
               });
             }
       ]
@@ -160,11 +160,11 @@ module _ (before : List Target) (cs ws : List Write) where
   all_shown n past shown k w less listed = shown k w (omega (arith, less, past)) listed
 
   -- a function that isn't there now was not there before
-  gone_before : (i : ℕ) (now : List Target) (slot : Slot) → AreMade before ws i now → IsFalse (has_function now slot) → IsFalse (has_function before slot)
+  gone_before : (i : ℕ) (now : List Target) (slot : Slot) → AreWritesMade before ws i now → IsFalse (has_function now slot) → IsFalse (has_function before slot)
   gone_before i now slot made none = sym (has_after before (take i ws) slot) ∙ ap (λ ts. has_function ts slot) (sym made.made) ∙ none
 
-  write_stop : (failures failures_after i : ℕ) (w : Write) (now after : List Target) (fault : ApplyFault) → slice_get ws i ≡ Some w → AreMade before ws i now → after ≡ now
-      → IsWriteFault (moment now failures) w i failures_after fault → IsStop (moment before failures) ws (moment after failures_after) fault
+  write_stop : (failures failures_after i : ℕ) (w : Write) (now after : List Target) (fault : ApplyFault) → slice_get ws i ≡ Some w → AreWritesMade before ws i now → after ≡ now
+      → IsWriteFault (moment now failures) w i failures_after fault → IsApplyStop (moment before failures) ws (moment after failures_after) fault
   write_stop failures failures_after i w now after (Changed slot offset) at made same reason = absurd reason
   write_stop failures failures_after i w now after (Stuck count) at made same reason = absurd reason
   write_stop failures failures_after i w now after (Port count) at made same (is, refused) =
@@ -182,8 +182,8 @@ module _ (before : List Target) (cs ws : List Write) where
         cause = elim refused_before [ inl rose ↦ inl rose | inr none ↦ inr (w, (i, within, get_or_from_slice_get ws i w w at), none) ];
       }
 
-  read_back_stop : (failures failures_after i : ℕ) (w : Write) (earlier now after : List Target) (fault : ApplyFault) → slice_get ws i ≡ Some w → AreMade before ws i earlier → now ≡ write_targets earlier w
-      → has_function earlier w.slot ≡ true → after ≡ now → IsReadBackFault (moment now failures) w (suc i) failures_after fault → IsStop (moment before failures) ws (moment after failures_after) fault
+  read_back_stop : (failures failures_after i : ℕ) (w : Write) (earlier now after : List Target) (fault : ApplyFault) → slice_get ws i ≡ Some w → AreWritesMade before ws i earlier → now ≡ write_targets earlier w
+      → has_function earlier w.slot ≡ true → after ≡ now → IsReadBackFault (moment now failures) w (suc i) failures_after fault → IsApplyStop (moment before failures) ws (moment after failures_after) fault
   read_back_stop failures failures_after i w earlier now after (Changed slot offset) at made now_is there same reason = absurd reason
   read_back_stop failures failures_after i w earlier now after (Port count) at made now_is there same (is, refused) =
       let within = slice_get_within ws i w at in
@@ -237,7 +237,7 @@ module _ (before : List Target) (cs ws : List Write) where
             let index : b.index ≡ m.index = omega (arith, at, place) in
             inr record {
               compared = all_shown n (omega (arith, at)) going.shown;
-              stop = write_stop failures failures_after m.index m.register now after fault m.listed (subst (λ i. AreMade before ws i now) index b.made) same reason_so;
+              stop = write_stop failures failures_after m.index m.register now after fault m.listed (subst (λ i. AreWritesMade before ws i now) index b.made) same reason_so;
             }
         | inr (inr w) ↦ (let place = w.place in absurd (let bad : ⊥ = omega (arith, place, at) in bad))
       ]
@@ -251,7 +251,7 @@ module _ (before : List Target) (cs ws : List Write) where
             let place = w.place in
             let index : w.index ≡ r.index = omega (arith, at, place) in
             let one : w.register ≡ r.register = same_Some w.register r.register (sym w.listed ∙ ap (slice_get ws) index ∙ r.listed) in
-            let made = subst (λ i. AreMade before ws i w.earlier) index w.made in
+            let made = subst (λ i. AreWritesMade before ws i w.earlier) index w.made in
             inr record {
               compared = all_shown n (omega (arith, at)) going.shown;
               stop = read_back_stop failures failures_after r.index r.register w.earlier now after fault r.listed made (w.now_is ∙ ap (write_targets w.earlier) one) (ap (λ (x : Write). has_function w.earlier x.slot) (sym one) ∙ w.there) same reason_so;
@@ -263,7 +263,7 @@ module _ (before : List Target) (cs ws : List Write) where
   pub all_compared : (now : List Target) (n : ℕ) → n ≡ length (steps_of cs ws) → IsGoing n now → AreAllShown before cs
   all_compared now n is going = let l = length_steps cs ws in all_shown n (omega (arith, l, is)) going.shown
 
-  pub all_made : (now : List Target) (n : ℕ) → n ≡ length (steps_of cs ws) → IsGoing n now → AreMade before ws (length ws) now
+  pub all_made : (now : List Target) (n : ℕ) → n ≡ length (steps_of cs ws) → IsGoing n now → AreWritesMade before ws (length ws) now
   all_made now n is going =
       let l = length_steps cs ws in
       elim going.phase [
@@ -271,17 +271,17 @@ module _ (before : List Target) (cs ws : List Write) where
         | inr (inl b) ↦
             let place = b.place in
             let index : b.index ≡ length ws = omega (arith, l, is, place) in
-            subst (λ i. AreMade before ws i now) index b.made
+            subst (λ i. AreWritesMade before ws i now) index b.made
         | inr (inr w) ↦ (let place = w.place in absurd (let bad : ⊥ = omega (arith, l, is, place) in bad))
       ]
 
   -- ---- a port takes each
 
-  module _ (readable : (w : Write) → Contains cs w → IsReadable w) (writable : (w : Write) → Contains ws w → IsWritable w) where
-    pub is_taken : (n : ℕ) (step : Step) → IsStepAt cs ws n step → IsTaken step.kind step.register
-    is_taken n step (inl c) = subst (λ (s : Step). IsTaken s.kind s.register) (sym c.is) (readable c.register (n, c.within, get_or_from_slice_get cs n c.register c.register c.listed))
+  module _ (readable : (w : Write) → Contains cs w → TakesRead w) (writable : (w : Write) → Contains ws w → IsWritable w) where
+    pub is_taken : (n : ℕ) (step : Step) → IsStepAt cs ws n step → TakesStep step.kind step.register
+    is_taken n step (inl c) = subst (λ (s : Step). TakesStep s.kind s.register) (sym c.is) (readable c.register (n, c.within, get_or_from_slice_get cs n c.register c.register c.listed))
     is_taken n step (inr (inl m)) =
-        subst (λ (s : Step). IsTaken s.kind s.register) (sym m.is) (writable m.register (m.index, slice_get_within ws m.index m.register m.listed, get_or_from_slice_get ws m.index m.register m.register m.listed))
+        subst (λ (s : Step). TakesStep s.kind s.register) (sym m.is) (writable m.register (m.index, slice_get_within ws m.index m.register m.listed, get_or_from_slice_get ws m.index m.register m.register m.listed))
     is_taken n step (inr (inr r)) =
-        subst (λ (s : Step). IsTaken s.kind s.register) (sym r.is)
+        subst (λ (s : Step). TakesStep s.kind s.register) (sym r.is)
         (readable_too r.register (writable r.register (r.index, slice_get_within ws r.index r.register r.listed, get_or_from_slice_get ws r.index r.register r.register r.listed)))

@@ -10,8 +10,8 @@ use Rattle.pci_plan.specs.declared.apply_fault.ApplyFault.{ApplyFault}
 use Rattle.pci_plan.specs.declared.apply_fault.ApplyFault.TheVariants.{Changed, Port, Stuck}
 use Rattle.pci_plan.specs.Comparing.{compared, IsChangedAt, IsFunctionFault, StartsAs, IsStartFault, moment}
 use Rattle.pci_plan.proofs.Compares.{register_access}
-use Rattle.pci_steps.specs.Steps.{shown_by, all_shown}
-use Rattle.pci_steps.specs.Going.{IsReadable, IsNumberFault, AreAllShown, IsCompareStop}
+use Rattle.pci_steps.specs.Steps.{shown_writes, all_shown}
+use Rattle.pci_steps.specs.Going.{TakesRead, IsNumberFault, AreAllShown, IsCompareStop}
 
 -- a register with what it has in a block
 abbrev pub shown_at : Block → ℕ × ℕ → Write
@@ -27,19 +27,19 @@ pub record IsOfBlock (blocks : List Block) (w : Write) : Type 0 where
 
 pub of_block : (blocks : List Block) (w : Write) → Contains (all_shown blocks) w → IsOfBlock blocks w
 of_block blocks w has =
-    let piece : IsInPiece shown_by blocks w = in_flat_map_to shown_by blocks w has in
+    let piece : IsInPiece shown_writes blocks w = in_flat_map_to shown_writes blocks w has in
     let made : IsMade (shown_at piece.of) (compared piece.of.image) w = in_map_to (shown_at piece.of) (compared piece.of.image) w piece.piece in
     record { b = piece.of; listed = piece.has; r = made.from; compares = made.has; is = made.is }
 
-pub all_readable : (blocks : List Block) (w : Write) → Contains (all_shown blocks) w → IsReadable w
+pub all_readable : (blocks : List Block) (w : Write) → Contains (all_shown blocks) w → TakesRead w
 all_readable blocks w has =
     let o = of_block blocks w has in
-    subst IsReadable o.is (register_access o.b.image o.r o.compares)
+    subst TakesRead o.is (register_access o.b.image o.r o.compares)
 
 -- all are shown: each function shows what its block has
 pub starts_as : (blocks : List Block) (targets : List Target) → AreAllShown targets (all_shown blocks) → StartsAs targets blocks
 starts_as blocks targets shown = λ b listed r compares.
-    let has : Contains (all_shown blocks) (shown_at b r) = in_flat_map_from shown_by blocks b (shown_at b r) listed (in_map_from (shown_at b) (compared b.image) r compares) in
+    let has : Contains (all_shown blocks) (shown_at b r) = in_flat_map_from shown_writes blocks b (shown_at b r) listed (in_map_from (shown_at b) (compared b.image) r compares) in
     shown has.0 (shown_at b r) has.1 (slice_get-get_or (all_shown blocks) has.0 (shown_at b r) has.1 ∙ ap Some has.2)
 
 number_fault : (targets : List Target) (failures : ℕ) (b : Block) (r : ℕ × ℕ) (failures_after : ℕ) (fault : ApplyFault) → Contains (compared b.image) r

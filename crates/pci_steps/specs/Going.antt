@@ -3,7 +3,7 @@ use Rattle.std.specs.Prelude.{◌≡◌, ℕ, ◌<◌, ◌⊎◌, ◌&&◌, IsTr
 use Rattle.pci_spec.specs.Machine.{Target, Write, write_targets}
 use Rattle.pci_spec.specs.Port.{is_access, fits, has_function, ShowsNumber}
 use Rattle.pci_plan.specs.Comparing.{Moment, IsRefusedAt}
-use Rattle.pci_plan.specs.Making.{IsShownOtherwise, IsStop}
+use Rattle.pci_plan.specs.Making.{IsShownOtherwise, IsApplyStop}
 use Rattle.pci_plan.specs.declared.apply_fault.ApplyFault.{ApplyFault}
 use Rattle.pci_plan.specs.declared.apply_fault.ApplyFault.TheVariants.{Changed, Port, Stuck}
 use Rattle.pci_plan.specs.Writes.{write_value}
@@ -12,21 +12,21 @@ use Rattle.pci_steps.specs.declared.step.Kind.TheVariants.{Compare, Make, ReadBa
 use Rattle.pci_steps.specs.declared.step.Step.{Step as CodeStep}
 use Rattle.pci_steps.specs.Steps.{Step}
 
-abbrev pub step_value : CodeStep → Step
-step_value s = record { kind = s.kind; register = write_value s.register; done = s.done }
+abbrev pub code_step : CodeStep → Step
+code_step s = record { kind = s.kind; register = write_value s.register; done = s.done }
 
 -- a port takes a read of the register; and a write of the number
-abbrev pub IsReadable : Write → Type 0
-IsReadable w = IsTrue (is_access w.offset w.width)
+abbrev pub TakesRead : Write → Type 0
+TakesRead w = IsTrue (is_access w.offset w.width)
 
 abbrev pub IsWritable : Write → Type 0
 IsWritable w = IsTrue (is_access w.offset w.width && fits w.width w.value)
 
 -- it takes the access of a step
-abbrev pub IsTaken : Kind → Write → Type 0
-IsTaken Compare w = IsReadable w
-IsTaken Make w = IsWritable w
-IsTaken ReadBack w = IsReadable w
+abbrev pub TakesStep : Kind → Write → Type 0
+TakesStep Compare w = TakesRead w
+TakesStep Make w = IsWritable w
+TakesStep ReadBack w = TakesRead w
 
 -- ---- one step
 
@@ -38,7 +38,7 @@ pub record Reads (before : Moment) (w : Write) (shown : Option ℕ) (after : Mom
       × (after.failures ≡ before.failures))
 
 -- the function is there, and takes the number
-pub record IsWritten (before : Moment) (w : Write) (after : Moment) : Type 0 where
+pub record WriteIsTaken (before : Moment) (w : Write) (after : Moment) : Type 0 where
   pub made : after.targets ≡ write_targets before.targets w
   pub there : IsTrue (has_function before.targets w.slot)
   pub counted : after.failures ≡ before.failures
@@ -48,25 +48,25 @@ abbrev pub Writes : Moment → Write → Option ℕ → Moment → Type 0
 Writes before w shown after =
     MatchOption shown
     ((after.targets ≡ before.targets) × IsRefusedAt before w.slot after.failures)
-    (λ _. IsWritten before w after)
+    (λ _. WriteIsTaken before w after)
 
 -- the access of a step showed this
-abbrev pub Answers : Kind → Moment → Write → Option ℕ → Moment → Type 0
-Answers Compare before w shown after = Reads before w shown after
-Answers Make before w shown after = Writes before w shown after
-Answers ReadBack before w shown after = Reads before w shown after
+abbrev pub StepAnswers : Kind → Moment → Write → Option ℕ → Moment → Type 0
+StepAnswers Compare before w shown after = Reads before w shown after
+StepAnswers Make before w shown after = Writes before w shown after
+StepAnswers ReadBack before w shown after = Reads before w shown after
 
 -- a register that is read shows its number, and nothing has changed
-abbrev pub IsShown : List Target → Write → List Target → Type 0
-IsShown before w after =
+abbrev pub ReadShows : List Target → Write → List Target → Type 0
+ReadShows before w after =
     (after ≡ before) × ShowsNumber before w.slot w.offset w.width w.value
 
 -- the step was done, and the next one follows
-abbrev pub GoesOn : List Target → Kind → Write → List Target → Type 0
-GoesOn before Compare w after = IsShown before w after
-GoesOn before Make w after =
+abbrev pub StepIsDone : List Target → Kind → Write → List Target → Type 0
+StepIsDone before Compare w after = ReadShows before w after
+StepIsDone before Make w after =
     (after ≡ write_targets before w) × IsTrue (has_function before w.slot)
-GoesOn before ReadBack w after = IsShown before w after
+StepIsDone before ReadBack w after = ReadShows before w after
 
 -- why a register that is compared is the last one
 abbrev pub IsNumberFault : Moment → Write → ℕ → ℕ → ApplyFault → Type 0
@@ -125,7 +125,7 @@ pub record IsCompareStop (before : Moment) (compares : List Write) (after : Mome
 pub record IsWriteStop (before : Moment) (compares writes : List Write) (after : Moment)
     (fault : ApplyFault) : Type 0 where
   pub compared : AreAllShown before.targets compares
-  pub stop : IsStop before writes after fault
+  pub stop : IsApplyStop before writes after fault
 
 abbrev pub AreStopped : Moment → List Write → List Write → Moment → ApplyFault → Type 0
 AreStopped before compares writes after fault =

@@ -4,9 +4,9 @@ use Rattle.pci_steps.specs.declared.step.Place.{Place}
 use Rattle.pci_steps.specs.declared.step.Place.TheVariants.{Compare, Make, ReadBack}
 
 -- it is for that one of them: each is compared, then each write is made and read back
-abbrev pub IsPlaceAt : ℕ → ℕ → ℕ → Place → Type 0
-IsPlaceAt compares writes n (Compare index) = (n ≡ index) × (index < compares)
-IsPlaceAt compares writes n (Make index) =
+abbrev pub IsPlaceOfStep : ℕ → ℕ → ℕ → Place → Type 0
+IsPlaceOfStep compares writes n (Compare index) = (n ≡ index) × (index < compares)
+IsPlaceOfStep compares writes n (Make index) =
     (n ≡ compares + (index + index)) × (index < writes)
-IsPlaceAt compares writes n (ReadBack index) =
+IsPlaceOfStep compares writes n (ReadBack index) =
     (n ≡ compares + (index + index + 1)) × (index < writes)

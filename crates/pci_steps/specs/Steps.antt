@@ -11,8 +11,8 @@ use Rattle.pci_steps.specs.declared.step.Kind.{Kind}
 use Rattle.pci_steps.specs.declared.step.Kind.TheVariants.{Compare, Make, ReadBack}
 
 -- the numbers that a function shows in the registers that are compared, each as a write of it
-abbrev pub shown_by : Block → List Write
-shown_by b =
+abbrev pub shown_writes : Block → List Write
+shown_writes b =
     map (λ (r : ℕ × ℕ). record {
       slot = b.slot;
       offset = r.0;
@@ -21,7 +21,7 @@ shown_by b =
     }) (compared b.image)
 
 abbrev pub all_shown : List Block → List Write
-all_shown blocks = flat_map shown_by blocks
+all_shown blocks = flat_map shown_writes blocks
 
 -- an access: what it is for, the register with the number that it is to show or to take, and how many writes stand where
 -- it is the last

@@ -6,7 +6,7 @@ ghost use Rattle.pci_place.specs.Above.{system_in};
 ghost use Rattle.pci_plan.specs.Comparing.{moment};
 ghost use Rattle.pci_plan.specs.Plans.{final_of};
 ghost use Rattle.pci_plan.specs.Writes.{write_value};
-ghost use Rattle.pci_plan.specs.Applying.{ShowsSystem, AreSound, writes_made, ReadBackBy, HasImages, AreSoundWhileReadBack, IsApplyFault};
+ghost use Rattle.pci_plan.specs.Applying.{ShowsSystem, AreSoundTargets, writes_made, ReadBackBy, HasImages, AreSoundWhileReadBack, IsApplyFault};
 ghost use Rattle.pci_steps.specs.Steps.{all_shown};
 
 use crate::run::run;
@@ -45,7 +45,7 @@ pub fn apply_by_steps<P: ConfigPort, A: Allocator>(
     ensures sound { P.targets port.old ≡ map target_of (system_in plan.now.start)
         → IsSound plan.now.start.roots (system_in plan.now.start)
         ⊎ (plan.now.safe_from ≤ writes_made plan.now.writes result)
-        → AreSound plan.now.start.roots (P.targets port.new) }
+        → AreSoundTargets plan.now.start.roots (P.targets port.new) }
     ensures sound_images { HasImages (P.targets port.old) (system_in plan.now.start)
         → AreSoundWhileReadBack plan.now.start.roots (system_in plan.now.start)
         plan.now.writes plan.now.safe_from (P.targets port.old) }

@@ -1,7 +1,7 @@
 //! What follows from an access.
 ghost use Rattle.std.specs.Prelude.{◌≡◌};
 ghost use Rattle.pci_steps.specs.Steps.{judged};
-ghost use Rattle.pci_steps.specs.Going.{step_value};
+ghost use Rattle.pci_steps.specs.Going.{code_step};
 
 use crate::step::{Kind, Step};
 use pci_plan::apply_fault::ApplyFault;
@@ -14,7 +14,7 @@ use pci_plan::apply_fault::ApplyFault;
 /// 81 `Port` where the access failed, 80 `Changed` where a register that is compared shows another number, 82 `Stuck`
 /// where a write reads back otherwise.
 pub fn judge(step: &Step, shown: Option<u32>) -> Result<(), ApplyFault>
-    ensures { result ≡ judged (step_value step.now) shown }
+    ensures { result ≡ judged (code_step step.now) shown }
 {
     let register = &step.register;
     let Some(shown) = shown else {

@@ -4,8 +4,8 @@ ghost use Rattle.std.specs.List.{Contains};
 ghost use Rattle.pci_spec.specs.Machine.{Write as WriteValue};
 ghost use Rattle.pci_plan.specs.Comparing.{moment};
 ghost use Rattle.pci_plan.specs.Writes.{write_value};
-ghost use Rattle.pci_plan.specs.Making.{AreMade};
-ghost use Rattle.pci_steps.specs.Going.{IsReadable, IsWritable, IsTaken, Reads, Writes, Answers, GoesOn, IsStepFault, AreAllShown, AreStopped};
+ghost use Rattle.pci_plan.specs.Making.{AreWritesMade};
+ghost use Rattle.pci_steps.specs.Going.{TakesRead, IsWritable, TakesStep, Reads, Writes, StepAnswers, StepIsDone, IsStepFault, AreAllShown, AreStopped};
 
 use crate::judge::judge;
 use crate::step::{Kind, Step, count, step_at};
@@ -15,7 +15,7 @@ use pci_plan::write::Write;
 
 /// What a register shows. `None` where the access failed.
 fn read<P: ConfigPort>(port: &mut P, register: &Write) -> Option<u32>
-    requires { IsReadable (write_value register.now) }
+    requires { TakesRead (write_value register.now) }
     ensures { Reads (moment (P.targets port.old) (P.failures port.old)) (write_value register.now)
         result (moment (P.targets port.new) (P.failures port.new)) }
 {
@@ -39,8 +39,8 @@ fn write<P: ConfigPort>(port: &mut P, register: &Write) -> Option<u32>
 
 /// Makes the access of a step. `None` where it failed.
 fn access<P: ConfigPort>(port: &mut P, step: &Step) -> Option<u32>
-    requires { IsTaken step.now.kind (write_value step.now.register) }
-    ensures { Answers step.now.kind (moment (P.targets port.old) (P.failures port.old))
+    requires { TakesStep step.now.kind (write_value step.now.register) }
+    ensures { StepAnswers step.now.kind (moment (P.targets port.old) (P.failures port.old))
         (write_value step.now.register) result (moment (P.targets port.new) (P.failures port.new)) }
 {
     match step.kind {
@@ -52,8 +52,8 @@ fn access<P: ConfigPort>(port: &mut P, step: &Step) -> Option<u32>
 
 /// Makes a step, and judges it.
 fn advance<P: ConfigPort>(port: &mut P, step: &Step) -> Result<(), ApplyFault>
-    requires { IsTaken step.now.kind (write_value step.now.register) }
-    ensures went { OnOk result (GoesOn (P.targets port.old) step.now.kind
+    requires { TakesStep step.now.kind (write_value step.now.register) }
+    ensures went { OnOk result (StepIsDone (P.targets port.old) step.now.kind
         (write_value step.now.register) (P.targets port.new)) }
     ensures counted { OnOk result (P.failures port.new ≡ P.failures port.old) }
     ensures kept { OnErr result (P.targets port.new ≡ P.targets port.old) }
@@ -78,11 +78,11 @@ pub fn run<P: ConfigPort>(
 ) -> Result<(), ApplyFault>
     // a port would refuse others by 41, a cause of a stop that 81 doesn't know
     requires compares { (w : WriteValue) → Contains (map write_value compares.now) w
-        → IsReadable w }
+        → TakesRead w }
     requires writes { (w : WriteValue) → Contains (map write_value writes.now) w → IsWritable w }
     ensures compared { OnOk result
         (AreAllShown (P.targets port.old) (map write_value compares.now)) }
-    ensures made { OnOk result (AreMade (P.targets port.old) (map write_value writes.now)
+    ensures made { OnOk result (AreWritesMade (P.targets port.old) (map write_value writes.now)
         (length writes.now) (P.targets port.new)) }
     ensures counted { OnOk result (P.failures port.new ≡ P.failures port.old) }
     ensures stopped { IfErr result (AreStopped (moment (P.targets port.old) (P.failures port.old))

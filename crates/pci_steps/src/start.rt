@@ -1,7 +1,7 @@
 //! What a plan starts from, register by register.
 ghost use Rattle.std.specs.Prelude.{◌≡◌, ◌++◌, map, OnOk, IfOk};
 ghost use Rattle.pci_plan.specs.Writes.{write_value};
-ghost use Rattle.pci_steps.specs.Steps.{shown_by, all_shown};
+ghost use Rattle.pci_steps.specs.Steps.{shown_writes, all_shown};
 
 use pci_base::memory::OutOfMemory;
 use pci_base::offset::COMMAND;
@@ -14,7 +14,7 @@ use std::alloc::Allocator;
 /// Adds Command and each address register of a function, with what it shows there.
 fn add_shown<A: Allocator>(all: &mut Vec<Write, A>, block: &Block) -> Result<(), OutOfMemory>
     ensures { OnOk result (map write_value all.new.items
-        ≡ map write_value all.old.items ++ shown_by block.now) }
+        ≡ map write_value all.old.items ++ shown_writes block.now) }
 {
     all.push(Write {
         slot: block.slot,

@@ -3,8 +3,8 @@ ghost use Rattle.std.specs.Prelude.{◌≡◌, ◌≤◌, ◌+◌, map, length, 
 ghost use Rattle.std.specs.Option.{option_map};
 ghost use Rattle.pci_plan.specs.Writes.{write_value};
 ghost use Rattle.pci_steps.specs.Steps.{steps_of};
-ghost use Rattle.pci_steps.specs.Places.{IsPlaceAt};
-ghost use Rattle.pci_steps.specs.Going.{step_value};
+ghost use Rattle.pci_steps.specs.Places.{IsPlaceOfStep};
+ghost use Rattle.pci_steps.specs.Going.{code_step};
 
 use pci_plan::write::Write;
 
@@ -39,7 +39,7 @@ pub enum Place {
 /// What the n-th access, from 0 on, is for, of so many registers and so many writes: each register is compared, then
 /// each write is made and read back. `None` where there are no more.
 pub fn place_at(compares: usize, writes: usize, n: usize) -> Option<Place>
-    ensures some { IfSome result (IsPlaceAt compares writes n) }
+    ensures some { IfSome result (IsPlaceOfStep compares writes n) }
     ensures none { IfNone result (compares + (writes + writes) ≤ n) }
 {
     if n < compares {
@@ -58,7 +58,7 @@ pub fn place_at(compares: usize, writes: usize, n: usize) -> Option<Place>
 
 /// The n-th access, from 0 on. `None` where there are no more.
 pub fn step_at(compares: &[Write], writes: &[Write], n: usize) -> Option<Step>
-    ensures { option_map step_value result
+    ensures { option_map code_step result
         ≡ slice_get (steps_of (map write_value compares.now) (map write_value writes.now)) n }
 {
     match place_at(compares.len(), writes.len(), n) {

@@ -21,7 +21,7 @@ use Rattle.given_spec.specs.Claims.{Gets, IsPassedTo, passes, forwards, register
 use Rattle.given_spec.specs.Why.{IsTaken}
 use Rattle.pci_claims.specs.Claim.{Claimed}
 use Rattle.pci_claims.specs.Gathered.{IsGathered, IsCommon}
-use Rattle.pci_claims.specs.Reached.{AreReached, IsReachTo}
+use Rattle.pci_claims.specs.Reached.{AreReached, IsStartedReachTo}
 use Rattle.pci_why.specs.Missed.{IsOutside}
 use Rattle.pci_why.specs.Free.{IsAnswered, AreOfOthers, AreClaimsBeside, IsFreeFor}
 
@@ -53,7 +53,7 @@ gets_of given roots s space prefetch a bus (root, is_root, sent, bridges, leads,
 -- ---- what gets there
 
 pub reach_of_kind : (given : Given) (roots : List ℕ) (s : System) (space : Space) (prefetch : Bool) (bus : ℕ) (out : List Range)
-    → IsReachTo given roots s (kind_in space prefetch) bus out → AreReached space (λ a. IsPassedTo given roots s (address_in space a) prefetch bus) out
+    → IsStartedReachTo given roots s (kind_in space prefetch) bus out → AreReached space (λ a. IsPassedTo given roots s (address_in space a) prefetch bus) out
 reach_of_kind given roots s Io prefetch bus out is = record { canonical = is.canonical; exact = is.exact }
 reach_of_kind given roots s Memory false bus out is = record { canonical = is.canonical; exact = is.exact }
 reach_of_kind given roots s Memory true bus out is = record { canonical = is.canonical; exact = is.exact }

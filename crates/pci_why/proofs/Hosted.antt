@@ -24,13 +24,13 @@ use Rattle.pci_claims.proofs.Founds.{region_in}
 use Rattle.given_spec.specs.Given.{Given, HostRange, ranges_said, starts, starts_in}
 use Rattle.given_spec.specs.Fault.{IsOutside}
 use Rattle.given_spec.specs.Why.{ranges_for, ranges_words, host_line}
-use Rattle.pci_claims.specs.Outside.{IsRootOf}
+use Rattle.pci_claims.specs.Outside.{IsRootOfPath}
 use Rattle.pci_claims.proofs.Outsides.{root_of}
 use Rattle.pci_why.specs.Hosts.{IsRootAbove, IsNowhere, IsBehindOne}
 
 -- ---- the root above
 
-pub root_above_is : (t : Tree) (slot : Slot) (path : List Slot) (root : ℕ) → ((s : System) → HasTree t s → IsPathTo t.roots s path slot.bus) → IsRootOf path slot.bus root → IsRootAbove t slot root
+pub root_above_is : (t : Tree) (slot : Slot) (path : List Slot) (root : ℕ) → ((s : System) → HasTree t s → IsPathTo t.roots s path slot.bus) → IsRootOfPath path slot.bus root → IsRootAbove t slot root
 root_above_is t slot path root paths is_root s tree =
     let way = paths s tree in
     let same : way.root ≡ root = root_of s way.root way.bridges slot.bus path root way.leads way.named is_root in

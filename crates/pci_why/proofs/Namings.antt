@@ -26,7 +26,7 @@ use Rattle.given_spec.specs.Given.{Given, legacy_holds}
 use Rattle.given_spec.specs.Claims.{Own as OwnPart, Legacy as LegacyPart, LegacyClaims, ClaimsOnBus}
 use Rattle.given_spec.specs.Why.{Own, Legacy, is_narrow}
 use Rattle.pci_claims.specs.Passed.{is_piece_at, legacy_passes}
-use Rattle.pci_claims.specs.Claim.{IsOwnOf, IsLegacyOf}
+use Rattle.pci_claims.specs.Claim.{AreAddressesOf, IsLegacyOf}
 use Rattle.pci_claims.proofs.Gathering.{none_covered}
 use Rattle.pci_claims.proofs.Linking.{legacy_same}
 use Rattle.pci_claims.proofs.RegionClaims.{not_legacy}
@@ -105,7 +105,7 @@ pub none_of_own : (given : Given) (s : System) (slot : Slot) (reg : ℕ) (space 
 none_of_own given s slot reg space other none a bus (f, OwnPart part, listed, at, there, named, claims) = none f part a listed at named claims
 none_of_own given s slot reg space other none a bus (f, LegacyPart, listed, at, there, named, claims) = other (sym named)
 
-module _ (given : Given) (s : System) (slot : Slot) (reg : ℕ) (space : Space) (q : Region) (out : List Range) (other : reg ≡ 0x3e → ⊥) (is : IsFoundIn s slot reg space q) (own : IsOwnOf q out) where
+module _ (given : Given) (s : System) (slot : Slot) (reg : ℕ) (space : Space) (q : Region) (out : List Range) (other : reg ≡ 0x3e → ⊥) (is : IsFoundIn s slot reg space q) (own : AreAddressesOf q out) where
   own_covers : (a bus : ℕ) → ClaimsOnBus given s bus (address_in space a) (named_region slot reg) → Covers out a
   own_covers a bus (f, OwnPart part, listed, at, there, named, claims) = (own.1 a).1 (is.all f part a listed at named claims)
   own_covers a bus (f, LegacyPart, listed, at, there, named, claims) = absurd (other (sym named))

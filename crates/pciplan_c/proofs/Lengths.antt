@@ -13,7 +13,7 @@ use Rattle.pci_check.specs.Audits.{outcome_line}
 use Rattle.pci_check.specs.declared.outcome.Outcome.{Outcome}
 use Rattle.pci_check.specs.declared.outcome.Outcome.TheVariants.{Yes, No}
 use Rattle.pci_plan.specs.Plans.{plan_fault_of}
-use Rattle.pci_settle_writes.specs.FaultText.{hex_text, sizes_text, part_text, settle_fault_text}
+use Rattle.pci_settle_writes.specs.FaultText.{hex_text, sizes_text, class_part_text, settle_fault_text}
 use Rattle.pci_settle_writes.specs.declared.lack.SettleFault.{SettleFault}
 use Rattle.pci_settle_writes.specs.declared.lack.SettleFault.TheVariants as settle
 pub use Rattle.pciplan_held.proofs.Lengths.{refusal_short}
@@ -54,10 +54,10 @@ size_short n less =
     let all : length (hex_number 16 n) ≡ 16 = refl in
     omega (arith, whole, parts, zeros, all)
 
-part_short : (class : windows.WindowKind) (slot : Slot) (register : ℕ) → length (part_text class slot register) ≤ 15
-part_short windows.IoWindow slot register = let bytes : length (part_text windows.IoWindow slot register) ≡ 13 = refl in omega (arith, bytes)
-part_short windows.MemoryWindow slot register = let bytes : length (part_text windows.MemoryWindow slot register) ≡ 14 = refl in omega (arith, bytes)
-part_short windows.PrefetchWindow slot register = let bytes : length (part_text windows.PrefetchWindow slot register) ≡ 15 = refl in omega (arith, bytes)
+part_short : (class : windows.WindowKind) (slot : Slot) (register : ℕ) → length (class_part_text class slot register) ≤ 15
+part_short windows.IoWindow slot register = let bytes : length (class_part_text windows.IoWindow slot register) ≡ 13 = refl in omega (arith, bytes)
+part_short windows.MemoryWindow slot register = let bytes : length (class_part_text windows.MemoryWindow slot register) ≡ 14 = refl in omega (arith, bytes)
+part_short windows.PrefetchWindow slot register = let bytes : length (class_part_text windows.PrefetchWindow slot register) ≡ 15 = refl in omega (arith, bytes)
 
 sizes_short : (size alignment : ℕ) → size < 2 ^ 64 → alignment < 2 ^ 64 → length (sizes_text size alignment) ≤ 33
 sizes_short size alignment few less =
@@ -73,12 +73,12 @@ settle_fault_short (settle.Assumed slot reg) few less = let bytes : length (sett
 settle_fault_short (settle.NoRoom lack) few less =
     let part = part_short (kind_value lack.class) lack.slot lack.register in
     let sizes = sizes_short lack.size lack.alignment few less in
-    let end = length-append (field (part_text (kind_value lack.class) lack.slot lack.register)) (field (sizes_text lack.size lack.alignment)) in
-    ended (codes "72 NoRoom") (field (part_text (kind_value lack.class) lack.slot lack.register) ++ field (sizes_text lack.size lack.alignment)) 50 92
+    let end = length-append (field (class_part_text (kind_value lack.class) lack.slot lack.register)) (field (sizes_text lack.size lack.alignment)) in
+    ended (codes "72 NoRoom") (field (class_part_text (kind_value lack.class) lack.slot lack.register) ++ field (sizes_text lack.size lack.alignment)) 50 92
     (omega (arith, part, sizes, end)) (let head : length (codes "72 NoRoom") ≡ 9 = refl in omega (arith, head))
 settle_fault_short (settle.TooLarge class slot) few less =
     let part = part_short (kind_value class) slot (windows.window_register (kind_value class)) in
-    ended (codes "72 NoRoom") (field (part_text (kind_value class) slot (windows.window_register (kind_value class)))) 50 92
+    ended (codes "72 NoRoom") (field (class_part_text (kind_value class) slot (windows.window_register (kind_value class)))) 50 92
     (omega (arith, part)) (let head : length (codes "72 NoRoom") ≡ 9 = refl in omega (arith, head))
 settle_fault_short (settle.Fixed slot reg) few less = let bytes : length (settle_fault_text (settle.Fixed slot reg)) ≡ 19 = refl in omega (arith, bytes)
 

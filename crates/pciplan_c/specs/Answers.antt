@@ -3,7 +3,7 @@ use Rattle.std.specs.Prelude.{◌≡◌, ◌<◌, ℕ, List, length, Some}
 use Rattle.pci_tree.specs.Roots.{IsRootList}
 use Rattle.pci_check.specs.Audits.{IsAudited, outcome_line}
 use Rattle.pciplan_held.specs.Puts.{IsPutInto}
-use Rattle.pciplan_held.specs.Refusals.{IsRefusalOf, refusal_text}
+use Rattle.pciplan_held.specs.Refusals.{IsHeldRefusal, refusal_text}
 use Rattle.pciplan_c.specs.declared.answer.Answer.{Answer}
 use Rattle.pciplan_c.specs.declared.answer.Answer.TheVariants.{Verdict, Refused}
 
@@ -13,13 +13,13 @@ answer_text (Verdict outcome) = outcome_line outcome
 answer_text (Refused refusal) = refusal_text refusal
 
 -- the verdict on the two texts, or why there is none
-abbrev pub IsAnswerOf : List ℕ → List ℕ → List ℕ → Answer → Type 0
-IsAnswerOf roots dump probe (Verdict outcome) =
+abbrev pub IsVerdictOf : List ℕ → List ℕ → List ℕ → Answer → Type 0
+IsVerdictOf roots dump probe (Verdict outcome) =
     IsRootList roots × IsAudited roots (Some dump) (Some probe) outcome
-IsAnswerOf roots dump probe (Refused refusal) = IsRefusalOf roots dump probe refusal
+IsVerdictOf roots dump probe (Refused refusal) = IsHeldRefusal roots dump probe refusal
 
 -- an answer that is so, with its text at the front of the bytes
-pub record IsTold (IsSo : Answer → Type 0) (answer : Answer) (old new : List ℕ)
+pub record IsAnswerTold (IsSo : Answer → Type 0) (answer : Answer) (old new : List ℕ)
     (used : ℕ) : Type 0 where
   pub answered : IsSo answer
   pub text : IsPutInto old new (answer_text answer)
@@ -28,6 +28,6 @@ pub record IsTold (IsSo : Answer → Type 0) (answer : Answer) (old new : List �
 -- there is an answer, whose text needs so many bytes: more than there are
 pub record IsTooLong (roots dump probe bytes : List ℕ) (needed : ℕ) : Type 0 where
   pub answer : Answer
-  pub answered : IsAnswerOf roots dump probe answer
+  pub answered : IsVerdictOf roots dump probe answer
   pub count : needed ≡ length (answer_text answer)
   pub more : length bytes < needed

@@ -22,15 +22,15 @@ settle_word_text word.Pref = codes "pool pref"
 settle_word_text word.Fixed = codes "fixed"
 
 -- the line of a fault
-abbrev pub no_line : List ℕ → List ℕ
-no_line fault = codes "no" ++ field fault ++ 10 ∷ []
+abbrev pub no_text_line : List ℕ → List ℕ
+no_text_line fault = codes "no" ++ field fault ++ 10 ∷ []
 
 -- the line, or the message
 abbrev pub no_writes_text : NoWrites → List ℕ
 no_writes_text (BadWord bad) = settle_word_text bad
 no_writes_text (Unread unread) = unread_text unread
-no_writes_text (NotPlanned fault) = no_line (plan_fault_text (plan_fault_of fault))
-no_writes_text (NotSettled fault) = no_line (settle_fault_text fault)
+no_writes_text (NotPlanned fault) = no_text_line (plan_fault_text (plan_fault_of fault))
+no_writes_text (NotSettled fault) = no_text_line (settle_fault_text fault)
 
 abbrev pub no_writes_status : NoWrites → ℕ
 no_writes_status (BadWord bad) = 2

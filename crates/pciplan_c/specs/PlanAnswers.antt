@@ -6,7 +6,7 @@ use Rattle.pci_tree.specs.Admission.{Admission, IsAdmitted}
 use Rattle.pci_place.specs.Above.{system_in}
 use Rattle.pci_plan.specs.Plans.{PlanValue, IsPlanIn, plan_fault_of}
 use Rattle.pci_plan.specs.declared.plan_fault.PlanFault.{PlanFault}
-use Rattle.pciplan_held.specs.RegisterWrites.{value_of}
+use Rattle.pciplan_held.specs.RegisterWrites.{write_value_of}
 use Rattle.pciplan_held.specs.Texts.{AreTexts, IsUnreadOf}
 use Rattle.pciplan_held.specs.declared.register_write.RegisterWrite.{RegisterWrite}
 use Rattle.pciplan_c.specs.declared.no_writes.NoWrites.{NoWrites}
@@ -44,5 +44,5 @@ pub record ArePlanned (roots dump probe : List ℕ) (pools : plan.Pools) (writes
   pub admitted : IsAdmitted start
   pub plan : PlanValue
   pub stands : IsPlanIn start pools plan
-  pub made : map value_of writes ≡ plan.writes
+  pub made : map write_value_of writes ≡ plan.writes
   pub safe : safe_from ≡ plan.safe_from

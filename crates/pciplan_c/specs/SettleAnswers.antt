@@ -8,9 +8,9 @@ use Rattle.pci_base.specs.declared.memory.Refused.TheVariants as refused
 use Rattle.pci_tree.specs.Admission.{Admission, IsAdmitted}
 use Rattle.pci_tree.specs.Roots.{IsRootList}
 use Rattle.pci_place.specs.Above.{system_in}
-use Rattle.pci_settle_writes.specs.Endings.{IsRefusal, IsSized}
+use Rattle.pci_settle_writes.specs.Endings.{IsRefusal, HasNoAssumed}
 use Rattle.pci_settle_writes.specs.declared.lack.SettleFault.{SettleFault}
-use Rattle.pciplan_held.specs.RegisterWrites.{value_of}
+use Rattle.pciplan_held.specs.RegisterWrites.{write_value_of}
 use Rattle.pciplan_held.specs.Texts.{AreTexts, IsUnreadOf}
 use Rattle.pciplan_held.specs.declared.refusal.Refusal.TheVariants.{Root}
 use Rattle.pciplan_held.specs.declared.register_write.RegisterWrite.{RegisterWrite}
@@ -23,19 +23,19 @@ use Rattle.pciplan_c.specs.declared.settle_words.SettleWords.{SettleWords}
 
 -- from how many writes on a stop leaves a sound system: from none on where it is sound at the start, else once all that close
 -- are made
-abbrev pub IsSafeFrom : Admission → ℕ → ℕ → Type 0
-IsSafeFrom a closing safe_from =
+abbrev pub IsSettleSafeFrom : Admission → ℕ → ℕ → Type 0
+IsSettleSafeFrom a closing safe_from =
     (IsSound a.roots (system_in a) × (safe_from ≡ 0))
     ⊎ ((IsSound a.roots (system_in a) → ⊥) × (safe_from ≡ closing))
 
 -- the writes of settling what is admitted, as this is asked for, where no read back is assumed
 pub record AreWritesFor (q : Request) (a : Admission) (writes : List RegisterWrite)
     (safe_from : ℕ) : Type 0 where
-  pub sized : IsSized a
-  pub is : settle q (system_in a) ≡ Settled (map value_of writes)
-  pub safe : IsSafeFrom a (length (closings q (system_in a) (system_in a))) safe_from
+  pub sized : HasNoAssumed a
+  pub is : settle q (system_in a) ≡ Settled (map write_value_of writes)
+  pub safe : IsSettleSafeFrom a (length (closings q (system_in a) (system_in a))) safe_from
   pub stops : (k : ℕ) → safe_from ≤ k
-      → IsSound a.roots (system_after (system_in a) (take k (map value_of writes)))
+      → IsSound a.roots (system_after (system_in a) (take k (map write_value_of writes)))
 
 -- these are the writes of settling the two texts, which are admitted, as the words ask for it
 pub record AreSettled (roots dump probe : List ℕ) (words : SettleWords) (writes : List RegisterWrite)

@@ -8,7 +8,7 @@ use Rattle.pci_base.specs.declared.range.RootRange.{RootRange}
 use Rattle.pci_settle.specs.Lists.{root_range_value}
 use Rattle.pci_settle_writes.specs.Requests.{request}
 use Rattle.pciplan_lists.specs.ListWords.{HasRanges, IsListWord}
-use Rattle.pciplan_lists.specs.SlotWords.{HasSlots as SpellsSlots, IsSlotListWord}
+use Rattle.pciplan_lists.specs.SlotWords.{IsSlotList as SpellsSlots, IsSlotListWord}
 use Rattle.pciplan_c.specs.declared.settle_words.Asked.{Asked}
 use Rattle.pciplan_c.specs.declared.settle_words.SettleWord.{SettleWord}
 use Rattle.pciplan_c.specs.declared.settle_words.SettleWord.TheVariants.{Io, Mem, Pref, Fixed}
@@ -29,8 +29,8 @@ pub record AreSaid (words : SettleWords) (io mem pref : List RootRange) (fixed :
   pub pref_list : IsListWord words.pref.now pref
   pub slots : AreFixedBy words.fixed.now fixed
 
-abbrev pub lists_said : List RootRange → List RootRange → List RootRange → Lists
-lists_said io mem pref = record {
+abbrev pub settle_lists : List RootRange → List RootRange → List RootRange → Lists
+settle_lists io mem pref = record {
   io = map root_range_value io;
   memory = map root_range_value mem;
   prefetch = map root_range_value pref;
@@ -43,7 +43,7 @@ pub record IsRequestOf (roots : List ℕ) (words : SettleWords) (q : Request) : 
   pub pref : List RootRange
   pub fixed : List Slot
   pub said : AreSaid words io mem pref fixed
-  pub is : q ≡ request roots (lists_said io mem pref) fixed (is_anew words.anew)
+  pub is : q ≡ request roots (settle_lists io mem pref) fixed (is_anew words.anew)
 
 -- ---- the first word that has no meaning
 

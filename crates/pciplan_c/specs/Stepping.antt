@@ -9,7 +9,7 @@ use Rattle.pci_steps.specs.Steps.{Step, all_shown}
 use Rattle.pci_steps.specs.declared.step.Kind.{Kind}
 use Rattle.pci_steps.specs.declared.step.Kind.TheVariants.{Compare, Make, ReadBack}
 use Rattle.pciplan_held.specs.Puts.{IsPutInto}
-use Rattle.pciplan_held.specs.RegisterWrites.{value_of}
+use Rattle.pciplan_held.specs.RegisterWrites.{write_value_of}
 use Rattle.pciplan_held.specs.declared.register_write.RegisterWrite.{RegisterWrite}
 use Rattle.pciplan_c.specs.declared.stepping.RegisterStep.{RegisterStep}
 use Rattle.pciplan_c.specs.declared.starting.NoStart.{NoStart}
@@ -19,13 +19,13 @@ abbrev pub kind_of : ℕ → Kind
 kind_of kind = if kind == 0 then Compare else if kind == 1 then Make else ReadBack
 
 -- an access as C has it
-abbrev pub step_value : RegisterStep → Step
-step_value s =
-    record { kind = kind_of s.kind; register = value_of s.register; done = s.done }
+abbrev pub c_step_value : RegisterStep → Step
+c_step_value s =
+    record { kind = kind_of s.kind; register = write_value_of s.register; done = s.done }
 
 -- what an access shows: nothing is known of one that failed
-abbrev pub shown_by : ℕ → ℕ → Option ℕ
-shown_by answered shown = if answered == 0 then None else Some shown
+abbrev pub shown_value : ℕ → ℕ → Option ℕ
+shown_value answered shown = if answered == 0 then None else Some shown
 
 -- 0 where the next access is to be made, or the number of the fault that ends them
 abbrev pub answer_number : Result (Unit {0}) ApplyFault → ℕ
@@ -44,7 +44,7 @@ said_of step number =
 pub record AreShown (dump : List ℕ) (registers : List RegisterWrite) : Type 0 where
   pub listed : List Block
   pub text : IsTextOf dump listed
-  pub shown : map value_of registers ≡ all_shown listed
+  pub shown : map write_value_of registers ≡ all_shown listed
 
 -- they stand at the front of the array, so many of them
 pub record IsStartPut (dump : List ℕ) (old new : List RegisterWrite) (count : ℕ) : Type 0 where

@@ -7,12 +7,12 @@ ghost use Rattle.pci_tree.specs.Roots.{IsRootList};
 ghost use Rattle.pci_steps.specs.Steps.{judged, steps_of};
 ghost use Rattle.pci_function.specs.declared.fault.Fault.{Fault};
 ghost use Rattle.pci_check.specs.declared.outcome.Outcome.TheVariants.{Yes, No};
-ghost use Rattle.pciplan_c.specs.Answers.{IsAnswerOf, IsTold, IsTooLong};
-ghost use Rattle.pciplan_held.specs.RegisterWrites.{value_of};
+ghost use Rattle.pciplan_c.specs.Answers.{IsVerdictOf, IsAnswerTold, IsTooLong};
+ghost use Rattle.pciplan_held.specs.RegisterWrites.{write_value_of};
 ghost use Rattle.pciplan_c.specs.Endings.{ArePut, AreTooMany, IsNoneTold, IsNoneTooLong};
 ghost use Rattle.pciplan_c.specs.PlanAnswers.{ArePlanned, IsNoPlanOf, pools_of};
 ghost use Rattle.pciplan_c.specs.SettleAnswers.{AreSettled, IsNoSettlingOf, MayWant};
-ghost use Rattle.pciplan_c.specs.Stepping.{IsStartPut, IsStartTooLong, answer_number, said_of, shown_by, step_value};
+ghost use Rattle.pciplan_c.specs.Stepping.{IsStartPut, IsStartTooLong, answer_number, said_of, shown_value, c_step_value};
 ghost use Rattle.pciplan_c.specs.declared.answer.Answer.TheVariants.{Verdict, Refused};
 ghost use Rattle.pciplan_held.specs.declared.refusal.Refusal.{Refusal};
 
@@ -50,15 +50,15 @@ pub extern "C" fn pciplan_check(
     line_used: &mut usize,
 ) -> u8
     ensures yes { result ≡ 0
-        → IsTold (IsAnswerOf roots.now dump.now probe.now)
+        → IsAnswerTold (IsVerdictOf roots.now dump.now probe.now)
         (Verdict Yes) line.old line.new line_used.new }
     ensures no { result ≡ 1
         → (fault : Fault)
-        × IsTold (IsAnswerOf roots.now dump.now probe.now)
+        × IsAnswerTold (IsVerdictOf roots.now dump.now probe.now)
         (Verdict (No fault)) line.old line.new line_used.new }
     ensures refused { result ≡ 2
         → (refusal : Refusal)
-        × IsTold (IsAnswerOf roots.now dump.now probe.now)
+        × IsAnswerTold (IsVerdictOf roots.now dump.now probe.now)
         (Refused refusal) line.old line.new line_used.new }
     ensures memory { result ≡ 3 → (line.new ≡ line.old) × (line_used.new ≡ line_used.old) }
     // no memory helps a list that is none
@@ -308,10 +308,10 @@ pub extern "C" fn pciplan_step(
     step: &mut RegisterStep,
 ) -> u8
     ensures step { result ≡ 1
-        → slice_get (steps_of (map value_of registers.now) (map value_of writes.now)) n
-        ≡ Some (step_value step.new) }
+        → slice_get (steps_of (map write_value_of registers.now) (map write_value_of writes.now)) n
+        ≡ Some (c_step_value step.new) }
     ensures none { result ≡ 0
-        → (slice_get (steps_of (map value_of registers.now) (map value_of writes.now)) n ≡ None)
+        → (slice_get (steps_of (map write_value_of registers.now) (map write_value_of writes.now)) n ≡ None)
         × (step.new ≡ step.old) }
     // a caller's loop has no other case
     ensures known { result ≤ 1 }
@@ -334,10 +334,10 @@ pub extern "C" fn pciplan_step(
 #[unsafe(no_mangle)]
 pub extern "C" fn pciplan_judge(step: &RegisterStep, answered: u8, shown: u32) -> u8
     ensures number { result
-        ≡ answer_number (judged (step_value step.now) (shown_by answered shown)) }
+        ≡ answer_number (judged (c_step_value step.now) (shown_value answered shown)) }
     // so the fault's slot and offset, or its count of writes, are those of the access
-    ensures says { said_of (step_value step.now) result
-        ≡ judged (step_value step.now) (shown_by answered shown) }
+    ensures says { said_of (c_step_value step.now) result
+        ≡ judged (c_step_value step.now) (shown_value answered shown) }
 {
     if answered == 0 {
         judge(step, None)

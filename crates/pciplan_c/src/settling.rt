@@ -2,7 +2,7 @@
 ghost use Rattle.std.specs.Prelude.{◌≡◌, ◌≤◌, ℕ, List, IfOk, IfErr};
 ghost use Rattle.pciplan_held.specs.Texts.{AreTexts};
 ghost use Rattle.pciplan_c.specs.SettleWords.{IsAskedBy};
-ghost use Rattle.pciplan_c.specs.SettleAnswers.{AreSettled, IsNoSettlingOf, IsSafeFrom, MayWant};
+ghost use Rattle.pciplan_c.specs.SettleAnswers.{AreSettled, IsNoSettlingOf, IsSettleSafeFrom, MayWant};
 ghost use Rattle.pciplan_c.specs.Endings.{ArePut, IsEnding, IsHeldBack, IsNotPut, lent};
 ghost use Rattle.pciplan_c.specs.declared.settle_words.SettleWords.{SettleWords as WordsValue};
 
@@ -29,7 +29,7 @@ fn safe_from<A: Allocator + Copy>(
     admitted: &Admitted<A>,
     closings: usize,
 ) -> Result<usize, OutOfMemory>
-    ensures { IfOk result (IsSafeFrom admitted.now closings) }
+    ensures { IfOk result (IsSettleSafeFrom admitted.now closings) }
 {
     match check(alloc, admitted)? {
         Verdict::Yes(_) => Ok(0),

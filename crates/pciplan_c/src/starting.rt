@@ -1,7 +1,7 @@
 //! What a plan starts from, register by register, as C compares it.
 ghost use Rattle.std.specs.Prelude.{◌≡◌, map, IfOk, IfErr};
 ghost use Rattle.pci_steps.specs.Steps.{all_shown};
-ghost use Rattle.pciplan_held.specs.RegisterWrites.{value_of};
+ghost use Rattle.pciplan_held.specs.RegisterWrites.{write_value_of};
 ghost use Rattle.pciplan_c.specs.Stepping.{IsStartPut, IsNoStart, IsNoDump, AreShown};
 
 use pci_base::memory::{OutOfMemory, Refused};
@@ -29,7 +29,7 @@ fn shown<A: Allocator + Copy>(
     alloc: A,
     blocks: &[Block],
 ) -> Result<Vec<RegisterWrite, A>, OutOfMemory>
-    ensures { IfOk result (λ all. map value_of all.items ≡ all_shown blocks.now) }
+    ensures { IfOk result (λ all. map write_value_of all.items ≡ all_shown blocks.now) }
 {
     let all = start_of(alloc, blocks)?;
     writes_of(alloc, all.as_slice())

@@ -3,8 +3,8 @@ ghost use Rattle.std.specs.Prelude.{◌≡◌, map};
 ghost use Rattle.std.specs.List.{slice_get};
 ghost use Rattle.std.specs.Option.{option_map};
 ghost use Rattle.pci_steps.specs.Steps.{judged, steps_of};
-ghost use Rattle.pciplan_held.specs.RegisterWrites.{value_of};
-ghost use Rattle.pciplan_c.specs.Stepping.{answer_number, said_of, step_value};
+ghost use Rattle.pciplan_held.specs.RegisterWrites.{write_value_of};
+ghost use Rattle.pciplan_c.specs.Stepping.{answer_number, said_of, c_step_value};
 
 use pci_steps::step::{Place, place_at};
 use pciplan_held::register_write::RegisterWrite;
@@ -33,8 +33,8 @@ pub fn step_at(
     writes: &[RegisterWrite],
     n: usize,
 ) -> Option<RegisterStep>
-    ensures { option_map step_value result
-        ≡ slice_get (steps_of (map value_of compares.now) (map value_of writes.now)) n }
+    ensures { option_map c_step_value result
+        ≡ slice_get (steps_of (map write_value_of compares.now) (map write_value_of writes.now)) n }
 {
     match place_at(compares.len(), writes.len(), n) {
         None => None,
@@ -59,8 +59,8 @@ pub fn step_at(
 /// What follows from an access that showed a value, or failed: 0 where the next one is to be made, else the number of
 /// the fault that ends it, 80 to 82.
 pub fn judge(step: &RegisterStep, shown: Option<u32>) -> u8
-    ensures number { result ≡ answer_number (judged (step_value step.now) shown) }
-    ensures says { said_of (step_value step.now) result ≡ judged (step_value step.now) shown }
+    ensures number { result ≡ answer_number (judged (c_step_value step.now) shown) }
+    ensures says { said_of (c_step_value step.now) result ≡ judged (c_step_value step.now) shown }
 {
     let Some(shown) = shown else {
         return 81;

@@ -2,15 +2,15 @@
 use Rattle.std.proofs.Common.{◌≡◌, ◌⊎◌, inr, List, ℕ, sym}
 use Rattle.std.specs.Prelude.{Result, Ok, Err, IfOk, IfErr, MatchResult}
 use Rattle.std.proofs.lemmas.Result.{IfErr-at_err}
-use Rattle.pciplan_cli.specs.Invocations.{IsRefusedLine, IsRefusedFor, HasBadWords}
+use Rattle.pciplan_cli.specs.Invocations.{IsRefusedLine, AreWordsRefused, HasBadWords}
 use Rattle.pciplan_tasks.specs.Statuses.{status_of}
 use Rattle.pciplan_cli.specs.declared.invocation.Invocation.{Invocation}
 use Rattle.pciplan_tasks.specs.declared.failure.Failure.{Failure}
 use Rattle.pciplan_tasks.specs.declared.failure.Failure.TheVariants.{Usage, Memory}
 
 -- a word that is refused refuses the line
-pub line_refused : (words : List (List ℕ)) (failure : Failure) → IsRefusedLine words failure → IsRefusedFor words failure
-line_refused words failure = elim failure as (λ f. IsRefusedLine words f → IsRefusedFor words f) [
+pub line_refused : (words : List (List ℕ)) (failure : Failure) → IsRefusedLine words failure → AreWordsRefused words failure
+line_refused words failure = elim failure as (λ f. IsRefusedLine words f → AreWordsRefused words f) [
   | Memory ↦ λ refused. tt
   | Usage ↦ λ refused. inr refused
   | _ ↦ λ refused. refused
@@ -28,10 +28,10 @@ with_line_ok P Q B (Ok given) line made fact = inr (line, made, fact)
 with_line_ok P Q B (Err error) line made fact = elim made [ ]
 
 -- words of which status 2 was said are bad
-they_are_bad : (words : List (List ℕ)) → ((failure : Failure) × IsRefusedFor words failure × (2 ≡ status_of failure)) → HasBadWords words
+they_are_bad : (words : List (List ℕ)) → ((failure : Failure) × AreWordsRefused words failure × (2 ≡ status_of failure)) → HasBadWords words
 they_are_bad words (failure, refused, status) = (failure, refused, sym status)
 
 pub bad_words : (words : List (List ℕ)) (result : Result Invocation ℕ)
-    → IfErr result (λ status. (failure : Failure) × IsRefusedFor words failure × (status ≡ status_of failure)) → result ≡ Err 2 → HasBadWords words
+    → IfErr result (λ status. (failure : Failure) × AreWordsRefused words failure × (status ≡ status_of failure)) → result ≡ Err 2 → HasBadWords words
 bad_words words result refused same =
-    they_are_bad words (IfErr-at_err (λ status. (failure : Failure) × IsRefusedFor words failure × (status ≡ status_of failure)) same refused)
+    they_are_bad words (IfErr-at_err (λ status. (failure : Failure) × AreWordsRefused words failure × (status ≡ status_of failure)) same refused)

@@ -15,7 +15,7 @@ use Rattle.pciplan_lists.specs.Joined.{AreJoined, behind}
 use Rattle.pciplan_lists.proofs.Joined.{IsRead, read_bad, read_more, read_all, read_only, read_none}
 use Rattle.pciplan_lists.proofs.Without.{Without, without_one}
 use Rattle.pciplan_cli.specs.ModelWords.{IsNameWord, IsWordList, IsModelWord}
-use Rattle.pciplan_cli.specs.NameWords.{IsAdded, IsTooMuch}
+use Rattle.pciplan_cli.specs.NameWords.{IsNameAdded, IsTooMuch}
 
 -- ---- a name has no comma
 
@@ -105,7 +105,7 @@ only_last m (suc k, inside, is) = absurd (omega (arith, inside))
 at_index : (xs : List Name) (k : ℕ) (d x : Name) → k < length xs → get_or xs k d ≡ x → Contains xs x
 at_index xs k d x inside is = (k, inside, get_or_default xs k x d inside ∙ is)
 
-one_counted : (done : List Name) (w v : Words) (n : Name) → AreNames done w → IsAdded w v n → AreNames (done ++ n ∷ []) v
+one_counted : (done : List Name) (w v : Words) (n : Name) → AreNames done w → IsNameAdded w v n → AreNames (done ++ n ∷ []) v
 one_counted done w v n are added = record {
   once = all_pairs_push (λ m n. m ≢ n) done n are.once
       (λ k d inside same. added.fresh ((are.counted n).0 (at_index done k d n inside same)));
@@ -151,7 +151,7 @@ read_name whole text first left done o n read is none named named_is =
 -- one more
 pub taken_more : (whole text first : List ℕ) (left : Option (Bor (List ℕ))) (o : Option Name) (n : Name) (w v : Words)
     → IsTakenTo whole text w → text ≡ 44 ∷ (first ++ behind left) → Without 44 first → IsNamed first o → o ≡ Some n
-    → IsAdded w v n → IsTakenTo whole (behind left) v
+    → IsNameAdded w v n → IsTakenTo whole (behind left) v
 taken_more whole text first left o n w v taken is none named named_is added = record {
   done = taken.done ++ n ∷ [];
   read = read_name whole text first left taken.done o n taken.read is none named named_is;

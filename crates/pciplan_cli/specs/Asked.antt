@@ -59,14 +59,14 @@ HasMem words = HasIo words × ((pool : Range) × IsPoolWord words.mem.now pool)
 
 -- the first word that is none, of the root list and then the words of `--model` and what the host sends, or the pools or
 -- lists of I/O, memory and prefetchable memory; or two options of which one alone may be said
-abbrev pub IsRefusedFor : Asked → Failure → Type 0
-IsRefusedFor (asked.Check root) Root = HasNoRoots root
-IsRefusedFor (asked.Faults words) failure = AreFaultsRefused words failure
-IsRefusedFor (asked.Map words) failure = IsMapRefused words failure
-IsRefusedFor (asked.Plan words) Root = HasNoRoots words.root
-IsRefusedFor (asked.Plan words) (Pool Io) = HasRoots words × HasNoPool words.io.now
-IsRefusedFor (asked.Plan words) (Pool Mem) = HasIo words × HasNoPool words.mem.now
-IsRefusedFor (asked.Plan words) (Pool Pref) = HasMem words × HasNoPool words.pref.now
-IsRefusedFor (asked.Settle words) failure = IsSettlingRefused words failure
-IsRefusedFor (asked.Probe exact least) Usage = (exact ≡ true) × (least ≡ true)
-IsRefusedFor _ _ = ⊥
+abbrev pub IsAskedRefused : Asked → Failure → Type 0
+IsAskedRefused (asked.Check root) Root = HasNoRoots root
+IsAskedRefused (asked.Faults words) failure = AreFaultsRefused words failure
+IsAskedRefused (asked.Map words) failure = IsMapRefused words failure
+IsAskedRefused (asked.Plan words) Root = HasNoRoots words.root
+IsAskedRefused (asked.Plan words) (Pool Io) = HasRoots words × HasNoPool words.io.now
+IsAskedRefused (asked.Plan words) (Pool Mem) = HasIo words × HasNoPool words.mem.now
+IsAskedRefused (asked.Plan words) (Pool Pref) = HasMem words × HasNoPool words.pref.now
+IsAskedRefused (asked.Settle words) failure = IsSettlingRefused words failure
+IsAskedRefused (asked.Probe exact least) Usage = (exact ≡ true) × (least ≡ true)
+IsAskedRefused _ _ = ⊥

@@ -12,15 +12,15 @@ use Rattle.pciplan_tasks.specs.declared.task.Task.TheVariants as task
 use Rattle.pciplan_cli.specs.declared.invocation.Invocation.{Invocation}
 
 -- texts by their paths: which paths stand for one, and the bytes of each
-pub record Texts : Type 1 where
+pub record TextsByPath : Type 1 where
   pub stands : List ℕ → Type 0
   pub bytes_at : List ℕ → Option (List ℕ)
 
-abbrev pub texts : (List ℕ → Type 0) → (List ℕ → Option (List ℕ)) → Texts
+abbrev pub texts : (List ℕ → Type 0) → (List ℕ → Option (List ℕ)) → TextsByPath
 texts stands bytes_at = record { stands = stands; bytes_at = bytes_at }
 
 -- a command line was carried out on the texts at its two paths: the answer is written, and its remarks are told
-pub record IsCarriedOut (line : Invocation) (dump second : Texts) (status : ℕ)
+pub record IsCarriedOut (line : Invocation) (dump second : TextsByPath) (status : ℕ)
     (IsWritten AreTold : List ℕ → Type 0) : Type 0 where
   pub dump_stands : dump.stands (string_bytes line.dump)
   pub second_stands : second.stands (string_bytes line.probe)

@@ -14,7 +14,7 @@ name_value names.Unnumbered = model.Unnumbered
 name_value (names.Legacy vga) = model.Legacy (vga_value vga)
 
 -- what is named counts, too, and didn't before
-pub record IsAdded (old new : model.Words) (name : model.Name) : Type 0 where
+pub record IsNameAdded (old new : model.Words) (name : model.Name) : Type 0 where
   pub fresh : model.IsCounted old name → ⊥
   pub counted : (n : model.Name) → model.IsCounted new n ↔ (model.IsCounted old n ⊎ (n ≡ name))
 

@@ -6,7 +6,7 @@ use Rattle.pci_spec.specs.Slot.{Slot}
 use Rattle.pci_base.specs.declared.range.RootRange.{RootRange}
 use Rattle.pci_tree.specs.declared.roots.Roots.{Roots}
 use Rattle.pciplan_lists.specs.ListWords.{HasRanges, IsListWord}
-use Rattle.pciplan_lists.specs.SlotWords.{HasSlots, IsSlotListWord}
+use Rattle.pciplan_lists.specs.SlotWords.{IsSlotList, IsSlotListWord}
 use Rattle.pciplan_words.specs.declared.asked.SettleWords.{SettleWords}
 use Rattle.pciplan_cli.specs.OptionWords.{AreRootsOf, HasNoRoots}
 use Rattle.pciplan_tasks.specs.declared.task.SettleRequest.{SettleRequest}
@@ -38,46 +38,46 @@ pub record IsSettlingOf (asked : SettleWords) (t : Task) : Type 0 where
 
 -- ---- the first word that is none
 
-abbrev pub HasNoList : Bor (List ℕ) → Type 0
-HasNoList word = (list : List RootRange) → IsListWord word.now list → ⊥
+abbrev pub HasNoListWord : Bor (List ℕ) → Type 0
+HasNoListWord word = (list : List RootRange) → IsListWord word.now list → ⊥
 
-abbrev pub HasNoSlots : Option (Bor (List ℕ)) → Type 0
-HasNoSlots None = ⊥
-HasNoSlots (Some word) = (slots : List Slot) → IsSlotListWord word.now slots → ⊥
+abbrev pub HasNoSlotsWord : Option (Bor (List ℕ)) → Type 0
+HasNoSlotsWord None = ⊥
+HasNoSlotsWord (Some word) = (slots : List Slot) → IsSlotListWord word.now slots → ⊥
 
-abbrev pub HasList : Bor (List ℕ) → Type 0
-HasList word = (list : List RootRange) × IsListWord word.now list
+abbrev pub HasListWord : Bor (List ℕ) → Type 0
+HasListWord word = (list : List RootRange) × IsListWord word.now list
 
 -- the words before a list have their meaning
-abbrev pub HasRoots : SettleWords → Type 0
-HasRoots asked = (roots : Roots) × AreRootsOf asked.root roots
+abbrev pub HasSettleRoots : SettleWords → Type 0
+HasSettleRoots asked = (roots : Roots) × AreRootsOf asked.root roots
 
-abbrev pub HasIo : SettleWords → Type 0
-HasIo asked = HasRoots asked × HasList asked.io
+abbrev pub HasSettleIo : SettleWords → Type 0
+HasSettleIo asked = HasSettleRoots asked × HasListWord asked.io
 
-abbrev pub HasMem : SettleWords → Type 0
-HasMem asked = HasIo asked × HasList asked.mem
+abbrev pub HasSettleMem : SettleWords → Type 0
+HasSettleMem asked = HasSettleIo asked × HasListWord asked.mem
 
 abbrev pub HasPref : SettleWords → Type 0
-HasPref asked = HasMem asked × HasList asked.pref
+HasPref asked = HasSettleMem asked × HasListWord asked.pref
 
 -- the word of `--fixed` is a list of slots, for which memory is asked
 abbrev pub SpellsSlots : Option (Bor (List ℕ)) → Type 0
 SpellsSlots None = ⊥
-SpellsSlots (Some word) = HasSlots word.now
+SpellsSlots (Some word) = IsSlotList word.now
 
 -- a growth was refused for what a word spells: the words before it have their meaning
 abbrev pub IsSettlingWant : SettleWords → Type 0
 IsSettlingWant asked =
-    (HasRoots asked × HasRanges asked.io.now) ⊎ (HasIo asked × HasRanges asked.mem.now)
-    ⊎ (HasMem asked × HasRanges asked.pref.now) ⊎ (HasPref asked × SpellsSlots asked.fixed)
+    (HasSettleRoots asked × HasRanges asked.io.now) ⊎ (HasSettleIo asked × HasRanges asked.mem.now)
+    ⊎ (HasSettleMem asked × HasRanges asked.pref.now) ⊎ (HasPref asked × SpellsSlots asked.fixed)
 
 -- the root list is looked at, then the lists of I/O, memory and prefetchable memory, then the fixed slots
 abbrev pub IsSettlingRefused : SettleWords → Failure → Type 0
 IsSettlingRefused asked Root = HasNoRoots asked.root
-IsSettlingRefused asked (Pool Io) = HasRoots asked × HasNoList asked.io
-IsSettlingRefused asked (Pool Mem) = HasIo asked × HasNoList asked.mem
-IsSettlingRefused asked (Pool Pref) = HasMem asked × HasNoList asked.pref
-IsSettlingRefused asked Fixed = HasPref asked × HasNoSlots asked.fixed
+IsSettlingRefused asked (Pool Io) = HasSettleRoots asked × HasNoListWord asked.io
+IsSettlingRefused asked (Pool Mem) = HasSettleIo asked × HasNoListWord asked.mem
+IsSettlingRefused asked (Pool Pref) = HasSettleMem asked × HasNoListWord asked.pref
+IsSettlingRefused asked Fixed = HasPref asked × HasNoSlotsWord asked.fixed
 IsSettlingRefused asked Memory = IsSettlingWant asked
 IsSettlingRefused _ _ = ⊥

@@ -1,7 +1,7 @@
 //! The task that a command line asks for.
 ghost use Rattle.std.specs.Prelude.{◌≡◌, true, MatchOption, MatchResult};
 ghost use Rattle.pciplan_words.specs.declared.asked.Asked.{Asked};
-ghost use Rattle.pciplan_cli.specs.Asked.{IsAssumingOf, IsTaskOf, IsRefusedFor};
+ghost use Rattle.pciplan_cli.specs.Asked.{IsAssumingOf, IsTaskOf, IsAskedRefused};
 
 use crate::faults_asked::faults_of;
 use crate::map_asked::map_of;
@@ -17,7 +17,7 @@ use std::alloc::Global;
 /// The planning that is asked for.
 fn planning_of(words: &PlanWords<'_>) -> Result<Task, Failure>
     ensures { MatchResult result (IsTaskOf (Asked.Plan words.now))
-        (IsRefusedFor (Asked.Plan words.now)) }
+        (IsAskedRefused (Asked.Plan words.now)) }
 {
     let roots = roots_of(words.root).ok_or(Failure::Root)?;
     let io = pool_of(words.io, PoolOption::Io)?;
@@ -47,7 +47,7 @@ fn assuming_of(exact: bool, least: bool) -> Option<Assuming>
 /// before memory, or the pools or lists, of I/O, memory and prefetchable memory, and the fixed slots: the first word that is
 /// none is the fault.
 pub fn task_of(alloc: Global, asked: &Asked<'_>) -> Result<Task, Failure>
-    ensures { MatchResult result (IsTaskOf asked.now) (IsRefusedFor asked.now) }
+    ensures { MatchResult result (IsTaskOf asked.now) (IsAskedRefused asked.now) }
 {
     match asked {
         Asked::Show => Ok(Task::Show),

@@ -1,6 +1,6 @@
 //! A command line that has been read.
 ghost use Rattle.std.specs.Prelude.{◌≡◌, ◌⊎◌, IfErr, IfOk, MatchResult, map};
-ghost use Rattle.pciplan_cli.specs.Invocations.{IsInvocationOf, IsRefusedFor};
+ghost use Rattle.pciplan_cli.specs.Invocations.{IsInvocationOf, AreWordsRefused};
 ghost use Rattle.pciplan_words.specs.CommandLines.{IsGiven, HasNoLine};
 ghost use Rattle.pciplan_tasks.specs.Statuses.{status_of};
 ghost use Rattle.pciplan_tasks.specs.declared.failure.Failure.{Failure};
@@ -38,7 +38,7 @@ fn given_by<'a>(alloc: Global, words: &'a [&'a str]) -> Result<Given<'a>, Failur
 /// The invocation that the words make.
 fn invocation_of(alloc: Global, words: &[&str]) -> Result<Invocation, Failure>
     ensures { MatchResult result (IsInvocationOf (map (λ w. w.now) words.now))
-        (IsRefusedFor (map (λ w. w.now) words.now)) }
+        (AreWordsRefused (map (λ w. w.now) words.now)) }
 {
     let given = given_by(alloc, words)?;
     Ok(Invocation {
@@ -54,7 +54,7 @@ fn invocation_of(alloc: Global, words: &[&str]) -> Result<Invocation, Failure>
 pub fn start<E: Sink>(alloc: Global, words: &[&str], err: &mut E) -> Result<Invocation, u8>
     ensures line { IfOk result (IsInvocationOf (map (λ w. w.now) words.now)) }
     ensures refused { IfErr result (λ status. (failure : Failure)
-        × IsRefusedFor (map (λ w. w.now) words.now) failure × (status ≡ status_of failure)) }
+        × AreWordsRefused (map (λ w. w.now) words.now) failure × (status ≡ status_of failure)) }
     // 0 and 1 are answers, and 4 is of texts, of which none was opened yet
     ensures status { IfErr result (λ status. (status ≡ 2) ⊎ (status ≡ 3)) }
     ensures silent { IfOk result (λ _. err.new ≡ err.old) }

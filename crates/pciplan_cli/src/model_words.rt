@@ -3,7 +3,7 @@ ghost use Rattle.std.specs.Prelude.{◌≡◌, ◌↔◌, Some, true, false, opt
 ghost use Rattle.model_spec.specs.Words as model;
 ghost use Rattle.pci_model.specs.WordsValue.{words_value};
 ghost use Rattle.pciplan_cli.specs.ModelWords.{IsModelWord, IsWordList};
-ghost use Rattle.pciplan_cli.specs.NameWords.{name_value, IsAdded, IsTooMuch};
+ghost use Rattle.pciplan_cli.specs.NameWords.{name_value, IsNameAdded, IsTooMuch};
 
 use pci_model::words::{VgaWord, Words};
 use pciplan_lists::part::first_of;
@@ -60,7 +60,7 @@ fn sets(flag: &mut bool) -> bool
 /// Has what is named count, too. It answers whether it could: nothing counts twice, and of `vga` and `vga16` only one does.
 fn adds(words: &mut Words, name: Name) -> bool
     ensures added { IsTrue result
-        → IsAdded (words_value words.old) (words_value words.new) (name_value name) }
+        → IsNameAdded (words_value words.old) (words_value words.new) (name_value name) }
     ensures much { IsFalse result → IsTooMuch (words_value words.old) (name_value name) }
 {
     match name {

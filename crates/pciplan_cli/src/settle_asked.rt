@@ -1,8 +1,8 @@
 //! The settling that a command line asks for.
 ghost use Rattle.std.specs.Prelude.{◌≡◌, ◌⊎◌, MatchResult};
 ghost use Rattle.pciplan_words.specs.declared.asked.Asked.{Asked};
-ghost use Rattle.pciplan_cli.specs.Asked.{IsTaskOf, IsRefusedFor};
-ghost use Rattle.pciplan_cli.specs.SettleAsked.{AreFixed, IsListOf, HasNoList, HasNoSlots, SpellsSlots};
+ghost use Rattle.pciplan_cli.specs.Asked.{IsTaskOf, IsAskedRefused};
+ghost use Rattle.pciplan_cli.specs.SettleAsked.{AreFixed, IsListOf, HasNoListWord, HasNoSlotsWord, SpellsSlots};
 ghost use Rattle.pciplan_lists.specs.ListWords.{HasRanges};
 ghost use Rattle.pciplan_tasks.specs.declared.failure.Failure.{Failure};
 
@@ -20,7 +20,7 @@ use std::alloc::Global;
 fn list_of(alloc: Global, word: &str, option: PoolOption) -> Result<Vec<RootRange>, Failure>
     ensures { MatchResult result (IsListOf word.entry)
         (λ failure. ((failure ≡ Failure.Memory) × HasRanges word.now)
-        ⊎ ((failure ≡ Failure.Pool option) × HasNoList word.entry)) }
+        ⊎ ((failure ≡ Failure.Pool option) × HasNoListWord word.entry)) }
 {
     list_of_word(alloc, word)?.ok_or(Failure::Pool(option))
 }
@@ -29,7 +29,7 @@ fn list_of(alloc: Global, word: &str, option: PoolOption) -> Result<Vec<RootRang
 fn fixed_of(alloc: Global, word: Option<&str>) -> Result<Vec<Slot>, Failure>
     ensures { MatchResult result (AreFixed word.entry)
         (λ failure. ((failure ≡ Failure.Memory) × SpellsSlots word.entry)
-        ⊎ ((failure ≡ Failure.Fixed) × HasNoSlots word.entry)) }
+        ⊎ ((failure ≡ Failure.Fixed) × HasNoSlotsWord word.entry)) }
 {
     match word {
         None => Ok(Vec::new(alloc)),
@@ -40,7 +40,7 @@ fn fixed_of(alloc: Global, word: Option<&str>) -> Result<Vec<Slot>, Failure>
 /// The settling that is asked for.
 pub fn settling_of(alloc: Global, asked: &SettleWords<'_>) -> Result<Task, Failure>
     ensures { MatchResult result (IsTaskOf (Asked.Settle asked.now))
-        (IsRefusedFor (Asked.Settle asked.now)) }
+        (IsAskedRefused (Asked.Settle asked.now)) }
 {
     let roots = roots_of(asked.root).ok_or(Failure::Root)?;
     let lists = SettleLists {

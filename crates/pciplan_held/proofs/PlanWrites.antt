@@ -2,7 +2,7 @@
 use Rattle.std.proofs.Common.{◌≡◌, List, [], ◌∷◌, map, refl, ap}
 use Rattle.pci_plan.specs.Writes.{write_value}
 use Rattle.pci_plan.specs.declared.write.Write.{Write}
-use Rattle.pciplan_held.specs.RegisterWrites.{value_of}
+use Rattle.pciplan_held.specs.RegisterWrites.{write_value_of}
 use Rattle.pciplan_held.specs.declared.register_write.RegisterWrite.{RegisterWrite}
 
 abbrev pub write_of_c : Write → RegisterWrite
@@ -15,6 +15,6 @@ write_of_c w = record {
   value = w.value;
 }
 
-pub writes_as_planned : (writes : List Write) → map value_of (map write_of_c writes) ≡ map write_value writes
+pub writes_as_planned : (writes : List Write) → map write_value_of (map write_of_c writes) ≡ map write_value writes
 writes_as_planned [] = refl
 writes_as_planned (w ∷ writes) = ap (λ rest. write_value w ∷ rest) (writes_as_planned writes)

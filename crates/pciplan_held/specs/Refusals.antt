@@ -33,8 +33,8 @@ refusal_text (Dump fault) = codes "dump: " ++ read_fault_text fault
 refusal_text (Probe fault) = codes "probe: " ++ read_fault_text fault
 
 -- the buses are no list of roots; else the dump has the fault; else the probe has it
-abbrev pub IsRefusalOf : List ℕ → List ℕ → List ℕ → Refusal → Type 0
-IsRefusalOf roots dump probe Root = IsRootList roots → ⊥
-IsRefusalOf roots dump probe (Dump fault) = IsRootList roots × IsTextFault dump fault
-IsRefusalOf roots dump probe (Probe fault) =
+abbrev pub IsHeldRefusal : List ℕ → List ℕ → List ℕ → Refusal → Type 0
+IsHeldRefusal roots dump probe Root = IsRootList roots → ⊥
+IsHeldRefusal roots dump probe (Dump fault) = IsRootList roots × IsTextFault dump fault
+IsHeldRefusal roots dump probe (Probe fault) =
     IsRootList roots × ((blocks : List Block) × IsTextOf dump blocks) × IsTextFault probe fault

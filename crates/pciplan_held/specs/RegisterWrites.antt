@@ -7,8 +7,8 @@ use Rattle.pciplan_held.specs.Puts.{IsPutInto}
 use Rattle.pciplan_held.specs.declared.register_write.RegisterWrite.{RegisterWrite}
 
 -- a write as C has it
-abbrev pub value_of : RegisterWrite → spec.Write
-value_of w =
+abbrev pub write_value_of : RegisterWrite → spec.Write
+write_value_of w =
     record {
       slot = record { bus = w.bus; device = w.device; function = w.function };
       offset = w.offset;
@@ -20,6 +20,6 @@ value_of w =
 pub record AreWritesPut (writes : List Write) (old new : List RegisterWrite)
     (count : ℕ) : Type 0 where
   pub items : List RegisterWrite
-  pub are : map value_of items ≡ map write_value writes
+  pub are : map write_value_of items ≡ map write_value writes
   pub put : IsPutInto old new items
   pub number : count ≡ length items

@@ -10,7 +10,7 @@ use Rattle.pci_function.specs.Fault.{fault_of}
 use Rattle.pci_function.specs.declared.fault.Fault.{Fault}
 use Rattle.pci_tree.specs.Admission.{Admission}
 use Rattle.pci_tree.specs.Roots.{IsRootList}
-use Rattle.pciplan_held.specs.Refusals.{IsRefusalOf, refusal_text, refusal_line}
+use Rattle.pciplan_held.specs.Refusals.{IsHeldRefusal, refusal_text, refusal_line}
 use Rattle.pciplan_held.specs.declared.unread.Unread.{Unread}
 use Rattle.pciplan_held.specs.declared.unread.Unread.TheVariants.{Refused as IsRefused, NotAdmitted}
 
@@ -47,7 +47,7 @@ pub record IsNotAdmitted (roots dump probe : List ℕ) (fault : Fault) : Type 0 
 
 -- why they aren't admitted
 abbrev pub IsUnreadOf : List ℕ → List ℕ → List ℕ → Unread → Type 0
-IsUnreadOf roots dump probe (IsRefused refusal) = IsRefusalOf roots dump probe refusal
+IsUnreadOf roots dump probe (IsRefused refusal) = IsHeldRefusal roots dump probe refusal
 IsUnreadOf roots dump probe (NotAdmitted fault) = IsNotAdmitted roots dump probe fault
 
 -- the same, or there was no memory

@@ -1,7 +1,7 @@
 //! Writes as C has them.
 ghost use Rattle.std.specs.Prelude.{◌≡◌, ◌<◌, map, length, IfOk, IfErr};
 ghost use Rattle.pci_plan.specs.Writes.{write_value};
-ghost use Rattle.pciplan_held.specs.RegisterWrites.{AreWritesPut, value_of};
+ghost use Rattle.pciplan_held.specs.RegisterWrites.{AreWritesPut, write_value_of};
 
 use pci_base::memory::OutOfMemory;
 use pci_plan::write::Write;
@@ -22,7 +22,7 @@ pub struct RegisterWrite {
 impl RegisterWrite {
     /// A write of a plan.
     pub fn of(write: &Write) -> RegisterWrite
-        ensures { value_of result ≡ write_value write.now }
+        ensures { write_value_of result ≡ write_value write.now }
     {
         RegisterWrite {
             bus: write.slot.bus(),
@@ -40,7 +40,7 @@ pub fn writes_of<A: Allocator>(
     alloc: A,
     writes: &[Write],
 ) -> Result<Vec<RegisterWrite, A>, OutOfMemory>
-    ensures { IfOk result (λ all. map value_of all.items ≡ map write_value writes.now) }
+    ensures { IfOk result (λ all. map write_value_of all.items ≡ map write_value writes.now) }
 {
     let Ok(mut all) = Vec::with_capacity(alloc, writes.len()) else {
         return Err(OutOfMemory);

@@ -4,7 +4,7 @@ use Rattle.std.specs.Prelude.{◌↔◌, ◌==◌, IsTrue, slice_get}
 use Rattle.std.proofs.lemmas.Bool.{and_parts, and_from, eqb-true, eq-eqb, leb-true, le-leb}
 use Rattle.std.proofs.lemmas.Option.{get_or_from_slice_get}
 use Rattle.pci_base.specs.declared.range.RootRange.{RootRange}
-use Rattle.pciplan_lists.specs.HostLists.{ShareBus, Meet, IsGoodRange}
+use Rattle.pciplan_lists.specs.HostLists.{ShareBus, RangesMeet, IsGoodRange}
 
 pub share_first : (other : Option ℕ) → ShareBus None other
 share_first None = record { bus = 0; by_one = refl; by_other = refl }
@@ -29,7 +29,7 @@ pub record AreMet (r q : RootRange) : Type 0 where
   pub from_other : q.range.first ≤ address
   pub to_other : address ≤ q.range.last
 
-pub met : (r q : RootRange) → AreMet r q → Meet r q
+pub met : (r q : RootRange) → AreMet r q → RangesMeet r q
 met r q m = record {
   bus = m.share.bus;
   address = m.address;
@@ -37,7 +37,7 @@ met r q m = record {
   by_other = and_from _ _ (and_from _ _ m.share.by_other (le-leb _ _ m.from_other)) (le-leb _ _ m.to_other);
 }
 
-pub met_parts : (r q : RootRange) → Meet r q → AreMet r q
+pub met_parts : (r q : RootRange) → RangesMeet r q → AreMet r q
 met_parts r q m =
     let one = and_parts _ _ m.by_one in
     let first = and_parts _ _ one.0 in
@@ -52,11 +52,11 @@ met_parts r q m =
       to_other = leb-true _ _ other.1;
     }
 
-pub apart_there : (list : List RootRange) (k i : ℕ) (d e : RootRange) → (Meet (get_or list k d) (get_or list i e) → ⊥)
-    → (one other : RootRange) → slice_get list k ≡ Some one → slice_get list i ≡ Some other → Meet one other → ⊥
+pub apart_there : (list : List RootRange) (k i : ℕ) (d e : RootRange) → (RangesMeet (get_or list k d) (get_or list i e) → ⊥)
+    → (one other : RootRange) → slice_get list k ≡ Some one → slice_get list i ≡ Some other → RangesMeet one other → ⊥
 apart_there list k i d e apart one other is_one is_other m =
-    apart (subst (λ r. Meet r (get_or list i e)) (sym (get_or_from_slice_get list k one d is_one))
-    (subst (λ q. Meet one q) (sym (get_or_from_slice_get list i other e is_other)) m))
+    apart (subst (λ r. RangesMeet r (get_or list i e)) (sym (get_or_from_slice_get list k one d is_one))
+    (subst (λ q. RangesMeet one q) (sym (get_or_from_slice_get list i other e is_other)) m))
 
 pub good_there : (roots : List ℕ) (list : List RootRange) (i : ℕ) (d : RootRange) → IsGoodRange roots (get_or list i d)
     → (r : RootRange) → slice_get list i ≡ Some r → IsGoodRange roots r

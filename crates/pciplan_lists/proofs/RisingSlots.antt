@@ -4,7 +4,7 @@ use Rattle.std.proofs.lemmas.Bool.{cases_lt}
 use Rattle.std.proofs.lemmas.List.{append_assoc, length-append, length-map, map-append, get_or_append_left, get_or_at}
 use Rattle.pci_spec.specs.Slot.{Slot, IsRising, slot_number}
 use Rattle.pci_spec.specs.Stops.{IsAboveLast}
-use Rattle.pciplan_lists.specs.SlotWords.{HasSlots, IsSlotWord}
+use Rattle.pciplan_lists.specs.SlotWords.{IsSlotList, IsSlotWord}
 use Rattle.pciplan_lists.proofs.Joined.{IsRead, read_all}
 use Rattle.pciplan_lists.proofs.SlotWords.{slot_without_comma}
 
@@ -91,12 +91,12 @@ falls (Some last) done more s (before, is) above rising =
     (append_assoc done (s ∷ []) more ∙ ap (λ l. l ++ s ∷ more) is ∙ append_assoc before (last ∷ []) (s ∷ more)) rising))
 
 pub fallen : (word left : List ℕ) (last : Option Slot) (done : List Slot) (s : Slot) → IsLast last done
-    → IsRead IsSlotWord slot_without_comma (44 ∷ word) left (done ++ s ∷ []) → (IsAboveLast last s → ⊥) → HasSlots word → ⊥
+    → IsRead IsSlotWord slot_without_comma (44 ∷ word) left (done ++ s ∷ []) → (IsAboveLast last s → ⊥) → IsSlotList word → ⊥
 fallen word left last done s is read above (slots, list) =
     let behind = read.back slots list.joined in
     falls last done behind.more s is above (subst IsRising behind.parts list.rising)
 
-pub all_risen : (word : List ℕ) (last : Option Slot) → HasRisen (44 ∷ word) [] last → HasSlots word
+pub all_risen : (word : List ℕ) (last : Option Slot) → HasRisen (44 ∷ word) [] last → IsSlotList word
 all_risen word last risen = (
   risen.done,
   record {

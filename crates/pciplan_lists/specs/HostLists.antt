@@ -14,7 +14,7 @@ pub record IsGoodRange (roots : List ℕ) (r : RootRange) : Type 0 where
   pub has_root : (bus : ℕ) → r.root ≡ Some bus → Contains roots bus
 
 -- an address is sent to a bus by both of two ranges
-pub record Meet (r q : RootRange) : Type 0 where
+pub record RangesMeet (r q : RootRange) : Type 0 where
   pub bus : ℕ
   pub address : ℕ
   pub by_one : IsTrue (sends bus address (host_range_of r))
@@ -28,7 +28,7 @@ pub record MeetsEarlier (list : List RootRange) (index : ℕ) : Type 0 where
   pub other : RootRange
   pub is_one : slice_get list earlier ≡ Some one
   pub is_other : slice_get list index ≡ Some other
-  pub meet : Meet one other
+  pub meet : RangesMeet one other
 
 -- each range is good, and none meets another one
 pub record IsGoodHostList (roots : List ℕ) (list : List RootRange) : Type 0 where

@@ -18,5 +18,5 @@ pub record IsSlotListWord (word : List ℕ) (slots : List Slot) : Type 0 where
   pub rising : IsRising slots
 
 -- the word is a list of slots
-abbrev pub HasSlots : List ℕ → Type 0
-HasSlots word = (slots : List Slot) × IsSlotListWord word slots
+abbrev pub IsSlotList : List ℕ → Type 0
+IsSlotList word = (slots : List Slot) × IsSlotListWord word slots

@@ -1,7 +1,7 @@
 //! Lists of the addresses that the host sends to its root buses: which are taken.
 ghost use Rattle.std.specs.Prelude.{◌↔◌, ◌<◌, IsTrue, length};
 ghost use Rattle.pci_tree.specs.Roots.{buses_of};
-ghost use Rattle.pciplan_lists.specs.HostLists.{ShareBus, Meet, IsGoodRange, MeetsEarlier, IsGoodHostList};
+ghost use Rattle.pciplan_lists.specs.HostLists.{ShareBus, RangesMeet, IsGoodRange, MeetsEarlier, IsGoodHostList};
 
 use pci_base::range::RootRange;
 use pci_tree::roots::Roots;
@@ -21,7 +21,7 @@ fn share_a_bus(one: Option<u8>, other: Option<u8>) -> bool
 
 /// Whether an address is sent to a bus by both of two ranges.
 fn meet(one: RootRange, other: RootRange) -> bool
-    ensures { IsTrue result ↔ Meet one other }
+    ensures { IsTrue result ↔ RangesMeet one other }
 {
     let first = one.range.first.max(other.range.first);
     let last = one.range.last.min(other.range.last);

@@ -1,7 +1,7 @@
 //! Lists of slots among the words.
 ghost use Rattle.std.specs.Prelude.{◌≡◌, ◌↔◌, List, Some, IsTrue, IfErr, IfOk, IfSome, IsSomeAnd};
 ghost use Rattle.pci_spec.specs.Slot.{Slot as SlotValue};
-ghost use Rattle.pciplan_lists.specs.SlotWords.{IsSlotWord, AreSlots, HasSlots, IsSlotListWord};
+ghost use Rattle.pciplan_lists.specs.SlotWords.{IsSlotWord, AreSlots, IsSlotList, IsSlotListWord};
 
 use crate::part::first_of;
 use pci_base::memory::OutOfMemory;
@@ -27,7 +27,7 @@ fn slot_of_word(word: &str) -> Option<Slot>
 /// Whether a word is of slots that are joined by commas, each above the one before it. It is looked at before memory is
 /// asked for.
 fn is_slot_list(word: &str) -> bool
-    ensures { IsTrue result ↔ HasSlots word.now }
+    ensures { IsTrue result ↔ IsSlotList word.now }
 {
     let mut last = None;
     let mut left = Some(word);
@@ -76,7 +76,7 @@ pub fn slots_of_word<A: Allocator>(
     ensures only { (slots : List SlotValue) → IsSlotListWord word.now slots
         → IfOk result (λ found. IsSomeAnd found (λ v. v.items ≡ slots)) }
     // so a word that is no list is answered whatever memory is there
-    ensures memory { IfErr result (λ _. HasSlots word.now) }
+    ensures memory { IfErr result (λ _. IsSlotList word.now) }
 {
     if is_slot_list(word) {
         joined_slots(alloc, word)

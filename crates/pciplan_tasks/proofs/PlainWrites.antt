@@ -9,7 +9,7 @@ use Rattle.pci_spec.specs.Header.{command, layout, address_registers, registers_
 use Rattle.pci_spec.specs.Machine.{Write}
 use Rattle.plan_spec.specs.Planning.PlanWrites.{Change, closed_command, closing_of, closing_writes, register_write, registers_of, register_writes, opening_of, opening_writes, plan_writes}
 use Rattle.plan_spec.specs.Planning.Safety.{is_on}
-use Rattle.pci_plan.specs.Writes.{is_plain, write_value}
+use Rattle.pci_plan.specs.Writes.{is_two_or_four, write_value}
 use Rattle.pci_plan.specs.declared.write.Write.{Write as CodeWrite}
 
 abbrev pub is_plain_value : Write → Bool
@@ -68,14 +68,14 @@ plain_plan changes =
     plain_both (closing_writes changes) (register_writes changes ++ opening_writes changes) (plain_closing changes)
     (plain_both (register_writes changes) (opening_writes changes) (plain_registers changes) (plain_opening changes))
 
-pub plain_of : (writes : List CodeWrite) → list_all is_plain_value (map write_value writes) ≡ true → All (λ w. IsTrue (is_plain w)) writes
+pub plain_of : (writes : List CodeWrite) → list_all is_plain_value (map write_value writes) ≡ true → All (λ w. IsTrue (is_two_or_four w)) writes
 plain_of [] plain i d inside = absurd (let impossible : ⊥ = omega (arith, inside) in impossible)
-plain_of (w ∷ writes) plain zero d inside = (and_parts (is_plain w) (list_all is_plain_value (map write_value writes)) plain).0
+plain_of (w ∷ writes) plain zero d inside = (and_parts (is_two_or_four w) (list_all is_plain_value (map write_value writes)) plain).0
 plain_of (w ∷ writes) plain (suc i) d inside =
-    plain_of writes (and_parts (is_plain w) (list_all is_plain_value (map write_value writes)) plain).1 i d (omega (arith, inside))
+    plain_of writes (and_parts (is_two_or_four w) (list_all is_plain_value (map write_value writes)) plain).1 i d (omega (arith, inside))
 
 -- those of the code that are a plan's
 pub plain_writes : (writes : List CodeWrite) (values : List Write) (changes : List Change) → map write_value writes ≡ values → values ≡ plan_writes changes
-    → All (λ w. IsTrue (is_plain w)) writes
+    → All (λ w. IsTrue (is_two_or_four w)) writes
 plain_writes writes values changes made exact =
     plain_of writes (ap (list_all is_plain_value) (made ∙ exact) ∙ plain_plan changes)

@@ -9,7 +9,7 @@ use Rattle.plan_spec.specs.Planning.PlanWrites.{Change, registers_of}
 use Rattle.settle_spec.specs.Lists.{Request}
 use Rattle.settle_spec.specs.Registers.{settled_function}
 use Rattle.settle_spec.specs.Writes.{Settled, change_of, closing_command, closing_from, opening_from, command_from, closings, settle_writes, settle}
-use Rattle.pci_plan.specs.Writes.{is_plain, write_value}
+use Rattle.pci_plan.specs.Writes.{is_two_or_four, write_value}
 use Rattle.pci_plan.specs.declared.write.Write.{Write as CodeWrite}
 use Rattle.pci_settle_writes.proofs.Written.{settled_writes}
 use Rattle.pciplan_tasks.proofs.PlainWrites.{is_plain_value, plain_other, plain_both, plain_by, plain_register, plain_of}
@@ -38,6 +38,6 @@ plain_settling q s =
     (plain_over (opening_from q s) (λ f. plain_command f (closing_command q s f) (command (settled_function q s f).image)) s))
 
 -- those of the code that are a settling's
-pub plain_writes : (q : Request) (s : System) (writes : List CodeWrite) → settle q s ≡ Settled (map write_value writes) → All (λ w. IsTrue (is_plain w)) writes
+pub plain_writes : (q : Request) (s : System) (writes : List CodeWrite) → settle q s ≡ Settled (map write_value writes) → All (λ w. IsTrue (is_two_or_four w)) writes
 plain_writes q s writes is =
     plain_of writes (ap (list_all is_plain_value) (sym (settled_writes q s (map write_value writes) is)) ∙ plain_settling q s)

@@ -54,14 +54,14 @@ abbrev pub no_line : List ℕ → List ℕ
 no_line text = codes "no" ++ field text ++ 10 ∷ []
 
 -- all of a text went out, or a write of it failed after a beginning
-abbrev pub IsTold : Option (List ℕ) → Option (List ℕ) → Type 0 → List ℕ → Type 0
-IsTold before after failed text =
+abbrev pub IsTextOut : Option (List ℕ) → Option (List ℕ) → Type 0 → List ℕ → Type 0
+IsTextOut before after failed text =
     Appends before after text ⊎ (failed × AppendsBeginning before after text)
 
 -- the remarks went out so, and where there are none all is the same
 abbrev pub AreRemarked : Option (List ℕ) → Option (List ℕ) → Type 0 → Type 0 → List ℕ → Type 0
 AreRemarked before after failed same remarks =
-    IsTold before after failed remarks × (remarks ≡ [] → same)
+    IsTextOut before after failed remarks × (remarks ≡ [] → same)
 
 -- the listing, where each function has one
 pub record IsShownText (dump probe : List Block) (answer : Answer) : Type 0 where
@@ -76,8 +76,8 @@ pub record IsNotShown (dump probe : List Block) (answer : Answer) : Type 0 where
   pub line : answer ≡ refused (verdict_line (Some fault))
 
 -- `show`: the listing, or the line of the first fault that a listing is refused for
-abbrev pub IsShown : List Block → List Block → Answer → Type 0
-IsShown dump probe answer = IsShownText dump probe answer ⊎ IsNotShown dump probe answer
+abbrev pub IsShowAnswer : List Block → List Block → Answer → Type 0
+IsShowAnswer dump probe answer = IsShownText dump probe answer ⊎ IsNotShown dump probe answer
 
 -- what sizing finds is the probe, where none of the faults 20 to 26, 30 and 31 is there
 pub record IsSizedText (dump probe : List Block) (answer : Answer) : Type 0 where
@@ -96,8 +96,8 @@ pub record IsNotSized (dump probe : List Block) (answer : Answer) : Type 0 where
   pub line : answer ≡ refused (verdict_line (Some fault))
 
 -- `size`: the probe again, or the line of the first fault that sizing looks for
-abbrev pub IsSized : List Block → List Block → Answer → Type 0
-IsSized dump probe answer = IsSizedText dump probe answer ⊎ IsNotSized dump probe answer
+abbrev pub IsSizeAnswer : List Block → List Block → Answer → Type 0
+IsSizeAnswer dump probe answer = IsSizedText dump probe answer ⊎ IsNotSized dump probe answer
 
 -- `check`: the line of the verdict, at status 0 where it is yes
 abbrev pub outcome_answer : Outcome → Answer

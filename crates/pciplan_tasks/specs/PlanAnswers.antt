@@ -17,25 +17,25 @@ use Rattle.pciplan_tasks.specs.ProbeAnswers.{remarks_named}
 
 -- what is asked for: a plan in these pools, with these root buses, as a dump or as writes; and what a class without room
 -- lacks
-pub record Asked : Type 0 where
+pub record PlanAsked : Type 0 where
   pub pools : plan.Pools
   pub writes : Bool
   pub why : Bool
   pub roots : List ℕ
 
 -- two dumps with the root buses
-abbrev pub admission_of : Asked → List Block → List Block → Admission
-admission_of asked dump probe = record { roots = asked.roots; dump = dump; probe = probe }
+abbrev pub plan_admission : PlanAsked → List Block → List Block → Admission
+plan_admission asked dump probe = record { roots = asked.roots; dump = dump; probe = probe }
 
 -- the text of a plan: a line for each write where the writes are asked for, else the planned dump
 abbrev pub plan_text : Bool → PlanValue → List ℕ
 plan_text writes p = if writes then flat_map write_line p.writes else text_of p.dump
 
 -- the text of a plan of the two, which are admitted, and a remark on each register that the titles of the probe name
-pub record IsPlanText (asked : Asked) (dump probe : List Block) (answer : Answer) : Type 0 where
+pub record IsPlanText (asked : PlanAsked) (dump probe : List Block) (answer : Answer) : Type 0 where
   pub plan : PlanValue
-  pub admitted : IsAdmitted (admission_of asked dump probe)
-  pub stands : IsPlanIn (admission_of asked dump probe) asked.pools plan
+  pub admitted : IsAdmitted (plan_admission asked dump probe)
+  pub stands : IsPlanIn (plan_admission asked dump probe) asked.pools plan
   pub line : answer ≡ done_with (remarks_named probe) (plan_text asked.writes plan)
 
 -- the line of the first fault that is there, which is one that is looked for before judging
@@ -56,17 +56,17 @@ no_plan_text why roots s pools fault =
     no_line (plan_fault_text fault) ++ (if why then lacking_lines roots s pools fault else [])
 
 -- the line of a fault of planning, where the two are admitted
-pub record IsNoPlanText (asked : Asked) (dump probe : List Block) (answer : Answer) : Type 0 where
+pub record IsNoPlanText (asked : PlanAsked) (dump probe : List Block) (answer : Answer) : Type 0 where
   pub fault : plan.PlanFault
-  pub admitted : IsAdmitted (admission_of asked dump probe)
+  pub admitted : IsAdmitted (plan_admission asked dump probe)
   pub stands : IsPlanFaultOf asked.roots
-      (system_in (admission_of asked dump probe)) asked.pools fault
+      (system_in (plan_admission asked dump probe)) asked.pools fault
   pub line : answer
-      ≡ refused (no_plan_text asked.why asked.roots (system_in (admission_of asked dump probe))
+      ≡ refused (no_plan_text asked.why asked.roots (system_in (plan_admission asked dump probe))
       asked.pools fault)
 
 -- `plan`: the text of a plan, or the line of a fault
-abbrev pub IsPlanned : Asked → List Block → List Block → Answer → Type 0
-IsPlanned asked dump probe answer =
+abbrev pub IsPlanAnswer : PlanAsked → List Block → List Block → Answer → Type 0
+IsPlanAnswer asked dump probe answer =
     IsPlanText asked dump probe answer ⊎ IsRefusedText asked.roots dump probe answer
     ⊎ IsNoPlanText asked dump probe answer

@@ -13,7 +13,7 @@ use Rattle.pci_settle.specs.Lists.{root_range_value}
 use Rattle.pci_base.specs.declared.memory.Refused.TheVariants as refused
 use Rattle.pci_settle_writes.specs.Requests.{request}
 use Rattle.pci_settle_writes.specs.Dumps.{IsSettledDump}
-use Rattle.pci_settle_writes.specs.Endings.{IsRefusal, IsSized}
+use Rattle.pci_settle_writes.specs.Endings.{IsRefusal, HasNoAssumed}
 use Rattle.pci_settle_writes.specs.FaultText.{settle_fault_text}
 use Rattle.pci_settle_writes.specs.declared.lack.SettleFault.{SettleFault}
 use Rattle.pci_tree.specs.Admission.{Admission, IsAdmitted}
@@ -37,13 +37,13 @@ abbrev pub request_said : SettleRequest → Request
 request_said r = request (buses_of r.roots) (lists_said r.lists) r.fixed.items r.anew
 
 -- what is asked for: how two texts are settled, and whether as writes
-pub record Asked : Type 0 where
+pub record SettleAsked : Type 0 where
   pub request : Request
   pub writes : Bool
 
 -- two dumps with the root buses
-abbrev pub admission_of : Asked → List Block → List Block → Admission
-admission_of asked dump probe = record {
+abbrev pub settle_admission : SettleAsked → List Block → List Block → Admission
+settle_admission asked dump probe = record {
   roots = asked.request.roots;
   dump = dump;
   probe = probe;
@@ -51,7 +51,7 @@ admission_of asked dump probe = record {
 
 -- What settling comes to: the writes, and the dump after them, titles as they are. No read back of what has a place is assumed.
 pub record IsSettled (q : Request) (a : Admission) (after : List Block) (writes : List Write) : Type 0 where
-  pub sized : IsSized a
+  pub sized : HasNoAssumed a
   pub titles : map (λ (b : Block). b.title) after ≡ map (λ (b : Block). b.title) a.dump
   pub settled : IsSettledDump q a after
   pub is : settle q (system_in a) ≡ Settled writes
@@ -61,23 +61,23 @@ abbrev pub settled_text : Bool → List Write → List Block → List ℕ
 settled_text is_writes writes after = if is_writes then flat_map write_line writes else text_of after
 
 -- what settling comes to, which is sound
-pub record IsSettledText (asked : Asked) (dump probe : List Block) (answer : Answer) : Type 0 where
+pub record IsSettledText (asked : SettleAsked) (dump probe : List Block) (answer : Answer) : Type 0 where
   pub after : List Block
   pub writes : List Write
-  pub admitted : IsAdmitted (admission_of asked dump probe)
-  pub is : IsSettled asked.request (admission_of asked dump probe) after writes
+  pub admitted : IsAdmitted (settle_admission asked dump probe)
+  pub is : IsSettled asked.request (settle_admission asked dump probe) after writes
   pub sound : IsSound asked.request.roots (system_of after probe)
   pub line : answer ≡ told.done (settled_text asked.writes writes after)
 
 -- the line of the fault for which nothing is settled, where the two are admitted
-pub record IsNotSettledText (asked : Asked) (dump probe : List Block) (answer : Answer) : Type 0 where
+pub record IsNotSettledText (asked : SettleAsked) (dump probe : List Block) (answer : Answer) : Type 0 where
   pub fault : SettleFault
-  pub admitted : IsAdmitted (admission_of asked dump probe)
-  pub stands : IsRefusal (admission_of asked dump probe) asked.request (refused.Fault fault)
+  pub admitted : IsAdmitted (settle_admission asked dump probe)
+  pub stands : IsRefusal (settle_admission asked dump probe) asked.request (refused.Fault fault)
   pub line : answer ≡ told.refused (told.no_line (settle_fault_text fault))
 
 -- `settle`: what settling comes to, or the line of a fault
-abbrev pub IsSettlingTold : Asked → List Block → List Block → Answer → Type 0
+abbrev pub IsSettlingTold : SettleAsked → List Block → List Block → Answer → Type 0
 IsSettlingTold asked dump probe answer =
     IsSettledText asked dump probe answer ⊎ IsRefusedText asked.request.roots dump probe answer
     ⊎ IsNotSettledText asked dump probe answer

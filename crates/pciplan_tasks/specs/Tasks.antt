@@ -11,10 +11,10 @@ use Rattle.pci_probe.specs.SizesFault.{IsSizesTextFault}
 use Rattle.pci_tree.specs.Roots.{buses_of}
 use Rattle.pci_place.specs.Pools.{pools_value}
 use Rattle.pci_check.specs.Audits.{IsDumpOf}
-use Rattle.pciplan_tasks.specs.Answers.{Answer, IsShown, IsChecked, IsSized}
+use Rattle.pciplan_tasks.specs.Answers.{Answer, IsShowAnswer, IsChecked, IsSizeAnswer}
 use Rattle.pciplan_tasks.specs.FaultsAnswers.{IsFaultsAnswer}
 use Rattle.pciplan_tasks.specs.MapAnswers.{IsMapped, sent_by}
-use Rattle.pciplan_tasks.specs.PlanAnswers.{IsPlanned}
+use Rattle.pciplan_tasks.specs.PlanAnswers.{IsPlanAnswer}
 use Rattle.pciplan_tasks.specs.SettleAnswers.{IsSettlingTold, request_said}
 use Rattle.pciplan_tasks.specs.ProbeAnswers.{probe_answer}
 use Rattle.pciplan_tasks.specs.Statuses.{status_of}
@@ -40,14 +40,14 @@ pub record IsAnswerTo {B : Type 0} (IsSecond : Option (List ℕ) → List B → 
 
 -- what a task answers to a dump and its probe; that of a derived probe is none of these
 abbrev pub IsPairAnswer : Task → List Block → List Block → Answer → Type 0
-IsPairAnswer task.Show = IsShown
+IsPairAnswer task.Show = IsShowAnswer
 IsPairAnswer (task.Check roots) = IsChecked (buses_of roots)
 IsPairAnswer (task.Faults beside why) = IsFaultsAnswer beside why
 IsPairAnswer (task.Map beside) =
     IsAnswerBy beside.words (IsMapped (sent_by beside.host) (buses_of beside.roots))
-IsPairAnswer task.Size = IsSized
+IsPairAnswer task.Size = IsSizeAnswer
 IsPairAnswer (task.Plan pools writes why roots) =
-    IsPlanned record {
+    IsPlanAnswer record {
       pools = pools_value pools;
       writes = writes;
       why = why;

@@ -10,10 +10,10 @@ ghost use Rattle.pci_place.specs.Above.{system_in};
 ghost use Rattle.pci_tree.specs.Admission.{IsAdmitted};
 ghost use Rattle.pci_tree.specs.Roots.{buses_of};
 ghost use Rattle.pci_place.specs.Pools.{pools_value};
-ghost use Rattle.pci_plan.specs.Writes.{is_plain, write_value};
+ghost use Rattle.pci_plan.specs.Writes.{is_two_or_four, write_value};
 ghost use Rattle.pciplan_tasks.specs.Answers.{answer_of, done_with, no_line, refused, text_bytes};
-ghost use Rattle.pci_plan.specs.Plans.{IsFaultOf, plan_fault_of};
-ghost use Rattle.pciplan_tasks.specs.PlanAnswers.{IsPlanned, no_plan_text, plan_text};
+ghost use Rattle.pci_plan.specs.Plans.{IsFaultOfPlan, plan_fault_of};
+ghost use Rattle.pciplan_tasks.specs.PlanAnswers.{IsPlanAnswer, no_plan_text, plan_text};
 ghost use Rattle.pciplan_tasks.specs.ProbeAnswers.{remarks_named};
 
 use crate::probing::remarks_named;
@@ -38,7 +38,7 @@ use std::alloc::{AllocError, Allocator};
 
 /// Appends the line of a write.
 fn push_write<A: Allocator>(text: &mut String<A>, write: &RegisterWrite) -> Result<(), AllocError>
-    requires { IsTrue (is_plain write.now) }
+    requires { IsTrue (is_two_or_four write.now) }
     ensures { OnOk result
         (string_bytes text.new ≡ string_bytes text.old ++ write_line (write_value write.now)) }
 {
@@ -55,7 +55,7 @@ fn push_write<A: Allocator>(text: &mut String<A>, write: &RegisterWrite) -> Resu
 /// A line for each write.
 pub fn lines_of<A: Allocator>(alloc: A, writes: &[RegisterWrite]) -> Result<String<A>, OutOfMemory>
     // a write of 1, 2 or 4 bytes has so many digits
-    requires { All (λ w. IsTrue (is_plain w)) writes.now }
+    requires { All (λ w. IsTrue (is_two_or_four w)) writes.now }
     ensures { IfOk result
         (λ text. string_bytes text ≡ flat_map write_line (map write_value writes.now)) }
 {
@@ -100,7 +100,7 @@ fn no_plan<A: Allocator + Copy>(
     fault: PlanFault,
     why: bool,
 ) -> Result<Reply<A>, OutOfMemory>
-    requires { IsFaultOf admitted.now pools.now fault }
+    requires { IsFaultOfPlan admitted.now pools.now fault }
     ensures { IfOk result (λ reply. answer_of reply ≡ refused (no_plan_text why admitted.now.roots
         (system_in admitted.now) (pools_value pools.now) (plan_fault_of fault))) }
 {
@@ -158,7 +158,7 @@ fn plan_admitted<A: Allocator + Copy>(
     why: bool,
 ) -> Result<Reply<A>, OutOfMemory>
     requires { IsAdmitted admitted.now }
-    ensures { IfOk result (λ reply. IsPlanned record {
+    ensures { IfOk result (λ reply. IsPlanAnswer record {
       pools = pools_value pools.now;
       writes = writes;
       why = why;
@@ -183,7 +183,7 @@ pub fn plan_pair<A: Allocator + Copy>(
     why: bool,
     roots: Roots,
 ) -> Result<Reply<A>, OutOfMemory>
-    ensures { IfOk result (λ reply. IsPlanned record {
+    ensures { IfOk result (λ reply. IsPlanAnswer record {
       pools = pools_value pools.now;
       writes = writes;
       why = why;

@@ -2,7 +2,7 @@
 ghost use Rattle.std.specs.Prelude.{◌≡◌, ◌<◌, ◌+◌, [], IfOk, IfSome, OnOk, OnErr};
 ghost use Rattle.std.specs.Io.KnownBytes.{Appends};
 ghost use Rattle.pci_dump.specs.Begun.{AppendsBeginning};
-ghost use Rattle.pciplan_tasks.specs.Answers.{IsTold, answer_of, done, no_line, refused, text_bytes};
+ghost use Rattle.pciplan_tasks.specs.Answers.{IsTextOut, answer_of, done, no_line, refused, text_bytes};
 
 use pci_base::memory::OutOfMemory;
 use pci_check::line::no_line;
@@ -98,7 +98,7 @@ pub fn send<A: Allocator, O: Sink, E: Sink>(
 ) -> Result<(), Failed>
     ensures written { OnOk result
         (Appends (O.taken out.old) (O.taken out.new) (answer_of reply.now).text) }
-    ensures remarked { OnOk result (IsTold (E.taken err.old) (E.taken err.new)
+    ensures remarked { OnOk result (IsTextOut (E.taken err.old) (E.taken err.new)
         (E.failures err.new ≡ E.failures err.old + 1) (answer_of reply.now).remarks) }
     ensures silent { OnOk result ((answer_of reply.now).remarks ≡ [] → err.new ≡ err.old) }
     // what went out can't be taken back, so all that is promised is that it is a beginning

@@ -1,7 +1,7 @@
 //! Carries out a task on two texts.
 ghost use Rattle.std.specs.Prelude.{◌≡◌, ◌⊎◌, ◌<◌, ◌≤◌, ◌+◌, IfOk, IfErr};
 ghost use Rattle.std.specs.Io.KnownBytes.{Appends};
-ghost use Rattle.pciplan_tasks.specs.Answers.{AreRemarked, IsShown, IsSized, answer_of, outcome_answer};
+ghost use Rattle.pciplan_tasks.specs.Answers.{AreRemarked, IsShowAnswer, IsSizeAnswer, answer_of, outcome_answer};
 ghost use Rattle.pciplan_tasks.specs.Statuses.{status_of};
 ghost use Rattle.pciplan_tasks.specs.Tasks.{HasFailed, IsAnswerOf, IsAnswered, IsBegun, IsFailureOf, IsOfWholePair, IsPairAnswer, IsTaskRefused};
 
@@ -33,7 +33,7 @@ fn show_pair<A: Allocator + Copy>(
     dump: &Dump<A>,
     probe: &Dump<A>,
 ) -> Result<Reply<A>, OutOfMemory>
-    ensures { IfOk result (λ reply. IsShown dump.now probe.now (answer_of reply)) }
+    ensures { IfOk result (λ reply. IsShowAnswer dump.now probe.now (answer_of reply)) }
 {
     match show(alloc, dump, probe) {
         Ok(listing) => Ok(done(alloc, Text::Lines(listing))),
@@ -48,7 +48,7 @@ fn size_pair<A: Allocator + Copy>(
     dump: &Dump<A>,
     probe: &Dump<A>,
 ) -> Result<Reply<A>, OutOfMemory>
-    ensures { IfOk result (λ reply. IsSized dump.now probe.now (answer_of reply)) }
+    ensures { IfOk result (λ reply. IsSizeAnswer dump.now probe.now (answer_of reply)) }
 {
     match size_all(alloc, dump, probe) {
         Ok(found) => Ok(done(alloc, Text::Dump(found))),

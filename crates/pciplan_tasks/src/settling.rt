@@ -1,7 +1,7 @@
 //! What `settle` answers of a dump and its probe.
 ghost use Rattle.std.specs.Prelude.{◌≡◌, map, IfOk, IsTrue};
 ghost use Rattle.std.specs.List.{All};
-ghost use Rattle.pci_plan.specs.Writes.{is_plain, write_value};
+ghost use Rattle.pci_plan.specs.Writes.{is_two_or_four, write_value};
 ghost use Rattle.pci_tree.specs.Admission.{IsAdmitted};
 ghost use Rattle.pciplan_tasks.specs.Answers.{answer_of, done};
 ghost use Rattle.pci_settle.specs.Lists.{lists_value};
@@ -26,7 +26,7 @@ fn settled_reply<A: Allocator + Copy>(
     settled: Settled<A>,
     writes: bool,
 ) -> Result<Reply<A>, OutOfMemory>
-    requires { All (λ w. IsTrue (is_plain w)) settled.writes.all.items }
+    requires { All (λ w. IsTrue (is_two_or_four w)) settled.writes.all.items }
     ensures { IfOk result (λ reply. answer_of reply
         ≡ done (settled_text writes (map write_value settled.writes.all.items) settled.dump)) }
 {

@@ -26,8 +26,8 @@ with_paths name =
 abbrev pub checking : App
 checking = with_rule (with_paths (codes "check")) (option_rule (codes "root"))
 
-abbrev pub listing : App
-listing =
+abbrev pub listing_app : App
+listing_app =
     with_rule (with_rule (with_rule (with_rule (with_rule (with_paths (codes "faults"))
     (option_rule (codes "root"))) (option_rule (codes "model"))) (option_rule (codes "host-io")))
     (option_rule (codes "host-mem"))) (flag_rule (codes "why"))
@@ -67,7 +67,7 @@ abbrev pub commands : App
 commands =
     with_subcommand (with_subcommand (with_subcommand (with_subcommand (with_subcommand
     (with_subcommand (with_subcommand (with_subcommand program (with_paths (codes "show")).top)
-    checking.top) listing.top) mapping.top) (with_paths (codes "size")).top) planning.top)
+    checking.top) listing_app.top) mapping.top) (with_paths (codes "size")).top) planning.top)
     settling.top) probing.top
 
 -- what the words of a command line say, which no fault of usage refuses

@@ -54,22 +54,22 @@ pub record HasSettleWords (rows : List Row) (words : SettleWords) : Type 0 where
   pub writes : IsFlag (one_of (codes "writes") rows) words.writes
 
 -- the task of this name, with the words of its options
-abbrev pub IsAsked : Text → List Row → Asked → Type 0
-IsAsked name rows Show = name ≡ codes "show"
-IsAsked name rows (Check root) =
+abbrev pub IsTaskAsked : Text → List Row → Asked → Type 0
+IsTaskAsked name rows Show = name ≡ codes "show"
+IsTaskAsked name rows (Check root) =
     (name ≡ codes "check") × (first_of (codes "root") rows ≡ word_of root)
-IsAsked name rows (Faults words) = (name ≡ codes "faults") × HasFaultsWords rows words
-IsAsked name rows (Map words) = (name ≡ codes "map") × HasMapWords rows words
-IsAsked name rows Size = name ≡ codes "size"
-IsAsked name rows (Plan words) = (name ≡ codes "plan") × HasPlanWords rows words
-IsAsked name rows (Settle words) = (name ≡ codes "settle") × HasSettleWords rows words
-IsAsked name rows (Probe exact least) =
+IsTaskAsked name rows (Faults words) = (name ≡ codes "faults") × HasFaultsWords rows words
+IsTaskAsked name rows (Map words) = (name ≡ codes "map") × HasMapWords rows words
+IsTaskAsked name rows Size = name ≡ codes "size"
+IsTaskAsked name rows (Plan words) = (name ≡ codes "plan") × HasPlanWords rows words
+IsTaskAsked name rows (Settle words) = (name ≡ codes "settle") × HasSettleWords rows words
+IsTaskAsked name rows (Probe exact least) =
     (name ≡ codes "probe") × IsFlag (one_of (codes "exact") rows) exact
     × IsFlag (one_of (codes "least") rows) least
 
 -- what the words of a subcommand say: what is asked for, and the paths of the dump and of the second text
 pub record IsSaid (name : Text) (rows : List Row) (asked : Asked)
     (dump second : Text) : Type 0 where
-  pub task : IsAsked name rows asked
+  pub task : IsTaskAsked name rows asked
   pub dump_is : first_of (codes "DUMP") rows ≡ Some dump
   pub second_is : first_of (codes "PROBE") rows ≡ Some second

@@ -3,7 +3,7 @@ ghost use Rattle.std.specs.Prelude.{◌≡◌, ◌≢◌, ◌⊎◌, List, ℕ, 
 ghost use Rattle.clap.specs.Words.{found_of, kind_of, rows_of};
 ghost use Rattle.clap.specs.declared.error.kind.ErrorKind.{ErrorKind};
 ghost use Rattle.pciplan_words.specs.CommandLines.{IsGiven, HasNoLine};
-ghost use Rattle.pciplan_words.specs.CommandWords.{HasFaultsWords, HasMapWords, HasPlanWords, HasSettleWords, IsAsked, IsSaid};
+ghost use Rattle.pciplan_words.specs.CommandWords.{HasFaultsWords, HasMapWords, HasPlanWords, HasSettleWords, IsTaskAsked, IsSaid};
 ghost use Rattle.pciplan_words.specs.declared.asked.Asked.{Asked};
 ghost use Rattle.pciplan_words.specs.declared.asked.PlanWords.{PlanWords};
 ghost use Rattle.pciplan_words.specs.declared.asked.SettleWords.{SettleWords};
@@ -104,8 +104,8 @@ fn settle_words<'a>(found: &ArgMatches<'a>) -> Option<SettleWords<'a>>
 #[tactic(auto, using(crate::proofs::CommandWords::word_there, crate::proofs::CommandWords::flag_there))]
 fn asked_of<'a>(name: &str, found: &ArgMatches<'a>) -> Option<Asked<'a>>
     ensures { MatchOption result
-        ((asked : Asked) → IsAsked name.now (rows_of (found_of found.now)) asked → ⊥)
-        (IsAsked name.now (rows_of (found_of found.now))) }
+        ((asked : Asked) → IsTaskAsked name.now (rows_of (found_of found.now)) asked → ⊥)
+        (IsTaskAsked name.now (rows_of (found_of found.now))) }
 {
     match name {
         "show" => Some(Asked::Show),

@@ -16,7 +16,7 @@ use Rattle.plan_spec.proofs.PlanningLaws.{profile_decodes}
 use Rattle.plan_spec.proofs.Planning.Behind.{any_from}
 use Rattle.plan_spec.proofs.Planning.LaidOut.{place_of_claim}
 use Rattle.settle_spec.specs.Lists.{Request}
-use Rattle.settle_spec.specs.Parts.{regions, has_left, header_bars, is_left, is_part}
+use Rattle.settle_spec.specs.Parts.{system_parts, has_left, header_bars, is_left, is_part}
 use Rattle.settle_laws.proofs.HeaderParts.{header_of}
 use Rattle.settle_laws.proofs.Held.{bar_listed, claim_on}
 use Rattle.settle_laws.proofs.Kept.{in_regions}
@@ -45,7 +45,7 @@ module _ (q : Request) (s : System) (system : IsSystem s) (nested : IsNested q.r
       and_from (has_rom f.image f.probe) (rom_is_on f.image) (place_of_claim f Rom space a (decodable f listed) claim).item (and_parts (is_space_on f Memory) (rom_is_on f.image) claim.enabled).1
   claimed_part f (Window c) space a listed claim = (place_of_claim f (Window c) space a (decodable f listed) claim).item
 
-  pub claimed : (f : Function) (p : Part) (space : Space) (a : ℕ) → Contains s f → Claims f p space a → Contains (regions q s) record { function = f; part = p }
+  pub claimed : (f : Function) (p : Part) (space : Space) (a : ℕ) → Contains s f → Claims f p space a → Contains (system_parts q s) record { function = f; part = p }
   claimed f p space a listed claim = in_regions q s f p listed (header_of f p claim.there) (claimed_part f p space a listed claim)
 
   pub in_range : (f : Function) (p : Part) (space : Space) (a : ℕ) → Contains s f → Claims f p space a → InRange (range_of f p) a

@@ -20,8 +20,8 @@ use Rattle.given_spec.specs.Sound as given
 use Rattle.given_spec.proofs.Judging.{home_without}
 use Rattle.given_spec.proofs.Nothing.{not_at_control, not_shared}
 use Rattle.settle_spec.specs.Lists.{Request}
-use Rattle.settle_spec.specs.Parts.{Region, regions, addresses}
-use Rattle.settle_spec.specs.Stands.{is_on, region_space}
+use Rattle.settle_spec.specs.Parts.{FunctionPart, system_parts, addresses}
+use Rattle.settle_spec.specs.Stands.{is_part_on, part_space}
 use Rattle.settle_laws.specs.StartLaws.{LieInPlace}
 use Rattle.settle_laws.proofs.AllInPlace.{looked}
 use Rattle.settle_laws.proofs.InPlace.{claimed_forwards, enabled_on, looked_part}
@@ -61,23 +61,23 @@ passed_forwards space prefetchable a b h = (let by = passed_by space prefetchabl
 module _ (q : Request) (s : System) (system : IsSystem s) (sound : given.IsSound (host_by q) q.roots s) where
   module _ (gaps : HaveGaps q) (rest : RestLiesInPlace q s) where
     -- the host sends each address of an enabled BAR or ROM on a root
-    part_sent : (r : Region) → Contains (regions q s) r → is_root q.roots r.function.slot.bus ≡ true → is_on r ≡ true → is_window r.part ≡ false → (a : ℕ) → InRange (addresses r) a → starts (host_by q) (region_space r) r.function.slot.bus a ≡ true
+    part_sent : (r : FunctionPart) → Contains (system_parts q s) r → is_root q.roots r.function.slot.bus ≡ true → is_part_on r ≡ true → is_window r.part ≡ false → (a : ℕ) → InRange (addresses r) a → starts (host_by q) (part_space r) r.function.slot.bus a ≡ true
     part_sent r listed root on plain a inside =
         let f = r.function in
         let is = looked q s r listed in
         let fine = All-contains IsDecodable s f (profile_decodes q.roots s sound.profile) is.listed in
         let claim = claims_at q s f (images_of s system f is.listed) fine r.part (looked_part q s r is) is.part (enabled_on f r.part on) a inside in
-        true_from_ne_false (starts (host_by q) (region_space r) f.slot.bus a) (λ unsent.
-        (home_without (host_by q) q.roots s system sound.nested sound.home).0 f.slot (register_of f r.part) (region_space r) a
+        true_from_ne_false (starts (host_by q) (part_space r) f.slot.bus a) (λ unsent.
+        (home_without (host_by q) q.roots s system sound.nested sound.home).0 f.slot (register_of f r.part) (part_space r) a
         record { f = f; part = r.part; listed = is.listed; named = (refl, refl); no_window = plain; claims = claim; bridges = []; root = f.slot.bus; is_root = (root_means q.roots f.slot.bus).0 root; leads = refl; none = unsent })
 
     pub lies_in_place : LieInPlace q s
     lies_in_place = record {
-      lists = λ r listed root. elim (cases_Bool (is_on r && not (is_window r.part))) [
+      lists = λ r listed root. elim (cases_Bool (is_part_on r && not (is_window r.part))) [
         | inr unsaid ↦ rest.lists r listed root unsaid
         | inl said ↦
-            let parts = and_parts (is_on r) (not (is_window r.part)) said in
-            sent_listed q r.function.slot.bus gaps (region_space r) (addresses r) (part_order q s r.function r.part (looked q s r listed).part)
+            let parts = and_parts (is_part_on r) (not (is_window r.part)) said in
+            sent_listed q r.function.slot.bus gaps (part_space r) (addresses r) (part_order q s r.function r.part (looked q s r listed).part)
             (part_sent r listed root parts.0 (not-true (is_window r.part) parts.1))
       ];
       windows = rest.windows;
@@ -89,10 +89,10 @@ module _ (q : Request) (s : System) (system : IsSystem s) (nested : IsNested q.r
   -- what claims an address on a root has it sent
   claim_sent : (f : Function) (p : Part) (space : Space) (a : ℕ) → Contains s f → is_root q.roots f.slot.bus ≡ true → Claims f p space a → starts (host_by q) space f.slot.bus a ≡ true
   claim_sent f p space a listed root claim =
-      let r : Region = record { function = f; part = p } in
+      let r : FunctionPart = record { function = f; part = p } in
       let in_r = claimed q s system nested profile left f p space a listed claim in
       subst (λ sp. starts (host_by q) sp f.slot.bus a ≡ true) claim.maps
-      (listed_sent q f.slot.bus (region_space r) (addresses r) (place.lists r in_r root) a (in_range q s system nested profile left f p space a listed claim))
+      (listed_sent q f.slot.bus (part_space r) (addresses r) (place.lists r in_r root) a (in_range q s system nested profile left f p space a listed claim))
 
   -- so accesses that get to a part start
   way_sent : (space : Space) (a root : ℕ) (bridges : List Function) (f : Function) (p : Part) → Contains q.roots root → Leads s root bridges f.slot.bus → list_all (forwards space a) bridges ≡ true → Contains s f → Claims f p space a

@@ -5,7 +5,7 @@ use Rattle.pci_spec.specs.Slot.{Slot}
 use Rattle.pci_spec.specs.Window.{WindowKind, IoWindow, MemoryWindow, PrefetchWindow}
 use Rattle.plan_spec.specs.Plan.{Pools, pool_of}
 use Rattle.plan_spec.proofs.Planning.Whole.{moved_system}
-use Rattle.settle_spec.specs.Parts.{has_left, is_within}
+use Rattle.settle_spec.specs.Parts.{has_left, lies_within}
 use Rattle.settle_spec.specs.Stands.{is_listed}
 use Rattle.settle_laws.proofs.InLists.{within_from}
 use Rattle.settle_laws.proofs.PoolLists.{can_settle_where_planned}
@@ -36,9 +36,9 @@ planned_is_standing q s t pools ws n plannable rising plan has =
     }
 
 pool_listed : (roots : List ℕ) (pools : Pools) (fixed : List Slot) (root : ℕ) (c : WindowKind) → is_listed (just_in roots pools fixed) root (pool_of pools c) c ≡ true
-pool_listed roots pools fixed root IoWindow = or_left (is_within pools.io pools.io) false (within_from pools.io pools.io (omega arith, omega arith))
-pool_listed roots pools fixed root MemoryWindow = or_left (is_within pools.memory pools.memory) false (within_from pools.memory pools.memory (omega arith, omega arith))
-pool_listed roots pools fixed root PrefetchWindow = or_left (is_within pools.prefetch pools.prefetch) false (within_from pools.prefetch pools.prefetch (omega arith, omega arith))
+pool_listed roots pools fixed root IoWindow = or_left (lies_within pools.io pools.io) false (within_from pools.io pools.io (omega arith, omega arith))
+pool_listed roots pools fixed root MemoryWindow = or_left (lies_within pools.memory pools.memory) false (within_from pools.memory pools.memory (omega arith, omega arith))
+pool_listed roots pools fixed root PrefetchWindow = or_left (lies_within pools.prefetch pools.prefetch) false (within_from pools.prefetch pools.prefetch (omega arith, omega arith))
 
 pub has_just_pools : (roots : List ℕ) (pools : Pools) (fixed : List Slot) → HasPools (just_in roots pools fixed) pools
 has_just_pools roots pools fixed = record { kept = refl; listed = λ root c is_one. pool_listed roots pools fixed root c }

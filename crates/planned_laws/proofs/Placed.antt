@@ -17,7 +17,7 @@ use Rattle.plan_spec.proofs.Planning.AboveBuses.{above_from, above_to, root_or_l
 use Rattle.plan_spec.proofs.Planning.Behind.{behind_range, bridge_between}
 use Rattle.plan_spec.proofs.Planning.LaidOut.{in_pool, opening}
 use Rattle.plan_spec.proofs.Planning.Safe.{order_of}
-use Rattle.settle_spec.specs.Parts.{is_within, holds_range, bridge_over, is_in_memory, is_in_prefetch, same_space}
+use Rattle.settle_spec.specs.Parts.{lies_within, holds_range, bridge_over, is_in_memory, is_in_prefetch, are_same_space}
 use Rattle.settle_spec.proofs.BridgeOver.{over_is}
 use Rattle.settle_spec.proofs.Nested.{is_no_root, one_bridge}
 use Rattle.settle_laws.proofs.Held.{none_by}
@@ -25,7 +25,7 @@ use Rattle.settle_laws.proofs.InLists.{within_from}
 use Rattle.settle_laws.proofs.PartClasses.{by_tests, by_windows}
 
 not_both : Io ≡ Memory → ⊥
-not_both e = both_ways (same_space Io Memory) refl (sym (ap (λ s. same_space Io s) e))
+not_both e = both_ways (are_same_space Io Memory) refl (sym (ap (λ s. are_same_space Io s) e))
 
 -- ---- pools
 
@@ -136,8 +136,8 @@ module _ (roots : List ℕ) (t : System) (pools : Pools) (system : IsSystem t) (
     held_by c p item class =
         let through = laid.window f b p listed item leads in
         ap (holds_range c (range_of f p)) over
-        ∙ subst (λ k. (is_open b k && is_within (range_of f p) (range_of b (Window k))) ≡ true) class
-        (and_from (is_open b (class_of t pools f p)) (is_within (range_of f p) (range_of b (Window (class_of t pools f p)))) through.0
+        ∙ subst (λ k. (is_open b k && lies_within (range_of f p) (range_of b (Window k))) ≡ true) class
+        (and_from (is_open b (class_of t pools f p)) (lies_within (range_of f p) (range_of b (Window (class_of t pools f p)))) through.0
         (within_from (range_of f p) (range_of b (Window (class_of t pools f p))) through.1))
 
     module _ (good : are_bad pools ≡ false) (n : ℕ) (item : is_item f (Bar n) ≡ true) where
@@ -146,7 +146,7 @@ module _ (roots : List ℕ) (t : System) (pools : Pools) (system : IsSystem t) (
 
       pub not_in_memory : class_of t pools f (Bar n) ≡ PrefetchWindow → is_in_memory t f n ≡ false
       not_in_memory class = false_from_ne_true (is_in_memory t f n) (λ is.
-          let parts = and_parts (is_open b MemoryWindow) (is_within range (range_of b (Window MemoryWindow))) (sym (ap (holds_range MemoryWindow range) over) ∙ is) in
+          let parts = and_parts (is_open b MemoryWindow) (lies_within range (range_of b (Window MemoryWindow))) (sym (ap (holds_range MemoryWindow range) over) ∙ is) in
           let two = and_parts (nat_le (range_of b (Window MemoryWindow)).first range.first) (nat_le range.last (range_of b (Window MemoryWindow)).last) parts.1 in
           let from = leb-true (range_of b (Window MemoryWindow)).first range.first two.0 in
           let end = leb-true range.last (range_of b (Window MemoryWindow)).last two.1 in

@@ -10,8 +10,8 @@ use Rattle.plan_spec.specs.Planning.Layout.{IsInside}
 use Rattle.plan_spec.proofs.Planning.AboveBuses.{above_from}
 use Rattle.plan_spec.proofs.Planning.Safe.{order_of}
 use Rattle.settle_spec.specs.Lists.{Request}
-use Rattle.settle_spec.specs.Parts.{Region, regions, addresses, class_in}
-use Rattle.settle_spec.specs.Stands.{is_in_lists, is_listed, region_space, stands, window_region}
+use Rattle.settle_spec.specs.Parts.{FunctionPart, system_parts, addresses, class_in}
+use Rattle.settle_spec.specs.Stands.{is_in_lists, is_listed, part_space, stands, window_part}
 use Rattle.settle_spec.specs.Registers.{settled}
 use Rattle.settle_spec.proofs.Nested.{at_secondary}
 use Rattle.stand_laws.proofs.Apart.{in_root_lists, in_window_over}
@@ -23,7 +23,7 @@ use Rattle.settle_laws.proofs.Held.{above_above}
 use Rattle.settle_laws.proofs.InLists.{within_gives}
 use Rattle.settle_laws.proofs.Kept.{in_regions}
 use Rattle.settle_laws.proofs.PartClasses.{space_of_class}
-use Rattle.planned_laws.specs.InLists.{IsListed}
+use Rattle.planned_laws.specs.InLists.{HasListedRange}
 use Rattle.planned_laws.specs.Switching.{IsStandingSystem, keeping}
 use Rattle.planned_laws.proofs.SettledStands.{settled_is_standing}
 use Rattle.planned_laws.proofs.Standing.{listed_inside}
@@ -40,7 +40,7 @@ inside_lists q bus r w Memory inside h = elim (cases_Bool (is_listed q bus w Mem
 
 module _ (q : Request) (s : System) (system : IsSystem s) (nested : IsNested q.roots s) where
   -- so it is below a bus, if it is so below lower ones
-  below : (n : ℕ) (r : Region) → r.function.slot.bus < n → Contains (regions q s) r → stands q s r ≡ true → IsListed q s r
+  below : (n : ℕ) (r : FunctionPart) → r.function.slot.bus < n → Contains (system_parts q s) r → stands q s r ≡ true → HasListedRange q s r
   below zero r under in_r is = absurd (omega (arith, under))
   below (suc n) r under in_r is =
       let bus = r.function.slot.bus in
@@ -51,7 +51,7 @@ module _ (q : Request) (s : System) (system : IsSystem s) (nested : IsNested q.r
             let b = one.0 in
             let leads = one.1 in
             let c = class_in q s r.function r.part in
-            let w = window_region c b in
+            let w = window_part c b in
             let over = in_window_over q s nested r in_r is b system off leads in
             let own = above_from s bus b record { listed = leads.0; bridge = leads.1; behind = at_secondary q.roots s system nested b bus leads.0 leads.1 leads.2 } in
             let up = order_of q.roots s nested b leads.0 leads.1 in
@@ -67,17 +67,17 @@ module _ (q : Request) (s : System) (system : IsSystem s) (nested : IsNested q.r
                   | inr (d, above, root) ↦ inr (d, above_above q s system nested r.function b d own above, root)
                 ];
               };
-              holds = inside_lists q rest.root (addresses r) (addresses w) (region_space r) (within_gives (addresses r) (addresses w) over.0)
+              holds = inside_lists q rest.root (addresses r) (addresses w) (part_space r) (within_gives (addresses r) (addresses w) over.0)
                   (subst (λ space. is_in_lists q rest.root (addresses w) space ≡ true) (space_of_class q s r.function r.part) rest.holds);
             }
       ]
 
 -- The law: a part that stands lies in such a range.
-pub standing_is_listed : (q : Request) (s : System) (r : Region) → IsSystem s → IsNested q.roots s → Contains (regions q s) r → stands q s r ≡ true → IsListed q s r
+pub standing_is_listed : (q : Request) (s : System) (r : FunctionPart) → IsSystem s → IsNested q.roots s → Contains (system_parts q s) r → stands q s r ≡ true → HasListedRange q s r
 standing_is_listed q s r system nested in_r is = below q s system nested (suc r.function.slot.bus) r (omega arith) in_r is
 
 -- The law: so does each part of what settling comes to.
-pub settled_is_listed : (q : Request) (s : System) (r : Region) → CanSettle q s → Contains (regions q (settled q s)) r → IsListed q (settled q s) r
+pub settled_is_listed : (q : Request) (s : System) (r : FunctionPart) → CanSettle q s → Contains (system_parts q (settled q s)) r → HasListedRange q (settled q s) r
 settled_is_listed q s r can in_r =
     let is : IsStandingSystem (keeping q []) (settled q s) = settled_is_standing q s can [] in
     let listed = standing_is_listed (keeping q []) (settled q s) r is.system is.nested in_r (is.stand r in_r) in

@@ -11,8 +11,8 @@ use Rattle.pci_spec.proofs.Members.{in_map_to, in_map_from, in_filter_to, in_fil
 use Rattle.plan_spec.specs.Planning.Layout.{IsInside}
 use Rattle.plan_spec.proofs.Planning.Behind.{Passes, any_gives, any_from}
 use Rattle.given_spec.specs.Given.{is_for, sends, starts}
-use Rattle.settle_spec.specs.Lists.{RootRange, Request, is_had_by, list_of, ranges_of}
-use Rattle.settle_spec.specs.Parts.{is_within}
+use Rattle.settle_spec.specs.Lists.{RootRange, Request, is_had_by, list_of, class_ranges}
+use Rattle.settle_spec.specs.Parts.{lies_within}
 use Rattle.settle_spec.specs.Stands.{is_listed, is_in_lists}
 use Rattle.settle_laws.proofs.InLists.{within_from, within_gives}
 use Rattle.planned_laws.specs.HostLaws.{HaveGaps, host_by, host_range, list_in}
@@ -35,12 +35,12 @@ module _ (q : Request) (bus : ℕ) where
 
   -- ---- in the lists of a space
 
-  had_in : (c : WindowKind) (r : Range) (x : RootRange) → Contains (list_of q.lists c) x → is_had_by x.root bus ≡ true → is_within r x.range ≡ true → is_listed q bus r c ≡ true
+  had_in : (c : WindowKind) (r : Range) (x : RootRange) → Contains (list_of q.lists c) x → is_had_by x.root bus ≡ true → lies_within r x.range ≡ true → is_listed q bus r c ≡ true
   had_in c r x listed had within =
-      any_from (is_within r) (ranges_of q c bus) x.range
+      any_from (lies_within r) (class_ranges q c bus) x.range
       (in_map_from (λ (y : RootRange). y.range) (filter (λ y. is_had_by y.root bus) (list_of q.lists c)) x (in_filter_from (λ y. is_had_by y.root bus) (list_of q.lists c) x listed had)) within
 
-  listed_from : (space : Space) (r : Range) (x : RootRange) → IsHad space x → is_within r x.range ≡ true → is_in_lists q bus r space ≡ true
+  listed_from : (space : Space) (r : Range) (x : RootRange) → IsHad space x → lies_within r x.range ≡ true → is_in_lists q bus r space ≡ true
   listed_from Io r x is within = had_in IoWindow r x is.listed is.had within
   listed_from Memory r x is within = elim (Contains-append_cases q.lists.memory q.lists.prefetch x is.listed) [
     | inl plain ↦ or_left (is_listed q bus r MemoryWindow) (is_listed q bus r PrefetchWindow) (had_in MemoryWindow r x plain is.had within)
@@ -50,14 +50,14 @@ module _ (q : Request) (bus : ℕ) where
   record IsInOne (space : Space) (r : Range) : Type 0 where
     x : RootRange
     is : IsHad space x
-    within : is_within r x.range ≡ true
+    within : lies_within r x.range ≡ true
 
-  in_one : (c : WindowKind) (r : Range) → is_listed q bus r c ≡ true → (x : RootRange) × Contains (list_of q.lists c) x × (is_had_by x.root bus ≡ true) × (is_within r x.range ≡ true)
+  in_one : (c : WindowKind) (r : Range) → is_listed q bus r c ≡ true → (x : RootRange) × Contains (list_of q.lists c) x × (is_had_by x.root bus ≡ true) × (lies_within r x.range ≡ true)
   in_one c r h =
-      let found : Passes (is_within r) (ranges_of q c bus) = any_gives (is_within r) (ranges_of q c bus) h in
+      let found : Passes (lies_within r) (class_ranges q c bus) = any_gives (lies_within r) (class_ranges q c bus) h in
       let made : IsMade (λ (y : RootRange). y.range) (filter (λ y. is_had_by y.root bus) (list_of q.lists c)) found.x = in_map_to (λ (y : RootRange). y.range) (filter (λ y. is_had_by y.root bus) (list_of q.lists c)) found.x found.listed in
       let kept = in_filter_to (λ y. is_had_by y.root bus) (list_of q.lists c) made.from made.has in
-      (made.from, kept.0, kept.1, ap (is_within r) made.is ∙ found.is)
+      (made.from, kept.0, kept.1, ap (lies_within r) made.is ∙ found.is)
 
   listed_gives : (space : Space) (r : Range) → is_in_lists q bus r space ≡ true → IsInOne space r
   listed_gives Io r h = let one = in_one IoWindow r h in record { x = one.0; is = record { listed = one.1; had = one.2 }; within = one.3 }

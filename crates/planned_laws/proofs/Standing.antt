@@ -19,10 +19,10 @@ use Rattle.plan_spec.proofs.Planning.AboveBuses.{root_or_led}
 use Rattle.plan_spec.proofs.Planning.Behind.{Passes, any_gives, any_from}
 use Rattle.plan_spec.proofs.Planning.LaidOut.{opening}
 use Rattle.plan_spec.proofs.Planning.Safe.{order_of}
-use Rattle.settle_spec.specs.FirstPlace.{are_apart}
-use Rattle.settle_spec.specs.Lists.{Request, RootRange, is_had_by, ranges_of}
-use Rattle.settle_spec.specs.Parts.{Region, regions, header_bars, header_parts, addresses, has_left, is_empty, is_left, is_part, is_within, upper_pools, is_in_memory, is_in_prefetch, bridge_over, class_in, same_space}
-use Rattle.settle_spec.specs.Stands.{rank, window_region, region_space, are_beside, is_in_lists, is_in_window, is_in_place, is_listed, stands}
+use Rattle.settle_spec.specs.FirstPlace.{ranges_are_apart}
+use Rattle.settle_spec.specs.Lists.{Request, RootRange, is_had_by, class_ranges}
+use Rattle.settle_spec.specs.Parts.{FunctionPart, system_parts, header_bars, header_parts, addresses, has_left, is_empty, is_left, is_part, lies_within, upper_pools, is_in_memory, is_in_prefetch, bridge_over, class_in, are_same_space}
+use Rattle.settle_spec.specs.Stands.{rank, window_part, part_space, are_beside, is_in_lists, is_in_window, is_in_place, is_listed, stands}
 use Rattle.settle_laws.proofs.AllInPlace.{all_in_place, apart_from, beside_of, looked, looked_at, two_of}
 use Rattle.settle_laws.proofs.HeaderParts.{part_cases}
 use Rattle.settle_laws.proofs.Held.{none_by}
@@ -38,8 +38,8 @@ inside_through r w v (from, to) (first, last) = (omega (arith, from, first), ome
 -- a range in which another lies has all that lies in that
 pub listed_inside : (q : Request) (bus : ℕ) (r w : Range) (c : WindowKind) → IsInside r w → is_listed q bus w c ≡ true → is_listed q bus r c ≡ true
 listed_inside q bus r w c inside h =
-    let found : Passes (is_within w) (ranges_of q c bus) = any_gives (is_within w) (ranges_of q c bus) h in
-    any_from (is_within r) (ranges_of q c bus) found.x found.listed (within_from r found.x (inside_through r w found.x inside (within_gives w found.x found.is)))
+    let found : Passes (lies_within w) (class_ranges q c bus) = any_gives (lies_within w) (class_ranges q c bus) h in
+    any_from (lies_within r) (class_ranges q c bus) found.x found.listed (within_from r found.x (inside_through r w found.x inside (within_gives w found.x found.is)))
 
 module _ (q : Request) (t : System) (pools : Pools) (system : IsSystem t) (sound : IsSound q.roots t) (laid : IsLaidOut q.roots t pools) (has : HasPools q pools) where
   -- ---- what is looked at has its place
@@ -53,11 +53,11 @@ module _ (q : Request) (t : System) (pools : Pools) (system : IsSystem t) (sound
     | inr (inr rom) ↦ subst (λ o. is_item f o ≡ true) rom (and_parts (has_rom f.image f.probe) (rom_is_on f.image) (ap (is_part q t f) rom ∙ part)).0
   ]
 
-  record HasPlace (r : Region) : Type 0 where
+  record HasPlace (r : FunctionPart) : Type 0 where
     listed : Contains t r.function
     item : is_item r.function r.part ≡ true
 
-  has_place : (r : Region) → Contains (regions q t) r → HasPlace r
+  has_place : (r : FunctionPart) → Contains (system_parts q t) r → HasPlace r
   has_place r in_r = let is = looked q t r in_r in record { listed = is.listed; item = item_of r.function r.part is.there is.part }
 
   -- ---- no I/O BAR is left
@@ -76,7 +76,7 @@ module _ (q : Request) (t : System) (pools : Pools) (system : IsSystem t) (sound
   some_io : (root : ℕ) → Contains q.roots root → (ranges : List RootRange) → q.lists.io ≡ ranges → is_empty ranges ≡ false
   some_io root is_one (r ∷ more) e = refl
   some_io root is_one [] e = absurd (both_ways (is_listed q root (pool_of pools IoWindow) IoWindow)
-      (ap (λ rs. list_any (is_within (pool_of pools IoWindow)) (map (λ (r : RootRange). r.range) (filter (λ r. is_had_by r.root root) rs))) e)
+      (ap (λ rs. list_any (lies_within (pool_of pools IoWindow)) (map (λ (r : RootRange). r.range) (filter (λ r. is_had_by r.root root) rs))) e)
       (has.listed root IoWindow is_one))
 
   not_left : (f : Function) (n : ℕ) → Contains t f → is_item f (Bar n) ≡ true → is_left q t f (Bar n) ≡ false
@@ -129,14 +129,14 @@ module _ (q : Request) (t : System) (pools : Pools) (system : IsSystem t) (sound
 
     -- ---- in its place
 
-    in_place : (r : Region) → Contains (regions q t) r → is_in_place q t (looked_at q t) r ≡ true
+    in_place : (r : FunctionPart) → Contains (system_parts q t) r → is_in_place q t (looked_at q t) r ≡ true
     in_place r in_r =
         let is = has_place r in_r in
         let f = r.function in
         let p = r.part in
         let c = class_of t pools f p in
         let test = looked_at q t in
-        let lists = is_in_lists q f.slot.bus (addresses r) (region_space r) in
+        let lists = is_in_lists q f.slot.bus (addresses r) (part_space r) in
         elim (root_or_led q.roots t system sound.nested f is.listed) [
           | inl root ↦
               ap (λ b. cond b lists (is_in_window test (class_in q t f p) (addresses r) (bridge_over t f.slot.bus))) ((root_means q.roots f.slot.bus).1 root)
@@ -148,21 +148,21 @@ module _ (q : Request) (t : System) (pools : Pools) (system : IsSystem t) (sound
               let through = laid.window f b p is.listed is.item leads in
               ap (λ x. cond x lists (is_in_window test (class_in q t f p) (addresses r) (bridge_over t f.slot.bus))) off
               ∙ ap (is_in_window test (class_in q t f p) (addresses r)) (over q.roots t pools system sound laid f b is.listed leads)
-              ∙ ap (λ k. is_within (addresses r) (addresses (window_region k b)) && test (window_region k b)) (class_agrees f b p is.listed is.item leads)
-              ∙ and_from (is_within (addresses r) (addresses (window_region c b))) (test (window_region c b)) (within_from (addresses r) (addresses (window_region c b)) through.1) through.0
+              ∙ ap (λ k. lies_within (addresses r) (addresses (window_part k b)) && test (window_part k b)) (class_agrees f b p is.listed is.item leads)
+              ∙ and_from (lies_within (addresses r) (addresses (window_part c b))) (test (window_part c b)) (within_from (addresses r) (addresses (window_part c b)) through.1) through.0
         ]
 
     -- ---- apart
 
-    two_apart : (r u : Region) → Contains (regions q t) r → Contains (regions q t) u → are_beside q r u ≡ true → (rank r ≡ rank u → ⊥) → are_apart (addresses r) (addresses u) ≡ true
+    two_apart : (r u : FunctionPart) → Contains (system_parts q t) r → Contains (system_parts q t) u → are_beside q r u ≡ true → (rank r ≡ rank u → ⊥) → ranges_are_apart (addresses r) (addresses u) ≡ true
     two_apart r u in_r in_u beside differ =
         let is_r = has_place r in_r in
         let is_u = has_place u in_u in
-        let parts = and_parts (are_siblings q.roots r.function.slot.bus u.function.slot.bus) (same_space (region_space r) (region_space u)) beside in
+        let parts = and_parts (are_siblings q.roots r.function.slot.bus u.function.slot.bus) (are_same_space (part_space r) (part_space u)) beside in
         apart_from (addresses r) (addresses u)
         (beside_apart q.roots t pools system sound laid good r.function u.function r.part u.part is_r.listed is_u.listed is_r.item is_u.item
-        (one_space (region_space r) (region_space u) parts.1) (beside_of q.roots r.function u.function parts.0) (two_of r u differ))
+        (one_space (part_space r) (part_space u) parts.1) (beside_of q.roots r.function u.function parts.0) (two_of r u differ))
 
     -- The law: each part stands.
-    pub all_stand : (r : Region) → Contains (regions q t) r → stands q t r ≡ true
+    pub all_stand : (r : FunctionPart) → Contains (system_parts q t) r → stands q t r ≡ true
     all_stand r listed = all_in_place q t system sound.nested has.kept in_place two_apart r listed

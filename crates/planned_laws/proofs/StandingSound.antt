@@ -18,8 +18,8 @@ use Rattle.plan_spec.proofs.Planning.Home.{home_by_known}
 use Rattle.plan_spec.proofs.Planning.LaidOut.{opening}
 use Rattle.plan_spec.proofs.Planning.Single.{single_by_ranges}
 use Rattle.settle_spec.specs.Lists.{Request}
-use Rattle.settle_spec.specs.Parts.{Region, regions, addresses, class_in, same_space}
-use Rattle.settle_spec.specs.Stands.{region_space, window_region}
+use Rattle.settle_spec.specs.Parts.{FunctionPart, system_parts, addresses, class_in, are_same_space}
+use Rattle.settle_spec.specs.Stands.{part_space, window_part}
 use Rattle.settle_spec.specs.Registers.{has_own}
 use Rattle.settle_spec.proofs.Nested.{at_secondary}
 use Rattle.stand_laws.proofs.Apart.{apart_where_beside, in_window_over}
@@ -56,14 +56,14 @@ module _ (q : Request) (s : System) (is : IsStandingSystem q s) (uncut : IsUncut
   claims_apart : (f g : Function) (p r : Part) (space : Space) (a : ℕ) → Contains s f → Contains s g → AreBeside q.roots f g → Claims f p space a → Claims g r space a → AreTwo f p g r
       → LieApart (range_of f p) (range_of g r)
   claims_apart f g p r space a in_f in_g beside claim_f claim_g two =
-      let x : Region = record { function = f; part = p } in
-      let y : Region = record { function = g; part = r } in
+      let x : FunctionPart = record { function = f; part = p } in
+      let y : FunctionPart = record { function = g; part = r } in
       let in_x = claimed q s is.system is.nested is.profile uncut.left f p space a in_f claim_f in
       let in_y = claimed q s is.system is.nested is.profile uncut.left g r space a in_g claim_g in
       lie_apart (addresses x) (addresses y)
       (apart_where_beside q s x y is.nested in_x in_y (is.stand x in_x) (is.stand y in_y)
-      (and_from (are_siblings q.roots f.slot.bus g.slot.bus) (same_space (region_space x) (region_space y)) (beside_test f g beside)
-      (ap (same_space (region_space x)) (claim_g.maps ∙ sym claim_f.maps) ∙ same_itself (region_space x)))
+      (and_from (are_siblings q.roots f.slot.bus g.slot.bus) (are_same_space (part_space x) (part_space y)) (beside_test f g beside)
+      (ap (are_same_space (part_space x)) (claim_g.maps ∙ sym claim_f.maps) ∙ same_itself (part_space x)))
       (two_ranks q s is.system x y (looked q s x in_x) (looked q s y in_y) two))
 
   single : IsSingle q.roots s
@@ -97,13 +97,13 @@ module _ (q : Request) (s : System) (is : IsStandingSystem q s) (uncut : IsUncut
       record { on = all b own; above = λ d above. all d (above_above q s is.system is.nested f b d own above) }
 
   -- the window of its class over a part claims what the part has
-  window_over : (r : Region) (b : Function) (a : ℕ) → Contains (regions q s) r → InRange (addresses r) a → LeadsTo s b r.function.slot.bus → is_space_on b (region_space r) ≡ true
+  window_over : (r : FunctionPart) (b : Function) (a : ℕ) → Contains (system_parts q s) r → InRange (addresses r) a → LeadsTo s b r.function.slot.bus → is_space_on b (part_space r) ≡ true
       → window_claims b (class_in q s r.function r.part) a ≡ true
   window_over r b a in_r inside leads on =
       let c = class_in q s r.function r.part in
       let off : is_root q.roots r.function.slot.bus ≡ false = subst (λ n. is_root q.roots n ≡ false) leads.2 (off_roots q s is.system is.nested b leads.0 leads.1) in
       let over = in_window_over q s is.nested r in_r (is.stand r in_r) b is.system off leads in
-      let opened : is_open b c ≡ true = (stands_by_itself q s is.nested).only (window_region c b) leads.0 over.1 in
+      let opened : is_open b c ≡ true = (stands_by_itself q s is.nested).only (window_part c b) leads.0 over.1 in
       and_from (is_space_on b (window_space c)) (holds c b.image b.probe a) (ap (is_space_on b) (space_of_class q s r.function r.part) ∙ on)
       ((window_holds_its_pages c b.image b.probe a (opening b c opened).there).1 (within_has (addresses r) (range_of b (Window c)) a over.0 inside))
 
@@ -138,7 +138,7 @@ module _ (q : Request) (s : System) (is : IsStandingSystem q s) (uncut : IsUncut
       let on = on_by_leader b d space leads known.above in (
         on,
         passes_by c space prefetchable a d by.at by.may
-            (window_over (window_region c b) d a (in_regions q s b (Window c) listed (header_of b (Window c) bridge) (held_open b c a bridge h))
+            (window_over (window_part c b) d a (in_regions q s b (Window c) listed (header_of b (Window c) bridge) (held_open b c a bridge h))
             ((window_holds_its_pages c b.image b.probe a (held c b.image b.probe a h).there).0 h) leads (ap (is_space_on d) by.at ∙ on.on)),
       )
 

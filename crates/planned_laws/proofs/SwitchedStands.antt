@@ -17,10 +17,10 @@ use Rattle.plan_spec.proofs.PlanningLaws.{moved_has_chains, moved_is_in_profile,
 use Rattle.plan_spec.proofs.Planning.AboveBuses.{above_to, root_or_led}
 use Rattle.plan_spec.proofs.Planning.Behind.{Passes, any_gives}
 use Rattle.plan_spec.proofs.Planning.ShownSystem.{zip_by}
-use Rattle.settle_spec.specs.FirstPlace.{are_apart}
+use Rattle.settle_spec.specs.FirstPlace.{ranges_are_apart}
 use Rattle.settle_spec.specs.Lists.{Request}
-use Rattle.settle_spec.specs.Parts.{Region, regions, regions_of, parts_of, addresses, is_empty, is_part, is_within, holds_range, upper_pools, bridge_over, class_in, same_space}
-use Rattle.settle_spec.specs.Stands.{rank, window_region, region_space, are_beside, is_in_lists, is_in_window, is_in_place, takes_from, stands}
+use Rattle.settle_spec.specs.Parts.{FunctionPart, system_parts, function_parts, parts_of, addresses, is_empty, is_part, lies_within, holds_range, upper_pools, bridge_over, class_in, are_same_space}
+use Rattle.settle_spec.specs.Stands.{rank, window_part, part_space, are_beside, is_in_lists, is_in_window, is_in_place, takes_from, stands}
 use Rattle.settle_spec.specs.Registers.{has_own}
 use Rattle.settle_spec.specs.Writes.{is_cut_off_in}
 use Rattle.settle_spec.proofs.BridgeOver.{over_is}
@@ -53,13 +53,13 @@ module _ (q : Request) (s t : System) (pairs : AllZip IsSwitched s t) where
   held_same c r None None both = refl
   held_same c r None (Some d) both = absurd both
   held_same c r (Some b) None both = absurd both
-  held_same c r (Some b) (Some d) h = (let opened = open_same b d h c in let range = range_same b d h (Window c) in λ i. opened i && is_within r (range i))
+  held_same c r (Some b) (Some d) h = (let opened = open_same b d h c in let range = range_same b d h (Window c) in λ i. opened i && lies_within r (range i))
 
   window_same : (c : WindowKind) (r : Range) (o u : Option Function) → BothOrNone IsSwitched o u → is_in_window (looked_at q s) c r o ≡ is_in_window (looked_at q t) c r u
   window_same c r None None both = refl
   window_same c r None (Some d) both = absurd both
   window_same c r (Some b) None both = absurd both
-  window_same c r (Some b) (Some d) h = (let opened = open_same b d h c in let range = range_same b d h (Window c) in λ i. is_within r (range i) && opened i)
+  window_same c r (Some b) (Some d) h = (let opened = open_same b d h c in let range = range_same b d h (Window c) in λ i. lies_within r (range i) && opened i)
 
   module _ (f g : Function) (h : IsSwitched f g) where
     is : IsAlike f g
@@ -116,12 +116,12 @@ module _ (q : Request) (s t : System) (pairs : AllZip IsSwitched s t) where
 
   module _ (standing : IsStandingSystem q s) where
     -- a part as it was
-    record WasPart (u : Region) : Type 0 where
+    record WasPart (u : FunctionPart) : Type 0 where
       f : Function
       switched : IsSwitched f u.function
-      listed : Contains (regions q s) record { function = f; part = u.part }
+      listed : Contains (system_parts q s) record { function = f; part = u.part }
 
-    was : (u : Region) → Contains (regions q t) u → WasPart u
+    was : (u : FunctionPart) → Contains (system_parts q t) u → WasPart u
     was u in_u =
         let at = looked q t u in_u in
         let found = member_back IsSwitched s t pairs u.function at.listed in
@@ -135,19 +135,19 @@ module _ (q : Request) (s t : System) (pairs : AllZip IsSwitched s t) where
 
     -- ---- it was in its place
 
-    kept_by : (r : Region) → Contains (regions q s) r → q.anew ≡ false
+    kept_by : (r : FunctionPart) → Contains (system_parts q s) r → q.anew ≡ false
     kept_by r in_r =
         let place = is_in_place q s (stands q s) r in
-        let free = list_all (λ u. not (takes_from q u r && stands q s u)) (regions q s) in
+        let free = list_all (λ u. not (takes_from q u r && stands q s u)) (system_parts q s) in
         let three = and_parts (not q.anew && is_part q s r.function r.part && place) free (sym (stands_is q s standing.nested r in_r) ∙ standing.stand r in_r) in
         let two = and_parts (not q.anew && is_part q s r.function r.part) place three.0 in
         not-true q.anew (and_parts (not q.anew) (is_part q s r.function r.part) two.0).0
 
-    was_in_place : (r : Region) → Contains (regions q s) r → is_in_place q s (looked_at q s) r ≡ true
+    was_in_place : (r : FunctionPart) → Contains (system_parts q s) r → is_in_place q s (looked_at q s) r ≡ true
     was_in_place r in_r =
         let f = r.function in
         let c = class_in q s f r.part in
-        let lists = is_in_lists q f.slot.bus (addresses r) (region_space r) in
+        let lists = is_in_lists q f.slot.bus (addresses r) (part_space r) in
         elim (root_or_led q.roots s standing.system standing.nested f (looked q s r in_r).listed) [
           | inl root ↦
               let is_one = (root_means q.roots f.slot.bus).1 root in
@@ -158,8 +158,8 @@ module _ (q : Request) (s t : System) (pairs : AllZip IsSwitched s t) where
               let above = in_window_over q s standing.nested r in_r (standing.stand r in_r) b standing.system off leads in
               ap (λ x. cond x lists (is_in_window (looked_at q s) c (addresses r) (bridge_over s f.slot.bus))) off
               ∙ ap (is_in_window (looked_at q s) c (addresses r)) (over_is q.roots s standing.system standing.nested f.slot.bus b leads)
-              ∙ and_from (is_within (addresses r) (addresses (window_region c b))) (looked_at q s (window_region c b)) above.0
-              ((stands_by_itself q s standing.nested).only (window_region c b) leader.listed above.1)
+              ∙ and_from (lies_within (addresses r) (addresses (window_part c b))) (looked_at q s (window_part c b)) above.0
+              ((stands_by_itself q s standing.nested).only (window_part c b) leader.listed above.1)
         ]
 
     -- ---- so it is
@@ -170,15 +170,15 @@ module _ (q : Request) (s t : System) (pairs : AllZip IsSwitched s t) where
     nested : IsNested q.roots t
     nested = moved_is_nested q.roots s t moves standing.system standing.nested
 
-    in_place : (u : Region) → Contains (regions q t) u → is_in_place q t (looked_at q t) u ≡ true
+    in_place : (u : FunctionPart) → Contains (system_parts q t) u → is_in_place q t (looked_at q t) u ≡ true
     in_place u in_u = let w = was u in_u in sym (place_same w.f u.function w.switched u.part) ∙ was_in_place record { function = w.f; part = u.part } w.listed
 
-    two_apart : (u v : Region) → Contains (regions q t) u → Contains (regions q t) v → are_beside q u v ≡ true → (rank u ≡ rank v → ⊥) → are_apart (addresses u) (addresses v) ≡ true
+    two_apart : (u v : FunctionPart) → Contains (system_parts q t) u → Contains (system_parts q t) v → are_beside q u v ≡ true → (rank u ≡ rank v → ⊥) → ranges_are_apart (addresses u) (addresses v) ≡ true
     two_apart u v in_u in_v beside differ =
         let x = was u in_u in
         let y = was v in_v in
-        let r : Region = record { function = x.f; part = u.part } in
-        let w : Region = record { function = y.f; part = v.part } in
+        let r : FunctionPart = record { function = x.f; part = u.part } in
+        let w : FunctionPart = record { function = y.f; part = v.part } in
         let is_x = switched_alike x.f u.function x.switched in
         let is_y = switched_alike y.f v.function y.switched in
         let bus_x = bus_alike x.f u.function is_x in
@@ -189,8 +189,8 @@ module _ (q : Request) (s t : System) (pairs : AllZip IsSwitched s t) where
         let range_y = range_same y.f v.function y.switched v.part in
         let rank_x = rank_alike x.f u.function is_x u.part in
         let rank_y = rank_alike y.f v.function is_y v.part in
-        let same : are_beside q r w ≡ are_beside q u v = (λ i. are_siblings q.roots (bus_x i) (bus_y i) && same_space (space_x i) (space_y i)) in
-        sym (λ i. are_apart (range_x i) (range_y i))
+        let same : are_beside q r w ≡ are_beside q u v = (λ i. are_siblings q.roots (bus_x i) (bus_y i) && are_same_space (space_x i) (space_y i)) in
+        sym (λ i. ranges_are_apart (range_x i) (range_y i))
         ∙ apart_where_beside q s r w standing.nested x.listed y.listed (standing.stand r x.listed) (standing.stand w y.listed) (same ∙ beside) (λ e. differ (sym rank_x ∙ e ∙ rank_y))
 
     pub still_stands : IsStandingSystem q t
@@ -208,28 +208,28 @@ switched_stands q s t standing pairs = still_stands q s t pairs standing
 
 -- ---- where all parts are enabled
 
-module _ (q : Request) (s : System) (standing : IsStandingSystem q s) (on : (r : Region) → Contains (regions q s) r → is_space_on r.function (region_space r) ≡ true) where
+module _ (q : Request) (s : System) (standing : IsStandingSystem q s) (on : (r : FunctionPart) → Contains (system_parts q s) r → is_space_on r.function (part_space r) ≡ true) where
   -- bridges above a part are enabled for their windows
-  above_on : (r : Region) → Contains (regions q s) r → (b : Function) → Contains (bridges_above s r.function.slot.bus) b → is_space_on b (region_space r) ≡ true
+  above_on : (r : FunctionPart) → Contains (system_parts q s) r → (b : Function) → Contains (bridges_above s r.function.slot.bus) b → is_space_on b (part_space r) ≡ true
   above_on r in_r b above =
       let c = class_in q s r.function r.part in
       let in_b = (above_to s r.function.slot.bus b above).listed in
       let keeps = above_stays q s standing.system standing.nested r b (all_stay q s standing.system standing.nested standing.stand r in_r) above in
-      let over = in_regions q s b (Window c) in_b (window_of b c) (stays_part q s standing.system standing.nested (window_region c b) in_b keeps) in
-      subst (λ sp. is_space_on b sp ≡ true) (space_of_class q s r.function r.part) (on (window_region c b) over)
+      let over = in_regions q s b (Window c) in_b (window_of b c) (stays_part q s standing.system standing.nested (window_part c b) in_b keeps) in
+      subst (λ sp. is_space_on b sp ≡ true) (space_of_class q s r.function r.part) (on (window_part c b) over)
 
   uncut : (f : Function) (space : Space) → Contains s f → is_cut_off_in q s f space ≡ false
   uncut f space listed = elim (cases_Bool (is_space_on f space && has_own q s space f)) [
     | inr idle ↦ ap (λ b. b && list_any (λ b. not (is_space_on b space)) (bridges_above s f.slot.bus)) idle
     | inl both ↦
         let own = (and_parts (is_space_on f space) (has_own q s space f) both).1 in
-        let test = λ (r : Region). same_space space (region_space r) && not (is_window r.part) in
-        let found : Passes test (regions_of q s f) = any_gives test (regions_of q s f) own in
+        let test = λ (r : FunctionPart). are_same_space space (part_space r) && not (is_window r.part) in
+        let found : Passes test (function_parts q s f) = any_gives test (function_parts q s f) own in
         let r = found.x in
-        let in_r = in_flat_map_from (regions_of q s) s f r listed found.listed in
+        let in_r = in_flat_map_from (function_parts q s) s f r listed found.listed in
         let made : IsMade (λ p. record { function = f; part = p }) (parts_of q s f) r = in_map_to (λ p. record { function = f; part = p }) (parts_of q s f) r found.listed in
-        let at : r.function ≡ f = ap (λ (x : Region). x.function) (sym made.is) in
-        let is_space = one_space space (region_space r) (and_parts (same_space space (region_space r)) (not (is_window r.part)) found.is).0 in
+        let at : r.function ≡ f = ap (λ (x : FunctionPart). x.function) (sym made.is) in
+        let is_space = one_space space (part_space r) (and_parts (are_same_space space (part_space r)) (not (is_window r.part)) found.is).0 in
         ap (λ b. b && list_any (λ b. not (is_space_on b space)) (bridges_above s f.slot.bus)) both
         ∙ none_by (λ b. not (is_space_on b space)) (bridges_above s f.slot.bus) (λ b above.
         not_from_true (is_space_on b space)

@@ -9,8 +9,8 @@ use Rattle.pci_spec.specs.Sound as plain
 use Rattle.given_spec.specs.Given.{Given, HostRange, starts}
 use Rattle.given_spec.specs.Sound as given
 use Rattle.settle_spec.specs.Lists.{RootRange, Request, is_had_by, are_bad_lists}
-use Rattle.settle_spec.specs.Parts.{Region, regions, addresses, has_left}
-use Rattle.settle_spec.specs.Stands.{is_on, region_space, is_in_lists}
+use Rattle.settle_spec.specs.Parts.{FunctionPart, system_parts, addresses, has_left}
+use Rattle.settle_spec.specs.Stands.{is_part_on, part_space, is_in_lists}
 use Rattle.settle_spec.specs.Writes.{Settled, settle}
 use Rattle.settle_laws.specs.StartLaws.{LieInPlace, OffLieApart, PartsLieInWindows}
 
@@ -61,9 +61,9 @@ SoundForHostIsSound =
 -- What the host's ranges don't tell is in its place: windows on roots and what is off there lie whole in ranges of the
 -- lists, and what is behind bridges in the windows of its class.
 pub record RestLiesInPlace (q : Request) (s : System) : Type 0 where
-  pub lists : (r : Region) → Contains (regions q s) r → IsTrue (is_root q.roots r.function.slot.bus)
-      → IsFalse (is_on r && not (is_window r.part))
-      → IsTrue (is_in_lists q r.function.slot.bus (addresses r) (region_space r))
+  pub lists : (r : FunctionPart) → Contains (system_parts q s) r → IsTrue (is_root q.roots r.function.slot.bus)
+      → IsFalse (is_part_on r && not (is_window r.part))
+      → IsTrue (is_in_lists q r.function.slot.bus (addresses r) (part_space r))
   pub windows : PartsLieInWindows q s
 
 -- Then all is in its place, where the system is sound with this host,

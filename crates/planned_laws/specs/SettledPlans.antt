@@ -12,7 +12,7 @@ use Rattle.plan_spec.specs.PlanPromise.{IsPlanOf}
 use Rattle.plan_spec.specs.Planning.Layout.{IsLaidOut}
 use Rattle.plan_spec.specs.Planning.Plannable.{IsPlannable}
 use Rattle.settle_spec.specs.Lists.{Request, are_bad_lists}
-use Rattle.settle_spec.specs.Parts.{Region, regions, has_left}
+use Rattle.settle_spec.specs.Parts.{FunctionPart, system_parts, has_left}
 use Rattle.settle_spec.specs.Stands.{is_listed, stands}
 use Rattle.settle_spec.specs.Writes.{Settled, settle}
 use Rattle.settle_laws.specs.PlanLaws.{anew_in}
@@ -29,8 +29,8 @@ pub record HasPools (q : Request) (pools : Pools) : Type 0 where
 abbrev pub LaidOutStands : Type 0
 LaidOutStands =
     (q : Request) (t : System) (pools : Pools) → IsSystem t → IsSound q.roots t
-    → IsLaidOut q.roots t pools → IsFalse (are_bad pools) → HasPools q pools → (r : Region)
-    → Contains (regions q t) r → IsTrue (stands q t r)
+    → IsLaidOut q.roots t pools → IsFalse (are_bad pools) → HasPools q pools → (r : FunctionPart)
+    → Contains (system_parts q t) r → IsTrue (stands q t r)
 
 -- no I/O BAR is left,
 abbrev pub LaidOutLeavesNothing : Type 0

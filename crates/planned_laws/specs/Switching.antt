@@ -14,8 +14,8 @@ use Rattle.plan_spec.specs.Plan.{Pools}
 use Rattle.plan_spec.specs.PlanPromise.{IsPlanOf}
 use Rattle.plan_spec.specs.Planning.Plannable.{IsPlannable}
 use Rattle.settle_spec.specs.Lists.{Request, are_bad_lists}
-use Rattle.settle_spec.specs.Parts.{Region, regions, has_left}
-use Rattle.settle_spec.specs.Stands.{region_space, stands}
+use Rattle.settle_spec.specs.Parts.{FunctionPart, system_parts, has_left}
+use Rattle.settle_spec.specs.Stands.{part_space, stands}
 use Rattle.settle_spec.specs.Registers.{settled}
 use Rattle.settle_spec.specs.Writes.{Settled, is_cut_off_in, settle}
 use Rattle.settle_laws.specs.PlacesLaws.{CanSettle}
@@ -27,7 +27,7 @@ pub record IsStandingSystem (q : Request) (s : System) : Type 0 where
   pub nested : IsNested q.roots s
   pub profile : IsInProfile q.roots s
   pub chains : HasChains s
-  pub stand : (r : Region) → Contains (regions q s) r → IsTrue (stands q s r)
+  pub stand : (r : FunctionPart) → Contains (system_parts q s) r → IsTrue (stands q s r)
 
 -- I/O is off where an I/O BAR is left, and what is on with a BAR or ROM of its own has all bridges above on.
 pub record IsUncut (q : Request) (s : System) : Type 0 where
@@ -74,7 +74,7 @@ SwitchedStands =
 abbrev pub EnabledIsUncut : Type 0
 EnabledIsUncut =
     (q : Request) (s : System) → IsStandingSystem q s
-    → ((r : Region) → Contains (regions q s) r → IsTrue (is_space_on r.function (region_space r)))
+    → ((r : FunctionPart) → Contains (system_parts q s) r → IsTrue (is_space_on r.function (part_space r)))
     → ((f : Function) → Contains s f → IsTrue (has_left q s f) → IsFalse (is_space_on f Io))
     → IsUncut q s
 

@@ -8,7 +8,7 @@ use Rattle.plan_spec.proofs.Planning.Moved.{secondary_same, subordinate_same}
 use Rattle.plan_spec.proofs.Planning.OtherRules.{has_rom_same}
 use Rattle.settle_spec.specs.Lists.{Request}
 use Rattle.settle_spec.specs.Items.{Placed}
-use Rattle.settle_spec.specs.Parts.{Region}
+use Rattle.settle_spec.specs.Parts.{FunctionPart}
 use Rattle.settle_spec.specs.Places.{new_place, lacking}
 use Rattle.settle_spec.specs.Registers.{settled, settled_function}
 use Rattle.settle_spec.proofs.Anew.{none_stays}
@@ -54,8 +54,8 @@ module _ (q : Request) (s : System) (can : CanSettle q s) (anew : IsTrue q.anew)
   -- so it ends where it ended
   pub ends_again : (f : Function) (p : Part) → Contains s f → end_range q (settled q s) record { function = settled_function q s f; part = p } ≡ end_range q s record { function = f; part = p }
   ends_again f p listed =
-      let r : Region = record { function = f; part = p } in
-      let u : Region = record { function = settled_function q s f; part = p } in
+      let r : FunctionPart = record { function = f; part = p } in
+      let u : FunctionPart = record { function = settled_function q s f; part = p } in
       placed_range q (settled q s) u (none_stays q (settled q s) anew u)
       ∙ sym (by (new_place q s r) (new_place q (settled q s) u) (again_alike f p listed))
       ∙ sym (placed_range q s r (none_stays q s anew r))

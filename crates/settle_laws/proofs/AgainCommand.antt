@@ -8,8 +8,8 @@ use Rattle.pci_spec.specs.Bar.{has_bar}
 use Rattle.pci_spec.specs.Window.{has_window, is_closed}
 use Rattle.pci_spec.specs.System.{System, Function, Space, Part, Bar, Rom, Window, space_of, is_bridge, is_implemented}
 use Rattle.settle_spec.specs.Lists.{Request}
-use Rattle.settle_spec.specs.Parts.{is_left, header_parts, has_left, same_space}
-use Rattle.settle_spec.specs.Stands.{region_space}
+use Rattle.settle_spec.specs.Parts.{is_left, header_parts, has_left, are_same_space}
+use Rattle.settle_spec.specs.Stands.{part_space}
 use Rattle.settle_spec.specs.Items.{Placed}
 use Rattle.settle_spec.specs.Places.{new_place}
 use Rattle.settle_spec.specs.Registers.{got_place, settled, settled_function}
@@ -65,25 +65,25 @@ module _ (q : Request) (s : System) (can : CanSettle q s) where
         ∙ sym (implemented (is_bridge (now f) && has_window c f.probe) (not (is_closed c (now f).image)))
 
     module _ (space : Space) where
-      got_same : (p : Part) → (same_space space (space_of f p) && is_some (new_place q s record { function = f; part = p })) ≡ (same_space space (space_of (now f) p) && is_some (new_place q t record { function = now f; part = p }))
+      got_same : (p : Part) → (are_same_space space (space_of f p) && is_some (new_place q s record { function = f; part = p })) ≡ (are_same_space space (space_of (now f) p) && is_some (new_place q t record { function = now f; part = p }))
       got_same p =
           let sp = space_alike f (now f) (is f listed) p in
           let has = both_some (new_place q s record { function = f; part = p }) (new_place q t record { function = now f; part = p }) (again_alike q s can anew f p listed) in
-          λ i. same_space space (sp i) && has i
+          λ i. are_same_space space (sp i) && has i
 
       got_each : (ps : List Part)
-          → list_any (λ r. same_space space (region_space r) && is_some (new_place q s r)) (map (λ p. record { function = f; part = p }) (filter (can_change q s f) ps))
-          ≡ list_any (λ r. same_space space (region_space r) && is_some (new_place q t r)) (map (λ p. record { function = now f; part = p }) (filter (can_change q t (now f)) ps))
+          → list_any (λ r. are_same_space space (part_space r) && is_some (new_place q s r)) (map (λ p. record { function = f; part = p }) (filter (can_change q s f) ps))
+          ≡ list_any (λ r. are_same_space space (part_space r) && is_some (new_place q t r)) (map (λ p. record { function = now f; part = p }) (filter (can_change q t (now f)) ps))
       got_each [] = refl
       got_each (p ∷ ps) =
           let may = change_again p in
           let it = got_same p in
           let rest = got_each ps in
-          first_some (λ p. record { function = f; part = p }) (λ r. same_space space (region_space r) && is_some (new_place q s r)) p (filter (can_change q s f) ps) (can_change q s f p)
+          first_some (λ p. record { function = f; part = p }) (λ r. are_same_space space (part_space r) && is_some (new_place q s r)) p (filter (can_change q s f) ps) (can_change q s f p)
           ∙ (λ i. (may i && it i) || rest i)
-          ∙ sym (first_some (λ p. record { function = now f; part = p }) (λ r. same_space space (region_space r) && is_some (new_place q t r)) p (filter (can_change q t (now f)) ps) (can_change q t (now f) p))
+          ∙ sym (first_some (λ p. record { function = now f; part = p }) (λ r. are_same_space space (part_space r) && is_some (new_place q t r)) p (filter (can_change q t (now f)) ps) (can_change q t (now f) p))
 
       pub got_again : got_place q s space f ≡ got_place q t space (now f)
       got_again =
           got_each (header_parts f)
-          ∙ ap (λ ps. list_any (λ r. same_space space (region_space r) && is_some (new_place q t r)) (map (λ p. record { function = now f; part = p }) (filter (can_change q t (now f)) ps))) (header_alike f (now f) (is f listed))
+          ∙ ap (λ ps. list_any (λ r. are_same_space space (part_space r) && is_some (new_place q t r)) (map (λ p. record { function = now f; part = p }) (filter (can_change q t (now f)) ps))) (header_alike f (now f) (is f listed))

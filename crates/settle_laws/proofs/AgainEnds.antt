@@ -8,7 +8,7 @@ use Rattle.pci_spec.specs.Decoded.{Range}
 use Rattle.pci_spec.specs.System.{System, Function, Part, Bar, Rom, Window, has_part, is_window}
 use Rattle.pci_spec.proofs.Members.{in_map_from}
 use Rattle.settle_spec.specs.Lists.{Request}
-use Rattle.settle_spec.specs.Parts.{Region, is_part}
+use Rattle.settle_spec.specs.Parts.{FunctionPart, is_part}
 use Rattle.settle_spec.specs.Items.{stays}
 use Rattle.settle_spec.specs.Places.{new_place}
 use Rattle.settle_spec.specs.Registers.{settled, settled_function}
@@ -36,10 +36,10 @@ module _ (q : Request) (s : System) (can : CanSettle q s) where
   -- ---- where not all is placed anew, everything stays
 
   module _ (kept : q.anew ≡ false) (f : Function) (p : Part) (listed : Contains s f) (there : has_part f p ≡ true) where
-    abbrev before : Region
+    abbrev before : FunctionPart
     before = record { function = f; part = p }
 
-    abbrev after : Region
+    abbrev after : FunctionPart
     after = record { function = now f; part = p }
 
     in_now : Contains t (now f)

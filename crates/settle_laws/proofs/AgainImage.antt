@@ -16,7 +16,7 @@ use Rattle.plan_spec.specs.Place.{nibble_of}
 use Rattle.plan_spec.specs.Planning.Showing.{bar_value}
 use Rattle.plan_spec.proofs.Planning.Placement.{IsMultiple, multiple_of_mod, multiple_trans, power_multiple}
 use Rattle.settle_spec.specs.Lists.{Request}
-use Rattle.settle_spec.specs.Parts.{Region, header_parts}
+use Rattle.settle_spec.specs.Parts.{FunctionPart, header_parts}
 use Rattle.settle_spec.specs.Items.{Placed}
 use Rattle.settle_spec.specs.Places.{new_place}
 use Rattle.settle_spec.specs.Registers.{with_number, with_bounds, closed_if_open, shown, changing, settled, settled_image, settled_function}
@@ -48,10 +48,10 @@ module _ (q : Request) (s : System) (can : CanSettle q s) (anew : IsTrue q.anew)
   abbrev g : Function
   g = settled_function q s f
 
-  abbrev before : Part → Region
+  abbrev before : Part → FunctionPart
   before p = record { function = f; part = p }
 
-  abbrev after : Part → Region
+  abbrev after : Part → FunctionPart
   after p = record { function = g; part = p }
 
   image : IsImage g.image
@@ -122,7 +122,7 @@ module _ (q : Request) (s : System) (can : CanSettle q s) (anew : IsTrue q.anew)
 
   -- ---- the whole
 
-  step_again : (r : Region) → Contains (changing q t g) r → shown q t r (new_place q t r) g.image ≡ g.image
+  step_again : (r : FunctionPart) → Contains (changing q t g) r → shown q t r (new_place q t r) g.image ≡ g.image
   step_again r has =
       let of : IsChanging q t g r = changing_is q t g r has in
       subst (λ u. shown q t u (new_place q t u) g.image ≡ g.image) of.is (by of.p of.there of.can)

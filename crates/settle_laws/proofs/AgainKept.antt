@@ -14,10 +14,10 @@ use Rattle.plan_spec.specs.Plan.{bridges_above, is_open, is_served}
 use Rattle.plan_spec.specs.Planning.Layout.{range_of, IsInside, LieApart}
 use Rattle.plan_spec.proofs.Planning.AboveBuses.{root_or_led}
 use Rattle.plan_spec.proofs.Planning.Moved.{secondary_same}
-use Rattle.settle_spec.specs.FirstPlace.{are_apart}
+use Rattle.settle_spec.specs.FirstPlace.{ranges_are_apart}
 use Rattle.settle_spec.specs.Lists.{Request}
-use Rattle.settle_spec.specs.Parts.{Region, regions, addresses, is_empty, is_within, holds_range, upper_pools, bridge_over, is_in_memory, is_in_prefetch, prefetchable_class, class_in, same_space}
-use Rattle.settle_spec.specs.Stands.{rank, window_region, region_space, are_beside, is_in_lists, is_in_window, is_in_place, stands}
+use Rattle.settle_spec.specs.Parts.{FunctionPart, system_parts, addresses, is_empty, lies_within, holds_range, upper_pools, bridge_over, is_in_memory, is_in_prefetch, prefetchable_class, class_in, are_same_space}
+use Rattle.settle_spec.specs.Stands.{rank, window_part, part_space, are_beside, is_in_lists, is_in_window, is_in_place, stands}
 use Rattle.settle_spec.specs.Registers.{settled, settled_function}
 use Rattle.settle_spec.proofs.BridgeOver.{over_is}
 use Rattle.settle_laws.specs.PlacesLaws.{CanSettle, end_range}
@@ -41,7 +41,7 @@ record AreWindowsOf (class : WindowKind) (memory prefetch : Bool) : Type 0 where
   held : class ≡ PrefetchWindow → prefetch ≡ true
 
 class_by_windows : (class : WindowKind) (memory prefetch new : Bool) → window_space class ≡ Memory → AreWindowsOf class memory prefetch → by_windows false memory prefetch new ≡ class
-class_by_windows IoWindow memory prefetch new at windows = absurd (both_ways (same_space Io Memory) refl (ap (same_space Io) (sym at)))
+class_by_windows IoWindow memory prefetch new at windows = absurd (both_ways (are_same_space Io Memory) refl (ap (are_same_space Io) (sym at)))
 class_by_windows MemoryWindow memory prefetch new at windows = ap (λ m. by_windows false m prefetch new) (windows.plain refl)
 class_by_windows PrefetchWindow memory prefetch new at windows = (let no = windows.apart refl in let is = windows.held refl in λ i. by_windows false (no i) (is i) new)
 
@@ -90,7 +90,7 @@ module _ (q : Request) (s : System) (can : CanSettle q s) (fixed : List Slot) wh
       held_over : holds_range class (range_of (now f) p) (bridge_over t f.slot.bus) ≡ true
       held_over =
           ap (holds_range class (range_of (now f) p)) over_now
-          ∙ and_from (is_open (now b) class) (is_within (range_of (now f) p) (range_of (now b) (Window class))) open_over (within_from (range_of (now f) p) (range_of (now b) (Window class)) inside_over)
+          ∙ and_from (is_open (now b) class) (lies_within (range_of (now f) p) (range_of (now b) (Window class))) open_over (within_from (range_of (now f) p) (range_of (now b) (Window class)) inside_over)
 
     -- ---- classes stay
 
@@ -100,11 +100,11 @@ module _ (q : Request) (s : System) (can : CanSettle q s) (fixed : List Slot) wh
 
       not_in_memory : class_in q s f (Bar n) ≡ PrefetchWindow → is_in_memory t (now f) n ≡ false
       not_in_memory e = false_from_ne_true (is_in_memory t (now f) n) (λ is.
-          let parts = and_parts (is_open (now b) MemoryWindow) (is_within range (range_of (now b) (Window MemoryWindow))) (sym (ap (holds_range MemoryWindow range) over_now) ∙ is) in
+          let parts = and_parts (is_open (now b) MemoryWindow) (lies_within range (range_of (now b) (Window MemoryWindow))) (sym (ap (holds_range MemoryWindow range) over_now) ∙ is) in
           let m = settled_end q s can b (Window MemoryWindow) leads.0 leads.1 parts.0 in
           let p = over (Bar n) h in
           let apart = ends_apart q s can b b (Window MemoryWindow) (Window PrefetchWindow) leads.0 leads.0 leads.1 leads.1 refl (inl refl) (inr (λ same. let no : ⊥ = omega (arith, same) in no))
-          m.at p.w m.ends (subst (λ c. end_range q s (window_region c b) ≡ Some p.w) e p.ends) in
+          m.at p.w m.ends (subst (λ c. end_range q s (window_part c b) ≡ Some p.w) e p.ends) in
           let some : h.at.first ≤ h.at.last = subst (λ (r : Range). r.first ≤ r.last) h.shown (let up : range.first ≤ range.last = omega arith in up) in
           not_in_both h.at m.at p.w some (subst (λ r. IsInside r m.at) h.shown (subst (IsInside range) m.shown (within_gives range (range_of (now b) (Window MemoryWindow)) parts.1))) p.inside apart)
 
@@ -139,8 +139,8 @@ module _ (q : Request) (s : System) (can : CanSettle q s) (fixed : List Slot) wh
 
   settled_in_place : (f : Function) (p : Part) → Contains s f → (h : HasEnd q s can f p) → is_in_place k t (looked_at k t) record { function = now f; part = p } ≡ true
   settled_in_place f p listed h =
-      let r : Region = record { function = now f; part = p } in
-      let lists = is_in_lists q f.slot.bus (addresses r) (region_space r) in
+      let r : FunctionPart = record { function = now f; part = p } in
+      let lists = is_in_lists q f.slot.bus (addresses r) (part_space r) in
       let test = looked_at k t in
       elim (root_or_led q.roots s can.system can.nested f listed) [
         | inl root ↦
@@ -154,19 +154,19 @@ module _ (q : Request) (s : System) (can : CanSettle q s) (fixed : List Slot) wh
             let off : is_root q.roots f.slot.bus ≡ false = subst (λ n. is_root q.roots n ≡ false) leader.leads (off_roots q s can.system can.nested b leader.listed leader.bridge) in
             ap (λ x. cond x lists (is_in_window test (class_in k t (now f) p) (addresses r) (bridge_over t f.slot.bus))) off
             ∙ ap (is_in_window test (class_in k t (now f) p) (addresses r)) (over_now f b listed leads)
-            ∙ ap (λ d. is_within (addresses r) (addresses (window_region d (now b))) && test (window_region d (now b))) (class_stays f b listed leads p h)
-            ∙ and_from (is_within (addresses r) (addresses (window_region c (now b)))) (test (window_region c (now b)))
-            (within_from (addresses r) (addresses (window_region c (now b))) (inside_over f b listed leads p h)) (open_over f b listed leads p h)
+            ∙ ap (λ d. lies_within (addresses r) (addresses (window_part d (now b))) && test (window_part d (now b))) (class_stays f b listed leads p h)
+            ∙ and_from (lies_within (addresses r) (addresses (window_part c (now b)))) (test (window_part c (now b)))
+            (within_from (addresses r) (addresses (window_part c (now b))) (inside_over f b listed leads p h)) (open_over f b listed leads p h)
       ]
 
-  in_place : (r : Region) → Contains (regions k t) r → is_in_place k t (looked_at k t) r ≡ true
+  in_place : (r : FunctionPart) → Contains (system_parts k t) r → is_in_place k t (looked_at k t) r ≡ true
   in_place r in_r =
       let is : IsSettledPart q s can r = settled_part q s can r in_r in
       subst (λ x. is_in_place k t (looked_at k t) x ≡ true) is.is (settled_in_place is.f is.p is.listed (settled_end q s can is.f is.p is.listed is.there is.part))
 
   -- ---- apart
 
-  two_apart : (r u : Region) → Contains (regions k t) r → Contains (regions k t) u → are_beside k r u ≡ true → (rank r ≡ rank u → ⊥) → are_apart (addresses r) (addresses u) ≡ true
+  two_apart : (r u : FunctionPart) → Contains (system_parts k t) r → Contains (system_parts k t) u → are_beside k r u ≡ true → (rank r ≡ rank u → ⊥) → ranges_are_apart (addresses r) (addresses u) ≡ true
   two_apart r u in_r in_u beside differ =
       let x : IsSettledPart q s can r = settled_part q s can r in_r in
       let y : IsSettledPart q s can u = settled_part q s can u in_u in
@@ -176,22 +176,22 @@ module _ (q : Request) (s : System) (can : CanSettle q s) (fixed : List Slot) wh
       let is_y = settled_alike q s can y.f y.listed in
       let rank_x = rank_alike x.f (now x.f) is_x x.p ∙ ap rank x.is in
       let rank_y = rank_alike y.f (now y.f) is_y y.p ∙ ap rank y.is in
-      let space_x = space_alike x.f (now x.f) is_x x.p ∙ ap region_space x.is in
-      let space_y = space_alike y.f (now y.f) is_y y.p ∙ ap region_space y.is in
+      let space_x = space_alike x.f (now x.f) is_x x.p ∙ ap part_space x.is in
+      let space_y = space_alike y.f (now y.f) is_y y.p ∙ ap part_space y.is in
       let range_x : addresses r ≡ h.at = sym (ap addresses x.is) ∙ h.shown in
       let range_y : addresses u ≡ e.at = sym (ap addresses y.is) ∙ e.shown in
-      let parts = and_parts (are_siblings q.roots r.function.slot.bus u.function.slot.bus) (same_space (region_space r) (region_space u)) beside in
+      let parts = and_parts (are_siblings q.roots r.function.slot.bus u.function.slot.bus) (are_same_space (part_space r) (part_space u)) beside in
       let buses : are_siblings q.roots x.f.slot.bus y.f.slot.bus ≡ true =
-      ap (λ (z : Region). are_siblings q.roots z.function.slot.bus y.f.slot.bus) x.is ∙ ap (λ (z : Region). are_siblings q.roots r.function.slot.bus z.function.slot.bus) y.is ∙ parts.0 in
-      let apart = ends_apart q s can x.f y.f x.p y.p x.listed y.listed x.there y.there (space_x ∙ one_space (region_space r) (region_space u) parts.1 ∙ sym space_y) (beside_of q.roots x.f y.f buses)
+      ap (λ (z : FunctionPart). are_siblings q.roots z.function.slot.bus y.f.slot.bus) x.is ∙ ap (λ (z : FunctionPart). are_siblings q.roots r.function.slot.bus z.function.slot.bus) y.is ∙ parts.0 in
+      let apart = ends_apart q s can x.f y.f x.p y.p x.listed y.listed x.there y.there (space_x ∙ one_space (part_space r) (part_space u) parts.1 ∙ sym space_y) (beside_of q.roots x.f y.f buses)
       (two_of record { function = x.f; part = x.p } record { function = y.f; part = y.p } (λ same. differ (sym rank_x ∙ same ∙ rank_y))) h.at e.at h.ends e.ends in
       apart_from (addresses r) (addresses u) (subst (λ w. LieApart w (addresses u)) (sym range_x) (subst (LieApart h.at) (sym range_y) apart))
 
   -- The law: each part of what is settled stands for a request that keeps what stands.
-  pub stand_kept : (r : Region) → Contains (regions k t) r → stands k t r ≡ true
+  pub stand_kept : (r : FunctionPart) → Contains (system_parts k t) r → stands k t r ≡ true
   stand_kept = all_in_place k t (new_system q s can) (new_nested q s can) refl in_place two_apart
 
 -- The request that it was settled for is one, if it placed nothing anew.
-pub all_stand : (q : Request) (s : System) → CanSettle q s → q.anew ≡ false → (r : Region) → Contains (regions q (settled q s)) r → stands q (settled q s) r ≡ true
+pub all_stand : (q : Request) (s : System) → CanSettle q s → q.anew ≡ false → (r : FunctionPart) → Contains (system_parts q (settled q s)) r → stands q (settled q s) r ≡ true
 all_stand q s can kept =
-    subst (λ (k : Request). (r : Region) → Contains (regions k (settled q s)) r → stands k (settled q s) r ≡ true) (λ i. record q { anew = sym kept i }) (stand_kept q s can q.fixed)
+    subst (λ (k : Request). (r : FunctionPart) → Contains (system_parts k (settled q s)) r → stands k (settled q s) r ≡ true) (λ i. record q { anew = sym kept i }) (stand_kept q s can q.fixed)

@@ -7,8 +7,8 @@ use Rattle.pci_spec.specs.System.{System, Function, Part, Bar, Rom, Window, has_
 use Rattle.pci_spec.proofs.Members.{in_flat_map_to, IsInPiece, in_map_to, IsMade, in_filter_to}
 use Rattle.plan_spec.specs.Plan.{is_open}
 use Rattle.settle_spec.specs.Lists.{Request}
-use Rattle.settle_spec.specs.Parts.{Region, regions, regions_of, parts_of, header_parts, is_part}
-use Rattle.settle_spec.specs.Stands.{window_region}
+use Rattle.settle_spec.specs.Parts.{FunctionPart, system_parts, function_parts, parts_of, header_parts, is_part}
+use Rattle.settle_spec.specs.Stands.{window_part}
 use Rattle.settle_spec.specs.Registers.{settled, settled_function}
 use Rattle.settle_laws.specs.PlacesLaws.{CanSettle, end_range}
 use Rattle.settle_laws.proofs.Again.{settled_alike, all_alike}
@@ -23,7 +23,7 @@ module _ (q : Request) (s : System) (can : CanSettle q s) where
   abbrev t : System
   t = settled q s
 
-  pub record IsSettledPart (r : Region) : Type 0 where
+  pub record IsSettledPart (r : FunctionPart) : Type 0 where
     pub f : Function
     pub p : Part
     pub is : record { function = now f; part = p } ≡ r
@@ -42,11 +42,11 @@ module _ (q : Request) (s : System) (can : CanSettle q s) where
       by Rom window part = absurd (both_ways false refl window)
       by (Window c) window opened = sym (bridge_stays q s can f listed) ∙ (and_parts (is_bridge (now f)) _ (and_parts _ _ opened).0).0
 
-  pub settled_part : (r : Region) → Contains (regions q t) r → IsSettledPart r
+  pub settled_part : (r : FunctionPart) → Contains (system_parts q t) r → IsSettledPart r
   settled_part r has =
-      let piece : IsInPiece (regions_of q t) t r = in_flat_map_to (regions_of q t) t r has in
+      let piece : IsInPiece (function_parts q t) t r = in_flat_map_to (function_parts q t) t r has in
       let f : IsMade now s piece.of = in_map_to now s piece.of piece.has in
-      let in_f : Contains (regions_of q t (now f.from)) r = subst (λ g. Contains (regions_of q t g) r) (sym f.is) piece.piece in
+      let in_f : Contains (function_parts q t (now f.from)) r = subst (λ g. Contains (function_parts q t g) r) (sym f.is) piece.piece in
       let made : IsMade (λ p. record { function = now f.from; part = p }) (parts_of q t (now f.from)) r = in_map_to (λ p. record { function = now f.from; part = p }) (parts_of q t (now f.from)) r in_f in
       let chosen = in_filter_to (is_part q t (now f.from)) (header_parts (now f.from)) made.from made.has in
       let header : Contains (header_parts f.from) made.from = subst (λ ps. Contains ps made.from) (sym (header_alike f.from (now f.from) (settled_alike q s can f.from f.has))) chosen.0 in
@@ -56,8 +56,8 @@ module _ (q : Request) (s : System) (can : CanSettle q s) where
   pub settled_end : (f : Function) (p : Part) → Contains s f → has_part f p ≡ true → is_part q t (now f) p ≡ true → HasEnd q s can f p
   settled_end f (Bar n) listed there part = part_end q s can f (Bar n) listed there (part_alike q s t (all_alike q s can) f (now f) (settled_alike q s can f listed) (Bar n) refl ∙ part) refl
   settled_end f Rom listed there part = part_end q s can f Rom listed there (part_alike q s t (all_alike q s can) f (now f) (settled_alike q s can f listed) Rom refl ∙ part) refl
-  settled_end f (Window c) listed there opened = by (end_range q s (window_region c f)) refl
+  settled_end f (Window c) listed there opened = by (end_range q s (window_part c f)) refl
     where
-      by : (o : Option Range) → end_range q s (window_region c f) ≡ o → HasEnd q s can f (Window c)
+      by : (o : Option Range) → end_range q s (window_part c f) ≡ o → HasEnd q s can f (Window c)
       by None none = absurd (both_ways (is_open (now f) c) (rest_closed q s can f c listed none) opened)
       by (Some w) ends = has_end q s can f (Window c) listed there w ends

@@ -5,7 +5,7 @@ use Rattle.std.proofs.lemmas.Bool.{both_ways, cases_Bool, false_from_ne_true, no
 use Rattle.pci_spec.specs.System.{System, Function, Space, Io, is_space_on}
 use Rattle.pci_spec.proofs.Members.{in_map_to, in_map_from, IsMade}
 use Rattle.settle_spec.specs.Lists.{Request}
-use Rattle.settle_spec.specs.Parts.{has_left, same_space}
+use Rattle.settle_spec.specs.Parts.{has_left, are_same_space}
 use Rattle.settle_spec.specs.LiveLaws.{is_live, has_live_behind}
 use Rattle.settle_spec.specs.Registers.{got_place, settled, settled_image, settled_function}
 use Rattle.settle_spec.specs.Writes.{settle_writes}
@@ -48,12 +48,12 @@ module _ (q : Request) (s : System) (can : CanSettle q s) where
   left_off f listed left = false_from_ne_true (is_space_on (now f) Io) (λ on.
       both_ways (has_left q s f) (not-true (has_left q s f) (enabled_unleft q s f Io (sym (on_now q s can f listed Io) ∙ on))) (left_again q s can f listed ∙ left))
 
-  got_on : (space : Space) (f : Function) → Contains s f → not (same_space space Io && has_left q t (now f)) ≡ true → got_place q t space (now f) ≡ true → is_space_on (now f) space ≡ true
+  got_on : (space : Space) (f : Function) → Contains s f → not (are_same_space space Io && has_left q t (now f)) ≡ true → got_place q t space (now f) ≡ true → is_space_on (now f) space ≡ true
   got_on space f listed fine got =
       let behind = has_live_behind s (is_live q s space) f in
       on_now q s can f listed space
-      ∙ and_from (not (same_space space Io && has_left q s f)) (is_space_on f space || got_place q s space f || behind)
-      (ap (λ b. not (same_space space Io && b)) (left_again q s can f listed) ∙ fine)
+      ∙ and_from (not (are_same_space space Io && has_left q s f)) (is_space_on f space || got_place q s space f || behind)
+      (ap (λ b. not (are_same_space space Io && b)) (left_again q s can f listed) ∙ fine)
       (or_left (is_space_on f space || got_place q s space f) behind (or_right (is_space_on f space) (got_place q s space f) (no_more space f listed got)))
 
   -- ---- so nothing changes
@@ -67,7 +67,7 @@ module _ (q : Request) (s : System) (can : CanSettle q s) where
       (λ g has left. let f : IsMade now s g = of_old g has in subst (λ x. is_space_on x Io ≡ false) f.is (left_off f.from f.has (ap (has_left q t) f.is ∙ left)))
       (λ space g has fine got.
       let f : IsMade now s g = of_old g has in
-      subst (λ x. is_space_on x space ≡ true) f.is (got_on space f.from f.has (ap (λ x. not (same_space space Io && has_left q t x)) f.is ∙ fine) (ap (got_place q t space) f.is ∙ got)))
+      subst (λ x. is_space_on x space ≡ true) f.is (got_on space f.from f.has (ap (λ x. not (are_same_space space Io && has_left q t x)) f.is ∙ fine) (ap (got_place q t space) f.is ∙ got)))
       (λ g has. let f : IsMade now s g = of_old g has in subst (λ x. settled_image q t x ≡ x.image) f.is (image_same f.from f.has))
 
   pub none_again : settle_writes q (settled q s) ≡ []

@@ -14,7 +14,7 @@ use Rattle.pci_spec.specs.System.{System, Function, Io, Memory, Part, Bar, Rom, 
 use Rattle.pci_spec.specs.Bus.{secondary, subordinate, is_behind, is_root}
 use Rattle.plan_spec.specs.Plan.{Pools, bridges_above, is_served, same_class, size_of}
 use Rattle.settle_spec.specs.Lists.{Request}
-use Rattle.settle_spec.specs.Parts.{Region, is_empty, is_left, is_part, header_parts, regions_of, upper_pools, new_class, is_in_memory, is_in_prefetch, prefetchable_class, class_in}
+use Rattle.settle_spec.specs.Parts.{FunctionPart, is_empty, is_left, is_part, header_parts, function_parts, upper_pools, new_class, is_in_memory, is_in_prefetch, prefetchable_class, class_in}
 use Rattle.settle_spec.specs.Stands.{rank}
 use Rattle.settle_spec.specs.Items.{is_own, highest_of, highest_of_bar, has_of}
 use Rattle.settle_laws.proofs.Zipped.{any_zip, all_zip, filter_zip, cond_zip}
@@ -28,7 +28,7 @@ pub record IsAlike (f g : Function) : Type 0 where
   pub rom : has_rom f.image f.probe ≡ has_rom g.image g.probe
   pub on : rom_is_on f.image ≡ rom_is_on g.image
 
-pub record IsAlikeRegion (r t : Region) : Type 0 where
+pub record IsAlikeRegion (r t : FunctionPart) : Type 0 where
   pub function : IsAlike r.function t.function
   pub part : r.part ≡ t.part
 
@@ -85,11 +85,11 @@ module _ (f g : Function) (is : IsAlike f g) where
 
 -- ---- in its system
 
-first_chosen : (h : Part → Region) (k : Region → Bool) (p : Part) (xs : List Part) (b : Bool) → filter k (map h (cond b (p ∷ xs) xs)) ≡ cond (b && k (h p)) (h p ∷ filter k (map h xs)) (filter k (map h xs))
+first_chosen : (h : Part → FunctionPart) (k : FunctionPart → Bool) (p : Part) (xs : List Part) (b : Bool) → filter k (map h (cond b (p ∷ xs) xs)) ≡ cond (b && k (h p)) (h p ∷ filter k (map h xs)) (filter k (map h xs))
 first_chosen h k p xs true = refl
 first_chosen h k p xs false = refl
 
-pub first_some : (h : Part → Region) (k : Region → Bool) (p : Part) (xs : List Part) (b : Bool) → list_any k (map h (cond b (p ∷ xs) xs)) ≡ ((b && k (h p)) || list_any k (map h xs))
+pub first_some : (h : Part → FunctionPart) (k : FunctionPart → Bool) (p : Part) (xs : List Part) (b : Bool) → list_any k (map h (cond b (p ∷ xs) xs)) ≡ ((b && k (h p)) || list_any k (map h xs))
 first_some h k p xs true = refl
 first_some h k p xs false = refl
 
@@ -131,14 +131,14 @@ module _ (q : Request) (s t : System) (pairs : AllZip IsAlike s t) where
         let wide = all_above (is_wide_window PrefetchWindow) f.slot.bus ∙ ap (λ b. list_all (λ (d : Function). is_wide_window PrefetchWindow d.probe) (bridges_above t b)) bus in
         λ i. if nat_le pools.prefetch.last 0xffff_ffff then there i else is_wide (bar_at (probe i) n) && wide i
 
-    abbrev old : Part → Region
+    abbrev old : Part → FunctionPart
     old p = record { function = f; part = p }
 
-    abbrev new : Part → Region
+    abbrev new : Part → FunctionPart
     new p = record { function = g; part = p }
 
     -- where windows don't pass, it doesn't matter which of them are open
-    module _ (k m : Region → Bool) (off : (p : Part) → is_window p ≡ true → (k (old p) ≡ false) × (m (new p) ≡ false)) (same : (p : Part) → is_window p ≡ false → k (old p) ≡ m (new p)) where
+    module _ (k m : FunctionPart → Bool) (off : (p : Part) → is_window p ≡ true → (k (old p) ≡ false) × (m (new p) ≡ false)) (same : (p : Part) → is_window p ≡ false → k (old p) ≡ m (new p)) where
       both_same : (p : Part) → (is_part q s f p && k (old p)) ≡ (is_part q t g p && m (new p))
       both_same p = elim (cases_Bool (is_window p)) [
         | inl window ↦ and_right (is_part q s f p) (k (old p)) (off p window).0 ∙ sym (and_right (is_part q t g p) (m (new p)) (off p window).1)
@@ -166,10 +166,10 @@ module _ (q : Request) (s t : System) (pairs : AllZip IsAlike s t) where
 -- where all is placed anew, classes are alike too
 module _ (q : Request) (anew : IsTrue q.anew) (s t : System) (pairs : AllZip IsAlike s t) where
   module _ (f g : Function) (is : IsAlike f g) where
-    abbrev before : Part → Region
+    abbrev before : Part → FunctionPart
     before p = record { function = f; part = p }
 
-    abbrev after : Part → Region
+    abbrev after : Part → FunctionPart
     after p = record { function = g; part = p }
 
     prefetchable_is : (u : System) (h : Function) (n : ℕ) → prefetchable_class q u h n ≡ new_class q u h n
@@ -185,22 +185,22 @@ module _ (q : Request) (anew : IsTrue q.anew) (s t : System) (pairs : AllZip IsA
     class_alike Rom = refl
     class_alike (Window c) = refl
 
-    own_off : (u : System) (c : WindowKind) (r : Region) → is_window r.part ≡ true → is_own q u c r ≡ false
+    own_off : (u : System) (c : WindowKind) (r : FunctionPart) → is_window r.part ≡ true → is_own q u c r ≡ false
     own_off u c r window = ap (λ b. not b && same_class c (class_in q u r.function r.part)) window
 
     pub own_alike : (c : WindowKind) (p : Part) → is_own q s c (before p) ≡ is_own q t c (after p)
     own_alike c p = ap (λ d. not (is_window p) && same_class c d) (class_alike p)
 
-    pub some_own_alike : (c : WindowKind) → list_any (is_own q s c) (regions_of q s f) ≡ list_any (is_own q t c) (regions_of q t g)
+    pub some_own_alike : (c : WindowKind) → list_any (is_own q s c) (function_parts q s f) ≡ list_any (is_own q t c) (function_parts q t g)
     some_own_alike c =
         some_alike q s t pairs f g is (is_own q s c) (is_own q t c) (λ p window. (own_off s c (before p) window, own_off t c (after p) window)) (λ p plain. own_alike c p) (header_parts f)
         ∙ ap (λ ps. list_any (is_own q t c) (map after (filter (is_part q t g) ps))) (header_alike f g is)
 
     -- the BARs and ROMs of a class that don't keep their places, where a test says alike what keeps its own
-    pub own_parts_alike : (c : WindowKind) (keeps others : Region → Bool) → ((p : Part) → keeps (before p) ≡ others (after p))
-        → AllZip IsAlikeRegion (filter (λ r. is_own q s c r && not (keeps r)) (regions_of q s f)) (filter (λ r. is_own q t c r && not (others r)) (regions_of q t g))
+    pub own_parts_alike : (c : WindowKind) (keeps others : FunctionPart → Bool) → ((p : Part) → keeps (before p) ≡ others (after p))
+        → AllZip IsAlikeRegion (filter (λ r. is_own q s c r && not (keeps r)) (function_parts q s f)) (filter (λ r. is_own q t c r && not (others r)) (function_parts q t g))
     own_parts_alike c keeps others same =
-        subst (λ ps. AllZip IsAlikeRegion (filter (λ r. is_own q s c r && not (keeps r)) (regions_of q s f)) (filter (λ r. is_own q t c r && not (others r)) (map after (filter (is_part q t g) ps)))) (header_alike f g is)
+        subst (λ ps. AllZip IsAlikeRegion (filter (λ r. is_own q s c r && not (keeps r)) (function_parts q s f)) (filter (λ r. is_own q t c r && not (others r)) (map after (filter (is_part q t g) ps)))) (header_alike f g is)
         (chosen_alike q s t pairs f g is (λ r. is_own q s c r && not (keeps r)) (λ r. is_own q t c r && not (others r))
         (λ p window. (ap (λ b. b && not (keeps (before p))) (own_off s c (before p) window), ap (λ b. b && not (others (after p))) (own_off t c (after p) window)))
         (λ p plain. let own = own_alike c p in let kept = same p in λ i. own i && not (kept i)) (header_parts f))
@@ -208,7 +208,7 @@ module _ (q : Request) (anew : IsTrue q.anew) (s t : System) (pairs : AllZip IsA
   -- a BAR or ROM of a class is behind a bridge in both
   pub has_of_alike : (c : WindowKind) (b d : Function) → IsAlike b d → is_bridge b ≡ true → has_of q s c b ≡ has_of q t c d
   has_of_alike c b d over bridge =
-      any_zip IsAlike (λ f. is_behind b f.slot.bus && list_any (is_own q s c) (regions_of q s f)) (λ g. is_behind d g.slot.bus && list_any (is_own q t c) (regions_of q t g))
+      any_zip IsAlike (λ f. is_behind b f.slot.bus && list_any (is_own q s c) (function_parts q s f)) (λ g. is_behind d g.slot.bus && list_any (is_own q t c) (function_parts q t g))
       (λ f g is.
       let behind = ap (is_behind b) (bus_alike f g is) ∙ behind_alike b d over bridge g.slot.bus in
       let some = some_own_alike f g is c in

@@ -8,9 +8,9 @@ use Rattle.pci_spec.specs.System.{System, Function, is_bridge}
 use Rattle.pci_spec.specs.Bus.{secondary, are_siblings}
 use Rattle.settle_spec.specs.FirstPlace.{Extent}
 use Rattle.settle_spec.specs.Lists.{Request}
-use Rattle.settle_spec.specs.Parts.{Region, regions_of}
-use Rattle.settle_spec.specs.Stands.{rank, window_region}
-use Rattle.settle_spec.specs.Items.{Item, comes_before, put_in, in_turn, own_extent, own_item, is_own, has_of, items_of, items_on, extent_around, highest_in, window_within, nothing}
+use Rattle.settle_spec.specs.Parts.{FunctionPart, function_parts}
+use Rattle.settle_spec.specs.Stands.{rank, window_part}
+use Rattle.settle_spec.specs.Items.{Item, item_precedes, put_in, in_turn, own_extent, own_item, is_own, has_of, items_of, bus_items, extent_around, highest_in, window_within, nothing}
 use Rattle.settle_laws.proofs.Zipped.{cond_zip, append_zip, map_zip, map_same, flat_zip}
 use Rattle.settle_laws.proofs.Alike.{IsAlike, IsAlikeRegion, bus_alike, of_bridges, size_alike, highest_alike, rank_alike, has_of_alike, own_parts_alike}
 
@@ -19,10 +19,10 @@ pub record IsAlikeItem (i j : Item) : Type 0 where
   pub class : i.class ≡ j.class
   pub extent : i.extent ≡ j.extent
 
-pub rank_same : (r t : Region) → IsAlikeRegion r t → rank r ≡ rank t
+pub rank_same : (r t : FunctionPart) → IsAlikeRegion r t → rank r ≡ rank t
 rank_same r t is = rank_alike r.function t.function is.function r.part ∙ ap (λ p. rank record { function = t.function; part = p }) is.part
 
-extent_same : (r t : Region) → IsAlikeRegion r t → own_extent r ≡ own_extent t
+extent_same : (r t : FunctionPart) → IsAlikeRegion r t → own_extent r ≡ own_extent t
 extent_same r t is =
     let size = size_alike r.function t.function is.function r.part in
     let highest = highest_alike r.function t.function is.function r.part in
@@ -31,7 +31,7 @@ extent_same r t is =
 
 -- ---- in turn
 
-before_same : (i j x y : Item) → IsAlikeItem i x → IsAlikeItem j y → comes_before i j ≡ comes_before x y
+before_same : (i j x y : Item) → IsAlikeItem i x → IsAlikeItem j y → item_precedes i j ≡ item_precedes x y
 before_same i j x y first second =
     let e = first.extent in
     let d = second.extent in
@@ -46,7 +46,7 @@ put_in_zip i j is [] [] pairs = (is, tt)
 put_in_zip i j is [] (y ∷ ys) pairs = absurd pairs
 put_in_zip i j is (x ∷ xs) [] pairs = absurd pairs
 put_in_zip i j is (x ∷ xs) (y ∷ ys) (first, rest) =
-    cond_zip IsAlikeItem (comes_before i x) (comes_before j y) (before_same i x j y is first) (i ∷ (x ∷ xs)) (x ∷ put_in i xs) (j ∷ (y ∷ ys)) (y ∷ put_in j ys) (λ before. (is, (first, rest))) (first, put_in_zip i j is xs ys rest)
+    cond_zip IsAlikeItem (item_precedes i x) (item_precedes j y) (before_same i x j y is first) (i ∷ (x ∷ xs)) (x ∷ put_in i xs) (j ∷ (y ∷ ys)) (y ∷ put_in j ys) (λ before. (is, (first, rest))) (first, put_in_zip i j is xs ys rest)
 
 in_turn_zip : (xs ys : List Item) → AllZip IsAlikeItem xs ys → AllZip IsAlikeItem (in_turn xs) (in_turn ys)
 in_turn_zip [] [] pairs = tt
@@ -57,32 +57,32 @@ in_turn_zip (x ∷ xs) (y ∷ ys) (first, rest) = put_in_zip x y first (in_turn 
 -- ---- of a bus
 
 module _ (q : Request) (anew : IsTrue q.anew) (s t : System) (pairs : AllZip IsAlike s t) (c : WindowKind) where
-  module _ (keeps others : Region → Bool) (keep_same : (r u : Region) → IsAlikeRegion r u → keeps r ≡ others u) (extent outer : Function → Extent) (same : (f g : Function) → IsAlike f g → is_bridge f ≡ true → extent f ≡ outer g) where
+  module _ (keeps others : FunctionPart → Bool) (keep_same : (r u : FunctionPart) → IsAlikeRegion r u → keeps r ≡ others u) (extent outer : Function → Extent) (same : (f g : Function) → IsAlike f g → is_bridge f ≡ true → extent f ≡ outer g) where
     abbrev opens : Function → Bool
-    opens f = is_bridge f && has_of q s c f && not (keeps (window_region c f))
+    opens f = is_bridge f && has_of q s c f && not (keeps (window_part c f))
 
     abbrev others_open : Function → Bool
-    others_open g = is_bridge g && has_of q t c g && not (others (window_region c g))
+    others_open g = is_bridge g && has_of q t c g && not (others (window_part c g))
 
     opens_same : (f g : Function) → IsAlike f g → opens f ≡ others_open g
     opens_same f g is =
         let has = of_bridges f g is (has_of q s c f) (has_of q t c g) (has_of_alike q anew s t pairs c f g is) in
-        let kept = keep_same (window_region c f) (window_region c g) record { function = is; part = refl } in
+        let kept = keep_same (window_part c f) (window_part c g) record { function = is; part = refl } in
         λ i. has i && not (kept i)
 
     of_function : (f g : Function) → IsAlike f g → AllZip IsAlikeItem (items_of q s c keeps extent f) (items_of q t c others outer g)
     of_function f g is =
-        let xs = filter (λ r. is_own q s c r && not (keeps r)) (regions_of q s f) in
-        let ys = filter (λ r. is_own q t c r && not (others r)) (regions_of q t g) in
-        let x : Item = record { region = window_region c f; class = c; extent = extent f } in
-        let y : Item = record { region = window_region c g; class = c; extent = outer g } in
+        let xs = filter (λ r. is_own q s c r && not (keeps r)) (function_parts q s f) in
+        let ys = filter (λ r. is_own q t c r && not (others r)) (function_parts q t g) in
+        let x : Item = record { region = window_part c f; class = c; extent = extent f } in
+        let y : Item = record { region = window_part c g; class = c; extent = outer g } in
         append_zip IsAlikeItem (map (own_item c) xs) (cond (opens f) (x ∷ []) []) (map (own_item c) ys) (cond (others_open g) (y ∷ []) [])
         (map_zip IsAlikeRegion IsAlikeItem (own_item c) (own_item c) (λ r u alike. record { region = alike; class = refl; extent = extent_same r u alike }) xs ys
         (own_parts_alike q anew s t pairs f g is c keeps others (λ p. keep_same record { function = f; part = p } record { function = g; part = p } record { function = is; part = refl })))
         (cond_zip IsAlikeItem (opens f) (others_open g) (opens_same f g is) (x ∷ []) [] (y ∷ []) []
-        (λ opened. (record { region = record { function = is; part = refl }; class = refl; extent = same f g is (and_parts (is_bridge f) (has_of q s c f) (and_parts (is_bridge f && has_of q s c f) (not (keeps (window_region c f))) opened).0).0 }, tt)) tt)
+        (λ opened. (record { region = record { function = is; part = refl }; class = refl; extent = same f g is (and_parts (is_bridge f) (has_of q s c f) (and_parts (is_bridge f && has_of q s c f) (not (keeps (window_part c f))) opened).0).0 }, tt)) tt)
 
-    pub items_alike : (bus : ℕ) → AllZip IsAlikeItem (items_on q s c keeps extent bus) (items_on q t c others outer bus)
+    pub items_alike : (bus : ℕ) → AllZip IsAlikeItem (bus_items q s c keeps extent bus) (bus_items q t c others outer bus)
     items_alike bus =
         let on = λ (f : Function). cond (are_siblings q.roots bus f.slot.bus) (items_of q s c keeps extent f) [] in
         let too = λ (g : Function). cond (are_siblings q.roots bus g.slot.bus) (items_of q t c others outer g) [] in
@@ -101,8 +101,8 @@ module _ (q : Request) (anew : IsTrue q.anew) (s t : System) (pairs : AllZip IsA
   unfolding window_within
   windows_alike zero f g is bridge = around_same f g is [] [] refl
   windows_alike (suc depth) f g is bridge =
-      let extents = λ (u : System) (bus : ℕ). map (λ (i : Item). i.extent) (items_on q u c nothing (window_within q u c depth) bus) in
+      let extents = λ (u : System) (bus : ℕ). map (λ (i : Item). i.extent) (bus_items q u c nothing (window_within q u c depth) bus) in
       around_same f g is (extents s (secondary f)) (extents t (secondary g))
-      (map_same IsAlikeItem (λ (i : Item). i.extent) (λ (i : Item). i.extent) (λ i j alike. alike.extent) (items_on q s c nothing (window_within q s c depth) (secondary f)) (items_on q t c nothing (window_within q t c depth) (secondary f))
+      (map_same IsAlikeItem (λ (i : Item). i.extent) (λ (i : Item). i.extent) (λ i j alike. alike.extent) (bus_items q s c nothing (window_within q s c depth) (secondary f)) (bus_items q t c nothing (window_within q t c depth) (secondary f))
       (items_alike nothing nothing (λ r u alike. refl) (window_within q s c depth) (window_within q t c depth) (windows_alike depth) (secondary f))
       ∙ ap (extents t) (is.secondary bridge))

@@ -8,12 +8,12 @@ use Rattle.pci_spec.specs.System.{System, Function, Space, Io, Memory, space_of,
 use Rattle.pci_spec.specs.Bus.{secondary, is_root}
 use Rattle.plan_spec.specs.Place.{range_from}
 use Rattle.settle_spec.specs.FirstPlace.{Extent, first_place}
-use Rattle.settle_spec.specs.Lists.{Request, ranges_of}
-use Rattle.settle_spec.specs.Parts.{Region, addresses, bridge_over}
-use Rattle.settle_spec.specs.Stands.{rank, window_region}
-use Rattle.settle_spec.specs.Items.{Item, Placed, Placing, AllPlaced, Lacks, and_placed, place_next, place_all, taken_by, items_on, new_window, stays}
+use Rattle.settle_spec.specs.Lists.{Request, class_ranges}
+use Rattle.settle_spec.specs.Parts.{FunctionPart, addresses, bridge_over}
+use Rattle.settle_spec.specs.Stands.{rank, window_part}
+use Rattle.settle_spec.specs.Items.{Item, Placed, Placing, AllPlaced, Lacks, and_placed, place_next, place_all, taken_by, bus_items, new_window, stays}
 use Rattle.settle_spec.specs.FirstPlace.{is_high}
-use Rattle.settle_spec.specs.Places.{wide_ranges, root_ranges, space_items, taken_at, placed_of, place_among, placed_range, window_ranges, ranges_for, placing_within, placing_on, new_place, first_lack, lacking_on, lacking}
+use Rattle.settle_spec.specs.Places.{wide_ranges, root_ranges, space_items, taken_at, placed_of, place_among, placed_range, window_ranges, ranges_of_item, placing_within, placing_on, new_place, first_lack, lacking_on, lacking}
 use Rattle.settle_spec.proofs.Anew.{none_stays}
 use Rattle.settle_laws.proofs.Anew.{none_taken}
 use Rattle.settle_laws.proofs.Zipped.{BothOrNone, append_zip, find_zip}
@@ -73,7 +73,7 @@ range_alike (Some x) (Some y) both =
     let extent = both.item.extent in
     λ i. range_from (at i) (extent i).size ∷ []
 
-among_alike : (r t : Region) → IsAlikeRegion r t → (xs ys : List Placed) → AllZip IsAlikePlaced xs ys → BothOrNone IsAlikePlaced (place_among r xs) (place_among t ys)
+among_alike : (r t : FunctionPart) → IsAlikeRegion r t → (xs ys : List Placed) → AllZip IsAlikePlaced xs ys → BothOrNone IsAlikePlaced (place_among r xs) (place_among t ys)
 among_alike r t is xs ys pairs =
     find_zip IsAlikePlaced (λ (p : Placed). rank p.item.region == rank r) (λ (p : Placed). rank p.item.region == rank t)
     (λ x y alike. let first = rank_same x.item.region y.item.region alike.item.region in let second = rank_same r t is in λ i. first i == second i) xs ys pairs
@@ -87,38 +87,38 @@ module _ (q : Request) (anew : IsTrue q.anew) (s t : System) (pairs : AllZip IsA
     window_alike c None (Some d) both = absurd both
     window_alike c (Some b) None both = absurd both
     window_alike c (Some b) (Some d) both =
-        ap (λ x. cond x (addresses (window_region c b) ∷ []) (placed_range (place_among (window_region c b) (placed b.slot.bus)))) (none_stays q s anew (window_region c b))
-        ∙ range_alike (place_among (window_region c b) (placed b.slot.bus)) (place_among (window_region c d) (others b.slot.bus))
-        (among_alike (window_region c b) (window_region c d) record { function = both; part = refl } (placed b.slot.bus) (others b.slot.bus) (same b.slot.bus))
-        ∙ ap (λ bus. placed_range (place_among (window_region c d) (others bus))) (bus_alike b d both)
-        ∙ sym (ap (λ x. cond x (addresses (window_region c d) ∷ []) (placed_range (place_among (window_region c d) (others d.slot.bus)))) (none_stays q t anew (window_region c d)))
+        ap (λ x. cond x (addresses (window_part c b) ∷ []) (placed_range (place_among (window_part c b) (placed b.slot.bus)))) (none_stays q s anew (window_part c b))
+        ∙ range_alike (place_among (window_part c b) (placed b.slot.bus)) (place_among (window_part c d) (others b.slot.bus))
+        (among_alike (window_part c b) (window_part c d) record { function = both; part = refl } (placed b.slot.bus) (others b.slot.bus) (same b.slot.bus))
+        ∙ ap (λ bus. placed_range (place_among (window_part c d) (others bus))) (bus_alike b d both)
+        ∙ sym (ap (λ x. cond x (addresses (window_part c d) ∷ []) (placed_range (place_among (window_part c d) (others d.slot.bus)))) (none_stays q t anew (window_part c d)))
 
     over_alike : (bus : ℕ) → BothOrNone IsAlike (bridge_over s bus) (bridge_over t bus)
     over_alike bus = find_zip IsAlike (λ b. is_bridge b && secondary b == bus) (λ b. is_bridge b && secondary b == bus)
         (λ f g is. of_bridges f g is (secondary f == bus) (secondary g == bus) (λ bridge. ap (λ n. n == bus) (is.secondary bridge))) s t pairs
 
-    ranges_alike : (i j : Item) → IsAlikeItem i j → ranges_for q s placed i ≡ ranges_for q t others j
+    ranges_alike : (i j : Item) → IsAlikeItem i j → ranges_of_item q s placed i ≡ ranges_of_item q t others j
     ranges_alike i j is =
         let bus = bus_alike i.region.function j.region.function is.region.function in
         let class = is.class in
         let extent = is.extent in
         let over = window_alike i.class (bridge_over s i.region.function.slot.bus) (bridge_over t i.region.function.slot.bus) (over_alike i.region.function.slot.bus) in
-        let here : ranges_for q s placed i ≡ (if is_root q.roots i.region.function.slot.bus then root_ranges q i else window_ranges q t others i.class (bridge_over t i.region.function.slot.bus)) =
+        let here : ranges_of_item q s placed i ≡ (if is_root q.roots i.region.function.slot.bus then root_ranges q i else window_ranges q t others i.class (bridge_over t i.region.function.slot.bus)) =
         ap (λ w. if is_root q.roots i.region.function.slot.bus then root_ranges q i else w) over in
         here ∙ (λ n. if is_root q.roots (bus n)
-        then ranges_of q (class n) (bus n) ++ (if is_high (extent n) then wide_ranges q (class n) (bus n) else [])
+        then class_ranges q (class n) (bus n) ++ (if is_high (extent n) then wide_ranges q (class n) (bus n) else [])
         else window_ranges q t others (class n) (bridge_over t (bus n)))
 
   -- ---- the items of a space
 
-  of_class : (c : WindowKind) (bus : ℕ) → AllZip IsAlikeItem (items_on q s c (stays q s) (new_window q s c) bus) (items_on q t c (stays q t) (new_window q t c) bus)
+  of_class : (c : WindowKind) (bus : ℕ) → AllZip IsAlikeItem (bus_items q s c (stays q s) (new_window q s c) bus) (bus_items q t c (stays q t) (new_window q t c) bus)
   of_class c bus = items_alike q anew s t pairs c (stays q s) (stays q t) (λ r u is. none_stays q s anew r ∙ sym (none_stays q t anew u)) (new_window q s c) (new_window q t c) (windows_alike q anew s t pairs c 256) bus
 
   space_items_alike : (space : Space) (bus : ℕ) → AllZip IsAlikeItem (space_items q s space bus) (space_items q t space bus)
   space_items_alike Io bus = of_class IoWindow bus
   space_items_alike Memory bus =
-      append_zip IsAlikeItem (items_on q s MemoryWindow (stays q s) (new_window q s MemoryWindow) bus) (items_on q s PrefetchWindow (stays q s) (new_window q s PrefetchWindow) bus)
-      (items_on q t MemoryWindow (stays q t) (new_window q t MemoryWindow) bus) (items_on q t PrefetchWindow (stays q t) (new_window q t PrefetchWindow) bus) (of_class MemoryWindow bus) (of_class PrefetchWindow bus)
+      append_zip IsAlikeItem (bus_items q s MemoryWindow (stays q s) (new_window q s MemoryWindow) bus) (bus_items q s PrefetchWindow (stays q s) (new_window q s PrefetchWindow) bus)
+      (bus_items q t MemoryWindow (stays q t) (new_window q t MemoryWindow) bus) (bus_items q t PrefetchWindow (stays q t) (new_window q t PrefetchWindow) bus) (of_class MemoryWindow bus) (of_class PrefetchWindow bus)
 
   -- ---- places
 
@@ -129,11 +129,11 @@ module _ (q : Request) (anew : IsTrue q.anew) (s t : System) (pairs : AllZip IsA
       let placed = λ (over : ℕ). placed_of (placing_within q s space depth over) in
       let others = λ (over : ℕ). placed_of (placing_within q t space depth over) in
       let taken = none_taken q s anew space bus ∙ sym (none_taken q t anew space bus) in
-      subst (λ ts. ArePlacedAlike (place_all (ranges_for q s placed) (taken_at q s space bus) (space_items q s space bus)) (place_all (ranges_for q t others) ts (space_items q t space bus))) taken
-      (all_alike (ranges_for q s placed) (ranges_for q t others) (ranges_alike placed others (λ over. placed_alike (placing_within q s space depth over) (placing_within q t space depth over) (placing_alike space depth over)))
+      subst (λ ts. ArePlacedAlike (place_all (ranges_of_item q s placed) (taken_at q s space bus) (space_items q s space bus)) (place_all (ranges_of_item q t others) ts (space_items q t space bus))) taken
+      (all_alike (ranges_of_item q s placed) (ranges_of_item q t others) (ranges_alike placed others (λ over. placed_alike (placing_within q s space depth over) (placing_within q t space depth over) (placing_alike space depth over)))
       (taken_at q s space bus) (space_items q s space bus) (space_items q t space bus) (space_items_alike space bus))
 
-  pub new_places_alike : (r u : Region) → IsAlikeRegion r u → BothOrNone IsAlikePlaced (new_place q s r) (new_place q t u)
+  pub new_places_alike : (r u : FunctionPart) → IsAlikeRegion r u → BothOrNone IsAlikePlaced (new_place q s r) (new_place q t u)
   new_places_alike r u is =
       let bus = bus_alike r.function u.function is.function in
       let space = space_alike r.function u.function is.function r.part ∙ ap (space_of u.function) is.part in

@@ -13,10 +13,10 @@ use Rattle.pci_spec.proofs.Nesting.{one_function}
 use Rattle.plan_spec.specs.Planning.Layout.{AreBeside, AreTwo, LieApart}
 use Rattle.plan_spec.proofs.Planning.LaidOut.{opening}
 use Rattle.plan_spec.proofs.Planning.Writes.{same_fields}
-use Rattle.settle_spec.specs.FirstPlace.{are_apart}
+use Rattle.settle_spec.specs.FirstPlace.{ranges_are_apart}
 use Rattle.settle_spec.specs.Lists.{Request}
-use Rattle.settle_spec.specs.Parts.{Region, regions, regions_of, parts_of, header_parts, addresses, is_part}
-use Rattle.settle_spec.specs.Stands.{rank, precedes, are_beside, is_in_place, takes_from, stands}
+use Rattle.settle_spec.specs.Parts.{FunctionPart, system_parts, function_parts, parts_of, header_parts, addresses, is_part}
+use Rattle.settle_spec.specs.Stands.{rank, part_precedes, are_beside, is_in_place, takes_from, stands}
 use Rattle.stand_laws.specs.Standing.{IsStanding}
 use Rattle.stand_laws.proofs.Order.{precedes_itself}
 use Rattle.stand_laws.proofs.Standing.{stands_alone}
@@ -27,12 +27,12 @@ same_slot_itself s = and_from (s.bus == s.bus && s.device == s.device) (s.functi
     (and_from (s.bus == s.bus) (s.device == s.device) (eq-eqb s.bus s.bus refl) (eq-eqb s.device s.device refl)) (eq-eqb s.function s.function refl)
 
 -- what lies apart is apart
-pub apart_from : (r t : Range) → LieApart r t → are_apart r t ≡ true
+pub apart_from : (r t : Range) → LieApart r t → ranges_are_apart r t ≡ true
 apart_from r t (inl under) = or_left (nat_lt r.last t.first) (nat_lt t.last r.first) (lt-ltb r.last t.first under)
 apart_from r t (inr above) = or_right (nat_lt r.last t.first) (nat_lt t.last r.first) (lt-ltb t.last r.first above)
 
 -- parts of two ranks are two
-pub two_of : (r t : Region) → (rank r ≡ rank t → ⊥) → AreTwo r.function r.part t.function t.part
+pub two_of : (r t : FunctionPart) → (rank r ≡ rank t → ⊥) → AreTwo r.function r.part t.function t.part
 two_of r t differ = elim (cases_Bool (same_slot r.function.slot t.function.slot)) [
   | inr other ↦ inl other
   | inl same ↦
@@ -49,24 +49,24 @@ beside_of roots f g beside = elim (or_cases (f.slot.bus == g.slot.bus) (is_root 
 ]
 
 module _ (q : Request) (s : System) where
-  abbrev pub looked_at : Region → Bool
+  abbrev pub looked_at : FunctionPart → Bool
   looked_at r = is_part q s r.function r.part
 
   -- a part that is looked at
-  pub record IsLookedAt (r : Region) : Type 0 where
+  pub record IsLookedAt (r : FunctionPart) : Type 0 where
     pub listed : Contains s r.function
     pub there : Contains (header_parts r.function) r.part
     pub part : is_part q s r.function r.part ≡ true
 
-  pub looked : (r : Region) → Contains (regions q s) r → IsLookedAt r
+  pub looked : (r : FunctionPart) → Contains (system_parts q s) r → IsLookedAt r
   looked r has =
-      let piece : IsInPiece (regions_of q s) s r = in_flat_map_to (regions_of q s) s r has in
+      let piece : IsInPiece (function_parts q s) s r = in_flat_map_to (function_parts q s) s r has in
       let f = piece.of in
       let made : IsMade (λ p. record { function = f; part = p }) (parts_of q s f) r = in_map_to (λ p. record { function = f; part = p }) (parts_of q s f) r piece.piece in
       let kept = in_filter_to (is_part q s f) (header_parts f) made.from made.has in
       subst IsLookedAt made.is record { listed = piece.has; there = kept.0; part = kept.1 }
 
-  is_header_part : (r : Region) → IsLookedAt r → IsPart r.function r.part
+  is_header_part : (r : FunctionPart) → IsLookedAt r → IsPart r.function r.part
   is_header_part r is = record { there = is.there; bridge = by r.part is.part }
     where
       by : (p : Part) → is_part q s r.function p ≡ true → is_window p ≡ true → is_bridge r.function ≡ true
@@ -76,12 +76,12 @@ module _ (q : Request) (s : System) where
 
   -- ---- two parts have two ranks
 
-  pub record IsOne (r t : Region) : Type 0 where
+  pub record IsOne (r t : FunctionPart) : Type 0 where
     pub function : r.function ≡ t.function
     pub register : register_of r.function r.part ≡ register_of t.function t.part
 
   module _ (system : IsSystem s) where
-    one_rank : (r t : Region) → IsLookedAt r → IsLookedAt t → rank r ≡ rank t → IsOne r t
+    one_rank : (r t : FunctionPart) → IsLookedAt r → IsLookedAt t → rank r ≡ rank t → IsOne r t
     one_rank r t is_r is_t same =
         let low_r = register_low r.function r.part (is_header_part r is_r) in
         let low_t = register_low t.function t.part (is_header_part t is_t) in
@@ -90,13 +90,13 @@ module _ (q : Request) (s : System) where
           register = omega (arith, same, low_r, low_t);
         }
 
-    pub two_ranks : (r t : Region) → IsLookedAt r → IsLookedAt t → AreTwo r.function r.part t.function t.part → rank r ≡ rank t → ⊥
+    pub two_ranks : (r t : FunctionPart) → IsLookedAt r → IsLookedAt t → AreTwo r.function r.part t.function t.part → rank r ≡ rank t → ⊥
     two_ranks r t is_r is_t (inl slots) same =
         both_ways (same_slot r.function.slot t.function.slot) slots
         (ap (λ f. same_slot r.function.slot f.slot) (sym (one_rank r t is_r is_t same).function) ∙ same_slot_itself r.function.slot)
     two_ranks r t is_r is_t (inr registers) same = registers (one_rank r t is_r is_t same).register
 
-    one_region : (r t : Region) → IsLookedAt r → IsLookedAt t → rank r ≡ rank t → r ≡ t
+    one_region : (r t : FunctionPart) → IsLookedAt r → IsLookedAt t → rank r ≡ rank t → r ≡ t
     one_region r t is_r is_t same =
         let one = one_rank r t is_r is_t same in
         let part : r.part ≡ t.part = one_part r.function r.part t.part (is_header_part r is_r) (subst (λ f. IsPart f t.part) (sym one.function) (is_header_part t is_t))
@@ -105,26 +105,26 @@ module _ (q : Request) (s : System) where
 
     -- ---- the law
 
-    module _ (nested : IsNested q.roots s) (kept : q.anew ≡ false) (place : (r : Region) → Contains (regions q s) r → is_in_place q s looked_at r ≡ true)
-        (apart : (r t : Region) → Contains (regions q s) r → Contains (regions q s) t → are_beside q r t ≡ true → (rank r ≡ rank t → ⊥) → are_apart (addresses r) (addresses t) ≡ true) where
-      none_takes : (t r : Region) → Contains (regions q s) t → Contains (regions q s) r → takes_from q t r ≡ false
+    module _ (nested : IsNested q.roots s) (kept : q.anew ≡ false) (place : (r : FunctionPart) → Contains (system_parts q s) r → is_in_place q s looked_at r ≡ true)
+        (apart : (r t : FunctionPart) → Contains (system_parts q s) r → Contains (system_parts q s) t → are_beside q r t ≡ true → (rank r ≡ rank t → ⊥) → ranges_are_apart (addresses r) (addresses t) ≡ true) where
+      none_takes : (t r : FunctionPart) → Contains (system_parts q s) t → Contains (system_parts q s) r → takes_from q t r ≡ false
       none_takes t r in_t in_r = false_from_ne_true (takes_from q t r) (λ takes.
-          let two = and_parts (are_beside q t r && precedes q t r) (not (are_apart (addresses t) (addresses r))) takes in
-          let one = and_parts (are_beside q t r) (precedes q t r) two.0 in
+          let two = and_parts (are_beside q t r && part_precedes q t r) (not (ranges_are_apart (addresses t) (addresses r))) takes in
+          let one = and_parts (are_beside q t r) (part_precedes q t r) two.0 in
           let differ : (rank t ≡ rank r → ⊥) = λ same.
-          both_ways (precedes q r r) (precedes_itself q r) (subst (λ x. precedes q x r ≡ true) (one_region t r (looked t in_t) (looked r in_r) same) one.1) in
-          both_ways (not (are_apart (addresses t) (addresses r))) (ap not (apart t r in_t in_r one.0 differ)) two.1)
+          both_ways (part_precedes q r r) (precedes_itself q r) (subst (λ x. part_precedes q x r ≡ true) (one_region t r (looked t in_t) (looked r in_r) same) one.1) in
+          both_ways (not (ranges_are_apart (addresses t) (addresses r))) (ap not (apart t r in_t in_r one.0 differ)) two.1)
 
       standing : IsStanding q s looked_at
       standing = record {
         each = λ r listed.
             let part = (looked r listed).part in
             part
-            ∙ sym (and_from (not q.anew && looked_at r && is_in_place q s looked_at r) (list_all (λ t. not (takes_from q t r && looked_at t)) (regions q s))
+            ∙ sym (and_from (not q.anew && looked_at r && is_in_place q s looked_at r) (list_all (λ t. not (takes_from q t r && looked_at t)) (system_parts q s))
             (and_from (not q.anew && looked_at r) (is_in_place q s looked_at r) (and_from (not q.anew) (looked_at r) (ap not kept) part) (place r listed))
-            (all_from (λ t. not (takes_from q t r && looked_at t)) (regions q s) (λ t in_t. ap (λ b. not (b && looked_at t)) (none_takes t r in_t listed))));
+            (all_from (λ t. not (takes_from q t r && looked_at t)) (system_parts q s) (λ t in_t. ap (λ b. not (b && looked_at t)) (none_takes t r in_t listed))));
         only = λ r listed is. is;
       }
 
-      pub all_in_place : (r : Region) → Contains (regions q s) r → stands q s r ≡ true
+      pub all_in_place : (r : FunctionPart) → Contains (system_parts q s) r → stands q s r ≡ true
       all_in_place r listed = sym (stands_alone q s nested looked_at standing r listed) ∙ (looked r listed).part

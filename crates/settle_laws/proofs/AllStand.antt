@@ -14,13 +14,13 @@ use Rattle.plan_spec.proofs.Planning.AboveBuses.{above_to, above_from, root_or_l
 use Rattle.plan_spec.proofs.Planning.Behind.{behind_range, bridge_between}
 use Rattle.plan_spec.proofs.Planning.Safe.{order_of}
 use Rattle.settle_spec.specs.Lists.{Request}
-use Rattle.settle_spec.specs.Parts.{Region, regions, addresses, header_parts, is_part, class_in, same_space}
-use Rattle.settle_spec.specs.Stands.{window_region, region_space, stands}
-use Rattle.settle_spec.specs.Items.{Item, AllPlaced, place_all, are_placed, taken_on, items_on, has_of, has_room, holds, stays, new_window}
+use Rattle.settle_spec.specs.Parts.{FunctionPart, system_parts, addresses, header_parts, is_part, class_in, are_same_space}
+use Rattle.settle_spec.specs.Stands.{window_part, part_space, stands}
+use Rattle.settle_spec.specs.Items.{Item, AllPlaced, place_all, are_placed, taken_on, bus_items, has_of, has_room, has_room_behind, stays, new_window}
 use Rattle.settle_spec.specs.Places.{placed_of, place_among, space_items, placing_within, placing_on, new_place, first_lack, lacking_on, lacking}
 use Rattle.settle_spec.specs.Registers.{with_bounds, closed_if_open, shown, changing, settled_image, got_place}
 use Rattle.settle_spec.proofs.Nested.{is_no_root, one_bridge}
-use Rattle.stand_laws.specs.Holding.{IsHolding}
+use Rattle.stand_laws.specs.Holding.{TellsRoom}
 use Rattle.stand_laws.proofs.Holding.{holds_alone, stays_on_root, stays_by_bus}
 use Rattle.stand_laws.proofs.Standing.{part_of}
 use Rattle.settle_laws.proofs.HeaderParts.{header_of}
@@ -34,12 +34,12 @@ none_in : (xs : List Item) → ((i : Item) → Contains xs i → ⊥) → xs ≡
 none_in [] none = refl
 none_in (i ∷ xs) none = absurd (none i (in_head i xs))
 
-module _ (q : Request) (s : System) (system : IsSystem s) (nested : IsNested q.roots s) (all : (r : Region) → Contains (regions q s) r → stands q s r ≡ true) where
+module _ (q : Request) (s : System) (system : IsSystem s) (nested : IsNested q.roots s) (all : (r : FunctionPart) → Contains (system_parts q s) r → stands q s r ≡ true) where
   -- ---- windows above
 
   -- the windows above a part stand
-  over_stands : (n : ℕ) (r : Region) (b : Function) → r.function.slot.bus < n → Contains (regions q s) r → Contains (bridges_above s r.function.slot.bus) b
-      → stands q s (window_region (class_in q s r.function r.part) b) ≡ true
+  over_stands : (n : ℕ) (r : FunctionPart) (b : Function) → r.function.slot.bus < n → Contains (system_parts q s) r → Contains (bridges_above s r.function.slot.bus) b
+      → stands q s (window_part (class_in q s r.function r.part) b) ≡ true
   over_stands zero r b less listed above = absurd (let no : ⊥ = omega (arith, less) in no)
   over_stands (suc n) r b less listed above =
       let f = r.function in
@@ -53,35 +53,35 @@ module _ (q : Request) (s : System) (system : IsSystem s) (nested : IsNested q.r
             let up = order_of q.roots s nested d leader.listed leader.bridge in
             let stands_d = (within_over q s system nested d leader.listed leader.bridge r listed to (all r listed)).1 in
             elim (cases_eq (secondary b) (secondary d)) [
-              | inl same ↦ subst (λ x. stands q s (window_region c x) ≡ true) (sym (one_bridge q.roots s system nested b d is.listed leader.listed is.bridge leader.bridge same)) stands_d
+              | inl same ↦ subst (λ x. stands q s (window_part c x) ≡ true) (sym (one_bridge q.roots s system nested b d is.listed leader.listed is.bridge leader.bridge same)) stands_d
               | inr differ ↦
                   let behind = subst (λ bus. is_behind b bus ≡ true) (sym to) is.behind in
                   let low = (behind_range b (secondary d) behind).0 in
                   let between = bridge_between q.roots s system nested b d is.listed leader.listed is.bridge leader.bridge behind (omega (arith, low, differ)) in
-                  over_stands n (window_region c d) b (omega (arith, less, to, up)) (window_listed q s system nested d leader.listed leader.bridge c stands_d)
+                  over_stands n (window_part c d) b (omega (arith, less, to, up)) (window_listed q s system nested d leader.listed leader.bridge c stands_d)
                   (above_from s d.slot.bus b record { listed = is.listed; bridge = is.bridge; behind = between })
             ]
       ]
 
   -- so does the window of a bridge with a BAR or ROM of its class behind it
-  window_stands : (c : WindowKind) (b : Function) → Contains s b → is_bridge b ≡ true → has_of q s c b ≡ true → stands q s (window_region c b) ≡ true
+  window_stands : (c : WindowKind) (b : Function) → Contains s b → is_bridge b ≡ true → has_of q s c b ≡ true → stands q s (window_part c b) ≡ true
   window_stands c b listed bridge has =
       let is : IsBehindOf q s c b = behind_of q s c b listed bridge has in
-      ap (λ k. stands q s (window_region k b)) (sym is.class)
+      ap (λ k. stands q s (window_part k b)) (sym is.class)
       ∙ over_stands (suc is.f.slot.bus) record { function = is.f; part = is.p } b (omega arith) (in_regions q s is.f is.p is.listed is.there is.part) is.above
 
   -- ---- nothing is to be placed
 
-  no_items : (keeps : Region → Bool) → ((r : Region) → Contains (regions q s) r → keeps r ≡ true) → (c : WindowKind) (bus : ℕ) → items_on q s c keeps (new_window q s c) bus ≡ []
-  no_items keeps each c bus = none_in (items_on q s c keeps (new_window q s c) bus) (λ i has.
+  no_items : (keeps : FunctionPart → Bool) → ((r : FunctionPart) → Contains (system_parts q s) r → keeps r ≡ true) → (c : WindowKind) (bus : ℕ) → bus_items q s c keeps (new_window q s c) bus ≡ []
+  no_items keeps each c bus = none_in (bus_items q s c keeps (new_window q s c) bus) (λ i has.
       let is = items_are q s (new_window q s) c keeps bus i has in
       let moves = ap (λ (j : Item). keeps j.region) is.is ∙ item_moves q s (new_window q s) c keeps bus i has in
       both_ways (keeps record { function = is.f; part = is.p }) moves (each record { function = is.f; part = is.p } (looked_at c bus i is is.can)))
     where
-      looked_at : (c : WindowKind) (bus : ℕ) (i : Item) (is : IsItemOf q s (new_window q s) c bus i) → IsPlaceable q s c is.f is.p → Contains (regions q s) record { function = is.f; part = is.p }
+      looked_at : (c : WindowKind) (bus : ℕ) (i : Item) (is : IsItemOf q s (new_window q s) c bus i) → IsPlaceable q s c is.f is.p → Contains (system_parts q s) record { function = is.f; part = is.p }
       looked_at c bus i is (IsOwnPart plain part) = in_regions q s is.f is.p is.listed (header_of is.f is.p is.there) part
       looked_at c bus i is (IsNewWindow window bridge has) =
-          subst (λ o. Contains (regions q s) record { function = is.f; part = o }) (sym window)
+          subst (λ o. Contains (system_parts q s) record { function = is.f; part = o }) (sym window)
           (window_listed q s system nested is.f is.listed bridge c (window_stands c is.f is.listed bridge has))
 
   -- ---- so everything stays
@@ -90,19 +90,19 @@ module _ (q : Request) (s : System) (system : IsSystem s) (nested : IsNested q.r
   has_its_room f (Bar n) = refl
   has_its_room f Rom = refl
   has_its_room f (Window c) =
-      ap (λ items. are_placed (place_all (λ i. addresses (window_region c f) ∷ []) (taken_on q s c (stands q s) (secondary f)) items)) (no_items (stands q s) all c (secondary f))
+      ap (λ items. are_placed (place_all (λ i. addresses (window_part c f) ∷ []) (taken_on q s c (stands q s) (secondary f)) items)) (no_items (stands q s) all c (secondary f))
 
-  holding : IsHolding q s (stands q s)
+  holding : TellsRoom q s (stands q s)
   holding r listed = sym (ap (λ b. stands q s r && b) (has_its_room r.function r.part) ∙ and_true (stands q s r))
     where
       and_true : (b : Bool) → (b && true) ≡ b
       and_true true = refl
       and_true false = refl
 
-  all_hold : (r : Region) → Contains (regions q s) r → holds q s r ≡ true
+  all_hold : (r : FunctionPart) → Contains (system_parts q s) r → has_room_behind q s r ≡ true
   all_hold r listed = sym (holds_alone q s system nested (stands q s) holding r (part_of q s r listed).listed) ∙ all r listed
 
-  stays_within : (n : ℕ) (r : Region) → r.function.slot.bus < n → Contains (regions q s) r → stays q s r ≡ true
+  stays_within : (n : ℕ) (r : FunctionPart) → r.function.slot.bus < n → Contains (system_parts q s) r → stays q s r ≡ true
   stays_within zero r less listed = absurd (let no : ⊥ = omega (arith, less) in no)
   stays_within (suc n) r less listed =
       let f = r.function in
@@ -114,10 +114,10 @@ module _ (q : Request) (s : System) (system : IsSystem s) (nested : IsNested q.r
             let up = order_of q.roots s nested b leader.listed leader.bridge in
             let over = window_listed q s system nested b leader.listed leader.bridge c (within_over q s system nested b leader.listed leader.bridge r listed to (all r listed)).1 in
             stays_by_bus q s system nested r b (leader.listed, leader.bridge, to)
-            ∙ and_from (holds q s r) (stays q s (window_region c b)) (all_hold r listed) (stays_within n (window_region c b) (omega (arith, less, to, up)) over)
+            ∙ and_from (has_room_behind q s r) (stays q s (window_part c b)) (all_hold r listed) (stays_within n (window_part c b) (omega (arith, less, to, up)) over)
       ]
 
-  pub all_stay : (r : Region) → Contains (regions q s) r → stays q s r ≡ true
+  pub all_stay : (r : FunctionPart) → Contains (system_parts q s) r → stays q s r ≡ true
   all_stay r listed = stays_within (suc r.function.slot.bus) r (omega arith) listed
 
   -- ---- and nothing gets a place
@@ -125,14 +125,14 @@ module _ (q : Request) (s : System) (system : IsSystem s) (nested : IsNested q.r
   no_space_items : (space : Space) (bus : ℕ) → space_items q s space bus ≡ []
   no_space_items Io bus = no_items (stays q s) all_stay IoWindow bus
   no_space_items Memory bus =
-      ap (λ items. items ++ items_on q s PrefetchWindow (stays q s) (new_window q s PrefetchWindow) bus) (no_items (stays q s) all_stay MemoryWindow bus)
+      ap (λ items. items ++ bus_items q s PrefetchWindow (stays q s) (new_window q s PrefetchWindow) bus) (no_items (stays q s) all_stay MemoryWindow bus)
       ∙ no_items (stays q s) all_stay PrefetchWindow bus
 
   none_placed : (space : Space) (bus : ℕ) → placing_on q s space bus ≡ AllPlaced []
   unfolding placing_within
   none_placed space bus = ap (place_all _ _) (no_space_items space bus)
 
-  pub no_place : (r : Region) → new_place q s r ≡ None
+  pub no_place : (r : FunctionPart) → new_place q s r ≡ None
   no_place r = ap (λ p. place_among r (placed_of p)) (none_placed (space_of r.function r.part) r.function.slot.bus)
 
   pub none_lacks : lacking q s ≡ None
@@ -145,14 +145,14 @@ module _ (q : Request) (s : System) (system : IsSystem s) (nested : IsNested q.r
           ∙ ap (λ p. first_lack p None) (none_placed Memory root)
 
   pub got_none : (space : Space) (f : Function) → got_place q s space f ≡ false
-  got_none space f = none_by (λ r. same_space space (region_space r) && is_some (new_place q s r)) (changing q s f)
-      (λ r has. and_right (same_space space (region_space r)) (is_some (new_place q s r)) (ap is_some (no_place r)))
+  got_none space f = none_by (λ r. are_same_space space (part_space r) && is_some (new_place q s r)) (changing q s f)
+      (λ r has. and_right (are_same_space space (part_space r)) (is_some (new_place q s r)) (ap is_some (no_place r)))
 
   -- ---- registers
 
   step_leaves : (f : Function) → Contains s f → (p : Part) → Contains (header_parts f) p → (image : List ℕ) → shown q s record { function = f; part = p } (new_place q s record { function = f; part = p }) image ≡ image
   step_leaves f listed p there image =
-      let r : Region = record { function = f; part = p } in
+      let r : FunctionPart = record { function = f; part = p } in
       ap (λ o. shown q s r o image) (no_place r)
       ∙ elim (cases_Bool (is_part q s f p)) [
         | inl part ↦ ap (λ t. cond t image (closed_if_open f p image)) (all_stay r (in_regions q s f p listed there part))
@@ -173,4 +173,4 @@ module _ (q : Request) (s : System) (system : IsSystem s) (nested : IsNested q.r
       fold_keeps (λ x. x ≡ f.image) (λ x r. shown q s r (new_place q s r) x) (changing q s f)
       (λ r has x same.
       let c : IsChanging q s f r = changing_is q s f r has in
-      subst (λ (t : Region). shown q s t (new_place q s t) x ≡ f.image) c.is (step_leaves f listed c.p c.there x ∙ same)) f.image refl
+      subst (λ (t : FunctionPart). shown q s t (new_place q s t) x ≡ f.image) c.is (step_leaves f listed c.p c.there x ∙ same)) f.image refl

@@ -17,12 +17,12 @@ use Rattle.plan_spec.proofs.Planning.Placement.{power_pos, step_power}
 use Rattle.plan_spec.proofs.Planning.PlacedItems.{same_class_is}
 use Rattle.plan_spec.proofs.Planning.Safe.{order_of}
 use Rattle.plan_spec.proofs.Planning.Tables.{class_itself}
-use Rattle.settle_spec.specs.FirstPlace.{Extent, least_of, is_spot, ends_in, is_place}
+use Rattle.settle_spec.specs.FirstPlace.{Extent, least_number, is_spot, ends_by, is_place}
 use Rattle.settle_spec.specs.Lists.{Request}
-use Rattle.settle_spec.specs.Parts.{Region, addresses, bridge_over, class_in}
-use Rattle.settle_spec.specs.Stands.{stands, window_region}
-use Rattle.settle_spec.specs.Items.{Item, Placed, Placing, AllPlaced, Lacks, are_placed, place_all, taken_by, has_of, holds, items_on, nothing, highest_in, window_around, new_window, stays, taken_on}
-use Rattle.settle_spec.specs.Places.{placed_of, place_among, placed_range, root_ranges, window_ranges, ranges_for, space_items, taken_at, placing_on, first_lack, root_lack, lacking_on}
+use Rattle.settle_spec.specs.Parts.{FunctionPart, addresses, bridge_over, class_in}
+use Rattle.settle_spec.specs.Stands.{stands, window_part}
+use Rattle.settle_spec.specs.Items.{Item, Placed, Placing, AllPlaced, Lacks, are_placed, place_all, taken_by, has_of, has_room_behind, bus_items, nothing, highest_in, window_around, new_window, stays, taken_on}
+use Rattle.settle_spec.specs.Places.{placed_of, place_among, placed_range, root_ranges, window_ranges, ranges_of_item, space_items, taken_at, placing_on, first_lack, root_lack, lacking_on}
 use Rattle.settle_spec.specs.PlacingLaws.{ArePlaced}
 use Rattle.settle_spec.specs.WindowLaws.{CanBeIn}
 use Rattle.settle_spec.proofs.BridgeOver.{over_is}
@@ -65,7 +65,7 @@ module _ (q : Request) (s : System) (can : CanSettle q s) where
     bus = secondary b
 
     abbrev ranges : Item → List Range
-    ranges = ranges_for q s (places q s can space)
+    ranges = ranges_of_item q s (places q s can space)
 
     abbrev taken : List Range
     taken = taken_at q s space bus
@@ -73,13 +73,13 @@ module _ (q : Request) (s : System) (can : CanSettle q s) where
     on_bus : (n : ℕ) → are_siblings q.roots bus n ≡ true → bus ≡ n
     on_bus n beside = on_it q.roots s can.system can.nested b n listed bridge beside
 
-    window_beside : (c : WindowKind) → window_space c ≡ space → IsBeside q s can space b.slot.bus (window_region c b)
+    window_beside : (c : WindowKind) → window_space c ≡ space → IsBeside q s can space b.slot.bus (window_part c b)
     window_beside c of = record { listed = listed; there = window_of b c; beside = beside_itself q s can b.slot.bus; at = of }
 
     -- the range that an item of a class has, and off what all of them have room in it
     pub record HasRange (c : WindowKind) : Type 0 where
       pub range : Range
-      pub ends : EndsIn q s can over.placed (window_region c b) range
+      pub ends : EndsIn q s can over.placed (window_part c b) range
       pub shown : window_ranges q s (places q s can space) c (Some b) ≡ range ∷ []
       pub off : List Range
       pub room : are_placed (place_all (λ i. range ∷ []) off (items q s can c bus)) ≡ true
@@ -88,27 +88,27 @@ module _ (q : Request) (s : System) (can : CanSettle q s) where
 
     -- ---- a window that stays
 
-    module _ (c : WindowKind) (of : window_space c ≡ space) (keeps : stays q s (window_region c b) ≡ true) where
+    module _ (c : WindowKind) (of : window_space c ≡ space) (keeps : stays q s (window_part c b) ≡ true) where
       abbrev kept_range : Range
-      kept_range = addresses (window_region c b)
+      kept_range = addresses (window_part c b)
 
       abbrev holding_on : List Range
-      holding_on = taken_on q s c (holds q s) bus
+      holding_on = taken_on q s c (has_room_behind q s) bus
 
-      stays_there : (t : Region) → Contains s t.function → are_siblings q.roots bus t.function.slot.bus ≡ true → class_in q s t.function t.part ≡ c → stays q s t ≡ holds q s t
+      stays_there : (t : FunctionPart) → Contains s t.function → are_siblings q.roots bus t.function.slot.bus ≡ true → class_in q s t.function t.part ≡ c → stays q s t ≡ has_room_behind q s t
       stays_there t in_t beside class =
           stays_over q s can.system can.nested b listed bridge t in_t (on_bus t.function.slot.bus beside)
-          ∙ ap (λ k. holds q s t && stays q s (window_region k b)) class ∙ ap (λ x. holds q s t && x) keeps ∙ and_true (holds q s t)
+          ∙ ap (λ k. has_room_behind q s t && stays q s (window_part k b)) class ∙ ap (λ x. has_room_behind q s t && x) keeps ∙ and_true (has_room_behind q s t)
         where
           and_true : (x : Bool) → (x && true) ≡ x
           and_true true = refl
           and_true false = refl
 
-      kept_window : stands q s (window_region c b) ≡ true
-      kept_window = stays_stands q s can.system can.nested (window_region c b) listed keeps
+      kept_window : stands q s (window_part c b) ≡ true
+      kept_window = stays_stands q s can.system can.nested (window_part c b) listed keeps
 
-      -- what holds there in the other class is outside
-      of_other : (t : Range) (is : IsTaken q s (window_space c) (holds q s) bus t) → same_class c (class_in q s is.of.function is.of.part) ≡ false → IsOutside kept_range t
+      -- what has_room_behind there in the other class is outside
+      of_other : (t : Range) (is : IsTaken q s (window_space c) (has_room_behind q s) bus t) → same_class c (class_in q s is.of.function is.of.part) ≡ false → IsOutside kept_range t
       of_other t is differ =
           let r = is.of in
           let in_r = (part_of q s r is.listed).listed in
@@ -117,8 +117,8 @@ module _ (q : Request) (s : System) (can : CanSettle q s) where
           let stands_r = (holding q s can.system can.nested r in_r is.kept).stands in
           let within = within_over q s can.system can.nested b listed bridge r is.listed on stands_r in
           subst (IsOutside kept_range) is.is
-          (outside_within kept_range (addresses (window_region d b)) (addresses r)
-          (stand_apart q s can.system can.nested b.slot.bus (window_region c b) (window_region d b)
+          (outside_within kept_range (addresses (window_part d b)) (addresses r)
+          (stand_apart q s can.system can.nested b.slot.bus (window_part c b) (window_part d b)
           (window_listed q s can.system can.nested b listed bridge c kept_window) (window_listed q s can.system can.nested b listed bridge d within.1) kept_window within.1
           (beside_itself q s can b.slot.bus) (beside_itself q s can b.slot.bus) (sym is.at ∙ sym (space_of_class q s r.function r.part))
           (λ e. both_ways (same_class c d) differ (ap (same_class c) (sym (window_ranks q s can.system can.nested b listed bridge c d e)) ∙ class_itself c))) within.0)
@@ -127,16 +127,16 @@ module _ (q : Request) (s : System) (can : CanSettle q s) where
       kept_has_range = record {
         range = kept_range;
         ends = Keeps keeps refl;
-        shown = ap (λ t. cond t (kept_range ∷ []) (placed_range (place_among (window_region c b) (places q s can space b.slot.bus)))) keeps;
+        shown = ap (λ t. cond t (kept_range ∷ []) (placed_range (place_among (window_part c b) (places q s can space b.slot.bus)))) keeps;
         off = holding_on;
         room =
-            ap (λ xs. are_placed (place_all (λ i. kept_range ∷ []) holding_on xs)) (items_same q s (stays q s) (holds q s) bus c stays_there)
-            ∙ (holding q s can.system can.nested (window_region c b) listed (stays_holds q s (window_region c b) keeps)).room;
+            ap (λ xs. are_placed (place_all (λ i. kept_range ∷ []) holding_on xs)) (items_same q s (stays q s) (has_room_behind q s) bus c stays_there)
+            ∙ (holding q s can.system can.nested (window_part c b) listed (stays_holds q s (window_part c b) keeps)).room;
         to = λ t has.
             let is = at_is q s space bus t has in
-            inl (is_taken q s c (holds q s) bus t record { of = is.of; listed = is.listed; beside = is.beside; at = is.at ∙ sym of; kept = stays_holds q s is.of is.kept; is = is.is });
+            inl (is_taken q s c (has_room_behind q s) bus t record { of = is.of; listed = is.listed; beside = is.beside; at = is.at ∙ sym of; kept = stays_holds q s is.of is.kept; is = is.is });
         back = λ t has.
-            let is : IsTaken q s (window_space c) (holds q s) bus t = taken_is q s c (holds q s) bus t has in
+            let is : IsTaken q s (window_space c) (has_room_behind q s) bus t = taken_is q s c (has_room_behind q s) bus t has in
             elim (cases_Bool (same_class c (class_in q s is.of.function is.of.part))) [
               | inl same ↦
                   let keeps_it = stays_there is.of (part_of q s is.of is.listed).listed is.beside (same_class_is c (class_in q s is.of.function is.of.part) same) ∙ is.kept in
@@ -147,18 +147,18 @@ module _ (q : Request) (s : System) (can : CanSettle q s) where
 
     -- ---- a window that gets a place
 
-    module _ (c : WindowKind) (of : window_space c ≡ space) (moves : stays q s (window_region c b) ≡ false) where
-      none_there : (t : Region) → Contains s t.function → are_siblings q.roots bus t.function.slot.bus ≡ true → class_in q s t.function t.part ≡ c → stays q s t ≡ nothing t
+    module _ (c : WindowKind) (of : window_space c ≡ space) (moves : stays q s (window_part c b) ≡ false) where
+      none_there : (t : FunctionPart) → Contains s t.function → are_siblings q.roots bus t.function.slot.bus ≡ true → class_in q s t.function t.part ≡ c → stays q s t ≡ nothing t
       none_there t in_t beside class =
           stays_over q s can.system can.nested b listed bridge t in_t (on_bus t.function.slot.bus beside)
-          ∙ ap (λ k. holds q s t && stays q s (window_region k b)) class ∙ and_right (holds q s t) (stays q s (window_region c b)) moves
+          ∙ ap (λ k. has_room_behind q s t && stays q s (window_part k b)) class ∙ and_right (has_room_behind q s t) (stays q s (window_part c b)) moves
 
-      items_all : items q s can c bus ≡ items_on q s c nothing (new_window q s c) bus
+      items_all : items q s can c bus ≡ bus_items q s c nothing (new_window q s c) bus
       items_all = items_same q s (stays q s) nothing bus c none_there
 
       -- nothing of the class behind, so no item
       none_behind : has_of q s c b ≡ false → items q s can c bus ≡ []
-      none_behind none = items_all ∙ nothing_long (items_on q s c nothing (new_window q s c) bus) (sym (items_are_behind q s c (new_window q s c) can.system can.nested b listed bridge) ∙ none)
+      none_behind none = items_all ∙ nothing_long (bus_items q s c nothing (new_window q s c) bus) (sym (items_are_behind q s c (new_window q s c) can.system can.nested b listed bridge) ∙ none)
 
       module _ (has : has_of q s c b ≡ true) where
         window_place : HasPlace q s can space b (Window c) over.placed
@@ -182,7 +182,7 @@ module _ (q : Request) (s : System) (can : CanSettle q s) where
             let own = over.are.each x window_place.listed in
             let e = x.item.extent in
             let same : e ≡ new_window q s c b = ap (λ (i : Item). i.extent) window_place.item in
-            let parts = and_parts (is_spot own.0.first (taken_at q s space b.slot.bus) e x.at) (ends_in own.0 e x.at) own.2 in
+            let parts = and_parts (is_spot own.0.first (taken_at q s space b.slot.bus) e x.at) (ends_by own.0 e x.at) own.2 in
             let free = spot_gives own.0.first (taken_at q s space b.slot.bus) e x.at parts.0 in
             let end = and_parts (nat_le (x.at + (e.size - 1)) own.0.last) (nat_le (x.at + (e.size - 1)) e.highest) parts.1 in
             record {
@@ -203,7 +203,7 @@ module _ (q : Request) (s : System) (can : CanSettle q s) where
             let whole : (new_window q s c b).alignment ≡ max (page_size c) (greatest (map (λ (e : Extent). e.alignment) extents)) = ap (λ (e : Extent). e.alignment) around in
             let power = item_power q s (new_window q s) c bus i (new_window_power q s c) (items_are q s (new_window q s) c (stays q s) bus i has_i) in
             let end = law.below in
-            let highest : (new_window q s c b).highest ≡ least_of (highest_in c b.probe ∷ map (λ (e : Extent). e.highest) extents) = ap (λ (e : Extent). e.highest) around in
+            let highest : (new_window q s c b).highest ≡ least_number (highest_in c b.probe ∷ map (λ (e : Extent). e.highest) extents) = ap (λ (e : Extent). e.highest) around in
             let high = least_in (highest_in c b.probe ∷ map (λ (e : Extent). e.highest) extents) i.extent.highest (in_tail (highest_in c b.probe) (map (λ (e : Extent). e.highest) extents) i.extent.highest (in_map_from (λ (e : Extent). e.highest) extents i.extent in_e)) in
             record {
               alignment = power_pos i.extent.alignment power;
@@ -216,7 +216,7 @@ module _ (q : Request) (s : System) (can : CanSettle q s) where
             ap (λ n. are_placed (place_all (λ i. range_from window_place.at.at n ∷ []) [] (items q s can c bus))) (ap (λ (i : Item). i.extent.size) window_place.item)
             ∙ window_has_room (page_size c) (items q s can c bus) window_place.at.at (new_window q s c b).size (page_some c) (ap (λ (e : Extent). e.size) around) can_be
 
-        new_ends : EndsIn q s can over.placed (window_region c b) new_range
+        new_ends : EndsIn q s can over.placed (window_part c b) new_range
         new_ends = Gets moves window_place.at window_place.found_there window_place.listed (ap (λ (i : Item). i.region) window_place.item) refl
 
         -- what stays behind is in the other window
@@ -230,17 +230,17 @@ module _ (q : Request) (s : System) (can : CanSettle q s) where
             let of_d : window_space d ≡ space = space_of_class q s r.function r.part ∙ is.at in
             let within = within_over q s can.system can.nested b listed bridge r is.listed on (stays_stands q s can.system can.nested r in_r is.kept) in
             subst (IsOutside new_range) is.is
-            (outside_within new_range (addresses (window_region d b)) (addresses r)
-            (end_apart q s can space b.slot.bus over (window_region c b) (window_region d b) new_range (addresses (window_region d b)) (window_beside c of) (window_beside d of_d)
-            (λ e. both_ways (stays q s (window_region c b)) moves (ap (λ k. stays q s (window_region k b)) (window_ranks q s can.system can.nested b listed bridge c d e) ∙ keeps_d)) new_ends (Keeps keeps_d refl)) within.0)
+            (outside_within new_range (addresses (window_part d b)) (addresses r)
+            (end_apart q s can space b.slot.bus over (window_part c b) (window_part d b) new_range (addresses (window_part d b)) (window_beside c of) (window_beside d of_d)
+            (λ e. both_ways (stays q s (window_part c b)) moves (ap (λ k. stays q s (window_part k b)) (window_ranks q s can.system can.nested b listed bridge c d e) ∙ keeps_d)) new_ends (Keeps keeps_d refl)) within.0)
 
         new_has_range : HasRange c
         new_has_range = record {
           range = new_range;
           ends = new_ends;
           shown =
-              ap (λ t. cond t (addresses (window_region c b) ∷ []) (placed_range (place_among (window_region c b) (places q s can space b.slot.bus)))) moves
-              ∙ ap (λ p. placed_range (place_among (window_region c b) (placed_of p))) over.is
+              ap (λ t. cond t (addresses (window_part c b) ∷ []) (placed_range (place_among (window_part c b) (places q s can space b.slot.bus)))) moves
+              ∙ ap (λ p. placed_range (place_among (window_part c b) (placed_of p))) over.is
               ∙ ap placed_range window_place.found_there;
           off = [];
           room = new_room;
@@ -251,7 +251,7 @@ module _ (q : Request) (s : System) (can : CanSettle q s) where
     -- ---- either
 
     pub range_or_none : (c : WindowKind) → window_space c ≡ space → (items q s can c bus ≡ []) ⊎ HasRange c
-    range_or_none c of = elim (cases_Bool (stays q s (window_region c b))) [
+    range_or_none c of = elim (cases_Bool (stays q s (window_part c b))) [
       | inl keeps ↦ inr (kept_has_range c of keeps)
       | inr moves ↦ elim (cases_Bool (has_of q s c b)) [
         | inl has ↦ inr (new_has_range c of moves has)
@@ -290,13 +290,13 @@ module _ (q : Request) (s : System) (can : CanSettle q s) where
     -- the windows of two classes are apart
     windows_apart : (c d : WindowKind) (h : HasRange c) (k : HasRange d) → window_space c ≡ space → window_space d ≡ space → (c ≡ d → ⊥) → LieApart h.range k.range
     windows_apart c d h k of_c of_d differ =
-        end_apart q s can space b.slot.bus over (window_region c b) (window_region d b) h.range k.range (window_beside c of_c) (window_beside d of_d)
+        end_apart q s can space b.slot.bus over (window_part c b) (window_part d b) h.range k.range (window_beside c of_c) (window_beside d of_d)
         (λ e. differ (window_ranks q s can.system can.nested b listed bridge c d e)) h.ends k.ends
 
     -- what is placed in a window is outside what is outside of it
     lies_outside : (r u : Range) (xs : List Range) (e : Extent) (a : ℕ) → IsTrue (is_place u xs e a) → LieApart r u → IsOutside r (range_from a e.size)
     lies_outside r u xs e a place out =
-        let parts = and_parts (is_spot u.first xs e a) (ends_in u e a) place in
+        let parts = and_parts (is_spot u.first xs e a) (ends_by u e a) place in
         let from = (spot_gives u.first xs e a parts.0).from in
         let end = leb-true (a + (e.size - 1)) u.last (and_parts (nat_le (a + (e.size - 1)) u.last) (nat_le (a + (e.size - 1)) e.highest) parts.1).0 in
         elim out [ inl under ↦ inr (omega (arith, under, from)) | inr above ↦ inl (omega (arith, above, end)) ]
@@ -330,11 +330,11 @@ module _ (q : Request) (s : System) (can : CanSettle q s) where
       ]
 
   module _ (b : Function) (listed : Contains s b) (bridge : is_bridge b ≡ true) where
-    all_placed : (space : Space) → IsPlacedBus q s can space b.slot.bus → are_placed (place_all (ranges_for q s (places q s can space)) (taken_at q s space (secondary b)) (space_items q s space (secondary b))) ≡ true
+    all_placed : (space : Space) → IsPlacedBus q s can space b.slot.bus → are_placed (place_all (ranges_of_item q s (places q s can space)) (taken_at q s space (secondary b)) (space_items q s space (secondary b))) ≡ true
     all_placed Io over =
         class_placed Io b listed bridge over IoWindow (range_or_none Io b listed bridge over IoWindow refl) (taken_at q s Io (secondary b)) (λ h. h.to) (λ h. h.back)
     all_placed Memory over =
-        let ranges = ranges_for q s (places q s can Memory) in
+        let ranges = ranges_of_item q s (places q s can Memory) in
         let taken = taken_at q s Memory (secondary b) in
         let plain = class_placed Memory b listed bridge over MemoryWindow (range_or_none Memory b listed bridge over MemoryWindow refl) taken (λ h. h.to) (λ h. h.back) in
         let list = placed_list (place_all ranges taken (items q s can MemoryWindow (secondary b))) plain in

@@ -24,8 +24,8 @@ use Rattle.plan_spec.proofs.Planning.LaidOut.{place_of_claim}
 use Rattle.plan_spec.proofs.Planning.OtherRules.{has_rom_same}
 use Rattle.plan_spec.proofs.Planning.Registers.{register_bit}
 use Rattle.settle_spec.specs.Lists.{Request}
-use Rattle.settle_spec.specs.Parts.{Region, addresses, is_left, is_part, has_left, header_bars, class_in}
-use Rattle.settle_spec.specs.Stands.{window_region}
+use Rattle.settle_spec.specs.Parts.{FunctionPart, addresses, is_left, is_part, has_left, header_bars, class_in}
+use Rattle.settle_spec.specs.Stands.{window_part}
 use Rattle.settle_spec.specs.Items.{Placed, stays, taken_by}
 use Rattle.settle_spec.specs.Places.{new_place}
 use Rattle.settle_spec.specs.Registers.{settled, settled_image, settled_function, settled_command, is_enabled_in}
@@ -66,7 +66,7 @@ module _ (q : Request) (s : System) (can : CanSettle q s) where
         by p there x.0 x.1 ∙ x.2
   ]
     where
-      r : Region
+      r : FunctionPart
       r = record { function = f; part = p }
 
       by : (p : Part) → has_part f p ≡ true → (x : Placed) → new_place q s record { function = f; part = p } ≡ Some x → range_of (settled_function q s f) p ≡ taken_by x.item x.at
@@ -76,7 +76,7 @@ module _ (q : Request) (s : System) (can : CanSettle q s) where
       by Rom there x placed = rom_shown q s can f listed (and_parts (has_rom f.image f.probe) (rom_is_on f.image) (own_placed q s can f listed Rom refl there x placed)).0 x placed
       by (Window kind) there x placed = window_shown q s can f listed kind there x placed
 
-  placed_opens : (b : Function) (kind : WindowKind) → Contains s b → is_bridge b ≡ true → (x : Placed) → new_place q s (window_region kind b) ≡ Some x → is_open (settled_function q s b) kind ≡ true
+  placed_opens : (b : Function) (kind : WindowKind) → Contains s b → is_bridge b ≡ true → (x : Placed) → new_place q s (window_part kind b) ≡ Some x → is_open (settled_function q s b) kind ≡ true
   placed_opens b kind listed bridge x placed =
       let g = settled_function q s b in
       and_from (is_bridge g && has_window kind b.probe) (not (is_closed kind g.image))
@@ -84,19 +84,19 @@ module _ (q : Request) (s : System) (can : CanSettle q s) where
       (not_from_false (is_closed kind g.image) (window_opened q s can b listed kind bridge x placed))
 
   -- a window that does is open
-  pub ends_open : (b : Function) (kind : WindowKind) → Contains s b → is_bridge b ≡ true → (t : Range) → end_range q s (window_region kind b) ≡ Some t → is_open (settled_function q s b) kind ≡ true
-  ends_open b kind listed bridge t ends = elim (cases_Bool (stays q s (window_region kind b))) [
+  pub ends_open : (b : Function) (kind : WindowKind) → Contains s b → is_bridge b ≡ true → (t : Range) → end_range q s (window_part kind b) ≡ Some t → is_open (settled_function q s b) kind ≡ true
+  ends_open b kind listed bridge t ends = elim (cases_Bool (stays q s (window_part kind b))) [
     | inl keeps ↦ open_stays q s can b listed kind bridge keeps
     | inr moves ↦
-        let x = place_of_range q s (new_place q s (window_region kind b)) t (sym (placed_range q s (window_region kind b) moves) ∙ ends) in
+        let x = place_of_range q s (new_place q s (window_part kind b)) t (sym (placed_range q s (window_part kind b) moves) ∙ ends) in
         placed_opens b kind listed bridge x.0 x.1
   ]
 
   -- and any other is closed
-  pub rest_closed : (b : Function) (kind : WindowKind) → Contains s b → end_range q s (window_region kind b) ≡ None → is_open (settled_function q s b) kind ≡ false
+  pub rest_closed : (b : Function) (kind : WindowKind) → Contains s b → end_range q s (window_part kind b) ≡ None → is_open (settled_function q s b) kind ≡ false
   rest_closed b kind listed none =
       let g = settled_function q s b in
-      let without = ends_nowhere q s (window_region kind b) none in
+      let without = ends_nowhere q s (window_part kind b) none in
       false_from_ne_true (is_open g kind) (λ opened.
       let parts = and_parts (is_bridge g && has_window kind b.probe) (not (is_closed kind g.image)) opened in
       let there = and_parts (is_bridge g) (has_window kind b.probe) parts.0 in
@@ -115,15 +115,15 @@ module _ (q : Request) (s : System) (can : CanSettle q s) where
 
   -- a window that holds an address
   window_by : (f : Function) (listed : Contains s f) (kind : WindowKind) (a : ℕ) (bridge : is_bridge f ≡ true) (there : has_window kind f.probe ≡ true) → holds kind (settled_function q s f).image f.probe a ≡ true
-      → (o : Option Range) → end_range q s (window_region kind f) ≡ o → HasEnd f (Window kind)
+      → (o : Option Range) → end_range q s (window_part kind f) ≡ o → HasEnd f (Window kind)
   window_by f listed kind a bridge there h None e =
-      let without = ends_nowhere q s (window_region kind f) e in
+      let without = ends_nowhere q s (window_part kind f) e in
       absurd (both_ways (holds kind (settled_function q s f).image f.probe a) (closed_window_holds_nothing kind (settled_function q s f).image f.probe a (window_closed q s can f listed kind bridge there without.0 without.1)) h)
   window_by f listed kind a bridge there h (Some t) e = has_end f (Window kind) listed bridge t e
 
   pub window_end : (f : Function) (listed : Contains s f) (kind : WindowKind) (a : ℕ) → is_bridge f ≡ true → holds kind (settled_function q s f).image f.probe a ≡ true → HasEnd f (Window kind)
   window_end f listed kind a bridge h =
-      window_by f listed kind a bridge (held kind (settled_function q s f).image f.probe a h).there h (end_range q s (window_region kind f)) refl
+      window_by f listed kind a bridge (held kind (settled_function q s f).image f.probe a h).there h (end_range q s (window_part kind f)) refl
 
   -- an I/O BAR that is left is off
   unleft_bar : (f : Function) (listed : Contains s f) (n : ℕ) → n < bar_count (layout f.image) → has_bar f.probe n ≡ true → is_space_on (settled_function q s f) (space_of f (Bar n)) ≡ true → is_left q s f (Bar n) ≡ false

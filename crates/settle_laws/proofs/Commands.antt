@@ -12,14 +12,14 @@ use Rattle.pci_spec.proofs.Bits.{digit, digit_of_bit}
 use Rattle.plan_spec.specs.Planning.PlanWrites.{closed_command}
 use Rattle.plan_spec.proofs.Planning.CommandFits.{command_by, command_small, enables_io, enables_memory}
 use Rattle.settle_spec.specs.Lists.{Request}
-use Rattle.settle_spec.specs.Parts.{has_left, same_space}
+use Rattle.settle_spec.specs.Parts.{has_left, are_same_space}
 use Rattle.settle_spec.specs.Registers.{settled_image, settled_function, settled_command, got_place, is_enabled_in, is_live_within}
 use Rattle.settle_spec.specs.Writes.{is_shut, closing_command}
 use Rattle.settle_laws.proofs.Numbers.{command_with}
 
 -- whether a function still enables a space once the closing writes are made
 abbrev pub is_left_on : Request → System → Space → Function → Bool
-is_left_on q s space f = not (is_shut q s f) && (not (same_space space Io && has_left q s f) && is_space_on f space)
+is_left_on q s space f = not (is_shut q s f) && (not (are_same_space space Io && has_left q s f) && is_space_on f space)
 
 first_digit : (b : Bool) → (if b then 1 else 0) ≡ digit b
 first_digit true = refl
@@ -78,28 +78,28 @@ module _ (q : Request) (s : System) (f : Function) where
   -- the parts of what is left on
   pub record IsLeftOn (space : Space) : Type 0 where
     pub unshut : is_shut q s f ≡ false
-    pub unleft : not (same_space space Io && has_left q s f) ≡ true
+    pub unleft : not (are_same_space space Io && has_left q s f) ≡ true
     pub was : is_space_on f space ≡ true
 
   pub left_parts : (space : Space) → is_left_on q s space f ≡ true → IsLeftOn space
   left_parts space h =
-      let outer = and_parts (not (is_shut q s f)) (not (same_space space Io && has_left q s f) && is_space_on f space) h in
-      let inner = and_parts (not (same_space space Io && has_left q s f)) (is_space_on f space) outer.1 in
+      let outer = and_parts (not (is_shut q s f)) (not (are_same_space space Io && has_left q s f) && is_space_on f space) h in
+      let inner = and_parts (not (are_same_space space Io && has_left q s f)) (is_space_on f space) outer.1 in
       record { unshut = not-true (is_shut q s f) outer.0; unleft = inner.0; was = inner.1 }
 
   pub left_by : (space : Space) → IsLeftOn space → is_left_on q s space f ≡ true
   left_by space is =
-      and_from (not (is_shut q s f)) (not (same_space space Io && has_left q s f) && is_space_on f space) (ap not is.unshut)
-      (and_from (not (same_space space Io && has_left q s f)) (is_space_on f space) is.unleft is.was)
+      and_from (not (is_shut q s f)) (not (are_same_space space Io && has_left q s f) && is_space_on f space) (ap not is.unshut)
+      (and_from (not (are_same_space space Io && has_left q s f)) (is_space_on f space) is.unleft is.was)
 
   -- what is left on is on in the settled system
   pub left_is_enabled : (space : Space) → is_left_on q s space f ≡ true → is_enabled_in q s space f ≡ true
   left_is_enabled space h =
       let is = left_parts space h in
       let behind = is_bridge f && list_any (λ g. g.slot.bus == secondary f && is_live_within q s space 256 g) s in
-      and_from (not (same_space space Io && has_left q s f)) (is_space_on f space || got_place q s space f || behind) is.unleft
+      and_from (not (are_same_space space Io && has_left q s f)) (is_space_on f space || got_place q s space f || behind) is.unleft
       (or_left (is_space_on f space || got_place q s space f) behind (or_left (is_space_on f space) (got_place q s space f) is.was))
 
   -- what is on there has no BAR that is left
-  pub enabled_unleft : (space : Space) → is_enabled_in q s space f ≡ true → not (same_space space Io && has_left q s f) ≡ true
-  enabled_unleft space h = (and_parts (not (same_space space Io && has_left q s f)) _ h).0
+  pub enabled_unleft : (space : Space) → is_enabled_in q s space f ≡ true → not (are_same_space space Io && has_left q s f) ≡ true
+  enabled_unleft space h = (and_parts (not (are_same_space space Io && has_left q s f)) _ h).0

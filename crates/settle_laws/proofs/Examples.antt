@@ -13,7 +13,7 @@ use Rattle.plan_spec.proofs.Examples.Admitted.{tree_is_a_system, tree_is_nested,
 use Rattle.plan_spec.proofs.Examples.Placed.{start}
 use Rattle.settle_spec.specs.Items.{stays, has_of, window_within, holds_within}
 use Rattle.settle_spec.specs.Lists.{RootRange, Request}
-use Rattle.settle_spec.specs.Parts.{Region, regions}
+use Rattle.settle_spec.specs.Parts.{FunctionPart, system_parts}
 use Rattle.settle_spec.specs.Places.{placing_within, lacking}
 use Rattle.settle_spec.specs.Registers.{settled, is_live_within}
 use Rattle.settle_spec.specs.Stands.{stands_within}
@@ -59,7 +59,7 @@ tree_stays : (anew : Bool) → settled (asked anew) (settled (asked anew) start)
 tree_stays anew = settled_again (asked anew) start (tree_can_settle anew)
 
 -- and all of it stays, where not all is placed anew
-its_parts_stay : (r : Region) → Contains (regions request (settled request start)) r → IsTrue (stays request (settled request start) r)
+its_parts_stay : (r : FunctionPart) → Contains (system_parts request (settled request start)) r → IsTrue (stays request (settled request start) r)
 its_parts_stay r listed =
     let can = tree_can_settle false in
     all_stay request (settled request start) (new_system request start can) (new_nested request start can) (all_stand request start can refl) r listed

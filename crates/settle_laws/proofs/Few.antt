@@ -19,7 +19,7 @@ use Rattle.plan_spec.proofs.Planning.Kept.{images_of}
 use Rattle.plan_spec.proofs.Planning.Staging.{IsRegisterOf, register_to}
 use Rattle.plan_spec.proofs.Planning.Writes.{other_number}
 use Rattle.settle_spec.specs.Lists.{Request}
-use Rattle.settle_spec.specs.Parts.{has_left, same_space}
+use Rattle.settle_spec.specs.Parts.{has_left, are_same_space}
 use Rattle.settle_spec.specs.Registers.{settled_function, settled_command}
 use Rattle.settle_spec.specs.Writes.{change_of, is_changed, is_shut, closing_command, command_from, closing_from, opening_from, closings, settle_writes}
 use Rattle.settle_laws.proofs.After.{none_passes}
@@ -179,6 +179,6 @@ module _ (q : Request) (s : System) (system : IsSystem s) where
         on_settled q s f (settled_function q s f) command_settled space
         ∙ left_is_enabled q s f space (left_by q s f space record {
           unshut = unshut;
-          unleft = not_from_false (same_space space Io && has_left q s f) (and_right (same_space space Io) (has_left q s f) unleft);
+          unleft = not_from_false (are_same_space space Io && has_left q s f) (and_right (are_same_space space Io) (has_left q s f) unleft);
           was = on;
         })

@@ -21,8 +21,8 @@ use Rattle.plan_spec.proofs.Planning.WindowFits.{PartsFit}
 use Rattle.settle_spec.specs.FirstPlace.{Extent, first_spot}
 use Rattle.settle_spec.specs.Lists.{RootRange, Request, end_above}
 use Rattle.settle_spec.specs.Parts.{is_empty, is_left, is_part, class_in}
-use Rattle.settle_spec.specs.Stands.{window_region}
-use Rattle.settle_spec.specs.Items.{Item, Placed, highest_of_bar, has_of, items_on, laid_out, end_of, nothing, window_around, new_window}
+use Rattle.settle_spec.specs.Stands.{window_part}
+use Rattle.settle_spec.specs.Items.{Item, Placed, highest_of_bar, has_of, bus_items, laid_out, end_of, nothing, window_around, new_window}
 use Rattle.settle_spec.specs.Places.{new_place}
 use Rattle.settle_spec.proofs.ItemsBehind.{items_are_behind}
 use Rattle.settle_spec.proofs.LaidOut.{laid_keeps, end_behind}
@@ -82,7 +82,7 @@ module _ (q : Request) (s : System) (can : CanSettle q s) where
 
   module _ (c : WindowKind) (b : Function) (listed : Contains s b) (bridge : is_bridge b ≡ true) where
     abbrev behind : List Item
-    behind = items_on q s c nothing (new_window q s c) (secondary b)
+    behind = bus_items q s c nothing (new_window q s c) (secondary b)
 
     abbrev extents : List Extent
     extents = map (λ (i : Item). i.extent) behind
@@ -132,7 +132,7 @@ module _ (q : Request) (s : System) (can : CanSettle q s) where
   has_by c b (IsOwnPart plain part) = absurd (both_ways true plain refl)
   has_by c b (IsNewWindow window bridge has) = (bridge, has)
 
-  pub window_has : (b : Function) (c : WindowKind) → Contains s b → is_bridge b ≡ true → (x : Placed) → new_place q s (window_region c b) ≡ Some x → has_of q s c b ≡ true
+  pub window_has : (b : Function) (c : WindowKind) → Contains s b → is_bridge b ≡ true → (x : Placed) → new_place q s (window_part c b) ≡ Some x → has_of q s c b ≡ true
   window_has b c listed bridge x shown = (has_by c b (new_place_is q s can b (Window c) listed bridge x shown).placeable).1
 
   -- whole pages, from a multiple of one on
@@ -141,7 +141,7 @@ module _ (q : Request) (s : System) (can : CanSettle q s) where
     pub aligned : first % page_size c ≡ 0
     pub whole : size % page_size c ≡ 0
 
-  pub window_room : (b : Function) (c : WindowKind) → Contains s b → is_bridge b ≡ true → (x : Placed) → new_place q s (window_region c b) ≡ Some x → IsPages c x.at x.item.extent.size
+  pub window_room : (b : Function) (c : WindowKind) → Contains s b → is_bridge b ≡ true → (x : Placed) → new_place q s (window_part c b) ≡ Some x → IsPages c x.at x.item.extent.size
   window_room b c listed bridge x shown =
       let multiple = (place_is q s can.system b listed (Window c) (is_part_of b (Window c) bridge) x shown).multiple in
       let e = size_of_place b (Window c) listed bridge x shown in
@@ -153,7 +153,7 @@ module _ (q : Request) (s : System) (can : CanSettle q s) where
       }
 
   module _ (b : Function) (c : WindowKind) (listed : Contains s b) (bridge : is_bridge b ≡ true) (there : has_window c b.probe ≡ true) where
-    pub shown_fit : (x : Placed) → new_place q s (window_region c b) ≡ Some x → PartsFit b c (bounds_for c (nibble_of c b) x.at (x.at + (x.item.extent.size - 1)))
+    pub shown_fit : (x : Placed) → new_place q s (window_part c b) ≡ Some x → PartsFit b c (bounds_for c (nibble_of c b) x.at (x.at + (x.item.extent.size - 1)))
     shown_fit x shown = open_fit q s can.system b listed (was b listed) (decodable b listed) c (is_part_of b (Window c) bridge) bridge there x shown
 
     pub none_fit : PartsFit b c (closed_bounds c (nibble_of c b))

@@ -19,8 +19,8 @@ use Rattle.plan_spec.proofs.Planning.AboveBuses.{above_to, above_from}
 use Rattle.plan_spec.proofs.Planning.Behind.{Passes, any_gives, any_from, behind_range}
 use Rattle.plan_spec.proofs.Planning.Safe.{lower_bus, order_of, slots_of}
 use Rattle.settle_spec.specs.Lists.{Request}
-use Rattle.settle_spec.specs.Parts.{Region, is_empty, is_left, is_part, header_bars, header_parts, has_left, same_space}
-use Rattle.settle_spec.specs.Stands.{region_space}
+use Rattle.settle_spec.specs.Parts.{FunctionPart, is_empty, is_left, is_part, header_bars, header_parts, has_left, are_same_space}
+use Rattle.settle_spec.specs.Stands.{part_space}
 use Rattle.settle_spec.specs.Registers.{has_own}
 use Rattle.settle_spec.specs.Writes.{is_changed, is_cut_off_in, is_shut_itself, is_shut}
 use Rattle.settle_spec.proofs.Nested.{behind_outer}
@@ -36,12 +36,12 @@ none_by test xs each = elim (cases_Bool (list_any test xs)) [
 pub and_second_false : (x y : Bool) → x ≡ true → (x && y) ≡ false → y ≡ false
 and_second_false x y is none = elim (and_cases x y none) [ inl other ↦ absurd (both_ways x other is) | inr second ↦ second ]
 
-pub same_itself : (space : Space) → same_space space space ≡ true
+pub same_itself : (space : Space) → are_same_space space space ≡ true
 same_itself Io = refl
 same_itself Memory = refl
 
 memory_is_not_io : Memory ≡ Io → ⊥
-memory_is_not_io e = both_ways (same_space Memory Io) refl (ap (λ x. same_space x Io) e)
+memory_is_not_io e = both_ways (are_same_space Memory Io) refl (ap (λ x. are_same_space x Io) e)
 
 io_of : (io : Bool) → (if io then Io else Memory) ≡ Io → io ≡ true
 io_of true e = refl
@@ -146,25 +146,25 @@ module _ (q : Request) (s : System) (system : IsSystem s) (nested : IsNested q.r
     io_space : (n : ℕ) → is_io (bar_at f.probe n) ≡ true → space_of f (Bar n) ≡ Io
     io_space n io = ap (λ t. if t then Io else Memory) io
 
-    unleft_bar : (n : ℕ) (space : Space) (a : ℕ) → Claims f (Bar n) space a → not (same_space space Io && has_left q s f) ≡ true → is_left q s f (Bar n) ≡ false
+    unleft_bar : (n : ℕ) (space : Space) (a : ℕ) → Claims f (Bar n) space a → not (are_same_space space Io && has_left q s f) ≡ true → is_left q s f (Bar n) ≡ false
     unleft_bar n space a c unleft = elim (cases_Bool (is_left q s f (Bar n))) [
       | inr fine ↦ fine
       | inl left ↦
           let io = (and_parts (is_io_part f (Bar n)) _ left).0 in
           let at : space ≡ Io = sym c.maps ∙ io_space n io in
           let has = left_of_bar n space a c left in
-          absurd (both_ways (not (same_space space Io && has_left q s f)) (ap (λ x. not (same_space x Io && has_left q s f)) at ∙ ap not has) unleft)
+          absurd (both_ways (not (are_same_space space Io && has_left q s f)) (ap (λ x. not (are_same_space x Io && has_left q s f)) at ∙ ap not has) unleft)
     ]
 
     -- a part that is listed and looked at, of a space, is one that the function has
     pub own_by : (p : Part) (space : Space) → Contains (header_parts f) p → is_part q s f p ≡ true → is_window p ≡ false → space_of f p ≡ space → has_own q s space f ≡ true
     own_by p space there part plain at =
-        let r : Region = record { function = f; part = p } in
-        any_from (λ r. same_space space (region_space r) && not (is_window r.part)) (map (λ p. record { function = f; part = p }) (filter (is_part q s f) (header_parts f))) r
+        let r : FunctionPart = record { function = f; part = p } in
+        any_from (λ r. are_same_space space (part_space r) && not (is_window r.part)) (map (λ p. record { function = f; part = p }) (filter (is_part q s f) (header_parts f))) r
         (in_map_from (λ p. record { function = f; part = p }) (filter (is_part q s f) (header_parts f)) p (in_filter_from (is_part q s f) (header_parts f) p there part))
-        (and_from (same_space space (space_of f p)) (not (is_window p)) (ap (same_space space) at ∙ same_itself space) (ap not plain))
+        (and_from (are_same_space space (space_of f p)) (not (is_window p)) (ap (are_same_space space) at ∙ same_itself space) (ap not plain))
 
-    own : (p : Part) (space : Space) (a : ℕ) → is_window p ≡ false → Claims f p space a → not (same_space space Io && has_left q s f) ≡ true → has_own q s space f ≡ true
+    own : (p : Part) (space : Space) (a : ℕ) → is_window p ≡ false → Claims f p space a → not (are_same_space space Io && has_left q s f) ≡ true → has_own q s space f ≡ true
     own (Bar n) space a plain c unleft =
         own_by (Bar n) space (Contains-append_left (header_bars f) _ (Bar n) (bar_listed n (ltb-true n (bar_count (layout f.image)) c.there)))
         (and_from (has_bar f.probe n) (not (is_left q s f (Bar n))) (claimed_bar n space a c) (ap not (unleft_bar n space a c unleft))) plain c.maps
@@ -177,8 +177,8 @@ module _ (q : Request) (s : System) (system : IsSystem s) (nested : IsNested q.r
     own (Window kind) space a plain c unleft = absurd (both_ways true plain refl)
 
     -- nor has a bridge above it a BAR that is left, where that counts
-    unleft_above : (b : Function) (p : Part) (space : Space) (a : ℕ) → is_window p ≡ false → Claims f p space a → not (same_space space Io && has_left q s f) ≡ true → Contains (bridges_above s f.slot.bus) b
-        → not (same_space space Io && has_left q s b) ≡ true
+    unleft_above : (b : Function) (p : Part) (space : Space) (a : ℕ) → is_window p ≡ false → Claims f p space a → not (are_same_space space Io && has_left q s f) ≡ true → Contains (bridges_above s f.slot.bus) b
+        → not (are_same_space space Io && has_left q s b) ≡ true
     unleft_above b p Memory a plain c unleft above = refl
     unleft_above b (Bar n) Io a plain c unleft above =
         not_from_false (has_left q s b) (false_from_ne_true (has_left q s b) (λ left.

@@ -12,8 +12,8 @@ use Rattle.pci_spec.proofs.Members.{in_nil}
 use Rattle.plan_spec.specs.Planning.Layout.{IsInside}
 use Rattle.plan_spec.proofs.Planning.Behind.{any_from}
 use Rattle.settle_spec.specs.FirstPlace.{is_high}
-use Rattle.settle_spec.specs.Lists.{Request, ranges_of}
-use Rattle.settle_spec.specs.Parts.{Region, addresses, is_within, bridge_over}
+use Rattle.settle_spec.specs.Lists.{Request, class_ranges}
+use Rattle.settle_spec.specs.Parts.{FunctionPart, addresses, lies_within, bridge_over}
 use Rattle.settle_spec.specs.Stands.{is_listed, is_in_lists}
 use Rattle.settle_spec.specs.Items.{Item, stays, taken_by}
 use Rattle.settle_spec.specs.Places.{placed_of, new_place, root_ranges, wide_ranges, window_ranges, taken_at}
@@ -27,10 +27,10 @@ use Rattle.settle_laws.proofs.PartClasses.{space_of_class}
 use Rattle.settle_laws.proofs.PartPlaces.{new_place_is}
 use Rattle.settle_laws.proofs.PlacedBus.{places}
 
-pub within_from : (r w : Range) → IsInside r w → is_within r w ≡ true
+pub within_from : (r w : Range) → IsInside r w → lies_within r w ≡ true
 within_from r w (from, end) = and_from (nat_le w.first r.first) (nat_le r.last w.last) (le-leb w.first r.first from) (le-leb r.last w.last end)
 
-pub within_gives : (r w : Range) → is_within r w ≡ true → IsInside r w
+pub within_gives : (r w : Range) → lies_within r w ≡ true → IsInside r w
 within_gives r w h =
     let parts = and_parts (nat_le w.first r.first) (nat_le r.last w.last) h in
     (leb-true w.first r.first parts.0, leb-true r.last w.last parts.1)
@@ -44,8 +44,8 @@ module _ (q : Request) (s : System) (can : CanSettle q s) where
   in_range_list : (i : Item) (u r : Range) → Contains (root_ranges q i) u → IsInside r u → is_in_lists q i.region.function.slot.bus r (window_space i.class) ≡ true
   in_range_list i u r has inside =
       let bus = i.region.function.slot.bus in
-      let by = λ (c : WindowKind) (listed : Contains (ranges_of q c bus) u). listed_in q bus r c (any_from (is_within r) (ranges_of q c bus) u listed (within_from r u inside)) in
-      elim (Contains-append_cases (ranges_of q i.class bus) (cond (is_high i.extent) (wide_ranges q i.class bus) []) u has) [
+      let by = λ (c : WindowKind) (listed : Contains (class_ranges q c bus) u). listed_in q bus r c (any_from (lies_within r) (class_ranges q c bus) u listed (within_from r u inside)) in
+      elim (Contains-append_cases (class_ranges q i.class bus) (cond (is_high i.extent) (wide_ranges q i.class bus) []) u has) [
         | inl own ↦ by i.class own
         | inr more ↦ wide i.class (if_wide (is_high i.extent) (wide_ranges q i.class bus) more) (λ listed. by PrefetchWindow listed)
       ]
@@ -54,7 +54,7 @@ module _ (q : Request) (s : System) (can : CanSettle q s) where
       if_wide true xs listed = listed
       if_wide false xs listed = absurd (in_nil u listed)
 
-      wide : (c : WindowKind) → Contains (wide_ranges q c i.region.function.slot.bus) u → (Contains (ranges_of q PrefetchWindow i.region.function.slot.bus) u → is_in_lists q i.region.function.slot.bus r Memory ≡ true)
+      wide : (c : WindowKind) → Contains (wide_ranges q c i.region.function.slot.bus) u → (Contains (class_ranges q PrefetchWindow i.region.function.slot.bus) u → is_in_lists q i.region.function.slot.bus r Memory ≡ true)
           → is_in_lists q i.region.function.slot.bus r (window_space c) ≡ true
       wide IoWindow listed by = absurd (in_nil u listed)
       wide MemoryWindow listed by = by listed
@@ -81,5 +81,5 @@ module _ (q : Request) (s : System) (can : CanSettle q s) where
         (subst (λ sp. is_in_lists q f.slot.bus (taken_by x.0.item x.0.at) sp ≡ true) class (subst (λ n. is_in_lists q n (taken_by x.0.item x.0.at) (window_space x.0.item.class) ≡ true) bus in_it))
   ]
     where
-      r : Region
+      r : FunctionPart
       r = record { function = f; part = p }

@@ -13,10 +13,10 @@ use Rattle.pci_spec.proofs.Nesting.{one_function}
 use Rattle.pci_spec.proofs.Regions.{register_of-lt}
 use Rattle.plan_spec.specs.Planning.Layout.{IsInside, LieApart, AreBeside, AreTwo}
 use Rattle.plan_spec.proofs.Planning.Reached.{slot_itself}
-use Rattle.settle_spec.specs.FirstPlace.{is_place, is_spot, ends_in}
+use Rattle.settle_spec.specs.FirstPlace.{is_place, is_spot, ends_by}
 use Rattle.settle_spec.specs.Lists.{Request}
-use Rattle.settle_spec.specs.Parts.{Region, addresses, class_in}
-use Rattle.settle_spec.specs.Stands.{rank, window_region}
+use Rattle.settle_spec.specs.Parts.{FunctionPart, addresses, class_in}
+use Rattle.settle_spec.specs.Stands.{rank, window_part}
 use Rattle.settle_spec.specs.Items.{Item, Placed, taken_by, stays}
 use Rattle.settle_spec.specs.Places.{placed_of, place_among, new_place, taken_at}
 use Rattle.settle_spec.proofs.Buses.{roots_are_one}
@@ -33,21 +33,21 @@ use Rattle.settle_laws.proofs.PlacedBus.{IsPlacedBus, EndsIn, Keeps, Gets, items
 pub place_inside : (u : Range) (xs : List Range) (y : Placed) → IsTrue (is_place u xs y.item.extent y.at) → IsInside (taken_by y.item y.at) u
 place_inside u xs y place =
     let e = y.item.extent in
-    let parts = and_parts (is_spot u.first xs e y.at) (ends_in u e y.at) place in
+    let parts = and_parts (is_spot u.first xs e y.at) (ends_by u e y.at) place in
     ((spot_gives u.first xs e y.at parts.0).from, leb-true (taken_by y.item y.at).last u.last (and_parts (nat_le (taken_by y.item y.at).last u.last) _ parts.1).0)
 
 module _ (q : Request) (s : System) where
-  pub kept_range : (r : Region) → stays q s r ≡ true → end_range q s r ≡ Some (addresses r)
+  pub kept_range : (r : FunctionPart) → stays q s r ≡ true → end_range q s r ≡ Some (addresses r)
   kept_range r keeps = ap (λ t. cond t (Some (addresses r)) (place_range (new_place q s r))) keeps
 
-  pub placed_range : (r : Region) → stays q s r ≡ false → end_range q s r ≡ place_range (new_place q s r)
+  pub placed_range : (r : FunctionPart) → stays q s r ≡ false → end_range q s r ≡ place_range (new_place q s r)
   placed_range r moves = ap (λ t. cond t (Some (addresses r)) (place_range (new_place q s r))) moves
 
   pub place_of_range : (o : Option Placed) (t : Range) → place_range o ≡ Some t → (x : Placed) × (o ≡ Some x) × (taken_by x.item x.at ≡ t)
   place_of_range None t e = cc
   place_of_range (Some x) t e = (x, refl, cc)
 
-  pub ends_nowhere : (r : Region) → end_range q s r ≡ None → (stays q s r ≡ false) × (new_place q s r ≡ None)
+  pub ends_nowhere : (r : FunctionPart) → end_range q s r ≡ None → (stays q s r ≡ false) × (new_place q s r ≡ None)
   ends_nowhere r none = elim (cases_Bool (stays q s r)) [
     | inl keeps ↦ (let is : Some (addresses r) ≡ None = sym (kept_range r keeps) ∙ none in cc)
     | inr moves ↦ (moves, by (new_place q s r) (sym (placed_range r moves) ∙ none))
@@ -75,7 +75,7 @@ module _ (q : Request) (s : System) (can : CanSettle q s) where
         Gets moves x.0 (sym (ap (λ y. place_among r (placed_of y)) b.is) ∙ x.1) (subst (λ xs. Contains xs x.0) (ap placed_of b.is) is.listed) (ap (λ (i : Item). i.region) is.item) x.2
   ]
     where
-      r : Region
+      r : FunctionPart
       r = record { function = f; part = p }
 
   range_there : (space : Space) (f : Function) (p : Part) (b : IsPlacedBus q s can space f.slot.bus) → space_of f p ≡ space → (t : Range) → EndsIn q s can b.placed record { function = f; part = p } t
@@ -92,11 +92,11 @@ module _ (q : Request) (s : System) (can : CanSettle q s) where
   -- the window of a bridge around a part
   pub record IsInWindow (f : Function) (p : Part) (b : Function) (t : Range) : Type 0 where
     pub w : Range
-    pub ends : end_range q s (window_region (class_in q s f p) b) ≡ Some w
+    pub ends : end_range q s (window_part (class_in q s f p) b) ≡ Some w
     pub inside : IsInside t w
 
   module _ (f b : Function) (p : Part) (listed : Contains s f) (there : has_part f p ≡ true) (leads : LeadsTo s b f.slot.bus) where
-    abbrev r : Region
+    abbrev r : FunctionPart
     r = record { function = f; part = p }
 
     abbrev c : WindowKind
@@ -104,7 +104,7 @@ module _ (q : Request) (s : System) (can : CanSettle q s) where
 
     in_kept : stays q s r ≡ true → IsInWindow f p b (addresses r)
     in_kept keeps =
-        let over = window_region c b in
+        let over = window_part c b in
         let within = (within_over q s can.system can.nested b leads.0 leads.1 r (in_regions q s f p listed (header_of f p there) (stays_part q s can.system can.nested r listed keeps)) leads.2 (stays_stands q s can.system can.nested r listed keeps)).0 in
         let parts = and_parts (nat_le (addresses over).first (addresses r).first) (nat_le (addresses r).last (addresses over).last) within in
         record {

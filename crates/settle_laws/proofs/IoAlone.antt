@@ -9,12 +9,12 @@ use Rattle.pci_spec.specs.System.{System, Function, Space, Io, Memory, Part, Bar
 use Rattle.pci_spec.specs.Bus.{secondary, is_behind, is_root, are_siblings}
 use Rattle.plan_spec.specs.Plan.{bridges_above, same_class}
 use Rattle.plan_spec.proofs.Planning.PlacedItems.{same_class_is}
-use Rattle.settle_spec.specs.FirstPlace.{Extent, is_high, are_apart}
-use Rattle.settle_spec.specs.Lists.{Request, ranges_of}
-use Rattle.settle_spec.specs.Parts.{Region, addresses, is_part, header_parts, regions_of, regions, class_in, bridge_over, same_space}
-use Rattle.settle_spec.specs.Stands.{window_region, region_space, is_in_lists, is_in_window, is_in_place, takes_from, are_beside, precedes, stands_within, stands}
-use Rattle.settle_spec.specs.Items.{Item, Placed, in_turn, own_item, is_own, has_of, items_of, items_on, window_around, window_within, new_window, nothing, are_placed, taken_on, place_all, has_places, has_room, holds_within, holds, stays}
-use Rattle.settle_spec.specs.Places.{wide_ranges, space_items, taken_at, placed_of, place_among, placed_range, window_ranges, ranges_for, placing_within, placing_on}
+use Rattle.settle_spec.specs.FirstPlace.{Extent, is_high, ranges_are_apart}
+use Rattle.settle_spec.specs.Lists.{Request, class_ranges}
+use Rattle.settle_spec.specs.Parts.{FunctionPart, addresses, is_part, header_parts, function_parts, system_parts, class_in, bridge_over, are_same_space}
+use Rattle.settle_spec.specs.Stands.{window_part, part_space, is_in_lists, is_in_window, is_in_place, takes_from, are_beside, part_precedes, stands_within, stands}
+use Rattle.settle_spec.specs.Items.{Item, Placed, in_turn, own_item, is_own, has_of, items_of, bus_items, window_around, window_within, new_window, nothing, are_placed, taken_on, place_all, has_places, has_room, holds_within, has_room_behind, stays}
+use Rattle.settle_spec.specs.Places.{wide_ranges, space_items, taken_at, placed_of, place_among, placed_range, window_ranges, ranges_of_item, placing_within, placing_on}
 use Rattle.settle_spec.proofs.ItemsOn.{each_in}
 use Rattle.settle_spec.proofs.Buses.{places_by}
 use Rattle.settle_laws.proofs.PartClasses.{space_of_class}
@@ -33,16 +33,16 @@ io_class IoWindow is = refl
 io_class MemoryWindow is = absurd (let no : ⊥ = cc in no)
 io_class PrefetchWindow is = absurd (let no : ⊥ = cc in no)
 
-beside_io : (a b : Space) → b ≡ Io → same_space a b ≡ true → a ≡ Io
+beside_io : (a b : Space) → b ≡ Io → are_same_space a b ≡ true → a ≡ Io
 beside_io Io b is same = refl
 beside_io Memory Io is same = absurd (let no : ⊥ = cc in no)
 beside_io Memory Memory is same = absurd (let no : ⊥ = cc in no)
 
-by_space : (space : Space) (k o : Bool) → (space ≡ Io → k ≡ o) → (same_space Io space && k) ≡ (same_space Io space && o)
+by_space : (space : Space) (k o : Bool) → (space ≡ Io → k ≡ o) → (are_same_space Io space && k) ≡ (are_same_space Io space && o)
 by_space Io k o same = same refl
 by_space Memory k o same = refl
 
-by_on : (on : Bool) (space : Space) (k o : Bool) → (space ≡ Io → k ≡ o) → (on && same_space Io space && k) ≡ (on && same_space Io space && o)
+by_on : (on : Bool) (space : Space) (k o : Bool) → (space ≡ Io → k ≡ o) → (on && are_same_space Io space && k) ≡ (on && are_same_space Io space && o)
 by_on true space k o same = by_space space k o same
 by_on false space k o same = refl
 
@@ -65,10 +65,10 @@ module _ (q : Request) (s : System) where
   part_same f Rom = refl
   part_same f (Window c) = refl
 
-  parts_same : (f : Function) → regions_of p s f ≡ regions_of q s f
+  parts_same : (f : Function) → function_parts p s f ≡ function_parts q s f
   parts_same f = λ i. map (λ x. record { function = f; part = x }) (filter (λ x. part_same f x i) (header_parts f))
 
-  regions_same : regions p s ≡ regions q s
+  regions_same : system_parts p s ≡ system_parts q s
   regions_same = λ i. flat_map (λ f. parts_same f i) s
 
   of_io : (r : Request) (f : Function) (x : Part) → space_of f x ≡ Io → class_in r s f x ≡ IoWindow
@@ -90,10 +90,10 @@ module _ (q : Request) (s : System) where
     ]
   ]
 
-  own_same : (r : Region) → is_own p s IoWindow r ≡ is_own q s IoWindow r
+  own_same : (r : FunctionPart) → is_own p s IoWindow r ≡ is_own q s IoWindow r
   own_same r = ap (λ b. not (is_window r.part) && b) (class_same r.function r.part)
 
-  own_space : (r : Region) → is_own q s IoWindow r ≡ true → region_space r ≡ Io
+  own_space : (r : FunctionPart) → is_own q s IoWindow r ≡ true → part_space r ≡ Io
   own_space r is =
       let class : class_in q s r.function r.part ≡ IoWindow = same_class_is IoWindow (class_in q s r.function r.part) (and_parts (not (is_window r.part)) (same_class IoWindow (class_in q s r.function r.part)) is).1 in
       sym (space_of_class q s r.function r.part) ∙ ap window_space class
@@ -103,23 +103,23 @@ module _ (q : Request) (s : System) where
 
   -- ---- the items of a bus
 
-  module _ (keeps other : Region → Bool) (same : (r : Region) → region_space r ≡ Io → keeps r ≡ other r) where
-    moves_same : (r : Region) → (is_own p s IoWindow r && not (keeps r)) ≡ (is_own q s IoWindow r && not (other r))
+  module _ (keeps other : FunctionPart → Bool) (same : (r : FunctionPart) → part_space r ≡ Io → keeps r ≡ other r) where
+    moves_same : (r : FunctionPart) → (is_own p s IoWindow r && not (keeps r)) ≡ (is_own q s IoWindow r && not (other r))
     moves_same r = ap (λ b. b && not (keeps r)) (own_same r) ∙ by_own (is_own q s IoWindow r) (keeps r) (other r) (λ is. same r (own_space r is))
 
     taken_same : (bus : ℕ) → taken_on p s IoWindow keeps bus ≡ taken_on q s IoWindow other bus
     taken_same bus =
-        let each = λ (r : Region). by_on (are_siblings q.roots bus r.function.slot.bus) (region_space r) (keeps r) (other r) (same r) in
+        let each = λ (r : FunctionPart). by_on (are_siblings q.roots bus r.function.slot.bus) (part_space r) (keeps r) (other r) (same r) in
         λ i. map addresses (filter (λ r. each r i) (regions_same i))
 
     module _ (extent outer : Function → Extent) (are : (f : Function) → extent f ≡ outer f) where
       function_same : (f : Function) → items_of p s IoWindow keeps extent f ≡ items_of q s IoWindow other outer f
       function_same f =
-          let window = same (window_region IoWindow f) refl in
+          let window = same (window_part IoWindow f) refl in
           λ i. map (own_item IoWindow) (filter (λ r. moves_same r i) (parts_same f i))
-          ++ (if is_bridge f && has_same f i && not (window i) then record { region = window_region IoWindow f; class = IoWindow; extent = are f i } ∷ [] else [])
+          ++ (if is_bridge f && has_same f i && not (window i) then record { region = window_part IoWindow f; class = IoWindow; extent = are f i } ∷ [] else [])
 
-      items_same : (bus : ℕ) → items_on p s IoWindow keeps extent bus ≡ items_on q s IoWindow other outer bus
+      items_same : (bus : ℕ) → bus_items p s IoWindow keeps extent bus ≡ bus_items q s IoWindow other outer bus
       items_same bus = λ i. in_turn (flat_map (λ f. if are_siblings q.roots bus f.slot.bus then function_same f i else []) s)
 
   window_same : (depth : ℕ) (b : Function) → window_within p s IoWindow depth b ≡ window_within q s IoWindow depth b
@@ -140,32 +140,32 @@ module _ (q : Request) (s : System) where
   in_lists_same bus r Io io = refl
   in_lists_same bus r Memory io = absurd (let no : ⊥ = cc in no)
 
-  module _ (test other : Region → Bool) (same : (r : Region) → region_space r ≡ Io → test r ≡ other r) where
+  module _ (test other : FunctionPart → Bool) (same : (r : FunctionPart) → part_space r ≡ Io → test r ≡ other r) where
     over_same : (r : Range) (o : Option Function) → is_in_window test IoWindow r o ≡ is_in_window other IoWindow r o
     over_same r None = refl
-    over_same r (Some b) = ap (λ x. is_in_window (λ t. x) IoWindow r (Some b)) (same (window_region IoWindow b) refl)
+    over_same r (Some b) = ap (λ x. is_in_window (λ t. x) IoWindow r (Some b)) (same (window_part IoWindow b) refl)
 
-    in_window_same : (r : Region) → region_space r ≡ Io → is_in_window test (class_in p s r.function r.part) (addresses r) (bridge_over s r.function.slot.bus)
+    in_window_same : (r : FunctionPart) → part_space r ≡ Io → is_in_window test (class_in p s r.function r.part) (addresses r) (bridge_over s r.function.slot.bus)
         ≡ is_in_window other (class_in q s r.function r.part) (addresses r) (bridge_over s r.function.slot.bus)
     in_window_same r io =
         ap (λ c. is_in_window test c (addresses r) (bridge_over s r.function.slot.bus)) (of_io p r.function r.part io)
         ∙ over_same (addresses r) (bridge_over s r.function.slot.bus)
         ∙ sym (ap (λ c. is_in_window other c (addresses r) (bridge_over s r.function.slot.bus)) (of_io q r.function r.part io))
 
-    in_place_same : (r : Region) → region_space r ≡ Io → is_in_place p s test r ≡ is_in_place q s other r
+    in_place_same : (r : FunctionPart) → part_space r ≡ Io → is_in_place p s test r ≡ is_in_place q s other r
     in_place_same r io =
-        let lists = in_lists_same r.function.slot.bus (addresses r) (region_space r) io in
+        let lists = in_lists_same r.function.slot.bus (addresses r) (part_space r) io in
         let window = in_window_same r io in
         λ i. if is_root q.roots r.function.slot.bus then lists i else window i
 
-    apart_same : (r : Region) → region_space r ≡ Io → (t : Region) → not (takes_from p t r && test t) ≡ not (takes_from q t r && other t)
+    apart_same : (r : FunctionPart) → part_space r ≡ Io → (t : FunctionPart) → not (takes_from p t r && test t) ≡ not (takes_from q t r && other t)
     apart_same r io t = by_taken (takes_from q t r) (test t) (other t) (λ takes.
-        let both = and_parts (are_beside q t r && precedes q t r) (not (are_apart (addresses t) (addresses r))) takes in
-        let beside = and_parts (are_beside q t r) (precedes q t r) both.0 in
-        let space = and_parts (are_siblings q.roots t.function.slot.bus r.function.slot.bus) (same_space (region_space t) (region_space r)) beside.0 in
-        same t (beside_io (region_space t) (region_space r) io space.1))
+        let both = and_parts (are_beside q t r && part_precedes q t r) (not (ranges_are_apart (addresses t) (addresses r))) takes in
+        let beside = and_parts (are_beside q t r) (part_precedes q t r) both.0 in
+        let space = and_parts (are_siblings q.roots t.function.slot.bus r.function.slot.bus) (are_same_space (part_space t) (part_space r)) beside.0 in
+        same t (beside_io (part_space t) (part_space r) io space.1))
 
-  stand_same : (others : ℕ) (r : Region) → region_space r ≡ Io → stands_within p s others r ≡ stands_within q s others r
+  stand_same : (others : ℕ) (r : FunctionPart) → part_space r ≡ Io → stands_within p s others r ≡ stands_within q s others r
   unfolding stands_within
   stand_same zero r io = refl
   stand_same (suc others) r io =
@@ -174,25 +174,25 @@ module _ (q : Request) (s : System) where
       let apart = apart_same (stands_within p s others) (stands_within q s others) (stand_same others) r io in
       λ i. not q.anew && part i && place i && list_all (λ t. apart t i) (regions_same i)
 
-  pub stands_alone : (r : Region) → region_space r ≡ Io → stands p s r ≡ stands q s r
-  stands_alone r io = ap (λ rs. stands_within p s (length rs) r) regions_same ∙ stand_same (length (regions q s)) r io
+  pub stands_alone : (r : FunctionPart) → part_space r ≡ Io → stands p s r ≡ stands q s r
+  stands_alone r io = ap (λ rs. stands_within p s (length rs) r) regions_same ∙ stand_same (length (system_parts q s)) r io
 
-  -- ---- what holds, and stays
+  -- ---- what has_room_behind, and stays
 
-  places_same : (keeps other : Region → Bool) → ((r : Region) → region_space r ≡ Io → keeps r ≡ other r) → (b : Function) → has_places p s keeps b IoWindow ≡ has_places q s other b IoWindow
+  places_same : (keeps other : FunctionPart → Bool) → ((r : FunctionPart) → part_space r ≡ Io → keeps r ≡ other r) → (b : Function) → has_places p s keeps b IoWindow ≡ has_places q s other b IoWindow
   places_same keeps other same b =
       let taken = taken_same keeps other same (secondary b) in
       let items = items_same keeps other same (new_window p s IoWindow) (new_window q s IoWindow) (window_same 256) (secondary b) in
-      λ i. are_placed (place_all (λ x. addresses (window_region IoWindow b) ∷ []) (taken i) (items i))
+      λ i. are_placed (place_all (λ x. addresses (window_part IoWindow b) ∷ []) (taken i) (items i))
 
-  room_same : (keeps other : Region → Bool) → ((r : Region) → region_space r ≡ Io → keeps r ≡ other r) → (f : Function) (x : Part) → space_of f x ≡ Io → has_room p s keeps f x ≡ has_room q s other f x
+  room_same : (keeps other : FunctionPart → Bool) → ((r : FunctionPart) → part_space r ≡ Io → keeps r ≡ other r) → (f : Function) (x : Part) → space_of f x ≡ Io → has_room p s keeps f x ≡ has_room q s other f x
   room_same keeps other same f (Bar n) io = refl
   room_same keeps other same f Rom io = refl
   room_same keeps other same f (Window IoWindow) io = places_same keeps other same f
   room_same keeps other same f (Window MemoryWindow) io = absurd (let no : ⊥ = cc in no)
   room_same keeps other same f (Window PrefetchWindow) io = absurd (let no : ⊥ = cc in no)
 
-  hold_same : (depth : ℕ) (r : Region) → region_space r ≡ Io → holds_within p s depth r ≡ holds_within q s depth r
+  hold_same : (depth : ℕ) (r : FunctionPart) → part_space r ≡ Io → holds_within p s depth r ≡ holds_within q s depth r
   unfolding holds_within
   hold_same zero r io = stands_alone r io
   hold_same (suc depth) r io =
@@ -200,17 +200,17 @@ module _ (q : Request) (s : System) where
       let room = room_same (holds_within p s depth) (holds_within q s depth) (hold_same depth) r.function r.part io in
       λ i. stand i && room i
 
-  stay_same : (r : Region) → region_space r ≡ Io → stays p s r ≡ stays q s r
+  stay_same : (r : FunctionPart) → part_space r ≡ Io → stays p s r ≡ stays q s r
   stay_same r io =
       let hold = hold_same 256 r io in
-      let above : (b : Function) → holds p s (window_region (class_in p s r.function r.part) b) ≡ holds q s (window_region (class_in q s r.function r.part) b)
-      = λ b. ap (λ c. holds p s (window_region c b)) (of_io p r.function r.part io) ∙ hold_same 256 (window_region IoWindow b) refl ∙ sym (ap (λ c. holds q s (window_region c b)) (of_io q r.function r.part io)) in
+      let above : (b : Function) → has_room_behind p s (window_part (class_in p s r.function r.part) b) ≡ has_room_behind q s (window_part (class_in q s r.function r.part) b)
+      = λ b. ap (λ c. has_room_behind p s (window_part c b)) (of_io p r.function r.part io) ∙ hold_same 256 (window_part IoWindow b) refl ∙ sym (ap (λ c. has_room_behind q s (window_part c b)) (of_io q r.function r.part io)) in
       λ i. hold i && list_all (λ b. above b i) (bridges_above s r.function.slot.bus)
 
   -- ---- places
 
   on_root : (bus : ℕ) (wide : Bool) (c : WindowKind) → c ≡ IoWindow
-      → (ranges_of p c bus ++ (if wide then wide_ranges p c bus else [])) ≡ (ranges_of q c bus ++ (if wide then wide_ranges q c bus else []))
+      → (class_ranges p c bus ++ (if wide then wide_ranges p c bus else [])) ≡ (class_ranges q c bus ++ (if wide then wide_ranges q c bus else []))
   on_root bus wide IoWindow io = refl
   on_root bus wide MemoryWindow io = absurd (let no : ⊥ = cc in no)
   on_root bus wide PrefetchWindow io = absurd (let no : ⊥ = cc in no)
@@ -219,13 +219,13 @@ module _ (q : Request) (s : System) where
     behind_same : (c : WindowKind) → c ≡ IoWindow → (o : Option Function) → window_ranges p s d c o ≡ window_ranges q s e c o
     behind_same c io None = refl
     behind_same IoWindow io (Some b) =
-        let stay = stay_same (window_region IoWindow b) refl in
+        let stay = stay_same (window_part IoWindow b) refl in
         let placed = same b.slot.bus in
-        λ i. if stay i then addresses (window_region IoWindow b) ∷ [] else placed_range (place_among (window_region IoWindow b) (placed i))
+        λ i. if stay i then addresses (window_part IoWindow b) ∷ [] else placed_range (place_among (window_part IoWindow b) (placed i))
     behind_same MemoryWindow io (Some b) = absurd (let no : ⊥ = cc in no)
     behind_same PrefetchWindow io (Some b) = absurd (let no : ⊥ = cc in no)
 
-    ranges_same : (x : Item) → x.class ≡ IoWindow → ranges_for p s d x ≡ ranges_for q s e x
+    ranges_same : (x : Item) → x.class ≡ IoWindow → ranges_of_item p s d x ≡ ranges_of_item q s e x
     ranges_same x io =
         let bus = x.region.function.slot.bus in
         let root = on_root bus (is_high x.extent) x.class io in
@@ -240,8 +240,8 @@ module _ (q : Request) (s : System) where
       let e = λ (over : ℕ). placed_of (placing_within q s Io depth over) in
       let taken = taken_same (stays p s) (stays q s) stay_same bus in
       let items = items_same (stays p s) (stays q s) stay_same (new_window p s IoWindow) (new_window q s IoWindow) (window_same 256) bus in
-      (λ i. place_all (ranges_for p s d) (taken i) (items i))
-      ∙ places_by (ranges_for p s d) (ranges_for q s e) (taken_at q s Io bus) (space_items q s Io bus)
+      (λ i. place_all (ranges_of_item p s d) (taken i) (items i))
+      ∙ places_by (ranges_of_item p s d) (ranges_of_item q s e) (taken_at q s Io bus) (space_items q s Io bus)
       (λ x listed. ranges_same d e (λ over. ap placed_of (place_same depth over)) x
       (each_in q s Io bus (λ x. x.class ≡ IoWindow) (λ c of f on part is. io_class c of) (λ c of f on is. io_class c of) x listed))
 
@@ -257,15 +257,15 @@ module _ (q : Request) (s : System) where
   no_list bus r Memory memory = refl
   no_list bus r Io memory = absurd (let no : ⊥ = cc in no)
 
-  no_window : (test : Region → Bool) → ((r : Region) → region_space r ≡ Memory → test r ≡ false) → (c : WindowKind) → window_space c ≡ Memory → (r : Range) (o : Option Function) → is_in_window test c r o ≡ false
+  no_window : (test : FunctionPart → Bool) → ((r : FunctionPart) → part_space r ≡ Memory → test r ≡ false) → (c : WindowKind) → window_space c ≡ Memory → (r : Range) (o : Option Function) → is_in_window test c r o ≡ false
   no_window test none c memory r None = refl
-  no_window test none c memory r (Some b) = and_right _ (test (window_region c b)) (none (window_region c b) memory)
+  no_window test none c memory r (Some b) = and_right _ (test (window_part c b)) (none (window_part c b) memory)
 
-  none_within : (others : ℕ) (r : Region) → region_space r ≡ Memory → stands_within p s others r ≡ false
+  none_within : (others : ℕ) (r : FunctionPart) → part_space r ≡ Memory → stands_within p s others r ≡ false
   unfolding stands_within
   none_within zero r memory = refl
   none_within (suc others) r memory =
-      let lists = no_list r.function.slot.bus (addresses r) (region_space r) memory in
+      let lists = no_list r.function.slot.bus (addresses r) (part_space r) memory in
       let window = no_window (stands_within p s others) (none_within others) (class_in p s r.function r.part) (memory_class r.function r.part memory) (addresses r) (bridge_over s r.function.slot.bus) in
       let place : is_in_place p s (stands_within p s others) r ≡ false = (λ i. if is_root q.roots r.function.slot.bus then lists i else window i) ∙ both_off (is_root q.roots r.function.slot.bus) in
       and_left _ _ (and_right _ _ place)
@@ -274,5 +274,5 @@ module _ (q : Request) (s : System) where
       both_off true = refl
       both_off false = refl
 
-  pub none_in_memory : (r : Region) → region_space r ≡ Memory → stands p s r ≡ false
-  none_in_memory r memory = none_within (length (regions p s)) r memory
+  pub none_in_memory : (r : FunctionPart) → part_space r ≡ Memory → stands p s r ≡ false
+  none_in_memory r memory = none_within (length (system_parts p s)) r memory

@@ -21,9 +21,9 @@ use Rattle.plan_spec.specs.Planning.Placing.{IsPower}
 use Rattle.plan_spec.proofs.Planning.Placement.{step_power, power_pos}
 use Rattle.settle_spec.specs.FirstPlace.{Extent}
 use Rattle.settle_spec.specs.Lists.{Request}
-use Rattle.settle_spec.specs.Parts.{Region, is_part, parts_of, header_parts, regions_of, class_in}
-use Rattle.settle_spec.specs.Stands.{rank, window_region}
-use Rattle.settle_spec.specs.Items.{Item, in_turn, own_extent, own_item, is_own, has_of, items_of, items_on, window_around, window_within, new_window, stays}
+use Rattle.settle_spec.specs.Parts.{FunctionPart, is_part, parts_of, header_parts, function_parts, class_in}
+use Rattle.settle_spec.specs.Stands.{rank, window_part}
+use Rattle.settle_spec.specs.Items.{Item, in_turn, own_extent, own_item, is_own, has_of, items_of, bus_items, window_around, window_within, new_window, stays}
 use Rattle.settle_spec.specs.Places.{space_items}
 use Rattle.settle_spec.proofs.InTurn.{turn_same}
 use Rattle.settle_spec.proofs.ItemsOn.{each_on}
@@ -72,23 +72,23 @@ pub record IsItemOf (q : Request) (s : System) (new : WindowKind → Function �
   pub is : item_by new c f p ≡ i
   pub can : IsPlaceable q s c f p
 
-module _ (q : Request) (s : System) (new : WindowKind → Function → Extent) (c : WindowKind) (keeps : Region → Bool) (bus : ℕ) where
-  abbrev kept : Region → Bool
+module _ (q : Request) (s : System) (new : WindowKind → Function → Extent) (c : WindowKind) (keeps : FunctionPart → Bool) (bus : ℕ) where
+  abbrev kept : FunctionPart → Bool
   kept r = is_own q s c r && not (keeps r)
 
   abbrev opens : Function → Bool
-  opens f = is_bridge f && has_of q s c f && not (keeps (window_region c f))
+  opens f = is_bridge f && has_of q s c f && not (keeps (window_part c f))
 
   abbrev window : Function → Item
-  window f = record { region = window_region c f; class = c; extent = new c f }
+  window f = record { region = window_part c f; class = c; extent = new c f }
 
   abbrev own : Function → List Item
-  own f = map (own_item c) (filter kept (regions_of q s f))
+  own f = map (own_item c) (filter kept (function_parts q s f))
 
   abbrev later : Function → List Item
   later f = cond (opens f) (window f ∷ []) []
 
-  pub items_are : (i : Item) → Contains (items_on q s c keeps (new c) bus) i → IsItemOf q s new c bus i
+  pub items_are : (i : Item) → Contains (bus_items q s c keeps (new c) bus) i → IsItemOf q s new c bus i
   items_are = each_on q s c keeps (new c) bus (IsItemOf q s new c bus)
       (λ f on p is. record {
         f = f;
@@ -114,7 +114,7 @@ module _ (q : Request) (s : System) (new : WindowKind → Function → Extent) (
   abbrev on_bus : Function → List Item
   on_bus f = cond (are_siblings q.roots bus f.slot.bus) (items_of q s c keeps (new c) f) []
 
-  put : (f : Function) (i : Item) → Contains s f → are_siblings q.roots bus f.slot.bus ≡ true → Contains (items_of q s c keeps (new c) f) i → Contains (items_on q s c keeps (new c) bus) i
+  put : (f : Function) (i : Item) → Contains s f → are_siblings q.roots bus f.slot.bus ≡ true → Contains (items_of q s c keeps (new c) f) i → Contains (bus_items q s c keeps (new c) bus) i
   put f i listed beside has =
       let all = flat_map on_bus s in
       Contains-permutation all (in_turn all) i (turn_same all)
@@ -122,15 +122,15 @@ module _ (q : Request) (s : System) (new : WindowKind → Function → Extent) (
 
   -- each part of the class that isn't kept is an item
   pub own_in : (f : Function) (p : Part) → Contains s f → are_siblings q.roots bus f.slot.bus ≡ true → Contains (header_parts f) p → is_part q s f p ≡ true → is_window p ≡ false → class_in q s f p ≡ c
-      → keeps record { function = f; part = p } ≡ false → Contains (items_on q s c keeps (new c) bus) (item_by new c f p)
+      → keeps record { function = f; part = p } ≡ false → Contains (bus_items q s c keeps (new c) bus) (item_by new c f p)
   own_in f p listed beside there part plain class moves =
-      let r : Region = record { function = f; part = p } in
+      let r : FunctionPart = record { function = f; part = p } in
       let same : same_class c (class_in q s f p) ≡ true = ap (same_class c) class ∙ itself c in
       put f (item_by new c f p) listed beside
       (Contains-append_left (own f) (later f) (item_by new c f p)
       (subst (λ e. Contains (own f) (record { region = r; class = c; extent = e })) (own_by_part new f p plain)
-      (in_map_from (own_item c) (filter kept (regions_of q s f)) r
-      (in_filter_from kept (regions_of q s f) r (in_map_from (λ p. record { function = f; part = p }) (parts_of q s f) p (in_filter_from (is_part q s f) (header_parts f) p there part))
+      (in_map_from (own_item c) (filter kept (function_parts q s f)) r
+      (in_filter_from kept (function_parts q s f) r (in_map_from (λ p. record { function = f; part = p }) (parts_of q s f) p (in_filter_from (is_part q s f) (header_parts f) p there part))
       (and_from (is_own q s c r) (not (keeps r)) (and_from (not (is_window p)) (same_class c (class_in q s f p)) (ap not plain) same) (ap not moves))))))
     where
       itself : (d : WindowKind) → same_class d d ≡ true
@@ -138,15 +138,15 @@ module _ (q : Request) (s : System) (new : WindowKind → Function → Extent) (
       itself MemoryWindow = refl
       itself PrefetchWindow = refl
 
-  pub window_in : (f : Function) → Contains s f → are_siblings q.roots bus f.slot.bus ≡ true → is_bridge f ≡ true → has_of q s c f ≡ true → keeps (window_region c f) ≡ false
-      → Contains (items_on q s c keeps (new c) bus) (item_by new c f (Window c))
+  pub window_in : (f : Function) → Contains s f → are_siblings q.roots bus f.slot.bus ≡ true → is_bridge f ≡ true → has_of q s c f ≡ true → keeps (window_part c f) ≡ false
+      → Contains (bus_items q s c keeps (new c) bus) (item_by new c f (Window c))
   window_in f listed beside bridge has moves =
-      let now : opens f ≡ true = and_from (is_bridge f && has_of q s c f) (not (keeps (window_region c f))) (and_from (is_bridge f) (has_of q s c f) bridge has) (ap not moves) in
+      let now : opens f ≡ true = and_from (is_bridge f && has_of q s c f) (not (keeps (window_part c f))) (and_from (is_bridge f) (has_of q s c f) bridge has) (ap not moves) in
       put f (item_by new c f (Window c)) listed beside
       (Contains-append_right (own f) (later f) (window f) (subst (λ b. Contains (cond b (window f ∷ []) []) (window f)) (sym now) (in_head (window f) [])))
 
   -- and none that is
-  pub item_moves : (i : Item) → Contains (items_on q s c keeps (new c) bus) i → keeps i.region ≡ false
+  pub item_moves : (i : Item) → Contains (bus_items q s c keeps (new c) bus) i → keeps i.region ≡ false
   item_moves = each_on q s c keeps (new c) bus (λ i. keeps i.region ≡ false) (λ f on p is. is.moves) (λ f on is. is.moves)
 
 -- ---- alignments are powers of two
@@ -167,14 +167,14 @@ module _ (q : Request) (s : System) where
       let i : IsMade (λ (i : Item). i.extent) items e.from = in_map_to (λ (i : Item). i.extent) items e.from e.has in
       subst IsPower (ap (λ (e : Extent). e.alignment) i.is ∙ e.is) (each i.from i.has))
 
-  window_power : (c : WindowKind) (keeps : Region → Bool) (depth : ℕ) (b : Function) → IsPower (window_within q s c depth b).alignment
+  window_power : (c : WindowKind) (keeps : FunctionPart → Bool) (depth : ℕ) (b : Function) → IsPower (window_within q s c depth b).alignment
   unfolding window_within
   window_power c keeps zero b = around_power c b [] (λ i has. absurd (in_nil i has))
   window_power c keeps (suc depth) b =
-      around_power c b (items_on q s c nothing_kept (window_within q s c depth) (secondary b))
+      around_power c b (bus_items q s c nothing_kept (window_within q s c depth) (secondary b))
       (λ i has. item_power q s (λ d. window_within q s c depth) c (secondary b) i (window_power c keeps depth) (items_are q s (λ d. window_within q s c depth) c nothing_kept (secondary b) i has))
     where
-      nothing_kept : Region → Bool
+      nothing_kept : FunctionPart → Bool
       nothing_kept r = false
 
   pub new_window_power : (c : WindowKind) (b : Function) → IsPower (new_window q s c b).alignment
@@ -186,12 +186,12 @@ module _ (q : Request) (s : System) where
     pub c : WindowKind
     pub of_space : window_space c ≡ space
     pub of : IsItemOf q s (new_window q s) c bus i
-    pub has : Contains (items_on q s c (stays q s) (new_window q s c) bus) i
+    pub has : Contains (bus_items q s c (stays q s) (new_window q s c) bus) i
 
   pub space_items_are : (space : Space) (bus : ℕ) (i : Item) → Contains (space_items q s space bus) i → IsItemIn space bus i
   space_items_are Io bus i has = record { c = IoWindow; of_space = refl; of = items_are q s (new_window q s) IoWindow (stays q s) bus i has; has = has }
   space_items_are Memory bus i has =
-      elim (Contains-append_cases (items_on q s MemoryWindow (stays q s) (new_window q s MemoryWindow) bus) (items_on q s PrefetchWindow (stays q s) (new_window q s PrefetchWindow) bus) i has) [
+      elim (Contains-append_cases (bus_items q s MemoryWindow (stays q s) (new_window q s MemoryWindow) bus) (bus_items q s PrefetchWindow (stays q s) (new_window q s PrefetchWindow) bus) i has) [
         | inl plain ↦ record { c = MemoryWindow; of_space = refl; of = items_are q s (new_window q s) MemoryWindow (stays q s) bus i plain; has = plain }
         | inr prefetch ↦ record { c = PrefetchWindow; of_space = refl; of = items_are q s (new_window q s) PrefetchWindow (stays q s) bus i prefetch; has = prefetch }
       ]

@@ -11,7 +11,7 @@ use Rattle.plan_spec.proofs.Planning.Faults.{moved_profile}
 use Rattle.plan_spec.proofs.Planning.CommandFits.{command_by}
 use Rattle.settle_spec.specs.Lists.{Request}
 use Rattle.settle_spec.specs.Registers.{settled, settled_function, is_enabled_in}
-use Rattle.settle_laws.specs.WriteLaws.{IsKeptAside, SettledIsMoved, SettledIsInProfile}
+use Rattle.settle_laws.specs.WriteLaws.{IsKeptAside, SettledIsMoved, SettledStaysInProfile}
 use Rattle.settle_laws.proofs.SettledMoved.{byte_stays, listed_moves, new_command, new_image, settled_moves}
 
 pub each_by : (R : Function → Function → Type 0) (g : Function → Function) (t : System) → ((f : Function) → Contains t f → R f (g f)) → AllZip R t (map g t)
@@ -36,7 +36,7 @@ kept_aside q s system profile = each_by IsKeptAside (settled_function q s) s (λ
 pub listed_moved : SettledIsMoved
 listed_moved q s system profile lists = each_by IsMoved (settled_function q s) s (λ f listed. listed_moves q s system profile f listed lists.good lists.short)
 
-pub listed_profile : SettledIsInProfile
+pub listed_profile : SettledStaysInProfile
 listed_profile q s system profile chains lists = moved_profile q.roots s (settled q s) system chains (listed_moved q s system profile lists) profile
 
 pub all_moved : (q : Request) (s : System) → IsSystem s → IsInProfile q.roots s → IsInProfile q.roots (settled q s) → AllZip IsMoved s (settled q s)

@@ -13,8 +13,8 @@ use Rattle.plan_spec.proofs.Planning.AboveBuses.{above_to, above_from, root_or_l
 use Rattle.plan_spec.proofs.Planning.Behind.{any_from, behind_range, bridge_between}
 use Rattle.plan_spec.proofs.Planning.Safe.{order_of}
 use Rattle.settle_spec.specs.Lists.{Request}
-use Rattle.settle_spec.specs.Parts.{Region, is_part, has_left, header_parts, class_in, same_space}
-use Rattle.settle_spec.specs.Stands.{region_space, window_region}
+use Rattle.settle_spec.specs.Parts.{FunctionPart, is_part, has_left, header_parts, class_in, are_same_space}
+use Rattle.settle_spec.specs.Stands.{part_space, window_part}
 use Rattle.settle_spec.specs.Items.{Placed, stays}
 use Rattle.settle_spec.specs.LiveLaws.{is_live, has_live_behind}
 use Rattle.settle_spec.specs.Places.{new_place}
@@ -35,13 +35,13 @@ module _ (q : Request) (s : System) (can : CanSettle q s) where
   -- ---- a function with a BAR or ROM that is looked at
 
   -- a function with a live one on the bus behind it is live, if none of its BARs is left where that counts
-  live_by_behind : (space : Space) (b f : Function) → Contains s f → LeadsTo s b f.slot.bus → is_live q s space f ≡ true → not (same_space space Io && has_left q s b) ≡ true → (is_enabled_in q s space b ≡ true) × (is_live q s space b ≡ true)
+  live_by_behind : (space : Space) (b f : Function) → Contains s f → LeadsTo s b f.slot.bus → is_live q s space f ≡ true → not (are_same_space space Io && has_left q s b) ≡ true → (is_enabled_in q s space b ≡ true) × (is_live q s space b ≡ true)
   live_by_behind space b f listed (in_b, bridge, to) live kept =
       let behind : has_live_behind s (is_live q s space) b ≡ true =
       and_from (is_bridge b) (list_any (λ g. g.slot.bus == secondary b && is_live q s space g) s) bridge
       (any_from (λ g. g.slot.bus == secondary b && is_live q s space g) s f listed (and_from (f.slot.bus == secondary b) (is_live q s space f) (eq-eqb f.slot.bus (secondary b) (sym to)) live)) in
       let enabled : is_enabled_in q s space b ≡ true =
-      and_from (not (same_space space Io && has_left q s b)) (is_space_on b space || got_place q s space b || has_live_behind s (is_live q s space) b) kept
+      and_from (not (are_same_space space Io && has_left q s b)) (is_space_on b space || got_place q s space b || has_live_behind s (is_live q s space) b) kept
       (or_right (is_space_on b space || got_place q s space b) (has_live_behind s (is_live q s space) b) behind) in (
         enabled,
         live_by_bus q s space can.system can.nested b in_b
@@ -64,23 +64,23 @@ module _ (q : Request) (s : System) (can : CanSettle q s) where
     -- and so it is for what gets a place
     got_here : stays q s record { function = f; part = p } ≡ false → got_place q s space f ≡ true
     got_here moves =
-        let r : Region = record { function = f; part = p } in
+        let r : FunctionPart = record { function = f; part = p } in
         let x = part_placed q s can f p listed there part plain moves in
-        any_from (λ r. same_space space (region_space r) && is_some (new_place q s r)) (changing q s f) r
+        any_from (λ r. are_same_space space (part_space r) && is_some (new_place q s r)) (changing q s f) r
         (in_changing q s can f listed p there (or_left (is_part q s f p) (is_window p && is_implemented f p) part))
-        (and_from (same_space space (space_of f p)) (is_some (new_place q s r)) (same_itself space) (ap is_some x.1))
+        (and_from (are_same_space space (space_of f p)) (is_some (new_place q s r)) (same_itself space) (ap is_some x.1))
 
     enabled_here : stays q s record { function = f; part = p } ≡ false → is_enabled_in q s space f ≡ true
     enabled_here moves =
         let behind = has_live_behind s (is_live q s space) f in
-        and_from (not (same_space space Io && has_left q s f)) (is_space_on f space || got_place q s space f || behind) (unleft_itself q s can.system can.nested f space has_own_here)
+        and_from (not (are_same_space space Io && has_left q s f)) (is_space_on f space || got_place q s space f || behind) (unleft_itself q s can.system can.nested f space has_own_here)
         (or_left (is_space_on f space || got_place q s space f) behind (or_right (is_space_on f space) (got_place q s space f) (got_here moves)))
 
   -- ---- bridges above
 
   -- bridges above what is live are, if none of their BARs is left where that counts
   live_above : (n : ℕ) (space : Space) (g b : Function) → g.slot.bus < n → Contains s g → is_live q s space g ≡ true → Contains (bridges_above s g.slot.bus) b
-      → ((d : Function) → Contains (bridges_above s g.slot.bus) d → not (same_space space Io && has_left q s d) ≡ true) → is_live q s space b ≡ true
+      → ((d : Function) → Contains (bridges_above s g.slot.bus) d → not (are_same_space space Io && has_left q s d) ≡ true) → is_live q s space b ≡ true
   live_above zero space g b less listed live above kept = absurd (let no : ⊥ = omega (arith, less) in no)
   live_above (suc n) space g b less listed live above kept = elim (root_or_led q.roots s can.system can.nested g listed) [
     | inl root ↦ (let is = above_to s g.slot.bus b above in absurd (is_no_root q.roots s can.system can.nested b g.slot.bus is.listed is.bridge is.behind ((root_means q.roots g.slot.bus).1 root)))
@@ -140,7 +140,7 @@ module _ (q : Request) (s : System) (can : CanSettle q s) where
       moves_behind window of = false_from_ne_true (stays q s record { function = of.f; part = of.p }) (λ keeps.
           let over = above_stays q s can.system can.nested record { function = of.f; part = of.p } f keeps of.above in
           both_ways (stays q s record { function = f; part = p }) is.moves
-          (ap (λ o. stays q s record { function = f; part = o }) window ∙ ap (λ c. stays q s (window_region c f)) (sym of.class) ∙ over))
+          (ap (λ o. stays q s record { function = f; part = o }) window ∙ ap (λ c. stays q s (window_part c f)) (sym of.class) ∙ over))
 
       by : IsPlaceable q s (class_in q s f p) f p → IsServing (space_of f p) f
       by (IsOwnPart plain part) = serves_own f p listed (header_of f p there) part plain (enabled_here f p listed (header_of f p there) part plain is.moves)

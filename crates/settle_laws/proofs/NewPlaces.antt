@@ -14,12 +14,12 @@ use Rattle.pci_spec.specs.System.{System, Function, IsSystem, Space, Part, Bar, 
 use Rattle.pci_spec.proofs.Members.{in_nil, in_map_from}
 use Rattle.pci_spec.proofs.Nesting.{one_function}
 use Rattle.plan_spec.specs.Plan.{size_of}
-use Rattle.settle_spec.specs.FirstPlace.{Extent, is_spot, ends_in}
+use Rattle.settle_spec.specs.FirstPlace.{Extent, is_spot, ends_by}
 use Rattle.settle_spec.specs.Lists.{Request}
-use Rattle.settle_spec.specs.Parts.{Region, header_parts}
+use Rattle.settle_spec.specs.Parts.{FunctionPart, header_parts}
 use Rattle.settle_spec.specs.Stands.{rank}
 use Rattle.settle_spec.specs.Items.{Item, Placed, Placing, AllPlaced, Lacks, own_extent, new_window, window_within, taken_by}
-use Rattle.settle_spec.specs.Places.{ranges_for, space_items, taken_at, placed_of, placing_within, placing_on, new_place}
+use Rattle.settle_spec.specs.Places.{ranges_of_item, space_items, taken_at, placed_of, placing_within, placing_on, new_place}
 use Rattle.settle_spec.specs.PlacingLaws.{ArePlaced}
 use Rattle.settle_spec.proofs.Placed.{are_placed}
 use Rattle.settle_spec.proofs.ItemsOn.{each_in}
@@ -100,18 +100,18 @@ module _ (q : Request) (s : System) where
     pub multiple : p.at % p.item.extent.alignment ≡ 0
     pub low : (taken_by p.item p.at).last ≤ p.item.extent.highest
     pub range : Range
-    pub had : Contains (ranges_for q s (λ over. placed_of (placing_within q s space depth over)) p.item) range
+    pub had : Contains (ranges_of_item q s (λ over. placed_of (placing_within q s space depth over)) p.item) range
     pub below : (taken_by p.item p.at).last ≤ range.last
 
   placed_are : (space : Space) (depth bus : ℕ) (placing : Placing) → placing_within q s space (suc depth) bus ≡ placing → (p : Placed) → Contains (placed_of placing) p → IsPlacedIn space depth bus p
   unfolding placing_within
   placed_are space depth bus (Lacks i) is p has = absurd (in_nil p has)
   placed_are space depth bus (AllPlaced placed) is p has =
-      let ranges = ranges_for q s (λ over. placed_of (placing_within q s space depth over)) in
+      let ranges = ranges_of_item q s (λ over. placed_of (placing_within q s space depth over)) in
       let are : ArePlaced ranges (taken_at q s space bus) (space_items q s space bus) placed = are_placed ranges (taken_at q s space bus) (space_items q s space bus) placed (item_some space bus) is in
       let own = are.each p has in
       let last = (taken_by p.item p.at).last in
-      let place = and_parts (is_spot own.0.first (taken_at q s space bus) p.item.extent p.at) (ends_in own.0 p.item.extent p.at) own.2 in
+      let place = and_parts (is_spot own.0.first (taken_at q s space bus) p.item.extent p.at) (ends_by own.0 p.item.extent p.at) own.2 in
       let end = and_parts (nat_le last own.0.last) (nat_le last p.item.extent.highest) place.1 in
       record {
         item = space_items_are space bus p.item (subst (λ items. Contains items p.item) are.all (in_map_from (λ (x : Placed). x.item) placed p has));
@@ -173,6 +173,6 @@ module _ (q : Request) (s : System) where
     new_place_is p e =
         let space = space_of f part in
         let placed = placed_of (placing_on q s space f.slot.bus) in
-        let r : Region = record { function = f; part = part } in
+        let r : FunctionPart = record { function = f; part = part } in
         let at = found (λ (x : Placed). rank x.item.region == rank r) placed p e in
         place_is space 255 f.slot.bus p (placed_are space 255 f.slot.bus (placing_on q s space f.slot.bus) refl p at.0) (eqb-true (rank p.item.region) (rank r) at.1)

@@ -18,8 +18,8 @@ use Rattle.plan_spec.proofs.Planning.Sizes.{sum_on_bus}
 use Rattle.plan_spec.proofs.Planning.Tallies.{greatest_least}
 use Rattle.settle_spec.specs.FirstPlace.{Extent}
 use Rattle.settle_spec.specs.Lists.{Request}
-use Rattle.settle_spec.specs.Parts.{Region, class_in}
-use Rattle.settle_spec.specs.Items.{Item, items_of, items_on, nothing, laid_out, end_of, window_around, new_window}
+use Rattle.settle_spec.specs.Parts.{FunctionPart, class_in}
+use Rattle.settle_spec.specs.Items.{Item, items_of, bus_items, nothing, laid_out, end_of, window_around, new_window}
 use Rattle.settle_spec.proofs.Nested.{at_secondary, is_no_root, on_it}
 use Rattle.settle_spec.proofs.NewWindows.{window_is_around}
 use Rattle.settle_laws.proofs.ItemForms.{extent_by, IsPlaceable, IsOwnPart, IsNewWindow, IsItemOf, items_are, own_power, new_window_power}
@@ -49,10 +49,10 @@ module _ (q : Request) (s : System) (pools : Pools) (c : WindowKind) (system : I
       by (IsNewWindow window bridge has) = subst (λ p. IsSetAside (extent_by (new_window q s) is.f p) (size_in s pools c is.f p)) (sym window) (windows is.f is.listed bridge is.beside)
 
   -- the items of a bus
-  pub items_aside : (keeps : Region → Bool) (start bus : ℕ)
+  pub items_aside : (keeps : FunctionPart → Bool) (start bus : ℕ)
       → ((b : Function) → Contains s b → is_bridge b ≡ true → are_siblings q.roots bus b.slot.bus ≡ true → IsSetAside (new_window q s c b) (size_in s pools c b (Window c)))
-      → ((i : Item) → Contains (items_on q s c keeps (new_window q s c) bus) i → start % i.extent.alignment ≡ 0)
-      → AreSetAside size start (items_on q s c keeps (new_window q s c) bus)
+      → ((i : Item) → Contains (bus_items q s c keeps (new_window q s c) bus) i → start % i.extent.alignment ≡ 0)
+      → AreSetAside size start (bus_items q s c keeps (new_window q s c) bus)
   items_aside keeps start bus windows even = record {
     each = λ i listed. item_aside bus i (items_are q s (new_window q s) c keeps bus i listed) windows;
     even = even;
@@ -94,7 +94,7 @@ module _ (q : Request) (s : System) (pools : Pools) (c : WindowKind) (system : I
       → IsSetAside (new_window q s c b) (size_in s pools c b (Window c))
   fits_by b listed bridge inner =
       let bus = secondary b in
-      let items = items_on q s c nothing (new_window q s c) bus in
+      let items = bus_items q s c nothing (new_window q s c) bus in
       let around = window_is_around q s c system nested b listed bridge in
       let off : is_root q.roots bus ≡ false = false_from_ne_true (is_root q.roots bus) (is_no_root q.roots s system nested b bus listed bridge (at_secondary q.roots s system nested b bus listed bridge refl)) in
       let below = items_below q s pools c classes system nested small nothing (new_window q s c) bus in

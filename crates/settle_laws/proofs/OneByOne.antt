@@ -11,7 +11,7 @@ use Rattle.plan_spec.specs.Planning.Layout.{IsInside}
 use Rattle.plan_spec.specs.Planning.Placing.{IsPower}
 use Rattle.plan_spec.proofs.Planning.Placement.{mod_of_multiple, multiple_of_mod, multiple_add, power_multiple, power_pos}
 use Rattle.plan_spec.proofs.Planning.Tallies.{greatest_least}
-use Rattle.settle_spec.specs.FirstPlace.{Extent, ends_in, first_spot, first_place, else_at}
+use Rattle.settle_spec.specs.FirstPlace.{Extent, ends_by, first_spot, first_place, else_at}
 use Rattle.settle_spec.specs.Items.{Item, Placing, AllPlaced, Lacks, and_placed, place_next, place_all, are_placed, taken_by, laid_out, end_of}
 use Rattle.settle_spec.proofs.FirstSpot.{spot_from, spot_gives, least_spot}
 use Rattle.settle_laws.proofs.Powers.{multiple_below}
@@ -118,7 +118,7 @@ module _ (aside : Item → ℕ) where
         ]) in
         let up = (spot_gives r.first taken e a (least_spot r.first taken e (power_pos e.alignment own.aligned)).free).from in
         let first = has i (in_head i items) in
-        let ends : ends_in r e a ≡ true =
+        let ends : ends_by r e a ≡ true =
         let highest = first.below in
         and_from (nat_le (a + (e.size - 1)) r.last) (nat_le (a + (e.size - 1)) e.highest)
         (le-leb (a + (e.size - 1)) r.last (omega (arith, low, holds, some, room, step)))

@@ -5,7 +5,7 @@ use Rattle.std.specs.List.{Contains}
 use Rattle.std.proofs.lemmas.Bool.{and_parts, and_from, both_ways, false_from_ne_true, leb-true}
 use Rattle.pci_spec.specs.Decoded.{Range}
 use Rattle.pci_spec.proofs.Members.{in_head, in_tail, in_cons_cases}
-use Rattle.settle_spec.specs.FirstPlace.{Extent, is_spot, ends_in, is_place, first_in, first_place, else_at}
+use Rattle.settle_spec.specs.FirstPlace.{Extent, is_spot, ends_by, is_place, first_place_in, first_place, else_at}
 use Rattle.settle_spec.specs.Items.{Item, Placed, Placing, AllPlaced, Lacks, and_placed, place_next, place_all, are_placed, taken_by}
 use Rattle.settle_spec.proofs.FirstPlace.{in_is, in_none, in_by, in_by_none}
 use Rattle.settle_spec.proofs.FirstSpot.{spot_gives, spot_from}
@@ -26,11 +26,11 @@ alike_cons r u xs ys alike t has = elim (in_cons_cases u xs t has) [
 
 place_too : (r : Range) (xs ys : List Range) (e : Extent) (b : ℕ) → IsAlikeIn r ys xs → IsTrue (is_place r xs e b) → IsTrue (is_place r ys e b)
 place_too r xs ys e b alike place =
-    let parts = and_parts (is_spot r.first xs e b) (ends_in r e b) place in
+    let parts = and_parts (is_spot r.first xs e b) (ends_by r e b) place in
     let free = spot_gives r.first xs e b parts.0 in
     let from = free.from in
     let end = leb-true (b + (e.size - 1)) r.last (and_parts (nat_le (b + (e.size - 1)) r.last) (nat_le (b + (e.size - 1)) e.highest) parts.1).0 in
-    and_from (is_spot r.first ys e b) (ends_in r e b)
+    and_from (is_spot r.first ys e b) (ends_by r e b)
     (spot_from r.first ys e b record {
       multiple = free.multiple;
       from = free.from;
@@ -42,10 +42,10 @@ place_too r xs ys e b alike place =
     }) parts.1
 
 module _ (r : Range) (xs ys : List Range) (to : IsAlikeIn r xs ys) (back : IsAlikeIn r ys xs) where
-  same_in : (e : Extent) → 0 < e.alignment → first_in r xs e ≡ first_in r ys e
-  same_in e pos = by (first_in r ys e) refl
+  same_in : (e : Extent) → 0 < e.alignment → first_place_in r xs e ≡ first_place_in r ys e
+  same_in e pos = by (first_place_in r ys e) refl
     where
-      by : (o : Option ℕ) → first_in r ys e ≡ o → first_in r xs e ≡ o
+      by : (o : Option ℕ) → first_place_in r ys e ≡ o → first_place_in r xs e ≡ o
       by None is = in_by_none r xs e pos (λ b. false_from_ne_true (is_place r xs e b) (λ place. both_ways (is_place r ys e b) (in_none r ys e pos is b) (place_too r xs ys e b back place)))
       by (Some a) is =
           let first = in_is r ys e pos a is in

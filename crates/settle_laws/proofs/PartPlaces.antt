@@ -12,8 +12,8 @@ use Rattle.plan_spec.proofs.Planning.AboveBuses.{above_from}
 use Rattle.plan_spec.proofs.Planning.Behind.{Passes, any_gives}
 use Rattle.plan_spec.proofs.Planning.PlacedItems.{same_class_is}
 use Rattle.settle_spec.specs.Lists.{Request}
-use Rattle.settle_spec.specs.Parts.{Region, is_part, parts_of, header_parts, regions_of, class_in}
-use Rattle.settle_spec.specs.Stands.{rank, window_region}
+use Rattle.settle_spec.specs.Parts.{FunctionPart, is_part, parts_of, header_parts, function_parts, class_in}
+use Rattle.settle_spec.specs.Stands.{rank, window_part}
 use Rattle.settle_spec.specs.Items.{Item, Placed, is_own, has_of, new_window, stays}
 use Rattle.settle_spec.specs.Places.{placed_of, place_among, space_items, new_place}
 use Rattle.settle_laws.specs.PlacesLaws.{CanSettle}
@@ -37,10 +37,10 @@ module _ (q : Request) (s : System) where
 
   pub behind_of : (c : WindowKind) (b : Function) → Contains s b → is_bridge b ≡ true → has_of q s c b ≡ true → IsBehindOf c b
   behind_of c b listed bridge has =
-      let found_f : Passes (λ f. is_behind b f.slot.bus && list_any (is_own q s c) (regions_of q s f)) s = any_gives (λ f. is_behind b f.slot.bus && list_any (is_own q s c) (regions_of q s f)) s has in
+      let found_f : Passes (λ f. is_behind b f.slot.bus && list_any (is_own q s c) (function_parts q s f)) s = any_gives (λ f. is_behind b f.slot.bus && list_any (is_own q s c) (function_parts q s f)) s has in
       let f = found_f.x in
-      let is = and_parts (is_behind b f.slot.bus) (list_any (is_own q s c) (regions_of q s f)) found_f.is in
-      let r : Passes (is_own q s c) (regions_of q s f) = any_gives (is_own q s c) (regions_of q s f) is.1 in
+      let is = and_parts (is_behind b f.slot.bus) (list_any (is_own q s c) (function_parts q s f)) found_f.is in
+      let r : Passes (is_own q s c) (function_parts q s f) = any_gives (is_own q s c) (function_parts q s f) is.1 in
       let of : IsMade (λ p. record { function = f; part = p }) (parts_of q s f) r.x = in_map_to (λ p. record { function = f; part = p }) (parts_of q s f) r.x r.listed in
       let p = of.from in
       let part = in_filter_to (is_part q s f) (header_parts f) p of.has in
@@ -78,7 +78,7 @@ module _ (q : Request) (s : System) (can : CanSettle q s) where
       (own_in q s (new_window q s) (class_in q s f p) (stays q s) f.slot.bus f p listed (beside_itself q s can f.slot.bus) there part plain refl moves)
 
   -- and so has the window of a bridge with one of its class behind it
-  pub window_placed : (b : Function) (c : WindowKind) → Contains s b → is_bridge b ≡ true → has_of q s c b ≡ true → stays q s (window_region c b) ≡ false → (x : Placed) × (new_place q s (window_region c b) ≡ Some x)
+  pub window_placed : (b : Function) (c : WindowKind) → Contains s b → is_bridge b ≡ true → has_of q s c b ≡ true → stays q s (window_part c b) ≡ false → (x : Placed) × (new_place q s (window_part c b) ≡ Some x)
   window_placed b c listed bridge has moves =
       placed_there b (Window c) listed bridge
       (window_in q s (new_window q s) c (stays q s) b.slot.bus b listed (beside_itself q s can b.slot.bus) bridge has moves)
@@ -100,13 +100,13 @@ module _ (q : Request) (s : System) (can : CanSettle q s) where
   pub new_place_is : (f : Function) (p : Part) → Contains s f → has_part f p ≡ true → (x : Placed) → new_place q s record { function = f; part = p } ≡ Some x → IsNewPlace f p x
   new_place_is f p listed there x shown =
       let space = space_of f p in
-      let r : Region = record { function = f; part = p } in
+      let r : FunctionPart = record { function = f; part = p } in
       let at = found (λ (y : Placed). rank y.item.region == rank r) (places q s can space f.slot.bus) x shown in
       let is = item_of space f listed x at.0 in
       let item : x.item ≡ item_by (new_window q s) (class_in q s f p) f p = same_rank q s can.system space f.slot.bus x.item is f p listed there (eqb-true (rank x.item.region) (rank r) at.1) in
       let region : record { function = is.of.f; part = is.of.p } ≡ r = ap (λ (i : Item). i.region) (is.of.is ∙ item) in
-      let function : is.of.f ≡ f = ap (λ (z : Region). z.function) region in
-      let part : is.of.p ≡ p = ap (λ (z : Region). z.part) region in
+      let function : is.of.f ≡ f = ap (λ (z : FunctionPart). z.function) region in
+      let part : is.of.p ≡ p = ap (λ (z : FunctionPart). z.part) region in
       let class : is.c ≡ class_in q s f p = ap (λ (i : Item). i.class) (is.of.is ∙ item) in
       record {
         listed = at.0;
@@ -120,7 +120,7 @@ module _ (q : Request) (s : System) (can : CanSettle q s) where
   pub kept_unplaced : (f : Function) (p : Part) → Contains s f → has_part f p ≡ true → stays q s record { function = f; part = p } ≡ true → new_place q s record { function = f; part = p } ≡ None
   kept_unplaced f p listed there keeps = by (new_place q s r) refl
     where
-      r : Region
+      r : FunctionPart
       r = record { function = f; part = p }
 
       by : (o : Option Placed) → new_place q s r ≡ o → new_place q s r ≡ None

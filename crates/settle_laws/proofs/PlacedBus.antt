@@ -12,13 +12,13 @@ use Rattle.pci_spec.proofs.Members.{in_nil, in_cons_cases, in_map_to, in_map_fro
 use Rattle.plan_spec.specs.Planning.Layout.{LieApart}
 use Rattle.plan_spec.proofs.Planning.Behind.{any_from}
 use Rattle.plan_spec.proofs.Planning.Safe.{slots_of}
-use Rattle.settle_spec.specs.FirstPlace.{Extent, is_spot, ends_in}
+use Rattle.settle_spec.specs.FirstPlace.{Extent, is_spot, ends_by}
 use Rattle.settle_spec.specs.Lists.{Request}
-use Rattle.settle_spec.specs.Parts.{Region, addresses, class_in, header_parts}
-use Rattle.settle_spec.specs.Stands.{rank, region_space}
-use Rattle.settle_spec.specs.Items.{Item, Placed, Placing, AllPlaced, Lacks, are_placed, taken_by, items_on, new_window, stays}
-use Rattle.settle_spec.specs.Places.{placed_of, place_among, ranges_for, space_items, taken_at, placing_on}
-use Rattle.settle_spec.specs.PlacingLaws.{AreApart, ArePlaced}
+use Rattle.settle_spec.specs.Parts.{FunctionPart, addresses, class_in, header_parts}
+use Rattle.settle_spec.specs.Stands.{rank, part_space}
+use Rattle.settle_spec.specs.Items.{Item, Placed, Placing, AllPlaced, Lacks, are_placed, taken_by, bus_items, new_window, stays}
+use Rattle.settle_spec.specs.Places.{placed_of, place_among, ranges_of_item, space_items, taken_at, placing_on}
+use Rattle.settle_spec.specs.PlacingLaws.{PlacesAreApart, ArePlaced}
 use Rattle.settle_spec.proofs.Buses.{placing_by_bus}
 use Rattle.settle_spec.proofs.FirstSpot.{spot_gives}
 use Rattle.settle_spec.proofs.Placed.{are_placed as placed_are}
@@ -55,7 +55,7 @@ module _ (q : Request) (s : System) (can : CanSettle q s) where
   places space over = placed_of (placing_on q s space over)
 
   abbrev pub items : WindowKind → ℕ → List Item
-  items c bus = items_on q s c (stays q s) (new_window q s c) bus
+  items c bus = bus_items q s c (stays q s) (new_window q s c) bus
 
   pub low_bus : (f : Function) → Contains s f → f.slot.bus < 256
   low_bus f listed = (slots_of s can.system f listed).0
@@ -73,7 +73,7 @@ module _ (q : Request) (s : System) (can : CanSettle q s) where
   pub record IsPlacedBus (space : Space) (bus : ℕ) : Type 0 where
     pub placed : List Placed
     pub is : placing_on q s space bus ≡ AllPlaced placed
-    pub are : ArePlaced (ranges_for q s (places space)) (taken_at q s space bus) (space_items q s space bus) placed
+    pub are : ArePlaced (ranges_of_item q s (places space)) (taken_at q s space bus) (space_items q s space bus) placed
 
   pub bus_placed : (space : Space) (bus : ℕ) → bus < 256 → are_placed (placing_on q s space bus) ≡ true → IsPlacedBus space bus
   bus_placed space bus low done =
@@ -81,7 +81,7 @@ module _ (q : Request) (s : System) (can : CanSettle q s) where
       record {
         placed = list.0;
         is = list.1;
-        are = placed_are (ranges_for q s (places space)) (taken_at q s space bus) (space_items q s space bus) list.0 (item_positive q s space bus) (sym (placing_by_bus q s can.system can.nested space bus low) ∙ list.1);
+        are = placed_are (ranges_of_item q s (places space)) (taken_at q s space bus) (space_items q s space bus) list.0 (item_positive q s space bus) (sym (placing_by_bus q s can.system can.nested space bus low) ∙ list.1);
       }
 
   -- the place of an item of such a bus
@@ -94,7 +94,7 @@ module _ (q : Request) (s : System) (can : CanSettle q s) where
   pub place_of : (space : Space) (bus : ℕ) (b : IsPlacedBus space bus) (f : Function) (p : Part) → Contains s f → has_part f p ≡ true
       → Contains (space_items q s space bus) (item_by (new_window q s) (class_in q s f p) f p) → HasPlace space f p b.placed
   place_of space bus b f p listed there has =
-      let r : Region = record { function = f; part = p } in
+      let r : FunctionPart = record { function = f; part = p } in
       let test = λ (x : Placed). rank x.item.region == rank r in
       let i = item_by (new_window q s) (class_in q s f p) f p in
       let made : IsMade (λ (x : Placed). x.item) b.placed i = in_map_to (λ (x : Placed). x.item) b.placed i (subst (λ xs. Contains xs i) (sym b.are.all) has) in
@@ -112,18 +112,18 @@ module _ (q : Request) (s : System) (can : CanSettle q s) where
   -- ---- where parts of such a bus end
 
   -- what stays has its own addresses, and what is placed has those of its place
-  pub data EndsIn (placed : List Placed) (r : Region) (t : Range) : Type 0 where
+  pub data EndsIn (placed : List Placed) (r : FunctionPart) (t : Range) : Type 0 where
     Keeps : (keeps : stays q s r ≡ true) → (is : addresses r ≡ t) → EndsIn placed r t
     Gets : (moves : stays q s r ≡ false) → (x : Placed) → (shown : place_among r placed ≡ Some x) → (has : Contains placed x) → (of : x.item.region ≡ r) → (is : taken_by x.item x.at ≡ t) → EndsIn placed r t
 
   -- a part beside a bus, of a space
-  pub record IsBeside (space : Space) (bus : ℕ) (r : Region) : Type 0 where
+  pub record IsBeside (space : Space) (bus : ℕ) (r : FunctionPart) : Type 0 where
     pub listed : Contains s r.function
     pub there : Contains (header_parts r.function) r.part
     pub beside : are_siblings q.roots bus r.function.slot.bus ≡ true
-    pub at : region_space r ≡ space
+    pub at : part_space r ≡ space
 
-  pub kept_there : (space : Space) (bus : ℕ) (r : Region) → IsBeside space bus r → stays q s r ≡ true → Contains (taken_at q s space bus) (addresses r)
+  pub kept_there : (space : Space) (bus : ℕ) (r : FunctionPart) → IsBeside space bus r → stays q s r ≡ true → Contains (taken_at q s space bus) (addresses r)
   kept_there space bus r is keeps =
       is_at q s space bus (addresses r) record {
         of = r;
@@ -138,14 +138,14 @@ module _ (q : Request) (s : System) (can : CanSettle q s) where
   off_taken : (space : Space) (bus : ℕ) (b : IsPlacedBus space bus) (x : Placed) (t : Range) → Contains b.placed x → Contains (taken_at q s space bus) t → LieApart (taken_by x.item x.at) t
   off_taken space bus b x t has taken =
       let own = b.are.each x has in
-      let spot = (and_parts (is_spot own.0.first (taken_at q s space bus) x.item.extent x.at) (ends_in own.0 x.item.extent x.at) own.2).0 in
+      let spot = (and_parts (is_spot own.0.first (taken_at q s space bus) x.item.extent x.at) (ends_by own.0 x.item.extent x.at) own.2).0 in
       (spot_gives own.0.first (taken_at q s space bus) x.item.extent x.at spot).free t taken
 
   apart_swap : (r t : Range) → LieApart r t → LieApart t r
   apart_swap r t (inl under) = inr under
   apart_swap r t (inr over) = inl over
 
-  pub end_apart : (space : Space) (bus : ℕ) (b : IsPlacedBus space bus) (r u : Region) (t v : Range) → IsBeside space bus r → IsBeside space bus u → (rank r ≡ rank u → ⊥) → EndsIn b.placed r t → EndsIn b.placed u v → LieApart t v
+  pub end_apart : (space : Space) (bus : ℕ) (b : IsPlacedBus space bus) (r u : FunctionPart) (t v : Range) → IsBeside space bus r → IsBeside space bus u → (rank r ≡ rank u → ⊥) → EndsIn b.placed r t → EndsIn b.placed u v → LieApart t v
   end_apart space bus b r u t v is_r is_u differ (Keeps keeps_r at_r) (Keeps keeps_u at_u) =
       let part_r = stays_part q s can.system can.nested r is_r.listed keeps_r in
       let part_u = stays_part q s can.system can.nested u is_u.listed keeps_u in
@@ -159,7 +159,7 @@ module _ (q : Request) (s : System) (can : CanSettle q s) where
       subst (λ w. LieApart w v) at_r (subst (LieApart (taken_by x.item x.at)) at_u (off_taken space bus b x (addresses u) has (kept_there space bus u is_u keeps)))
   end_apart space bus b r u t v is_r is_u differ (Gets moves_x x shown_x has_x of_x at_r) (Gets moves_y y shown_y has_y of_y at_u) =
       subst (λ w. LieApart w v) at_r (subst (LieApart (taken_by x.item x.at)) at_u
-      (elim (pairs_either AreApart b.placed b.are.apart x y has_x has_y) [
+      (elim (pairs_either PlacesAreApart b.placed b.are.apart x y has_x has_y) [
         | inl same ↦ absurd (differ (ap rank (sym of_x ∙ ap (λ (z : Placed). z.item.region) same ∙ of_y)))
         | inr (inl apart) ↦ lie_apart (taken_by x.item x.at) (taken_by y.item y.at) apart
         | inr (inr apart) ↦ apart_swap (taken_by y.item y.at) (taken_by x.item x.at) (lie_apart (taken_by y.item y.at) (taken_by x.item x.at) apart)

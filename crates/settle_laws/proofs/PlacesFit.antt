@@ -26,8 +26,8 @@ use Rattle.plan_spec.proofs.Planning.RomFits.{rom_there, rom_number_fits}
 use Rattle.plan_spec.proofs.Planning.WindowFits.{AreKept, PartsFit, by_closed, few_nibbles, kept_fit, lawful_nibbles, open_kept, window_fits}
 use Rattle.settle_spec.specs.FirstPlace.{Extent}
 use Rattle.settle_spec.specs.Lists.{Request}
-use Rattle.settle_spec.specs.Parts.{Region, header_parts}
-use Rattle.settle_spec.specs.Items.{Item, Placed, highest_of_bar, highest_in, items_on, nothing, new_window, window_within, stays, taken_by}
+use Rattle.settle_spec.specs.Parts.{FunctionPart, header_parts}
+use Rattle.settle_spec.specs.Items.{Item, Placed, highest_of_bar, highest_in, bus_items, nothing, new_window, window_within, stays, taken_by}
 use Rattle.settle_spec.specs.Places.{new_place}
 use Rattle.settle_spec.specs.Registers.{with_number, with_bounds, closed_if_open, shown, changing, settled_image}
 use Rattle.settle_spec.proofs.FirstSpot.{least_in}
@@ -117,7 +117,7 @@ no_bar : (n : ℕ) → Rom ≡ Bar n → ⊥
 no_bar n e = cc
 
 module _ (q : Request) (s : System) (system : IsSystem s) (f : Function) (listed : Contains s f) (is : IsFunction f) (decodable : IsDecodable f) where
-  abbrev region : Part → Region
+  abbrev region : Part → FunctionPart
   region p = record { function = f; part = p }
 
   -- ---- BARs
@@ -206,7 +206,7 @@ module _ (q : Request) (s : System) (system : IsSystem s) (f : Function) (listed
   no_higher : (c : WindowKind) → (new_window q s c f).highest ≤ highest_in c f.probe
   unfolding window_within
   no_higher c =
-      let extents = map (λ (i : Item). i.extent) (items_on q s c nothing (window_within q s c 255) (secondary f)) in
+      let extents = map (λ (i : Item). i.extent) (bus_items q s c nothing (window_within q s c 255) (secondary f)) in
       least_in (highest_in c f.probe ∷ map (λ (e : Extent). e.highest) extents) (highest_in c f.probe) (in_head (highest_in c f.probe) (map (λ (e : Extent). e.highest) extents))
 
   window_low : (c : WindowKind) (p : Placed) → HasPlace q s (space_of f (Window c)) f (Window c) p → (taken_by p.item p.at).last ≤ highest_in c f.probe
@@ -267,5 +267,5 @@ module _ (q : Request) (s : System) (system : IsSystem s) (f : Function) (listed
   image_has_bits = fold_keeps (HasBits f) (λ image r. shown q s r (new_place q s r) image) (changing q s f)
       (λ r has image h.
       let c : IsChanging q s f r = changing_is q s f r has in
-      subst (λ (t : Region). HasBits f (shown q s t (new_place q s t) image)) c.is (part_shown c.p (part_of c.p c.there c.can) c.can (new_place q s (region c.p)) refl image h)) f.image
+      subst (λ (t : FunctionPart). HasBits f (shown q s t (new_place q s t) image)) c.is (part_shown c.p (part_of c.p c.there c.can) c.can (new_place q s (region c.p)) refl image h)) f.image
       record { whole = is.image; bits = λ place i inside small plain. refl }

@@ -21,9 +21,9 @@ use Rattle.plan_spec.proofs.Planning.Order.{sum_filter}
 use Rattle.plan_spec.proofs.Planning.Sizes.{item_sizes, own_sum}
 use Rattle.settle_spec.specs.FirstPlace.{Extent}
 use Rattle.settle_spec.specs.Lists.{Request}
-use Rattle.settle_spec.specs.Parts.{Region, is_left, is_part, header_bars, header_parts, parts_of, regions_of, class_in}
-use Rattle.settle_spec.specs.Stands.{window_region}
-use Rattle.settle_spec.specs.Items.{Item, in_turn, own_item, is_own, has_of, items_of, items_on}
+use Rattle.settle_spec.specs.Parts.{FunctionPart, is_left, is_part, header_bars, header_parts, parts_of, function_parts, class_in}
+use Rattle.settle_spec.specs.Stands.{window_part}
+use Rattle.settle_spec.specs.Items.{Item, in_turn, own_item, is_own, has_of, items_of, bus_items}
 use Rattle.settle_spec.proofs.InTurn.{turn_same}
 
 -- what planning takes for an item of settling
@@ -97,10 +97,10 @@ module _ (q : Request) (s : System) (pools : Pools) (c : WindowKind) (classes : 
 
   pub planned_behind : (b : Function) → has_of q s c b ≡ true → IsPlannedBehind b
   planned_behind b has =
-      let found : Passes (λ f. is_behind b f.slot.bus && list_any (is_own q s c) (regions_of q s f)) s = any_gives (λ f. is_behind b f.slot.bus && list_any (is_own q s c) (regions_of q s f)) s has in
+      let found : Passes (λ f. is_behind b f.slot.bus && list_any (is_own q s c) (function_parts q s f)) s = any_gives (λ f. is_behind b f.slot.bus && list_any (is_own q s c) (function_parts q s f)) s has in
       let f = found.x in
-      let is = and_parts (is_behind b f.slot.bus) (list_any (is_own q s c) (regions_of q s f)) found.is in
-      let r : Passes (is_own q s c) (regions_of q s f) = any_gives (is_own q s c) (regions_of q s f) is.1 in
+      let is = and_parts (is_behind b f.slot.bus) (list_any (is_own q s c) (function_parts q s f)) found.is in
+      let r : Passes (is_own q s c) (function_parts q s f) = any_gives (is_own q s c) (function_parts q s f) is.1 in
       let made : IsMade (λ p. record { function = f; part = p }) (parts_of q s f) r.x = in_map_to (λ p. record { function = f; part = p }) (parts_of q s f) r.x r.listed in
       let p = made.from in
       let part = in_filter_to (is_part q s f) (header_parts f) p made.has in
@@ -125,18 +125,18 @@ module _ (q : Request) (s : System) (pools : Pools) (c : WindowKind) (classes : 
   -- ---- sums
 
   module _ (system : IsSystem s) (nested : IsNested q.roots s) (small : (b : Function) → Contains s b → is_bridge b ≡ true → need_behind s pools c b ≤ 2 ^ 65) where
-    module _ (keeps : Region → Bool) (extent : Function → Extent) where
-      abbrev kept : Region → Bool
+    module _ (keeps : FunctionPart → Bool) (extent : Function → Extent) where
+      abbrev kept : FunctionPart → Bool
       kept r = is_own q s c r && not (keeps r)
 
       abbrev opens : Function → Bool
-      opens f = is_bridge f && has_of q s c f && not (keeps (window_region c f))
+      opens f = is_bridge f && has_of q s c f && not (keeps (window_part c f))
 
       abbrev window : Function → Item
-      window f = record { region = window_region c f; class = c; extent = extent f }
+      window f = record { region = window_part c f; class = c; extent = extent f }
 
       module _ (f : Function) where
-        abbrev region : Part → Region
+        abbrev region : Part → FunctionPart
         region p = record { function = f; part = p }
 
         abbrev own_list : List Part → List Item
@@ -210,7 +210,7 @@ module _ (q : Request) (s : System) (pools : Pools) (c : WindowKind) (classes : 
           | inr off ↦ (let e : sum_by size (cond (opens f) (window f ∷ []) []) ≡ 0 = ap (λ b. sum_by size (cond b (window f ∷ []) [])) off in omega (arith, e))
           | inl on ↦
               let n = need_behind s pools c f in
-              let is = and_parts (is_bridge f) (has_of q s c f) (and_parts (is_bridge f && has_of q s c f) (not (keeps (window_region c f))) on).0 in
+              let is = and_parts (is_bridge f) (has_of q s c f) (and_parts (is_bridge f && has_of q s c f) (not (keeps (window_part c f))) on).0 in
               let some : nat_lt 0 n ≡ true = sym (behind_by_test q.roots s pools c system nested f listed is.0) ∙ has_planned_behind f is.1 in
               let both : (is_bridge f && nat_lt 0 n) ≡ true = and_from (is_bridge f) (nat_lt 0 n) is.0 some in
               let less = small f listed is.0 in
@@ -231,7 +231,7 @@ module _ (q : Request) (s : System) (pools : Pools) (c : WindowKind) (classes : 
             omega (arith, split, own, is, more, to)
 
       -- all items of a bus
-      pub items_below : (bus : ℕ) → sum_by size (items_on q s c keeps extent bus) ≤ sum (item_sizes (items_beside q.roots s pools c bus))
+      pub items_below : (bus : ℕ) → sum_by size (bus_items q s c keeps extent bus) ≤ sum (item_sizes (items_beside q.roots s pools c bus))
       items_below bus =
           let on : Function → List Item = λ f. cond (are_siblings q.roots bus f.slot.bus) (items_of q s c keeps extent f) [] in
           let all = flat_map on s in

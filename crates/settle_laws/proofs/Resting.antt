@@ -18,10 +18,10 @@ use Rattle.plan_spec.proofs.Planning.AboveBuses.{above_to}
 use Rattle.plan_spec.proofs.Planning.Behind.{all_gives}
 use Rattle.plan_spec.proofs.Planning.Kept.{images_of}
 use Rattle.settle_spec.specs.Lists.{Request}
-use Rattle.settle_spec.specs.Parts.{Region, header_parts, is_part, class_in}
+use Rattle.settle_spec.specs.Parts.{FunctionPart, header_parts, is_part, class_in}
 use Rattle.settle_spec.specs.Stands.{rank}
 use Rattle.settle_spec.specs.Items.{Item, Placed, Placing, AllPlaced, Lacks, new_window, stays}
-use Rattle.settle_spec.specs.Places.{new_place, placed_of, placing_on, placing_within, ranges_for, space_items, taken_at}
+use Rattle.settle_spec.specs.Places.{new_place, placed_of, placing_on, placing_within, ranges_of_item, space_items, taken_at}
 use Rattle.settle_spec.specs.Registers.{closed_if_open, is_enabled_in, settled_command, settled_function, settled_image, shown, changing, with_bounds}
 use Rattle.settle_spec.specs.Writes.{is_changed, is_cut_off_in, is_shut, is_shut_itself}
 use Rattle.settle_spec.specs.PlacingLaws.{ArePlaced}
@@ -46,7 +46,7 @@ module _ (q : Request) (s : System) (system : IsSystem s) where
   unfolding placing_within
   is_item space bus (Lacks i) e x has = absurd (in_nil x has)
   is_item space bus (AllPlaced placed) e x has =
-      let ranges = ranges_for q s (λ over. placed_of (placing_within q s space 255 over)) in
+      let ranges = ranges_of_item q s (λ over. placed_of (placing_within q s space 255 over)) in
       let are : ArePlaced ranges (taken_at q s space bus) (space_items q s space bus) placed = are_placed ranges (taken_at q s space bus) (space_items q s space bus) placed (item_positive q s space bus) e in
       subst (λ items. Contains items x.item) are.all (in_map_from (λ (y : Placed). y.item) placed x has)
 
@@ -58,13 +58,13 @@ module _ (q : Request) (s : System) (system : IsSystem s) where
   gets_place f p listed there x e =
       let space = space_of f p in
       let bus = f.slot.bus in
-      let r : Region = record { function = f; part = p } in
+      let r : FunctionPart = record { function = f; part = p } in
       let at = found (λ (y : Placed). rank y.item.region == rank r) (placed_of (placing_on q s space bus)) x e in
       let is : IsItemIn q s space bus x.item = space_items_are q s space bus x.item (is_item space bus (placing_on q s space bus) refl x at.0) in
       let item : x.item ≡ item_by (new_window q s) (class_in q s f p) f p = same_rank q s system space bus x.item is f p listed there (eqb-true (rank x.item.region) (rank r) at.1) in
       let region : record { function = is.of.f; part = is.of.p } ≡ r = ap (λ (i : Item). i.region) (is.of.is ∙ item) in
-      let function : is.of.f ≡ f = ap (λ (z : Region). z.function) region in
-      let part : is.of.p ≡ p = ap (λ (z : Region). z.part) region in
+      let function : is.of.f ≡ f = ap (λ (z : FunctionPart). z.function) region in
+      let part : is.of.p ≡ p = ap (λ (z : FunctionPart). z.part) region in
       let class : is.c ≡ class_in q s f p = ap (λ (i : Item). i.class) (is.of.is ∙ item) in
       record {
         placeable = subst (λ o. IsPlaceable q s (class_in q s f p) f o) part (subst (λ g. IsPlaceable q s (class_in q s f p) g is.of.p) function (subst (λ c. IsPlaceable q s c is.of.f is.of.p) class is.of.can));
@@ -74,7 +74,7 @@ module _ (q : Request) (s : System) (system : IsSystem s) where
   -- ---- registers
 
   -- what can change is a part of the header's layout
-  changing_part : (f : Function) (r : Region) (c : IsChanging q s f r) → has_part f c.p ≡ true
+  changing_part : (f : Function) (r : FunctionPart) (c : IsChanging q s f r) → has_part f c.p ≡ true
   changing_part f r c = elim (part_cases f c.p c.there) [
     | inl bar ↦ header_has f c.p c.there (sym (ap is_window bar.is))
     | inr (inl window) ↦ subst (λ o. has_part f o ≡ true) window.is (window_bridge q s f window.kind (ap (can_change q s f) window.is ∙ c.can))
@@ -82,7 +82,7 @@ module _ (q : Request) (s : System) (system : IsSystem s) where
   ]
 
   module _ (f : Function) (listed : Contains s f) (keeps : KeepsParts q s f) where
-    abbrev region : Part → Region
+    abbrev region : Part → FunctionPart
     region p = record { function = f; part = p }
 
     part_stays : (p : Part) → Contains (header_parts f) p → is_part q s f p ≡ true → stays q s (region p) ≡ true
@@ -123,7 +123,7 @@ module _ (q : Request) (s : System) (system : IsSystem s) where
     image_rests = fold_keeps (λ x. x ≡ f.image) (λ x r. shown q s r (new_place q s r) x) (changing q s f)
         (λ r has x same.
         let c : IsChanging q s f r = changing_is q s f r has in
-        subst (λ (t : Region). shown q s t (new_place q s t) x ≡ f.image) c.is (step_leaves c.p c.there (changing_part f r c) x ∙ same)) f.image refl
+        subst (λ (t : FunctionPart). shown q s t (new_place q s t) x ≡ f.image) c.is (step_leaves c.p c.there (changing_part f r c) x ∙ same)) f.image refl
 
     -- no address register is where Command is
     above_command : (bridge : Bool) → list_all (λ (r : ℕ × ℕ). nat_le 6 r.0) (registers_by bridge) ≡ true

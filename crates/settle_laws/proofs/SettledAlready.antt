@@ -22,8 +22,8 @@ use Rattle.plan_spec.proofs.Planning.CommandFits.{command_by}
 use Rattle.plan_spec.proofs.Planning.Kept.{images_of}
 use Rattle.plan_spec.proofs.Planning.Safe.{slots_of, order_of}
 use Rattle.settle_spec.specs.Lists.{Request}
-use Rattle.settle_spec.specs.Parts.{Region, regions_of, is_part, header_parts, has_left, same_space}
-use Rattle.settle_spec.specs.Stands.{region_space}
+use Rattle.settle_spec.specs.Parts.{FunctionPart, function_parts, is_part, header_parts, has_left, are_same_space}
+use Rattle.settle_spec.specs.Stands.{part_space}
 use Rattle.settle_spec.specs.LiveLaws.{is_live, has_live_behind}
 use Rattle.settle_spec.specs.Registers.{with_number, got_place, has_own, is_enabled_in, settled, settled_image, settled_command, settled_function}
 use Rattle.settle_spec.proofs.Live.{live_by_bus}
@@ -42,7 +42,7 @@ claims_first : (q : Request) (s : System) (f : Function) (p : Part) → IsImage 
 claims_first q s f p image fine there part on = claims_at q s f image fine p there part on (range_of f p).first (omega arith, part_order q s f p part)
 
 module _ (q : Request) (s : System) (system : IsSystem s) (sound : IsSound q.roots s) (off : (f : Function) → Contains s f → has_left q s f ≡ true → is_space_on f Io ≡ false)
-    (got : (space : Space) (f : Function) → Contains s f → not (same_space space Io && has_left q s f) ≡ true → got_place q s space f ≡ true → is_space_on f space ≡ true) where
+    (got : (space : Space) (f : Function) → Contains s f → not (are_same_space space Io && has_left q s f) ≡ true → got_place q s space f ≡ true → is_space_on f space ≡ true) where
   -- ---- what is enabled has bridges above that are
 
   -- a claim of a BAR or ROM behind a bus
@@ -65,12 +65,12 @@ module _ (q : Request) (s : System) (system : IsSystem s) (sound : IsSound q.roo
 
   own_claim : (space : Space) (f : Function) → Contains s f → has_own q s space f ≡ true → is_space_on f space ≡ true → HasClaim space f.slot.bus
   own_claim space f listed own on =
-      let test = λ (r : Region). same_space space (region_space r) && not (is_window r.part) in
-      let found : Passes test (regions_of q s f) = any_gives test (regions_of q s f) own in
+      let test = λ (r : FunctionPart). are_same_space space (part_space r) && not (is_window r.part) in
+      let found : Passes test (function_parts q s f) = any_gives test (function_parts q s f) own in
       let made : IsMade (λ p. record { function = f; part = p }) (filter (is_part q s f) (header_parts f)) found.x = in_map_to (λ p. record { function = f; part = p }) (filter (is_part q s f) (header_parts f)) found.x found.listed in
       let p = made.from in
       let part = in_filter_to (is_part q s f) (header_parts f) p made.has in
-      let is = and_parts (same_space space (space_of f p)) (not (is_window p)) (ap test made.is ∙ found.is) in
+      let is = and_parts (are_same_space space (space_of f p)) (not (is_window p)) (ap test made.is ∙ found.is) in
       let plain = not-true (is_window p) is.1 in
       let at = one_space space (space_of f p) is.0 in
       let fine = All-contains IsDecodable s f (profile_decodes q.roots s sound.profile) listed in
@@ -113,9 +113,9 @@ module _ (q : Request) (s : System) (system : IsSystem s) (sound : IsSound q.roo
           over_on space (secondary f) c.1 f listed c.0 (at_secondary q.roots s system sound.nested f (secondary f) listed c.0 refl)
 
       on_is : is_enabled_in q s space f ≡ is_space_on f space
-      on_is = elim (cases_Bool (same_space space Io && has_left q s f)) [
+      on_is = elim (cases_Bool (are_same_space space Io && has_left q s f)) [
         | inl left ↦
-            let parts = and_parts (same_space space Io) (has_left q s f) left in
+            let parts = and_parts (are_same_space space Io) (has_left q s f) left in
             ap (λ b. not b && (is_space_on f space || got_place q s space f || behind)) left
             ∙ sym (subst (λ sp. is_space_on f sp ≡ false) (sym (one_space space Io parts.0)) (off f listed parts.1))
         | inr fine ↦

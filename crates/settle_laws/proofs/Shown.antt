@@ -17,7 +17,7 @@ use Rattle.plan_spec.specs.Plan.{is_open}
 use Rattle.plan_spec.specs.Planning.Showing.{rom_value}
 use Rattle.plan_spec.proofs.Planning.Registers.{register_bit}
 use Rattle.settle_spec.specs.Lists.{Request}
-use Rattle.settle_spec.specs.Parts.{Region, is_left, is_part, header_parts}
+use Rattle.settle_spec.specs.Parts.{FunctionPart, is_left, is_part, header_parts}
 use Rattle.settle_spec.specs.Items.{Placed, stays}
 use Rattle.settle_spec.specs.Places.{new_place}
 use Rattle.settle_spec.specs.Registers.{with_bounds, closed_if_open, shown, changing, settled_image}
@@ -94,7 +94,7 @@ pub either : (P : List ℕ → Type 0) (b : Bool) (x y : List ℕ) → P x → P
 either P b x y p q = cond_both b x y P (λ e. p) (λ e. q)
 
 module _ (q : Request) (s : System) (f : Function) where
-  abbrev region : Part → Region
+  abbrev region : Part → FunctionPart
   region p = record { function = f; part = p }
 
   pub shown_off : (p : Part) (o : Option Placed) (image : List ℕ) (place : ℕ) → IsOff f p place → byte_at (shown q s (region p) o image) place ≡ byte_at image place
@@ -121,13 +121,13 @@ module _ (q : Request) (s : System) (f : Function) where
   abbrev pub can_change : Part → Bool
   can_change p = is_part q s f p || (is_window p && is_implemented f p)
 
-  pub record IsChanging (r : Region) : Type 0 where
+  pub record IsChanging (r : FunctionPart) : Type 0 where
     pub p : Part
     pub is : region p ≡ r
     pub there : Contains (header_parts f) p
     pub can : can_change p ≡ true
 
-  pub changing_is : (r : Region) → Contains (changing q s f) r → IsChanging r
+  pub changing_is : (r : FunctionPart) → Contains (changing q s f) r → IsChanging r
   changing_is r has =
       let made : IsMade region (filter can_change (header_parts f)) r = in_map_to region (filter can_change (header_parts f)) r has in
       let chosen = in_filter_to can_change (header_parts f) made.from made.has in
@@ -217,14 +217,14 @@ module _ (q : Request) (s : System) (f : Function) where
       settled_off = fold_keeps (λ (x : List ℕ). byte_at x place ≡ byte_at f.image place) (λ image r. shown q s r (new_place q s r) image) (changing q s f)
           (λ r has image same.
           let c : IsChanging r = changing_is r has in
-          subst (λ (t : Region). byte_at (shown q s t (new_place q s t) image) place ≡ byte_at f.image place) c.is
+          subst (λ (t : FunctionPart). byte_at (shown q s t (new_place q s t) image) place ≡ byte_at f.image place) c.is
           (shown_off c.p (new_place q s (region c.p)) image place (part_off c.p c.there c.can) ∙ same)) f.image refl
 
   pub settled_image_is : IsImage f.image → IsImage (settled_image q s f)
   settled_image_is is = fold_keeps IsImage (λ image r. shown q s r (new_place q s r) image) (changing q s f)
       (λ r has image was.
       let c : IsChanging r = changing_is r has in
-      subst (λ (t : Region). IsImage (shown q s t (new_place q s t) image)) c.is (shown_image c.p (new_place q s (region c.p)) image was)) f.image is
+      subst (λ (t : FunctionPart). IsImage (shown q s t (new_place q s t) image)) c.is (shown_image c.p (new_place q s (region c.p)) image was)) f.image is
 
   -- ---- the enable bit of a ROM
 
@@ -281,7 +281,7 @@ module _ (q : Request) (s : System) (f : Function) where
     switched = fold_keeps IsSwitched (λ image r. shown q s r (new_place q s r) image) (changing q s f)
         (λ r has image h.
         let c : IsChanging r = changing_is r has in
-        subst (λ (t : Region). IsSwitched (shown q s t (new_place q s t) image)) c.is (step_switched c.p c.there c.can image h)) f.image record { is = image_is; same = refl }
+        subst (λ (t : FunctionPart). IsSwitched (shown q s t (new_place q s t) image)) c.is (step_switched c.p c.there c.can image h)) f.image record { is = image_is; same = refl }
 
     pub rom_stays_switched : bit_at (byte_at (settled_image q s f) rom) 0 ≡ bit_at (byte_at f.image rom) 0
     rom_stays_switched = switched.same

@@ -12,7 +12,7 @@ use Rattle.pci_spec.specs.System.{System, Function, Part, Bar, Rom, Window, has_
 use Rattle.plan_spec.specs.Plan.{is_open}
 use Rattle.plan_spec.specs.Planning.Layout.{range_of}
 use Rattle.settle_spec.specs.Lists.{Request}
-use Rattle.settle_spec.specs.Parts.{Region, is_part, is_left}
+use Rattle.settle_spec.specs.Parts.{FunctionPart, is_part, is_left}
 use Rattle.settle_spec.specs.Items.{stays}
 use Rattle.settle_spec.specs.Places.{new_place}
 use Rattle.settle_spec.specs.Registers.{closed_if_open, shown, changing, settled_image, settled_function}
@@ -36,7 +36,7 @@ abbrev opens_by : WindowKind → Bounds → Bool
 opens_by kind b = nat_le (b.base_upper * lower_pages kind + b.base / 16) (b.limit_upper * lower_pages kind + b.limit / 16)
 
 module _ (q : Request) (s : System) (can : CanSettle q s) (f : Function) (listed : Contains s f) where
-  abbrev region : Part → Region
+  abbrev region : Part → FunctionPart
   region p = record { function = f; part = p }
 
   abbrev g : Function
@@ -62,7 +62,7 @@ module _ (q : Request) (s : System) (can : CanSettle q s) (f : Function) (listed
       ∙ fold_keeps (λ image. whole_bar f.probe image n ≡ v) (λ image r. shown q s r (new_place q s r) image) (changing q s f)
       (λ r in_r image same.
       let c : IsChanging q s f r = changing_is q s f r in_r in
-      subst (λ (t : Region). whole_bar f.probe (shown q s t (new_place q s t) image) n ≡ v) c.is (elim (bar_or_not n c.p) [
+      subst (λ (t : FunctionPart). whole_bar f.probe (shown q s t (new_place q s t) image) n ≡ v) c.is (elim (bar_or_not n c.p) [
         | inl here ↦ subst (λ o. whole_bar f.probe (shown q s (region o) (new_place q s (region o)) image) n ≡ v) here (ap (λ x. whole_bar f.probe x n) (leaves (Bar n) there keeps image) ∙ same)
         | inr other ↦ keeps_whole q s can f listed n inside has c.p c.there c.can other image ∙ same
       ])) f.image refl
@@ -75,7 +75,7 @@ module _ (q : Request) (s : System) (can : CanSettle q s) (f : Function) (listed
       ∙ fold_keeps (λ image. number_at image rom 4 ≡ v) (λ image r. shown q s r (new_place q s r) image) (changing q s f)
       (λ r in_r image same.
       let c : IsChanging q s f r = changing_is q s f r in_r in
-      subst (λ (t : Region). number_at (shown q s t (new_place q s t) image) rom 4 ≡ v) c.is (elim (rom_or_not c.p) [
+      subst (λ (t : FunctionPart). number_at (shown q s t (new_place q s t) image) rom 4 ≡ v) c.is (elim (rom_or_not c.p) [
         | inl here ↦ subst (λ o. number_at (shown q s (region o) (new_place q s (region o)) image) rom 4 ≡ v) here (ap (λ x. number_at x rom 4) (leaves Rom refl keeps image) ∙ same)
         | inr other ↦ keeps_rom q s can f listed c.p c.there c.can other image ∙ same
       ])) f.image refl

@@ -28,7 +28,7 @@ use Rattle.plan_spec.proofs.Planning.Tables.{class_itself}
 use Rattle.plan_spec.proofs.Planning.WindowFits.{few_nibbles}
 use Rattle.settle_spec.specs.FirstPlace.{Extent}
 use Rattle.settle_spec.specs.Lists.{Request}
-use Rattle.settle_spec.specs.Parts.{Region, is_part, header_parts, class_in}
+use Rattle.settle_spec.specs.Parts.{FunctionPart, is_part, header_parts, class_in}
 use Rattle.settle_spec.specs.Items.{Placed, highest_of_bar, stays, taken_by}
 use Rattle.settle_spec.specs.Places.{new_place}
 use Rattle.settle_spec.specs.Registers.{with_number, with_bounds, closed_if_open, shown, changing, settled_image, settled_function, settled_command}
@@ -95,16 +95,16 @@ abbrev closed_by : WindowKind → Bounds → Bool
 closed_by c b = not (nat_le (b.base_upper * lower_pages c + b.base / 16) (b.limit_upper * lower_pages c + b.limit / 16))
 
 module _ (q : Request) (s : System) (can : CanSettle q s) (f : Function) (listed : Contains s f) where
-  abbrev region : Part → Region
+  abbrev region : Part → FunctionPart
   region p = record { function = f; part = p }
 
-  abbrev step : List ℕ → Region → List ℕ
+  abbrev step : List ℕ → FunctionPart → List ℕ
   step image r = shown q s r (new_place q s r) image
 
   image_is : IsImage f.image
   image_is = (was q s can f listed).image
 
-  step_image : (r : Region) → Contains (changing q s f) r → (image : List ℕ) → IsImage image → IsImage (step image r)
+  step_image : (r : FunctionPart) → Contains (changing q s f) r → (image : List ℕ) → IsImage image → IsImage (step image r)
   step_image r has image is =
       let c : IsChanging q s f r = changing_is q s f r has in
       subst (λ t. IsImage (step image t)) c.is (shown_image q s f c.p (new_place q s (region c.p)) image is)
@@ -376,7 +376,7 @@ module _ (q : Request) (s : System) (can : CanSettle q s) (f : Function) (listed
     pub in_window : has_window c f.probe ≡ true → Contains (changing q s f) (region (Window c))
     in_window there = in_changing (Window c) (window_of f c) (or_right (is_part q s f (Window c)) (is_window (Window c) && is_implemented f (Window c)) (and_from (is_bridge f) (has_window c f.probe) bridge there))
 
-    pub keeps_or_sets : (v : Bounds) → ((image : List ℕ) → IsImage image → bounds_at c image ≡ v → bounds_at c (step image (region (Window c))) ≡ v) → (r : Region) → Contains (changing q s f) r → (image : List ℕ) → IsImage image → bounds_at c image ≡ v → bounds_at c (step image r) ≡ v
+    pub keeps_or_sets : (v : Bounds) → ((image : List ℕ) → IsImage image → bounds_at c image ≡ v → bounds_at c (step image (region (Window c))) ≡ v) → (r : FunctionPart) → Contains (changing q s f) r → (image : List ℕ) → IsImage image → bounds_at c image ≡ v → bounds_at c (step image r) ≡ v
     keeps_or_sets v sets r has image is same =
         let p : IsChanging q s f r = changing_is q s f r has in
         subst (λ t. bounds_at c (step image t) ≡ v) p.is (elim (window_or_not c p.p) [

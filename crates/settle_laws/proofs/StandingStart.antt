@@ -5,13 +5,13 @@ use Rattle.std.proofs.lemmas.Bool.{both_ways}
 use Rattle.pci_spec.specs.System.{System, Function, IsSystem, Io, is_space_on}
 use Rattle.pci_spec.specs.Sound.{IsSound}
 use Rattle.settle_spec.specs.Lists.{Request}
-use Rattle.settle_spec.specs.Parts.{Region, regions, has_left}
+use Rattle.settle_spec.specs.Parts.{FunctionPart, system_parts, has_left}
 use Rattle.settle_spec.specs.Stands.{stands}
 use Rattle.settle_spec.specs.Registers.{got_place, settled}
 use Rattle.settle_laws.proofs.AllStand.{got_none, image_stays}
 use Rattle.settle_laws.proofs.SettledAlready.{settled_already}
 
-pub start_stays : (q : Request) (s : System) → IsSystem s → IsSound q.roots s → ((r : Region) → Contains (regions q s) r → stands q s r ≡ true)
+pub start_stays : (q : Request) (s : System) → IsSystem s → IsSound q.roots s → ((r : FunctionPart) → Contains (system_parts q s) r → stands q s r ≡ true)
     → ((f : Function) → Contains s f → has_left q s f ≡ true → is_space_on f Io ≡ false) → settled q s ≡ s
 start_stays q s system sound all off =
     settled_already q s system sound off

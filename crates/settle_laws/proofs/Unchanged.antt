@@ -18,7 +18,7 @@ use Rattle.plan_spec.proofs.Planning.Kept.{images_of}
 use Rattle.plan_spec.proofs.Planning.Safe.{order_of}
 use Rattle.plan_spec.proofs.Planning.CommandFits.{command_by}
 use Rattle.settle_spec.specs.Lists.{Request}
-use Rattle.settle_spec.specs.Parts.{has_left, same_space}
+use Rattle.settle_spec.specs.Parts.{has_left, are_same_space}
 use Rattle.settle_spec.specs.Registers.{settled, settled_function, got_place, has_own, is_enabled_in}
 use Rattle.settle_spec.specs.LiveLaws.{is_live, has_live_behind}
 use Rattle.settle_spec.specs.Writes.{change_of, is_changed, is_cut_off_in, is_shut_itself, is_shut, closing_command, command_from, closing_from, opening_from, closings, settle_writes}
@@ -71,7 +71,7 @@ module _ (q : Request) (s : System) (system : IsSystem s) (nested : IsNested q.r
           and_from (is_bridge b) (list_any (λ x. x.slot.bus == secondary b && is_live q s space x) s) leader.bridge
           (any_from (λ x. x.slot.bus == secondary b && is_live q s space x) s g listed (and_from (g.slot.bus == secondary b) (is_live q s space g) (eq-eqb g.slot.bus (secondary b) (sym leads)) live)) in
           let enabled : is_enabled_in q s space b ≡ true =
-          and_from (not (same_space space Io && has_left q s b)) (is_space_on b space || got_place q s space b || has_live_behind s (is_live q s space) b) (unleft q s system nested f b space own (up b above))
+          and_from (not (are_same_space space Io && has_left q s b)) (is_space_on b space || got_place q s space b || has_live_behind s (is_live q s space) b) (unleft q s system nested f b space own (up b above))
           (or_right (is_space_on b space || got_place q s space b) (has_live_behind s (is_live q s space) b) behind) in
           let live_b : is_live q s space b ≡ true =
           live_by_bus q s space system nested b in_b ∙ and_from (is_enabled_in q s space b) (has_own q s space b || has_live_behind s (is_live q s space) b) enabled (or_right (has_own q s space b) (has_live_behind s (is_live q s space) b) behind) in
@@ -107,9 +107,9 @@ module _ (q : Request) (s : System) (system : IsSystem s) (nested : IsNested q.r
 
   left_as_on : (f : Function) → Contains s f → (space : Space) → is_left_on q s space f ≡ is_space_on f space
   left_as_on f listed space =
-      ap (λ t. not t && (not (same_space space Io && has_left q s f) && is_space_on f space)) (not_shut f listed)
+      ap (λ t. not t && (not (are_same_space space Io && has_left q s f) && is_space_on f space)) (not_shut f listed)
       ∙ elim (cases_Bool (is_space_on f space)) [
-        | inr off ↦ and_right (not (same_space space Io && has_left q s f)) (is_space_on f space) off ∙ sym off
+        | inr off ↦ and_right (not (are_same_space space Io && has_left q s f)) (is_space_on f space) off ∙ sym off
         | inl there ↦ ap (λ t. t && is_space_on f space) (enabled_unleft q s f space (sym (on_as_settled f listed space) ∙ there))
       ]
 

@@ -11,13 +11,13 @@ use Rattle.pci_spec.proofs.Members.{in_filter_to, IsMade, in_map_to}
 use Rattle.plan_spec.specs.Plan.{bridges_above, is_io_part}
 use Rattle.plan_spec.proofs.Planning.Behind.{Passes, any_gives}
 use Rattle.settle_spec.specs.Lists.{Request}
-use Rattle.settle_spec.specs.Parts.{Region, regions_of, is_empty, is_left, is_part, header_bars, header_parts, has_left, same_space}
-use Rattle.settle_spec.specs.Stands.{region_space}
+use Rattle.settle_spec.specs.Parts.{FunctionPart, function_parts, is_empty, is_left, is_part, header_bars, header_parts, has_left, are_same_space}
+use Rattle.settle_spec.specs.Stands.{part_space}
 use Rattle.settle_spec.specs.Registers.{has_own}
 use Rattle.settle_laws.proofs.HeaderParts.{part_cases}
 use Rattle.settle_laws.proofs.Held.{and_second_false, left_behind}
 
-memory_is_no_io : (io : Bool) → same_space Io (if io then Io else Memory) ≡ true → io ≡ true
+memory_is_no_io : (io : Bool) → are_same_space Io (if io then Io else Memory) ≡ true → io ≡ true
 memory_is_no_io true e = refl
 memory_is_no_io false e = absurd (both_ways false refl e)
 
@@ -27,26 +27,26 @@ module _ (q : Request) (s : System) (system : IsSystem s) (nested : IsNested q.r
 
   pub no_cause : (f : Function) → has_own q s Io f ≡ true → cause f ≡ false
   no_cause f own =
-      let test = λ (r : Region). same_space Io (region_space r) && not (is_window r.part) in
-      let found : Passes test (regions_of q s f) = any_gives test (regions_of q s f) own in
+      let test = λ (r : FunctionPart). are_same_space Io (part_space r) && not (is_window r.part) in
+      let found : Passes test (function_parts q s f) = any_gives test (function_parts q s f) own in
       let made : IsMade (λ p. record { function = f; part = p }) (filter (is_part q s f) (header_parts f)) found.x = in_map_to (λ p. record { function = f; part = p }) (filter (is_part q s f) (header_parts f)) found.x found.listed in
       let p = made.from in
       let part = in_filter_to (is_part q s f) (header_parts f) p made.has in
-      let is = and_parts (same_space Io (space_of f p)) (not (is_window p)) (ap test made.is ∙ found.is) in
+      let is = and_parts (are_same_space Io (space_of f p)) (not (is_window p)) (ap test made.is ∙ found.is) in
       elim (part_cases f p part.0) [
         | inl bar ↦
-            let io = memory_is_no_io (is_io (bar_at f.probe bar.n)) (ap (λ x. same_space Io (space_of f x)) bar.is ∙ is.0) in
+            let io = memory_is_no_io (is_io (bar_at f.probe bar.n)) (ap (λ x. are_same_space Io (space_of f x)) bar.is ∙ is.0) in
             let kept = not-true (is_left q s f (Bar bar.n)) (and_parts (has_bar f.probe bar.n) (not (is_left q s f (Bar bar.n))) (ap (is_part q s f) bar.is ∙ part.1)).1 in
             and_second_false (is_io_part f (Bar bar.n)) (cause f) io kept
         | inr (inl window) ↦ absurd (both_ways false refl (ap (λ x. not (is_window x)) window.is ∙ is.1))
-        | inr (inr rom) ↦ absurd (both_ways false refl (ap (λ x. same_space Io (space_of f x)) rom ∙ is.0))
+        | inr (inr rom) ↦ absurd (both_ways false refl (ap (λ x. are_same_space Io (space_of f x)) rom ∙ is.0))
       ]
 
-  pub unleft : (f b : Function) (space : Space) → has_own q s space f ≡ true → Contains (bridges_above s f.slot.bus) b → not (same_space space Io && has_left q s b) ≡ true
+  pub unleft : (f b : Function) (space : Space) → has_own q s space f ≡ true → Contains (bridges_above s f.slot.bus) b → not (are_same_space space Io && has_left q s b) ≡ true
   unleft f b Memory own above = refl
   unleft f b Io own above = not_from_false (has_left q s b) (false_from_ne_true (has_left q s b) (λ left. both_ways (cause f) (no_cause f own) (left_behind q s system nested f b above left)))
 
-  pub unleft_itself : (f : Function) (space : Space) → has_own q s space f ≡ true → not (same_space space Io && has_left q s f) ≡ true
+  pub unleft_itself : (f : Function) (space : Space) → has_own q s space f ≡ true → not (are_same_space space Io && has_left q s f) ≡ true
   unleft_itself f Memory own = refl
   unleft_itself f Io own = not_from_false (has_left q s f) (false_from_ne_true (has_left q s f) (λ left.
       let found : Passes (λ p. is_implemented f p && is_left q s f p) (header_bars f) = any_gives (λ p. is_implemented f p && is_left q s f p) (header_bars f) left in

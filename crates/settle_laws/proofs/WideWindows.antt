@@ -12,10 +12,10 @@ use Rattle.plan_spec.specs.Plan.{Pools, class_of, same_class, bridges_above, is_
 use Rattle.plan_spec.proofs.Planning.Behind.{all_gives, listed_plain}
 use Rattle.plan_spec.proofs.Planning.NeededWindows.{served_by_class}
 use Rattle.plan_spec.proofs.Planning.Safe.{slots_of, order_of}
-use Rattle.settle_spec.specs.FirstPlace.{Extent, least_of}
+use Rattle.settle_spec.specs.FirstPlace.{Extent, least_number}
 use Rattle.settle_spec.specs.Parts.{class_in, prefetchable_class}
 use Rattle.settle_spec.specs.Lists.{Request}
-use Rattle.settle_spec.specs.Items.{Item, highest_of, highest_in, has_of, items_on, nothing, new_window}
+use Rattle.settle_spec.specs.Items.{Item, highest_of, highest_in, has_of, bus_items, nothing, new_window}
 use Rattle.settle_spec.proofs.Classes.{class_planned}
 use Rattle.settle_spec.proofs.FirstSpot.{least_from}
 use Rattle.settle_spec.proofs.Nested.{on_it}
@@ -66,9 +66,9 @@ module _ (q : Request) (s : System) (system : IsSystem s) (nested : IsNested q.r
       → ((d : Function) → Contains s d → is_bridge d ≡ true → are_siblings q.roots (secondary b) d.slot.bus ≡ true → has_of q s c d ≡ true → low ≤ (new_window q s c d).highest)
       → low ≤ (new_window q s c b).highest
   window_high b listed bridge has inner =
-      let items = items_on q s c nothing (new_window q s c) (secondary b) in
+      let items = bus_items q s c nothing (new_window q s c) (secondary b) in
       let extents = map (λ (i : Item). i.extent) items in
-      let around : (new_window q s c b).highest ≡ least_of (highest_in c b.probe ∷ map (λ (e : Extent). e.highest) extents) = ap (λ (e : Extent). e.highest) (window_is_around q s c system nested b listed bridge) in
+      let around : (new_window q s c b).highest ≡ least_number (highest_in c b.probe ∷ map (λ (e : Extent). e.highest) extents) = ap (λ (e : Extent). e.highest) (window_is_around q s c system nested b listed bridge) in
       let all = least_from (highest_in c b.probe) (map (λ (e : Extent). e.highest) extents) low (over b listed bridge has) (λ x in_x.
       let of : IsMade (λ (e : Extent). e.highest) extents x = in_map_to (λ (e : Extent). e.highest) extents x in_x in
       let made : IsMade (λ (i : Item). i.extent) items of.from = in_map_to (λ (i : Item). i.extent) items of.from of.has in

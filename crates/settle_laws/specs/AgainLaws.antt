@@ -4,7 +4,7 @@ use Rattle.std.specs.List.{Contains}
 use Rattle.pci_spec.specs.System.{System, Function, IsSystem, Io, Part, has_part, is_space_on}
 use Rattle.pci_spec.specs.Sound.{IsSound}
 use Rattle.settle_spec.specs.Lists.{Request}
-use Rattle.settle_spec.specs.Parts.{Region, regions, has_left}
+use Rattle.settle_spec.specs.Parts.{FunctionPart, system_parts, has_left}
 use Rattle.settle_spec.specs.Stands.{stands}
 use Rattle.settle_spec.specs.Items.{stays}
 use Rattle.settle_spec.specs.Registers.{settled, settled_function}
@@ -18,8 +18,8 @@ CanSettleAgain = (q : Request) (s : System) → CanSettle q s → CanSettle q (s
 -- each of its parts stays, unless all is placed anew,
 abbrev pub SettledPartsStay : Type 0
 SettledPartsStay =
-    (q : Request) (s : System) → CanSettle q s → IsFalse q.anew → (r : Region)
-    → Contains (regions q (settled q s)) r → IsTrue (stays q (settled q s) r)
+    (q : Request) (s : System) → CanSettle q s → IsFalse q.anew → (r : FunctionPart)
+    → Contains (system_parts q (settled q s)) r → IsTrue (stays q (settled q s) r)
 
 -- and in any case each part ends where it ended.
 abbrev pub PartsEndWhereTheyEnded : Type 0
@@ -43,6 +43,6 @@ SettlingAgainWritesNothing =
 abbrev pub StandingStartIsSettled : Type 0
 StandingStartIsSettled =
     (q : Request) (s : System) → IsSystem s → IsSound q.roots s
-    → ((r : Region) → Contains (regions q s) r → IsTrue (stands q s r))
+    → ((r : FunctionPart) → Contains (system_parts q s) r → IsTrue (stands q s r))
     → ((f : Function) → Contains s f → IsTrue (has_left q s f) → IsFalse (is_space_on f Io))
     → (settled q s ≡ s) × (settle_writes q s ≡ [])

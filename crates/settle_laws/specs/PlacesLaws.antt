@@ -8,8 +8,8 @@ use Rattle.pci_spec.specs.Bus.{is_root, IsNested, LeadsTo}
 use Rattle.pci_spec.specs.Sound.{IsInProfile, HasChains}
 use Rattle.plan_spec.specs.Planning.Layout.{IsInside, LieApart, AreBeside, AreTwo}
 use Rattle.settle_spec.specs.Lists.{RootRange, Request, are_bad_lists}
-use Rattle.settle_spec.specs.Parts.{Region, addresses, parts_of, class_in}
-use Rattle.settle_spec.specs.Stands.{is_in_lists, window_region}
+use Rattle.settle_spec.specs.Parts.{FunctionPart, addresses, parts_of, class_in}
+use Rattle.settle_spec.specs.Stands.{is_in_lists, window_part}
 use Rattle.settle_spec.specs.Items.{Placed, are_placed, taken_by, stays}
 use Rattle.settle_spec.specs.Places.{placing_on, new_place, lacking}
 
@@ -45,7 +45,7 @@ GetsPlace q s f p x =
 
 -- Where all is placed anew, nothing stays.
 abbrev pub NothingStaysAnew : Type 0
-NothingStaysAnew = (q : Request) (s : System) → IsTrue q.anew → (r : Region) → IsFalse (stays q s r)
+NothingStaysAnew = (q : Request) (s : System) → IsTrue q.anew → (r : FunctionPart) → IsFalse (stays q s r)
 
 -- What gets a place doesn't stay.
 abbrev pub PlacesAreOfOthers : Type 0
@@ -60,7 +60,7 @@ place_range None = None
 place_range (Some x) = Some (taken_by x.item x.at)
 
 -- the addresses at which a part ends: its own where it stays, else those of its place
-abbrev pub end_range : Request → System → Region → Option Range
+abbrev pub end_range : Request → System → FunctionPart → Option Range
 end_range q s r = if stays q s r then Some (addresses r) else place_range (new_place q s r)
 
 -- A part ends at these addresses.
@@ -81,7 +81,7 @@ abbrev pub PlacesAreInWindows : Type 0
 PlacesAreInWindows =
     (q : Request) (s : System) → CanSettle q s → (f b : Function) (p : Part) (t : Range)
     → EndsAt q s f p t → LeadsTo s b f.slot.bus
-    → (w : Range) × (end_range q s (window_region (class_in q s f p) b) ≡ Some w) × IsInside t w
+    → (w : Range) × (end_range q s (window_part (class_in q s f p) b) ≡ Some w) × IsInside t w
 
 -- Two parts of a space on one bus, or both on roots, end apart.
 abbrev pub PlacesAreApart : Type 0

@@ -10,7 +10,7 @@ use Rattle.pci_spec.specs.Sound.{IsInProfile, IsSound}
 use Rattle.plan_spec.specs.Plan.{IsMoved, is_open}
 use Rattle.plan_spec.specs.Planning.Layout.{range_of}
 use Rattle.settle_spec.specs.Lists.{Request}
-use Rattle.settle_spec.specs.Stands.{window_region}
+use Rattle.settle_spec.specs.Stands.{window_part}
 use Rattle.settle_spec.specs.Items.{Placed}
 use Rattle.settle_spec.specs.Registers.{settled, settled_function}
 use Rattle.settle_spec.specs.Writes.{closings, settle_writes}
@@ -34,7 +34,7 @@ SettledOpensPlaces =
 abbrev pub SettledClosesTheRest : Type 0
 SettledClosesTheRest =
     (q : Request) (s : System) → CanSettle q s → (b : Function) (kind : WindowKind) → Contains s b
-    → end_range q s (window_region kind b) ≡ None → IsFalse (is_open (settled_function q s b) kind)
+    → end_range q s (window_part kind b) ≡ None → IsFalse (is_open (settled_function q s b) kind)
 
 -- Address bits and Command's enables of I/O and memory alone change,
 abbrev pub SettlingMoves : Type 0

@@ -47,8 +47,8 @@ SettledNeedsNoWrite =
     → settle_writes q s ≡ []
 
 -- To a device at most 9 writes are made, and to a bridge 11.
-abbrev pub FewWritesEach : Type 0
-FewWritesEach =
+abbrev pub FewSettleWritesEach : Type 0
+FewSettleWritesEach =
     (q : Request) (s : System) → IsSystem s → (f : Function) → Contains s f
     → count_by (λ w. same_slot w.slot f.slot) (settle_writes q s) ≤ most_writes (change_of q s f)
 
@@ -100,8 +100,8 @@ SettledIsMoved =
     → AllZip IsMoved s (settled q s)
 
 -- so that the settled system is in the profile.
-abbrev pub SettledIsInProfile : Type 0
-SettledIsInProfile =
+abbrev pub SettledStaysInProfile : Type 0
+SettledStaysInProfile =
     (q : Request) (s : System) → IsSystem s → IsInProfile q.roots s → HasChains s → AreLists q
     → IsInProfile q.roots (settled q s)
 

@@ -1,6 +1,6 @@
 //! Laws of the writes of settling. These functions do nothing: each contract is a law.
 
-ghost use Rattle.settle_laws.specs.WriteLaws.{SettledStopsAreSound, WritesSettle, SettlingOnItsMachine, SettledNeedsNoWrite, FewWritesEach, UnshutIsOnlySwitchedOn, UnshutStays, SettledKeepsTheRest, SettledIsMoved, SettledIsInProfile, MovedInProfile};
+ghost use Rattle.settle_laws.specs.WriteLaws.{SettledStopsAreSound, WritesSettle, SettlingOnItsMachine, SettledNeedsNoWrite, FewSettleWritesEach, UnshutIsOnlySwitchedOn, UnshutStays, SettledKeepsTheRest, SettledIsMoved, SettledStaysInProfile, MovedInProfile};
 
 /// The writes of settling may stop anywhere from the closing ones on, and from a sound start anywhere
 /// at all. They lead to the settled system, and do to a machine what they do to the system.
@@ -14,7 +14,7 @@ pub fn settling_can_stop_anywhere()
 /// switched on, and stays as it is until then.
 pub fn settling_writes_little()
     ensures none { SettledNeedsNoWrite }
-    ensures few { FewWritesEach }
+    ensures few { FewSettleWritesEach }
     ensures open { UnshutIsOnlySwitchedOn }
     ensures stays { UnshutStays }
 {}
@@ -24,6 +24,6 @@ pub fn settling_writes_little()
 pub fn settling_keeps_the_rest()
     ensures rest { SettledKeepsTheRest }
     ensures moved { SettledIsMoved }
-    ensures profile { SettledIsInProfile }
+    ensures profile { SettledStaysInProfile }
     ensures in_profile { MovedInProfile }
 {}

@@ -12,10 +12,10 @@ use Rattle.pci_spec.proofs.Members.{in_head, in_tail}
 use Rattle.plan_spec.proofs.Planning.Safe.{order_of}
 use Rattle.settle_spec.specs.FirstPlace.{first_place}
 use Rattle.settle_spec.specs.Lists.{Request}
-use Rattle.settle_spec.specs.Parts.{Region, regions, addresses, bridge_over, same_space}
-use Rattle.settle_spec.specs.Stands.{window_region, region_space}
+use Rattle.settle_spec.specs.Parts.{FunctionPart, system_parts, addresses, bridge_over, are_same_space}
+use Rattle.settle_spec.specs.Stands.{window_part, part_space}
 use Rattle.settle_spec.specs.Items.{Item, Placed, Placing, in_turn, items_of, and_placed, place_next, place_all, taken_by, new_window, stays}
-use Rattle.settle_spec.specs.Places.{placed_of, place_among, placed_range, root_ranges, window_ranges, ranges_for, space_items, taken_at, placing_within, placing_on}
+use Rattle.settle_spec.specs.Places.{placed_of, place_among, placed_range, root_ranges, window_ranges, ranges_of_item, space_items, taken_at, placing_within, placing_on}
 use Rattle.settle_spec.proofs.ItemsOn.{IsBeside, each_in}
 use Rattle.settle_spec.proofs.BridgeOver.{over_leads}
 
@@ -41,7 +41,7 @@ of_space q s space bus = each_in q s space bus (λ i. IsBeside q s bus i.region.
 -- ---- as many buses as there are above one another are enough
 
 placing_step : (q : Request) (s : System) (space : Space) (depth bus : ℕ)
-    → placing_within q s space (suc depth) bus ≡ place_all (ranges_for q s (λ over. placed_of (placing_within q s space depth over))) (taken_at q s space bus) (space_items q s space bus)
+    → placing_within q s space (suc depth) bus ≡ place_all (ranges_of_item q s (λ over. placed_of (placing_within q s space depth over))) (taken_at q s space bus) (space_items q s space bus)
 unfolding placing_within
 placing_step q s space depth bus = refl
 
@@ -60,10 +60,10 @@ module _ (q : Request) (s : System) (system : IsSystem s) (nested : IsNested q.r
       let leads = over_leads s bus b over in
       let up = order_of q.roots s nested b leads.0 leads.1 in
       let to = leads.2 in
-      ap (λ placed. cond (stays q s (window_region c b)) (addresses (window_region c b) ∷ []) (placed_range (place_among (window_region c b) placed))) (same b.slot.bus (omega (arith, up, to)))
+      ap (λ placed. cond (stays q s (window_part c b)) (addresses (window_part c b) ∷ []) (placed_range (place_among (window_part c b) placed))) (same b.slot.bus (omega (arith, up, to)))
 
   -- an item's ranges are told by what is on lower buses
-  pub ranges_by : (d e : ℕ → List Placed) (bus : ℕ) → ((over : ℕ) → over < bus → d over ≡ e over) → (i : Item) → IsBeside q s bus i.region.function → ranges_for q s d i ≡ ranges_for q s e i
+  pub ranges_by : (d e : ℕ → List Placed) (bus : ℕ) → ((over : ℕ) → over < bus → d over ≡ e over) → (i : Item) → IsBeside q s bus i.region.function → ranges_of_item q s d i ≡ ranges_of_item q s e i
   ranges_by d e bus same i of =
       let on = i.region.function.slot.bus in
       elim (cases_Bool (is_root q.roots on)) [
@@ -82,16 +82,16 @@ module _ (q : Request) (s : System) (system : IsSystem s) (nested : IsNested q.r
   enough space (suc d) zero bus hd he = absurd (let no : ⊥ = omega (arith, he) in no)
   enough space (suc d) (suc e) bus hd he =
       placing_step q s space d bus
-      ∙ places_by (ranges_for q s (λ over. placed_of (placing_within q s space d over))) (ranges_for q s (λ over. placed_of (placing_within q s space e over))) (taken_at q s space bus) (space_items q s space bus)
+      ∙ places_by (ranges_of_item q s (λ over. placed_of (placing_within q s space d over))) (ranges_of_item q s (λ over. placed_of (placing_within q s space e over))) (taken_at q s space bus) (space_items q s space bus)
       (λ i listed. ranges_by (λ over. placed_of (placing_within q s space d over)) (λ over. placed_of (placing_within q s space e over)) bus
       (λ over low. ap placed_of (enough space d e over (omega (arith, low, hd)) (omega (arith, low, he)))) i (of_space q s space bus i listed))
       ∙ sym (placing_step q s space e bus)
 
   pub placing_by_bus : (space : Space) (bus : ℕ) → bus < 256
-      → placing_on q s space bus ≡ place_all (ranges_for q s (λ over. placed_of (placing_on q s space over))) (taken_at q s space bus) (space_items q s space bus)
+      → placing_on q s space bus ≡ place_all (ranges_of_item q s (λ over. placed_of (placing_on q s space over))) (taken_at q s space bus) (space_items q s space bus)
   placing_by_bus space bus low =
       placing_step q s space 255 bus
-      ∙ places_by (ranges_for q s (λ over. placed_of (placing_within q s space 255 over))) (ranges_for q s (λ over. placed_of (placing_within q s space 256 over))) (taken_at q s space bus) (space_items q s space bus)
+      ∙ places_by (ranges_of_item q s (λ over. placed_of (placing_within q s space 255 over))) (ranges_of_item q s (λ over. placed_of (placing_within q s space 256 over))) (taken_at q s space bus) (space_items q s space bus)
       (λ i listed. ranges_by (λ over. placed_of (placing_within q s space 255 over)) (λ over. placed_of (placing_within q s space 256 over)) bus
       (λ over under. ap placed_of (enough space 255 256 over (omega (arith, under, low)) (omega (arith, under, low)))) i (of_space q s space bus i listed))
 
@@ -120,7 +120,7 @@ module _ (q : Request) (s : System) where
   items_in Memory beside = items_by MemoryWindow beside ++ items_by PrefetchWindow beside
 
   abbrev taken_by_bus : WindowKind → (ℕ → Bool) → List Range
-  taken_by_bus c beside = map addresses (filter (λ (r : Region). beside r.function.slot.bus && same_space (window_space c) (region_space r) && stays q s r) (regions q s))
+  taken_by_bus c beside = map addresses (filter (λ (r : FunctionPart). beside r.function.slot.bus && are_same_space (window_space c) (part_space r) && stays q s r) (system_parts q s))
 
   abbrev taken_in : Space → (ℕ → Bool) → List Range
   taken_in Io beside = taken_by_bus IoWindow beside
@@ -135,7 +135,7 @@ module _ (q : Request) (s : System) where
   taken_are Memory bus = refl
 
   abbrev on_lower : Space → Item → List Range
-  on_lower space = ranges_for q s (λ over. placed_of (placing_within q s space 255 over))
+  on_lower space = ranges_of_item q s (λ over. placed_of (placing_within q s space 255 over))
 
   pub roots_are_one : (space : Space) (root other : ℕ) → is_root q.roots root ≡ true → is_root q.roots other ≡ true → placing_on q s space root ≡ placing_on q s space other
   roots_are_one space root other is_one is_other =

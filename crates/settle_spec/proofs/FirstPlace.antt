@@ -6,13 +6,13 @@ use Rattle.std.specs.Option.{is_some, unwrap_or}
 use Rattle.std.proofs.lemmas.Bool.{false≢true, true≢false, and_parts, and_from, leb-true, le-leb, false_from_ne_true}
 use Rattle.pci_spec.specs.Decoded.{Range}
 use Rattle.pci_spec.proofs.Members.{in_nil, in_head, in_tail, in_cons_cases}
-use Rattle.settle_spec.specs.FirstPlace.{Extent, is_spot, ends_in, is_place, first_spot, first_in, first_place, else_at, HasNoPlace, IsFirstIn, IsFirstPlace}
+use Rattle.settle_spec.specs.FirstPlace.{Extent, is_spot, ends_by, is_place, first_spot, first_place_in, first_place, else_at, HasNoPlace, IsFirstPlaceIn, IsFirstPlace}
 use Rattle.settle_spec.proofs.FirstSpot.{least_spot}
 
 -- ---- one range
 
 -- what ends by an address does so from a lower place too
-ends_below : (r : Range) (e : Extent) (a b : ℕ) → a ≤ b → ends_in r e b ≡ true → ends_in r e a ≡ true
+ends_below : (r : Range) (e : Extent) (a b : ℕ) → a ≤ b → ends_by r e b ≡ true → ends_by r e a ≡ true
 ends_below r e a b below ends =
     let parts = and_parts (nat_le (b + (e.size - 1)) r.last) (nat_le (b + (e.size - 1)) e.highest) ends in
     let last = leb-true (b + (e.size - 1)) r.last parts.0 in
@@ -33,45 +33,45 @@ module _ (r : Range) (taken : List Range) (e : Extent) (pos : 0 < e.alignment) w
   abbrev spot : ℕ
   spot = first_spot r.first taken e
 
-  pub in_is : (a : ℕ) → first_in r taken e ≡ Some a → IsFirstIn r taken e a
+  pub in_is : (a : ℕ) → first_place_in r taken e ≡ Some a → IsFirstPlaceIn r taken e a
   in_is a found =
-      let is = taken_if (ends_in r e spot) spot a found in
+      let is = taken_if (ends_by r e spot) spot a found in
       let least = least_spot r.first taken e pos in
-      subst (IsFirstIn r taken e) is.1 (record {
-        place = and_from (is_spot r.first taken e spot) (ends_in r e spot) least.free is.0;
-        least = λ b place. least.least b (and_parts (is_spot r.first taken e b) (ends_in r e b) place).0;
+      subst (IsFirstPlaceIn r taken e) is.1 (record {
+        place = and_from (is_spot r.first taken e spot) (ends_by r e spot) least.free is.0;
+        least = λ b place. least.least b (and_parts (is_spot r.first taken e b) (ends_by r e b) place).0;
       })
 
-  pub in_none : first_in r taken e ≡ None → HasNoPlace r taken e
+  pub in_none : first_place_in r taken e ≡ None → HasNoPlace r taken e
   in_none none b = false_from_ne_true (is_place r taken e b) (λ place.
-      let parts = and_parts (is_spot r.first taken e b) (ends_in r e b) place in
+      let parts = and_parts (is_spot r.first taken e b) (ends_by r e b) place in
       let low = (least_spot r.first taken e pos).least b parts.0 in
-      true≢false (sym (ends_below r e spot b low parts.1) ∙ left_if (ends_in r e spot) spot none))
+      true≢false (sym (ends_below r e spot b low parts.1) ∙ left_if (ends_by r e spot) spot none))
 
-  pub in_by : (a : ℕ) → IsFirstIn r taken e a → first_in r taken e ≡ Some a
+  pub in_by : (a : ℕ) → IsFirstPlaceIn r taken e a → first_place_in r taken e ≡ Some a
   in_by a is =
-      let parts = and_parts (is_spot r.first taken e a) (ends_in r e a) is.place in
+      let parts = and_parts (is_spot r.first taken e a) (ends_by r e a) is.place in
       let least = least_spot r.first taken e pos in
       let low = least.least a parts.0 in
       let ends = ends_below r e spot a low parts.1 in
-      let up = is.least spot (and_from (is_spot r.first taken e spot) (ends_in r e spot) least.free ends) in
+      let up = is.least spot (and_from (is_spot r.first taken e spot) (ends_by r e spot) least.free ends) in
       let same : spot ≡ a = omega (arith, low, up) in
       ap (λ b. cond b (Some spot) None) ends ∙ ap Some same
 
-  pub in_by_none : HasNoPlace r taken e → first_in r taken e ≡ None
+  pub in_by_none : HasNoPlace r taken e → first_place_in r taken e ≡ None
   in_by_none none =
       let least = least_spot r.first taken e pos in
-      let not : ends_in r e spot ≡ false = false_from_ne_true (ends_in r e spot) (λ ends.
-      true≢false (sym (and_from (is_spot r.first taken e spot) (ends_in r e spot) least.free ends) ∙ none spot)) in
+      let not : ends_by r e spot ≡ false = false_from_ne_true (ends_by r e spot) (λ ends.
+      true≢false (sym (and_from (is_spot r.first taken e spot) (ends_by r e spot) least.free ends) ∙ none spot)) in
       ap (λ b. cond b (Some spot) None) not
 
 -- ---- all ranges
 
 to_first : (ranges taken : List Range) (e : Extent) (a : ℕ) → 0 < e.alignment → first_place ranges taken e ≡ Some a → IsFirstPlace ranges taken e a
 to_first [] taken e a pos found = absurd (false≢true (ap is_some found))
-to_first (r ∷ ranges) taken e a pos found = by (first_in r taken e) refl (to_first ranges taken e a pos)
+to_first (r ∷ ranges) taken e a pos found = by (first_place_in r taken e) refl (to_first ranges taken e a pos)
   where
-    by : (o : Option ℕ) → first_in r taken e ≡ o → (first_place ranges taken e ≡ Some a → IsFirstPlace ranges taken e a) → IsFirstPlace (r ∷ ranges) taken e a
+    by : (o : Option ℕ) → first_place_in r taken e ≡ o → (first_place ranges taken e ≡ Some a → IsFirstPlace ranges taken e a) → IsFirstPlace (r ∷ ranges) taken e a
     by None is rest = inr (in_none r taken e pos is, rest (ap (λ o. else_at o (first_place ranges taken e)) (sym is) ∙ found))
     by (Some b) is rest = inl (in_is r taken e pos a (is ∙ ap (λ o. else_at o (first_place ranges taken e)) (sym is) ∙ found))
 
@@ -85,9 +85,9 @@ first_is ranges taken e a pos = (to_first ranges taken e a pos, from_first range
 
 to_none : (ranges taken : List Range) (e : Extent) → 0 < e.alignment → first_place ranges taken e ≡ None → (r : Range) → Contains ranges r → HasNoPlace r taken e
 to_none [] taken e pos none r listed = absurd (in_nil r listed)
-to_none (q ∷ ranges) taken e pos none r listed = by (first_in q taken e) refl (to_none ranges taken e pos)
+to_none (q ∷ ranges) taken e pos none r listed = by (first_place_in q taken e) refl (to_none ranges taken e pos)
   where
-    by : (o : Option ℕ) → first_in q taken e ≡ o → (first_place ranges taken e ≡ None → (r : Range) → Contains ranges r → HasNoPlace r taken e) → HasNoPlace r taken e
+    by : (o : Option ℕ) → first_place_in q taken e ≡ o → (first_place ranges taken e ≡ None → (r : Range) → Contains ranges r → HasNoPlace r taken e) → HasNoPlace r taken e
     by None is rest = elim (in_cons_cases q ranges r listed) [
       | inl here ↦ subst (λ x. HasNoPlace x taken e) here (in_none q taken e pos is)
       | inr later ↦ rest (ap (λ o. else_at o (first_place ranges taken e)) (sym is) ∙ none) r later

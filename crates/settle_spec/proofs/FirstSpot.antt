@@ -9,20 +9,20 @@ use Rattle.pci_spec.proofs.BusRanges.{all_gives, all_from}
 use Rattle.plan_spec.specs.Plan.{raised_to}
 use Rattle.plan_spec.specs.Place.{range_from}
 use Rattle.plan_spec.proofs.Planning.Room.{raised}
-use Rattle.settle_spec.specs.FirstPlace.{Extent, are_apart, is_free, is_spot, least_of, candidates, first_spot, IsLeastSpot}
+use Rattle.settle_spec.specs.FirstPlace.{Extent, ranges_are_apart, is_free_from, is_spot, least_number, candidates, first_spot, IsLeastSpot}
 
 -- ---- what is free, by each range that is taken
 
 abbrev pub IsApart : ℕ → ℕ → Range → Type 0
 IsApart size b t = (b + (size - 1) < t.first) ⊎ (t.last < b)
 
-pub apart_gives : (size b : ℕ) (t : Range) → are_apart (range_from b size) t ≡ true → IsApart size b t
+pub apart_gives : (size b : ℕ) (t : Range) → ranges_are_apart (range_from b size) t ≡ true → IsApart size b t
 apart_gives size b t h = elim (or_cases (nat_lt (b + (size - 1)) t.first) (nat_lt t.last b) h) [
   | inl under ↦ inl (ltb-true (b + (size - 1)) t.first under)
   | inr over ↦ inr (ltb-true t.last b over)
 ]
 
-pub apart_from : (size b : ℕ) (t : Range) → IsApart size b t → are_apart (range_from b size) t ≡ true
+pub apart_from : (size b : ℕ) (t : Range) → IsApart size b t → ranges_are_apart (range_from b size) t ≡ true
 apart_from size b t (inl under) = or_left (nat_lt (b + (size - 1)) t.first) (nat_lt t.last b) (lt-ltb (b + (size - 1)) t.first under)
 apart_from size b t (inr over) = or_right (nat_lt (b + (size - 1)) t.first) (nat_lt t.last b) (lt-ltb t.last b over)
 
@@ -33,19 +33,19 @@ pub record IsFreeFrom (low : ℕ) (taken : List Range) (e : Extent) (b : ℕ) : 
 
 pub spot_gives : (low : ℕ) (taken : List Range) (e : Extent) (b : ℕ) → IsTrue (is_spot low taken e b) → IsFreeFrom low taken e b
 spot_gives low taken e b spot =
-    let parts = and_parts (b % e.alignment == 0) (nat_le low b && is_free taken e b) spot in
-    let more = and_parts (nat_le low b) (is_free taken e b) parts.1 in
+    let parts = and_parts (b % e.alignment == 0) (nat_le low b && is_free_from taken e b) spot in
+    let more = and_parts (nat_le low b) (is_free_from taken e b) parts.1 in
     record {
       multiple = eqb-true (b % e.alignment) 0 parts.0;
       from = leb-true low b more.0;
-      free = λ t listed. apart_gives e.size b t (all_gives (are_apart (range_from b e.size)) taken more.1 t listed);
+      free = λ t listed. apart_gives e.size b t (all_gives (ranges_are_apart (range_from b e.size)) taken more.1 t listed);
     }
 
 pub spot_from : (low : ℕ) (taken : List Range) (e : Extent) (b : ℕ) → IsFreeFrom low taken e b → IsTrue (is_spot low taken e b)
 spot_from low taken e b is =
-    and_from (b % e.alignment == 0) (nat_le low b && is_free taken e b) (eq-eqb (b % e.alignment) 0 is.multiple)
-    (and_from (nat_le low b) (is_free taken e b) (le-leb low b is.from)
-    (all_from (are_apart (range_from b e.size)) taken (λ t listed. apart_from e.size b t (is.free t listed))))
+    and_from (b % e.alignment == 0) (nat_le low b && is_free_from taken e b) (eq-eqb (b % e.alignment) 0 is.multiple)
+    (and_from (nat_le low b) (is_free_from taken e b) (le-leb low b is.from)
+    (all_from (ranges_are_apart (range_from b e.size)) taken (λ t listed. apart_from e.size b t (is.free t listed))))
 
 -- ---- the candidate below a free place
 
@@ -174,17 +174,17 @@ least_cons a (y ∷ xs) =
       ];
     }
 
-least_is : (xs : List ℕ) (x : ℕ) → Contains xs x → IsLeastOf xs (least_of xs)
+least_is : (xs : List ℕ) (x : ℕ) → Contains xs x → IsLeastOf xs (least_number xs)
 least_is [] x listed = absurd (in_nil x listed)
 least_is (a ∷ xs) x listed = least_cons a xs
 
-pub least_in : (xs : List ℕ) (x : ℕ) → Contains xs x → least_of xs ≤ x
+pub least_in : (xs : List ℕ) (x : ℕ) → Contains xs x → least_number xs ≤ x
 least_in xs x listed = (least_is xs x listed).least x listed
 
-pub least_from : (a : ℕ) (xs : List ℕ) (low : ℕ) → low ≤ a → ((x : ℕ) → Contains xs x → low ≤ x) → low ≤ least_of (a ∷ xs)
-least_from a xs low first rest = elim (in_cons_cases a xs (least_of (a ∷ xs)) (least_cons a xs).listed) [
+pub least_from : (a : ℕ) (xs : List ℕ) (low : ℕ) → low ≤ a → ((x : ℕ) → Contains xs x → low ≤ x) → low ≤ least_number (a ∷ xs)
+least_from a xs low first rest = elim (in_cons_cases a xs (least_number (a ∷ xs)) (least_cons a xs).listed) [
   | inl here ↦ omega (arith, here, first)
-  | inr later ↦ rest (least_of (a ∷ xs)) later
+  | inr later ↦ rest (least_number (a ∷ xs)) later
 ]
 
 -- ---- some place is free

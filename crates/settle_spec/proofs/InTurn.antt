@@ -8,7 +8,7 @@ use Rattle.std.proofs.lemmas.Bool.Decides.{nat_tests}
 use Rattle.std.proofs.lemmas.List.Sorted.{IsPermutation-refl, IsPermutation-sym, IsPermutation-cons, IsPermutation-trans, IsPermutation-middle, Contains-permutation}
 use Rattle.pci_spec.proofs.Members.{in_nil, in_head, in_tail, in_cons_cases, pairs_nil, pairs_cons, pairs_head, pairs_tail}
 use Rattle.settle_spec.specs.Stands.{rank}
-use Rattle.settle_spec.specs.Items.{Item, comes_before, put_in, in_turn}
+use Rattle.settle_spec.specs.Items.{Item, item_precedes, put_in, in_turn}
 use Rattle.settle_spec.specs.PlacingLaws.{ComesBefore, HasLowerRank, HasOtherRank}
 
 -- ---- the order
@@ -25,14 +25,14 @@ earlier_else a b s t q r differ other = grind (arith, nat_tests)
 earlier_trans : (a b c s t u q r v : ℕ) → earlier a b s t q r ≡ true → earlier b c t u r v ≡ true → earlier a c s u q v ≡ true
 earlier_trans a b c s t u q r v h k = grind (arith, nat_tests)
 
-before_itself : (i : Item) → comes_before i i ≡ false
+before_itself : (i : Item) → item_precedes i i ≡ false
 before_itself i = earlier_itself i.extent.alignment i.extent.size (rank i.region)
 
-before_else : (i j : Item) → HasOtherRank i j → comes_before i j ≡ false → comes_before j i ≡ true
+before_else : (i j : Item) → HasOtherRank i j → item_precedes i j ≡ false → item_precedes j i ≡ true
 before_else i j less other =
     earlier_else i.extent.alignment j.extent.alignment i.extent.size j.extent.size (rank i.region) (rank j.region) less other
 
-before_trans : (i j k : Item) → comes_before i j ≡ true → comes_before j k ≡ true → comes_before i k ≡ true
+before_trans : (i j k : Item) → item_precedes i j ≡ true → item_precedes j k ≡ true → item_precedes i k ≡ true
 before_trans i j k h g =
     earlier_trans i.extent.alignment j.extent.alignment k.extent.alignment i.extent.size j.extent.size k.extent.size (rank i.region) (rank j.region) (rank k.region) h g
 
@@ -40,7 +40,7 @@ before_trans i j k h g =
 
 put_in_same : (i : Item) (items : List Item) → IsPermutation (i ∷ items) (put_in i items)
 put_in_same i [] = IsPermutation-refl (i ∷ [])
-put_in_same i (j ∷ items) = elim (cases_Bool (comes_before i j)) [
+put_in_same i (j ∷ items) = elim (cases_Bool (item_precedes i j)) [
   | inl first ↦ subst (IsPermutation (i ∷ (j ∷ items))) (sym (ap (λ b. cond b (i ∷ (j ∷ items)) (j ∷ put_in i items)) first)) (IsPermutation-refl (i ∷ (j ∷ items)))
   | inr later ↦ subst (IsPermutation (i ∷ (j ∷ items))) (sym (ap (λ b. cond b (i ∷ (j ∷ items)) (j ∷ put_in i items)) later))
       (IsPermutation-trans (i ∷ (j ∷ items)) (j ∷ (i ∷ items)) (j ∷ put_in i items)
@@ -58,7 +58,7 @@ turn_same (i ∷ items) =
 
 put_in_order : (i : Item) (items : List Item) → ((j : Item) → Contains items j → HasOtherRank i j) → AllPairs ComesBefore items → AllPairs ComesBefore (put_in i items)
 put_in_order i [] lower pairs = pairs_cons ComesBefore i [] (λ j listed. absurd (in_nil j listed)) (pairs_nil ComesBefore)
-put_in_order i (j ∷ items) lower pairs = elim (cases_Bool (comes_before i j)) [
+put_in_order i (j ∷ items) lower pairs = elim (cases_Bool (item_precedes i j)) [
   | inl first ↦ subst (AllPairs ComesBefore) (sym (ap (λ b. cond b (i ∷ (j ∷ items)) (j ∷ put_in i items)) first))
       (pairs_cons ComesBefore i (j ∷ items)
       (λ k listed. elim (in_cons_cases j items k listed) [
@@ -84,10 +84,10 @@ turn_order (i ∷ items) rise =
 -- ---- and no other list is
 
 no_both : (i j : Item) → ComesBefore i j → ComesBefore j i → ⊥
-no_both i j there back = both_ways (comes_before i i) (before_itself i) (before_trans i j i there back)
+no_both i j there back = both_ways (item_precedes i i) (before_itself i) (before_trans i j i there back)
 
 no_itself : (i : Item) → ComesBefore i i → ⊥
-no_itself i is = both_ways (comes_before i i) (before_itself i) is
+no_itself i is = both_ways (item_precedes i i) (before_itself i) is
 
 same_head : (i j : Item) (xs ys : List Item) → AllPairs ComesBefore (i ∷ xs) → AllPairs ComesBefore (j ∷ ys) → Contains (j ∷ ys) i → Contains (i ∷ xs) j → i ≡ j
 same_head i j xs ys up other i_in j_in = elim (in_cons_cases j ys i i_in) [

@@ -14,9 +14,9 @@ use Rattle.plan_spec.proofs.Planning.OwnItems.{in_cond}
 use Rattle.plan_spec.proofs.Planning.Safe.{order_of}
 use Rattle.settle_spec.specs.FirstPlace.{Extent}
 use Rattle.settle_spec.specs.Lists.{Request}
-use Rattle.settle_spec.specs.Parts.{Region, regions_of}
-use Rattle.settle_spec.specs.Stands.{window_region}
-use Rattle.settle_spec.specs.Items.{Item, in_turn, own_item, is_own, has_of, items_of, items_on, nothing}
+use Rattle.settle_spec.specs.Parts.{FunctionPart, function_parts}
+use Rattle.settle_spec.specs.Stands.{window_part}
+use Rattle.settle_spec.specs.Items.{Item, in_turn, own_item, is_own, has_of, items_of, bus_items, nothing}
 use Rattle.settle_spec.proofs.InTurn.{turn_same}
 use Rattle.settle_spec.proofs.Nested.{at_secondary, behind_outer, is_no_root, on_it}
 use Rattle.settle_spec.proofs.NewWindows.{on_bus}
@@ -30,26 +30,26 @@ long_some (i ∷ xs) some = (i, in_head i xs)
 
 module _ (q : Request) (s : System) (c : WindowKind) (e : Function → Extent) where
   abbrev has_own : Function → Bool
-  has_own f = list_any (is_own q s c) (regions_of q s f)
+  has_own f = list_any (is_own q s c) (function_parts q s f)
 
-  abbrev moves : Region → Bool
+  abbrev moves : FunctionPart → Bool
   moves r = is_own q s c r && not (nothing r)
 
   abbrev own : Function → List Item
-  own f = map (own_item c) (filter moves (regions_of q s f))
+  own f = map (own_item c) (filter moves (function_parts q s f))
 
   abbrev opens : Function → Bool
-  opens f = is_bridge f && has_of q s c f && not (nothing (window_region c f))
+  opens f = is_bridge f && has_of q s c f && not (nothing (window_part c f))
 
   abbrev window : Function → Item
-  window f = record { region = window_region c f; class = c; extent = e f }
+  window f = record { region = window_part c f; class = c; extent = e f }
 
   has_by : (b f : Function) → Contains s f → is_behind b f.slot.bus ≡ true → has_own f ≡ true → has_of q s c b ≡ true
   has_by b f listed behind has =
       any_from (λ g. is_behind b g.slot.bus && has_own g) s f listed (and_from (is_behind b f.slot.bus) (has_own f) behind has)
 
   -- an item of a function is one of its bus
-  put : (f : Function) (i : Item) → Contains s f → Contains (items_of q s c nothing e f) i → Contains (items_on q s c nothing e f.slot.bus) i
+  put : (f : Function) (i : Item) → Contains s f → Contains (items_of q s c nothing e f) i → Contains (bus_items q s c nothing e f.slot.bus) i
   put f i listed item =
       let all = flat_map (on_bus q s c e f.slot.bus) s in
       let beside : are_siblings q.roots f.slot.bus f.slot.bus ≡ true = or_left (f.slot.bus == f.slot.bus) (is_root q.roots f.slot.bus && is_root q.roots f.slot.bus) (eq-eqb f.slot.bus f.slot.bus refl) in
@@ -58,11 +58,11 @@ module _ (q : Request) (s : System) (c : WindowKind) (e : Function → Extent) w
 
   own_in : (f : Function) → has_own f ≡ true → (i : Item) × Contains (items_of q s c nothing e f) i
   own_in f has =
-      let found = any_gives (is_own q s c) (regions_of q s f) has in (
+      let found = any_gives (is_own q s c) (function_parts q s f) has in (
         own_item c found.x,
         Contains-append_left (own f) (cond (opens f) (window f ∷ []) []) (own_item c found.x)
-            (in_map_from (own_item c) (filter moves (regions_of q s f)) found.x
-            (in_filter_from moves (regions_of q s f) found.x found.listed (and_from (is_own q s c found.x) true found.is refl))),
+            (in_map_from (own_item c) (filter moves (function_parts q s f)) found.x
+            (in_filter_from moves (function_parts q s f) found.x found.listed (and_from (is_own q s c found.x) true found.is refl))),
       )
 
   window_in : (f : Function) → is_bridge f ≡ true → has_of q s c f ≡ true → Contains (items_of q s c nothing e f) (window f)
@@ -85,16 +85,16 @@ module _ (q : Request) (s : System) (c : WindowKind) (e : Function → Extent) w
         let behind = at_secondary q.roots s system nested b f.slot.bus in_b bridge at in
         elim (Contains-append_cases (own f) (cond (opens f) (window f ∷ []) []) i item) [
           | inl here ↦
-              let made : IsMade (own_item c) (filter moves (regions_of q s f)) i = in_map_to (own_item c) (filter moves (regions_of q s f)) i here in
-              let kept = in_filter_to moves (regions_of q s f) made.from made.has in
-              has_by b f in_f behind (any_from (is_own q s c) (regions_of q s f) made.from kept.0 (and_parts (is_own q s c made.from) (not (nothing made.from)) kept.1).0)
+              let made : IsMade (own_item c) (filter moves (function_parts q s f)) i = in_map_to (own_item c) (filter moves (function_parts q s f)) i here in
+              let kept = in_filter_to moves (function_parts q s f) made.from made.has in
+              has_by b f in_f behind (any_from (is_own q s c) (function_parts q s f) made.from kept.0 (and_parts (is_own q s c made.from) (not (nothing made.from)) kept.1).0)
           | inr later ↦
               let is = (in_cond (opens f) (window f ∷ []) i later).0 in
-              let parts = and_parts (is_bridge f) (has_of q s c f) (and_parts (is_bridge f && has_of q s c f) (not (nothing (window_region c f))) is).0 in
+              let parts = and_parts (is_bridge f) (has_of q s c f) (and_parts (is_bridge f && has_of q s c f) (not (nothing (window_part c f))) is).0 in
               has_up f b in_f in_b parts.0 bridge behind parts.1
         ]
 
-    of_bus : (b : Function) (i : Item) → Contains s b → is_bridge b ≡ true → Contains (items_on q s c nothing e (secondary b)) i → has_of q s c b ≡ true
+    of_bus : (b : Function) (i : Item) → Contains s b → is_bridge b ≡ true → Contains (bus_items q s c nothing e (secondary b)) i → has_of q s c b ≡ true
     of_bus b i in_b bridge listed =
         let all = flat_map (on_bus q s c e (secondary b)) s in
         let piece : IsInPiece (on_bus q s c e (secondary b)) s i =
@@ -107,12 +107,12 @@ module _ (q : Request) (s : System) (c : WindowKind) (e : Function → Extent) w
 
     -- an item on a bus behind a bridge makes one on the bus right behind it
     item_up : (n : ℕ) (b f : Function) (i : Item) → f.slot.bus < n → Contains s b → Contains s f → is_bridge b ≡ true → is_behind b f.slot.bus ≡ true → Contains (items_of q s c nothing e f) i
-        → (j : Item) × Contains (items_on q s c nothing e (secondary b)) j
+        → (j : Item) × Contains (bus_items q s c nothing e (secondary b)) j
     item_up zero b f i less in_b in_f bridge behind item = absurd (let no : ⊥ = omega (arith, less) in no)
     item_up (suc n) b f i less in_b in_f bridge behind item =
         let low = (behind_range b f.slot.bus behind).0 in
         elim (cases_eq f.slot.bus (secondary b)) [
-          | inl at ↦ (i, subst (λ bus. Contains (items_on q s c nothing e bus) i) at (put f i in_f item))
+          | inl at ↦ (i, subst (λ bus. Contains (bus_items q s c nothing e bus) i) at (put f i in_f item))
           | inr above ↦
               let off : is_root q.roots f.slot.bus ≡ false = false_from_ne_true (is_root q.roots f.slot.bus) (is_no_root q.roots s system nested b f.slot.bus in_b bridge behind) in
               let one = nested.one f in_f off in
@@ -126,7 +126,7 @@ module _ (q : Request) (s : System) (c : WindowKind) (e : Function → Extent) w
               (window_in d leads.1 (of_item d f i leads.0 in_f leads.1 to item))
         ]
 
-    of_behind : (b : Function) → Contains s b → is_bridge b ≡ true → has_of q s c b ≡ true → (j : Item) × Contains (items_on q s c nothing e (secondary b)) j
+    of_behind : (b : Function) → Contains s b → is_bridge b ≡ true → has_of q s c b ≡ true → (j : Item) × Contains (bus_items q s c nothing e (secondary b)) j
     of_behind b listed bridge has =
         let found = any_gives (λ g. is_behind b g.slot.bus && has_own g) s has in
         let f = found.x in
@@ -134,9 +134,9 @@ module _ (q : Request) (s : System) (c : WindowKind) (e : Function → Extent) w
         let item = own_in f parts.1 in
         item_up (suc f.slot.bus) b f item.0 (omega arith) listed found.listed bridge parts.0 item.1
 
-    pub items_are_behind : (b : Function) → Contains s b → is_bridge b ≡ true → has_of q s c b ≡ nat_lt 0 (length (items_on q s c nothing e (secondary b)))
+    pub items_are_behind : (b : Function) → Contains s b → is_bridge b ≡ true → has_of q s c b ≡ nat_lt 0 (length (bus_items q s c nothing e (secondary b)))
     items_are_behind b listed bridge =
-        let items = items_on q s c nothing e (secondary b) in
+        let items = bus_items q s c nothing e (secondary b) in
         elim (cases_Bool (has_of q s c b)) [
           | inl has ↦ let one = of_behind b listed bridge has in has ∙ sym (lt-ltb 0 (length items) (some_long items one.0 one.1))
           | inr none ↦ elim (cases_lt 0 (length items)) [

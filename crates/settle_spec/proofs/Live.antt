@@ -8,7 +8,7 @@ use Rattle.pci_spec.specs.Bus.{secondary, IsNested}
 use Rattle.pci_spec.proofs.Members.{in_head, in_tail}
 use Rattle.plan_spec.proofs.Planning.Safe.{slots_of, order_of}
 use Rattle.settle_spec.specs.Lists.{Request}
-use Rattle.settle_spec.specs.Parts.{same_space, has_left}
+use Rattle.settle_spec.specs.Parts.{are_same_space, has_left}
 use Rattle.settle_spec.specs.Registers.{got_place, has_own, is_enabled_if, is_live_within}
 use Rattle.settle_spec.specs.LiveLaws.{is_live, has_live_behind}
 
@@ -29,7 +29,7 @@ module _ (q : Request) (s : System) (space : Space) where
   -- what is told of those behind it is all that counts
   by_behind : (d e : Function → Bool) (f : Function) → has_live_behind s d f ≡ has_live_behind s e f → live_by d f ≡ live_by e f
   by_behind d e f same =
-      ap (λ b. (not (same_space space Io && has_left q s f) && (is_space_on f space || got_place q s space f || b)) && (has_own q s space f || b)) same
+      ap (λ b. (not (are_same_space space Io && has_left q s f) && (is_space_on f space || got_place q s space f || b)) && (has_own q s space f || b)) same
 
   same_behind : (d e : Function → Bool) (f : Function) → ((g : Function) → Contains s g → is_bridge f ≡ true → g.slot.bus ≡ secondary f → d g ≡ e g) → has_live_behind s d f ≡ has_live_behind s e f
   same_behind d e f same = elim (cases_Bool (is_bridge f)) [

@@ -9,13 +9,13 @@ use Rattle.pci_spec.proofs.Members.{in_head, in_tail}
 use Rattle.plan_spec.proofs.Planning.Safe.{slots_of, order_of}
 use Rattle.settle_spec.specs.FirstPlace.{Extent}
 use Rattle.settle_spec.specs.Lists.{Request}
-use Rattle.settle_spec.specs.Parts.{regions_of}
-use Rattle.settle_spec.specs.Stands.{window_region}
-use Rattle.settle_spec.specs.Items.{Item, in_turn, own_item, is_own, has_of, items_of, items_on, nothing, window_around, window_within, new_window}
+use Rattle.settle_spec.specs.Parts.{function_parts}
+use Rattle.settle_spec.specs.Stands.{window_part}
+use Rattle.settle_spec.specs.Items.{Item, in_turn, own_item, is_own, has_of, items_of, bus_items, nothing, window_around, window_within, new_window}
 use Rattle.settle_spec.proofs.Nested.{on_it}
 
 window_step : (q : Request) (s : System) (c : WindowKind) (depth : ℕ) (b : Function)
-    → window_within q s c (suc depth) b ≡ window_around c b (items_on q s c nothing (window_within q s c depth) (secondary b))
+    → window_within q s c (suc depth) b ≡ window_around c b (bus_items q s c nothing (window_within q s c depth) (secondary b))
 unfolding window_within
 window_step q s c depth b = refl
 
@@ -35,20 +35,20 @@ flat_map_none f (x ∷ s) none =
 
 module _ (q : Request) (s : System) (c : WindowKind) where
   abbrev own : Function → List Item
-  own f = map (own_item c) (filter (λ r. is_own q s c r && not (nothing r)) (regions_of q s f))
+  own f = map (own_item c) (filter (λ r. is_own q s c r && not (nothing r)) (function_parts q s f))
 
   abbrev opens : Function → Bool
-  opens f = is_bridge f && has_of q s c f && not (nothing (window_region c f))
+  opens f = is_bridge f && has_of q s c f && not (nothing (window_part c f))
 
   abbrev window : Function → Extent → Item
-  window f e = record { region = window_region c f; class = c; extent = e }
+  window f e = record { region = window_part c f; class = c; extent = e }
 
   -- the extents of windows count for bridges alone
   same_items : (d e : Function → Extent) (f : Function) → (is_bridge f ≡ true → d f ≡ e f) → items_of q s c nothing d f ≡ items_of q s c nothing e f
   same_items d e f same = elim (cases_Bool (is_bridge f)) [
     | inl is ↦ ap (λ x. own f ++ cond (opens f) (window f x ∷ []) []) (same is)
     | inr other ↦
-        let off : opens f ≡ false = and_left (is_bridge f && has_of q s c f) (not (nothing (window_region c f))) (and_left (is_bridge f) (has_of q s c f) other) in
+        let off : opens f ≡ false = and_left (is_bridge f && has_of q s c f) (not (nothing (window_part c f))) (and_left (is_bridge f) (has_of q s c f) other) in
         ap (λ b. own f ++ cond b (window f (d f) ∷ []) []) off ∙ sym (ap (λ b. own f ++ cond b (window f (e f) ∷ []) []) off)
   ]
 
@@ -56,7 +56,7 @@ module _ (q : Request) (s : System) (c : WindowKind) where
   on_bus e bus f = cond (are_siblings q.roots bus f.slot.bus) (items_of q s c nothing e f) []
 
   same_on : (d e : Function → Extent) (bus : ℕ) → ((f : Function) → Contains s f → are_siblings q.roots bus f.slot.bus ≡ true → is_bridge f ≡ true → d f ≡ e f)
-      → items_on q s c nothing d bus ≡ items_on q s c nothing e bus
+      → bus_items q s c nothing d bus ≡ bus_items q s c nothing e bus
   same_on d e bus same =
       ap in_turn (flat_map_same (on_bus d bus) (on_bus e bus) s (λ f listed. elim (cases_Bool (are_siblings q.roots bus f.slot.bus)) [
         | inl is ↦ ap (λ b. cond b (items_of q s c nothing d f) []) is ∙ same_items d e f (same f listed is) ∙ sym (ap (λ b. cond b (items_of q s c nothing e f) []) is)
@@ -65,7 +65,7 @@ module _ (q : Request) (s : System) (c : WindowKind) where
 
   module _ (system : IsSystem s) (nested : IsNested q.roots s) where
     -- no function stands on a bus above 255
-    none_on : (e : Function → Extent) (b : Function) → Contains s b → is_bridge b ≡ true → 256 ≤ secondary b → items_on q s c nothing e (secondary b) ≡ []
+    none_on : (e : Function → Extent) (b : Function) → Contains s b → is_bridge b ≡ true → 256 ≤ secondary b → bus_items q s c nothing e (secondary b) ≡ []
     none_on e b listed bridge high =
         ap in_turn (flat_map_none (on_bus e (secondary b)) s (λ f in_f. ap (λ t. cond t (items_of q s c nothing e f) [])
         (false_from_ne_true (are_siblings q.roots (secondary b) f.slot.bus) (λ beside.
@@ -87,7 +87,7 @@ module _ (q : Request) (s : System) (c : WindowKind) where
         enough d e f in_f is_f (omega (arith, hd, at, up)) (omega (arith, he, at, up))))
         ∙ sym (window_step q s c e b)
 
-    pub window_is_around : (b : Function) → Contains s b → is_bridge b ≡ true → new_window q s c b ≡ window_around c b (items_on q s c nothing (new_window q s c) (secondary b))
+    pub window_is_around : (b : Function) → Contains s b → is_bridge b ≡ true → new_window q s c b ≡ window_around c b (bus_items q s c nothing (new_window q s c) (secondary b))
     window_is_around b listed bridge =
         window_step q s c 255 b
         ∙ ap (window_around c b) (same_on (window_within q s c 255) (window_within q s c 256) (secondary b) (λ f in_f beside is_f.

@@ -9,7 +9,7 @@ use Rattle.plan_spec.specs.Plan.{raised_to}
 use Rattle.plan_spec.specs.Place.{range_from}
 use Rattle.plan_spec.proofs.Planning.Placement.{IsMultiple, mod_of_multiple, multiple_of_mod, multiple_add}
 use Rattle.plan_spec.proofs.Planning.Room.{raised}
-use Rattle.settle_spec.specs.FirstPlace.{Extent, is_spot, ends_in, first_spot, first_place, else_at}
+use Rattle.settle_spec.specs.FirstPlace.{Extent, is_spot, ends_by, first_spot, first_place, else_at}
 use Rattle.settle_spec.specs.Items.{Item, Placing, AllPlaced, Lacks, and_placed, place_next, place_all, are_placed, taken_by, laid_out, end_of}
 use Rattle.settle_spec.specs.WindowLaws.{CanBeIn}
 use Rattle.settle_spec.proofs.FirstSpot.{IsApart, spot_gives, spot_from, least_spot, only_least}
@@ -85,7 +85,7 @@ module _ (a size : ℕ) where
   abbrev inside : Item → List Range
   inside i = range_from a size ∷ []
 
-  ends : (e : Extent) (f : ℕ) → f + (e.size - 1) + 1 ≤ size → a + (size - 1) ≤ e.highest → ends_in (range_from a size) e (a + f) ≡ true
+  ends : (e : Extent) (f : ℕ) → f + (e.size - 1) + 1 ≤ size → a + (size - 1) ≤ e.highest → ends_by (range_from a size) e (a + f) ≡ true
   ends e f within below =
       and_from (nat_le (a + f + (e.size - 1)) (a + (size - 1))) (nat_le (a + f + (e.size - 1)) e.highest)
       (le-leb (a + f + (e.size - 1)) (a + (size - 1)) (omega (arith, within)))
@@ -103,7 +103,7 @@ module _ (a size : ℕ) where
       let end = end_behind (laid_out (here ∷ taken) (map (λ (i : Item). i.extent) items)) here (laid_keeps (here ∷ taken) (map (λ (i : Item). i.extent) items) here (in_head here taken)) in
       let ends_here = ends e f (omega (arith, end, within)) is.below in
       let place : first_place (inside i) (map (further a) taken) e ≡ Some (a + f) =
-      ap (λ n. else_at (cond (ends_in (range_from a size) e n) (Some n) None) None) spot
+      ap (λ n. else_at (cond (ends_by (range_from a size) e n) (Some n) None) None) spot
       ∙ ap (λ b. else_at (cond b (Some (a + f)) None) None) ends_here in
       ap (λ o. are_placed (place_next i o (λ b. place_all inside (taken_by i b ∷ map (further a) taken) items))) place
       ∙ placed_too i (a + f) (place_all inside (taken_by i (a + f) ∷ map (further a) taken) items)

@@ -4,7 +4,7 @@ use Rattle.std.specs.Bool.{IsTrue}
 use Rattle.std.specs.List.{Contains}
 use Rattle.pci_spec.specs.Decoded.{Range}
 use Rattle.pci_spec.proofs.Members.{in_head, in_tail, in_cons_cases}
-use Rattle.settle_spec.specs.FirstPlace.{Extent, is_spot, ends_in, first_spot, first_in, first_place, else_at}
+use Rattle.settle_spec.specs.FirstPlace.{Extent, is_spot, ends_by, first_spot, first_place_in, first_place, else_at}
 use Rattle.settle_spec.specs.Items.{Item, Placing, and_placed, place_next, place_all, taken_by}
 use Rattle.settle_spec.proofs.FirstSpot.{spot_gives, spot_from, least_spot, only_least}
 
@@ -36,13 +36,13 @@ same_first_spot low xs ys e pos same =
     })
 
 abbrev in_range : Range → Extent → ℕ → Option ℕ
-in_range r e a = cond (ends_in r e a) (Some a) None
+in_range r e a = cond (ends_by r e a) (Some a) None
 
 pub same_first_place : (ranges xs ys : List Range) (e : Extent) → 0 < e.alignment → HaveSame xs ys → first_place ranges xs e ≡ first_place ranges ys e
 same_first_place [] xs ys e pos same = refl
 same_first_place (r ∷ ranges) xs ys e pos same =
     ap (λ o. else_at o (first_place ranges xs e)) (ap (in_range r e) (same_first_spot r.first xs ys e pos same))
-    ∙ ap (else_at (first_in r ys e)) (same_first_place ranges xs ys e pos same)
+    ∙ ap (else_at (first_place_in r ys e)) (same_first_place ranges xs ys e pos same)
 
 next_by : (i : Item) (o : Option ℕ) (f g : ℕ → Placing) → ((a : ℕ) → f a ≡ g a) → place_next i o f ≡ place_next i o g
 next_by i None f g same = refl

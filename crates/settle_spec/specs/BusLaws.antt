@@ -4,7 +4,7 @@ use Rattle.pci_spec.specs.System.{System, IsSystem, Space}
 use Rattle.pci_spec.specs.Bus.{is_root, IsNested}
 use Rattle.settle_spec.specs.Lists.{Request}
 use Rattle.settle_spec.specs.Items.{place_all}
-use Rattle.settle_spec.specs.Places.{placed_of, ranges_for, space_items, taken_at, placing_on}
+use Rattle.settle_spec.specs.Places.{placed_of, ranges_of_item, space_items, taken_at, placing_on}
 
 -- The places of a bus are told by those of the bus on which the bridge to it stands.
 abbrev pub PlacingIsByBus : Type 0
@@ -12,7 +12,7 @@ PlacingIsByBus =
     (q : Request) (s : System) (space : Space) (bus : ℕ) → IsSystem s → IsNested q.roots s
     → bus < 256
     → placing_on q s space bus
-    ≡ place_all (ranges_for q s (λ over. placed_of (placing_on q s space over)))
+    ≡ place_all (ranges_of_item q s (λ over. placed_of (placing_on q s space over)))
     (taken_at q s space bus) (space_items q s space bus)
 
 -- On each root the same is placed at the same places.

@@ -8,29 +8,29 @@ use Rattle.pci_spec.specs.System.{System, Function, Part, Bar, Window, window_sp
 use Rattle.pci_spec.specs.Bus.{secondary, is_behind, are_siblings}
 use Rattle.plan_spec.specs.Plan.{bridges_above, greatest, raised_to, same_class, size_of}
 use Rattle.plan_spec.specs.Place.{range_from}
-use Rattle.settle_spec.specs.FirstPlace.{Extent, least_of, first_spot, first_place}
+use Rattle.settle_spec.specs.FirstPlace.{Extent, least_number, first_spot, first_place}
 use Rattle.settle_spec.specs.Lists.{Request}
-use Rattle.settle_spec.specs.Parts.{Region, regions, regions_of, addresses, bridge_over, class_in, same_space}
-use Rattle.settle_spec.specs.Stands.{rank, window_region, region_space, stands}
+use Rattle.settle_spec.specs.Parts.{FunctionPart, system_parts, function_parts, addresses, bridge_over, class_in, are_same_space}
+use Rattle.settle_spec.specs.Stands.{rank, window_part, part_space, stands}
 
 -- what is to be placed
 pub record Item : Type 0 where
-  pub region : Region
+  pub region : FunctionPart
   pub class : WindowKind
   pub extent : Extent
 
 -- ---- in turn
 
 -- falling alignments come first, then falling sizes, then lower slots and registers
-abbrev pub comes_before : Item → Item → Bool
-comes_before i j =
+abbrev pub item_precedes : Item → Item → Bool
+item_precedes i j =
     nat_lt j.extent.alignment i.extent.alignment || (i.extent.alignment == j.extent.alignment
     && (nat_lt j.extent.size i.extent.size || (i.extent.size == j.extent.size
     && nat_lt (rank i.region) (rank j.region))))
 
 abbrev pub put_in : Item → List Item → List Item
 put_in i [] = i ∷ []
-put_in i (j ∷ items) = if comes_before i j then i ∷ (j ∷ items) else j ∷ put_in i items
+put_in i (j ∷ items) = if item_precedes i j then i ∷ (j ∷ items) else j ∷ put_in i items
 
 -- items in the order in which they are placed
 abbrev pub in_turn : List Item → List Item
@@ -79,36 +79,36 @@ highest_of f (Bar n) = highest_of_bar (bar_at f.probe n)
 highest_of f p = 0xffff_ffff
 
 -- a BAR's size is its alignment, and so is a ROM's
-abbrev pub own_extent : Region → Extent
+abbrev pub own_extent : FunctionPart → Extent
 own_extent r = record {
   size = size_of r.function r.part;
   alignment = size_of r.function r.part;
   highest = highest_of r.function r.part;
 }
 
-abbrev pub own_item : WindowKind → Region → Item
+abbrev pub own_item : WindowKind → FunctionPart → Item
 own_item c r = record { region = r; class = c; extent = own_extent r }
 
 -- a BAR or ROM of a class
-abbrev pub is_own : Request → System → WindowKind → Region → Bool
+abbrev pub is_own : Request → System → WindowKind → FunctionPart → Bool
 is_own q s c r =
     not (is_window r.part) && same_class c (class_in q s r.function r.part)
 
 -- whether a BAR or ROM of a class is behind a bridge
 abbrev pub has_of : Request → System → WindowKind → Function → Bool
 has_of q s c b =
-    list_any (λ f. is_behind b f.slot.bus && list_any (is_own q s c) (regions_of q s f)) s
+    list_any (λ f. is_behind b f.slot.bus && list_any (is_own q s c) (function_parts q s f)) s
 
 -- the items of a function in a class: `keeps` says what keeps its place, `extent` how large a new window is
-abbrev pub items_of : Request → System → WindowKind → (Region → Bool) → (Function → Extent) → Function → List Item
+abbrev pub items_of : Request → System → WindowKind → (FunctionPart → Bool) → (Function → Extent) → Function → List Item
 items_of q s c keeps extent f =
-    map (own_item c) (filter (λ r. is_own q s c r && not (keeps r)) (regions_of q s f))
-    ++ (if is_bridge f && has_of q s c f && not (keeps (window_region c f))
-    then record { region = window_region c f; class = c; extent = extent f } ∷ [] else [])
+    map (own_item c) (filter (λ r. is_own q s c r && not (keeps r)) (function_parts q s f))
+    ++ (if is_bridge f && has_of q s c f && not (keeps (window_part c f))
+    then record { region = window_part c f; class = c; extent = extent f } ∷ [] else [])
 
 -- those of a bus, in turn: all roots are one bus
-abbrev pub items_on : Request → System → WindowKind → (Region → Bool) → (Function → Extent) → ℕ → List Item
-items_on q s c keeps extent bus =
+abbrev pub bus_items : Request → System → WindowKind → (FunctionPart → Bool) → (Function → Extent) → ℕ → List Item
+bus_items q s c keeps extent bus =
     in_turn (flat_map (λ f. if are_siblings q.roots bus f.slot.bus then items_of q s c keeps extent f else []) s)
 
 -- ---- new windows
@@ -128,7 +128,7 @@ abbrev pub extent_around : ℕ → ℕ → List Extent → Extent
 extent_around page highest extents = record {
   size = raised_to page (end_of (laid_out [] extents));
   alignment = max page (greatest (map (λ (e : Extent). e.alignment) extents));
-  highest = least_of (highest ∷ map (λ (e : Extent). e.highest) extents);
+  highest = least_number (highest ∷ map (λ (e : Extent). e.highest) extents);
 }
 
 -- the highest address that a window can hold, by the read backs of its bridge: an I/O or prefetchable one may have
@@ -145,27 +145,27 @@ window_around c b items =
     extent_around (page_size c) (highest_in c b.probe)
     (map (λ (i : Item). i.extent) items)
 
-abbrev pub nothing : Region → Bool
+abbrev pub nothing : FunctionPart → Bool
 nothing r = false
 
 -- the new window of a bridge, where at most `depth` buses are behind one another
 unfoldable pub window_within : Request → System → WindowKind → ℕ → Function → Extent
 window_within q s c zero b = window_around c b []
 window_within q s c (suc depth) b =
-    window_around c b (items_on q s c nothing (window_within q s c depth) (secondary b))
+    window_around c b (bus_items q s c nothing (window_within q s c depth) (secondary b))
 
 -- buses rise on the way down, so 256 of them are all
 abbrev pub new_window : Request → System → WindowKind → Function → Extent
 new_window q s c b = window_within q s c 256 b
 
 -- that of a bridge where a BAR or ROM of the class is behind it
-abbrev pub window_over : Request → System → WindowKind → Option Function → Option Extent
-window_over q s c None = None
-window_over q s c (Some b) = if has_of q s c b then Some (new_window q s c b) else None
+abbrev pub new_window_over : Request → System → WindowKind → Option Function → Option Extent
+new_window_over q s c None = None
+new_window_over q s c (Some b) = if has_of q s c b then Some (new_window q s c b) else None
 
 -- the new window through which a bus is reached
 abbrev pub window_to : Request → System → WindowKind → ℕ → Option Extent
-window_to q s c bus = window_over q s c (bridge_over s bus)
+window_to q s c bus = new_window_over q s c (bridge_over s bus)
 
 -- ---- what keeps its place
 
@@ -174,35 +174,35 @@ are_placed (AllPlaced placed) = true
 are_placed (Lacks i) = false
 
 -- what is taken on a bus in the space of a class
-abbrev pub taken_on : Request → System → WindowKind → (Region → Bool) → ℕ → List Range
+abbrev pub taken_on : Request → System → WindowKind → (FunctionPart → Bool) → ℕ → List Range
 taken_on q s c keeps bus =
     map addresses
-    (filter (λ r. are_siblings q.roots bus r.function.slot.bus && same_space (window_space c) (region_space r) && keeps r)
-    (regions q s))
+    (filter (λ r. are_siblings q.roots bus r.function.slot.bus && are_same_space (window_space c) (part_space r) && keeps r)
+    (system_parts q s))
 
 -- whether a window has a place for each item behind it, `keeps` saying what keeps its place there
-abbrev pub has_places : Request → System → (Region → Bool) → Function → WindowKind → Bool
+abbrev pub has_places : Request → System → (FunctionPart → Bool) → Function → WindowKind → Bool
 has_places q s keeps b c =
-    are_placed (place_all (λ i. addresses (window_region c b) ∷ [])
+    are_placed (place_all (λ i. addresses (window_part c b) ∷ [])
     (taken_on q s c keeps (secondary b))
-    (items_on q s c keeps (new_window q s c) (secondary b)))
+    (bus_items q s c keeps (new_window q s c) (secondary b)))
 
 -- whether what is behind a part has its place there: nothing is behind a BAR or a ROM
-abbrev pub has_room : Request → System → (Region → Bool) → Function → Part → Bool
+abbrev pub has_room : Request → System → (FunctionPart → Bool) → Function → Part → Bool
 has_room q s keeps f (Window c) = has_places q s keeps f c
 has_room q s keeps f p = true
 
--- a part stands and, if it is a window, holds, where at most `depth` buses are behind one another
-unfoldable pub holds_within : Request → System → ℕ → Region → Bool
+-- a part stands and, if it is a window, has_room_behind, where at most `depth` buses are behind one another
+unfoldable pub holds_within : Request → System → ℕ → FunctionPart → Bool
 holds_within q s zero r = stands q s r
 holds_within q s (suc depth) r = stands q s r && has_room q s (holds_within q s depth) r.function r.part
 
-abbrev pub holds : Request → System → Region → Bool
-holds q s r = holds_within q s 256 r
+abbrev pub has_room_behind : Request → System → FunctionPart → Bool
+has_room_behind q s r = holds_within q s 256 r
 
--- a part stays where it holds and each window of its class above it does
-abbrev pub stays : Request → System → Region → Bool
+-- a part stays where it has_room_behind and each window of its class above it does
+abbrev pub stays : Request → System → FunctionPart → Bool
 stays q s r =
-    holds q s r
-    && list_all (λ b. holds q s (window_region (class_in q s r.function r.part) b))
+    has_room_behind q s r
+    && list_all (λ b. has_room_behind q s (window_part (class_in q s r.function r.part) b))
     (bridges_above s r.function.slot.bus)

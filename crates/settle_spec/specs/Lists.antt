@@ -6,7 +6,7 @@ use Rattle.pci_spec.specs.Window.{WindowKind, IoWindow, MemoryWindow, PrefetchWi
 use Rattle.pci_spec.specs.Decoded.{Range}
 use Rattle.pci_spec.specs.Bus.{is_root}
 use Rattle.plan_spec.specs.Plan.{is_backward}
-use Rattle.settle_spec.specs.FirstPlace.{are_apart}
+use Rattle.settle_spec.specs.FirstPlace.{ranges_are_apart}
 
 -- a range, and the root that alone has it: None where all have it
 pub record RootRange : Type 0 where
@@ -39,8 +39,8 @@ is_had_by None bus = true
 is_had_by (Some root) bus = root == bus
 
 -- the ranges of a class that a root has
-abbrev pub ranges_of : Request → WindowKind → ℕ → List Range
-ranges_of q c bus =
+abbrev pub class_ranges : Request → WindowKind → ℕ → List Range
+class_ranges q c bus =
     map (λ (r : RootRange). r.range) (filter (λ r. is_had_by r.root bus) (list_of q.lists c))
 
 -- ---- lists that are refused
@@ -53,7 +53,7 @@ has_no_root roots (Some bus) = not (is_root roots bus)
 -- whether two ranges of a list share an address
 abbrev pub share_address : List RootRange → Bool
 share_address [] = false
-share_address (r ∷ more) = list_any (λ q. not (are_apart r.range q.range)) more || share_address more
+share_address (r ∷ more) = list_any (λ q. not (ranges_are_apart r.range q.range)) more || share_address more
 
 abbrev pub is_bad_list : List ℕ → List RootRange → Bool
 is_bad_list roots list =

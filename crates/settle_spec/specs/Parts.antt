@@ -50,13 +50,13 @@ abbrev pub bridge_over : System → ℕ → Option Function
 bridge_over s bus = find (λ b. is_bridge b && secondary b == bus) s
 
 -- whether a range lies in another
-abbrev pub is_within : Range → Range → Bool
-is_within inner outer = nat_le outer.first inner.first && nat_le inner.last outer.last
+abbrev pub lies_within : Range → Range → Bool
+lies_within inner outer = nat_le outer.first inner.first && nat_le inner.last outer.last
 
 -- whether a window of the bridge is open and holds a range whole
 abbrev pub holds_range : WindowKind → Range → Option Function → Bool
 holds_range kind r None = false
-holds_range kind r (Some b) = is_open b kind && is_within r (range_of b (Window kind))
+holds_range kind r (Some b) = is_open b kind && lies_within r (range_of b (Window kind))
 
 -- one pool for each class, which ends where the list of prefetchable memory does
 abbrev pub upper_pools : List RootRange → Pools
@@ -100,20 +100,20 @@ class_in q s f (Window kind) = kind
 -- ---- all of a system
 
 -- a part with its function
-pub record Region : Type 0 where
+pub record FunctionPart : Type 0 where
   pub function : Function
   pub part : Part
 
-abbrev pub regions_of : Request → System → Function → List Region
-regions_of q s f = map (λ p. record { function = f; part = p }) (parts_of q s f)
+abbrev pub function_parts : Request → System → Function → List FunctionPart
+function_parts q s f = map (λ p. record { function = f; part = p }) (parts_of q s f)
 
-abbrev pub regions : Request → System → List Region
-regions q s = flat_map (regions_of q s) s
+abbrev pub system_parts : Request → System → List FunctionPart
+system_parts q s = flat_map (function_parts q s) s
 
-abbrev pub addresses : Region → Range
+abbrev pub addresses : FunctionPart → Range
 addresses r = range_of r.function r.part
 
-abbrev pub same_space : Space → Space → Bool
-same_space Io Io = true
-same_space Memory Memory = true
-same_space a b = false
+abbrev pub are_same_space : Space → Space → Bool
+are_same_space Io Io = true
+are_same_space Memory Memory = true
+are_same_space a b = false

@@ -6,28 +6,28 @@ use Rattle.pci_spec.specs.Decoded.{Range}
 use Rattle.pci_spec.specs.System.{System, Function, Space, Io, Memory, space_of}
 use Rattle.pci_spec.specs.Bus.{is_root}
 use Rattle.settle_spec.specs.FirstPlace.{is_high}
-use Rattle.settle_spec.specs.Lists.{Request, ranges_of}
-use Rattle.settle_spec.specs.Parts.{Region, addresses, bridge_over}
-use Rattle.settle_spec.specs.Stands.{rank, window_region}
-use Rattle.settle_spec.specs.Items.{Item, Placed, Placing, AllPlaced, Lacks, place_all, taken_by, items_on, taken_on, new_window, stays}
+use Rattle.settle_spec.specs.Lists.{Request, class_ranges}
+use Rattle.settle_spec.specs.Parts.{FunctionPart, addresses, bridge_over}
+use Rattle.settle_spec.specs.Stands.{rank, window_part}
+use Rattle.settle_spec.specs.Items.{Item, Placed, Placing, AllPlaced, Lacks, place_all, taken_by, bus_items, taken_on, new_window, stays}
 
 -- the further ranges of an item that may lie above 4 GB
 abbrev pub wide_ranges : Request → WindowKind → ℕ → List Range
-wide_ranges q MemoryWindow bus = ranges_of q PrefetchWindow bus
+wide_ranges q MemoryWindow bus = class_ranges q PrefetchWindow bus
 wide_ranges q c bus = []
 
 -- the ranges that an item on a root can have: a BAR of memory that may lie above 4 GB has those of prefetchable memory too
 abbrev pub root_ranges : Request → Item → List Range
 root_ranges q i =
-    ranges_of q i.class i.region.function.slot.bus
+    class_ranges q i.class i.region.function.slot.bus
     ++ (if is_high i.extent then wide_ranges q i.class i.region.function.slot.bus else [])
 
 -- the items of a bus in a space: of memory, those of class M come first
 abbrev pub space_items : Request → System → Space → ℕ → List Item
-space_items q s Io bus = items_on q s IoWindow (stays q s) (new_window q s IoWindow) bus
+space_items q s Io bus = bus_items q s IoWindow (stays q s) (new_window q s IoWindow) bus
 space_items q s Memory bus =
-    items_on q s MemoryWindow (stays q s) (new_window q s MemoryWindow) bus
-    ++ items_on q s PrefetchWindow (stays q s) (new_window q s PrefetchWindow) bus
+    bus_items q s MemoryWindow (stays q s) (new_window q s MemoryWindow) bus
+    ++ bus_items q s PrefetchWindow (stays q s) (new_window q s PrefetchWindow) bus
 
 abbrev pub taken_at : Request → System → Space → ℕ → List Range
 taken_at q s Io bus = taken_on q s IoWindow (stays q s) bus
@@ -38,7 +38,7 @@ placed_of (AllPlaced placed) = placed
 placed_of (Lacks i) = []
 
 -- the item of a part among those that are placed
-abbrev pub place_among : Region → List Placed → Option Placed
+abbrev pub place_among : FunctionPart → List Placed → Option Placed
 place_among r placed = find (λ (p : Placed). rank p.item.region == rank r) placed
 
 abbrev pub placed_range : Option Placed → List Range
@@ -49,11 +49,11 @@ placed_range (Some p) = taken_by p.item p.at ∷ []
 abbrev pub window_ranges : Request → System → (ℕ → List Placed) → WindowKind → Option Function → List Range
 window_ranges q s placed c None = []
 window_ranges q s placed c (Some b) =
-    if stays q s (window_region c b) then addresses (window_region c b) ∷ []
-    else placed_range (place_among (window_region c b) (placed b.slot.bus))
+    if stays q s (window_part c b) then addresses (window_part c b) ∷ []
+    else placed_range (place_among (window_part c b) (placed b.slot.bus))
 
-abbrev pub ranges_for : Request → System → (ℕ → List Placed) → Item → List Range
-ranges_for q s placed i =
+abbrev pub ranges_of_item : Request → System → (ℕ → List Placed) → Item → List Range
+ranges_of_item q s placed i =
     if is_root q.roots i.region.function.slot.bus then root_ranges q i
     else window_ranges q s placed i.class (bridge_over s i.region.function.slot.bus)
 
@@ -61,7 +61,7 @@ ranges_for q s placed i =
 unfoldable pub placing_within : Request → System → Space → ℕ → ℕ → Placing
 placing_within q s space zero bus = AllPlaced []
 placing_within q s space (suc depth) bus =
-    place_all (ranges_for q s (λ bus. placed_of (placing_within q s space depth bus)))
+    place_all (ranges_of_item q s (λ bus. placed_of (placing_within q s space depth bus)))
     (taken_at q s space bus) (space_items q s space bus)
 
 -- buses rise on the way down, so 256 of them are all
@@ -69,7 +69,7 @@ abbrev pub placing_on : Request → System → Space → ℕ → Placing
 placing_on q s space bus = placing_within q s space 256 bus
 
 -- the place that a part gets
-abbrev pub new_place : Request → System → Region → Option Placed
+abbrev pub new_place : Request → System → FunctionPart → Option Placed
 new_place q s r =
     place_among r (placed_of (placing_on q s (space_of r.function r.part) r.function.slot.bus))
 

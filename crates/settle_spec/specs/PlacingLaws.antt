@@ -3,9 +3,9 @@ use Rattle.std.specs.Prelude.{◌≡◌, ◌↔◌, ℕ, ◌<◌, ◌≤◌, IsT
 use Rattle.std.specs.List.{AllPairs, Contains}
 use Rattle.std.specs.List.Sorted.{IsPermutation}
 use Rattle.pci_spec.specs.Decoded.{Range}
-use Rattle.settle_spec.specs.FirstPlace.{Extent, are_apart, is_place, first_spot, first_place, IsLeastSpot, HasNoPlace, IsFirstIn, IsFirstPlace}
+use Rattle.settle_spec.specs.FirstPlace.{Extent, ranges_are_apart, is_place, first_spot, first_place, IsLeastSpot, HasNoPlace, IsFirstPlaceIn, IsFirstPlace}
 use Rattle.settle_spec.specs.Stands.{rank}
-use Rattle.settle_spec.specs.Items.{Item, Placed, AllPlaced, comes_before, in_turn, place_all, taken_by}
+use Rattle.settle_spec.specs.Items.{Item, Placed, AllPlaced, item_precedes, in_turn, place_all, taken_by}
 
 -- There is always a least free multiple of an alignment from an address on.
 abbrev pub SpotIsLeast : Type 0
@@ -49,7 +49,7 @@ pub record NeedsNoLess (e d : Extent) : Type 0 where
 abbrev pub NoPlaceIsBefore : Type 0
 NoPlaceIsBefore =
     (r : Range) (taken more : List Range) (e d : Extent) (a : ℕ) → TakesMore taken more
-    → NeedsNoLess e d → IsFirstIn r taken e a → (b : ℕ) → IsTrue (is_place r more d b) → a ≤ b
+    → NeedsNoLess e d → IsFirstPlaceIn r taken e a → (b : ℕ) → IsTrue (is_place r more d b) → a ≤ b
 
 -- and none in a range that had none. So a search can go on where the last one ended.
 abbrev pub NoneStaysNone : Type 0
@@ -59,8 +59,8 @@ NoneStaysNone =
 
 -- ---- of many items
 
-abbrev pub AreApart : Placed → Placed → Type 0
-AreApart p q = IsTrue (are_apart (taken_by p.item p.at) (taken_by q.item q.at))
+abbrev pub PlacesAreApart : Placed → Placed → Type 0
+PlacesAreApart p q = IsTrue (ranges_are_apart (taken_by p.item p.at) (taken_by q.item q.at))
 
 -- Items at their places: each of them lies in a range, off what was taken, and no two share an address.
 pub record ArePlaced (ranges : Item → List Range) (taken : List Range) (items : List Item)
@@ -69,7 +69,7 @@ pub record ArePlaced (ranges : Item → List Range) (taken : List Range) (items 
   pub each : (p : Placed) → Contains placed p
       → (r : Range) × Contains (ranges p.item) r
       × IsTrue (is_place r taken p.item.extent p.at)
-  pub apart : AllPairs AreApart placed
+  pub apart : AllPairs PlacesAreApart placed
 
 abbrev pub PlacedAreApart : Type 0
 PlacedAreApart =
@@ -89,7 +89,7 @@ abbrev pub HasOtherRank : Item → Item → Type 0
 HasOtherRank i j = rank i.region ≡ rank j.region → ⊥
 
 abbrev pub ComesBefore : Item → Item → Type 0
-ComesBefore i j = IsTrue (comes_before i j)
+ComesBefore i j = IsTrue (item_precedes i j)
 
 -- Items in turn are the same items, each before all that follow it,
 abbrev pub TurnIsOrdered : Type 0

@@ -13,8 +13,8 @@ use Rattle.plan_spec.specs.Plan.{is_open}
 use Rattle.plan_spec.specs.Place.{nibble_of}
 use Rattle.plan_spec.specs.Planning.Showing.{bar_value, rom_value}
 use Rattle.settle_spec.specs.Lists.{Request}
-use Rattle.settle_spec.specs.Parts.{Region, regions_of, header_parts, is_part, has_left, same_space}
-use Rattle.settle_spec.specs.Stands.{region_space}
+use Rattle.settle_spec.specs.Parts.{FunctionPart, function_parts, header_parts, is_part, has_left, are_same_space}
+use Rattle.settle_spec.specs.Stands.{part_space}
 use Rattle.settle_spec.specs.Items.{Placed, stays}
 use Rattle.settle_spec.specs.Places.{new_place}
 
@@ -53,16 +53,16 @@ closed_if_open f (Window c) image =
 closed_if_open f p image = image
 
 -- one that has no place: a window that doesn't stay is closed
-abbrev pub without_place : Request → System → Region → List ℕ → List ℕ
+abbrev pub without_place : Request → System → FunctionPart → List ℕ → List ℕ
 without_place q s r image =
     if stays q s r then image else closed_if_open r.function r.part image
 
-abbrev pub shown : Request → System → Region → Option Placed → List ℕ → List ℕ
+abbrev pub shown : Request → System → FunctionPart → Option Placed → List ℕ → List ℕ
 shown q s r None image = without_place q s r image
 shown q s r (Some p) image = with_place r.function r.part p image
 
 -- what can change: the parts, and windows that are closed
-abbrev pub changing : Request → System → Function → List Region
+abbrev pub changing : Request → System → Function → List FunctionPart
 changing q s f =
     map (λ p. record { function = f; part = p })
     (filter (λ p. is_part q s f p || (is_window p && is_implemented f p)) (header_parts f))
@@ -76,16 +76,16 @@ settled_image q s f =
 -- whether a part of the space got a place
 abbrev pub got_place : Request → System → Space → Function → Bool
 got_place q s space f =
-    list_any (λ r. same_space space (region_space r) && is_some (new_place q s r)) (changing q s f)
+    list_any (λ r. are_same_space space (part_space r) && is_some (new_place q s r)) (changing q s f)
 
 abbrev pub has_own : Request → System → Space → Function → Bool
 has_own q s space f =
-    list_any (λ r. same_space space (region_space r) && not (is_window r.part)) (regions_of q s f)
+    list_any (λ r. are_same_space space (part_space r) && not (is_window r.part)) (function_parts q s f)
 
 -- the enable of a space: as it was, or for what got a place, or on a bridge for what is live behind it
 abbrev pub is_enabled_if : Request → System → Space → (Function → Bool) → Function → Bool
 is_enabled_if q s space live f =
-    not (same_space space Io && has_left q s f)
+    not (are_same_space space Io && has_left q s f)
     && (is_space_on f space || got_place q s space f
     || (is_bridge f && list_any (λ g. g.slot.bus == secondary f && live g) s))
 

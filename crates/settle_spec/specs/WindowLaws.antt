@@ -9,7 +9,7 @@ use Rattle.plan_spec.specs.Place.{range_from}
 use Rattle.pci_spec.specs.Decoded.{Range}
 use Rattle.settle_spec.specs.FirstPlace.{Extent, is_place}
 use Rattle.settle_spec.specs.Lists.{Request}
-use Rattle.settle_spec.specs.Items.{Item, place_all, are_placed, has_of, items_on, nothing, extent_around, window_around, new_window}
+use Rattle.settle_spec.specs.Items.{Item, place_all, are_placed, has_of, bus_items, nothing, extent_around, window_around, new_window}
 
 -- A new window is that around the items of the bus behind its bridge, whose windows are new ones in turn.
 abbrev pub WindowIsAround : Type 0
@@ -17,14 +17,14 @@ WindowIsAround =
     (q : Request) (s : System) (c : WindowKind) (b : Function) → IsSystem s → IsNested q.roots s
     → Contains s b → IsTrue (is_bridge b)
     → new_window q s c b
-    ≡ window_around c b (items_on q s c nothing (new_window q s c) (secondary b))
+    ≡ window_around c b (bus_items q s c nothing (new_window q s c) (secondary b))
 
 -- A BAR or ROM of a class is behind a bridge exactly where the bus behind it has an item.
 abbrev pub ItemsAreBehind : Type 0
 ItemsAreBehind =
     (q : Request) (s : System) (c : WindowKind) (extent : Function → Extent) (b : Function)
     → IsSystem s → IsNested q.roots s → Contains s b → IsTrue (is_bridge b)
-    → has_of q s c b ≡ nat_lt 0 (length (items_on q s c nothing extent (secondary b)))
+    → has_of q s c b ≡ nat_lt 0 (length (bus_items q s c nothing extent (secondary b)))
 
 -- ---- room
 

@@ -11,8 +11,8 @@ use Rattle.pci_spec.specs.Machine.{Write}
 use Rattle.plan_spec.specs.Plan.{bridges_above}
 use Rattle.plan_spec.specs.Planning.PlanWrites.{Change, closed_command, registers_of}
 use Rattle.settle_spec.specs.Lists.{Request, are_bad_lists}
-use Rattle.settle_spec.specs.Parts.{Region, regions, has_left}
-use Rattle.settle_spec.specs.Stands.{is_fixed, stands}
+use Rattle.settle_spec.specs.Parts.{FunctionPart, system_parts, has_left}
+use Rattle.settle_spec.specs.Stands.{is_fixed_part, stands}
 use Rattle.settle_spec.specs.Items.{Item, stays}
 use Rattle.settle_spec.specs.Places.{lacking}
 use Rattle.settle_spec.specs.Registers.{settled_function, has_own}
@@ -82,13 +82,13 @@ pub data Settling : Type 0 where
   Settled : (writes : List Write) → Settling
 
 -- the first part of a fixed function that fails a test
-abbrev pub fixed_without : (Region → Bool) → Request → System → Option Region
-fixed_without test q s = find (λ r. is_fixed q r && not (test r)) (regions q s)
+abbrev pub fixed_without : (FunctionPart → Bool) → Request → System → Option FunctionPart
+fixed_without test q s = find (λ r. is_fixed_part q r && not (test r)) (system_parts q s)
 
 abbrev pub fixed_write : Request → List Write → Option Write
 fixed_write q writes = find (λ (w : Write). list_any (same_slot w.slot) q.fixed) writes
 
-abbrev pub or_fixed : Option Region → Settling → Settling
+abbrev pub or_fixed : Option FunctionPart → Settling → Settling
 or_fixed None other = other
 or_fixed (Some r) other = Fixed r.function.slot (register_of r.function r.part)
 

@@ -1,4 +1,4 @@
--- A part holds by what is on the bus behind it, which is a higher one, and stays by the window over it.
+-- A part has_room_behind by what is on the bus behind it, which is a higher one, and stays by the window over it.
 use Rattle.std.proofs.Common.{◌≡◌, ℕ, zero, suc, ◌+◌, ◌<◌, ◌≤◌, inl, inr, List, [], ◌∷◌, ◌++◌, map, Bool, true, false, cond, ◌&&◌, not, arith, sym, ◌∙◌, ap, refl}
 use Rattle.std.specs.List.{Contains, filter, flat_map, list_all}
 use Rattle.std.proofs.lemmas.Bool.{cases_Bool, and_parts}
@@ -12,11 +12,11 @@ use Rattle.plan_spec.proofs.Planning.AboveBuses.{all_above, all_above_root}
 use Rattle.plan_spec.proofs.Planning.PlacedItems.{same_class_is}
 use Rattle.plan_spec.proofs.Planning.Safe.{slots_of, order_of}
 use Rattle.settle_spec.specs.Lists.{Request}
-use Rattle.settle_spec.specs.Parts.{Region, regions, regions_of, parts_of, addresses, class_in, same_space}
-use Rattle.settle_spec.specs.Stands.{window_region, region_space, stands}
-use Rattle.settle_spec.specs.Items.{Item, in_turn, own_item, is_own, has_of, items_of, items_on, new_window, taken_on, are_placed, place_all, has_places, has_room, holds_within, holds, stays}
+use Rattle.settle_spec.specs.Parts.{FunctionPart, system_parts, function_parts, parts_of, addresses, class_in, are_same_space}
+use Rattle.settle_spec.specs.Stands.{window_part, part_space, stands}
+use Rattle.settle_spec.specs.Items.{Item, in_turn, own_item, is_own, has_of, items_of, bus_items, new_window, taken_on, are_placed, place_all, has_places, has_room, holds_within, has_room_behind, stays}
 use Rattle.settle_spec.proofs.Nested.{on_it}
-use Rattle.stand_laws.specs.Holding.{IsHolding}
+use Rattle.stand_laws.specs.Holding.{TellsRoom}
 use Rattle.stand_laws.proofs.Standing.{part_of, stands_by_itself}
 
 -- ---- lists by what is in them
@@ -33,17 +33,17 @@ pieces_same f g (x ∷ xs) same =
     ap (λ ys. ys ++ flat_map f xs) (same x (in_head x xs)) ∙ ap (λ ys. g x ++ ys) (pieces_same f g xs (λ y listed. same y (in_tail x xs y listed)))
 
 module _ (q : Request) (s : System) where
-  holds_step : (depth : ℕ) (r : Region) → holds_within q s (suc depth) r ≡ (stands q s r && has_room q s (holds_within q s depth) r.function r.part)
+  holds_step : (depth : ℕ) (r : FunctionPart) → holds_within q s (suc depth) r ≡ (stands q s r && has_room q s (holds_within q s depth) r.function r.part)
   unfolding holds_within
   holds_step depth r = refl
 
   -- ---- room is told by what is on the bus behind
 
-  module _ (test other : Region → Bool) (bus : ℕ) (c : WindowKind) (same : (t : Region) → Contains s t.function → are_siblings q.roots bus t.function.slot.bus ≡ true → class_in q s t.function t.part ≡ c → test t ≡ other t) where
+  module _ (test other : FunctionPart → Bool) (bus : ℕ) (c : WindowKind) (same : (t : FunctionPart) → Contains s t.function → are_siblings q.roots bus t.function.slot.bus ≡ true → class_in q s t.function t.part ≡ c → test t ≡ other t) where
     -- tests that agree on what is of a class on a bus leave the same items of it there
-    own_same : (f : Function) → Contains s f → are_siblings q.roots bus f.slot.bus ≡ true → filter (λ r. is_own q s c r && not (test r)) (regions_of q s f) ≡ filter (λ r. is_own q s c r && not (other r)) (regions_of q s f)
+    own_same : (f : Function) → Contains s f → are_siblings q.roots bus f.slot.bus ≡ true → filter (λ r. is_own q s c r && not (test r)) (function_parts q s f) ≡ filter (λ r. is_own q s c r && not (other r)) (function_parts q s f)
     own_same f listed beside =
-        filter_same (λ r. is_own q s c r && not (test r)) (λ r. is_own q s c r && not (other r)) (regions_of q s f) (λ t has.
+        filter_same (λ r. is_own q s c r && not (test r)) (λ r. is_own q s c r && not (other r)) (function_parts q s f) (λ t has.
         let made : IsMade (λ p. record { function = f; part = p }) (parts_of q s f) t = in_map_to (λ p. record { function = f; part = p }) (parts_of q s f) t has in
         ap (λ x. is_own q s c x && not (test x)) (sym made.is)
         ∙ of_part made.from
@@ -58,9 +58,9 @@ module _ (q : Request) (s : System) where
         ]
 
     abbrev window_item : Function → Bool → List Item
-    window_item f kept = cond (is_bridge f && has_of q s c f && not kept) (record { region = window_region c f; class = c; extent = new_window q s c f } ∷ []) []
+    window_item f kept = cond (is_bridge f && has_of q s c f && not kept) (record { region = window_part c f; class = c; extent = new_window q s c f } ∷ []) []
 
-    pub items_same : items_on q s c test (new_window q s c) bus ≡ items_on q s c other (new_window q s c) bus
+    pub items_same : bus_items q s c test (new_window q s c) bus ≡ bus_items q s c other (new_window q s c) bus
     items_same =
         ap in_turn (pieces_same (λ f. cond (are_siblings q.roots bus f.slot.bus) (items_of q s c test (new_window q s c) f) []) (λ f. cond (are_siblings q.roots bus f.slot.bus) (items_of q s c other (new_window q s c) f) []) s of_function)
       where
@@ -68,37 +68,37 @@ module _ (q : Request) (s : System) where
         of_function f listed = elim (cases_Bool (are_siblings q.roots bus f.slot.bus)) [
           | inl beside ↦
               ap (λ b. cond b (items_of q s c test (new_window q s c) f) []) beside
-              ∙ ap (λ rs. map (own_item c) rs ++ window_item f (test (window_region c f))) (own_same f listed beside)
-              ∙ ap (λ b. map (own_item c) (filter (λ r. is_own q s c r && not (other r)) (regions_of q s f)) ++ window_item f b) (same (window_region c f) listed beside refl)
+              ∙ ap (λ rs. map (own_item c) rs ++ window_item f (test (window_part c f))) (own_same f listed beside)
+              ∙ ap (λ b. map (own_item c) (filter (λ r. is_own q s c r && not (other r)) (function_parts q s f)) ++ window_item f b) (same (window_part c f) listed beside refl)
               ∙ sym (ap (λ b. cond b (items_of q s c other (new_window q s c) f) []) beside)
           | inr apart ↦
               ap (λ b. cond b (items_of q s c test (new_window q s c) f) []) apart
               ∙ sym (ap (λ b. cond b (items_of q s c other (new_window q s c) f) []) apart)
         ]
 
-  module _ (test other : Region → Bool) (bus : ℕ) (same : (t : Region) → Contains s t.function → are_siblings q.roots bus t.function.slot.bus ≡ true → test t ≡ other t) where
+  module _ (test other : FunctionPart → Bool) (bus : ℕ) (same : (t : FunctionPart) → Contains s t.function → are_siblings q.roots bus t.function.slot.bus ≡ true → test t ≡ other t) where
     -- tests that agree on a bus keep the same there
-    kept_same : (on : Bool) (t : Region) → are_siblings q.roots bus t.function.slot.bus ≡ on → Contains s t.function → (space : Bool) → (on && space && test t) ≡ (on && space && other t)
+    kept_same : (on : Bool) (t : FunctionPart) → are_siblings q.roots bus t.function.slot.bus ≡ on → Contains s t.function → (space : Bool) → (on && space && test t) ≡ (on && space && other t)
     kept_same true t beside listed space = ap (λ b. space && b) (same t listed beside)
     kept_same false t apart listed space = refl
 
     taken_same : (c : WindowKind) → taken_on q s c test bus ≡ taken_on q s c other bus
     taken_same c =
         ap (map addresses) (filter_same
-        (λ r. are_siblings q.roots bus r.function.slot.bus && same_space (window_space c) (region_space r) && test r)
-        (λ r. are_siblings q.roots bus r.function.slot.bus && same_space (window_space c) (region_space r) && other r) (regions q s)
-        (λ t has. kept_same (are_siblings q.roots bus t.function.slot.bus) t refl (part_of q s t has).listed (same_space (window_space c) (region_space t))))
+        (λ r. are_siblings q.roots bus r.function.slot.bus && are_same_space (window_space c) (part_space r) && test r)
+        (λ r. are_siblings q.roots bus r.function.slot.bus && are_same_space (window_space c) (part_space r) && other r) (system_parts q s)
+        (λ t has. kept_same (are_siblings q.roots bus t.function.slot.bus) t refl (part_of q s t has).listed (are_same_space (window_space c) (part_space t))))
 
     places_same : (b : Function) (c : WindowKind) → secondary b ≡ bus → has_places q s test b c ≡ has_places q s other b c
     places_same b c behind =
-        ap (λ n. are_placed (place_all (λ i. addresses (window_region c b) ∷ []) (taken_on q s c test n) (items_on q s c test (new_window q s c) n))) behind
-        ∙ ap (λ xs. are_placed (place_all (λ i. addresses (window_region c b) ∷ []) xs (items_on q s c test (new_window q s c) bus))) (taken_same c)
-        ∙ ap (λ xs. are_placed (place_all (λ i. addresses (window_region c b) ∷ []) (taken_on q s c other bus) xs)) (items_same test other bus c (λ t listed beside class. same t listed beside))
-        ∙ sym (ap (λ n. are_placed (place_all (λ i. addresses (window_region c b) ∷ []) (taken_on q s c other n) (items_on q s c other (new_window q s c) n))) behind)
+        ap (λ n. are_placed (place_all (λ i. addresses (window_part c b) ∷ []) (taken_on q s c test n) (bus_items q s c test (new_window q s c) n))) behind
+        ∙ ap (λ xs. are_placed (place_all (λ i. addresses (window_part c b) ∷ []) xs (bus_items q s c test (new_window q s c) bus))) (taken_same c)
+        ∙ ap (λ xs. are_placed (place_all (λ i. addresses (window_part c b) ∷ []) (taken_on q s c other bus) xs)) (items_same test other bus c (λ t listed beside class. same t listed beside))
+        ∙ sym (ap (λ n. are_placed (place_all (λ i. addresses (window_part c b) ∷ []) (taken_on q s c other n) (bus_items q s c other (new_window q s c) n))) behind)
 
   module _ (system : IsSystem s) (nested : IsNested q.roots s) where
-    -- so what stands holds by what is on a higher bus
-    room_same : (test other : Region → Bool) (f : Function) (p : Part) → Contains s f → stands q s (record { function = f; part = p }) ≡ true → ((t : Region) → Contains s t.function → f.slot.bus < t.function.slot.bus → test t ≡ other t)
+    -- so what stands has_room_behind by what is on a higher bus
+    room_same : (test other : FunctionPart → Bool) (f : Function) (p : Part) → Contains s f → stands q s (record { function = f; part = p }) ≡ true → ((t : FunctionPart) → Contains s t.function → f.slot.bus < t.function.slot.bus → test t ≡ other t)
         → has_room q s test f p ≡ has_room q s other f p
     room_same test other f (Bar n) listed is same = refl
     room_same test other f Rom listed is same = refl
@@ -113,14 +113,14 @@ module _ (q : Request) (s : System) where
         bridge_of : (g : Function) (k : WindowKind) → is_open g k ≡ true → is_bridge g ≡ true
         bridge_of g k opens = (and_parts (is_bridge g) _ (and_parts _ _ opens).0).0
 
-    pub both_same : (test other : Region → Bool) (r : Region) → Contains s r.function → ((t : Region) → Contains s t.function → r.function.slot.bus < t.function.slot.bus → test t ≡ other t)
+    pub both_same : (test other : FunctionPart → Bool) (r : FunctionPart) → Contains s r.function → ((t : FunctionPart) → Contains s t.function → r.function.slot.bus < t.function.slot.bus → test t ≡ other t)
         → (stands q s r && has_room q s test r.function r.part) ≡ (stands q s r && has_room q s other r.function r.part)
     both_same test other r listed same = elim (cases_Bool (stands q s r)) [
       | inl is ↦ ap (λ b. stands q s r && b) (room_same test other r.function r.part listed is same)
       | inr off ↦ ap (λ b. b && has_room q s test r.function r.part) off ∙ sym (ap (λ b. b && has_room q s other r.function r.part) off)
     ]
 
-    enough : (d e : ℕ) (r : Region) → Contains s r.function → 256 ≤ r.function.slot.bus + d → 256 ≤ r.function.slot.bus + e → holds_within q s d r ≡ holds_within q s e r
+    enough : (d e : ℕ) (r : FunctionPart) → Contains s r.function → 256 ≤ r.function.slot.bus + d → 256 ≤ r.function.slot.bus + e → holds_within q s d r ≡ holds_within q s e r
     enough zero e r listed hd he = absurd (let low = (slots_of s system r.function listed).0 in let no : ⊥ = omega (arith, low, hd) in no)
     enough (suc d) zero r listed hd he = absurd (let low = (slots_of s system r.function listed).0 in let no : ⊥ = omega (arith, low, he) in no)
     enough (suc d) (suc e) r listed hd he =
@@ -128,37 +128,37 @@ module _ (q : Request) (s : System) where
         ∙ both_same (holds_within q s d) (holds_within q s e) r listed (λ t in_t up. enough d e t in_t (omega (arith, hd, up)) (omega (arith, he, up)))
         ∙ sym (holds_step e r)
 
-    pub holds_by_bus : IsHolding q s (holds q s)
+    pub holds_by_bus : TellsRoom q s (has_room_behind q s)
     holds_by_bus r listed =
         holds_step 255 r
         ∙ both_same (holds_within q s 255) (holds_within q s 256) r listed (λ t in_t up. enough 255 256 t in_t (omega (arith, up)) (omega (arith, up)))
 
-    module _ (test : Region → Bool) (holding : IsHolding q s test) where
-      as_within : (d : ℕ) (r : Region) → Contains s r.function → 256 ≤ r.function.slot.bus + d → test r ≡ holds_within q s d r
+    module _ (test : FunctionPart → Bool) (holding : TellsRoom q s test) where
+      as_within : (d : ℕ) (r : FunctionPart) → Contains s r.function → 256 ≤ r.function.slot.bus + d → test r ≡ holds_within q s d r
       as_within zero r listed high = absurd (let low = (slots_of s system r.function listed).0 in let no : ⊥ = omega (arith, low, high) in no)
       as_within (suc d) r listed high =
           holding r listed
           ∙ both_same test (holds_within q s d) r listed (λ t in_t up. as_within d t in_t (omega (arith, high, up)))
           ∙ sym (holds_step d r)
 
-      pub holds_alone : (r : Region) → Contains s r.function → test r ≡ holds q s r
+      pub holds_alone : (r : FunctionPart) → Contains s r.function → test r ≡ has_room_behind q s r
       holds_alone r listed = as_within 256 r listed (omega arith)
 
     -- ---- what stays
 
-    pub stays_on_root : (r : Region) → is_root q.roots r.function.slot.bus ≡ true → stays q s r ≡ holds q s r
+    pub stays_on_root : (r : FunctionPart) → is_root q.roots r.function.slot.bus ≡ true → stays q s r ≡ has_room_behind q s r
     stays_on_root r root =
-        let above = λ (b : Function). holds q s (window_region (class_in q s r.function r.part) b) in
-        ap (λ b. holds q s r && b) (all_above_root q.roots s system nested above r.function.slot.bus ((root_means q.roots r.function.slot.bus).0 root)) ∙ with_true (holds q s r)
+        let above = λ (b : Function). has_room_behind q s (window_part (class_in q s r.function r.part) b) in
+        ap (λ b. has_room_behind q s r && b) (all_above_root q.roots s system nested above r.function.slot.bus ((root_means q.roots r.function.slot.bus).0 root)) ∙ with_true (has_room_behind q s r)
       where
         with_true : (b : Bool) → (b && true) ≡ b
         with_true true = refl
         with_true false = refl
 
-    pub stays_by_bus : (r : Region) (b : Function) → LeadsTo s b r.function.slot.bus → stays q s r ≡ (holds q s r && stays q s (window_region (class_in q s r.function r.part) b))
+    pub stays_by_bus : (r : FunctionPart) (b : Function) → LeadsTo s b r.function.slot.bus → stays q s r ≡ (has_room_behind q s r && stays q s (window_part (class_in q s r.function r.part) b))
     stays_by_bus r b (listed, bridge, to) =
-        let above = λ (d : Function). holds q s (window_region (class_in q s r.function r.part) d) in
-        ap (λ x. holds q s r && x) (
+        let above = λ (d : Function). has_room_behind q s (window_part (class_in q s r.function r.part) d) in
+        ap (λ x. has_room_behind q s r && x) (
         ap (λ n. list_all above (bridges_above s n)) (sym to)
         ∙ all_above q.roots s system nested above b listed bridge
         ∙ and_swap (list_all above (bridges_above s b.slot.bus)) (above b))

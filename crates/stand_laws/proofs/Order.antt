@@ -6,9 +6,9 @@ use Rattle.std.proofs.lemmas.Bool.{cases_Bool, both_ways}
 use Rattle.std.proofs.lemmas.Bool.Decides.{nat_tests}
 use Rattle.pci_spec.proofs.Members.{in_nil, in_cons_cases}
 use Rattle.settle_spec.specs.Lists.{Request}
-use Rattle.settle_spec.specs.Parts.{Region, addresses}
+use Rattle.settle_spec.specs.Parts.{FunctionPart, addresses}
 use Rattle.stand_laws.specs.Order.{level, comes_first}
-use Rattle.settle_spec.specs.Stands.{is_fixed, is_on, count, rank, first_by, precedes}
+use Rattle.settle_spec.specs.Stands.{is_fixed_part, is_part_on, count, rank, first_by, part_precedes}
 
 -- ---- precedence
 
@@ -46,30 +46,30 @@ first_else false true x y rest h = refl
 first_else false false x y rest h = rest h
 
 module _ (q : Request) where
-  abbrev size : Region → ℕ
+  abbrev size : FunctionPart → ℕ
   size r = count (addresses r)
 
-  pub precedes_trans : (r t u : Region) → precedes q r t ≡ true → precedes q t u ≡ true → precedes q r u ≡ true
+  pub precedes_trans : (r t u : FunctionPart) → part_precedes q r t ≡ true → part_precedes q t u ≡ true → part_precedes q r u ≡ true
   precedes_trans r t u h k =
-      first_trans (is_fixed q r) (is_fixed q t) (is_fixed q u)
-      (first_by (is_on r) (is_on t) (larger (size r) (size t) (rank r) (rank t)))
-      (first_by (is_on t) (is_on u) (larger (size t) (size u) (rank t) (rank u)))
-      (first_by (is_on r) (is_on u) (larger (size r) (size u) (rank r) (rank u)))
-      (first_trans (is_on r) (is_on t) (is_on u)
+      first_trans (is_fixed_part q r) (is_fixed_part q t) (is_fixed_part q u)
+      (first_by (is_part_on r) (is_part_on t) (larger (size r) (size t) (rank r) (rank t)))
+      (first_by (is_part_on t) (is_part_on u) (larger (size t) (size u) (rank t) (rank u)))
+      (first_by (is_part_on r) (is_part_on u) (larger (size r) (size u) (rank r) (rank u)))
+      (first_trans (is_part_on r) (is_part_on t) (is_part_on u)
       (larger (size r) (size t) (rank r) (rank t)) (larger (size t) (size u) (rank t) (rank u)) (larger (size r) (size u) (rank r) (rank u))
       (larger_trans (size r) (size t) (size u) (rank r) (rank t) (rank u))) h k
 
-  pub precedes_itself : (r : Region) → precedes q r r ≡ false
+  pub precedes_itself : (r : FunctionPart) → part_precedes q r r ≡ false
   precedes_itself r =
-      first_itself (is_fixed q r) (first_by (is_on r) (is_on r) (larger (size r) (size r) (rank r) (rank r)))
-      (first_itself (is_on r) (larger (size r) (size r) (rank r) (rank r)) (larger_itself (size r) (rank r)))
+      first_itself (is_fixed_part q r) (first_by (is_part_on r) (is_part_on r) (larger (size r) (size r) (rank r) (rank r)))
+      (first_itself (is_part_on r) (larger (size r) (size r) (rank r) (rank r)) (larger_itself (size r) (rank r)))
 
-  pub precedes_else : (r t : Region) → rank r ≢ rank t → precedes q r t ≡ false → precedes q t r ≡ true
+  pub precedes_else : (r t : FunctionPart) → rank r ≢ rank t → part_precedes q r t ≡ false → part_precedes q t r ≡ true
   precedes_else r t differ h =
-      first_else (is_fixed q r) (is_fixed q t)
-      (first_by (is_on r) (is_on t) (larger (size r) (size t) (rank r) (rank t)))
-      (first_by (is_on t) (is_on r) (larger (size t) (size r) (rank t) (rank r)))
-      (first_else (is_on r) (is_on t) (larger (size r) (size t) (rank r) (rank t)) (larger (size t) (size r) (rank t) (rank r))
+      first_else (is_fixed_part q r) (is_fixed_part q t)
+      (first_by (is_part_on r) (is_part_on t) (larger (size r) (size t) (rank r) (rank t)))
+      (first_by (is_part_on t) (is_part_on r) (larger (size t) (size r) (rank t) (rank r)))
+      (first_else (is_part_on r) (is_part_on t) (larger (size r) (size t) (rank r) (rank t)) (larger (size t) (size r) (rank t) (rank r))
       (larger_else (size r) (size t) (rank r) (rank t) differ)) h
 
   -- ---- buses
@@ -80,16 +80,16 @@ module _ (q : Request) where
   level_itself : (a : ℕ) (x : Bool) → x ≡ false → (nat_lt a a || (a == a && x)) ≡ false
   level_itself a x rest = grind (arith, nat_tests)
 
-  pub first_first : (r t u : Region) → comes_first q r t ≡ true → comes_first q t u ≡ true → comes_first q r u ≡ true
+  pub first_first : (r t u : FunctionPart) → comes_first q r t ≡ true → comes_first q t u ≡ true → comes_first q r u ≡ true
   first_first r t u h k =
       by_level (level q r.function.slot.bus) (level q t.function.slot.bus) (level q u.function.slot.bus)
-      (precedes q r t) (precedes q t u) (precedes q r u) (precedes_trans r t u) h k
+      (part_precedes q r t) (part_precedes q t u) (part_precedes q r u) (precedes_trans r t u) h k
 
-  pub not_itself : (r : Region) → comes_first q r r ≡ false
-  not_itself r = level_itself (level q r.function.slot.bus) (precedes q r r) (precedes_itself r)
+  pub not_itself : (r : FunctionPart) → comes_first q r r ≡ false
+  not_itself r = level_itself (level q r.function.slot.bus) (part_precedes q r r) (precedes_itself r)
 
   -- how many of a list come before a part
-  abbrev pub before : List Region → Region → ℕ
+  abbrev pub before : List FunctionPart → FunctionPart → ℕ
   before all r = length (filter (λ t. comes_first q t r) all)
 
 -- ---- counted
@@ -160,10 +160,10 @@ not_all_pass p (x ∷ xs) t listed off = elim (in_cons_cases x xs t listed) [
       ]
 ]
 
-module _ (q : Request) (all : List Region) where
-  pub falls : (t r : Region) → Contains all t → comes_first q t r ≡ true → before q all t < before q all r
+module _ (q : Request) (all : List FunctionPart) where
+  pub falls : (t r : FunctionPart) → Contains all t → comes_first q t r ≡ true → before q all t < before q all r
   falls t r listed first =
       fewer (λ u. comes_first q u t) (λ u. comes_first q u r) all (λ u earlier. first_first q u t r earlier first) t listed (not_itself q t) first
 
-  pub few : (r : Region) → Contains all r → before q all r < length all
+  pub few : (r : FunctionPart) → Contains all r → before q all r < length all
   few r listed = not_all_pass (λ u. comes_first q u r) all r listed (not_itself q r)

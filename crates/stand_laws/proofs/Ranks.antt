@@ -12,7 +12,7 @@ use Rattle.pci_spec.specs.System.{System, Function, Part, Bar, Rom, Window, IsSy
 use Rattle.pci_spec.proofs.Members.{in_filter_to, in_map_to, in_range_to, IsMade, pairs_append, pairs_map, pairs_filter, pairs_range, pairs_flat_map}
 use Rattle.plan_spec.proofs.Planning.AllItems.{slots_rise}
 use Rattle.settle_spec.specs.Lists.{Request}
-use Rattle.settle_spec.specs.Parts.{Region, regions, regions_of, parts_of, header_bars, header_parts, is_part}
+use Rattle.settle_spec.specs.Parts.{FunctionPart, system_parts, function_parts, parts_of, header_bars, header_parts, is_part}
 use Rattle.settle_spec.specs.Stands.{rank}
 
 window_low : (c : WindowKind) → 0x1c ≤ window_register c
@@ -99,23 +99,23 @@ module _ (q : Request) (s : System) (f : Function) where
     | inr at_other ↦ others_low o at_other
   ]
 
-  abbrev region : Part → Region
+  abbrev region : Part → FunctionPart
   region p = record { function = f; part = p }
 
-  own_rise : AllPairs (λ r t. rank r < rank t) (regions_of q s f)
+  own_rise : AllPairs (λ r t. rank r < rank t) (function_parts q s f)
   own_rise = pairs_map (λ r t. rank r < rank t) region (parts_of q s f)
       (λ i j d up inside. let less = parts_rise i j d up inside in omega (arith, less))
 
   -- the parts of a function have the ranks of its slot
-  in_slot : (r : Region) → Contains (regions_of q s f) r → (slot_number f.slot * 256 ≤ rank r) × (rank r < slot_number f.slot * 256 + 64)
+  in_slot : (r : FunctionPart) → Contains (function_parts q s f) r → (slot_number f.slot * 256 ≤ rank r) × (rank r < slot_number f.slot * 256 + 64)
   in_slot r has =
       let made : IsMade region (parts_of q s f) r = in_map_to region (parts_of q s f) r has in
       let low = part_low made.from made.has in
       subst (λ t. (slot_number f.slot * 256 ≤ rank t) × (rank t < slot_number f.slot * 256 + 64)) made.is (omega (arith, low), omega (arith, low))
 
-pub ranks_rise : (q : Request) (s : System) → IsSystem s → AllPairs (λ r t. rank r < rank t) (regions q s)
+pub ranks_rise : (q : Request) (s : System) → IsSystem s → AllPairs (λ r t. rank r < rank t) (system_parts q s)
 ranks_rise q s system =
-    pairs_flat_map (λ (f g : Function). slot_number f.slot < slot_number g.slot) (λ r t. rank r < rank t) (regions_of q s) s (slots_rise s system)
+    pairs_flat_map (λ (f g : Function). slot_number f.slot < slot_number g.slot) (λ r t. rank r < rank t) (function_parts q s) s (slots_rise s system)
     (λ f listed. own_rise q s f)
     (λ f g r t in_f in_g less at_r at_t.
     let below = (in_slot q s f r at_r).1 in

@@ -4,11 +4,11 @@ use Rattle.std.specs.Bool.{◌==◌, if◌then◌else◌}
 use Rattle.pci_spec.specs.Slot.{Slot}
 use Rattle.pci_spec.specs.Number.{byte_at}
 use Rattle.pci_spec.specs.Header.{secondary_bus}
-use Rattle.number_spec.specs.Board.{Nodes, Node, Place, Behind, Next, is_type_1, passes_on, on_bus, behind_bridges}
+use Rattle.number_spec.specs.Board.{Nodes, Node, NodePlace, Behind, Next, is_type_1, passes_on, on_bus, behind_bridges}
 use Rattle.test_numbering.specs.Tree.{first_byte, IsPutFirst}
 
 -- the nodes behind a bridge that answer
-abbrev pub beyond : List ℕ → Nodes → Slot → List Place
+abbrev pub beyond : List ℕ → Nodes → Slot → List NodePlace
 beyond image behind access =
     if is_type_1 image && secondary_bus image == access.bus then on_bus behind access
     else if is_type_1 image && passes_on image access.bus then behind_bridges behind access else []
@@ -34,15 +34,15 @@ module _ (d f : ℕ) (image : List ℕ) (behind others : Nodes) where
   abbrev node : Nodes
   node = Node d f image behind others
 
-  first_next : (places : List Place) (offset : ℕ) → first_byte node (map Next places) offset ≡ first_byte others places offset
+  first_next : (places : List NodePlace) (offset : ℕ) → first_byte node (map Next places) offset ≡ first_byte others places offset
   first_next [] offset = refl
   first_next (place ∷ places) offset = refl
 
-  put_next : (places : List Place) (offset : ℕ) (done : Bool) (after : Nodes) → IsPutFirst others places offset done after → IsPutFirst node (map Next places) offset done (Node d f image behind after)
+  put_next : (places : List NodePlace) (offset : ℕ) (done : Bool) (after : Nodes) → IsPutFirst others places offset done after → IsPutFirst node (map Next places) offset done (Node d f image behind after)
   put_next [] offset done after put = (put.0, ap (λ n. Node d f image behind n) put.1)
   put_next (place ∷ places) offset done after put = (put.0, put.1, ap (λ n. Node d f image behind n) put.2)
 
-  put_inside : (place : Place) (places rest : List Place) (offset : ℕ) (done : Bool) (after : Nodes) → IsPutFirst behind (place ∷ places) offset done after → IsPutFirst node (map Behind (place ∷ places) ++ rest) offset done (Node d f image after others)
+  put_inside : (place : NodePlace) (places rest : List NodePlace) (offset : ℕ) (done : Bool) (after : Nodes) → IsPutFirst behind (place ∷ places) offset done after → IsPutFirst node (map Behind (place ∷ places) ++ rest) offset done (Node d f image after others)
   put_inside place places rest offset done after put = (put.0, put.1, ap (λ n. Node d f image n others) put.2)
 
   module _ (access : Slot) (offset : ℕ) where
@@ -58,28 +58,28 @@ module _ (d f : ℕ) (image : List ℕ) (behind others : Nodes) where
     pub put_miss : (done : Bool) (after : Nodes) → (d == access.device && f == access.function) ≡ false → IsPutFirst others (on_bus others access) offset done after → IsPutFirst node (on_bus node access) offset done (Node d f image behind after)
     put_miss done after miss put = rw miss (put_next (on_bus others access) offset done after put)
 
-    found_of : (xs : List Place) (b : ℕ) → first_byte behind xs offset ≡ Some b → first_byte node (map Behind xs ++ map Next (behind_bridges others access)) offset ≡ Some b
+    found_of : (xs : List NodePlace) (b : ℕ) → first_byte behind xs offset ≡ Some b → first_byte node (map Behind xs ++ map Next (behind_bridges others access)) offset ≡ Some b
     found_of [] b found = cc found
     found_of (x ∷ xs) b found = found
 
     pub byte_found : (b : ℕ) → first_byte behind (beyond image behind access) offset ≡ Some b → first_byte node (behind_bridges node access) offset ≡ Some b
     byte_found b found = found_of (beyond image behind access) b found
 
-    none_of : (xs : List Place) → first_byte behind xs offset ≡ None → first_byte node (map Behind xs ++ map Next (behind_bridges others access)) offset ≡ first_byte others (behind_bridges others access) offset
+    none_of : (xs : List NodePlace) → first_byte behind xs offset ≡ None → first_byte node (map Behind xs ++ map Next (behind_bridges others access)) offset ≡ first_byte others (behind_bridges others access) offset
     none_of [] none = first_next (behind_bridges others access) offset
     none_of (x ∷ xs) none = cc none
 
     pub byte_none : first_byte behind (beyond image behind access) offset ≡ None → first_byte node (behind_bridges node access) offset ≡ first_byte others (behind_bridges others access) offset
     byte_none none = none_of (beyond image behind access) none
 
-    put_found_of : (xs : List Place) (done : Bool) (after : Nodes) → done ≡ true → IsPutFirst behind xs offset done after → IsPutFirst node (map Behind xs ++ map Next (behind_bridges others access)) offset true (Node d f image after others)
+    put_found_of : (xs : List NodePlace) (done : Bool) (after : Nodes) → done ≡ true → IsPutFirst behind xs offset done after → IsPutFirst node (map Behind xs ++ map Next (behind_bridges others access)) offset true (Node d f image after others)
     put_found_of [] done after is put = cc (put.0, is)
     put_found_of (x ∷ xs) done after is put = let p = put_inside x xs (map Next (behind_bridges others access)) offset done after put in (refl, p.1, p.2)
 
     pub put_found : (done : Bool) (after : Nodes) → done ≡ true → IsPutFirst behind (beyond image behind access) offset done after → IsPutFirst node (behind_bridges node access) offset true (Node d f image after others)
     put_found done after is put = put_found_of (beyond image behind access) done after is put
 
-    put_none_of : (xs : List Place) (done more : Bool) (same after : Nodes) → done ≡ false → IsPutFirst behind xs offset done same → IsPutFirst others (behind_bridges others access) offset more after → IsPutFirst node (map Behind xs ++ map Next (behind_bridges others access)) offset more (Node d f image same after)
+    put_none_of : (xs : List NodePlace) (done more : Bool) (same after : Nodes) → done ≡ false → IsPutFirst behind xs offset done same → IsPutFirst others (behind_bridges others access) offset more after → IsPutFirst node (map Behind xs ++ map Next (behind_bridges others access)) offset more (Node d f image same after)
     put_none_of [] done more same after is put rest = subst (λ n. IsPutFirst node (map Next (behind_bridges others access)) offset more (Node d f image n after)) (sym put.1) (put_next (behind_bridges others access) offset more after rest)
     put_none_of (x ∷ xs) done more same after is put rest = cc (put.0, is)
 

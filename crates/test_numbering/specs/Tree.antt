@@ -3,7 +3,7 @@
 use Rattle.std.specs.Prelude.{◌≡◌, ℕ, nat_lt, Bool, true, false, ◌&&◌, Option, Some, None, List, [], ◌∷◌}
 use Rattle.std.specs.List.{list_all}
 use Rattle.pci_spec.specs.Number.{byte_at}
-use Rattle.number_spec.specs.Board.{Nodes, NoMore, Node, Board, Place, image_at}
+use Rattle.number_spec.specs.Board.{Nodes, NoMore, Node, Board, NodePlace, node_image}
 use Rattle.number_spec.specs.Access.{image_of, with_byte, with_byte_of}
 use Rattle.test_numbering.specs.declared.bus.Bus.{Bus}
 use Rattle.test_numbering.specs.declared.bus.Bus.TheVariants.{Empty, Holds'}
@@ -34,22 +34,22 @@ roots_rise (root ∷ roots) = all_above root.number roots && roots_rise roots
 -- ---- the first of the nodes that answer
 
 -- its byte
-abbrev pub first_byte : Nodes → List Place → ℕ → Option ℕ
+abbrev pub first_byte : Nodes → List NodePlace → ℕ → Option ℕ
 first_byte nodes [] offset = None
-first_byte nodes (place ∷ places) offset = Some (byte_at (image_at nodes place) offset)
+first_byte nodes (place ∷ places) offset = Some (byte_at (node_image nodes place) offset)
 
 -- It has a byte there, which may be the one that it had; where there is none, nothing changes.
-abbrev pub IsPutFirst : Nodes → List Place → ℕ → Bool → Nodes → Type 0
+abbrev pub IsPutFirst : Nodes → List NodePlace → ℕ → Bool → Nodes → Type 0
 IsPutFirst nodes [] offset done after = (done ≡ false) × (after ≡ nodes)
 IsPutFirst nodes (place ∷ places) offset done after =
     (done ≡ true) × (kept : ℕ) × (after ≡ with_byte nodes place offset kept)
 
 -- the same of a board
-abbrev pub first_byte_of : Board → List (ℕ × Place) → ℕ → Option ℕ
+abbrev pub first_byte_of : Board → List (ℕ × NodePlace) → ℕ → Option ℕ
 first_byte_of board [] offset = None
 first_byte_of board (place ∷ places) offset = Some (byte_at (image_of board place) offset)
 
-abbrev pub IsPutFirstOf : Board → List (ℕ × Place) → ℕ → Board → Type 0
+abbrev pub IsPutFirstOf : Board → List (ℕ × NodePlace) → ℕ → Board → Type 0
 IsPutFirstOf board [] offset after = after ≡ board
 IsPutFirstOf board (place ∷ places) offset after =
     (kept : ℕ) × (after ≡ with_byte_of board place offset kept)

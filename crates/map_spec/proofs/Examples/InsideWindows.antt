@@ -19,7 +19,7 @@ use Rattle.pci_spec.proofs.Examples.Samples.{slot, device, bridge, range, host}
 use Rattle.pci_spec.proofs.Examples.Sized.{answered}
 use Rattle.given_spec.specs.Given.{nothing_given}
 use Rattle.given_spec.proofs.OneList.{same_range}
-use Rattle.map_spec.specs.Lines.{BelongsUnder, Inside, IsClaimedOn, IsFreeIn, Lines, End, Free, Sits, IsBefore, marks, AreLinesAt}
+use Rattle.map_spec.specs.Lines.{BelongsUnder, Inside, IsClaimedOn, IsFreeIn, Lines, End, Free, Sits, MarkIsBefore, marks, AreLinesAt}
 use Rattle.map_spec.proofs.Nothing.{all_in_place}
 use Rattle.map_spec.proofs.Examples.Samples.{region}
 
@@ -328,5 +328,5 @@ free_before_between_and_behind = record {
     complete = all_that_is_free;
     rising = by_test (λ (r t : Range). r.last < t.first) (λ r t. nat_lt r.last t.first) (λ r t h. ltb-true r.last t.first h) runs refl;
   };
-  rising = by_test IsBefore (λ m n. nat_lt m.first n.first) (λ m n h. inl (ltb-true m.first n.first h)) (marks lines) refl;
+  rising = by_test MarkIsBefore (λ m n. nat_lt m.first n.first) (λ m n h. inl (ltb-true m.first n.first h)) (marks lines) refl;
 }

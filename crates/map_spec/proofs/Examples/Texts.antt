@@ -6,7 +6,7 @@ use Rattle.pci_spec.specs.System.{Io, Memory, Bar, Rom, Window}
 use Rattle.pci_spec.specs.Why.{scaled_text}
 use Rattle.pci_spec.proofs.Examples.Samples.{slot, range, device}
 use Rattle.map_spec.specs.Lines.{Lines, End, Free, Sits}
-use Rattle.map_spec.specs.MapText.{indent, lines_text, region_line, root_text, text_of}
+use Rattle.map_spec.specs.MapText.{indent, lines_text, map_region_line, root_text, map_text_of}
 use Rattle.map_spec.proofs.Examples.Samples.{line, region}
 
 -- bus 40 of a server: a bar in an I/O window, and three windows of memory, each inside the one before
@@ -50,12 +50,12 @@ empty_bus : root_text (record { bus = 0; io = End; memory = End }) ≡ []
 empty_bus = refl
 
 -- what each part is called
-prefetchable_bar : region_line 1 (region (slot 0x44 0 0) 0x20 (Bar 4) Memory true 0xfe600000 0xfe603fff)
+prefetchable_bar : map_region_line 1 (region (slot 0x44 0 0) 0x20 (Bar 4) Memory true 0xfe600000 0xfe603fff)
     ≡ line (codes "  00000000fe600000-00000000fe603fff 16K bar pref 44:00.0 20")
 unfolding indent scaled_text digits
 prefetchable_bar = refl
 
-rom : region_line 2 (region (slot 0 2 0) 0x30 Rom Memory false 0xfe9e0000 0xfe9effff)
+rom : map_region_line 2 (region (slot 0 2 0) 0x30 Rom Memory false 0xfe9e0000 0xfe9effff)
     ≡ line (codes "    00000000fe9e0000-00000000fe9effff 64K rom 00:02.0 30")
 unfolding indent scaled_text digits
 rom = refl
@@ -67,7 +67,7 @@ unfolding indent lines_text scaled_text digits
 all_free = refl
 
 -- what is out of place, regions that are left, and BARs that are off: the second function's Command enables memory alone
-aside_and_off : text_of (record {
+aside_and_off : map_text_of (record {
   roots = [];
   outside =
       region (slot 0 1 0) 0x30 Rom Memory false 0xd0000000 0xd00fffff

@@ -11,7 +11,7 @@ use Rattle.std.specs.List.{list_any, range_with_len}
 use Rattle.pci_spec.proofs.Examples.Samples.{bridge, device, slot, range, host}
 use Rattle.given_spec.specs.Words.{Vga}
 use Rattle.model_spec.specs.Words.{Words, no_words}
-use Rattle.model_spec.specs.Taken.{HasNoneBefore, IsTaken, IsWhere, bridge_aside, has_legacy_by, is_unnumbered, may_have_parts_by, parts_aside, vga_aside_by, without_buses}
+use Rattle.model_spec.specs.Taken.{HasNoOwnFaultBefore, IsTakenAs, IsWhere, bridge_aside, has_legacy_by, is_unnumbered, may_have_parts_by, parts_aside, vga_aside_by, without_buses}
 
 abbrev unnumbered_counts : Words
 unnumbered_counts = record no_words { unnumbered = true }
@@ -100,11 +100,11 @@ has_isa_enable : IsIn host (with_isa_enable ∷ []) (IsaEnable (slot 0 1 0))
 has_isa_enable = (with_isa_enable, (0, lit< tt, refl), refl, refl)
 
 -- `unnumbered` leaves the bridge as it is, with that fault
-unnumbered_leaves_it : (h : Function) → IsTaken unnumbered_counts [] with_isa_enable h → h ≡ with_isa_enable
+unnumbered_leaves_it : (h : Function) → IsTakenAs unnumbered_counts [] with_isa_enable h → h ≡ with_isa_enable
 unnumbered_leaves_it h taken =
     let same : taken.g ≡ with_isa_enable = left_where _ with_isa_enable _ taken.g taken.power (λ holds. cc holds.0) in
     left_where _ with_isa_enable _ h
-    (subst (λ g. IsWhere (IsTrue (may_have_parts_by unnumbered_counts (bridge_aside unnumbered_counts [] g)) × HasNoneBefore Place (bridge_aside unnumbered_counts [] g)) (bridge_aside unnumbered_counts [] g) (parts_aside unnumbered_counts (has_legacy_by unnumbered_counts with_isa_enable) (bridge_aside unnumbered_counts [] g)) h) same taken.parts)
+    (subst (λ g. IsWhere (IsTrue (may_have_parts_by unnumbered_counts (bridge_aside unnumbered_counts [] g)) × HasNoOwnFaultBefore Place (bridge_aside unnumbered_counts [] g)) (bridge_aside unnumbered_counts [] g) (parts_aside unnumbered_counts (has_legacy_by unnumbered_counts with_isa_enable) (bridge_aside unnumbered_counts [] g)) h) same taken.parts)
     (λ holds. absurd (holds.1 (IsaEnable (slot 0 1 0)) (lit< tt) has_isa_enable))
 
 number_of_isa_enable : fault_number (IsaEnable (slot 0 1 0)) ≡ 53

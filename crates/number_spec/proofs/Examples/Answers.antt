@@ -1,6 +1,6 @@
 -- Which nodes answer an access.
 use Rattle.std.proofs.Common.{◌≡◌, ℕ, List, [], ◌∷◌, refl, true, false, map, length, arith}
-use Rattle.number_spec.specs.Board.{Nodes, NoMore, Node, Place, Here, Behind, Next, Board, passes_on, goes_to, answers, access_of, image_at, IsSingle}
+use Rattle.number_spec.specs.Board.{Nodes, NoMore, Node, NodePlace, Here, Behind, Next, Board, passes_on, goes_to, answers, access_of, node_image, HasOneAnswer}
 use Rattle.number_spec.proofs.Examples.Boards.{image, device, bridge, slot, board, one, devices, single_bridge, tree, pair, fork, row}
 
 -- how many nodes answer at a device and function of some buses
@@ -81,17 +81,17 @@ device_passes_nothing_on = refl
 equal_secondary_numbers_answer_twice : answers (board (pair 0x000509 0x000505)) (slot 5 0 0) ≡ (0, Behind Here) ∷ (0, Next (Behind Here)) ∷ []
 equal_secondary_numbers_answer_twice = refl
 
-pair_with_equal_numbers_is_not_single : IsSingle (board (pair 0x000509 0x000505)) → ⊥
+pair_with_equal_numbers_is_not_single : HasOneAnswer (board (pair 0x000509 0x000505)) → ⊥
 pair_with_equal_numbers_is_not_single single = absurd (omega (arith, single (slot 5 0 0)))
 
 -- equal numbers behind a bridge answer twice once it passes their bus on
 equal_numbers_behind_a_closed_bridge : map (λ m. length (answers (board (fork m 0x010707 0x010707)) (slot 7 0 0))) (0x000000 ∷ 0x000101 ∷ 0x0001ff ∷ []) ≡ 0 ∷ 0 ∷ 2 ∷ []
 equal_numbers_behind_a_closed_bridge = refl
 
-fork_with_equal_numbers_is_not_single : IsSingle (board (fork 0x0001ff 0x010707 0x010707)) → ⊥
+fork_with_equal_numbers_is_not_single : HasOneAnswer (board (fork 0x0001ff 0x010707 0x010707)) → ⊥
 fork_with_equal_numbers_is_not_single single = absurd (omega (arith, single (slot 7 0 0)))
 
-two_nodes_at_one_place_are_not_single : IsSingle (board (device 1 0 (device 1 0 NoMore))) → ⊥
+two_nodes_at_one_place_are_not_single : HasOneAnswer (board (device 1 0 (device 1 0 NoMore))) → ⊥
 two_nodes_at_one_place_are_not_single single = absurd (omega (arith, single (slot 0 1 0)))
 
 -- ---- roots
@@ -117,7 +117,7 @@ no_root_below_the_first = refl
 abbrev numbered : Nodes
 numbered = tree 0x000103 0x010202 0x010303 0x000404
 
-abbrev places : List Place
+abbrev places : List NodePlace
 places = Here ∷ Behind Here ∷ Behind (Behind Here) ∷ Behind (Next Here) ∷ Behind (Next (Behind Here)) ∷ Next Here ∷ []
 
 -- to the bus that it is on, not to the one behind it
@@ -127,5 +127,5 @@ accesses_of_nodes = refl
 nodes_answer_them : map (λ place. answers (board numbered) (access_of 0 numbered place)) places ≡ map (λ place. (0, place) ∷ []) places
 nodes_answer_them = refl
 
-images_at_places : map (image_at numbered) places ≡ image 1 0x000103 ∷ image 1 0x010202 ∷ image 0 0 ∷ image 1 0x010303 ∷ image 0 0 ∷ image 1 0x000404 ∷ []
+images_at_places : map (node_image numbered) places ≡ image 1 0x000103 ∷ image 1 0x010202 ∷ image 0 0 ∷ image 1 0x010303 ∷ image 0 0 ∷ image 1 0x000404 ∷ []
 images_at_places = refl

@@ -2,7 +2,7 @@
 use Rattle.std.proofs.Common.{◌≡◌, ℕ, [], ◌∷◌, refl, ap, arith, true, false, map}
 use Rattle.pci_spec.specs.Number.{byte_at}
 use Rattle.number_spec.specs.Board.{Nodes, NoMore, Node}
-use Rattle.number_spec.specs.Numbered.{without_numbers, secondaries, number_of, greatest, have_ranges, IsNumbered}
+use Rattle.number_spec.specs.Numbered.{without_numbers, secondaries, secondary_number, greatest_from, have_ranges, IsNumbered}
 use Rattle.number_spec.proofs.Examples.Boards.{image, bridge, first_bridge, one, devices, single_bridge, tree, pair, fork, two_functions, row}
 
 -- no bridge, no number
@@ -67,7 +67,7 @@ number_of_the_root_is_wrong numbered = cc numbered.order
 old_number_above_the_last_is_wrong : IsNumbered 0 3 (tree 0 0 0 0x000505) (tree 0x000103 0x010202 0x010303 0x000505) → ⊥
 old_number_above_the_last_is_wrong numbered = cc numbered.order
 
-number_up_to_last : map (number_of 2 4) (1 ∷ 2 ∷ 3 ∷ 4 ∷ []) ≡ 3 ∷ 4 ∷ 0 ∷ 0 ∷ []
+number_up_to_last : map (secondary_number 2 4) (1 ∷ 2 ∷ 3 ∷ 4 ∷ []) ≡ 3 ∷ 4 ∷ 0 ∷ 0 ∷ []
 number_up_to_last = refl
 
 -- the last two registers mixed up, the bus behind as the primary one, the bridge's own number alone though
@@ -87,7 +87,7 @@ no_bus_is_0_in_all_three = refl
 device_shows_no_numbers : have_ranges 0 (Node 1 0 (image 0 0x010005) NoMore NoMore) ≡ true
 device_shows_no_numbers = refl
 
-greatest_wherever_it_is : map (greatest 2) ([] ∷ (1 ∷ []) ∷ (3 ∷ []) ∷ (1 ∷ 5 ∷ 3 ∷ []) ∷ []) ≡ 2 ∷ 2 ∷ 3 ∷ 5 ∷ []
+greatest_wherever_it_is : map (greatest_from 2) ([] ∷ (1 ∷ []) ∷ (3 ∷ []) ∷ (1 ∷ 5 ∷ 3 ∷ []) ∷ []) ≡ 2 ∷ 2 ∷ 3 ∷ 5 ∷ []
 greatest_wherever_it_is = refl
 
 -- ---- nodes stay what they are

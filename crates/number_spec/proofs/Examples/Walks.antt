@@ -1,7 +1,7 @@
 -- What the walk finds, and in which order.
 use Rattle.std.proofs.Common.{◌≡◌, [], ◌∷◌, refl, true, false, map, replicate}
 use Rattle.number_spec.specs.Board.{Nodes, NoMore, Node, Here, Behind, Next}
-use Rattle.number_spec.specs.Walk.{has_more, is_found, has_bus, comes_before, all_after, is_rising, is_walkable, walk}
+use Rattle.number_spec.specs.Walk.{has_more, is_found, has_bus, slot_comes_before, all_after, is_rising, is_walkable, walk}
 use Rattle.number_spec.proofs.Examples.Boards.{image, device, bridge, first_device, first_bridge, devices, tree, pair, two_functions}
 
 -- a bridge comes before what is behind it, and that before what follows on its own bus
@@ -41,7 +41,7 @@ function_behind_is_found = refl
 
 -- ---- order
 
-device_goes_before_function : comes_before 1 7 2 0 ∷ comes_before 2 0 1 7 ∷ comes_before 1 0 1 1 ∷ comes_before 1 0 1 0 ∷ [] ≡ true ∷ false ∷ true ∷ false ∷ []
+device_goes_before_function : slot_comes_before 1 7 2 0 ∷ slot_comes_before 2 0 1 7 ∷ slot_comes_before 1 0 1 1 ∷ slot_comes_before 1 0 1 0 ∷ [] ≡ true ∷ false ∷ true ∷ false ∷ []
 device_goes_before_function = refl
 
 rising : map is_rising (devices ∷ device 2 0 (device 1 0 NoMore) ∷ device 1 0 (device 1 0 NoMore) ∷ bridge 1 0 0 devices NoMore ∷ bridge 3 0 0 devices NoMore ∷ bridge 1 0 0 (device 2 0 (device 1 0 NoMore)) NoMore ∷ device 1 0 (device 2 0 (device 1 0 NoMore)) ∷ []) ≡ true ∷ false ∷ false ∷ true ∷ true ∷ false ∷ false ∷ []

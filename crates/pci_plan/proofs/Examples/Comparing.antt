@@ -12,7 +12,7 @@ use Rattle.pci_spec.specs.Text.{Block}
 use Rattle.plan_spec.proofs.Planning.Behind.{all_gives}
 use Rattle.pci_spec.proofs.Examples.Samples.{blank, slot}
 use Rattle.pci_plan.specs.declared.apply_fault.ApplyFault.TheVariants.{Changed, Port}
-use Rattle.pci_plan.specs.Comparing.{compared, ShowsAll, ShowsOther, IsChangedAt, IsRefusedAt, IsRegisterFault, IsFunctionFault, StartsAs, IsStartFault, moment}
+use Rattle.pci_plan.specs.Comparing.{compared, ShowsAll, ShowsOther, IsChangedAt, IsRefusedAt, IsCompareFault, IsFunctionFault, StartsAs, IsStartFault, moment}
 use Rattle.pci_plan.proofs.Examples.Behind.{open_at, here, there, image, alike, other_rom, both}
 
 -- what the function of one target shows is its own number
@@ -67,7 +67,7 @@ a_failure_refuses = inl (lit< tt)
 so_does_a_slot_without_a_function : IsRefusedAt (moment both 3) (slot 0 3 0) 3
 so_does_a_slot_without_a_function = inr refl
 
-no_write_was_made_yet : IsRegisterFault (moment both 3) here image (0x30, 4) 4 (Port 1) → ⊥
+no_write_was_made_yet : IsCompareFault (moment both 3) here image (0x30, 4) 4 (Port 1) → ⊥
 no_write_was_made_yet (none, refused) = let no : ⊥ = omega (arith, none) in no
 
 nor_of_a_function : IsFunctionFault (moment both 3) here image 4 (Port 1) → ⊥
@@ -76,7 +76,7 @@ nor_of_a_function (none, refused) = let no : ⊥ = omega (arith, none) in no
 its_own_slot_is_named : IsFunctionFault (moment (open_at here other_rom ∷ []) 3) here image 3 (Changed there 0x30) → ⊥
 its_own_slot_is_named (at, changed) = let e : 2 ≡ 1 = ap (λ (s : Slot). s.device) at in let no : ⊥ = omega (arith, e) in no
 
-and_its_own_register : IsRegisterFault (moment (open_at here other_rom ∷ []) 3) here image (0x30, 4) 3 (Changed here 0x10) → ⊥
+and_its_own_register : IsCompareFault (moment (open_at here other_rom ∷ []) 3) here image (0x30, 4) 3 (Changed here 0x10) → ⊥
 and_its_own_register (at, is, other) = let e : 0x10 ≡ 0x30 = is in let no : ⊥ = omega (arith, e) in no
 
 -- ---- all functions

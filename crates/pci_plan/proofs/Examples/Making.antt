@@ -10,7 +10,7 @@ use Rattle.plan_spec.proofs.Planning.Behind.{all_gives}
 use Rattle.pci_spec.proofs.Examples.Samples.{write}
 use Rattle.pci_plan.specs.Comparing.{moment}
 use Rattle.pci_plan.specs.declared.apply_fault.ApplyFault.TheVariants.{Stuck}
-use Rattle.pci_plan.specs.Making.{IsAccessible, IsRefused, IsUnread, IsShownOtherwise, IsLastWrite, AreReadBack, IsNextRefused, IsLastUnread, AreMade, IsPortStop, IsStuckStop}
+use Rattle.pci_plan.specs.Making.{IsAccessible, IsWriteRefused, IsUnread, IsShownOtherwise, IsLastWrite, AreReadBack, IsNextRefused, IsLastUnread, AreWritesMade, IsPortStop, IsStuckStop}
 use Rattle.pci_plan.proofs.Examples.Behind.{open_at, fixed_at, here, there, image, both}
 use Rattle.pci_plan.proofs.Examples.Comparing.{shown_by}
 
@@ -51,10 +51,10 @@ nor_an_odd_offset lawful = both_ways false refl lawful
 
 -- ---- one write
 
-refused_writes_are_not_counted : IsRefused (moment both 0) first 1 (moment both 1) 2 → ⊥
+refused_writes_are_not_counted : IsWriteRefused (moment both 0) first 1 (moment both 1) 2 → ⊥
 refused_writes_are_not_counted (is, same, refused) = let no : ⊥ = omega (arith, is) in no
 
-nor_made : IsRefused (moment both 0) first 1 (moment (write_targets both first) 1) 1 → ⊥
+nor_made : IsWriteRefused (moment both 0) first 1 (moment (write_targets both first) 1) 1 → ⊥
 unfolding number_of_bits written
 nor_made (is, same, refused) = let e : 0xe0000000 ≡ 0xfe000000 = ap bar_of same in let no : ⊥ = omega (arith, e) in no
 
@@ -111,7 +111,7 @@ before_the_next_one (suc zero) w less at =
     subst (λ (x : Write). ShowsNumber (after_writes both (first ∷ again ∷ [])) x.slot x.offset x.width x.value) (same_Some again w at) (write_target again (write_target first (open_at here image)), refl, refl)
 before_the_next_one (suc (suc k)) w less at = absurd (let impossible : ⊥ = omega (arith, less) in impossible)
 
-more_than_there_are_are_not_made : (after : List Target) → AreMade both writes 3 after → ⊥
+more_than_there_are_are_not_made : (after : List Target) → AreWritesMade both writes 3 after → ⊥
 more_than_there_are_are_not_made after made = let within = made.within in let no : ⊥ = omega (arith, within) in no
 
 -- ---- an access ends them

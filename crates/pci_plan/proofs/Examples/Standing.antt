@@ -10,7 +10,7 @@ use Rattle.pci_spec.specs.Machine.{Target, Write, number_of_bits, written, writa
 use Rattle.pci_spec.proofs.Members.{in_head}
 use Rattle.pci_spec.proofs.KeptBits.{command_is_writable}
 use Rattle.pci_spec.proofs.Examples.Samples.{put, zeros, write}
-use Rattle.pci_plan.specs.Applying.{AreSound, HasImages, AreSoundAfter, AreSoundWhileReadBack}
+use Rattle.pci_plan.specs.Applying.{AreSoundTargets, HasImages, AreSoundAfter, AreSoundWhileReadBack}
 use Rattle.pci_plan.proofs.Examples.Behind.{open_at, here, image}
 use Rattle.pci_plan.proofs.Examples.Making.{fixed, none_of_fixed, writes}
 
@@ -20,7 +20,7 @@ host = 0 ∷ []
 -- ---- a sound system, whatever it is
 
 module _ (s : System) (sound : IsSound host s) where
-  its_functions_are_sound : AreSound host (map target_of s)
+  its_functions_are_sound : AreSoundTargets host (map target_of s)
   its_functions_are_sound = (s, sound, refl)
 
   so_they_are_before_any_write : (targets : List Target) → HasImages targets s → AreSoundAfter host s writes 0 targets
@@ -42,7 +42,7 @@ it_is_not_sound : (s : System) → first_snoops (map target_of s) ≡ true → I
 it_is_not_sound [] e sound = both_ways true (sym e) refl
 it_is_not_sound (f ∷ s) e sound = sound.profile (PaletteSnoop f.slot) refl (f, in_head f s, refl, e)
 
-so_its_target_is_not : AreSound host (target_of snooping ∷ []) → ⊥
+so_its_target_is_not : AreSoundTargets host (target_of snooping ∷ []) → ⊥
 so_its_target_is_not (now, sound, e) = it_is_not_sound now (ap first_snoops (sym e)) sound
 
 nor_is_it_before_any_write : AreSoundAfter host (snooping ∷ []) writes 0 (target_of snooping ∷ []) → ⊥
@@ -58,7 +58,7 @@ none_takes_them : (s : System) → takes_special_cycles (map target_of s) ≡ tr
 none_takes_them [] e = both_ways true (sym e) refl
 none_takes_them (f ∷ s) e = both_ways true (sym e ∙ (command_is_writable f.image f.probe 3 (lit< tt)).0) refl
 
-not_with_other_bits : AreSound host (open_at here image ∷ []) → ⊥
+not_with_other_bits : AreSoundTargets host (open_at here image ∷ []) → ⊥
 not_with_other_bits (now, sound, e) = none_takes_them now (ap takes_special_cycles (sym e))
 
 -- ---- the images are those after so many writes

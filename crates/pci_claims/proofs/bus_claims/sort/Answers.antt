@@ -1,8 +1,8 @@
 use Rattle.std.proofs.Common.{rules}
 use Rattle.std.proofs.lemmas.List.Sorted.{answers_always, IsNonDecreasingBy-from_sort}
-use Rattle.pci_claims.specs.BusClaims.{number_of}
+use Rattle.pci_claims.specs.BusClaims.{claim_number}
 use Rattle.pci_claims.proofs.bus_claims.sort.Goals as goal
 
 pub returns-in-Ok-clause-sorted : goal.returns-in-Ok-clause-sorted
 returns-in-Ok-clause-sorted g c =
-    IsNonDecreasingBy-from_sort number_of _ (c.in-Ok.ensures.sorted number_of (answers_always _ _ _ (λ f a r h k. search rules)))
+    IsNonDecreasingBy-from_sort claim_number _ (c.in-Ok.ensures.sorted claim_number (answers_always _ _ _ (λ f a r h k. search rules)))

@@ -8,7 +8,7 @@ use Rattle.pci_base.specs.Space.{space_of}
 use Rattle.pci_tree.specs.Outline.{IsPathTo}
 use Rattle.pci_tree.proofs.Outlines.{have_spans}
 use Rattle.pci_claims.specs.Values.{given_value}
-use Rattle.pci_claims.specs.Outside.{IsRootOf, IsSent}
+use Rattle.pci_claims.specs.Outside.{IsRootOfPath, IsSent}
 use Rattle.pci_claims.specs.Reached.{PassesAt}
 use Rattle.pci_claims.proofs.Outsides.{range}
 use Rattle.pci_given.specs.Stopped.{PassesSent, IsFirstStop}
@@ -28,12 +28,12 @@ returns-in-Some g c =
     (λ all. never_unreached (given_value c.args.given.now) c.args.outline.now (space_of c.args.space) c.args.region.now c.records.result.now c.records.ensures.value c.records.ensures.rising c.records.ensures.nested
     c.as_slice-path.result.now c.root_above-root.result
     (λ s tree. subst (λ (path : List Slot). IsPathTo c.args.outline.now.roots s path c.args.region.now.slot.bus) (sym c.as_slice-path.ensures.value) (c.in-Some.ensures s tree.records))
-    (subst (λ n. IsRootOf c.as_slice-path.result.now n c.root_above-root.result) c.bus.ensures c.root_above-root.ensures)
+    (subst (λ n. IsRootOfPath c.as_slice-path.result.now n c.root_above-root.result) c.bus.ensures c.root_above-root.ensures)
     (subst (λ (kind : WindowKind). All (PassesSent (given_value c.args.given.now) kind c.records.result.now c.root_above-root.result (range c.args.region.now)) c.as_slice-path.result.now) c.kind-kind.ensures all))
     (λ stop first. unreached_line (given_value c.args.given.now) c.args.outline.now (space_of c.args.space) c.args.region.now c.records.result.now c.records.ensures.value c.records.ensures.rising c.records.ensures.nested
     c.as_slice-path.result.now c.root_above-root.result
     (λ s tree. subst (λ (path : List Slot). IsPathTo c.args.outline.now.roots s path c.args.region.now.slot.bus) (sym c.as_slice-path.ensures.value) (c.in-Some.ensures s tree.records))
-    (subst (λ n. IsRootOf c.as_slice-path.result.now n c.root_above-root.result) c.bus.ensures c.root_above-root.ensures)
+    (subst (λ n. IsRootOfPath c.as_slice-path.result.now n c.root_above-root.result) c.bus.ensures c.root_above-root.ensures)
     stop.bridge stop.address
     (subst (λ (kind : WindowKind). IsFirstStop (IsSent (given_value c.args.given.now) (window_space kind) c.root_above-root.result) (PassesAt (given_value c.args.given.now) kind c.records.result.now) (range c.args.region.now) c.as_slice-path.result.now stop.bridge stop.address) c.kind-kind.ensures first))
     is)

@@ -4,7 +4,7 @@ use Rattle.std.proofs.lemmas.List.{length-set}
 use Rattle.std.proofs.lemmas.List.Elements.{Contains-get_or}
 use Rattle.pci_spec.proofs.Members.{in_nil}
 use Rattle.pci_function.specs.declared.record.Record.{Record}
-use Rattle.pci_map.specs.Above.{IsRootAbove}
+use Rattle.pci_map.specs.Above.{IsOnlyRootAbove}
 use Rattle.pci_map.proofs.RootsAbove.{AreFilled, one_more, one_more_there, root_put, above_record, all_filled}
 use Rattle.pci_map.proofs.above.roots_above.Goals as goal
 use Rattle.pci_map.proofs.above.roots_above.Goals.{then-bus-last, else-bus-last}
@@ -33,14 +33,14 @@ loop-function-preserved g c =
       ];
       known = λ below s has are. elim c.if-bus-last.branch [
         | then-bus-last w ↦
-            subst (λ n. IsRootAbove roots s n (get_or c.if-bus-last.roots_above n 0)) (sym (w.last-is ∙ bus))
-            (subst (λ t. IsRootAbove roots s r.slot.bus (get_or t r.slot.bus 0)) (sym (w.roots_above-is ∙ ap (λ n. set table n w.root_over.result) bus))
+            subst (λ n. IsOnlyRootAbove roots s n (get_or c.if-bus-last.roots_above n 0)) (sym (w.last-is ∙ bus))
+            (subst (λ t. IsOnlyRootAbove roots s r.slot.bus (get_or t r.slot.bus 0)) (sym (w.roots_above-is ∙ ap (λ n. set table n w.root_over.result) bus))
             (root_put roots s table r.slot.bus w.root_over.result small
             (above_record roots s rs r w.root_over.result are listed (λ f is_in same. w.root_over.ensures s has f is_in same))))
         | else-bus-last w ↦
             let is = w.last-is in
-            subst (λ n. IsRootAbove roots s n (get_or c.if-bus-last.roots_above n 0)) (sym w.last-is)
-            (subst (λ t. IsRootAbove roots s last (get_or t last 0)) (sym w.roots_above-is) (before.known (omega (arith, below, is)) s has are))
+            subst (λ n. IsOnlyRootAbove roots s n (get_or c.if-bus-last.roots_above n 0)) (sym w.last-is)
+            (subst (λ t. IsOnlyRootAbove roots s last (get_or t last 0)) (sym w.roots_above-is) (before.known (omega (arith, below, is)) s has are))
       ];
       filled = λ s has are. elim c.if-bus-last.branch [
         | then-bus-last w ↦
@@ -51,7 +51,7 @@ loop-function-preserved g c =
             let same : c.bus-bus.result ≡ last = w.if-bus-last.false in
             subst (λ t. AreFilled roots s (take (k + 1) rs) t) (sym w.roots_above-is)
             (one_more_there roots s rs k r table c.loop-function-test.true c.function-item.is (before.filled s has are)
-            (subst (λ n. IsRootAbove roots s n (get_or table n 0)) (sym same ∙ bus) (before.known (omega (arith, low, same)) s has are)))
+            (subst (λ n. IsOnlyRootAbove roots s n (get_or table n 0)) (sym same ∙ bus) (before.known (omega (arith, low, same)) s has are)))
       ];
     }
 

@@ -6,7 +6,7 @@ use Rattle.std.specs.List.{Contains}
 use Rattle.pci_base.specs.Space.{space_of}
 use Rattle.pci_tree.specs.declared.region.Region.{Region}
 use Rattle.pci_map.specs.Values.{value_of}
-use Rattle.pci_map.specs.Asides.{IsAside, HasNoAside}
+use Rattle.pci_map.specs.Asides.{IsRegionAside, HasNoAside}
 use Rattle.pci_map.proofs.AsideTexts.{none_before, none_yet}
 use Rattle.pci_map.proofs.asides.has_aside.Goals as goal
 
@@ -19,7 +19,7 @@ loop-region-preserved g c = λ given t s above ways found.
     let space = space_of c.args.space in
     let here : Contains c.args.regions.now q = subst (Contains c.args.regions.now) (sym c.region-item.is) (Contains-get_or c.args.regions.now c.loop-region.region-index q c.loop-region-test.true) in
     none_yet given t.roots s space c.args.regions.now c.loop-region.region-index q c.loop-region-test.true (sym c.region-item.is) (c.loop-region.invariant given t s above ways found)
-    (subst (λ b. MatchBool b (IsAside given t.roots s (value_of space q)) (IsAside given t.roots s (value_of space q) → ⊥)) c.if-is_aside.false (c.is_aside.ensures given t s above ways (found.found q.reg q (here, refl))))
+    (subst (λ b. MatchBool b (IsRegionAside given t.roots s (value_of space q)) (IsRegionAside given t.roots s (value_of space q) → ⊥)) c.if-is_aside.false (c.is_aside.ensures given t s above ways (found.found q.reg q (here, refl))))
 
 pub returns-then-is_aside : goal.returns-then-is_aside
 returns-then-is_aside g c = λ given t s above ways found.
@@ -28,7 +28,7 @@ returns-then-is_aside g c = λ given t s above ways found.
     let here : Contains c.args.regions.now q = subst (Contains c.args.regions.now) (sym c.region-item.is) (Contains-get_or c.args.regions.now c.loop-region.region-index q c.loop-region-test.true) in (
       q,
       here,
-      subst (λ b. MatchBool b (IsAside given t.roots s (value_of space q)) (IsAside given t.roots s (value_of space q) → ⊥)) c.if-is_aside.true (c.is_aside.ensures given t s above ways (found.found q.reg q (here, refl))),
+      subst (λ b. MatchBool b (IsRegionAside given t.roots s (value_of space q)) (IsRegionAside given t.roots s (value_of space q) → ⊥)) c.if-is_aside.true (c.is_aside.ensures given t s above ways (found.found q.reg q (here, refl))),
     )
 
 pub returns : goal.returns

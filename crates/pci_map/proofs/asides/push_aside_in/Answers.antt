@@ -6,7 +6,7 @@ use Rattle.pci_base.specs.Space.{space_of}
 use Rattle.map_spec.specs.Lines.{IsOutOfPlace}
 use Rattle.pci_map.specs.Values.{value_of}
 use Rattle.pci_map.specs.Left.{IsLeftIf}
-use Rattle.pci_map.specs.Asides.{IsAt, AsideTexts, AreAsides}
+use Rattle.pci_map.specs.Asides.{IsNamedAt, AsideTexts, AreAsides}
 use Rattle.pci_tree.specs.declared.region.Region.{Region}
 use Rattle.pci_map.proofs.Tolds.{is_region, found_on}
 use Rattle.pci_map.proofs.AsideTexts.{none_aside, told_outside, told_reached, told_left}
@@ -24,7 +24,7 @@ returns-then-is_out_of_place g c = λ given t s above ways found.
     let here = found.found c.args.spot.register q c.in-Some.ensures in
     let out = subst (λ b. MatchBool b (IsOutOfPlace given t.roots s (value_of space q)) (IsOutOfPlace given t.roots s (value_of space q) → ⊥)) c.if-is_out_of_place.true
     (c.is_out_of_place.ensures given t s above (found_on s c.args.spot.slot c.args.spot.register space q here _ c.bus.ensures)) in
-    subst (λ (old : AsideTexts). AreAsides given t.roots s (IsAt c.args.spot.slot c.args.spot.register space) old record { outside = string_bytes c.push_region.new.text; unreached = string_bytes c.asides.inside.unreached })
+    subst (λ (old : AsideTexts). AreAsides given t.roots s (IsNamedAt c.args.spot.slot c.args.spot.register space) old record { outside = string_bytes c.push_region.new.text; unreached = string_bytes c.asides.inside.unreached })
     c.asides.view_is
     (told_outside given t.roots s above.tree.one c.args.spot.slot c.args.spot.register space q here (string_bytes c.asides.inside.outside) (string_bytes c.push_region.new.text) (string_bytes c.asides.inside.unreached) out
     c.in_ok-push_region.ensures)
@@ -48,7 +48,7 @@ returns g c = λ given t s above ways found.
     let is = is_region s c.args.spot.slot c.args.spot.register space q here in
     let within = subst (λ b. MatchBool b (IsOutOfPlace given t.roots s (value_of space q)) (IsOutOfPlace given t.roots s (value_of space q) → ⊥)) c.if-is_out_of_place.false
     (c.is_out_of_place.ensures given t s above (found_on s c.args.spot.slot c.args.spot.register space q here _ c.bus.ensures)) in
-    subst (λ (old : AsideTexts). AreAsides given t.roots s (IsAt c.args.spot.slot c.args.spot.register space) old record { outside = string_bytes c.asides.inside.outside; unreached = string_bytes c.push_region-2.new.text })
+    subst (λ (old : AsideTexts). AreAsides given t.roots s (IsNamedAt c.args.spot.slot c.args.spot.register space) old record { outside = string_bytes c.asides.inside.outside; unreached = string_bytes c.push_region-2.new.text })
     c.asides.view_is
     (told_left given t.roots s above.tree.one c.args.spot.slot c.args.spot.register space q here (string_bytes c.asides.inside.outside) (string_bytes c.asides.inside.unreached) (string_bytes c.push_region-2.new.text) within
     (subst (λ b. IsLeftIf t.roots s (value_of space q) b) c.if-not-is_left.false (c.is_left.ensures t s q above.tree ways is (ap (λ (x : Slot). x.bus) here.slot_is ∙ sym c.bus-2.ensures) refl))

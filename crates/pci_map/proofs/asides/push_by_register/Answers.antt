@@ -1,5 +1,5 @@
 use Rattle.std.proofs.Common.{rules, ◌≡◌, ◌*◌, subst}
-use Rattle.pci_map.specs.Asides.{IsBelow, AreAsides}
+use Rattle.pci_map.specs.Asides.{IsNamedBelow, AreAsides}
 use Rattle.pci_map.proofs.AsideTexts.{none_below, one_register_aside, all_registers_aside}
 use Rattle.pci_map.proofs.asides.push_by_register.Goals as goal
 
@@ -18,4 +18,4 @@ returns g c = λ given t s above ways io memory.
     let end : c.loop-register.register ≡ 16 = search rules in
     let slot = c.args.function.now.slot in
     all_registers_aside given t.roots s slot c.args.asides.now.outside c.loop-register.asides.outside c.args.asides.now.unreached c.loop-register.asides.unreached
-    (subst (λ n. AreAsides given t.roots s (IsBelow slot (4 * n)) c.args.asides.now c.loop-register.asides) end (c.loop-register.invariant given t s above ways io memory))
+    (subst (λ n. AreAsides given t.roots s (IsNamedBelow slot (4 * n)) c.args.asides.now c.loop-register.asides) end (c.loop-register.invariant given t s above ways io memory))

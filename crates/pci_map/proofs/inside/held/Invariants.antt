@@ -1,7 +1,7 @@
 use Rattle.std.proofs.Common.{◌≡◌, take}
 use Rattle.std.specs.List.{filter}
-use Rattle.pci_map.specs.Inside.{is_held}
+use Rattle.pci_map.specs.Inside.{is_held_first}
 use Rattle.pci_map.proofs.inside.held.Given as goal
 
 abbrev pub invariant-loop-region : goal.invariant-loop-region
-invariant-loop-region g l = l.out.items ≡ filter (is_held l.window l.earlier) (take l.region-index l.regions)
+invariant-loop-region g l = l.out.items ≡ filter (is_held_first l.window l.earlier) (take l.region-index l.regions)

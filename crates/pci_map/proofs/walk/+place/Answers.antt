@@ -9,7 +9,7 @@ use Rattle.pci_base.specs.Space.{space_of}
 use Rattle.pci_base.specs.declared.range.Range.{Range}
 use Rattle.pci_tree.specs.declared.region.Part.TheVariants.{Window}
 use Rattle.pci_tree.specs.declared.region.Region.{Region}
-use Rattle.pci_map.specs.Inside.{IsInside}
+use Rattle.pci_map.specs.Inside.{AreInsideWindow}
 use Rattle.pci_map.specs.Walk.{ahead, merged}
 use Rattle.pci_map.proofs.Joins.{IsPartly, none_yet, next_seat, last_runs}
 use Rattle.pci_map.proofs.Seats.{seat_alone, seat_of_window}
@@ -53,7 +53,7 @@ pub push_seat-returns-in_default : goal.push_seat-returns-in_default
 push_seat-returns-in_default g t c = λ given s above on.
     seat_alone given c.args.walk.now.outline.now.roots s (space_of c.args.walk.now.space) c.args.depth c.args.region.now (string_bytes c.args.text.now) (string_bytes c.push_region.new.text)
     (subst (λ o. MatchOption o (c.args.region.now.part ≡ Window → ⊥)
-    (λ i. IsInside record { given = given; roots = c.args.walk.now.outline.now.roots; system = s; space = space_of c.args.walk.now.space } c.args.region.now i.bus i.regions.items i.runs.items × (c.args.region.now.part ≡ Window))) c.in_default.is (c.in_ok-inside.ensures.inside given s above on))
+    (λ i. AreInsideWindow record { given = given; roots = c.args.walk.now.outline.now.roots; system = s; space = space_of c.args.walk.now.space } c.args.region.now i.bus i.regions.items i.runs.items × (c.args.region.now.part ≡ Window))) c.in_default.is (c.in_ok-inside.ensures.inside given s above on))
     c.in_ok-push_region.ensures
 
 pub push_seat-returns : goal.push_seat-returns
@@ -61,7 +61,7 @@ push_seat-returns g t c =
     on_ok_weaker c.push_place.result
     (λ last given s above on. (
     let inside = subst (λ o. MatchOption o (c.args.region.now.part ≡ Window → ⊥)
-    (λ i. IsInside record { given = given; roots = c.args.walk.now.outline.now.roots; system = s; space = space_of c.args.walk.now.space } c.args.region.now i.bus i.regions.items i.runs.items × (c.args.region.now.part ≡ Window))) c.in-Some.is (c.in_ok-inside.ensures.inside given s above on) in
+    (λ i. AreInsideWindow record { given = given; roots = c.args.walk.now.outline.now.roots; system = s; space = space_of c.args.walk.now.space } c.args.region.now i.bus i.regions.items i.runs.items × (c.args.region.now.part ≡ Window))) c.in-Some.is (c.in_ok-inside.ensures.inside given s above on) in
     seat_of_window given c.args.walk.now.outline.now.roots s (space_of c.args.walk.now.space) c.args.depth (c.args.depth + 1) c.args.region.now c.in-Some.inside.bus c.in-Some.inside.regions.items c.in-Some.inside.runs.items
     (string_bytes c.args.text.now) (string_bytes c.push_region.new.text) (string_bytes c.push_place.new.text) refl inside.1 inside.0
     c.in_ok-push_region.ensures (last given s above inside.0.each)))

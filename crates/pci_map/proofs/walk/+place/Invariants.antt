@@ -4,7 +4,7 @@ use Rattle.pci_spec.specs.System.{System}
 use Rattle.given_spec.specs.Given.{Given}
 use Rattle.pci_base.specs.Space.{space_of}
 use Rattle.pci_map.specs.Above.{AreSentAbove}
-use Rattle.pci_map.specs.Walk.{merged, AreOnBus}
+use Rattle.pci_map.specs.Walk.{merged, AreRegionsOnBus}
 use Rattle.pci_map.proofs.Joins.{IsPartly}
 use Rattle.pci_map.proofs.walk.+place.Given as goal
 
@@ -16,6 +16,6 @@ decreases-push_place g l = 2 * (256 - l.place.now.bus) + 1
 
 abbrev pub invariant-push_place-loop-region : goal.invariant-push_place-loop-region
 invariant-push_place-loop-region g l =
-    (given : Given) (s : System) → AreSentAbove given l.walk.outline.now s l.walk.above.now → AreOnBus s l.place.bus (space_of l.walk.space) l.place.regions.items
+    (given : Given) (s : System) → AreSentAbove given l.walk.outline.now s l.walk.above.now → AreRegionsOnBus s l.place.bus (space_of l.walk.space) l.place.regions.items
     → IsPartly record { given = given; roots = l.walk.outline.now.roots; system = s; space = space_of l.walk.space } l.depth (merged (space_of l.walk.space) l.place.regions.items l.place.runs.items)
     (merged (space_of l.walk.space) (drop l.region-index l.place.regions.items) l.left) (string_bytes l.initial.text) (string_bytes l.text)

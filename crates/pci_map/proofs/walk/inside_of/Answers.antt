@@ -3,18 +3,18 @@ use Rattle.std.specs.Prelude.{MatchOption}
 use Rattle.pci_spec.specs.Slot.{Slot}
 use Rattle.pci_base.specs.Space.{space_of}
 use Rattle.pci_tree.specs.declared.region.Part.TheVariants.{Window}
-use Rattle.pci_map.specs.Inside.{IsInside}
+use Rattle.pci_map.specs.Inside.{AreInsideWindow}
 use Rattle.pci_map.proofs.Values.{told_region}
 use Rattle.pci_map.proofs.walk.inside_of.Goals as goal
 
 pub returns-in_default-clause-inside : goal.returns-in_default-clause-inside
 returns-in_default-clause-inside g c = λ given s above on window.
-    subst (λ o. MatchOption o ⊥ (λ i. IsInside record { given = given; roots = c.args.walk.now.outline.now.roots; system = s; space = space_of c.args.walk.now.space } c.args.region.now i.bus i.regions.items i.runs.items)) c.in_default.is
+    subst (λ o. MatchOption o ⊥ (λ i. AreInsideWindow record { given = given; roots = c.args.walk.now.outline.now.roots; system = s; space = space_of c.args.walk.now.space } c.args.region.now i.bus i.regions.items i.runs.items)) c.in_default.is
     (c.in_ok-found.ensures given s above (told_region s c.args.bus (space_of c.args.walk.now.space) c.args.region.now on) window)
 
 pub returns-then-inside-bus-clause-inside : goal.returns-then-inside-bus-clause-inside
 returns-then-inside-bus-clause-inside g c = λ given s above on window.
-    let inside = subst (λ o. MatchOption o ⊥ (λ i. IsInside record { given = given; roots = c.args.walk.now.outline.now.roots; system = s; space = space_of c.args.walk.now.space } c.args.region.now i.bus i.regions.items i.runs.items)) c.in-Some.is
+    let inside = subst (λ o. MatchOption o ⊥ (λ i. AreInsideWindow record { given = given; roots = c.args.walk.now.outline.now.roots; system = s; space = space_of c.args.walk.now.space } c.args.region.now i.bus i.regions.items i.runs.items)) c.in-Some.is
     (c.in_ok-found.ensures given s above (told_region s c.args.bus (space_of c.args.walk.now.space) c.args.region.now on) window) in
     let rises = inside.rises in
     let low = c.if-inside-bus.true in
@@ -24,7 +24,7 @@ returns-then-inside-bus-clause-inside g c = λ given s above on window.
 pub returns-clause-inside : goal.returns-clause-inside
 returns-clause-inside g c = λ given s above on.
     let window : c.args.region.now.part ≡ Window = search rules in (
-      subst (λ o. MatchOption o ⊥ (λ i. IsInside record { given = given; roots = c.args.walk.now.outline.now.roots; system = s; space = space_of c.args.walk.now.space } c.args.region.now i.bus i.regions.items i.runs.items)) c.in-Some.is
+      subst (λ o. MatchOption o ⊥ (λ i. AreInsideWindow record { given = given; roots = c.args.walk.now.outline.now.roots; system = s; space = space_of c.args.walk.now.space } c.args.region.now i.bus i.regions.items i.runs.items)) c.in-Some.is
           (c.in_ok-found.ensures given s above (told_region s c.args.bus (space_of c.args.walk.now.space) c.args.region.now on) window),
       window,
     )

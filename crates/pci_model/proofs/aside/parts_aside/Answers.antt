@@ -5,7 +5,7 @@ use Rattle.pci_spec.specs.System.{Function}
 use Rattle.pci_spec.specs.Order.{Place}
 use Rattle.pci_function.specs.Fault.{fault_of}
 use Rattle.pci_function.specs.Values.{record_value}
-use Rattle.model_spec.specs.Taken.{HasNoneBefore, is_ide, is_compatible, is_unnumbered_bridge}
+use Rattle.model_spec.specs.Taken.{HasNoOwnFaultBefore, is_ide, is_compatible, is_unnumbered_bridge}
 use Rattle.model_spec.specs.Bytes.{without_bars}
 use Rattle.pci_spec.specs.Decoded.{DecodedBar}
 use Rattle.pci_image.specs.Bars.{decoded_bar_of}
@@ -33,7 +33,7 @@ pub returns-then-is_ide : goal.returns-then-is_ide
 returns-then-is_ide c =
     let bars : List DecodedBar = map decoded_bar_of c.in-Ok.decoded.bars.items in
     let f : Function = record { slot = c.args.slot; image = c.args.image.now.0; probe = c.args.probe.now.0 } in
-    let none : HasNoneBefore Place f = λ fault low is. clear_alone 4 f fault c.in-Ok.ensures.clear low low is in
+    let none : HasNoOwnFaultBefore Place f = λ fault low is. clear_alone 4 f fault c.in-Ok.ensures.clear low low is in
     inl (
       (sym (c.may_have_parts.ensures f.slot f.probe) ∙ c.if-not-may_have_parts.false, none),
       channels_aside (words_value c.args.words) c.args.legacy f (record_value c.in-Ok.decoded) c.in-Ok.ensures.decoded.same c.if-words.true (sym c.is_ide.ensures ∙ c.if-is_ide.true) _ _
@@ -46,7 +46,7 @@ returns-then-is_ide c =
 pub returns-then-is_unnumbered : goal.returns-then-is_unnumbered
 returns-then-is_unnumbered c =
     let f : Function = record { slot = c.args.slot; image = c.args.image.now.0; probe = c.args.probe.now.0 } in
-    let none : HasNoneBefore Place f = λ fault low is. clear_alone 4 f fault c.in-Ok.ensures.clear low low is in
+    let none : HasNoOwnFaultBefore Place f = λ fault low is. clear_alone 4 f fault c.in-Ok.ensures.clear low low is in
     let other : (c.args.words.ide && is_ide f.image) ≡ false = elim c.else-words.branch [
       | else-words-via-then-words+else-is_ide w ↦ (let no : is_ide f.image ≡ false = sym w.is_ide.ensures ∙ w.if-is_ide.false in rw no (and-false c.args.words.ide))
       | else-words-via-else-words w ↦ (let no : c.args.words.ide ≡ false = w.if-words.false in rw no refl)
@@ -61,7 +61,7 @@ pub returns-else-words-2 : goal.returns-else-words-2
 returns-else-words-2 c =
     let f : Function = record { slot = c.args.slot; image = c.args.image.now.0; probe = c.args.probe.now.0 } in
     let r = record_value c.in-Ok.decoded in
-    let none : HasNoneBefore Place f = λ fault low is. clear_alone 4 f fault c.in-Ok.ensures.clear low low is in
+    let none : HasNoOwnFaultBefore Place f = λ fault low is. clear_alone 4 f fault c.in-Ok.ensures.clear low low is in
     let other : (c.args.words.ide && is_ide f.image) ≡ false = elim c.else-words.branch [
       | else-words-via-then-words+else-is_ide w ↦ (let no : is_ide f.image ≡ false = sym w.is_ide.ensures ∙ w.if-is_ide.false in rw no (and-false c.args.words.ide))
       | else-words-via-else-words w ↦ (let no : c.args.words.ide ≡ false = w.if-words.false in rw no refl)

@@ -3,7 +3,7 @@ use Rattle.pci_spec.specs.Text.{slots_of}
 use Rattle.pci_spec.specs.System.{Function}
 use Rattle.pci_spec.specs.Order.{Place}
 use Rattle.model_spec.specs.Bytes.{switched_off}
-use Rattle.model_spec.specs.Taken.{HasNoneBefore, IsAsleep, IsWhere, bridge_aside, has_legacy_by, may_have_parts_by, parts_aside, vga_aside_by, with_image}
+use Rattle.model_spec.specs.Taken.{HasNoOwnFaultBefore, IsAsleep, IsWhere, bridge_aside, has_legacy_by, may_have_parts_by, parts_aside, vga_aside_by, function_with_image}
 use Rattle.pci_model.specs.WordsValue.{words_value}
 use Rattle.pci_model.proofs.take.take.Goals as goal
 
@@ -21,10 +21,10 @@ returns c =
     let v_is : v ≡ vga_aside_by w f = c.vga_aside.ensures slot probe in
     let b_is : b ≡ bridge_aside w slots g = c.bridge_aside.ensures slot probe in
     let legacy_is : c.has_legacy-legacy.result ≡ has_legacy_by w f = c.has_legacy-legacy.ensures slot probe in
-    let by_own : IsWhere (IsTrue (may_have_parts_by w b) × HasNoneBefore Place b) b (parts_aside w (has_legacy_by w f) b) h =
-    subst (λ (legacy : Bool). IsWhere (IsTrue (may_have_parts_by w b) × HasNoneBefore Place b) b (parts_aside w legacy b) h) legacy_is c.parts_aside.ensures in
+    let by_own : IsWhere (IsTrue (may_have_parts_by w b) × HasNoOwnFaultBefore Place b) b (parts_aside w (has_legacy_by w f) b) h =
+    subst (λ (legacy : Bool). IsWhere (IsTrue (may_have_parts_by w b) × HasNoOwnFaultBefore Place b) b (parts_aside w legacy b) h) legacy_is c.parts_aside.ensures in
     record {
       g = g;
-      power = subst (λ (x : Function). IsWhere (IsTrue w.power × IsAsleep x) x (with_image x (switched_off x.image)) g) v_is c.take_asleep.ensures;
-      parts = subst (λ (x : Function). IsWhere (IsTrue (may_have_parts_by w x) × HasNoneBefore Place x) x (parts_aside w (has_legacy_by w f) x) h) b_is by_own;
+      power = subst (λ (x : Function). IsWhere (IsTrue w.power × IsAsleep x) x (function_with_image x (switched_off x.image)) g) v_is c.take_asleep.ensures;
+      parts = subst (λ (x : Function). IsWhere (IsTrue (may_have_parts_by w x) × HasNoOwnFaultBefore Place x) x (parts_aside w (has_legacy_by w f) x) h) b_is by_own;
     }

@@ -1,7 +1,7 @@
 use Rattle.std.proofs.Common.{◌≡◌, ◌<◌, ◌+◌, ◌++◌, List, [], ◌∷◌, length, arith, sym, ◌∙◌, ap, subst}
 use Rattle.pci_spec.specs.Text.{Block, IsDump, slots_of}
 use Rattle.pci_spec.specs.System.{function_of}
-use Rattle.model_spec.specs.Taken.{IsTaken}
+use Rattle.model_spec.specs.Taken.{IsTakenAs}
 use Rattle.model_spec.specs.TakenDumps.{AreTakenAs}
 use Rattle.pci_model.specs.WordsValue.{words_value}
 use Rattle.pci_spec.proofs.Pairing.{same_length}
@@ -51,7 +51,7 @@ loop-i-preserved g c =
     let blocks = c.blocks-blocks.result.now in
     let probes = c.blocks-probes.result.now in
     let same : slots_of blocks ≡ slots_of probes = ap slots_of c.blocks-blocks.ensures.value ∙ c.requires ∙ ap slots_of (sym c.blocks-probes.ensures.value) in
-    let R : Block → Block → Type 0 = λ b p. IsTaken (words_value c.args.words) (slots_of blocks) (function_of b p) (function_of c.take_blocks.new.block c.take_blocks.new.probe) in
+    let R : Block → Block → Type 0 = λ b p. IsTakenAs (words_value c.args.words) (slots_of blocks) (function_of b p) (function_of c.take_blocks.new.block c.take_blocks.new.probe) in
     let taken = subst (λ b. R b c.index-probes-i.result) c.copy-block.ensures (subst (λ p. R c.copy-block.result p) c.copy-read_backs.ensures c.take_blocks.ensures.taken) in
     let next = next_taken (words_value c.args.words) blocks probes c.loop-i.i c.loop-i.taken.dump c.loop-i.taken.probe c.take_blocks.new.block c.take_blocks.new.probe c.index-blocks-i.result c.index-probes-i.result same
     c.loop-i.invariant c.loop-i-test.true c.index-blocks-i.is c.index-probes-i.is

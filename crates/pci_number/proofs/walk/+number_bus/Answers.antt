@@ -1,5 +1,5 @@
 use Rattle.std.proofs.Common.{◌+◌, true, false, arith, refl, ap, subst}
-use Rattle.number_spec.specs.Board.{IsSingle}
+use Rattle.number_spec.specs.Board.{HasOneAnswer}
 use Rattle.pci_number.specs.Steps.{IsOpenLeft}
 use Rattle.pci_number.specs.Stood.{Adds}
 use Rattle.pci_number.specs.Walked.{outset}
@@ -284,7 +284,7 @@ returns-in_err-walk-2-clause-stood g t c =
     let found = c.in_ok-found.found in
     let look = c.in_ok-found.ensures in
     let opened_ok = open_ok now (board c.look.new.port) slot (walk.taken + 1) last look.same stood (history c.look.new.port) newer look.same_history c.in_ok-open.ensures.stood in
-    let far_stood : (b : Bridge now slot last walk old stood found.more) → Adds IsSingle old (history c.if-branch.port) = elim c.if-branch.branch [
+    let far_stood : (b : Bridge now slot last walk old stood found.more) → Adds HasOneAnswer old (history c.if-branch.port) = elim c.if-branch.branch [
       | then-branch+in_ok-walk y ↦ rw y.port-is (λ b. stood_wide now opened slot last walk old stood newer (history y.number_bus.new.port) found.more b c.if-walk-last.true
           (is_open now (board c.look.new.port) slot (walk.taken + 1) last look.same opened c.in_ok-open.field-0 true y.if-branch.true c.in_ok-open.ensures.opened) opened_ok y.in_ok-walk.ensures.stood)
       | else-branch y ↦ rw y.port-is (λ b. stood_here now slot last walk old stood newer found.more b c.if-walk-last.true opened_ok)

@@ -4,7 +4,7 @@ use Rattle.pci_spec.specs.Machine.{after_writes}
 use Rattle.pci_tree.specs.Admission.{Admission}
 use Rattle.pci_place.specs.Above.{system_in}
 use Rattle.pci_plan.specs.Comparing.{StartsAs, IsStartFault, moment}
-use Rattle.pci_plan.specs.Making.{IsStop}
+use Rattle.pci_plan.specs.Making.{IsApplyStop}
 use Rattle.pci_plan.specs.Applying.{writes_made, ReadBackBy, IsApplyFault}
 use Rattle.pci_plan.proofs.Applied.{accesses, shows_start, start_fault, start_made, start_read_back, stop_fault, all_made, shows_final, made_by, read_back_by, ok_on_machine, left_sound, sound_while_read_back}
 use Rattle.pci_plan.proofs.apply.apply.Goals as goal
@@ -111,12 +111,12 @@ returns-clause-fault g c =
     let before : now ≡ old = c.in_ok-compare.ensures.same in
     let quiet : g.P.ConfigPort.failures c.compare.new.port ≡ failures = c.in_ok-compare.ensures.counted in
     let shows = shows_start plan c.start.ensures.plan old (started g c) in
-    let stops = subst (λ ws. IfErr c.make.result (IsStop (moment now (g.P.ConfigPort.failures c.compare.new.port)) ws (moment after failures_after))) c.writes.ensures.value c.make.ensures.stop in
-    IfErr-weaker c.make.result (IsStop (moment now (g.P.ConfigPort.failures c.compare.new.port)) plan.writes (moment after failures_after)) (IsApplyFault (moment old failures) (system_in plan.start) plan.writes (moment after failures_after))
+    let stops = subst (λ ws. IfErr c.make.result (IsApplyStop (moment now (g.P.ConfigPort.failures c.compare.new.port)) ws (moment after failures_after))) c.writes.ensures.value c.make.ensures.stop in
+    IfErr-weaker c.make.result (IsApplyStop (moment now (g.P.ConfigPort.failures c.compare.new.port)) plan.writes (moment after failures_after)) (IsApplyFault (moment old failures) (system_in plan.start) plan.writes (moment after failures_after))
     (λ e stop.
     stop_fault plan c.start.ensures.plan old failures after failures_after e shows
-    (subst (λ ts. IsStop (moment ts failures) plan.writes (moment after failures_after) e) before
-    (subst (λ n. IsStop (moment now n) plan.writes (moment after failures_after) e) quiet stop)))
+    (subst (λ ts. IsApplyStop (moment ts failures) plan.writes (moment after failures_after) e) before
+    (subst (λ n. IsApplyStop (moment now n) plan.writes (moment after failures_after) e) quiet stop)))
     stops
 
 pub returns-clause-own_machine : goal.returns-clause-own_machine

@@ -16,7 +16,7 @@ use Rattle.pci_probe.specs.declared.fault.DeriveFault.TheVariants.{Header, NoSiz
 use Rattle.pci_probe.specs.Assuming.{assuming_of}
 use Rattle.pci_probe.specs.declared.assuming.Assuming.{Assuming}
 use Rattle.pci_probe.specs.Derived.{derived_of}
-use Rattle.pci_probe.specs.Fault.{IsDeriveFault, IsFaultOf}
+use Rattle.pci_probe.specs.Fault.{IsDeriveFault, IsOfRegister}
 use Rattle.pci_probe.proofs.Registers.{derived_none, derived_fault, derived_more, IsDerivedOfAll, derived_of_all}
 use Rattle.pci_probe.proofs.derive.derive.Goals as goal
 use Rattle.pci_probe.proofs.derive.derive.Goals.{then-is_assumed, else-is_assumed}
@@ -24,7 +24,7 @@ use Rattle.pci_probe.proofs.derive.derive.Goals.{then-is_assumed, else-is_assume
 abbrev none : Register
 none = record { offset = 0; width = 0; role = roles.Bar 0 }
 
-fault_of : (assuming : Assuming) (image : List ℕ) (lines : List ResourceLine) (fault : DeriveFault) (found : Option NoProbe) → IsFaultOf fault found → HasHeader image
+fault_of : (assuming : Assuming) (image : List ℕ) (lines : List ResourceLine) (fault : DeriveFault) (found : Option NoProbe) → IsOfRegister fault found → HasHeader image
     → ((x : NoProbe) → found ≡ Some x → no_probe (assuming_of assuming) image lines ≡ Some x) → IsDeriveFault assuming image lines fault
 fault_of assuming image lines (Header fault) found is header first = absurd is
 fault_of assuming image lines (NoSize register) found is header first = (header, first (spec.NoSize register) is)

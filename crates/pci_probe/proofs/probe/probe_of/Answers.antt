@@ -6,8 +6,8 @@ use Rattle.pci_spec.specs.Text.{Block, IsDump}
 use Rattle.pci_spec.specs.Stops.{IsAboveLast, last_slot}
 use Rattle.pci_spec.specs.SizesText.{SizesBlock}
 use Rattle.pci_spec.specs.ProbeOf.{at_slot, told_of, probe_block, assumed_in, probe_of, assumed_of, identity_fault, read_back_fault, first_of, probe_fault}
-use Rattle.pci_probe.specs.Derivation.{told}
-use Rattle.pci_probe.specs.ProbeFault.{IsFirstFault}
+use Rattle.pci_probe.specs.Derivation.{told_function}
+use Rattle.pci_probe.specs.ProbeFault.{IsFirstProbeFault}
 use Rattle.pci_probe.proofs.FirstOf.{first_of-more, first_of-none, header_of-none}
 use Rattle.pci_probe.proofs.ToldFunctions.{same_count, length-told_of, told_at, next_above, all_told, blocks_more, assumed_more}
 use Rattle.pci_pair.specs.Pair.{IsPair}
@@ -57,8 +57,8 @@ returns-in_err-add-clause-fault g c =
     let dump = c.blocks-blocks.ensures.value in
     let sizes = c.blocks-told.ensures.value in
     let p = err_from_is_err_and c.from_residual.result c.from_residual.ensures.1 in
-    rw (p.1, p.2) (subst (λ (bs : List Block). IsFirstFault c.args.assuming bs c.args.sizes.now c.in_err-add.field-0.0) dump
-    (subst (λ (ss : List SizesBlock). IsFirstFault c.args.assuming c.blocks-blocks.result.now ss c.in_err-add.field-0.0) sizes
+    rw (p.1, p.2) (subst (λ (bs : List Block). IsFirstProbeFault c.args.assuming bs c.args.sizes.now c.in_err-add.field-0.0) dump
+    (subst (λ (ss : List SizesBlock). IsFirstProbeFault c.args.assuming c.blocks-blocks.result.now ss c.in_err-add.field-0.0) sizes
     (register_fault_by c.args.assuming c.blocks-blocks.result.now c.blocks-told.result.now c.in_err-add.field-0.0 c.loop-i.i c.index-blocks-i.result c.index-told-i.result
     c.in-None.ensures.least c.in-None.ensures.same c.in-None-header_fault.ensures.none c.loop-i-test.true c.index-blocks-i.is c.index-told-i.is c.loop-i.invariant.fine c.in_err-add.ensures.fault)))
 
@@ -75,20 +75,20 @@ loop-i-preserved g c =
     let inside : c.loop-i.i < length (told_of blocks sizes) = omega (arith, long, within) in
     let at = told_at blocks sizes c.loop-i.i b s within (omega (arith, count, within)) c.index-blocks-i.is c.index-told-i.is in
     record {
-      fine = first_of-more (read_back_fault (assuming_of c.args.assuming)) (told_of blocks sizes) c.loop-i.i (told b s) inside at c.loop-i.invariant.fine ∙ ap (option_map (at_slot b.slot)) c.in_ok-add.ensures.told;
-      probe = c.in_ok-add.ensures.probe ∙ ap (λ bs. bs ++ probe_block (told b s) ∷ []) c.loop-i.invariant.probe ∙ sym (blocks_more blocks sizes same c.loop-i.i (told b s) inside at);
-      assumed = c.in_ok-add.ensures.assumed ∙ ap (λ xs. xs ++ assumed_in (told b s)) c.loop-i.invariant.assumed ∙ sym (assumed_more blocks sizes same c.loop-i.i (told b s) inside at);
+      fine = first_of-more (read_back_fault (assuming_of c.args.assuming)) (told_of blocks sizes) c.loop-i.i (told_function b s) inside at c.loop-i.invariant.fine ∙ ap (option_map (at_slot b.slot)) c.in_ok-add.ensures.told;
+      probe = c.in_ok-add.ensures.probe ∙ ap (λ bs. bs ++ probe_block (told_function b s) ∷ []) c.loop-i.invariant.probe ∙ sym (blocks_more blocks sizes same c.loop-i.i (told_function b s) inside at);
+      assumed = c.in_ok-add.ensures.assumed ∙ ap (λ xs. xs ++ assumed_in (told_function b s)) c.loop-i.invariant.assumed ∙ sym (assumed_more blocks sizes same c.loop-i.i (told_function b s) inside at);
     }
 
 -- all functions
 pub returns-clause-told : goal.returns-clause-told
 returns-clause-told g c =
     let blocks = c.blocks-blocks.result.now in
-    let told = c.blocks-told.result.now in
+    let told_function = c.blocks-told.result.now in
     let dump = c.blocks-blocks.ensures.value in
     let sizes = c.blocks-told.ensures.value in
-    sym (λ i. probe_fault (assuming_of c.args.assuming) (dump i) (sizes i)) ∙ fault_by c.args.assuming blocks told None None c.in-None.ensures.least c.in-None-header_fault.ensures.none
-    ∙ ap (first_of (read_back_fault (assuming_of c.args.assuming))) (sym (all_told blocks told c.in-None.ensures.same c.loop-i.i c.loop-i-test.false)) ∙ c.loop-i.invariant.fine
+    sym (λ i. probe_fault (assuming_of c.args.assuming) (dump i) (sizes i)) ∙ fault_by c.args.assuming blocks told_function None None c.in-None.ensures.least c.in-None-header_fault.ensures.none
+    ∙ ap (first_of (read_back_fault (assuming_of c.args.assuming))) (sym (all_told blocks told_function c.in-None.ensures.same c.loop-i.i c.loop-i-test.false)) ∙ c.loop-i.invariant.fine
 
 pub returns-clause-probe : goal.returns-clause-probe
 returns-clause-probe g c =
@@ -107,9 +107,9 @@ returns-clause-assumed g c =
 pub returns-clause-pair : goal.returns-clause-pair
 returns-clause-pair g c roots =
     let blocks = c.blocks-blocks.result.now in
-    let told = c.blocks-told.result.now in
+    let told_function = c.blocks-told.result.now in
     let dump = c.blocks-blocks.ensures.value in
     let sizes = c.blocks-told.ensures.value in
-    let probe : probe_of blocks told ≡ c.loop-i.derivation.probe = (λ i. probe_of (dump i) (sizes i)) ∙ sym (returns-clause-probe g c) in
+    let probe : probe_of blocks told_function ≡ c.loop-i.derivation.probe = (λ i. probe_of (dump i) (sizes i)) ∙ sym (returns-clause-probe g c) in
     subst (λ (bs : List Block). IsPair roots bs c.loop-i.derivation.probe) dump
-    (subst (λ (ps : List Block). IsPair roots blocks ps) probe (pair_of blocks told c.in-None.ensures.same c.in-None-header_fault.ensures.none roots))
+    (subst (λ (ps : List Block). IsPair roots blocks ps) probe (pair_of blocks told_function c.in-None.ensures.same c.in-None-header_fault.ensures.none roots))

@@ -1,7 +1,7 @@
 use Rattle.std.proofs.Common.{◌∙◌, refl}
 use Rattle.std.proofs.lemmas.List.Sorted.{All-permutation}
 use Rattle.pci_base.specs.WindowKinds.{kind_value}
-use Rattle.pci_settle.specs.Own.{item_value}
+use Rattle.pci_settle.specs.Own.{asked_item_value}
 use Rattle.pci_settle.specs.Buses.{listing_of}
 use Rattle.pci_settle.specs.Turns.{HasExtent}
 use Rattle.pci_settle.proofs.PutWindows.{values_rise, turn_is}
@@ -11,7 +11,7 @@ pub returns-clause-turn : goal.returns-clause-turn
 returns-clause-turn g c = λ a is. (
     let l = listing_of c.args.admitted.now (kind_value c.args.class) c.args.bus c.args.terms c.args.windows.now c.args.left.now in
     let on = c.in_ok-items.ensures.items in
-    c.in_ok-sort_items.ensures.turn (item_value l.classing.system l.class) (λ i. refl) (values_rise l _ on a is) ∙ turn_is l _ on a is)
+    c.in_ok-sort_items.ensures.turn (asked_item_value l.classing.system l.class) (λ i. refl) (values_rise l _ on a is) ∙ turn_is l _ on a is)
 
 pub returns-clause-lawful : goal.returns-clause-lawful
 returns-clause-lawful g c windows_lawful = All-permutation HasExtent _ _ c.sort_items.ensures.permutation (c.in_ok-items.ensures.lawful windows_lawful)

@@ -1,12 +1,12 @@
 use Rattle.std.proofs.Common.{rules, ◌<◌, ◌^◌, ◌∙◌, ap, sym, true, false}
-use Rattle.pci_settle.specs.Spots.{place_of}
+use Rattle.pci_settle.specs.Spots.{spot_place}
 use Rattle.pci_settle.proofs.FirstPlaces.{first_at, none_at}
 use Rattle.pci_settle.proofs.spot.spot_in.Goals as goal
 
 pub returns-in_err-spot-clause-place : goal.returns-in_err-spot-clause-place
 returns-in_err-spot-clause-place c =
     let small : c.args.range.last < 2 ^ 64 = search rules in
-    ap place_of c.from_residual.ensures ∙ sym (none_at _ _ _ c.requires.extent.alignment small c.in_err-spot.ensures.none)
+    ap spot_place c.from_residual.ensures ∙ sym (none_at _ _ _ c.requires.extent.alignment small c.in_err-spot.ensures.none)
 
 pub returns-then-ends_in-clause-place : goal.returns-then-ends_in-clause-place
 returns-then-ends_in-clause-place c =

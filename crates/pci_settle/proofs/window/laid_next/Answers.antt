@@ -1,6 +1,6 @@
 use Rattle.std.proofs.Common.{◌≡◌, ◌+◌, ◌-◌, ◌<◌, ◌^◌, SomeIff, sym, subst}
 use Rattle.std.specs.List.{insert}
-use Rattle.pci_settle.specs.Spots.{AreListed, IsSpotAt, range_at}
+use Rattle.pci_settle.specs.Spots.{AreRisingRanges, IsSpotAt, extent_range}
 use Rattle.pci_settle.specs.Windows.{laid_last}
 use Rattle.pci_settle.proofs.Inserted.{inserted}
 use Rattle.pci_settle.proofs.LaidOut.{laid_none, laid_is, laid_by}
@@ -20,11 +20,11 @@ pub returns-clause-laid : goal.returns-clause-laid
 returns-clause-laid g c =
     let found = subst (λ xs. IsSpotAt xs 0 c.args.extent c.in-Some.spot) c.as_slice.ensures.value c.in-Some.ensures.found in
     laid_by c.args.taken.now.items c.insert.new.self.items c.args.extent c.in-Some.spot.index found.between.within
-    (subst (λ n. c.insert.new.self.items ≡ insert c.args.taken.now.items c.in-Some.spot.index (range_at c.args.extent n))
+    (subst (λ n. c.insert.new.self.items ≡ insert c.args.taken.now.items c.in-Some.spot.index (extent_range c.args.extent n))
     (sym (laid_is c.args.taken.now.items c.args.extent c.in-Some.spot c.requires.extent found)) c.in_ok-insert.ensures.items)
     c.checked_add.result
 
 pub returns-clause-listed : goal.returns-clause-listed
 returns-clause-listed g c =
     let found = subst (λ xs. IsSpotAt xs 0 c.args.extent c.in-Some.spot) c.as_slice.ensures.value c.in-Some.ensures.found in
-    subst AreListed (sym c.in_ok-insert.ensures.items) (inserted c.args.taken.now.items c.args.extent c.in-Some.spot c.requires.listed found.between)
+    subst AreRisingRanges (sym c.in_ok-insert.ensures.items) (inserted c.args.taken.now.items c.args.extent c.in-Some.spot c.requires.listed found.between)

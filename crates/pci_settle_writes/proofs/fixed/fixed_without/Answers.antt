@@ -3,7 +3,7 @@ use Rattle.std.specs.List.{list_any}
 use Rattle.pci_spec.specs.Slot.{Slot, same_slot}
 use Rattle.pci_spec.specs.System.{System}
 use Rattle.settle_spec.specs.Lists.{Request}
-use Rattle.settle_spec.specs.Parts.{Region, regions_of}
+use Rattle.settle_spec.specs.Parts.{FunctionPart, function_parts}
 use Rattle.pci_function.specs.declared.record.Record.{Record}
 use Rattle.pci_tree.proofs.Lifting.{same_slot_of}
 use Rattle.pci_place.specs.declared.above.Above.{Above}
@@ -46,8 +46,8 @@ module _ (g : Over) (c : After-record_without-fault g) where
   slot : r.slot ≡ here.f.slot
   slot = same_slot_of r here.f here.is.value
 
-  module _ (q : Request) (test : Region → Bool) (asked : IsAskedOf q c.args.admitted.now.roots (lists_value c.args.lists.now)) (flags : AreFlags q.fixed c.args.fixed.now) (table : IsTableOf s test c.args.table.now) where
-    fault_is : c.record_without-fault.result ≡ first fixed_part (off q test) (regions_of q s here.f)
+  module _ (q : Request) (test : FunctionPart → Bool) (asked : IsAskedOf q c.args.admitted.now.roots (lists_value c.args.lists.now)) (flags : AreFlags q.fixed c.args.fixed.now) (table : IsTableOf s test c.args.table.now) where
+    fault_is : c.record_without-fault.result ≡ first fixed_part (off q test) (function_parts q s here.f)
     fault_is =
         let f = here.f in
         let bus : c.from.result ≡ f.slot.bus = c.from.ensures ∙ c.bus.ensures ∙ ap (λ (x : Slot). x.bus) slot in
@@ -62,10 +62,10 @@ pub returns-then-is_some : goal.returns-then-is_some
 returns-then-is_some g c = λ q test asked flags table.
     let first = (goal.at.returns-then-is_some g c).After-record_without-fault in
     let fault = fault_is g first q test asked flags table in
-    sym (c.loop-k.invariant q test asked flags table ∙ found_here fixed_part (regions_of q (s g first)) (off q test) (s g first) c.loop-k.k (here g first).f (here g first).at c.record_without-fault.result fault (sym c.is_some.ensures ∙ c.if-is_some.true))
+    sym (c.loop-k.invariant q test asked flags table ∙ found_here fixed_part (function_parts q (s g first)) (off q test) (s g first) c.loop-k.k (here g first).f (here g first).at c.record_without-fault.result fault (sym c.is_some.ensures ∙ c.if-is_some.true))
 
 pub loop-k-preserved : goal.loop-k-preserved
 loop-k-preserved g c = λ q test asked flags table.
     let first = (goal.at.loop-k-preserved g c).After-record_without-fault in
     let fault = fault_is g first q test asked flags table in
-    c.loop-k.invariant q test asked flags table ∙ found_later fixed_part (regions_of q (s g first)) (off q test) (s g first) c.loop-k.k (here g first).f (here g first).at c.record_without-fault.result fault (sym c.is_some.ensures ∙ c.if-is_some.false)
+    c.loop-k.invariant q test asked flags table ∙ found_later fixed_part (function_parts q (s g first)) (off q test) (s g first) c.loop-k.k (here g first).f (here g first).at c.record_without-fault.result fault (sym c.is_some.ensures ∙ c.if-is_some.false)

@@ -9,7 +9,7 @@ use Rattle.pci_place.proofs.Records.{lent, FunctionAt, same_count, function_read
 use Rattle.pci_settled.specs.declared.anew.Unplaced.{Unplaced}
 use Rattle.pci_settled.specs.declared.anew.Unplaced.TheVariants as unplaced
 use Rattle.pci_settle_writes.specs.declared.lack.SettleFault.TheVariants as fault
-use Rattle.pci_settle_writes.specs.Lacks.{IsNamed, IsFaultOf, no_room}
+use Rattle.pci_settle_writes.specs.Lacks.{IsOfSystem, IsSettleFaultOf, no_room}
 use Rattle.pci_settle_writes.proofs.Lacking.{lack_is}
 use Rattle.pci_settle_writes.proofs.lack.fault_of.Goals as goal
 use Rattle.pci_settle_writes.proofs.lack.fault_of.Goals.{After-records-records}
@@ -26,12 +26,12 @@ module _ (g : Over) (c : After-records-records g) where
   function_here k r within is =
       function_read (system_in c.args.admitted.now) c.records-records.result.now c.records-records.ensures.value c.outline-outline.ensures.records k r (within_records k within) is
 
-  named_here : IsNamed (system_in c.args.admitted.now) c.args.unplaced
+  named_here : IsOfSystem (system_in c.args.admitted.now) c.args.unplaced
   named_here = c.requires
 
   -- what has no place, by its kind
-  named_as : (u : Unplaced) → c.args.unplaced ≡ u → IsNamed (system_in c.args.admitted.now) u
-  named_as u is = subst (IsNamed (system_in c.args.admitted.now)) is named_here
+  named_as : (u : Unplaced) → c.args.unplaced ≡ u → IsOfSystem (system_in c.args.admitted.now) u
+  named_as u is = subst (IsOfSystem (system_in c.args.admitted.now)) is named_here
 
 pub bounds-records-candidate : goal.bounds-records-candidate
 bounds-records-candidate g c =
@@ -55,7 +55,7 @@ returns-in-Lacks g c =
     let x = c.in-Lacks.candidate in
     let r = c.index-records-candidate.result in
     let here = function_here g first x.item.function r (named_as g first (unplaced.Lacks x) c.in-Lacks.is).0 c.index-records-candidate.is in
-    subst (λ u. IsFaultOf s u (fault.NoRoom c.lack_of.result)) (sym c.in-Lacks.is)
+    subst (λ u. IsSettleFaultOf s u (fault.NoRoom c.lack_of.result)) (sym c.in-Lacks.is)
     (λ other. lack_is s x here.f r here.at here.is other ∙ ap no_room (sym c.lack_of.ensures))
 
 pub bounds-records-function : goal.bounds-records-function
@@ -78,4 +78,4 @@ returns-in-TooLarge g c =
     let r = c.index-records-function.result in
     let here = function_here g first k r (named_as g first (unplaced.TooLarge c.in-TooLarge.class k) c.in-TooLarge.is) c.index-records-function.is in
     let slot : r.slot ≡ (function_in s k).slot = same_slot_of r here.f here.is.value ∙ sym (ap (λ (f : Function). f.slot) (get_or_from_slice_get s k here.f no_function here.at)) in
-    subst (λ u. IsFaultOf s u (fault.TooLarge c.in-TooLarge.class r.slot)) (sym c.in-TooLarge.is) (refl, slot)
+    subst (λ u. IsSettleFaultOf s u (fault.TooLarge c.in-TooLarge.class r.slot)) (sym c.in-TooLarge.is) (refl, slot)

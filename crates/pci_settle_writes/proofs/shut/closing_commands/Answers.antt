@@ -17,7 +17,7 @@ use Rattle.pci_settle_writes.specs.declared.way.Way.{Way}
 use Rattle.pci_settle_writes.specs.Requests.{IsAskedOf}
 use Rattle.pci_settle_writes.specs.Dumps.{IsSettledDump}
 use Rattle.pci_settle_writes.specs.Shut.{is_image_changed, closing_by}
-use Rattle.pci_settle_writes.specs.Stages.{AreOf, AreSettled}
+use Rattle.pci_settle_writes.specs.Stages.{AreOf, AreSettledBlocks}
 use Rattle.pci_settle_writes.proofs.States.{start_of, settled_of}
 use Rattle.pci_settle_writes.proofs.Closings.{AreClosedTo, none_closed, all_closed, changed_is, closed_same, closed_more}
 use Rattle.pci_settle_writes.proofs.shut.closing_commands.Goals as goal
@@ -54,7 +54,7 @@ module _ (g : Over) (c : After-blocks-start g) where
   start : AreOf (system_in a) c.blocks-start.result.now
   start = subst (λ (bs : List Block). AreOf (system_in a) bs) (sym blocks_are) (start_of a admitted_is)
 
-  settled : (q : Request) → IsSettledDump q a c.args.settled.now → AreSettled q (system_in a) c.args.settled.now
+  settled : (q : Request) → IsSettledDump q a c.args.settled.now → AreSettledBlocks q (system_in a) c.args.settled.now
   settled q to = settled_of a admitted_is q c.args.settled.now to
 
   terms : (q : Request) → IsAskedOf q a.roots l → AreTerms q.lists c.of-terms.result

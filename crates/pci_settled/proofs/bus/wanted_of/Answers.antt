@@ -2,14 +2,14 @@ use Rattle.std.proofs.Common.{[], get_or, ◌∙◌, ap, sym}
 use Rattle.pci_base.specs.WindowKinds.{kind_value}
 use Rattle.pci_function.specs.declared.record.Record.{Record}
 use Rattle.pci_tree.specs.Roots.{buses_of}
-use Rattle.pci_settled.specs.Columns.{kind_number, wanted_value}
+use Rattle.pci_settled.specs.Columns.{kind_number, candidate_wanted}
 use Rattle.pci_settled.proofs.Added.{more_of, all_of}
 use Rattle.pci_settled.proofs.Wanted.{no_candidate, wanted_more}
 use Rattle.pci_settled.proofs.bus.wanted_of.Goals as goal
 
 pub loop-candidate-preserved : goal.loop-candidate-preserved
 loop-candidate-preserved g c = λ s has.
-    more_of (wanted_value (buses_of c.args.roots.now) s) [] c.args.candidates.now c.loop-candidate.candidate-index no_candidate c.loop-candidate.wanted.items _ c.loop-candidate-test.true (c.loop-candidate.invariant s has)
+    more_of (candidate_wanted (buses_of c.args.roots.now) s) [] c.args.candidates.now c.loop-candidate.candidate-index no_candidate c.loop-candidate.wanted.items _ c.loop-candidate-test.true (c.loop-candidate.invariant s has)
     (c.in_ok-push.ensures.items
     ∙ wanted_more (buses_of c.args.roots.now) s c.args.records.now has (get_or c.args.candidates.now c.loop-candidate.candidate-index no_candidate)
     (c.requires c.loop-candidate.candidate-index no_candidate c.loop-candidate-test.true) c.index-records-item.result c.index-records-item.is c.bus-bus.result (c.bus-bus.ensures ∙ ap (λ (x : Record). x.slot.bus) (sym c.index-records-item.is))
@@ -17,4 +17,4 @@ loop-candidate-preserved g c = λ s has.
 
 pub returns : goal.returns
 returns g c = λ s has.
-    all_of (wanted_value (buses_of c.args.roots.now) s) [] c.args.candidates.now c.loop-candidate.candidate-index c.loop-candidate.wanted.items c.loop-candidate-test.false (c.loop-candidate.invariant s has)
+    all_of (candidate_wanted (buses_of c.args.roots.now) s) [] c.args.candidates.now c.loop-candidate.candidate-index c.loop-candidate.wanted.items c.loop-candidate-test.false (c.loop-candidate.invariant s has)

@@ -3,8 +3,8 @@ use Rattle.pci_spec.specs.System.{System}
 use Rattle.pci_spec.specs.Decoded.{HasRecords}
 use Rattle.pci_function.specs.Values.{record_value}
 use Rattle.pci_tree.specs.Roots.{buses_of}
-use Rattle.pci_settled.specs.Columns.{wanted_value}
+use Rattle.pci_settled.specs.Columns.{candidate_wanted}
 use Rattle.pci_settled.proofs.bus.wanted_of.Given as goal
 
 abbrev pub invariant-loop-candidate : goal.invariant-loop-candidate
-invariant-loop-candidate g l = (s : System) → HasRecords s (map record_value l.records) → l.wanted.items ≡ take l.candidate-index (map (wanted_value (buses_of l.roots) s) l.candidates)
+invariant-loop-candidate g l = (s : System) → HasRecords s (map record_value l.records) → l.wanted.items ≡ take l.candidate-index (map (candidate_wanted (buses_of l.roots) s) l.candidates)

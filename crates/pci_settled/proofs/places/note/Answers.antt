@@ -1,6 +1,6 @@
 use Rattle.std.proofs.Common.{◌≡◌, ◌+◌, ◌-◌, ◌<◌, ◌∙◌, length, get_or, arith, refl, ap, subst}
 use Rattle.std.proofs.lemmas.List.{get_or_default}
-use Rattle.pci_settled.specs.Places.{range_in}
+use Rattle.pci_settled.specs.Places.{place_range_in}
 use Rattle.pci_settled.proofs.Notes.{AreNoted, noted_none, noted_more}
 use Rattle.pci_settled.proofs.Wanted.{no_candidate}
 use Rattle.pci_settled.proofs.places.note.Goals as goal
@@ -26,7 +26,7 @@ loop-done-preserved c =
     (noted_more candidates firsts c.requires.count c.args.table.now table n (subst (AreNoted candidates firsts c.args.table.now table) before c.loop-done.invariant) inside one
     (get_or_default candidates n one no_candidate inside) low (get_or firsts n 0) refl c.set.new.self _ refl _ refl
     (λ s. c.set.ensures.set)
-    (λ s d other differ. c.set.ensures.others other differ ∙ ap (λ e. range_in e other) (get_or_default table one.item.function _ d here)))
+    (λ s d other differ. c.set.ensures.others other differ ∙ ap (λ e. place_range_in e other) (get_or_default table one.item.function _ d here)))
 
 pub returns : goal.returns
 returns c =

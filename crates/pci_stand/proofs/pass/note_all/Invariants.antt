@@ -4,7 +4,7 @@ use Rattle.pci_spec.specs.System.{System}
 use Rattle.pci_settle.specs.Lists.{lists_value}
 use Rattle.pci_stand.specs.Boards.{IsBoard}
 use Rattle.pci_stand.specs.Taken.{AreApartInOrder, taken_with}
-use Rattle.pci_stand.specs.Passing.{AreOrdered, IsPassed}
+use Rattle.pci_stand.specs.Passing.{AreOrdered, AreFirstPassed}
 use Rattle.pci_stand.proofs.pass.note_all.Given as goal
 
 abbrev pub invariant-loop-index : goal.invariant-loop-index
@@ -13,6 +13,6 @@ invariant-loop-index g l = record {
   io : AreApartInOrder l.taken.io.items;
   mem : AreApartInOrder l.taken.mem.items;
   passed : (q : Request) (s : System) → IsBoard q s l.board.records.now (lists_value l.board.lists) → AreOrdered q s l.regions
-      → IsPassed q s l.regions 0 (taken_with l.fn.taken.level l.fn.taken.io.items l.fn.taken.mem.items) l.fn.table
-      → IsPassed q s l.regions l.index (taken_with l.taken.level l.taken.io.items l.taken.mem.items) l.table;
+      → AreFirstPassed q s l.regions 0 (taken_with l.fn.taken.level l.fn.taken.io.items l.fn.taken.mem.items) l.fn.table
+      → AreFirstPassed q s l.regions l.index (taken_with l.taken.level l.taken.io.items l.taken.mem.items) l.table;
 }

@@ -7,7 +7,7 @@ use Rattle.pci_settle.specs.Lists.{lists_value}
 use Rattle.pci_stand.specs.Boards.{IsBoard}
 use Rattle.pci_stand.specs.Known.{asked, region_value}
 use Rattle.pci_settle.specs.Kept.{AreNone}
-use Rattle.pci_stand.specs.Passing.{IsReady, AreOrdered, AreStanding}
+use Rattle.pci_stand.specs.Passing.{CanBeNoted, AreOrdered, AreStanding}
 use Rattle.pci_stand.proofs.Whole.{ready, ordered, numbers_rise, passed_none, all_stand, slice_back}
 use Rattle.pci_stand.proofs.pass.standing.Goals as goal
 
@@ -17,7 +17,7 @@ note_all-requires-clause-ready g c =
     let q = asked c.args.admitted.now.roots (lists_value c.args.lists.now) c.args.fixed.now in
     let records = c.records-records.result.now in
     let has = lent s records c.records-records.ensures.value c.outline.ensures.records in
-    subst (All (IsReady (length records))) (sym c.as_slice.ensures.value)
+    subst (All (CanBeNoted (length records))) (sym c.as_slice.ensures.value)
     (ready q s c.in_ok-regions.regions.items c.in_ok-regions.ensures c.sort_regions.new.regions.items c.sort_regions.ensures.permutation (length records) (sym (same_count s records has)))
 
 pub returns : goal.returns

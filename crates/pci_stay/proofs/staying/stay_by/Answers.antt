@@ -6,7 +6,7 @@ use Rattle.pci_place.specs.Above.{system_in}
 use Rattle.pci_place.proofs.Records.{lent, same_count}
 use Rattle.pci_settle.specs.Lists.{lists_value}
 use Rattle.pci_stand.specs.Known.{asked, AreParts}
-use Rattle.pci_stand.specs.Passing.{IsReady, AreStanding}
+use Rattle.pci_stand.specs.Passing.{CanBeNoted, AreStanding}
 use Rattle.pci_stand.proofs.Whole.{ready, slice_back}
 use Rattle.pci_stay.specs.Rooms.{region_bus}
 use Rattle.pci_stay.specs.Staying.{AreStaying}
@@ -27,7 +27,7 @@ hold_all-requires-clause-ready g c =
     let rs = c.in_ok-regions.regions.items in
     let entries = c.as_mut_slice-entries.result.now in
     let are : AreStanding q s c.in_ok-table.table.items = c.in_ok-table.ensures in
-    subst (All (IsReady (length entries))) (sym c.as_slice-regions.ensures.value)
+    subst (All (CanBeNoted (length entries))) (sym c.as_slice-regions.ensures.value)
     (ready q s rs c.in_ok-regions.ensures rs (IsPermutation-refl rs) (length entries) (ap length c.as_mut_slice-entries.ensures.value ∙ are.count))
 
 pub stay_all-requires-clause-ready : goal.stay_all-requires-clause-ready
@@ -37,7 +37,7 @@ stay_all-requires-clause-ready g c =
     let rs = c.in_ok-regions.regions.items in
     let records = c.records-records.result.now in
     let has = lent s records c.records-records.ensures.value c.outline.ensures.records in
-    subst (All (IsReady (length records))) (sym c.as_slice-regions.ensures.value)
+    subst (All (CanBeNoted (length records))) (sym c.as_slice-regions.ensures.value)
     (ready q s rs c.in_ok-regions.ensures rs (IsPermutation-refl rs) (length records) (sym (same_count s records has)))
 
 pub returns : goal.returns

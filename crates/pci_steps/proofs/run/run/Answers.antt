@@ -2,25 +2,25 @@ use Rattle.std.proofs.Common.{arith, sym, ◌∙◌, subst, map}
 use Rattle.std.proofs.lemmas.Result.{err_from_is_err_and}
 use Rattle.pci_plan.specs.Comparing.{moment}
 use Rattle.pci_plan.specs.Writes.{write_value}
-use Rattle.pci_steps.specs.Going.{step_value, AreStopped}
+use Rattle.pci_steps.specs.Going.{code_step, AreStopped}
 use Rattle.pci_steps.proofs.Places.{step_at_cases}
 use Rattle.pci_steps.proofs.Runs.{is_taken, goes, stops, all_made}
 use Rattle.std.proofs.lemmas.List.{length-map}
-use Rattle.pci_plan.specs.Making.{AreMade}
+use Rattle.pci_plan.specs.Making.{AreWritesMade}
 use Rattle.pci_steps.proofs.run.run.Goals as goal
 
 pub advance-requires : goal.advance-requires
 advance-requires g c =
     let cs = map write_value c.args.compares.now in
     let ws = map write_value c.args.writes.now in
-    let step = step_value c.in-Some.step in
+    let step = code_step c.in-Some.step in
     is_taken (g.P.ConfigPort.targets c.args.port.now) cs ws c.requires.compares c.requires.writes c.loop-n.n step (step_at_cases cs ws c.loop-n.n step (sym c.in-Some.ensures))
 
 pub returns-in_err-advance-clause-stopped : goal.returns-in_err-advance-clause-stopped
 returns-in_err-advance-clause-stopped g c =
     let cs = map write_value c.args.compares.now in
     let ws = map write_value c.args.writes.now in
-    let step = step_value c.in-Some.step in
+    let step = code_step c.in-Some.step in
     let before = g.P.ConfigPort.targets c.args.port.now in
     let now = g.P.ConfigPort.targets c.loop-n.port in
     let after = g.P.ConfigPort.targets c.advance.new.port in
@@ -36,7 +36,7 @@ pub loop-n-preserved : goal.loop-n-preserved
 loop-n-preserved g c =
     let cs = map write_value c.args.compares.now in
     let ws = map write_value c.args.writes.now in
-    let step = step_value c.in-Some.step in
+    let step = code_step c.in-Some.step in
     record {
       going = goes (g.P.ConfigPort.targets c.args.port.now) cs ws c.loop-n.n step (g.P.ConfigPort.targets c.loop-n.port) (g.P.ConfigPort.targets c.advance.new.port) c.loop-n.invariant.going
           (step_at_cases cs ws c.loop-n.n step (sym c.in-Some.ensures)) c.in_ok-advance.ensures.went;
@@ -52,4 +52,4 @@ returns-clause-made g c =
     let past = c.loop-n-test.false in
     let end = c.loop-n.auto.n-end in
     let count = c.count-n-end.ensures in
-    subst (λ n. AreMade before ws n now) (length-map c.args.writes.now write_value) (all_made before cs ws now c.loop-n.n (omega (arith, past, end, count)) c.loop-n.invariant.going)
+    subst (λ n. AreWritesMade before ws n now) (length-map c.args.writes.now write_value) (all_made before cs ws now c.loop-n.n (omega (arith, past, end, count)) c.loop-n.invariant.going)

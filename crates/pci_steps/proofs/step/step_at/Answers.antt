@@ -5,7 +5,7 @@ use Rattle.std.proofs.lemmas.List.{length-map}
 use Rattle.std.proofs.lemmas.Option.{slice_get-map, slice_get_read}
 use Rattle.pci_plan.specs.declared.write.Write.{Write as CodeWrite}
 use Rattle.pci_plan.specs.Writes.{write_value}
-use Rattle.pci_steps.specs.Places.{IsPlaceAt}
+use Rattle.pci_steps.specs.Places.{IsPlaceOfStep}
 use Rattle.pci_steps.specs.declared.step.Kind.TheVariants.{ReadBack}
 use Rattle.pci_steps.proofs.Places.{step_compare, step_make, step_read_back, step_none}
 use Rattle.pci_steps.proofs.step.step_at.Goals as goal
@@ -23,13 +23,13 @@ returns-in-None c =
 
 pub returns-in-Some-Compare : goal.returns-in-Some-Compare
 returns-in-Some-Compare c =
-    let place = subst (IsPlaceAt (length c.args.compares.now) (length c.args.writes.now) c.args.n) c.in-Some-Compare.field-0-is c.in-Some-Compare.ensures.some in
+    let place = subst (IsPlaceOfStep (length c.args.compares.now) (length c.args.writes.now) c.args.n) c.in-Some-Compare.field-0-is c.in-Some-Compare.ensures.some in
     let at = at_index c.args.compares.now c.in-Some-Compare.index c.index-compares-index.result place.1 c.index-compares-index.is in
     sym (step_compare (map write_value c.args.compares.now) (map write_value c.args.writes.now) c.args.n (write_value c.index-compares-index.result) (ap (slice_get (map write_value c.args.compares.now)) place.0 ∙ at))
 
 pub returns-in-Some-Make : goal.returns-in-Some-Make
 returns-in-Some-Make c =
-    let place = subst (IsPlaceAt (length c.args.compares.now) (length c.args.writes.now) c.args.n) c.in-Some-Make.field-0-is c.in-Some-Make.ensures.some in
+    let place = subst (IsPlaceOfStep (length c.args.compares.now) (length c.args.writes.now) c.args.n) c.in-Some-Make.field-0-is c.in-Some-Make.ensures.some in
     let compares = length-map c.args.compares.now write_value in
     let here = place.0 in
     let at = at_index c.args.writes.now c.in-Some-Make.index c.index-writes-index.result place.1 c.index-writes-index.is in
@@ -37,7 +37,7 @@ returns-in-Some-Make c =
 
 pub returns-in-Some-ReadBack : goal.returns-in-Some-ReadBack
 returns-in-Some-ReadBack c =
-    let place = subst (IsPlaceAt (length c.args.compares.now) (length c.args.writes.now) c.args.n) c.in-Some-ReadBack.field-0-is c.in-Some-ReadBack.ensures.some in
+    let place = subst (IsPlaceOfStep (length c.args.compares.now) (length c.args.writes.now) c.args.n) c.in-Some-ReadBack.field-0-is c.in-Some-ReadBack.ensures.some in
     let compares = length-map c.args.compares.now write_value in
     let here = place.0 in
     let i = c.in-Some-ReadBack.index in

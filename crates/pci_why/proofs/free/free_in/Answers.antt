@@ -5,7 +5,7 @@ use Rattle.pci_base.specs.declared.range.Range.{Range}
 use Rattle.pci_base.specs.Space.{space_of, kind_in}
 use Rattle.pci_claims.specs.Claim.{Claimed}
 use Rattle.pci_claims.specs.Gathered.{IsCommon}
-use Rattle.pci_claims.specs.Reached.{IsReachTo}
+use Rattle.pci_claims.specs.Reached.{IsStartedReachTo}
 use Rattle.pci_claims.specs.Found.{told}
 use Rattle.pci_why.specs.Missed.{IsOutside}
 use Rattle.pci_why.specs.Free.{AreOfOthers, AreClaimsBeside}
@@ -26,7 +26,7 @@ returns-clause-exact g c =
     (subst (λ (sp : Space). AreClaimsBeside given t.roots s q.slot.bus sp room.claims) (space_same space q.prefetch)
     (subst (λ n. AreClaimsBeside given t.roots s n (window_space (kind_in space q.prefetch)) room.claims) bus (is.claims s tree nested)))
     room.reach others c.in_ok-taken.taken.items left v.items c.whole.result
-    (reach_of_kind given t.roots s space q.prefetch q.slot.bus room.reach (subst (λ n. IsReachTo given t.roots s (kind_in space q.prefetch) n room.reach) bus (is.reached s tree.records)))
+    (reach_of_kind given t.roots s space q.prefetch q.slot.bus room.reach (subst (λ n. IsStartedReachTo given t.roots s (kind_in space q.prefetch) n room.reach) bus (is.reached s tree.records)))
     (subst (λ (l : List Claimed). AreOfOthers l q.slot q.reg others) c.claims.ensures c.in_ok-pieces_of_others.ensures)
     c.in_ok-taken.ensures c.whole.ensures.exact
     (subst (λ (rs : List Range). IsOutside c.whole.result rs left) c.deref.ensures.value c.in_ok-others_left.ensures)

@@ -5,13 +5,13 @@ use Rattle.pci_settle_writes.specs.Endings.{IsRefusal}
 use Rattle.pci_settle_writes.specs.Requests.{request}
 use Rattle.pciplan_held.proofs.PlanWrites.{write_of_c, writes_as_planned}
 use Rattle.pciplan_c.specs.SettleAnswers.{IsNotSettled}
-use Rattle.pciplan_c.specs.SettleWords.{lists_said}
+use Rattle.pciplan_c.specs.SettleWords.{settle_lists}
 use Rattle.pciplan_c.proofs.Settlings.{are_settled, not_settled, same_request}
 use Rattle.pciplan_c.proofs.settling.put_settled.Goals as goal
 
 pub returns-in-Err-Fault-clause-why : goal.returns-in-Err-Fault-clause-why
 returns-in-Err-Fault-clause-why g c = λ roots dump probe words texts by.
-    let q = request c.args.admitted.now.roots (lists_said c.as_slice-io.result.now c.as_slice-mem.result.now c.as_slice-pref.result.now)
+    let q = request c.args.admitted.now.roots (settle_lists c.as_slice-io.result.now c.as_slice-mem.result.now c.as_slice-pref.result.now)
     c.as_slice-fixed.result.now c.args.asked.now.anew in
     subst (λ fault. IsNotSettled roots dump probe words fault) (sym c.in-Err-Fault.fault-is)
     (not_settled roots dump probe words c.args.asked.now c.args.admitted.now q c.in-Err-Fault.fault texts c.outline-outline.ensures.admitted by
@@ -25,7 +25,7 @@ returns-in-Ok-put_writes-clause-put g c = λ roots dump probe words texts by.
     record {
       writes = put.items;
       so = are_settled roots dump probe words c.args.asked.now c.args.admitted.now
-          (request c.args.admitted.now.roots (lists_said c.as_slice-io.result.now c.as_slice-mem.result.now c.as_slice-pref.result.now)
+          (request c.args.admitted.now.roots (settle_lists c.as_slice-io.result.now c.as_slice-mem.result.now c.as_slice-pref.result.now)
           c.as_slice-fixed.result.now c.args.asked.now.anew)
           (map write_value c.in-Ok.settled.writes.all.items) put.items c.in-Ok.settled.writes.closings c.in-Ok-safe_from.safe_from
           texts c.outline-outline.ensures.admitted by
@@ -42,7 +42,7 @@ returns-clause-why g c = λ roots dump probe words texts by. record {
   writes = map write_of_c c.as_slice.result.now;
   safe_from = c.in-Ok-safe_from.safe_from;
   so = are_settled roots dump probe words c.args.asked.now c.args.admitted.now
-      (request c.args.admitted.now.roots (lists_said c.as_slice-io.result.now c.as_slice-mem.result.now c.as_slice-pref.result.now)
+      (request c.args.admitted.now.roots (settle_lists c.as_slice-io.result.now c.as_slice-mem.result.now c.as_slice-pref.result.now)
       c.as_slice-fixed.result.now c.args.asked.now.anew)
       (map write_value c.in-Ok.settled.writes.all.items) (map write_of_c c.as_slice.result.now)
       c.in-Ok.settled.writes.closings c.in-Ok-safe_from.safe_from

@@ -2,7 +2,7 @@ use Rattle.std.proofs.Common.{◌≡◌, ◌-◌, ◌*◌, ◌+◌, ◌<◌, ◌
 use Rattle.std.specs.List.{All, flat_map}
 use Rattle.std.proofs.lemmas.List.{take_all}
 use Rattle.std.proofs.lemmas.List.Elements.{All-get_or, All-push}
-use Rattle.pciplan_cli.specs.RootWords.{bus_text}
+use Rattle.pciplan_cli.specs.RootWords.{comma_bus_text}
 use Rattle.pciplan_cli.proofs.RootWords.{count_buses, comma_there, digits_there, bus_more, roots_read, roots_only}
 use Rattle.pciplan_cli.proofs.root_list.roots_of_list.Goals as goal
 use Rattle.pciplan_cli.proofs.root_list.roots_of_list.Goals.{then-bytes-ne2-via-then-bytes-ne2, then-bytes-ne2-via-else-bytes-ne2+then-count-gt-BUSES, else-i-gt0-via-then-i-gt0+else-bytes-i-ne44, else-i-gt0-via-else-i-gt0}
@@ -41,7 +41,7 @@ loop-i-preserved c =
     record {
       count = search rules;
       below = subst (λ l. All (λ b. b < 256) l) (sym c.push.ensures.items) (All-push (λ b. b < 256) c.loop-i.buses.items _ c.loop-i.invariant.below bus.0);
-      text = subst (λ l. flat_map bus_text l ≡ take (3 * (c.loop-i.i + 1)) (44 ∷ c.as_bytes-bytes.result.now)) (sym c.push.ensures.items)
+      text = subst (λ l. flat_map comma_bus_text l ≡ take (3 * (c.loop-i.i + 1)) (44 ∷ c.as_bytes-bytes.result.now)) (sym c.push.ensures.items)
           (bus_more c.as_bytes-bytes.result.now c.loop-i.buses.items c.loop-i.i _ (omega (arith, c.if-bytes-ne2.false, c.loop-i-test.true)) c.loop-i.invariant.text comma bus.1);
     }
 

@@ -1,13 +1,13 @@
 use Rattle.std.proofs.Common.{◌≡◌, true, false, sym, ◌∙◌, ap, subst, ◌∷◌}
 use Rattle.std.proofs.lemmas.Bool.{eq-eqb, ne_eqb}
-use Rattle.number_spec.specs.Board.{Root, answers}
+use Rattle.number_spec.specs.Board.{RootBus, answers}
 use Rattle.test_numbering.specs.Tree.{nodes_of, board_of, roots_rise, first_byte_of}
 use Rattle.test_numbering.proofs.Nearest.{near_of, byte_on, byte_behind, byte_far}
 use Rattle.test_numbering.proofs.roots.Roots.+byte.Goals as goal
 
 pub returns-then-number-bus : goal.returns-then-number-bus
 returns-then-number-bus t c =
-    let first : Root = record { number = c.in-First.number; nodes = nodes_of c.in-First.nodes } in
+    let first : RootBus = record { number = c.in-First.number; nodes = nodes_of c.in-First.nodes } in
     let rest = board_of c.in-First.rest.value in
     let rise : roots_rise (first ∷ rest) ≡ true = subst (λ r. roots_rise (board_of r) ≡ true) c.in-First.is c.requires in
     let near = near_of first.number c.bus.result c.args.access.bus (board_of c.deref.result.now) rest c.is_nearest.result true c.is_nearest.ensures c.bus.ensures (ap board_of c.deref.ensures) c.if-is_nearest.true in
@@ -15,7 +15,7 @@ returns-then-number-bus t c =
 
 pub returns-else-number-bus : goal.returns-else-number-bus
 returns-else-number-bus t c =
-    let first : Root = record { number = c.in-First.number; nodes = nodes_of c.in-First.nodes } in
+    let first : RootBus = record { number = c.in-First.number; nodes = nodes_of c.in-First.nodes } in
     let rest = board_of c.in-First.rest.value in
     let rise : roots_rise (first ∷ rest) ≡ true = subst (λ r. roots_rise (board_of r) ≡ true) c.in-First.is c.requires in
     let near = near_of first.number c.bus.result c.args.access.bus (board_of c.deref.result.now) rest c.is_nearest.result true c.is_nearest.ensures c.bus.ensures (ap board_of c.deref.ensures) c.if-is_nearest.true in
@@ -23,7 +23,7 @@ returns-else-number-bus t c =
 
 pub returns-else-is_nearest : goal.returns-else-is_nearest
 returns-else-is_nearest t c =
-    let first : Root = record { number = c.in-First.number; nodes = nodes_of c.in-First.nodes } in
+    let first : RootBus = record { number = c.in-First.number; nodes = nodes_of c.in-First.nodes } in
     let rest = board_of c.in-First.rest.value in
     let rise : roots_rise (first ∷ rest) ≡ true = subst (λ r. roots_rise (board_of r) ≡ true) c.in-First.is c.requires in
     let near = near_of first.number c.bus.result c.args.access.bus (board_of c.deref.result.now) rest c.is_nearest.result false c.is_nearest.ensures c.bus.ensures (ap board_of c.deref.ensures) c.if-is_nearest.false in
