@@ -1,6 +1,5 @@
 pub mod Adding
 pub mod Claiming
-pub mod EveryFault
 pub mod Filling
 pub mod Listing
 pub mod Losing

@@ -1,5 +1,3 @@
-pub mod FirstLine
-pub mod Phases
 pub mod Lines
 pub mod Order
 pub mod Owners

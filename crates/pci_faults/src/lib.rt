@@ -14,7 +14,6 @@
 #![tactic(auto)]
 
 pub mod clashes;
-pub mod every;
 pub mod judging;
 pub mod order;
 pub mod owners;

@@ -1,14 +1,13 @@
 -- All faults of a dump and its probe, with what is given, by those of judging or of an earlier phase.
-use Rattle.std.proofs.Common.{◌≡◌, ℕ, ◌<◌, List, [], ◌∷◌, map, refl, sym, ap, subst, ◌∙◌}
+use Rattle.std.proofs.Common.{◌≡◌, ℕ, ◌<◌, List, [], ◌∷◌, map, refl, sym, ap, subst, ◌∙◌, inl, inr, arith}
 use Rattle.std.specs.Prelude.{◌↔◌}
-use Rattle.std.specs.List.{Contains}
+use Rattle.std.proofs.lemmas.Bool.{cases_lt}
 use Rattle.pci_spec.specs.Text.{Block}
 use Rattle.pci_spec.specs.System.{system_of}
 use Rattle.pci_spec.specs.Fault.{fault_number}
 use Rattle.pci_spec.specs.Fault as plain
-use Rattle.pci_spec.specs.Order.{IsFirstThere}
+use Rattle.pci_spec.specs.Order.{IsFirstThere, phase_of}
 use Rattle.pci_spec.specs.FaultLines as plain_lines
-use Rattle.pci_spec.proofs.Members.{in_head}
 use Rattle.pci_spec.proofs.Pairing.{in-of_there}
 use Rattle.pci_function.specs.declared.fault.Fault as code
 use Rattle.pci_function.specs.Fault.{fault_of}
@@ -16,7 +15,6 @@ use Rattle.pci_tree.specs.Admission.{Admission, IsOutlineFor}
 use Rattle.pci_tree.specs.Outline.{Tree}
 use Rattle.pci_early.specs.Lists.{BeginsWith}
 use Rattle.pci_check.proofs.FirstOfAll.{none_early}
-use Rattle.pci_faults.proofs.EveryFault.{early_alone}
 use Rattle.given_spec.specs.Given.{Given}
 use Rattle.given_spec.specs.AllFaults.{AreAllOfJudging}
 use Rattle.given_spec.specs.FaultLines.{AreEarlier, AreJudged, AreSound}
@@ -68,22 +66,31 @@ none_known : (list : List code.Fault) → map (λ f. Known f) list ≡ [] → ma
 none_known [] e = refl
 none_known (f ∷ rest) e = absurd (let no : ⊥ = cc in no)
 
+early_phase : (f : plain.Fault) → fault_number f < 60 → phase_of f < 5
+early_phase (plain.Unreached slot register space address bridge) low = absurd (let no : ⊥ = omega (arith, low) in no)
+early_phase (plain.Clash bus space address first fr second sr) low = absurd (let no : ⊥ = omega (arith, low) in no)
+early_phase (plain.Split space address first fr second sr) low = absurd (let no : ⊥ = omega (arith, low) in no)
+early_phase _ low = omega arith
+
 pub every_of_early : (given : Given) (roots : List ℕ) (dump probe : List Block) (first : plain.Fault) (early : List code.Fault) (list : List AnyFault) → IsFirstThere roots dump probe first
     → fault_number first < 60 → plain_lines.AreAllFaults roots dump probe (map fault_of early) → BeginsWith first (map fault_of early)
     → list ≡ map (λ f. Known f) early → IsEveryEarly given roots dump probe list
 every_of_early given roots dump probe first early list is low all (rest, begins) same =
-    let alone = early_alone roots dump probe first early is low all (rest, begins) in
-    let phase = alone.early first (subst (λ (l : List plain.Fault). Contains l first) (sym begins) (in_head first rest)) in
+    let phase = early_phase first low in
+    let some : (map fault_of early ≡ []) → ⊥ = λ none. (let no : ⊥ = cc in no) in
     record {
       early = record {
         early = map fault_of early;
-        some = alone.some;
-        before = alone.early;
+        some = some;
+        before = λ f has. elim (cases_lt (phase_of first) (phase_of f)) [
+          | inl later ↦ absurd ((all.each f has).none_earlier first later is.there)
+          | inr le ↦ omega (arith, le, phase)
+        ];
         all = all;
         are = ap (map judged_of) same ∙ known_values early;
       };
       none = (
-        λ none. absurd (alone.some (none_known early (sym same ∙ none))),
+        λ none. absurd (some (none_known early (sym same ∙ none))),
         λ are. absurd (none_early roots (system_of dump probe) are.sound.nested are.sound.profile are.sound.chains first phase (in-of_there roots dump probe first are.slots is.there)),
       );
     }
