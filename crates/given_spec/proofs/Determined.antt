@@ -18,7 +18,7 @@ use Rattle.pci_spec.proofs.Ways.{one_way}
 use Rattle.given_spec.specs.Given.{Given, HostRange, nothing_given}
 use Rattle.given_spec.specs.Fault.{Known, Outside}
 use Rattle.given_spec.specs.DeterminedLaws.{WhyIsDetermined, KnownWhyIsDetermined, PlainWhyIsDetermined}
-use Rattle.given_spec.specs.Why.{Region, Own, Legacy, Holds, IsRegionIn, IsNamed, region_line, ranges_for, host_line, bridge_line, Misses, IsBehindOutside, IsBehindUnreached, IsBehindTwo, AreNamedTwo, IsKnownEvidence, IsPlaceFor, IsLeastPlace, IsFit, is_said, IsFitBehind, IsAdviceFor, IsKnownAdvice, IsWhy}
+use Rattle.given_spec.specs.Why.{AnyRegion, Own, Legacy, Holds, IsRegionIn, IsNamed, region_line, ranges_for, host_line, bridge_line, Misses, IsBehindOutside, IsBehindUnreached, IsBehindTwo, AreNamedTwo, IsKnownEvidence, IsPlaceFor, IsLeastPlace, IsFit, is_said, IsFitBehind, IsAdviceFor, IsKnownAdvice, IsWhy}
 use Rattle.given_spec.proofs.Nothing.{not_at_control}
 use Rattle.given_spec.proofs.Reasons.{same_why}
 use Rattle.given_spec.proofs.OneList.{range_from, same_range, same_runs}
@@ -77,7 +77,7 @@ module _ (s : System) (is_system : IsSystem s) where
   own_not_legacy q register is at control = not_at_control is.f q.part (is.register ∙ at ∙ sym control)
 
   module _ (given : Given) where
-    named_one : (p q : Region) (slot : Slot) (register : ℕ) (space : Space) → IsNamed p slot register space → IsNamed q slot register space
+    named_one : (p q : AnyRegion) (slot : Slot) (register : ℕ) (space : Space) → IsNamed p slot register space → IsNamed q slot register space
         → IsRegionIn given s p → IsRegionIn given s q → p ≡ q
     named_one (Own p) (Own q) slot register space named other is also = ap Own (named_own p q slot register space named other is also)
     named_one (Own p) (Legacy c sp) slot register space named other is also = absurd (own_not_legacy p register is named.1 other.1)
@@ -97,11 +97,11 @@ module _ (s : System) (is_system : IsSystem s) where
         let missed : h.missed ≡ k.missed = same_runs (Misses given q k.b) h.missed k.missed (subst (λ (b : Function). AreRuns (Misses given q b) h.missed) of h.runs) k.runs in
         h.text ∙ ap (λ (b : Function). unreached_lines q b h.missed) of ∙ ap (λ (rs : List Range). unreached_lines q k.b rs) missed ∙ sym k.text
 
-    abbrev two_lines : Space → Region → Region → List Range → List ℕ
+    abbrev two_lines : Space → AnyRegion → AnyRegion → List Range → List ℕ
     two_lines space p q shared =
         region_line given (codes "first") p ++ (region_line given (codes "second") q ++ flat_map (range_line (codes "shared") space) shared)
 
-    one_two : (space : Space) (p q : Region) (lines others : List ℕ) → IsBehindTwo given s space p q lines → IsBehindTwo given s space p q others → lines ≡ others
+    one_two : (space : Space) (p q : AnyRegion) (lines others : List ℕ) → IsBehindTwo given s space p q lines → IsBehindTwo given s space p q others → lines ≡ others
     one_two space p q lines others h k =
         h.text ∙ ap (λ (rs : List Range). two_lines space p q rs) (same_runs (λ a. Holds given p a × Holds given q a) h.shared k.shared h.runs k.runs) ∙ sym k.text
 
@@ -110,7 +110,7 @@ module _ (s : System) (is_system : IsSystem s) where
         let first : v ≡ p = named_one v p two.first.slot two.first.register space nv np k.first h.first in
         let second : w ≡ q = named_one w q two.second.slot two.second.register space nw nq k.second h.second in
         one_two space p q lines others h
-        (subst (λ (x : Region). IsBehindTwo given s space p x others) second (subst (λ (x : Region). IsBehindTwo given s space x w others) first k))
+        (subst (λ (x : AnyRegion). IsBehindTwo given s space p x others) second (subst (λ (x : AnyRegion). IsBehindTwo given s space x w others) first k))
 
     one_known_evidence : (fault : faults.Fault) (lines others : List ℕ) → IsKnownEvidence given s fault lines → IsKnownEvidence given s fault others → lines ≡ others
     one_known_evidence fault lines others = elim fault as (λ fault. IsKnownEvidence given s fault lines → IsKnownEvidence given s fault others → lines ≡ others) [
@@ -158,7 +158,7 @@ module _ (s : System) (is_system : IsSystem s) where
       one_of_match false X Y V W Z on off h k = off h k
 
       module _ (assumed : List AssumedRegister) where
-        one_fit_behind : (q : Region) (lines others : List ℕ) → IsFitBehind assumed given roots s q lines → IsFitBehind assumed given roots s q others → lines ≡ others
+        one_fit_behind : (q : AnyRegion) (lines others : List ℕ) → IsFitBehind assumed given roots s q lines → IsFitBehind assumed given roots s q others → lines ≡ others
         one_fit_behind (Legacy b space) lines others h k = h ∙ sym k
         one_fit_behind (Own q) lines others h k =
             one_of_match _ (lines ≡ []) _ (others ≡ []) _ (lines ≡ others) (λ x y. x ∙ sym y)
@@ -169,7 +169,7 @@ module _ (s : System) (is_system : IsSystem s) where
         one_advice_for : (region : RegionName) (space : Space) (lines others : List ℕ) → IsAdviceFor assumed given roots s region space lines → IsAdviceFor assumed given roots s region space others → lines ≡ others
         one_advice_for region space lines others (q, named, is, fit) (w, other, also, fits) =
             let same : w ≡ q = named_one w q region.slot region.register space other named also is in
-            one_fit_behind q lines others fit (subst (λ (x : Region). IsFitBehind assumed given roots s x others) same fits)
+            one_fit_behind q lines others fit (subst (λ (x : AnyRegion). IsFitBehind assumed given roots s x others) same fits)
 
         one_known_advice : (fault : faults.Fault) (lines others : List ℕ) → IsKnownAdvice assumed given roots s fault lines → IsKnownAdvice assumed given roots s fault others → lines ≡ others
         one_known_advice fault lines others = elim fault as (λ fault. IsKnownAdvice assumed given roots s fault lines → IsKnownAdvice assumed given roots s fault others → lines ≡ others) [

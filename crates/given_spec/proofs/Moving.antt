@@ -22,8 +22,8 @@ use Rattle.given_spec.specs.Given.{Given, nothing_given, legacy_claims, legacy_h
 use Rattle.given_spec.specs.Claims.{Part, Own, Legacy, Claims, IsPassedTo, Gets, ClaimsOnBus, passes, forwards, register_of, may_share}
 use Rattle.given_spec.specs.Fault.{Fault, Known, Outside, IsIn, IsOutside, IsUnreached, IsClash, IsSplit}
 use Rattle.given_spec.specs.FaultsText.{is_of_judging}
-use Rattle.given_spec.specs.Why.{IsTaken, IsPlaceFor}
-use Rattle.given_spec.specs.Moved.{IsSameBut, IsMovedTo, IsFaultOf, IsKnownFaultOf, HasItsSize, name_of, NoFaultWhereItFits, NoFaultOfOthers, NoPlainFaultWhereItFits}
+use Rattle.given_spec.specs.Why.{IsTakenBeside, IsPlaceFor}
+use Rattle.given_spec.specs.Moved.{IsSameBut, IsMovedTo, NamesRegion, IsKnownFaultOf, HasItsSize, part_name, NoFaultWhereItFits, NoFaultOfOthers, NoPlainFaultWhereItFits}
 use Rattle.given_spec.proofs.Nothing.{not_at_control, same_faults, same_passed_to}
 use Rattle.given_spec.proofs.Judging.{passed_is_sent, passed_by_each, shared_slot}
 use Rattle.given_spec.proofs.Naming.{turned, swapped, swapped_split}
@@ -217,11 +217,11 @@ module _ (given : Given) (roots : List ℕ) (s t : System) (q : Region) (r : Ran
       }
 
   -- what a region is named by, where a fault doesn't name the region
-  other_name : (slot : Slot) (register : ℕ) → (named_region slot register ≡ name_of q → ⊥) → (slot ≡ q.slot) × (register ≡ q.register) → ⊥
+  other_name : (slot : Slot) (register : ℕ) → (named_region slot register ≡ part_name q → ⊥) → (slot ≡ q.slot) × (register ≡ q.register) → ⊥
   other_name slot register other e = other (λ i. record { slot = e.0 i; register = e.1 i })
 
-  known_was : (fault : plain.Fault) → IsTrue (is_of_judging (Known fault)) → (IsKnownFaultOf (name_of q) fault → ⊥) → IsIn given roots t (Known fault) → IsIn given roots s (Known fault)
-  known_was fault = elim fault as (λ fault. IsTrue (is_of_judging (Known fault)) → (IsKnownFaultOf (name_of q) fault → ⊥) → IsIn given roots t (Known fault) → IsIn given roots s (Known fault)) [
+  known_was : (fault : plain.Fault) → IsTrue (is_of_judging (Known fault)) → (IsKnownFaultOf (part_name q) fault → ⊥) → IsIn given roots t (Known fault) → IsIn given roots s (Known fault)
+  known_was fault = elim fault as (λ fault. IsTrue (is_of_judging (Known fault)) → (IsKnownFaultOf (part_name q) fault → ⊥) → IsIn given roots t (Known fault) → IsIn given roots s (Known fault)) [
     | Unreached slot register space a bridge ↦ (λ judged other u. unreached_was slot register space a bridge (other_name slot register other) u)
     | Clash bus space a first fr second sr ↦ (λ judged other c. record {
       gets = gets_was space a bus c.gets;
@@ -242,7 +242,7 @@ module _ (given : Given) (roots : List ℕ) (s t : System) (q : Region) (r : Ran
     | _ ↦ (λ judged other is. absurd (both_ways false refl judged))
   ]
 
-  was_there : (fault : Fault) → IsTrue (is_of_judging fault) → (IsFaultOf (name_of q) fault → ⊥) → IsIn given roots t fault → IsIn given roots s fault
+  was_there : (fault : Fault) → IsTrue (is_of_judging fault) → (NamesRegion (part_name q) fault → ⊥) → IsIn given roots t fault → IsIn given roots s fault
   was_there (Known fault) judged other is = known_was fault judged other is
   was_there (Outside slot register space a) judged other o = outside_was slot register space a (other_name slot register other) o
 
@@ -269,7 +269,7 @@ module _ (given : Given) (roots : List ℕ) (s t : System) (q : Region) (r : Ran
     reached : (a : ℕ) → InRange r a → IsPassedTo given roots s (address_in q.space a) q.prefetchable q.slot.bus
     reached a in_range = place.reached a in_range.0 (let below = in_range.1 in omega (arith, below, size))
 
-    never_taken : (a : ℕ) → InRange r a → IsTaken given roots s q a → ⊥
+    never_taken : (a : ℕ) → InRange r a → IsTakenBeside given roots s q a → ⊥
     never_taken a in_range = place.free a in_range.0 (let below = in_range.1 in omega (arith, below, size))
 
     -- ---- not sent, or not reached
@@ -343,14 +343,14 @@ module _ (given : Given) (roots : List ℕ) (s t : System) (q : Region) (r : Ran
 
     -- ---- all of judging
 
-    slot_of : (slot : Slot) (register : ℕ) → named_region slot register ≡ name_of q → slot ≡ q.slot
+    slot_of : (slot : Slot) (register : ℕ) → named_region slot register ≡ part_name q → slot ≡ q.slot
     slot_of slot register e = ap (λ (n : plain.RegionName). n.slot) e
 
-    register_is : (slot : Slot) (register : ℕ) → named_region slot register ≡ name_of q → register ≡ q.register
+    register_is : (slot : Slot) (register : ℕ) → named_region slot register ≡ part_name q → register ≡ q.register
     register_is slot register e = ap (λ (n : plain.RegionName). n.register) e
 
-    no_known : (fault : plain.Fault) → IsKnownFaultOf (name_of q) fault → IsIn given roots t (Known fault) → ⊥
-    no_known fault = elim fault as (λ fault. IsKnownFaultOf (name_of q) fault → IsIn given roots t (Known fault) → ⊥) [
+    no_known : (fault : plain.Fault) → IsKnownFaultOf (part_name q) fault → IsIn given roots t (Known fault) → ⊥
+    no_known fault = elim fault as (λ fault. IsKnownFaultOf (part_name q) fault → IsIn given roots t (Known fault) → ⊥) [
       | Unreached slot register space a bridge ↦ (λ e u. not_unreached slot register space a bridge (slot_of slot register e) (register_is slot register e) u)
       | Clash bus space a first fr second sr ↦ (λ e c. elim e [
         | inl e ↦ not_second bus space a second sr first fr (slot_of first fr e) (register_is first fr e) (swapped given roots t bus space a first fr second sr c)
@@ -363,7 +363,7 @@ module _ (given : Given) (roots : List ℕ) (s t : System) (q : Region) (r : Ran
       | _ ↦ (λ e is. absurd e)
     ]
 
-    none_is : (fault : Fault) → IsFaultOf (name_of q) fault → IsIn given roots t fault → ⊥
+    none_is : (fault : Fault) → NamesRegion (part_name q) fault → IsIn given roots t fault → ⊥
     none_is (Known fault) e is = no_known fault e is
     none_is (Outside slot register space a) e o = not_outside slot register space a (slot_of slot register e) (register_is slot register e) o
 

@@ -22,7 +22,7 @@ use Rattle.given_spec.specs.Claims.{Own as OwnPart, Legacy as LegacyPart, Part, 
 use Rattle.given_spec.specs.Fault.{Known}
 use Rattle.given_spec.specs.Laws.{SameWhy, SameText}
 use Rattle.given_spec.specs.FaultsText.{AreReasoned, yes_line, off_behind}
-use Rattle.given_spec.specs.Why.{Own, Legacy, Misses, IsBehindUnreached, IsBehindTwo, AreNamedTwo, IsEvidence, IsKnownEvidence, IsBeside, IsTaken, IsPlaceFor, IsLeastPlace, IsFit, IsFitBehind, IsAdviceFor, IsAdvice, IsKnownAdvice, is_said}
+use Rattle.given_spec.specs.Why.{Own, Legacy, Misses, IsBehindUnreached, IsBehindTwo, AreNamedTwo, IsEvidence, IsKnownEvidence, IsBeside, IsTakenBeside, IsPlaceFor, IsLeastPlace, IsFit, IsFitBehind, IsAdviceFor, IsAdvice, IsKnownAdvice, is_said}
 use Rattle.given_spec.proofs.Nothing.{same_passes, same_passed_to, no_legacy_claims, not_at_control, not_shared}
 
 -- ---- runs
@@ -187,7 +187,7 @@ taken_plain roots s q a f LegacyPart below listed beside other claims = absurd (
 off_control : (s : System) (q : plain.Region) → plain.IsRegionIn s q → q.register ≡ 0x3e → ⊥
 off_control s q is e = not_at_control is.f q.part (is.register ∙ e)
 
-plain_taken : (roots : List ℕ) (s : System) (q : plain.Region) (a : ℕ) → plain.IsRegionIn s q → plain.IsTaken s q a → IsTaken nothing_given roots s q a
+plain_taken : (roots : List ℕ) (s : System) (q : plain.Region) (a : ℕ) → plain.IsRegionIn s q → plain.IsTaken s q a → IsTakenBeside nothing_given roots s q a
 plain_taken roots s q a is t = record {
   f = t.f;
   part = OwnPart t.part;

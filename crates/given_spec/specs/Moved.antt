@@ -18,8 +18,8 @@ use Rattle.given_spec.specs.FaultsText.{is_of_judging}
 use Rattle.given_spec.specs.Why.{IsPlaceFor}
 
 -- the slot and the register by which a fault names the region
-abbrev pub name_of : Region → RegionName
-name_of q = named_region q.slot q.register
+abbrev pub part_name : Region → RegionName
+part_name q = named_region q.slot q.register
 
 -- the region, at another range
 abbrev pub at_range : Region → Range → Region
@@ -69,9 +69,9 @@ IsKnownFaultOf region (Split space address first first_register second second_re
 IsKnownFaultOf region fault = ⊥
 
 -- a fault of judging names the region: alone, or as one of two
-abbrev pub IsFaultOf : RegionName → Fault → Type 0
-IsFaultOf region (Known fault) = IsKnownFaultOf region fault
-IsFaultOf region (Outside slot register space address) = named_region slot register ≡ region
+abbrev pub NamesRegion : RegionName → Fault → Type 0
+NamesRegion region (Known fault) = IsKnownFaultOf region fault
+NamesRegion region (Outside slot register space address) = named_region slot register ≡ region
 
 -- A BAR or an expansion ROM that is moved to where it fits has no fault of its own any more: none of judging names it.
 -- (The windows of bridges stay as they were, so no window is moved here.)
@@ -80,13 +80,13 @@ NoFaultWhereItFits =
     (given : Given) (roots : List ℕ) (s t : System) (q : Region) (wide : Bool) (r : Range)
     → IsSystem s → IsSystem t → IsNested roots s
     → IsPlaceFor given roots s q wide r.first → HasItsSize q r → IsMovedTo s t q r
-    → (fault : Fault) → IsFaultOf (name_of q) fault → IsIn given roots t fault → ⊥
+    → (fault : Fault) → NamesRegion (part_name q) fault → IsIn given roots t fault → ⊥
 
 -- A move makes no fault of other regions: each fault of judging that doesn't name the region was there before.
 abbrev pub NoFaultOfOthers : Type 0
 NoFaultOfOthers =
     (given : Given) (roots : List ℕ) (s t : System) (q : Region) (r : Range) → IsMovedTo s t q r
-    → (fault : Fault) → IsTrue (is_of_judging fault) → (IsFaultOf (name_of q) fault → ⊥)
+    → (fault : Fault) → IsTrue (is_of_judging fault) → (NamesRegion (part_name q) fault → ⊥)
     → IsIn given roots t fault → IsIn given roots s fault
 
 -- With nothing given it is so of a region that is on no root bus.
@@ -95,7 +95,7 @@ NoPlainFaultWhereItFits =
     (roots : List ℕ) (s t : System) (q : Region) (wide : Bool) (r : Range)
     → IsSystem s → IsSystem t → IsNested roots s → IsFalse (is_root roots q.slot.bus)
     → why.IsPlaceFor roots s q wide r.first → HasItsSize q r → IsMovedTo s t q r
-    → (fault : plain.Fault) → IsKnownFaultOf (name_of q) fault → plain.IsIn roots t fault → ⊥
+    → (fault : plain.Fault) → IsKnownFaultOf (part_name q) fault → plain.IsIn roots t fault → ⊥
 
 -- ---- a move by writes of its register
 

@@ -46,27 +46,27 @@ legacy_text is_narrow Io =
 -- ---- regions
 
 -- a region as a line tells it: one that address registers show, or the legacy part of a bridge in a space
-pub data Region : Type 0 where
-  Own : plain.Region → Region
-  Legacy : Function → Space → Region
+pub data AnyRegion : Type 0 where
+  Own : plain.Region → AnyRegion
+  Legacy : Function → Space → AnyRegion
 
 -- it claims the address
-abbrev pub Holds : Given → Region → ℕ → Type 0
+abbrev pub Holds : Given → AnyRegion → ℕ → Type 0
 Holds given (Own q) a = InRange q.range a
 Holds given (Legacy b space) a = LegacyClaims given b space a
 
 -- it is one of the system's, and claims an address
-abbrev pub IsRegionIn : Given → System → Region → Type 0
+abbrev pub IsRegionIn : Given → System → AnyRegion → Type 0
 IsRegionIn given s (Own q) = plain.IsRegionIn s q
 IsRegionIn given s (Legacy b space) = Contains s b × (a : ℕ) × LegacyClaims given b space a
 
 -- the region that a slot and a register name, in a space
-abbrev pub IsNamed : Region → Slot → ℕ → Space → Type 0
+abbrev pub IsNamed : AnyRegion → Slot → ℕ → Space → Type 0
 IsNamed (Own q) slot register space = plain.IsNamed q slot register space
 IsNamed (Legacy b of_space) slot register space =
     (b.slot ≡ slot) × (BRIDGE_CONTROL ≡ register) × (of_space ≡ space)
 
-abbrev pub region_line : Given → List ℕ → Region → List ℕ
+abbrev pub region_line : Given → List ℕ → AnyRegion → List ℕ
 region_line given word (Own q) = plain.region_line word q
 region_line given word (Legacy b space) =
     inner_line (word ∷ slot_text b.slot ∷ hex_byte BRIDGE_CONTROL
@@ -130,7 +130,7 @@ pub record IsBehindUnreached (given : Given) (s : System) (q : plain.Region) (br
 -- ---- two regions
 
 -- The lines behind two regions that claim an address: both, and each run of addresses that are of the two.
-pub record IsBehindTwo (given : Given) (s : System) (space : Space) (p q : Region)
+pub record IsBehindTwo (given : Given) (s : System) (space : Space) (p q : AnyRegion)
     (lines : List ℕ) : Type 0 where
   pub first : IsRegionIn given s p
   pub second : IsRegionIn given s q
@@ -143,7 +143,7 @@ pub record IsBehindTwo (given : Given) (s : System) (space : Space) (p q : Regio
 
 abbrev pub AreNamedTwo : Given → System → Space → TwoRegions → List ℕ → Type 0
 AreNamedTwo given s space two lines =
-    (p : Region) × (q : Region) × IsNamed p two.first.slot two.first.register space
+    (p : AnyRegion) × (q : AnyRegion) × IsNamed p two.first.slot two.first.register space
     × IsNamed q two.second.slot two.second.register space × IsBehindTwo given s space p q lines
 
 abbrev pub IsKnownEvidence : Given → System → faults.Fault → List ℕ → Type 0
@@ -174,7 +174,7 @@ IsBeside given roots q a f =
     × IsTrue (starts given q.space f.slot.bus a))
 
 -- another one claims the address, and may not share it
-pub record IsTaken (given : Given) (roots : List ℕ) (s : System) (q : plain.Region)
+pub record IsTakenBeside (given : Given) (roots : List ℕ) (s : System) (q : plain.Region)
     (a : ℕ) : Type 0 where
   pub f : Function
   pub part : Part
@@ -193,7 +193,7 @@ pub record IsPlaceFor (given : Given) (roots : List ℕ) (s : System) (q : plain
   pub reached : (a : ℕ) → first ≤ a → a < first + address_count q.range
       → IsPassedTo given roots s (address_in q.space a) q.prefetchable q.slot.bus
   pub free : (a : ℕ) → first ≤ a → a < first + address_count q.range
-      → IsTaken given roots s q a → ⊥
+      → IsTakenBeside given roots s q a → ⊥
 
 -- the least such place, with its last address too
 pub record IsLeastPlace (given : Given) (roots : List ℕ) (s : System) (q : plain.Region)
@@ -221,7 +221,7 @@ is_said given space = is_some (ranges_said given space)
 -- A window has no such line: what is behind its bridge would have to move with it. Neither has a region on a root bus to
 -- which all of the space is sent, nor a legacy part, which can't be moved. Where the read back of the region's register is
 -- assumed, its size isn't known.
-abbrev pub IsFitBehind : List AssumedRegister → Given → List ℕ → System → Region → List ℕ → Type 0
+abbrev pub IsFitBehind : List AssumedRegister → Given → List ℕ → System → AnyRegion → List ℕ → Type 0
 IsFitBehind assumed given roots s (Own q) lines =
     MatchBool (is_window q.part || is_root roots q.slot.bus && not (is_said given q.space)) (lines ≡ [])
     (MatchBool (is_size_assumed assumed q.slot q.register) (lines ≡ unknown_line)
@@ -231,7 +231,7 @@ IsFitBehind assumed given roots s (Legacy b space) lines = lines ≡ []
 abbrev pub IsAdviceFor :
     List AssumedRegister → Given → List ℕ → System → RegionName → Space → List ℕ → Type 0
 IsAdviceFor assumed given roots s region space lines =
-    (q : Region) × IsNamed q region.slot region.register space × IsRegionIn given s q
+    (q : AnyRegion) × IsNamed q region.slot region.register space × IsRegionIn given s q
     × IsFitBehind assumed given roots s q lines
 
 abbrev pub IsKnownAdvice :

@@ -17,7 +17,7 @@ use Rattle.pci_tree.proofs.SlotSearch.{in_slots}
 use Rattle.pci_tree.proofs.Lifting.{Has, record_for, function_for, same_slot_of, one_by_number}
 use Rattle.pci_tree.proofs.RegionParts.{regions_are, regions_are_all}
 use Rattle.pci_tree.proofs.RegionOrder.{regions_rise}
-use Rattle.pci_claims.specs.Found.{IsRegionAt, HasNoRegionAt, IsFoundIn, NoneClaims, told}
+use Rattle.pci_claims.specs.Found.{IsRegionAt, HasNoRegionAt, IsFoundIn, NoneClaims, region_of_found}
 
 -- where no record has the slot, no function does
 pub none_without_record : (s : System) (rs : List Record) (slot : Slot) (reg : ℕ) (space : Space) → Has s rs → (Contains (slots_of rs) slot → ⊥) → NoneClaims s slot reg space
@@ -69,7 +69,7 @@ found_or_none s rs r slot reg space None is rise has at lawful none = none_in_re
 found_or_none s rs r slot reg space (Some q) is rise has at lawful here = found_in_record s rs r slot reg space q is rise has at lawful here
 
 -- such a region is one of the system
-pub region_in : (s : System) (f : Function) (part : Part) (space : Space) (q : Region) → Contains s f → IsRegionOf f part space q → IsRegionIn s (told q part space)
+pub region_in : (s : System) (f : Function) (part : Part) (space : Space) (q : Region) → Contains s f → IsRegionOf f part space q → IsRegionIn s (region_of_found q part space)
 region_in s f part space q listed is = record {
   f = f;
   listed = listed;

@@ -41,16 +41,16 @@ NoneClaims s slot reg space =
 abbrev pub range_at : Region → Range
 range_at q = record { first = q.first; last = q.last }
 
-abbrev pub range_of : Region → decoded.Range
-range_of q = record { first = q.first; last = q.last }
+abbrev pub bounds_range : Region → decoded.Range
+bounds_range q = record { first = q.first; last = q.last }
 
 -- a region as the definitions have it
-abbrev pub told : Region → Part → Space → RegionValue
-told q part space = record {
+abbrev pub region_of_found : Region → Part → Space → RegionValue
+region_of_found q part space = record {
   slot = q.slot;
   register = q.reg;
   part = part;
   space = space;
   prefetchable = q.prefetch;
-  range = range_of q;
+  range = bounds_range q;
 }

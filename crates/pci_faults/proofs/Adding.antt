@@ -16,7 +16,7 @@ use Rattle.pci_function.specs.declared.fault.Fault.{Fault}
 use Rattle.pci_function.specs.Fault.{fault_of}
 use Rattle.pci_tree.specs.Outline.{Tree}
 use Rattle.pci_tree.specs.Trees.{HasTree}
-use Rattle.pci_faults.specs.Lines.{AreJust, AreAdded, AreLinesAdded, IsLine, IsAt, IsBelow}
+use Rattle.pci_faults.specs.Lines.{AreJustLines, AreAdded, AreLinesAdded, IsLineInEach, IsAt, IsBelow}
 
 abbrev pub key_of : Fault → List ℕ
 key_of f = judging_key (fault_of f)
@@ -28,14 +28,14 @@ Differ f g = key_of f ≡ key_of g → ⊥
 abbrev pub AreApart : (faults.Fault → Type 0) → (faults.Fault → Type 0) → Type 0
 AreApart P Q = (f g : faults.Fault) → P f → Q g → judging_key f ≡ judging_key g → ⊥
 
-pub just_none : (P : faults.Fault → Type 0) → ((f : faults.Fault) → P f → ⊥) → AreJust P []
+pub just_none : (P : faults.Fault → Type 0) → ((f : faults.Fault) → P f → ⊥) → AreJustLines P []
 just_none P none = record {
   each = λ f has. absurd (in_nil f has);
   complete = λ f is. absurd (none f is);
   distinct = pairs_nil Differ;
 }
 
-pub just_one : (P : faults.Fault → Type 0) (f : Fault) → P (fault_of f) → ((g : faults.Fault) → P g → fault_of f ≡ g) → AreJust P (f ∷ [])
+pub just_one : (P : faults.Fault → Type 0) (f : Fault) → P (fault_of f) → ((g : faults.Fault) → P g → fault_of f ≡ g) → AreJustLines P (f ∷ [])
 just_one P f is only = record {
   each = λ g has. elim (in_cons_cases f [] g has) [ inl here ↦ subst (λ (x : Fault). P (fault_of x)) here is | inr later ↦ absurd (in_nil g later) ];
   complete = λ g such. (f, in_head f [], only g such);
@@ -43,7 +43,7 @@ just_one P f is only = record {
 }
 
 module _ (P Q R : faults.Fault → Type 0) (apart : AreApart P Q) (either : (f : faults.Fault) → R f ↔ (P f ⊎ Q f)) where
-  pub just_both : (xs ys : List Fault) → AreJust P xs → AreJust Q ys → AreJust R (xs ++ ys)
+  pub just_both : (xs ys : List Fault) → AreJustLines P xs → AreJustLines Q ys → AreJustLines R (xs ++ ys)
   just_both xs ys one two = record {
     each = λ f has. (either (fault_of f)).1 (elim (Contains-append_cases xs ys f has) [ inl before ↦ inl (one.each f before) | inr here ↦ inr (two.each f here) ]);
     complete = λ f is. elim ((either f).0 is) [
@@ -53,7 +53,7 @@ module _ (P Q R : faults.Fault → Type 0) (apart : AreApart P Q) (either : (f :
     distinct = pairs_append Differ xs ys one.distinct two.distinct (λ x y in_x in_y. apart (fault_of x) (fault_of y) (one.each x in_x) (two.each y in_y));
   }
 
-pub just_same : (P Q : faults.Fault → Type 0) (xs : List Fault) → ((f : faults.Fault) → P f ↔ Q f) → AreJust P xs → AreJust Q xs
+pub just_same : (P Q : faults.Fault → Type 0) (xs : List Fault) → ((f : faults.Fault) → P f ↔ Q f) → AreJustLines P xs → AreJustLines Q xs
 just_same P Q xs same just = record {
   each = λ f has. (same (fault_of f)).0 (just.each f has);
   complete = λ f is. just.complete f ((same f).1 is);
@@ -112,7 +112,7 @@ same_at : (k : ℕ) (xs ys : List ℕ) → xs ≡ ys → get_or xs k 0 ≡ get_o
 same_at k xs ys e = ap (λ l. get_or l k 0) e
 
 module _ (roots : List ℕ) (s : System) (system : IsSystem s) (A B : Where) where
-  unreached_same : (t u : Slot) (r q : ℕ) (sp space : Space) (a b : ℕ) (c d : Slot) → IsLine A roots s (faults.Unreached t r sp a c) → IsLine B roots s (faults.Unreached u q space b d)
+  unreached_same : (t u : Slot) (r q : ℕ) (sp space : Space) (a b : ℕ) (c d : Slot) → IsLineInEach A roots s (faults.Unreached t r sp a c) → IsLineInEach B roots s (faults.Unreached u q space b d)
       → judging_key (faults.Unreached t r sp a c) ≡ judging_key (faults.Unreached u q space b d) → AreAtOne A B
   unreached_same t u r q sp space a b c d one two e =
       let v = one.1.there in
@@ -122,7 +122,7 @@ module _ (roots : List ℕ) (s : System) (system : IsSystem s) (A B : Where) whe
       let region = same_region s system v.f w.f v.part w.part sp space a b v.listed w.listed (v.named.0 ∙ slot ∙ sym w.named.0) (v.named.1 ∙ register ∙ sym w.named.1) v.claims w.claims in
       at_one A B Reach t.bus u.bus sp space (ap (λ (x : Slot). x.bus) slot) region.2 one.0 two.0
 
-  pub same_line : (f g : faults.Fault) → IsLine A roots s f → IsLine B roots s g → judging_key f ≡ judging_key g → AreAtOne A B
+  pub same_line : (f g : faults.Fault) → IsLineInEach A roots s f → IsLineInEach B roots s g → judging_key f ≡ judging_key g → AreAtOne A B
   same_line (faults.Unreached t r sp a c) (faults.Unreached u q space b d) one two e = unreached_same t u r q sp space a b c d one two e
   same_line (faults.Clash n sp a f r g q) (faults.Clash m space b h k i l) one two e =
       at_one A B Clashes n m sp space (same_at 1 _ _ e) (space_key-same sp space (same_at 2 _ _ e)) one.0 two.0
@@ -135,8 +135,8 @@ module _ (roots : List ℕ) (s : System) (system : IsSystem s) (A B : Where) whe
   same_line (faults.Split sp a f r g q) (faults.Clash m space b h k i l) one two e = absurd (let head = same_at 0 _ _ e in let no : ⊥ = omega (arith, head) in no)
   same_line f g one two e = absurd (search rules)
 
-either_line : (A B C : Where) → ((c : Check) (b : ℕ) (sp : Space) → C c b sp ↔ (A c b sp ⊎ B c b sp)) → (roots : List ℕ) (s : System) (f : faults.Fault) → IsLine C roots s f ↔ (IsLine A roots s f ⊎ IsLine B roots s f)
-either_line A B C either roots s f = elim f as (λ (f : faults.Fault). IsLine C roots s f ↔ (IsLine A roots s f ⊎ IsLine B roots s f)) [
+either_line : (A B C : Where) → ((c : Check) (b : ℕ) (sp : Space) → C c b sp ↔ (A c b sp ⊎ B c b sp)) → (roots : List ℕ) (s : System) (f : faults.Fault) → IsLineInEach C roots s f ↔ (IsLineInEach A roots s f ⊎ IsLineInEach B roots s f)
+either_line A B C either roots s f = elim f as (λ (f : faults.Fault). IsLineInEach C roots s f ↔ (IsLineInEach A roots s f ⊎ IsLineInEach B roots s f)) [
   | Unreached slot register space a b ↦ split_up (either Reach slot.bus space)
   | Clash bus space a f r g q ↦ split_up (either Clashes bus space)
   | Split space a f r g q ↦ split_up (either Splits 0 space)
@@ -145,26 +145,26 @@ either_line A B C either roots s f = elim f as (λ (f : faults.Fault). IsLine C 
 
 module _ (t : Tree) (A B C : Where) (never : (c : Check) (b : ℕ) (sp : Space) → A c b sp → B c b sp → ⊥) (either : (c : Check) (b : ℕ) (sp : Space) → C c b sp ↔ (A c b sp ⊎ B c b sp)) where
   pub lines_both : (a b c : List Fault) → AreLinesAdded A t a b → AreLinesAdded B t b c → AreLinesAdded C t a c
-  lines_both a b c one two = added_both t (IsLine A t.roots) (IsLine B t.roots) (IsLine C t.roots) a b c
+  lines_both a b c one two = added_both t (IsLineInEach A t.roots) (IsLineInEach B t.roots) (IsLineInEach C t.roots) a b c
       (λ s tree f g line other e. (let at = same_line t.roots s tree.system A B f g line other e in never at.check at.bus at.space at.first at.second))
       (λ s tree f. either_line A B C either t.roots s f) one two
 
 -- ---- spaces and buses
 
 module _ (check : Check) (roots : List ℕ) (s : System) where
-  none_below : (f : faults.Fault) → IsLine (IsBelow check 0) roots s f → ⊥
+  none_below : (f : faults.Fault) → IsLineInEach (IsBelow check 0) roots s f → ⊥
   none_below (faults.Unreached slot register sp a b) line = let less = line.0.1 in let no : ⊥ = omega (arith, less) in no
   none_below (faults.Clash bus sp a f r g q) line = let less = line.0.1 in let no : ⊥ = omega (arith, less) in no
   none_below (faults.Split sp a f r g q) line = let less = line.0.1 in let no : ⊥ = omega (arith, less) in no
   none_below f line = absurd (search rules)
 
-  widened : (f : faults.Fault) → IsLine (IsBelow check 256) roots s f → IsLine (λ c n sp. c ≡ check) roots s f
+  widened : (f : faults.Fault) → IsLineInEach (IsBelow check 256) roots s f → IsLineInEach (λ c n sp. c ≡ check) roots s f
   widened (faults.Unreached slot register sp a b) line = (line.0.0, line.1)
   widened (faults.Clash bus sp a f r g q) line = (line.0.0, line.1)
   widened (faults.Split sp a f r g q) line = (line.0.0, line.1)
   widened f line = absurd (search rules)
 
-  narrowed : IsSystem s → (f : faults.Fault) → IsLine (λ c n sp. c ≡ check) roots s f → IsLine (IsBelow check 256) roots s f
+  narrowed : IsSystem s → (f : faults.Fault) → IsLineInEach (λ c n sp. c ≡ check) roots s f → IsLineInEach (IsBelow check 256) roots s f
   narrowed system (faults.Unreached slot register sp a b) line =
       let u = line.1.there in
       let small = (slot_of s system u.f u.listed).0 in
@@ -190,7 +190,7 @@ module _ (t : Tree) (check : Check) where
       )) a b c one two
 
   pub no_bus : (list : List Fault) → AreLinesAdded (IsBelow check 0) t list list
-  no_bus list = added_none t (IsLine (IsBelow check 0) t.roots) list (λ s tree f line. none_below check t.roots s f line)
+  no_bus list = added_none t (IsLineInEach (IsBelow check 0) t.roots) list (λ s tree f line. none_below check t.roots s f line)
 
   pub one_bus_more : (n : ℕ) (a b c : List Fault) → AreLinesAdded (IsBelow check n) t a b → AreLinesAdded (IsOn n) t b c → AreLinesAdded (IsBelow check (n + 1)) t a c
   one_bus_more n a b c one two = lines_both t (IsBelow check n) (IsOn n) (IsBelow check (n + 1))
@@ -202,5 +202,5 @@ module _ (t : Tree) (check : Check) where
 
   -- buses have numbers below 256
   pub all_buses : (a b : List Fault) → AreLinesAdded (IsBelow check 256) t a b → AreLinesAdded (λ c n sp. c ≡ check) t a b
-  all_buses a b added = added_same t (IsLine (IsBelow check 256) t.roots) (IsLine (λ c n sp. c ≡ check) t.roots) a b
+  all_buses a b added = added_same t (IsLineInEach (IsBelow check 256) t.roots) (IsLineInEach (λ c n sp. c ≡ check) t.roots) a b
       (λ s tree f. (λ line. widened check t.roots s f line, λ line. narrowed check t.roots s tree.system f line)) added

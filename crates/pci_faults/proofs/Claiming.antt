@@ -31,12 +31,12 @@ use Rattle.pci_faults.specs.declared.shares.Among.{Among}
 use Rattle.pci_faults.specs.declared.shares.Among.TheVariants.{Bus, Roots}
 use Rattle.pci_faults.specs.declared.shares.Share.{Share}
 use Rattle.pci_faults.specs.Shares.{SpansAt, IsShared, AreShares, GroupsRise, group_at}
-use Rattle.pci_faults.specs.Lines.{region_at, nowhere, told, AreJust, AreLinesAdded, IsLine, IsAt}
+use Rattle.pci_faults.specs.Lines.{region_at, nothing_shared, share_fault, AreJustLines, AreLinesAdded, IsLineInEach, IsAt}
 use Rattle.pci_faults.proofs.Naming.{IsAtPlace, IsSharedAs, AreLeastOf, IsTold, clash_told, split_told, second_of_clash, second_of_split, place_before, places_of, rising_of, just_told}
 
 module _ (s : System) (system : IsSystem s) (IsOne : ℕ → Type 0) (space : SpaceValue) (regions : List Region) (are : AreRegionsOn s IsOne space regions) where
   claims_at : (k a : ℕ) → k < length regions → SpansAt regions k a → (bus : ℕ) × IsOne bus × ClaimsOnBus s bus (address_in space a) (named_region (region_at regions k).slot (region_at regions k).reg)
-  claims_at k a within spans = claims_of s system IsOne space regions are [] a (region_at regions k) record { has = Contains-get_or regions k nowhere within; claims = spans nowhere }
+  claims_at k a within spans = claims_of s system IsOne space regions are [] a (region_at regions k) record { has = Contains-get_or regions k nothing_shared within; claims = spans nothing_shared }
 
   -- the place of a region that claims an address
   record IsClaimedAt (a : ℕ) (slot : Slot) (register : ℕ) : Type 0 where
@@ -53,8 +53,8 @@ module _ (s : System) (system : IsSystem s) (IsOne : ℕ → Type 0) (space : Sp
         k = found.has.0;
         within = found.has.1;
         at = record {
-          slot_is = ap (λ (r : Region). r.slot) (is nowhere) ∙ found.is.slot ∙ at;
-          register_is = ap (λ (r : Region). r.reg) (is nowhere) ∙ found.is.register ∙ named;
+          slot_is = ap (λ (r : Region). r.slot) (is nothing_shared) ∙ found.is.slot ∙ at;
+          register_is = ap (λ (r : Region). r.reg) (is nothing_shared) ∙ found.is.register ∙ named;
         };
         spans = λ d. subst (λ (r : Region). (r.first ≤ a) × (a ≤ r.last)) (sym (is d)) ((found.is.claims a).1 claims);
       }
@@ -63,7 +63,7 @@ module _ (s : System) (system : IsSystem s) (IsOne : ℕ → Type 0) (space : Sp
   lower_or_same_bus : (i k : ℕ) → i < k → k < length regions → (region_at regions i).slot.bus ≤ (region_at regions k).slot.bus
   lower_or_same_bus i k less within =
       let up = rising_of regions are.rising i k less within in
-      let on = λ (n : ℕ) (inside : n < length regions). (are.each (region_at regions n) (Contains-get_or regions n nowhere inside)).2 in
+      let on = λ (n : ℕ) (inside : n < length regions). (are.each (region_at regions n) (Contains-get_or regions n nothing_shared inside)).2 in
       let one = on i (omega (arith, less, within)) in
       let other = on k within in
       let slot = subst IsSlot (sym one.is.slot) (slot_of s system one.f one.listed) in
@@ -77,7 +77,7 @@ module _ (s : System) (system : IsSystem s) (IsOne : ℕ → Type 0) (space : Sp
       omega (arith, up, slot, slot_k, low, register, low_k, register_k)
 
   group_is : (k : ℕ) → k < length regions → group_at Roots regions k ≡ (region_at regions k).slot.bus
-  group_is k within = get_or-map (λ (r : Region). r.slot.bus) regions k nowhere 256 within
+  group_is k within = get_or-map (λ (r : Region). r.slot.bus) regions k nothing_shared 256 within
 
   pub groups_rise : GroupsRise Roots regions
   groups_rise j k up within = elim (cases_order j k) [
@@ -155,7 +155,7 @@ module _ (roots : List ℕ) (s : System) (system : IsSystem s) (bus : ℕ) (spac
       }
 
   abbrev pub Line : faults.Fault → Type 0
-  Line = IsLine (IsAt Clashes bus (space_of space)) roots s
+  Line = IsLineInEach (IsAt Clashes bus (space_of space)) roots s
 
   line_only : (fault : faults.Fault) → Line fault → IsTold Clashing (faults.Clash bus (space_of space)) fault
   line_only (faults.Clash b sp a f r g q) ((one, e, h), line) = clash_told (λ n x a f r g q. IsClash roots s n (address_in x a) (named_regions f r g q)) bus b (space_of space) sp a f r g q e h
@@ -164,10 +164,10 @@ module _ (roots : List ℕ) (s : System) (system : IsSystem s) (bus : ℕ) (spac
   line_only (faults.Split sp a f r g q) (at, line) = absurd (let no : ⊥ = cc in no)
   line_only fault line = absurd (search rules)
 
-  pub clashes_told : (list : List Share) → (GroupsRise (Bus bus) regions → AreShares (Bus bus) regions allowed list) → AreJust Line (map (told (Bus bus) space regions) list)
+  pub clashes_told : (list : List Share) → (GroupsRise (Bus bus) regions → AreShares (Bus bus) regions allowed list) → AreJustLines Line (map (share_fault (Bus bus) space regions) list)
   clashes_told list shares =
       just_told (places_of regions) (rising_of regions are.rising) (IsShared (Bus bus) regions allowed) order_of_shared Clashing clash_of shared_by list (least_of_shares (shares (λ j k up within. up)))
-      (told (Bus bus) space regions) (faults.Clash bus (space_of space)) (λ x. refl) (second_of_clash bus (space_of space)) Line
+      (share_fault (Bus bus) space regions) (faults.Clash bus (space_of space)) (λ x. refl) (second_of_clash bus (space_of space)) Line
       (λ a f r g q meets. ((refl, refl, refl), record { there = meets.there; rise = meets.rise; least = meets.least }))
       line_only
 
@@ -243,7 +243,7 @@ module _ (roots : List ℕ) (s : System) (system : IsSystem s) (space : Space) (
       }
 
   abbrev pub SplitLine : faults.Fault → Type 0
-  SplitLine = IsLine (IsAt Splits 0 (space_of space)) roots s
+  SplitLine = IsLineInEach (IsAt Splits 0 (space_of space)) roots s
 
   split_only : (fault : faults.Fault) → SplitLine fault → IsTold Splitting (faults.Split (space_of space)) fault
   split_only (faults.Split sp a f r g q) ((one, none, h), line) = split_told (λ x a f r g q. IsSplit roots s (address_in x a) (named_regions f r g q)) (space_of space) sp a f r g q h
@@ -252,10 +252,10 @@ module _ (roots : List ℕ) (s : System) (system : IsSystem s) (space : Space) (
   split_only (faults.Clash b sp a f r g q) (at, line) = absurd (let no : ⊥ = cc in no)
   split_only fault line = absurd (search rules)
 
-  pub splits_told : (list : List Share) → (GroupsRise Roots regions → AreShares Roots regions allowed list) → AreJust SplitLine (map (told Roots space regions) list)
+  pub splits_told : (list : List Share) → (GroupsRise Roots regions → AreShares Roots regions allowed list) → AreJustLines SplitLine (map (share_fault Roots space regions) list)
   splits_told list shares =
       just_told (places_of regions) (rising_of regions are.rising) (IsShared Roots regions allowed) order_of_shared Splitting split_of shared_over_roots list
-      (least_of_shares (shares (groups_rise s system IsRoot (space_of space) regions are))) (told Roots space regions) (faults.Split (space_of space)) (λ x. refl) (second_of_split (space_of space)) SplitLine
+      (least_of_shares (shares (groups_rise s system IsRoot (space_of space) regions are))) (share_fault Roots space regions) (faults.Split (space_of space)) (λ x. refl) (second_of_split (space_of space)) SplitLine
       (λ a f r g q meets. ((refl, refl, refl), record { there = meets.there; rise = meets.rise; least = meets.least }))
       split_only
 
@@ -264,9 +264,9 @@ module _ (roots : List ℕ) (s : System) (system : IsSystem s) (space : Space) (
 pub clashes_added : (t : Tree) (bus : ℕ) (space : Space) (regions : List Region) (allowed : List Range) → AreListed t bus (space_of space) regions
     → ((s : System) → HasTree t s → IsReachTo t.roots s (space_of space) true bus allowed)
     → (list : List Share) → (GroupsRise (Bus bus) regions → AreShares (Bus bus) regions allowed list)
-    → (before after : List Fault) → after ≡ before ++ map (told (Bus bus) space regions) list → AreLinesAdded (IsAt Clashes bus (space_of space)) t before after
+    → (before after : List Fault) → after ≡ before ++ map (share_fault (Bus bus) space regions) list → AreLinesAdded (IsAt Clashes bus (space_of space)) t before after
 clashes_added t bus space regions allowed listed reach list shares before after appended = record {
-  more = map (told (Bus bus) space regions) list;
+  more = map (share_fault (Bus bus) space regions) list;
   appended = appended;
   just = λ s tree. clashes_told t.roots s tree.system bus space regions allowed (listed s tree.records) (reach s tree) list shares;
 }
@@ -274,9 +274,9 @@ clashes_added t bus space regions allowed listed reach list shares before after 
 pub splits_added : (t : Tree) (space : Space) (regions : List Region) (allowed : List Range) → AreRootsListed t (space_of space) regions
     → ((a : ℕ) → IsAddress (space_of space) a → Covers allowed a)
     → (list : List Share) → (GroupsRise Roots regions → AreShares Roots regions allowed list)
-    → (before after : List Fault) → after ≡ before ++ map (told Roots space regions) list → AreLinesAdded (IsAt Splits 0 (space_of space)) t before after
+    → (before after : List Fault) → after ≡ before ++ map (share_fault Roots space regions) list → AreLinesAdded (IsAt Splits 0 (space_of space)) t before after
 splits_added t space regions allowed listed whole list shares before after appended = record {
-  more = map (told Roots space regions) list;
+  more = map (share_fault Roots space regions) list;
   appended = appended;
   just = λ s tree. splits_told t.roots s tree.system space regions allowed (listed s tree) whole list shares;
 }

@@ -1,4 +1,4 @@
--- Ranges with owners, to which one more is added.
+-- OwnedRanges with owners, to which one more is added.
 use Rattle.std.proofs.Common.{◌≡◌, ℕ, ◌+◌, ◌<◌, ◌≤◌, ◌⊎◌, inl, inr, false, refl, sym, ◌∙◌, ap, subst, arith, Some, Less, Greater}
 use Rattle.std.specs.Prelude.{◌↔◌}
 use Rattle.std.specs.Ordering.{nat_cmp, is_eq}
@@ -9,7 +9,7 @@ use Rattle.std.proofs.lemmas.Bool.{cases_order, cases_eq, cases_lt}
 use Rattle.pci_base.specs.declared.range.Range.{Range}
 use Rattle.pci_faults.specs.declared.owners.Owned.{Owned}
 use Rattle.pci_faults.specs.declared.owners.Found.{Found}
-use Rattle.pci_faults.specs.Owners.{Ranges, StandsAt, Owns, AreApart, Holds, IsFirstOwned, IsAdded}
+use Rattle.pci_faults.specs.Owners.{OwnedRanges, StandsAt, Owns, RangesAreApart, OwnedRangeHas, IsFirstOwned, IsRangeAdded}
 
 other_key : (k q : ℕ) → (q ≡ k → ⊥) → is_at (nat_cmp k) q ≡ false
 other_key k q differ = elim (cases_order k q) [
@@ -22,7 +22,7 @@ same_owned : (r q : Owned) → Some r ≡ Some q → r ≡ q
 same_owned r q e = cc
 
 -- the two ranges of one address are one
-one_range : (ranges : Ranges) → AreApart ranges → (a i j : ℕ) (o : Owns ranges a i) (p : Owns ranges a j) → (o.last ≡ p.last)
+one_range : (ranges : OwnedRanges) → RangesAreApart ranges → (a i j : ℕ) (o : Owns ranges a i) (p : Owns ranges a j) → (o.last ≡ p.last)
 one_range ranges apart a i j o p = elim (cases_order o.last p.last) [
   | inl same ↦ same
   | inr (inl up) ↦ absurd (
@@ -33,7 +33,7 @@ one_range ranges apart a i j o p = elim (cases_order o.last p.last) [
       let from : o.r.first ≤ a = o.from in let to : a ≤ p.last = p.to in let no : ⊥ = omega (arith, low, from, to) in no)
 ]
 
-pub one_owner : (ranges : Ranges) → AreApart ranges → (a i j : ℕ) → Owns ranges a i → Owns ranges a j → i ≡ j
+pub one_owner : (ranges : OwnedRanges) → RangesAreApart ranges → (a i j : ℕ) → Owns ranges a i → Owns ranges a j → i ≡ j
 one_owner ranges apart a i j o p =
     let last = one_range ranges apart a i j o p in
     let same : o.r ≡ p.r = same_owned o.r p.r (sym o.stands ∙ subst (λ n. StandsAt ranges n p.r) (sym last) p.stands) in
@@ -41,8 +41,8 @@ one_owner ranges apart a i j o p =
 
 -- ---- a range in which no address has an owner, under its last address
 
-module _ (before after : Ranges) (range : Range) (owner : ℕ) (apart : AreApart before) (some : range.first ≤ range.last)
-    (free : (a i : ℕ) → Holds range a → Owns before a i → ⊥)
+module _ (before after : OwnedRanges) (range : Range) (owner : ℕ) (apart : RangesAreApart before) (some : range.first ≤ range.last)
+    (free : (a i : ℕ) → OwnedRangeHas range a → Owns before a i → ⊥)
     (here : lookup (is_at (nat_cmp range.last)) after ≡ Some (record { first = range.first; owner = owner }))
     (others : (q : ℕ) → is_at (nat_cmp range.last) q ≡ false → lookup (is_at (nat_cmp q)) after ≡ lookup (is_at (nat_cmp q)) before) where
   abbrev new : Owned
@@ -82,7 +82,7 @@ module _ (before after : Ranges) (range : Range) (owner : ℕ) (apart : AreApart
         ]
       ]
 
-  pub filled_apart : AreApart after
+  pub filled_apart : RangesAreApart after
   filled_apart = record {
     each = λ last r at. elim (stands last r at) [
       | inl (e, is) ↦ let f = ap (λ (x : Owned). x.first) is in omega (arith, e, f, some)
@@ -106,7 +106,7 @@ module _ (before after : Ranges) (range : Range) (owner : ℕ) (apart : AreApart
     ];
   }
 
-  pub filled : (a i : ℕ) → Owns after a i ↔ (Owns before a i ⊎ (Holds range a × (i ≡ owner)))
+  pub filled : (a i : ℕ) → Owns after a i ↔ (Owns before a i ⊎ (OwnedRangeHas range a × (i ≡ owner)))
   filled a i = (
     λ (o : Owns after a i). elim (stands o.last o.r o.stands) [
       | inl (e, is) ↦ inr (
@@ -115,7 +115,7 @@ module _ (before after : Ranges) (range : Range) (owner : ℕ) (apart : AreApart
       )
       | inr (ne, was) ↦ inl record { last = o.last; r = o.r; stands = was; from = o.from; to = o.to; is = o.is }
     ],
-    λ (h : Owns before a i ⊎ (Holds range a × (i ≡ owner))). elim h [
+    λ (h : Owns before a i ⊎ (OwnedRangeHas range a × (i ≡ owner))). elim h [
       | inl o ↦ record { last = o.last; r = o.r; stands = stood o.last o.r o.stands; from = o.from; to = o.to; is = o.is }
       | inr (held, is) ↦ record { last = range.last; r = new; stands = here; from = held.0; to = held.1; is = sym is }
     ],
@@ -124,19 +124,19 @@ module _ (before after : Ranges) (range : Range) (owner : ℕ) (apart : AreApart
 -- ---- a range of which some addresses have owners
 
 -- the addresses of the range below one have an owner, those that had none the new one
-pub record IsAddedBelow (before after : Ranges) (range : Range) (owner at : ℕ) : Type 0 where
+pub record IsAddedBelow (before after : OwnedRanges) (range : Range) (owner at : ℕ) : Type 0 where
   pub kept : (a i : ℕ) → Owns before a i → Owns after a i
-  pub only : (a i : ℕ) → Owns after a i → Owns before a i ⊎ (Holds range a × (a < at) × (i ≡ owner) × ((j : ℕ) → Owns before a j → ⊥))
-  pub each : (a : ℕ) → Holds range a → a < at → (i : ℕ) × Owns after a i
+  pub only : (a i : ℕ) → Owns after a i → Owns before a i ⊎ (OwnedRangeHas range a × (a < at) × (i ≡ owner) × ((j : ℕ) → Owns before a j → ⊥))
+  pub each : (a : ℕ) → OwnedRangeHas range a → a < at → (i : ℕ) × Owns after a i
 
-pub added_none : (before : Ranges) (range : Range) (owner : ℕ) → IsAddedBelow before before range owner range.first
+pub added_none : (before : OwnedRanges) (range : Range) (owner : ℕ) → IsAddedBelow before before range owner range.first
 added_none before range owner = record {
   kept = λ a i o. o;
   only = λ a i o. inl o;
   each = λ a held below. absurd (let from = held.0 in let no : ⊥ = omega (arith, from, below) in no);
 }
 
-pub added : (before after : Ranges) (range : Range) (owner at : ℕ) → range.last < at → IsAddedBelow before after range owner at → IsAdded before after range owner
+pub added : (before after : OwnedRanges) (range : Range) (owner at : ℕ) → range.last < at → IsAddedBelow before after range owner at → IsRangeAdded before after range owner
 added before after range owner at past below = record {
   kept = below.kept;
   only = λ a i o. elim (below.only a i o) [ inl was ↦ inl was | inr (held, low, is, none) ↦ inr (held, is, none) ];
@@ -144,7 +144,7 @@ added before after range owner at past below = record {
 }
 
 -- a gap is filled up to an address
-pub gap_added : (before middle after : Ranges) (range : Range) (owner at to : ℕ) → range.first ≤ at → to ≤ range.last + 1
+pub gap_added : (before middle after : OwnedRanges) (range : Range) (owner at to : ℕ) → range.first ≤ at → to ≤ range.last + 1
     → ((a i : ℕ) → Owns after a i ↔ (Owns middle a i ⊎ (((at ≤ a) × (a < to)) × (i ≡ owner))))
     → ((a i : ℕ) → at ≤ a → a < to → Owns middle a i → ⊥) → IsAddedBelow before middle range owner at → at ≤ to → IsAddedBelow before after range owner to
 gap_added before middle after range owner at to from within is free below up = record {
@@ -160,7 +160,7 @@ gap_added before middle after range owner at to from within is free below up = r
 }
 
 -- addresses that have owners are passed over
-pub over_added : (before after : Ranges) (range : Range) (owner at to : ℕ) → at ≤ to → ((a : ℕ) → at ≤ a → a < to → (i : ℕ) × Owns after a i)
+pub over_added : (before after : OwnedRanges) (range : Range) (owner at to : ℕ) → at ≤ to → ((a : ℕ) → at ≤ a → a < to → (i : ℕ) × Owns after a i)
     → IsAddedBelow before after range owner at → IsAddedBelow before after range owner to
 over_added before after range owner at to up owned below = record {
   kept = below.kept;
@@ -169,7 +169,7 @@ over_added before after range owner at to up owned below = record {
 }
 
 -- over the gap before the next address that has an owner, and the addresses that have the same
-pub found_added : (before middle after : Ranges) (range : Range) (owner at : ℕ) (f : Found) → range.first ≤ at → f.address ≤ range.last → IsFirstOwned middle at f
+pub found_added : (before middle after : OwnedRanges) (range : Range) (owner at : ℕ) (f : Found) → range.first ≤ at → f.address ≤ range.last → IsFirstOwned middle at f
     → ((a i : ℕ) → Owns after a i ↔ (Owns middle a i ⊎ (((at ≤ a) × (a < f.address)) × (i ≡ owner))))
     → IsAddedBelow before middle range owner at → IsAddedBelow before after range owner (f.last + 1)
 found_added before middle after range owner at f from within first is below =
@@ -179,10 +179,10 @@ found_added before middle after range owner at f from within first is below =
     (gap_added before middle after range owner at f.address from (omega (arith, within)) is (λ a i. first.least a i) below first.from_on)
 
 -- and to the end, where no more have owners
-pub end_added : (before middle after : Ranges) (range : Range) (owner at : ℕ) → range.first ≤ at → at ≤ range.last
-    → ((a i : ℕ) → Owns after a i ↔ (Owns middle a i ⊎ (Holds (record { first = at; last = range.last }) a × (i ≡ owner))))
-    → ((a i : ℕ) → Holds (record { first = at; last = range.last }) a → Owns middle a i → ⊥)
-    → IsAddedBelow before middle range owner at → IsAdded before after range owner
+pub end_added : (before middle after : OwnedRanges) (range : Range) (owner at : ℕ) → range.first ≤ at → at ≤ range.last
+    → ((a i : ℕ) → Owns after a i ↔ (Owns middle a i ⊎ (OwnedRangeHas (record { first = at; last = range.last }) a × (i ≡ owner))))
+    → ((a i : ℕ) → OwnedRangeHas (record { first = at; last = range.last }) a → Owns middle a i → ⊥)
+    → IsAddedBelow before middle range owner at → IsRangeAdded before after range owner
 end_added before middle after range owner at from within is free below =
     added before after range owner (range.last + 1) (omega arith)
     (gap_added before middle after range owner at (range.last + 1) from (omega arith)

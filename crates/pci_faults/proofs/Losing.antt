@@ -22,7 +22,7 @@ use Rattle.pci_tree.specs.Trees.{HasTree}
 use Rattle.pci_check.specs.Stops.{Reaches, AreReachesOf, AlwaysNested, AreListed, IsWholeAt, IsReachedAt, IsWholeInEach, IsLineOf, IsLineFault}
 use Rattle.pci_check.proofs.Homes.{passed_on}
 use Rattle.pci_tree.proofs.RegionOrder.{number_same}
-use Rattle.pci_faults.specs.Lines.{region_at, nowhere, AreAdded, AreLinesAdded, IsLine, IsAt}
+use Rattle.pci_faults.specs.Lines.{region_at, nothing_shared, AreAdded, AreLinesAdded, IsLineInEach, IsAt}
 use Rattle.pci_faults.proofs.Adding.{added_none, added_one, added_both, added_same}
 use Rattle.pci_faults.proofs.Naming.{IsAtPlace, number_at, one_place, places_of, rising_of}
 
@@ -51,7 +51,7 @@ module _ (t : Tree) (bus : ℕ) (space : SpaceValue) (regions : List Region) (li
   LineBelow = IsLineBelow t space regions
 
   on : (s : System) → HasTree t s → (k : ℕ) → k < length regions → IsRegionOn s bus space (region_at regions k)
-  on s tree k within = (listed s tree.records).each (region_at regions k) (Contains-get_or regions k nowhere within)
+  on s tree k within = (listed s tree.records).each (region_at regions k) (Contains-get_or regions k nothing_shared within)
 
   -- ---- one region has one line
 
@@ -150,17 +150,17 @@ module _ (t : Tree) (bus : ℕ) (space : SpaceValue) (regions : List Region) (li
 
   -- ---- all regions of the bus
 
-  line_of_region : (s : System) (tree : HasTree t s) (f : faults.Fault) → LineBelow (length regions) s f → IsLine (IsAt Reach bus space) t.roots s f
+  line_of_region : (s : System) (tree : HasTree t s) (f : faults.Fault) → LineBelow (length regions) s f → IsLineInEach (IsAt Reach bus space) t.roots s f
   line_of_region s tree (faults.Unreached slot register sp a b) (k, less, within, (at, e, line)) =
       let is_on = on s tree k within in
       ((refl, ap (λ (x : Slot). x.bus) (sym at.slot_is ∙ is_on.is.slot) ∙ is_on.on_bus, e), line)
   line_of_region s tree f line = absurd (search rules)
 
-  region_of_line : (s : System) (tree : HasTree t s) (f : faults.Fault) → IsLine (IsAt Reach bus space) t.roots s f → LineBelow (length regions) s f
+  region_of_line : (s : System) (tree : HasTree t s) (f : faults.Fault) → IsLineInEach (IsAt Reach bus space) t.roots s f → LineBelow (length regions) s f
   region_of_line s tree (faults.Unreached slot register sp a b) ((one, on_bus, e), line) =
       let u = line.there in
       let found = (listed s tree.records).complete u.f u.part a u.listed (ap (λ (x : Slot). x.bus) u.named.0 ∙ on_bus) (subst (λ (x : SpaceValue). Claims u.f u.part x a) e u.claims) in
-      let is : region_at regions found.has.0 ≡ found.q = get_or_default regions found.has.0 nowhere found.q found.has.1 ∙ found.has.2 in (
+      let is : region_at regions found.has.0 ≡ found.q = get_or_default regions found.has.0 nothing_shared found.q found.has.1 ∙ found.has.2 in (
         found.has.0,
         found.has.1,
         found.has.1,
@@ -178,4 +178,4 @@ module _ (t : Tree) (bus : ℕ) (space : SpaceValue) (regions : List Region) (li
   region_of_line s tree f line = absurd (search rules)
 
   pub lines_of_bus : (a b : List Fault) → AreAdded t (LineBelow (length regions)) a b → AreLinesAdded (IsAt Reach bus space) t a b
-  lines_of_bus a b added = added_same t (LineBelow (length regions)) (IsLine (IsAt Reach bus space) t.roots) a b (λ s tree f. (line_of_region s tree f, region_of_line s tree f)) added
+  lines_of_bus a b added = added_same t (LineBelow (length regions)) (IsLineInEach (IsAt Reach bus space) t.roots) a b (λ s tree f. (line_of_region s tree f, region_of_line s tree f)) added

@@ -15,7 +15,7 @@ use Rattle.pci_tree.specs.declared.region.Region.{Region}
 use Rattle.pci_tree.specs.Regions.{region_number as number_of}
 use Rattle.pci_tree.proofs.RegionOrder.{number_same}
 use Rattle.pci_faults.specs.declared.shares.Share.{Share}
-use Rattle.pci_faults.specs.Lines.{region_at, nowhere, AreJust}
+use Rattle.pci_faults.specs.Lines.{region_at, nothing_shared, AreJustLines}
 use Rattle.pci_faults.proofs.Adding.{Differ}
 
 -- how two regions, by slot and register, meet at an address
@@ -95,7 +95,7 @@ abbrev pub AreRising : Places → Type 0
 AreRising places = (i k : ℕ) → i < k → k < places.size → number_in places i < number_in places k
 
 pub rising_of : (regions : List Region) → AllPairs (λ p q. number_of p < number_of q) regions → AreRising (places_of regions)
-rising_of regions rising i k less within = rising i k nowhere less within
+rising_of regions rising i k less within = rising i k nothing_shared less within
 
 -- the place has the slot and the register
 pub record IsAtPlace (places : Places) (k : ℕ) (slot : Slot) (register : ℕ) : Type 0 where
@@ -255,5 +255,5 @@ module _ (places : Places) (rising : AreRising places) (Shares : SharedAt) (orde
         let rise = rising one.second other.second up (order other.address other.first other.second there).1 in
         (let no : ⊥ = omega (arith, numbers, rise) in no))
 
-    pub just_told : AreJust P (map fault_at list)
+    pub just_told : AreJustLines P (map fault_at list)
     just_told = record { each = each_told; complete = complete_told; distinct = differ_told }

@@ -12,7 +12,7 @@ use Rattle.pci_spec.proofs.Regions.{slot_number-same, region_number-same, regist
 use Rattle.pci_spec.proofs.Firsts.{slot_of, named_slot, named_register}
 use Rattle.pci_spec.proofs.FirstLines.{less_precedes, same_precedes}
 use Rattle.pci_spec.proofs.AllFaults.{bridge_slot}
-use Rattle.pci_faults.specs.Order.{place_in, place_of}
+use Rattle.pci_faults.specs.Order.{place_in, judging_place}
 
 -- ---- keys
 
@@ -98,7 +98,7 @@ place_same : (sp space : Space) (a b : ℕ) (xs ys : List ℕ) → a < 2 ^ 64 �
 place_same sp space a b xs ys small_a small_b same h = same_precedes (space_key sp) (space_key space) (a ∷ xs) (b ∷ ys) (omega (arith, same, small_a, small_b)) (same_precedes a b xs ys (omega (arith, same, small_a, small_b)) h)
 
 unreached_precedes : (s t c d : Slot) (r q a b : ℕ) (sp space : Space) → IsSpelled (Unreached s r sp a c) → IsSpelled (Unreached t q space b d)
-    → place_of (Unreached s r sp a c) < place_of (Unreached t q space b d) → precedes (judging_key (Unreached s r sp a c)) (judging_key (Unreached t q space b d)) ≡ true
+    → judging_place (Unreached s r sp a c) < judging_place (Unreached t q space b d) → precedes (judging_key (Unreached s r sp a c)) (judging_key (Unreached t q space b d)) ≡ true
 unreached_precedes s t c d r q a b sp space (is_s, is_c, small_a) (is_t, is_d, small_b) less =
     let low_c = slot_small c is_c in
     let low_d = slot_small d is_d in
@@ -132,7 +132,7 @@ shared_precedes sp space a b f g h k r q n m small_a small_b is_f is_g is_h is_k
     ]
 
 clash_precedes : (bus other : ℕ) (sp space : Space) (a b : ℕ) (f g h k : Slot) (r q n m : ℕ) → IsSpelled (Clash bus sp a f r g q) → IsSpelled (Clash other space b h n k m)
-    → place_of (Clash bus sp a f r g q) < place_of (Clash other space b h n k m) → precedes (judging_key (Clash bus sp a f r g q)) (judging_key (Clash other space b h n k m)) ≡ true
+    → judging_place (Clash bus sp a f r g q) < judging_place (Clash other space b h n k m) → precedes (judging_key (Clash bus sp a f r g q)) (judging_key (Clash other space b h n k m)) ≡ true
 clash_precedes bus other sp space a b f g h k r q n m (low, small_a, is_f, is_g) (high, small_b, is_h, is_k) less =
     let pair = pair_small f g r q is_f is_g in
     let pair_other = pair_small h k n m is_h is_k in
@@ -145,18 +145,18 @@ clash_precedes bus other sp space a b f g h k r q n m (low, small_a, is_f, is_g)
     ])
 
 split_precedes : (sp space : Space) (a b : ℕ) (f g h k : Slot) (r q n m : ℕ) → IsSpelled (Split sp a f r g q) → IsSpelled (Split space b h n k m)
-    → place_of (Split sp a f r g q) < place_of (Split space b h n k m) → precedes (judging_key (Split sp a f r g q)) (judging_key (Split space b h n k m)) ≡ true
+    → judging_place (Split sp a f r g q) < judging_place (Split space b h n k m) → precedes (judging_key (Split sp a f r g q)) (judging_key (Split space b h n k m)) ≡ true
 split_precedes sp space a b f g h k r q n m (small_a, is_f, is_g) (small_b, is_h, is_k) less =
     same_precedes 2 2 (space_key sp ∷ a ∷ pair_key f r g q) (space_key space ∷ b ∷ pair_key h n k m) refl (shared_precedes sp space a b f g h k r q n m small_a small_b is_f is_g is_h is_k (omega (arith, less)))
 
-unreached_below : (s c : Slot) (r a : ℕ) (sp : Space) → IsSpelled (Unreached s r sp a c) → place_of (Unreached s r sp a c) < 2 ^ 126
+unreached_below : (s c : Slot) (r a : ℕ) (sp : Space) → IsSpelled (Unreached s r sp a c) → judging_place (Unreached s r sp a c) < 2 ^ 126
 unreached_below s c r a sp (is_s, is_c, small) = let low = region_small s r is_s in let bridge = slot_small c is_c in omega (arith, low, bridge, small)
 
-clash_below : (bus : ℕ) (sp : Space) (a : ℕ) (f g : Slot) (r q : ℕ) → IsSpelled (Clash bus sp a f r g q) → place_of (Clash bus sp a f r g q) < 2 ^ 127
+clash_below : (bus : ℕ) (sp : Space) (a : ℕ) (f g : Slot) (r q : ℕ) → IsSpelled (Clash bus sp a f r g q) → judging_place (Clash bus sp a f r g q) < 2 ^ 127
 clash_below bus sp a f g r q (low, small, is_f, is_g) = let pair = pair_small f g r q is_f is_g in let key = space_small sp in omega (arith, pair, key, low, small)
 
 -- a lesser place is looked for before
-pub looked_for_before : (f g : Fault) → IsSpelled f → IsSpelled g → place_of f < place_of g → precedes (judging_key f) (judging_key g) ≡ true
+pub looked_for_before : (f g : Fault) → IsSpelled f → IsSpelled g → judging_place f < judging_place g → precedes (judging_key f) (judging_key g) ≡ true
 looked_for_before (Unreached s r sp a c) (Unreached t q space b d) one two less = unreached_precedes s t c d r q a b sp space one two less
 looked_for_before (Clash bus sp a f r g q) (Clash other space b h n k m) one two less = clash_precedes bus other sp space a b f g h k r q n m one two less
 looked_for_before (Split sp a f r g q) (Split space b h n k m) one two less = split_precedes sp space a b f g h k r q n m one two less
@@ -194,7 +194,7 @@ shared_keys sp space a b f g h k r q n m small_a small_b is_f is_g is_h is_k sam
     (pair_keys f g h k r q n m is_f is_g is_h is_k (omega (arith, same, place))))
 
 -- two faults with one place have one key
-pub one_key : (f g : Fault) → IsSpelled f → IsSpelled g → place_of f ≡ place_of g → judging_key f ≡ judging_key g
+pub one_key : (f g : Fault) → IsSpelled f → IsSpelled g → judging_place f ≡ judging_place g → judging_key f ≡ judging_key g
 one_key (Unreached s r sp a c) (Unreached t q space b d) (is_s, is_c, small_a) (is_t, is_d, small_b) same =
     let low_c = slot_small c is_c in
     let low_d = slot_small d is_d in

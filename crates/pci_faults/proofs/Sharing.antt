@@ -11,8 +11,8 @@ use Rattle.pci_tree.specs.Ranges.{Covers, IsLeastFrom}
 use Rattle.pci_faults.specs.declared.shares.Among.{Among}
 use Rattle.pci_faults.specs.declared.shares.Share.{Share}
 use Rattle.pci_faults.specs.declared.owners.Found.{Found}
-use Rattle.pci_faults.specs.Owners.{Ranges, Owns, Holds, IsFirstOwned, IsAdded}
-use Rattle.pci_faults.specs.Shares.{SpansAt, GroupsRise, IsShared, IsLeastShared, IsTaken, AreOwned, AreLesser, AreSharesBelow, AreBefore}
+use Rattle.pci_faults.specs.Owners.{OwnedRanges, Owns, OwnedRangeHas, IsFirstOwned, IsRangeAdded}
+use Rattle.pci_faults.specs.Shares.{SpansAt, GroupsRise, IsShared, IsLeastShared, IsClaimedFrom, AreOwned, AreLesser, AreSharesBelow, AreBefore}
 
 -- what is known of an element at one default is known at each
 at_each : (P : Region → Type 0) (regions : List Region) (k : ℕ) (z : Region) → k < length regions → P (get_or regions k z) → HoldsAt P regions k
@@ -21,7 +21,7 @@ at_each P regions k z within h d = subst P (get_or_default regions k z d within)
 module _ (regions : List Region) (allowed : List Range) where
   -- a region takes the addresses of its range from the least one of those allowed on
   pub taken : (k : ℕ) (z : Region) (first : ℕ) → k < length regions → IsLeastFrom allowed (get_or regions k z).first first
-      → (a : ℕ) → Holds (record { first = first; last = (get_or regions k z).last }) a → IsTaken regions allowed k a
+      → (a : ℕ) → OwnedRangeHas (record { first = first; last = (get_or regions k z).last }) a → IsClaimedFrom regions allowed k a
   taken k z first within least a held = record {
     first = first;
     opened = at_each (λ r. IsLeastFrom allowed r.first first) regions k z within least;
@@ -31,26 +31,26 @@ module _ (regions : List Region) (allowed : List Range) where
 
   -- and the allowed ones that it claims are such
   pub held : (k : ℕ) (z : Region) (first : ℕ) → IsLeastFrom allowed (get_or regions k z).first first
-      → (a : ℕ) → Covers allowed a → SpansAt regions k a → Holds (record { first = first; last = (get_or regions k z).last }) a
+      → (a : ℕ) → Covers allowed a → SpansAt regions k a → OwnedRangeHas (record { first = first; last = (get_or regions k z).last }) a
   held k z first least a covered claims = (
     elim (cases_lt a first) [ inl low ↦ absurd (least.least a (claims z).0 low covered) | inr ge ↦ ge ],
     (claims z).1,
   )
 
-  claims_of_taken : (k a : ℕ) → IsTaken regions allowed k a → SpansAt regions k a
+  claims_of_taken : (k a : ℕ) → IsClaimedFrom regions allowed k a → SpansAt regions k a
   claims_of_taken k a t z = (let on = (t.opened z).from_on in let from : t.first ≤ a = t.from in omega (arith, on, from), t.to z)
 
   -- ---- one more region has owners' addresses
 
-  pub none_owned : (ranges : Ranges) → ((a i : ℕ) → Owns ranges a i → ⊥) → AreOwned 0 regions allowed ranges
+  pub none_owned : (ranges : OwnedRanges) → ((a i : ℕ) → Owns ranges a i → ⊥) → AreOwned 0 regions allowed ranges
   none_owned ranges none = record {
     sound = λ a k o. absurd (none a k o);
     complete = λ a k less. absurd (let no : ⊥ = omega (arith, less) in no);
     once = λ a j k o. absurd (none a j o);
   }
 
-  pub one_more : (n : ℕ) (range : Range) (before after : Ranges) → ((a : ℕ) → Holds range a → IsTaken regions allowed n a)
-      → ((a : ℕ) → Covers allowed a → SpansAt regions n a → Holds range a) → IsAdded before after range n → AreOwned n regions allowed before → AreOwned (n + 1) regions allowed after
+  pub one_more : (n : ℕ) (range : Range) (before after : OwnedRanges) → ((a : ℕ) → OwnedRangeHas range a → IsClaimedFrom regions allowed n a)
+      → ((a : ℕ) → Covers allowed a → SpansAt regions n a → OwnedRangeHas range a) → IsRangeAdded before after range n → AreOwned n regions allowed before → AreOwned (n + 1) regions allowed after
   one_more n range before after takes back is was = record {
     sound = λ a k o. elim (is.only a k o) [
       | inl old ↦ (let s = was.sound a k old in let low : k < n = s.0 in (
@@ -60,7 +60,7 @@ module _ (regions : List Region) (allowed : List Range) where
       ))
       | inr (in_range, same, none) ↦ (
         omega (arith, same),
-        subst (λ m. IsTaken regions allowed m a) (sym same) (takes a in_range),
+        subst (λ m. IsClaimedFrom regions allowed m a) (sym same) (takes a in_range),
         λ j less covered claims. elim (cases_lt j n) [ inl below ↦ absurd (let had = was.complete a j below covered claims in none had.0 had.1) | inr ge ↦ omega (arith, same, ge) ],
       )
     ];
@@ -75,7 +75,7 @@ module _ (regions : List Region) (allowed : List Range) where
   }
 
   -- a region that claims no allowed address changes nothing
-  pub one_without : (n : ℕ) (ranges : Ranges) → ((a : ℕ) → Covers allowed a → SpansAt regions n a → ⊥) → AreOwned n regions allowed ranges → AreOwned (n + 1) regions allowed ranges
+  pub one_without : (n : ℕ) (ranges : OwnedRanges) → ((a : ℕ) → Covers allowed a → SpansAt regions n a → ⊥) → AreOwned n regions allowed ranges → AreOwned (n + 1) regions allowed ranges
   one_without n ranges none was = record {
     sound = λ a k o. (let s = was.sound a k o in let low : k < n = s.0 in (
       omega (arith, low),
@@ -94,7 +94,7 @@ module _ (regions : List Region) (allowed : List Range) where
 
   -- ---- what a region shares with them
 
-  module _ (by : Among) (n i : ℕ) (ranges : Ranges) (z : Region) (first : ℕ) (within : i < length regions) (lesser : AreLesser n i by regions) (owned : AreOwned n regions allowed ranges)
+  module _ (by : Among) (n i : ℕ) (ranges : OwnedRanges) (z : Region) (first : ℕ) (within : i < length regions) (lesser : AreLesser n i by regions) (owned : AreOwned n regions allowed ranges)
       (least : IsLeastFrom allowed (get_or regions i z).first first) where
     -- an address that it shares has an owner, which isn't behind the one that shares it
     owner_of : (a k : ℕ) → IsShared by regions allowed a k i → (j : ℕ) × Owns ranges a j × (j ≤ k) × (first ≤ a) × (a ≤ (get_or regions i z).last)
@@ -213,8 +213,8 @@ module _ (i : ℕ) (by : Among) (regions : List Region) (allowed : List Range) (
 -- ---- the same of an element that was read
 
 module _ (regions : List Region) (allowed : List Range) (n : ℕ) (x : Region) (within : n < length regions) (is : x ≡ get_or regions n x) where
-  pub one_more_read : (range : Range) (before after : Ranges) → (range.first ≤ range.last) × IsLeastFrom allowed x.first range.first × (range.last ≡ x.last)
-      → IsAdded before after range n → AreOwned n regions allowed before → AreOwned (n + 1) regions allowed after
+  pub one_more_read : (range : Range) (before after : OwnedRanges) → (range.first ≤ range.last) × IsLeastFrom allowed x.first range.first × (range.last ≡ x.last)
+      → IsRangeAdded before after range n → AreOwned n regions allowed before → AreOwned (n + 1) regions allowed after
   one_more_read range before after (some, least, last) added was =
       let from = subst (λ (y : Region). IsLeastFrom allowed y.first range.first) is least in
       let to : range.last ≡ (get_or regions n x).last = subst (λ (y : Region). range.last ≡ y.last) is last in
@@ -227,14 +227,14 @@ module _ (regions : List Region) (allowed : List Range) (n : ℕ) (x : Region) (
   unclaimed none a covered claims =
       let its = subst (λ (y : Region). (y.first ≤ a) × (a ≤ y.last)) (sym is) (claims x) in none a its.0 its.1 covered
 
-  pub one_without_read : (ranges : Ranges) → ((a : ℕ) → x.first ≤ a → a ≤ x.last → Covers allowed a → ⊥)
+  pub one_without_read : (ranges : OwnedRanges) → ((a : ℕ) → x.first ≤ a → a ≤ x.last → Covers allowed a → ⊥)
       → AreOwned n regions allowed ranges → AreOwned (n + 1) regions allowed ranges
   one_without_read ranges none was = one_without regions allowed n ranges (unclaimed none) was
 
   pub none_claimed : (by : Among) → ((a : ℕ) → x.first ≤ a → a ≤ x.last → Covers allowed a → ⊥) → (a k : ℕ) → IsShared by regions allowed a k n → ⊥
   none_claimed by none a k shared = unclaimed none a shared.covered shared.claims_second
 
-  module _ (by : Among) (m : ℕ) (ranges : Ranges) (range : Range) (lesser : AreLesser m n by regions) (owned : AreOwned m regions allowed ranges)
+  module _ (by : Among) (m : ℕ) (ranges : OwnedRanges) (range : Range) (lesser : AreLesser m n by regions) (owned : AreOwned m regions allowed ranges)
       (opened : (range.first ≤ range.last) × IsLeastFrom allowed x.first range.first × (range.last ≡ x.last)) where
     abbrev least_read : IsLeastFrom allowed (get_or regions n x).first range.first
     least_read = subst (λ (y : Region). IsLeastFrom allowed y.first range.first) is opened.1
@@ -258,5 +258,5 @@ no_shares by regions allowed = record {
 }
 
 -- a region that owns an address is one of the first so many
-pub owner_below : (n : ℕ) (regions : List Region) (allowed : List Range) (ranges : Ranges) (first : ℕ) (f : Found) → AreOwned n regions allowed ranges → IsFirstOwned ranges first f → f.owner < n
+pub owner_below : (n : ℕ) (regions : List Region) (allowed : List Range) (ranges : OwnedRanges) (first : ℕ) (f : Found) → AreOwned n regions allowed ranges → IsFirstOwned ranges first f → f.owner < n
 owner_below n regions allowed ranges first f owned found = let some : f.address ≤ f.last = found.some in (owned.sound f.address f.owner (found.owned f.address (omega arith) some)).0

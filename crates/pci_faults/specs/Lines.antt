@@ -18,18 +18,18 @@ use Rattle.pci_faults.specs.declared.shares.Among.{Among}
 use Rattle.pci_faults.specs.declared.shares.Among.TheVariants.{Bus, Roots}
 use Rattle.pci_faults.specs.declared.shares.Share.{Share}
 
--- ---- what is told of regions that share an address
+-- ---- what is share_fault of regions that share an address
 
 -- the fault that two regions of these claim an address
-abbrev pub fault_at : Among → Space → ℕ → Region → Region → Fault
-fault_at (Bus bus) space address first second =
+abbrev pub share_fault_at : Among → Space → ℕ → Region → Region → Fault
+share_fault_at (Bus bus) space address first second =
     Clash bus space address first.slot first.reg second.slot second.reg
-fault_at Roots space address first second =
+share_fault_at Roots space address first second =
     Split space address first.slot first.reg second.slot second.reg
 
 -- where a list has no region
-abbrev pub nowhere : Region
-nowhere =
+abbrev pub nothing_shared : Region
+nothing_shared =
     record {
       slot = record { bus = 0; device = 0; function = 0 };
       reg = 0;
@@ -40,17 +40,17 @@ nowhere =
     }
 
 abbrev pub region_at : List Region → ℕ → Region
-region_at regions k = slice_index_or regions k nowhere
+region_at regions k = slice_index_or regions k nothing_shared
 
 -- the fault that regions of a list share their address
-abbrev pub told : Among → Space → List Region → Share → Fault
-told among space regions s =
-    fault_at among space s.address (region_at regions s.first) (region_at regions s.second)
+abbrev pub share_fault : Among → Space → List Region → Share → Fault
+share_fault among space regions s =
+    share_fault_at among space s.address (region_at regions s.first) (region_at regions s.second)
 
 -- ---- lists of faults
 
 -- the list has just the faults that are such, each once
-pub record AreJust (P : faults.Fault → Type 0) (list : List Fault) : Type 0 where
+pub record AreJustLines (P : faults.Fault → Type 0) (list : List Fault) : Type 0 where
   pub each : (f : Fault) → Contains list f → P (fault_of f)
   pub complete : (f : faults.Fault) → P f → (g : Fault) × Contains list g × (fault_of g ≡ f)
   pub distinct : AllPairs (λ f g. judging_key (fault_of f) ≡ judging_key (fault_of g) → ⊥) list
@@ -60,27 +60,27 @@ pub record AreAdded (t : Tree) (P : system.System → faults.Fault → Type 0)
     (before after : List Fault) : Type 0 where
   pub more : List Fault
   pub appended : after ≡ before ++ more
-  pub just : (s : system.System) → HasTree t s → AreJust (P s) more
+  pub just : (s : system.System) → HasTree t s → AreJustLines (P s) more
 
 -- the fault is one that a list of all names, of a check, bus and space that are meant; splits are of no bus
-abbrev pub IsLine : (Check → ℕ → system.Space → Type 0) → List ℕ → system.System → faults.Fault
+abbrev pub IsLineInEach : (Check → ℕ → system.Space → Type 0) → List ℕ → system.System → faults.Fault
     → Type 0
-IsLine At roots s (faults.Unreached slot register space address bridge) =
+IsLineInEach At roots s (faults.Unreached slot register space address bridge) =
     At Reach slot.bus space × IsUnreachedOf roots s (named_region slot register)
     (address_in space address) bridge
-IsLine At roots s (faults.Clash bus space address first first_register second second_register) =
+IsLineInEach At roots s (faults.Clash bus space address first first_register second second_register) =
     At Clashes bus space
     × IsClashOf roots s bus (address_in space address)
     (named_regions first first_register second second_register)
-IsLine At roots s (faults.Split space address first first_register second second_register) =
+IsLineInEach At roots s (faults.Split space address first first_register second second_register) =
     At Splits 0 space × IsSplitOf roots s (address_in space address)
     (named_regions first first_register second second_register)
-IsLine At roots s fault = ⊥
+IsLineInEach At roots s fault = ⊥
 
 -- they come behind those of a list
 abbrev pub AreLinesAdded : (Check → ℕ → system.Space → Type 0) → Tree → List Fault → List Fault
     → Type 0
-AreLinesAdded At t before after = AreAdded t (IsLine At t.roots) before after
+AreLinesAdded At t before after = AreAdded t (IsLineInEach At t.roots) before after
 
 -- of one check, bus and space
 abbrev pub IsAt : Check → ℕ → system.Space → Check → ℕ → system.Space → Type 0

@@ -11,15 +11,15 @@ abbrev pub place_in : Space → ℕ → ℕ
 place_in space address = space_key space * 2 ^ 64 + address
 
 -- what judging looks for first has the least place
-abbrev pub place_of : Fault → ℕ
-place_of (Unreached slot register space address bridge) =
+abbrev pub judging_place : Fault → ℕ
+judging_place (Unreached slot register space address bridge) =
     (region_number slot register * 2 ^ 16 + slot_number bridge) * 2 ^ 64 + address
-place_of (Clash bus space address first first_register second second_register) =
+judging_place (Clash bus space address first first_register second second_register) =
     2 ^ 126
     + ((bus * 2 ^ 65 + place_in space address) * 2 ^ 24 + region_number first first_register) * 2 ^ 24
     + region_number second second_register
-place_of (Split space address first first_register second second_register) =
+judging_place (Split space address first first_register second second_register) =
     2 ^ 127
     + (place_in space address * 2 ^ 24 + region_number first first_register) * 2 ^ 24
     + region_number second second_register
-place_of fault = 0
+judging_place fault = 0

@@ -8,15 +8,15 @@ use Rattle.pci_faults.specs.declared.owners.Owned.{Owned}
 use Rattle.pci_faults.specs.declared.owners.Found.{Found}
 
 -- ranges with an owner each, by their last addresses
-abbrev pub Ranges : Type 0
-Ranges = List (ℕ × Owned)
+abbrev pub OwnedRanges : Type 0
+OwnedRanges = List (ℕ × Owned)
 
 -- the range stands there under its last address
-abbrev pub StandsAt : Ranges → ℕ → Owned → Type 0
+abbrev pub StandsAt : OwnedRanges → ℕ → Owned → Type 0
 StandsAt ranges last r = lookup (is_at (nat_cmp last)) ranges ≡ Some r
 
 -- the address has this owner
-pub record Owns (ranges : Ranges) (a owner : ℕ) : Type 0 where
+pub record Owns (ranges : OwnedRanges) (a owner : ℕ) : Type 0 where
   pub last : ℕ
   pub r : Owned
   pub stands : StandsAt ranges last r
@@ -25,24 +25,24 @@ pub record Owns (ranges : Ranges) (a owner : ℕ) : Type 0 where
   pub is : r.owner ≡ owner
 
 -- no range is empty, and no two have an address in common
-pub record AreApart (ranges : Ranges) : Type 0 where
+pub record RangesAreApart (ranges : OwnedRanges) : Type 0 where
   pub each : (last : ℕ) (r : Owned) → StandsAt ranges last r → r.first ≤ last
   pub apart : (last other : ℕ) (r q : Owned) → StandsAt ranges last r → StandsAt ranges other q
       → last < other → last < q.first
 
 -- the first address from one on that has an owner, and the addresses up to the last have the same
-pub record IsFirstOwned (ranges : Ranges) (from : ℕ) (f : Found) : Type 0 where
+pub record IsFirstOwned (ranges : OwnedRanges) (from : ℕ) (f : Found) : Type 0 where
   pub from_on : from ≤ f.address
   pub some : f.address ≤ f.last
   pub owned : (a : ℕ) → f.address ≤ a → a ≤ f.last → Owns ranges a f.owner
   pub least : (a owner : ℕ) → from ≤ a → a < f.address → Owns ranges a owner → ⊥
 
-abbrev pub Holds : Range → ℕ → Type 0
-Holds r a = (r.first ≤ a) × (a ≤ r.last)
+abbrev pub OwnedRangeHas : Range → ℕ → Type 0
+OwnedRangeHas r a = (r.first ≤ a) × (a ≤ r.last)
 
 -- the addresses of a range that had no owner have this one now, and the others theirs
-pub record IsAdded (before after : Ranges) (range : Range) (owner : ℕ) : Type 0 where
+pub record IsRangeAdded (before after : OwnedRanges) (range : Range) (owner : ℕ) : Type 0 where
   pub kept : (a i : ℕ) → Owns before a i → Owns after a i
   pub only : (a i : ℕ) → Owns after a i
-      → Owns before a i ⊎ (Holds range a × (i ≡ owner) × ((j : ℕ) → Owns before a j → ⊥))
-  pub each : (a : ℕ) → Holds range a → (i : ℕ) × Owns after a i
+      → Owns before a i ⊎ (OwnedRangeHas range a × (i ≡ owner) × ((j : ℕ) → Owns before a j → ⊥))
+  pub each : (a : ℕ) → OwnedRangeHas range a → (i : ℕ) × Owns after a i

@@ -7,7 +7,7 @@ use Rattle.pci_tree.specs.Ranges.{Covers, IsLeastFrom}
 use Rattle.pci_faults.specs.declared.shares.Among.{Among}
 use Rattle.pci_faults.specs.declared.shares.Among.TheVariants.{Bus, Roots}
 use Rattle.pci_faults.specs.declared.shares.Share.{Share}
-use Rattle.pci_faults.specs.Owners.{Ranges, Owns}
+use Rattle.pci_faults.specs.Owners.{OwnedRanges, Owns}
 
 -- the region at a place claims the address
 abbrev pub SpansAt : List Region → ℕ → ℕ → Type 0
@@ -57,7 +57,7 @@ AreWithin n shares = All (λ s. (s.first < s.second) × (s.second < n)) shares
 -- ---- the regions whose addresses have owners
 
 -- the region at a place claims the address, from its least address of the ranges on
-pub record IsTaken (regions : List Region) (allowed : List Range) (k a : ℕ) : Type 0 where
+pub record IsClaimedFrom (regions : List Region) (allowed : List Range) (k a : ℕ) : Type 0 where
   pub first : ℕ
   pub opened : HoldsAt (λ r. IsLeastFrom allowed r.first first) regions k
   pub from : first ≤ a
@@ -65,9 +65,9 @@ pub record IsTaken (regions : List Region) (allowed : List Range) (k a : ℕ) : 
 
 -- each address of the ranges that one of the first so many regions claims has the first of these for its owner
 pub record AreOwned (n : ℕ) (regions : List Region) (allowed : List Range)
-    (ranges : Ranges) : Type 0 where
+    (ranges : OwnedRanges) : Type 0 where
   pub sound : (a k : ℕ) → Owns ranges a k
-      → (k < n) × IsTaken regions allowed k a
+      → (k < n) × IsClaimedFrom regions allowed k a
       × ((j : ℕ) → j < n → Covers allowed a → SpansAt regions j a → k ≤ j)
   pub complete : (a k : ℕ) → k < n → Covers allowed a → SpansAt regions k a
       → (j : ℕ) × Owns ranges a j

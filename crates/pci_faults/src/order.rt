@@ -4,7 +4,7 @@ ghost use Rattle.std.specs.List.Sorted.{IsNonDecreasingBy, IsPermutation};
 ghost use Rattle.pci_spec.specs.JudgingLaws.{region_number};
 ghost use Rattle.pci_base.specs.Space.{space_of};
 ghost use Rattle.pci_function.specs.Fault.{fault_of};
-ghost use Rattle.pci_faults.specs.Order.{place_in, place_of};
+ghost use Rattle.pci_faults.specs.Order.{place_in, judging_place};
 
 use pci_base::memory::OutOfMemory;
 use pci_base::slot::Slot;
@@ -34,7 +34,7 @@ fn address_in(space: Space, address: u64) -> u128
 
 /// The place of a fault of judging: one that is looked for before another has a lesser place.
 fn place(fault: &Fault) -> u128
-    ensures { result ≡ place_of (fault_of fault.now) }
+    ensures { result ≡ judging_place (fault_of fault.now) }
 {
     match fault {
         Fault::Unreached {
@@ -76,7 +76,7 @@ fn place(fault: &Fault) -> u128
 pub fn sort<A: Allocator>(faults: &mut Vec<Fault, A>) -> Result<(), OutOfMemory>
     ensures permutation { IsPermutation faults.old.items faults.new.items }
     ensures sorted { OnOk result
-        (IsNonDecreasingBy (λ f. place_of (fault_of f)) faults.new.items) }
+        (IsNonDecreasingBy (λ f. judging_place (fault_of f)) faults.new.items) }
 {
     match faults.sort_by_key(place) {
         Ok(()) => Ok(()),

@@ -1,6 +1,6 @@
 //! Whose each address is, where regions are added one by one: that of the first which claimed it.
 ghost use Rattle.std.specs.Prelude.{◌≡◌, ◌<◌, ◌≤◌, ◌⊎◌, ◌↔◌, ℕ, OnOk, MatchOption};
-ghost use Rattle.pci_faults.specs.Owners.{Holds, Owns, IsFirstOwned, IsAdded};
+ghost use Rattle.pci_faults.specs.Owners.{OwnedRangeHas, Owns, IsFirstOwned, IsRangeAdded};
 
 use pci_base::memory::OutOfMemory;
 use pci_base::range::Range;
@@ -31,13 +31,13 @@ pub struct Owners<A: Allocator = Global> {
 }
 
 impl<A: Allocator> Model for Owners<A> {
-    ghost use Rattle.pci_faults.specs.Owners.{Ranges, AreApart};
+    ghost use Rattle.pci_faults.specs.Owners.{OwnedRanges, RangesAreApart};
 
-    ghost Value = { Ranges };
+    ghost Value = { OwnedRanges };
 
     ghost view = { λ o. o.ranges.entries };
 
-    ghost invariant = { λ o. AreApart o.ranges.entries };
+    ghost invariant = { λ o. RangesAreApart o.ranges.entries };
 }
 
 impl<A: Allocator + Copy> Owners<A> {
@@ -71,9 +71,9 @@ impl<A: Allocator + Copy> Owners<A> {
     /// Gives a range in which no address has an owner to one.
     fn fill(&mut self, range: Range, owner: usize) -> Result<(), OutOfMemory>
         requires some { range.first ≤ range.last }
-        requires free { (a i : ℕ) → Holds range a → Owns self.old a i → ⊥ }
+        requires free { (a i : ℕ) → OwnedRangeHas range a → Owns self.old a i → ⊥ }
         ensures { OnOk result ((a i : ℕ)
-            → Owns self.new a i ↔ (Owns self.old a i ⊎ (Holds range a × (i ≡ owner)))) }
+            → Owns self.new a i ↔ (Owns self.old a i ⊎ (OwnedRangeHas range a × (i ≡ owner)))) }
     {
         let owned = Owned {
             first: range.first,
@@ -102,7 +102,7 @@ impl<A: Allocator + Copy> Owners<A> {
     pub fn add(&mut self, range: Range, owner: usize) -> Result<(), OutOfMemory>
         // an empty range has no address to give
         requires { range.first ≤ range.last }
-        ensures { OnOk result (IsAdded self.old self.new range owner) }
+        ensures { OnOk result (IsRangeAdded self.old self.new range owner) }
     {
         let mut first = range.first;
         loop {

@@ -1,7 +1,7 @@
 //! Faults of regions that share an address.
 ghost use Rattle.std.specs.Prelude.{◌≡◌, ◌<◌, ◌++◌, length, map, OnOk};
 ghost use Rattle.pci_faults.specs.Shares.{AreWithin};
-ghost use Rattle.pci_faults.specs.Lines.{told};
+ghost use Rattle.pci_faults.specs.Lines.{share_fault};
 
 use super::shares::{Among, Share};
 use pci_base::memory::OutOfMemory;
@@ -14,7 +14,7 @@ use std::alloc::Allocator;
 fn fault(regions: &[Region], among: Among, space: Space, share: Share) -> Fault
     requires first { share.first < length regions.now }
     requires second { share.second < length regions.now }
-    ensures { result ≡ told among space regions.now share }
+    ensures { result ≡ share_fault among space regions.now share }
 {
     let first = regions[share.first];
     let second = regions[share.second];
@@ -50,7 +50,7 @@ pub fn add_told<A: Allocator>(
     // a share names two of the regions by their index
     requires { AreWithin (length regions.now) shares.now }
     ensures { OnOk result
-        (out.new.items ≡ out.old.items ++ map (told among space regions.now) shares.now) }
+        (out.new.items ≡ out.old.items ++ map (share_fault among space regions.now) shares.now) }
 {
     for share in shares {
         out.push(fault(regions, among, space, *share))?;

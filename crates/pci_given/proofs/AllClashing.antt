@@ -12,8 +12,8 @@ use Rattle.pci_check.proofs.Clashing.{io_is_not_memory}
 use Rattle.pci_function.specs.declared.fault.Fault.{Fault}
 use Rattle.pci_function.specs.Fault.{fault_of}
 use Rattle.pci_tree.specs.Outline.{Tree}
-use Rattle.pci_faults.specs.Order.{place_of}
-use Rattle.pci_faults.specs.Lines.{AreJust}
+use Rattle.pci_faults.specs.Order.{judging_place}
+use Rattle.pci_faults.specs.Lines.{AreJustLines}
 use Rattle.pci_faults.proofs.Adding.{AreApart, added_none, added_both, added_same}
 use Rattle.pci_faults.proofs.Places.{IsRegion, IsSpelled}
 use Rattle.given_spec.specs.Given.{Given}
@@ -155,7 +155,7 @@ module _ (given : Given) (roots : List ℕ) (s : System) (system : IsSystem s) w
   lines = record { inside = λ e. (let no : ⊥ = omega (arith, e) in no); spelled = spelled; named = named_line; line = line_named }
 
 pub all_clashes_are : (given : Given) (t : Tree) (none xs ys : List Fault) → none ≡ [] → AreClashesAdded IsAnywhere given t none xs → IsPermutation xs ys
-    → IsNonDecreasingBy (λ f. place_of (fault_of f)) ys → AreAllClashes given t ys
+    → IsNonDecreasingBy (λ f. judging_place (fault_of f)) ys → AreAllClashes given t ys
 all_clashes_are given t none xs ys empty added moved sorted s tree =
     let is : xs ≡ added.more = added.appended ∙ ap (λ (l : List Fault). l ++ added.more) empty in
-    all_numbered 61 given t.roots s (IsClashLine IsAnywhere given t.roots s) (lines given t.roots s tree.system) xs ys (subst (AreJust (IsClashLine IsAnywhere given t.roots s)) (sym is) (added.just s tree)) moved sorted
+    all_numbered 61 given t.roots s (IsClashLine IsAnywhere given t.roots s) (lines given t.roots s tree.system) xs ys (subst (AreJustLines (IsClashLine IsAnywhere given t.roots s)) (sym is) (added.just s tree)) moved sorted

@@ -10,34 +10,34 @@ use Rattle.pci_check.proofs.Clashing.{io_is_not_memory}
 use Rattle.pci_function.specs.declared.fault.Fault.{Fault}
 use Rattle.pci_function.specs.Fault.{fault_of}
 use Rattle.pci_tree.specs.Outline.{Tree}
-use Rattle.pci_faults.specs.Order.{place_of}
-use Rattle.pci_faults.specs.Lines.{AreJust}
+use Rattle.pci_faults.specs.Order.{judging_place}
+use Rattle.pci_faults.specs.Lines.{AreJustLines}
 use Rattle.pci_faults.proofs.Adding.{AreApart, added_both}
 use Rattle.pci_faults.proofs.Places.{IsSpelled}
 use Rattle.given_spec.specs.Given.{Given}
 use Rattle.given_spec.specs.Fault.{Known, fault_number}
 use Rattle.given_spec.specs.AllFaults.{IsNamed}
-use Rattle.pci_given.specs.Splits.{IsSplitLine, IsIn, AreSplitsAdded, AreAllSplits}
+use Rattle.pci_given.specs.Splits.{IsSplitLine, IsSplitIn, AreSplitsAdded, AreAllSplits}
 use Rattle.pci_given.proofs.AllClashing.{address_of, region_of}
 use Rattle.pci_given.proofs.Numbering.{AreLinesOf, all_numbered}
 
 abbrev IsAnywhere : Space → Type 0
 IsAnywhere sp = Unit {0}
 
-one_of_two : (space : Space) → IsIn Io space ⊎ IsIn Memory space
+one_of_two : (space : Space) → IsSplitIn Io space ⊎ IsSplitIn Memory space
 one_of_two Io = inl refl
 one_of_two Memory = inr refl
 
 module _ (given : Given) (roots : List ℕ) (s : System) where
   -- ---- lines by space
 
-  lines_apart : AreApart (IsSplitLine (IsIn Io) given roots s) (IsSplitLine (IsIn Memory) given roots s)
+  lines_apart : AreApart (IsSplitLine (IsSplitIn Io) given roots s) (IsSplitLine (IsSplitIn Memory) given roots s)
   lines_apart (plain.Split sp a f r g q) (plain.Split space b h k i l) one two e =
       io_is_not_memory (sym one.0 ∙ space_key-same sp space (ap (λ l. get_or l 1 0) e) ∙ two.0)
   lines_apart f g one two e = absurd (search rules)
 
-  either_line : (f : plain.Fault) → IsSplitLine IsAnywhere given roots s f ↔ (IsSplitLine (IsIn Io) given roots s f ⊎ IsSplitLine (IsIn Memory) given roots s f)
-  either_line f = elim f as (λ (f : plain.Fault). IsSplitLine IsAnywhere given roots s f ↔ (IsSplitLine (IsIn Io) given roots s f ⊎ IsSplitLine (IsIn Memory) given roots s f)) [
+  either_line : (f : plain.Fault) → IsSplitLine IsAnywhere given roots s f ↔ (IsSplitLine (IsSplitIn Io) given roots s f ⊎ IsSplitLine (IsSplitIn Memory) given roots s f)
+  either_line f = elim f as (λ (f : plain.Fault). IsSplitLine IsAnywhere given roots s f ↔ (IsSplitLine (IsSplitIn Io) given roots s f ⊎ IsSplitLine (IsSplitIn Memory) given roots s f)) [
     | Split space a f r g q ↦ (
       λ (at, line). elim (one_of_two space) [ inl io ↦ inl (io, line) | inr memory ↦ inr (memory, line) ],
       λ one. elim one [ inl (io, line) ↦ (tt {0}, line) | inr (memory, line) ↦ (tt {0}, line) ],
@@ -70,13 +70,13 @@ module _ (given : Given) (roots : List ℕ) (s : System) where
     pub lines : AreLinesOf 62 given roots s (IsSplitLine IsAnywhere given roots s)
     lines = record { inside = λ e. (let no : ⊥ = omega (arith, e) in no); spelled = spelled; named = named_line; line = line_named }
 
-pub both_spaces : (given : Given) (t : Tree) (a b c : List Fault) → AreSplitsAdded (IsIn Io) given t a b → AreSplitsAdded (IsIn Memory) given t b c → AreSplitsAdded IsAnywhere given t a c
-both_spaces given t a b c one two = added_both t (IsSplitLine (IsIn Io) given t.roots) (IsSplitLine (IsIn Memory) given t.roots) (IsSplitLine IsAnywhere given t.roots) a b c
+pub both_spaces : (given : Given) (t : Tree) (a b c : List Fault) → AreSplitsAdded (IsSplitIn Io) given t a b → AreSplitsAdded (IsSplitIn Memory) given t b c → AreSplitsAdded IsAnywhere given t a c
+both_spaces given t a b c one two = added_both t (IsSplitLine (IsSplitIn Io) given t.roots) (IsSplitLine (IsSplitIn Memory) given t.roots) (IsSplitLine IsAnywhere given t.roots) a b c
     (λ s tree f g. lines_apart given t.roots s f g) (λ s tree f. either_line given t.roots s f) one two
 
 pub all_splits_are : (given : Given) (t : Tree) (none xs ys : List Fault) → none ≡ [] → AreSplitsAdded IsAnywhere given t none xs → IsPermutation xs ys
-    → IsNonDecreasingBy (λ f. place_of (fault_of f)) ys → AreAllSplits given t ys
+    → IsNonDecreasingBy (λ f. judging_place (fault_of f)) ys → AreAllSplits given t ys
 all_splits_are given t none xs ys empty added moved sorted s tree =
     let is : xs ≡ added.more = added.appended ∙ ap (λ (l : List Fault). l ++ added.more) empty in
     all_numbered 62 given t.roots s (IsSplitLine IsAnywhere given t.roots s) (lines given t.roots s tree.system) xs ys
-    (subst (AreJust (IsSplitLine IsAnywhere given t.roots s)) (sym is) (added.just s tree)) moved sorted
+    (subst (AreJustLines (IsSplitLine IsAnywhere given t.roots s)) (sym is) (added.just s tree)) moved sorted

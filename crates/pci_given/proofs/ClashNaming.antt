@@ -14,14 +14,14 @@ use Rattle.pci_tree.specs.Outline.{Tree}
 use Rattle.pci_tree.proofs.RegionOrder.{number_same}
 use Rattle.pci_faults.specs.declared.shares.Among.TheVariants.{Bus}
 use Rattle.pci_faults.specs.declared.shares.Share.{Share}
-use Rattle.pci_faults.specs.Lines.{AreJust}
+use Rattle.pci_faults.specs.Lines.{AreJustLines}
 use Rattle.pci_faults.proofs.Naming.{IsAtPlace, IsSharedAs, IsTold, clash_told, second_of_clash, just_told}
 use Rattle.given_spec.specs.Given.{Given}
 use Rattle.given_spec.specs.Claims.{Gets, ClaimsOnBus, may_share}
 use Rattle.given_spec.specs.Fault.{IsClash}
 use Rattle.pci_claims.specs.Claim.{Claimed}
 use Rattle.pci_claims.specs.BusClaims.{AreClaimsOn, AreClaimsInEach}
-use Rattle.pci_given.specs.Clashes.{claim_at, nobody, AreMeeting, AreMeetings, told, IsClashLine, IsOnBusIn, AreClashesAdded}
+use Rattle.pci_given.specs.Clashes.{claim_at, nobody, AreMeeting, AreMeetings, claims_fault, IsClashLine, IsOnBusIn, AreClashesAdded}
 use Rattle.pci_given.proofs.Telling.{IsNamedAt, named_at, places_of, rising_of, meeting_as, order_of_meeting, least_of_meetings}
 
 module _ (given : Given) (roots : List ℕ) (s : System) (bus : ℕ) (space : Space) (claims : List Claimed) (are : AreClaimsOn given roots s bus (space_of space) claims) where
@@ -87,9 +87,9 @@ module _ (given : Given) (roots : List ℕ) (s : System) (bus : ℕ) (space : Sp
       record { there = line.there; rise = line.rise; least = λ c slot register. line.least c slot register }
   line_only fault line = absurd (search rules)
 
-  pub clashes_told : (list : List Share) → AreMeetings (Bus bus) claims list → AreJust Line (map (told (Bus bus) space claims) list)
+  pub clashes_told : (list : List Share) → AreMeetings (Bus bus) claims list → AreJustLines Line (map (claims_fault (Bus bus) space claims) list)
   clashes_told list found =
-      just_told (places_of claims) (rising_of claims are.rising) (AreMeeting (Bus bus) claims) order_of_meeting Clashing clash_of clashing_as list (least_of_meetings found) (told (Bus bus) space claims)
+      just_told (places_of claims) (rising_of claims are.rising) (AreMeeting (Bus bus) claims) order_of_meeting Clashing clash_of clashing_as list (least_of_meetings found) (claims_fault (Bus bus) space claims)
       (plain.Clash bus (space_of space)) (λ x. refl) (second_of_clash bus (space_of space)) Line
       (λ a f r g q meets. ((refl, refl), record { there = meets.there; rise = meets.rise; least = meets.least }))
       line_only
@@ -97,9 +97,9 @@ module _ (given : Given) (roots : List ℕ) (s : System) (bus : ℕ) (space : Sp
 -- ---- in each system with a tree
 
 pub clashes_added : (given : Given) (t : Tree) (bus : ℕ) (space : Space) (claims : List Claimed) (list : List Share) (before after : List Fault) → AreClaimsInEach given t bus (space_of space) claims
-    → AreMeetings (Bus bus) claims list → after ≡ before ++ map (told (Bus bus) space claims) list → AreClashesAdded (IsOnBusIn bus (space_of space)) given t before after
+    → AreMeetings (Bus bus) claims list → after ≡ before ++ map (claims_fault (Bus bus) space claims) list → AreClashesAdded (IsOnBusIn bus (space_of space)) given t before after
 clashes_added given t bus space claims list before after are found appended = record {
-  more = map (told (Bus bus) space claims) list;
+  more = map (claims_fault (Bus bus) space claims) list;
   appended = appended;
   just = λ s tree. clashes_told given t.roots s bus space claims (are s tree) list found;
 }

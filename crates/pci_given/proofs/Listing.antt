@@ -20,12 +20,12 @@ use Rattle.pci_tree.specs.Trees.{HasTree}
 use Rattle.pci_tree.proofs.RegionParts.{window_named}
 use Rattle.pci_given.specs.declared.bars_and_roms.BarOrRom.{BarOrRom}
 use Rattle.pci_given.specs.Clashes.{IsOnBusIn}
-use Rattle.pci_given.specs.BarsAndRoms.{place_of, among, IsBarOrRom, HasBarOrRom, AreBarsAndRomsAt, AreBarsAndRomsAdded, AreAllBarsAndRoms}
+use Rattle.pci_given.specs.BarsAndRoms.{bar_or_rom_place, among, IsBarOrRom, HasBarOrRom, AreBarsAndRomsAt, AreBarsAndRomsAdded, AreAllBarsAndRoms}
 use Rattle.pci_given.proofs.AllClashing.{Where, IsBelow, IsOnBus, IsAnywhere, not_both_spaces, either_space, not_below_and_on, below_or_on}
 use Rattle.pci_claims.proofs.Making.{rise_in_order}
 
 abbrev Differ : BarOrRom → BarOrRom → Type 0
-Differ b c = place_of b ≡ place_of c → ⊥
+Differ b c = bar_or_rom_place b ≡ bar_or_rom_place c → ⊥
 
 -- ---- names of regions
 
@@ -41,7 +41,7 @@ module _ (s : System) (system : IsSystem s) where
       (subst IsSlot (sym on.is.slot) (slot_of s system on.f on.listed), omega (arith, low, register))
 
   -- two with one place are of one bus and space
-  one_place : (b c : BarOrRom) → IsBarOrRom s b → IsBarOrRom s c → place_of b ≡ place_of c → (b.region.slot.bus ≡ c.region.slot.bus) × (space_of b.space ≡ space_of c.space)
+  one_place : (b c : BarOrRom) → IsBarOrRom s b → IsBarOrRom s c → bar_or_rom_place b ≡ bar_or_rom_place c → (b.region.slot.bus ≡ c.region.slot.bus) × (space_of b.space ≡ space_of c.space)
   one_place b c is_b is_c same =
       let named_b = named_as b.region.slot.bus (space_of b.space) b.region is_b.on in
       let named_c = named_as c.region.slot.bus (space_of c.space) c.region is_c.on in
@@ -159,12 +159,12 @@ module _ (t : Tree) where
         };
   }
 
-  pub all_are : (none xs ys : List BarOrRom) → none ≡ [] → AreBarsAndRomsAdded IsAnywhere t none xs → IsPermutation xs ys → IsNonDecreasingBy place_of ys → AreAllBarsAndRoms t ys
+  pub all_are : (none xs ys : List BarOrRom) → none ≡ [] → AreBarsAndRomsAdded IsAnywhere t none xs → IsPermutation xs ys → IsNonDecreasingBy bar_or_rom_place ys → AreAllBarsAndRoms t ys
   all_are none xs ys empty added moved sorted s tree =
       let is : xs ≡ added.more = added.appended ∙ ap (λ (l : List BarOrRom). l ++ added.more) empty in
       let all = subst (AreBarsAndRomsAt IsAnywhere Differ s) (sym is) (added.are s tree) in record {
         each = λ b has. all.each b (Contains-permutation ys xs b (IsPermutation-sym xs ys moved) has);
         complete = λ f part space a listed no_window at claims.
             has_more xs ys (λ b has. Contains-permutation xs ys b moved has) f part space (all.complete f part space a listed no_window at claims);
-        pairs = rise_in_order place_of xs ys all.pairs moved sorted;
+        pairs = rise_in_order bar_or_rom_place xs ys all.pairs moved sorted;
       }

@@ -13,8 +13,8 @@ use Rattle.pci_spec.proofs.Members.{in_map_to, in_map_from, pairs_map}
 use Rattle.pci_spec.proofs.FirstLines.{same_precedes}
 use Rattle.pci_function.specs.declared.fault.Fault.{Fault}
 use Rattle.pci_function.specs.Fault.{fault_of}
-use Rattle.pci_faults.specs.Order.{place_of}
-use Rattle.pci_faults.specs.Lines.{AreJust}
+use Rattle.pci_faults.specs.Order.{judging_place}
+use Rattle.pci_faults.specs.Lines.{AreJustLines}
 use Rattle.pci_faults.proofs.Places.{IsSpelled, looked_for_before, one_key}
 use Rattle.given_spec.specs.Given.{Given}
 use Rattle.given_spec.specs.Fault.{Known, Outside, fault_number}
@@ -31,15 +31,15 @@ pub record AreLinesOf (number : ℕ) (given : Given) (roots : List ℕ) (s : Sys
   pub line : (f : plain.Fault) → IsNamed given roots s (Known f) → fault_number (Known f) ≡ number → Line f
 
 module _ (number : ℕ) (given : Given) (roots : List ℕ) (s : System) (Line : plain.Fault → Type 0) (are : AreLinesOf number given roots s Line)
-    (xs ys : List Fault) (just : AreJust Line xs) (moved : IsPermutation xs ys) (sorted : IsNonDecreasingBy (λ f. place_of (fault_of f)) ys) where
+    (xs ys : List Fault) (just : AreJustLines Line xs) (moved : IsPermutation xs ys) (sorted : IsNonDecreasingBy (λ f. judging_place (fault_of f)) ys) where
   abbrev known : Fault → spec.Fault
   known f = Known (fault_of f)
 
   line_in : (f : Fault) → Contains ys f → Line (fault_of f)
   line_in f has = just.each f (Contains-permutation ys xs f (IsPermutation-sym xs ys moved) has)
 
-  rise : AllPairs (λ f g. place_of (fault_of f) < place_of (fault_of g)) ys
-  rise = rise_in_order (λ (f : Fault). place_of (fault_of f)) xs ys (λ i j d less within same.
+  rise : AllPairs (λ f g. judging_place (fault_of f) < judging_place (fault_of g)) ys
+  rise = rise_in_order (λ (f : Fault). judging_place (fault_of f)) xs ys (λ i j d less within same.
       let inside : i < length xs = omega (arith, less, within) in
       just.distinct i j d less within (one_key (fault_of (get_or xs i d)) (fault_of (get_or xs j d))
       (are.spelled (fault_of (get_or xs i d)) (just.each (get_or xs i d) (Contains-get_or xs i d inside)))

@@ -22,7 +22,7 @@ use Rattle.given_spec.specs.Numbered.{AreAllNumbered}
 use Rattle.pci_given.specs.declared.bars_and_roms.BarOrRom.{BarOrRom}
 use Rattle.pci_given.specs.declared.outside_lines.Outside.{Outside}
 use Rattle.pci_claims.specs.Outside.{IsNeverOutside, IsOutsideLine}
-use Rattle.pci_given.specs.BarsAndRoms.{place_of, AreBarsAndRomsOf, AreAllBarsAndRoms}
+use Rattle.pci_given.specs.BarsAndRoms.{bar_or_rom_place, AreBarsAndRomsOf, AreAllBarsAndRoms}
 use Rattle.pci_given.specs.OutsideLines.{outside_of, outside_at, IsOutsideOfOne, AreOutsideLines, AreAllOutside}
 use Rattle.pci_claims.proofs.Making.{made_none, made_more, made_less}
 use Rattle.pci_given.proofs.Listing.{named_as}
@@ -37,19 +37,19 @@ module _ (given : Given) (t : Tree) where
   abbrev HasOne : BarOrRom → Type 0
   HasOne b = IsNeverOutside given t (space_of b.space) b.region → ⊥
 
-  numbered : (b : BarOrRom) (o : Outside) → IsOutsideOfOne given t b o → place o ≡ place_of b
+  numbered : (b : BarOrRom) (o : Outside) → IsOutsideOfOne given t b o → place o ≡ bar_or_rom_place b
   numbered b o (address, line, is) = sym (ap place is)
 
   pub none_outside : AreOutsideLines given t [] []
-  none_outside = made_none (IsOutsideOfOne given t) HasOne place_of place numbered
+  none_outside = made_none (IsOutsideOfOne given t) HasOne bar_or_rom_place place numbered
 
   module _ (list : List BarOrRom) (i : ℕ) (b : BarOrRom) (lines : List Outside) (within : i < length list) (at : b ≡ get_or list i b)
       (made : AreOutsideLines given t (take i list) lines) where
     pub one_outside_more : (address : ℕ) → IsOutsideLine given t (space_of b.space) b.region address → AreOutsideLines given t (take (i + 1) list) (lines ++ outside_at b address ∷ [])
-    one_outside_more address line = made_more (IsOutsideOfOne given t) HasOne place_of place numbered list i b lines within at made (outside_at b address) (address, line, refl)
+    one_outside_more address line = made_more (IsOutsideOfOne given t) HasOne bar_or_rom_place place numbered list i b lines within at made (outside_at b address) (address, line, refl)
 
     pub no_outside_more : IsNeverOutside given t (space_of b.space) b.region → AreOutsideLines given t (take (i + 1) list) lines
-    no_outside_more never = made_less (IsOutsideOfOne given t) HasOne place_of place numbered list i b lines within at made (λ has. has never)
+    no_outside_more never = made_less (IsOutsideOfOne given t) HasOne bar_or_rom_place place numbered list i b lines within at made (λ has. has never)
 
 -- ---- all
 

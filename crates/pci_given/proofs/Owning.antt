@@ -12,28 +12,28 @@ use Rattle.pci_faults.specs.declared.shares.Among.{Among}
 use Rattle.pci_faults.specs.declared.shares.Among.TheVariants.{Bus, Roots}
 use Rattle.pci_faults.specs.declared.shares.Share.{Share}
 use Rattle.pci_faults.specs.declared.owners.Found.{Found}
-use Rattle.pci_faults.specs.Owners.{Ranges, Owns, IsAdded}
+use Rattle.pci_faults.specs.Owners.{OwnedRanges, Owns, IsRangeAdded}
 use Rattle.pci_faults.specs.Owners as one
 use Rattle.given_spec.specs.Claims.{are_window_and_legacy, may_share}
 use Rattle.pci_claims.specs.Claim.{Claimed}
 use Rattle.pci_claims.proofs.Gathering.{none_covered, covers_take}
 use Rattle.pci_given.specs.Clashes.{Meet, claim_at, nobody, AreMeeting, IsFoundBelow}
-use Rattle.pci_given.specs.Owned.{group_of, group_at, GroupsRise, AreBefore, AreLesser, AreGiven, IsFirstOwned, AreOwned, IsOwnedShare}
+use Rattle.pci_given.specs.Owned.{claim_group_of, claim_group_at, ClaimGroupsRise, AreClaimsBefore, AreLesserClaims, AreGiven, IsFirstOwnedPiece, AreClaimsOwned, IsOwnedShare}
 
 -- ---- the ranges of a list, one by one
 
 covers_more : (pieces : List Range) (k : ℕ) (z : Range) → k < length pieces → (a : ℕ) → Covers (take (k + 1) pieces) a ↔ (Covers (take k pieces) a ⊎ Holds (get_or pieces k z) a)
 covers_more pieces k z within a = subst (λ (xs : List Range). Covers xs a ↔ (Covers (take k pieces) a ⊎ Holds (get_or pieces k z) a)) (sym (take_more pieces k z within)) (covers_push (take k pieces) (get_or pieces k z) a)
 
-pub given_none : (owner : ℕ) (ranges : Ranges) → AreGiven [] owner ranges ranges
+pub given_none : (owner : ℕ) (ranges : OwnedRanges) → AreGiven [] owner ranges ranges
 given_none owner ranges = record {
   kept = λ a i o. o;
   only = λ a i o. inl o;
   each = λ a covers. absurd (none_covered a covers);
 }
 
-pub given_more : (pieces : List Range) (k : ℕ) (z : Range) (owner : ℕ) (before middle after : Ranges) → k < length pieces → AreGiven (take k pieces) owner before middle
-    → IsAdded middle after (get_or pieces k z) owner → AreGiven (take (k + 1) pieces) owner before after
+pub given_more : (pieces : List Range) (k : ℕ) (z : Range) (owner : ℕ) (before middle after : OwnedRanges) → k < length pieces → AreGiven (take k pieces) owner before middle
+    → IsRangeAdded middle after (get_or pieces k z) owner → AreGiven (take (k + 1) pieces) owner before after
 given_more pieces k z owner before middle after within was is = record {
   kept = λ a i o. is.kept a i (was.kept a i o);
   only = λ a i o. elim (is.only a i o) [
@@ -49,35 +49,35 @@ given_more pieces k z owner before middle after within was is = record {
   ];
 }
 
-pub given_all : (pieces : List Range) (n owner : ℕ) (before after : Ranges) → length pieces ≤ n → AreGiven (take n pieces) owner before after → AreGiven pieces owner before after
+pub given_all : (pieces : List Range) (n owner : ℕ) (before after : OwnedRanges) → length pieces ≤ n → AreGiven (take n pieces) owner before after → AreGiven pieces owner before after
 given_all pieces n owner before after end given = subst (λ (xs : List Range). AreGiven xs owner before after) (take_all n pieces end) given
 
 -- no address of some ranges has an owner
-abbrev pub NoneOwned : Ranges → List Range → Type 0
+abbrev pub NoneOwned : OwnedRanges → List Range → Type 0
 NoneOwned ranges pieces = (a i : ℕ) → Covers pieces a → Owns ranges a i → ⊥
 
-pub none_owned_yet : (ranges : Ranges) → NoneOwned ranges []
+pub none_owned_yet : (ranges : OwnedRanges) → NoneOwned ranges []
 none_owned_yet ranges a i covers o = none_covered a covers
 
-pub none_owned_more : (ranges : Ranges) (pieces : List Range) (k : ℕ) (z : Range) → k < length pieces → NoneOwned ranges (take k pieces)
+pub none_owned_more : (ranges : OwnedRanges) (pieces : List Range) (k : ℕ) (z : Range) → k < length pieces → NoneOwned ranges (take k pieces)
     → ((a i : ℕ) → Holds (get_or pieces k z) a → Owns ranges a i → ⊥) → NoneOwned ranges (take (k + 1) pieces)
 none_owned_more ranges pieces k z within none here a i covers o = elim ((covers_more pieces k z within a).0 covers) [
   | inl before ↦ none a i before o
   | inr held ↦ here a i held o
 ]
 
-pub none_owned_at_all : (ranges : Ranges) (pieces : List Range) (n : ℕ) → length pieces ≤ n → NoneOwned ranges (take n pieces) → NoneOwned ranges pieces
+pub none_owned_at_all : (ranges : OwnedRanges) (pieces : List Range) (n : ℕ) → length pieces ≤ n → NoneOwned ranges (take n pieces) → NoneOwned ranges pieces
 none_owned_at_all ranges pieces n end none = subst (λ (xs : List Range). NoneOwned ranges xs) (take_all n pieces end) none
 
 -- the first address with an owner is behind a range, or there is none
-pub none_past : (ranges : Ranges) (r : Range) (f : Found) → one.IsFirstOwned ranges r.first f → r.last < f.address → (a i : ℕ) → Holds r a → Owns ranges a i → ⊥
+pub none_past : (ranges : OwnedRanges) (r : Range) (f : Found) → one.IsFirstOwned ranges r.first f → r.last < f.address → (a i : ℕ) → Holds r a → Owns ranges a i → ⊥
 none_past ranges r f found past a i held o = found.least a i held.0 (let to = held.1 in omega (arith, past, to)) o
 
-pub none_from : (ranges : Ranges) (r : Range) → ((a i : ℕ) → r.first ≤ a → Owns ranges a i → ⊥) → (a i : ℕ) → Holds r a → Owns ranges a i → ⊥
+pub none_from : (ranges : OwnedRanges) (r : Range) → ((a i : ℕ) → r.first ≤ a → Owns ranges a i → ⊥) → (a i : ℕ) → Holds r a → Owns ranges a i → ⊥
 none_from ranges r none a i held o = none a i held.0 o
 
-pub owned_here : (ranges : Ranges) (pieces : List Range) (k : ℕ) (z : Range) (f : Found) → IsCanonical pieces → k < length pieces → NoneOwned ranges (take k pieces)
-    → one.IsFirstOwned ranges (get_or pieces k z).first f → f.address ≤ (get_or pieces k z).last → IsFirstOwned ranges pieces f
+pub owned_here : (ranges : OwnedRanges) (pieces : List Range) (k : ℕ) (z : Range) (f : Found) → IsCanonical pieces → k < length pieces → NoneOwned ranges (take k pieces)
+    → one.IsFirstOwned ranges (get_or pieces k z).first f → f.address ≤ (get_or pieces k z).last → IsFirstOwnedPiece ranges pieces f
 owned_here ranges pieces k z f can within none found low =
     let from : (get_or pieces k z).first ≤ f.address = found.from_on in
     let some : f.address ≤ f.last = found.some in
@@ -103,13 +103,13 @@ module _ (claims : List Claimed) where
   abbrev pub Answers : ℕ → ℕ → Type 0
   Answers k a = Covers (claim_at claims k).pieces a
 
-  pub none_owned : (ranges : Ranges) → ((a i : ℕ) → Owns ranges a i → ⊥) → AreOwned 0 claims ranges
+  pub none_owned : (ranges : OwnedRanges) → ((a i : ℕ) → Owns ranges a i → ⊥) → AreClaimsOwned 0 claims ranges
   none_owned ranges none = record {
     sound = λ a k o. absurd (none a k o);
     complete = λ a k less. absurd (let no : ⊥ = omega (arith, less) in no);
   }
 
-  pub one_more : (n : ℕ) (before after : Ranges) → AreGiven (claim_at claims n).pieces n before after → AreOwned n claims before → AreOwned (n + 1) claims after
+  pub one_more : (n : ℕ) (before after : OwnedRanges) → AreGiven (claim_at claims n).pieces n before after → AreClaimsOwned n claims before → AreClaimsOwned (n + 1) claims after
   one_more n before after is was = record {
     sound = λ a k o. elim (is.only a k o) [
       | inl old ↦ (let s = was.sound a k old in let low : k < n = s.0 in (
@@ -149,7 +149,7 @@ other_slots s t r q less = differ (may_share s r t q) (λ share.
     let function = eqb-true s.function t.function last.1 in
     let no : ⊥ = omega (arith, less, bus, device, function) in no)
 
-of_two_groups : (among : Among) (c d : Claimed) (a : ℕ) → group_of among c < group_of among d → Covers c.pieces a → Covers d.pieces a → Meet among c d a
+of_two_groups : (among : Among) (c d : Claimed) (a : ℕ) → claim_group_of among c < claim_group_of among d → Covers c.pieces a → Covers d.pieces a → Meet among c d a
 of_two_groups (Bus bus) c d a less first second = record { first = first; second = second; apart = other_slots c.slot d.slot c.register d.register less }
 of_two_groups Roots c d a less first second = record { first = first; second = second; buses = λ same. (let no : ⊥ = omega (arith, less, same) in no) }
 
@@ -158,8 +158,8 @@ of_two_groups Roots c d a less first second = record { first = first; second = s
 at_place : (among : Among) (claims : List Claimed) (i a first second : ℕ) → second ≡ i → AreMeeting among claims a first second → Meet among (claim_at claims first) (claim_at claims i) a
 at_place among claims i a first second at meeting = subst (λ m. Meet among (claim_at claims first) (claim_at claims m) a) at meeting.meet
 
-module _ (among : Among) (claims : List Claimed) (n i : ℕ) (within : i < length claims) (lesser : AreLesser n i among claims) where
-  module _ (ranges : Ranges) (owned : AreOwned n claims ranges) where
+module _ (among : Among) (claims : List Claimed) (n i : ℕ) (within : i < length claims) (lesser : AreLesserClaims n i among claims) where
+  module _ (ranges : OwnedRanges) (owned : AreClaimsOwned n claims ranges) where
     -- what it meets of the first so many has an owner
     owner_of : (a first : ℕ) → first < n → Meet among (claim_at claims first) (claim_at claims i) a → Answers claims first a × Answers claims i a × ((j : ℕ) × Owns ranges a j)
     owner_of a first less meet =
@@ -192,7 +192,7 @@ module _ (among : Among) (claims : List Claimed) (n i : ℕ) (within : i < lengt
         )
 
 -- two of one bus are never split
-module _ (claims : List Claimed) (n i : ℕ) (lesser : AreLesser n i Roots claims) where
+module _ (claims : List Claimed) (n i : ℕ) (lesser : AreLesserClaims n i Roots claims) where
   pub roots_found : (found : Option Share) → IsFoundBelow Roots n claims i found → IsFoundBelow Roots i claims i found
   roots_found None none = λ a first less meeting. elim (cases_lt first n) [
     | inl low ↦ none a first low meeting
@@ -212,17 +212,17 @@ module _ (claims : List Claimed) (n i : ℕ) (lesser : AreLesser n i Roots claim
 
 -- ---- groups that rise
 
-pub none_before : (i : ℕ) (among : Among) (claims : List Claimed) → AreBefore 0 i among claims
+pub none_before : (i : ℕ) (among : Among) (claims : List Claimed) → AreClaimsBefore 0 i among claims
 none_before i among claims k less = absurd (let none : ⊥ = omega (arith, less) in none)
 
-pub still_before : (n i : ℕ) (among : Among) (claims : List Claimed) → GroupsRise among claims → i + 1 < length claims → AreLesser n i among claims → AreBefore n (i + 1) among claims
+pub still_before : (n i : ℕ) (among : Among) (claims : List Claimed) → ClaimGroupsRise among claims → i + 1 < length claims → AreLesserClaims n i among claims → AreClaimsBefore n (i + 1) among claims
 still_before n i among claims rise within lesser k less =
     let low = lesser.lesser k less in let up = rise i (i + 1) (omega arith) within in omega (arith, low, up)
 
 -- the groups of the first so many claims rise, up to the last
 pub record AreRisen (among : Among) (claims : List Claimed) (n last : ℕ) : Type 0 where
-  pub rise : (j k : ℕ) → j ≤ k → k < n → group_at among claims j ≤ group_at among claims k
-  pub up_to : (k : ℕ) → k < n → group_at among claims k ≤ last
+  pub rise : (j k : ℕ) → j ≤ k → k < n → claim_group_at among claims j ≤ claim_group_at among claims k
+  pub up_to : (k : ℕ) → k < n → claim_group_at among claims k ≤ last
 
 pub risen_none : (among : Among) (claims : List Claimed) (last : ℕ) → AreRisen among claims 0 last
 risen_none among claims last = record {
@@ -230,16 +230,16 @@ risen_none among claims last = record {
   up_to = λ k less. absurd (let none : ⊥ = omega (arith, less) in none);
 }
 
-pub risen_more : (among : Among) (claims : List Claimed) (n last next : ℕ) → next ≡ group_at among claims n → last ≤ next → AreRisen among claims n last → AreRisen among claims (n + 1) next
+pub risen_more : (among : Among) (claims : List Claimed) (n last next : ℕ) → next ≡ claim_group_at among claims n → last ≤ next → AreRisen among claims n last → AreRisen among claims (n + 1) next
 risen_more among claims n last next group up risen =
-    let up_to : (k : ℕ) → k < n + 1 → group_at among claims k ≤ next = λ k less. elim (cases_eq k n) [
-      | inl same ↦ (let here : group_at among claims k ≡ group_at among claims n = ap (λ m. group_at among claims m) same in omega (arith, here, group))
+    let up_to : (k : ℕ) → k < n + 1 → claim_group_at among claims k ≤ next = λ k less. elim (cases_eq k n) [
+      | inl same ↦ (let here : claim_group_at among claims k ≡ claim_group_at among claims n = ap (λ m. claim_group_at among claims m) same in omega (arith, here, group))
       | inr other ↦ (let low = risen.up_to k (omega (arith, less, other)) in omega (arith, low, up))
     ] in
     record {
       rise = λ j k low less. elim (cases_eq k n) [
         | inl same ↦ (
-            let here : group_at among claims k ≡ group_at among claims n = ap (λ m. group_at among claims m) same in
+            let here : claim_group_at among claims k ≡ claim_group_at among claims n = ap (λ m. claim_group_at among claims m) same in
             let below = up_to j (omega (arith, low, less)) in
             omega (arith, here, group, below))
         | inr other ↦ risen.rise j k low (omega (arith, less, other))
@@ -247,12 +247,12 @@ risen_more among claims n last next group up risen =
       up_to = up_to;
     }
 
-pub rise_all : (among : Among) (claims : List Claimed) (n last : ℕ) → length claims ≤ n → AreRisen among claims n last → GroupsRise among claims
+pub rise_all : (among : Among) (claims : List Claimed) (n last : ℕ) → length claims ≤ n → AreRisen among claims n last → ClaimGroupsRise among claims
 rise_all among claims n last end risen j k low less = risen.rise j k low (omega (arith, end, less))
 
 -- where the one at a place isn't of a lesser group, those from there up to another are of this one's
-pub lesser_found : (n i : ℕ) (among : Among) (claims : List Claimed) → n ≤ i → i < length claims → GroupsRise among claims → AreBefore n i among claims
-    → (n < i → group_at among claims i ≤ group_at among claims n) → AreLesser n i among claims
+pub lesser_found : (n i : ℕ) (among : Among) (claims : List Claimed) → n ≤ i → i < length claims → ClaimGroupsRise among claims → AreClaimsBefore n i among claims
+    → (n < i → claim_group_at among claims i ≤ claim_group_at among claims n) → AreLesserClaims n i among claims
 lesser_found n i among claims within inside rise before not_lesser = record {
   within = within;
   lesser = before;
@@ -263,25 +263,25 @@ lesser_found n i among claims within inside rise before not_lesser = record {
       omega (arith, up, down, at);
 }
 
-pub before_more : (n i : ℕ) (among : Among) (claims : List Claimed) → group_at among claims n < group_at among claims i → AreBefore n i among claims → AreBefore (n + 1) i among claims
+pub before_more : (n i : ℕ) (among : Among) (claims : List Claimed) → claim_group_at among claims n < claim_group_at among claims i → AreClaimsBefore n i among claims → AreClaimsBefore (n + 1) i among claims
 before_more n i among claims here before k less = elim (cases_eq k n) [
-  | inl same ↦ (let at : group_at among claims k ≡ group_at among claims n = ap (λ m. group_at among claims m) same in omega (arith, at, here))
+  | inl same ↦ (let at : claim_group_at among claims k ≡ claim_group_at among claims n = ap (λ m. claim_group_at among claims m) same in omega (arith, at, here))
   | inr other ↦ before k (omega (arith, less, other))
 ]
 
 -- ---- the same of a claim whose addresses were read
 
-pub one_more_read : (claims : List Claimed) (n : ℕ) (pieces : List Range) (before after : Ranges) → pieces ≡ (claim_at claims n).pieces → AreGiven pieces n before after
-    → AreOwned n claims before → AreOwned (n + 1) claims after
+pub one_more_read : (claims : List Claimed) (n : ℕ) (pieces : List Range) (before after : OwnedRanges) → pieces ≡ (claim_at claims n).pieces → AreGiven pieces n before after
+    → AreClaimsOwned n claims before → AreClaimsOwned (n + 1) claims after
 one_more_read claims n pieces before after is given was = one_more claims n before after (subst (λ (xs : List Range). AreGiven xs n before after) is given) was
 
-pub share_read : (claims : List Claimed) (i : ℕ) (pieces : List Range) (ranges : Ranges) (f : Found) → pieces ≡ (claim_at claims i).pieces → IsFirstOwned ranges pieces f
+pub share_read : (claims : List Claimed) (i : ℕ) (pieces : List Range) (ranges : OwnedRanges) (f : Found) → pieces ≡ (claim_at claims i).pieces → IsFirstOwnedPiece ranges pieces f
     → IsOwnedShare ranges claims i (Some (record { address = f.address; first = f.owner; second = i }))
 share_read claims i pieces ranges f is found =
-    let its = subst (λ (xs : List Range). IsFirstOwned ranges xs f) is found in
+    let its = subst (λ (xs : List Range). IsFirstOwnedPiece ranges xs f) is found in
     (refl, its.there, its.owned, its.least)
 
-pub none_read : (claims : List Claimed) (i : ℕ) (pieces : List Range) (ranges : Ranges) → pieces ≡ (claim_at claims i).pieces → NoneOwned ranges pieces → IsOwnedShare ranges claims i None
+pub none_read : (claims : List Claimed) (i : ℕ) (pieces : List Range) (ranges : OwnedRanges) → pieces ≡ (claim_at claims i).pieces → NoneOwned ranges pieces → IsOwnedShare ranges claims i None
 none_read claims i pieces ranges is none = subst (λ (xs : List Range). NoneOwned ranges xs) is none
 
 pub claim_read : (claims : List Claimed) (k : ℕ) (c : Claimed) → k < length claims → c ≡ get_or claims k c → c ≡ claim_at claims k

@@ -29,7 +29,7 @@ use Rattle.pci_claims.specs.declared.given.LegacyBridge.{LegacyBridge}
 use Rattle.pci_claims.specs.Values.{legacy_value}
 use Rattle.pci_claims.specs.Legacy.{ArePieces}
 use Rattle.pci_given.specs.Clashes.{IsClashLine, IsOnBusIn, AreClashesAdded}
-use Rattle.pci_given.specs.Splits.{IsSplitLine, IsIn, AreSplitsAdded}
+use Rattle.pci_given.specs.Splits.{IsSplitLine, IsSplitIn, AreSplitsAdded}
 use Rattle.pci_given.specs.Quiet.{IsOff, IsOffLegacy, HasThoseOn, AreQuiet, IsQuiet, IsQuietInEach}
 
 -- ---- regions that rise
@@ -215,16 +215,16 @@ module _ (given : Given) (t : Tree) where
     just = λ s tree. just_none (IsClashLine (IsOnBusIn bus space) given t.roots s) (no_clash bus space s (quiet s tree));
   }
 
-  no_split : (space : Space) (s : System) → IsQuiet given s (Contains t.roots) space → (f : plain.Fault) → IsSplitLine (IsIn space) given t.roots s f → ⊥
+  no_split : (space : Space) (s : System) → IsQuiet given s (Contains t.roots) space → (f : plain.Fault) → IsSplitLine (IsSplitIn space) given t.roots s f → ⊥
   no_split space s quiet (Split sp a p m q n) (at, is) =
       let differ : p ≡ q → ⊥ = λ same. is.there.buses (ap (λ (x : Slot). x.bus) same) in
       quiet a p.bus q.bus p q m n is.there.root_first is.there.root_second (subst (λ (x : Space). ClaimsOnBus given s p.bus (address_in x a) (named_region p m)) at is.there.claims_first)
       (subst (λ (x : Space). ClaimsOnBus given s q.bus (address_in x a) (named_region q n)) at is.there.claims_second) (λ same. differ same.0) (shared_by_one p q m n differ)
   no_split space s quiet f line = absurd (search rules)
 
-  pub no_splits : (space : Space) (list : List Fault) → IsQuietInEach given t (Contains t.roots) space → AreSplitsAdded (IsIn space) given t list list
+  pub no_splits : (space : Space) (list : List Fault) → IsQuietInEach given t (Contains t.roots) space → AreSplitsAdded (IsSplitIn space) given t list list
   no_splits space list quiet = record {
     more = [];
     appended = sym (append-nil list);
-    just = λ s tree. just_none (IsSplitLine (IsIn space) given t.roots s) (no_split space s (quiet s tree));
+    just = λ s tree. just_none (IsSplitLine (IsSplitIn space) given t.roots s) (no_split space s (quiet s tree));
   }

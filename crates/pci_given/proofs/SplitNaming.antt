@@ -15,15 +15,15 @@ use Rattle.pci_tree.specs.Ranges.{Covers}
 use Rattle.pci_tree.specs.Outline.{Tree}
 use Rattle.pci_faults.specs.declared.shares.Among.TheVariants.{Roots}
 use Rattle.pci_faults.specs.declared.shares.Share.{Share}
-use Rattle.pci_faults.specs.Lines.{AreJust}
+use Rattle.pci_faults.specs.Lines.{AreJustLines}
 use Rattle.pci_faults.proofs.Naming.{IsSharedAs, IsTold, split_told, second_of_split, just_told}
 use Rattle.given_spec.specs.Given.{Given, starts}
 use Rattle.given_spec.specs.Claims.{ClaimsOnBus}
 use Rattle.given_spec.specs.Fault.{IsSplit}
 use Rattle.pci_claims.specs.Claim.{Claimed}
-use Rattle.pci_given.specs.Clashes.{claim_at, nobody, AreMeeting, AreMeetings, told}
+use Rattle.pci_given.specs.Clashes.{claim_at, nobody, AreMeeting, AreMeetings, claims_fault}
 use Rattle.pci_claims.specs.RootClaims.{AreClaimsOver, AreRootClaimsInEach}
-use Rattle.pci_given.specs.Splits.{IsSplitLine, IsIn, AreSplitsAdded}
+use Rattle.pci_given.specs.Splits.{IsSplitLine, IsSplitIn, AreSplitsAdded}
 use Rattle.pci_given.proofs.Telling.{IsNamedAt, named_at, places_of, rising_of, meeting_as, order_of_meeting, least_of_meetings}
 
 module _ (given : Given) (roots : List ℕ) (s : System) (space : Space) (claims : List Claimed) (are : AreClaimsOver given (Contains roots) s (space_of space) claims) where
@@ -71,16 +71,16 @@ module _ (given : Given) (roots : List ℕ) (s : System) (space : Space) (claims
   -- ---- the faults
 
   abbrev pub Line : plain.Fault → Type 0
-  Line = IsSplitLine (IsIn (space_of space)) given roots s
+  Line = IsSplitLine (IsSplitIn (space_of space)) given roots s
 
   line_only : (fault : plain.Fault) → Line fault → IsTold Splitting (plain.Split (space_of space)) fault
   line_only (plain.Split sp a f r g q) (h, line) = split_told (λ z a f r g q. IsSplit given roots s (address_in z a) (named_regions f r g q)) (space_of space) sp a f r g q h
       record { there = line.there; rise = line.rise; least = λ c slot register. line.least c slot register }
   line_only fault line = absurd (search rules)
 
-  pub splits_told : (list : List Share) → AreMeetings Roots claims list → AreJust Line (map (told Roots space claims) list)
+  pub splits_told : (list : List Share) → AreMeetings Roots claims list → AreJustLines Line (map (claims_fault Roots space claims) list)
   splits_told list found =
-      just_told (places_of claims) (rising_of claims are.rising) (AreMeeting Roots claims) order_of_meeting Splitting split_of splitting_as list (least_of_meetings found) (told Roots space claims)
+      just_told (places_of claims) (rising_of claims are.rising) (AreMeeting Roots claims) order_of_meeting Splitting split_of splitting_as list (least_of_meetings found) (claims_fault Roots space claims)
       (plain.Split (space_of space)) (λ x. refl) (second_of_split (space_of space)) Line
       (λ a f r g q meets. (refl, record { there = meets.there; rise = meets.rise; least = meets.least }))
       line_only
@@ -88,9 +88,9 @@ module _ (given : Given) (roots : List ℕ) (s : System) (space : Space) (claims
 -- ---- in each system with a tree
 
 pub splits_added : (given : Given) (t : Tree) (space : Space) (claims : List Claimed) (list : List Share) (before after : List Fault) → AreRootClaimsInEach given t (space_of space) claims
-    → AreMeetings Roots claims list → after ≡ before ++ map (told Roots space claims) list → AreSplitsAdded (IsIn (space_of space)) given t before after
+    → AreMeetings Roots claims list → after ≡ before ++ map (claims_fault Roots space claims) list → AreSplitsAdded (IsSplitIn (space_of space)) given t before after
 splits_added given t space claims list before after are found appended = record {
-  more = map (told Roots space claims) list;
+  more = map (claims_fault Roots space claims) list;
   appended = appended;
   just = λ s tree. splits_told given t.roots s space claims (are s tree) list found;
 }

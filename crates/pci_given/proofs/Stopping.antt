@@ -20,7 +20,7 @@ use Rattle.pci_claims.specs.Sent.{IsSentTo}
 use Rattle.pci_claims.specs.Reached.{PassesAt}
 use Rattle.pci_claims.specs.Outside.{IsSent}
 use Rattle.pci_given.specs.Missed.{IsLeastMissed}
-use Rattle.pci_given.specs.Stopped.{PassesSent, IsFirstStop}
+use Rattle.pci_given.specs.Stopped.{PassesSent, IsFirstBridgeThatStops}
 
 module _ (given : Given) (kind : WindowKind) (records : List Record) (root : ℕ) (range : Range) where
   -- the record at a slot is one
@@ -48,7 +48,7 @@ module _ (given : Given) (kind : WindowKind) (records : List Record) (root : ℕ
 
   pub stops_here : (path : List Slot) (i : ℕ) (slot : Slot) (r : Record) (sent passed : List Range) (a : ℕ) → RiseBySlot records → i < length path → slot ≡ get_or path i slot → Contains records r → r.slot ≡ slot
       → IsSentTo given (window_space kind) root sent → ArePassed given kind r passed → IsLeastMissed range sent passed a
-      → All (PassesSent given kind records root range) (take i path) → IsFirstStop (IsSent given (window_space kind) root) (PassesAt given kind records) range path slot a
+      → All (PassesSent given kind records root range) (take i path) → IsFirstBridgeThatStops (IsSent given (window_space kind) root) (PassesAt given kind records) range path slot a
   stops_here path i slot r sent passed a rise within at has named is are missed before = record {
     place = i;
     within = within;

@@ -22,7 +22,7 @@ use Rattle.given_spec.specs.AllFaults.{IsUnreachedOf, IsNamed, judging_key}
 use Rattle.given_spec.specs.Numbered.{AreAllNumbered}
 use Rattle.pci_given.specs.declared.bars_and_roms.BarOrRom.{BarOrRom}
 use Rattle.pci_given.specs.Stopped.{IsNeverUnreached, IsUnreachedLine}
-use Rattle.pci_given.specs.BarsAndRoms.{place_of, AreBarsAndRomsOf, AreAllBarsAndRoms}
+use Rattle.pci_given.specs.BarsAndRoms.{bar_or_rom_place, AreBarsAndRomsOf, AreAllBarsAndRoms}
 use Rattle.pci_given.specs.UnreachedLines.{unreached_at, place_of_fault, IsUnreachedOfOne, AreUnreachedLines, AreAllUnreached}
 use Rattle.pci_claims.proofs.Making.{made_none, made_more, made_less}
 use Rattle.pci_given.proofs.Listing.{named_as}
@@ -37,21 +37,21 @@ module _ (given : Given) (t : Tree) where
   abbrev HasOne : BarOrRom → Type 0
   HasOne b = IsNeverUnreached given t (space_of b.space) b.region → ⊥
 
-  numbered : (b : BarOrRom) (f : Fault) → IsUnreachedOfOne given t b f → place f ≡ place_of b
+  numbered : (b : BarOrRom) (f : Fault) → IsUnreachedOfOne given t b f → place f ≡ bar_or_rom_place b
   numbered b f (address, bridge, line, is) = sym (ap place is)
 
   pub none_unreached : AreUnreachedLines given t [] []
-  none_unreached = made_none (IsUnreachedOfOne given t) HasOne place_of place numbered
+  none_unreached = made_none (IsUnreachedOfOne given t) HasOne bar_or_rom_place place numbered
 
   module _ (list : List BarOrRom) (i : ℕ) (b : BarOrRom) (lines : List Fault) (within : i < length list) (at : b ≡ get_or list i b)
       (made : AreUnreachedLines given t (take i list) lines) where
     pub one_unreached_more : (address : ℕ) (bridge : Slot) → IsUnreachedLine given t (space_of b.space) b.region address bridge
         → AreUnreachedLines given t (take (i + 1) list) (lines ++ unreached_at b address bridge ∷ [])
     one_unreached_more address bridge line =
-        made_more (IsUnreachedOfOne given t) HasOne place_of place numbered list i b lines within at made (unreached_at b address bridge) (address, bridge, line, refl)
+        made_more (IsUnreachedOfOne given t) HasOne bar_or_rom_place place numbered list i b lines within at made (unreached_at b address bridge) (address, bridge, line, refl)
 
     pub no_unreached_more : IsNeverUnreached given t (space_of b.space) b.region → AreUnreachedLines given t (take (i + 1) list) lines
-    no_unreached_more never = made_less (IsUnreachedOfOne given t) HasOne place_of place numbered list i b lines within at made (λ has. has never)
+    no_unreached_more never = made_less (IsUnreachedOfOne given t) HasOne bar_or_rom_place place numbered list i b lines within at made (λ has. has never)
 
 -- ---- all
 

@@ -28,7 +28,7 @@ use Rattle.given_spec.specs.Claims.{passes}
 use Rattle.given_spec.specs.Fault.{IsUnreached}
 use Rattle.pci_claims.specs.Outside.{IsSent, IsRootOfPath}
 use Rattle.pci_claims.specs.Reached.{PassesAt}
-use Rattle.pci_given.specs.Stopped.{PassesSent, IsFirstStop, IsNeverUnreached, IsUnreachedLine}
+use Rattle.pci_given.specs.Stopped.{PassesSent, IsFirstBridgeThatStops, IsNeverUnreached, IsUnreachedLine}
 use Rattle.pci_claims.proofs.Outsides.{range, root_is}
 use Rattle.pci_claims.proofs.Walking.{bridge_at}
 
@@ -133,7 +133,7 @@ module _ (given : Given) (t : Tree) (space : Space) (r : Region) (records : List
     not_stopped a other stop all =
         both_ways _ stop.stops (pass_of stop.b stop.on_the_way a (all a ((on.is.claims a).1 stop.claims) (to_kind a stop.sent)))
 
-    module _ (no_window : is_of_window r.part ≡ false) (bridge : Slot) (address : ℕ) (is : IsFirstStop (IsSent given (window_space kind) root) (PassesAt given kind records) (range r) path bridge address) where
+    module _ (no_window : is_of_window r.part ≡ false) (bridge : Slot) (address : ℕ) (is : IsFirstBridgeThatStops (IsSent given (window_space kind) root) (PassesAt given kind records) (range r) path bridge address) where
       within : is.place < length way.bridges
       within = let n = long in let less = is.within in omega (arith, n, less)
 
@@ -200,7 +200,7 @@ module _ (given : Given) (t : Tree) (space : Space) (r : Region) (records : List
       not_stopped s tree bus on a other stop (subst (PassesSent given kind records root (range r)) (slot_is s tree bus on stop.b stop.on_the_way r.slot)
       (all stop.on_the_way.0 r.slot (omega (arith, n, inside))))
 
-  pub unreached_line : (bridge : Slot) (address : ℕ) → IsFirstStop (IsSent given (window_space kind) root) (PassesAt given kind records) (range r) path bridge address → IsUnreachedLine given t space r address bridge
+  pub unreached_line : (bridge : Slot) (address : ℕ) → IsFirstBridgeThatStops (IsSent given (window_space kind) root) (PassesAt given kind records) (range r) path bridge address → IsUnreachedLine given t space r address bridge
   unreached_line bridge address is s tree bus on no_window = record {
     there = there s tree bus on no_window bridge address is;
     first = λ sp a other u. not_before s tree bus on no_window bridge address is a other (stopped s tree bus on sp a other u);

@@ -12,8 +12,8 @@ use Rattle.pci_tree.specs.Trees.{HasTree}
 use Rattle.pci_given.specs.declared.bars_and_roms.BarOrRom.{BarOrRom}
 
 -- its place in the order of slots and registers
-abbrev pub place_of : BarOrRom → ℕ
-place_of b = region_number b.region
+abbrev pub bar_or_rom_place : BarOrRom → ℕ
+bar_or_rom_place b = region_number b.region
 
 -- those among the regions of a space
 abbrev pub among : Space → List Region → List BarOrRom
@@ -49,12 +49,12 @@ pub record AreBarsAndRomsAdded (At : ℕ → system.Space → Type 0) (t : Tree)
   pub more : List BarOrRom
   pub appended : after ≡ before ++ more
   pub are : (s : System) → HasTree t s
-      → AreBarsAndRomsAt At (λ b c. place_of b ≡ place_of c → ⊥) s more
+      → AreBarsAndRomsAt At (λ b c. bar_or_rom_place b ≡ bar_or_rom_place c → ⊥) s more
 
 -- all of a system, by slot and register
 abbrev pub AreBarsAndRomsOf : System → List BarOrRom → Type 0
 AreBarsAndRomsOf s list =
-    AreBarsAndRomsAt (λ bus space. Unit {0}) (λ b c. place_of b < place_of c) s list
+    AreBarsAndRomsAt (λ bus space. Unit {0}) (λ b c. bar_or_rom_place b < bar_or_rom_place c) s list
 
 -- in each system with the tree
 abbrev pub AreAllBarsAndRoms : Tree → List BarOrRom → Type 0

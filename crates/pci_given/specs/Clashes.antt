@@ -89,16 +89,16 @@ AreMeetings among claims shares = AreMeetingsBelow among (length claims) claims 
 -- ---- faults
 
 -- the fault that two claims meet
-abbrev pub fault_at : Among → Space → ℕ → Claimed → Claimed → Fault
-fault_at (Bus bus) space address first second =
+abbrev pub claims_fault_at : Among → Space → ℕ → Claimed → Claimed → Fault
+claims_fault_at (Bus bus) space address first second =
     Clash bus space address first.slot first.register second.slot second.register
-fault_at Roots space address first second =
+claims_fault_at Roots space address first second =
     Split space address first.slot first.register second.slot second.register
 
 -- the fault that claims of a list meet
-abbrev pub told : Among → Space → List Claimed → Share → Fault
-told among space claims s =
-    fault_at among space s.address (claim_at claims s.first) (claim_at claims s.second)
+abbrev pub claims_fault : Among → Space → List Claimed → Share → Fault
+claims_fault among space claims s =
+    claims_fault_at among space s.address (claim_at claims s.first) (claim_at claims s.second)
 
 -- the fault is a clash that a list of all names, on a bus and in a space that are meant
 abbrev pub IsClashLine : (ℕ → system.Space → Type 0) → Given → List ℕ → System → plain.Fault

@@ -11,7 +11,7 @@ use Rattle.given_spec.specs.Numbered.{AreAllNumbered}
 use Rattle.pci_given.specs.declared.bars_and_roms.BarOrRom.{BarOrRom}
 use Rattle.pci_given.specs.declared.outside_lines.Outside.{Outside}
 use Rattle.pci_claims.specs.Outside.{IsNeverOutside, IsOutsideLine}
-use Rattle.pci_given.specs.BarsAndRoms.{place_of}
+use Rattle.pci_given.specs.BarsAndRoms.{bar_or_rom_place}
 use Rattle.pci_claims.specs.Made.{AreOneEach}
 
 -- the fault, as the definitions have it
@@ -33,7 +33,7 @@ IsOutsideOfOne given t b o =
 abbrev pub AreOutsideLines : Given → Tree → List BarOrRom → List Outside → Type 0
 AreOutsideLines given t list lines =
     AreOneEach (IsOutsideOfOne given t)
-    (λ b. IsNeverOutside given t (space_of b.space) b.region → ⊥) place_of
+    (λ b. IsNeverOutside given t (space_of b.space) b.region → ⊥) bar_or_rom_place
     (λ o. region_number o.slot o.reg) list lines
 
 -- all of them, in each system with the tree

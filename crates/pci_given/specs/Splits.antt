@@ -26,8 +26,8 @@ abbrev pub AreSplitsAdded : (Space → Type 0) → Given → Tree → List Fault
 AreSplitsAdded In given t before after = AreAdded t (IsSplitLine In given t.roots) before after
 
 -- of one space
-abbrev pub IsIn : Space → Space → Type 0
-IsIn space sp = sp ≡ space
+abbrev pub IsSplitIn : Space → Space → Type 0
+IsSplitIn space sp = sp ≡ space
 
 -- all splits, in each system with the tree
 abbrev pub AreAllSplits : Given → Tree → List Fault → Type 0

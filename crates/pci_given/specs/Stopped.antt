@@ -29,7 +29,7 @@ PassesSent given kind records root =
     PassesEach (IsSent given (window_space kind) root) (PassesAt given kind records)
 
 -- the first slot of a path whose bridge doesn't, and the least address that it doesn't pass
-pub record IsFirstStop (IsSentThere : ℕ → Type 0) (IsPassedAt : ℕ → Slot → Type 0) (range : Range)
+pub record IsFirstBridgeThatStops (IsSentThere : ℕ → Type 0) (IsPassedAt : ℕ → Slot → Type 0) (range : Range)
     (path : List Slot) (bridge : Slot) (a : ℕ) : Type 0 where
   pub place : ℕ
   pub within : place < length path

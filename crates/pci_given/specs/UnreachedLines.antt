@@ -15,7 +15,7 @@ use Rattle.given_spec.specs.Fault.{Known}
 use Rattle.given_spec.specs.Numbered.{AreAllNumbered}
 use Rattle.pci_given.specs.declared.bars_and_roms.BarOrRom.{BarOrRom}
 use Rattle.pci_given.specs.Stopped.{IsNeverUnreached, IsUnreachedLine}
-use Rattle.pci_given.specs.BarsAndRoms.{place_of}
+use Rattle.pci_given.specs.BarsAndRoms.{bar_or_rom_place}
 use Rattle.pci_claims.specs.Made.{AreOneEach}
 
 -- the fault of a BAR or a ROM with this address and this bridge
@@ -38,7 +38,7 @@ IsUnreachedOfOne given t b fault =
 abbrev pub AreUnreachedLines : Given → Tree → List BarOrRom → List Fault → Type 0
 AreUnreachedLines given t list lines =
     AreOneEach (IsUnreachedOfOne given t)
-    (λ b. IsNeverUnreached given t (space_of b.space) b.region → ⊥) place_of
+    (λ b. IsNeverUnreached given t (space_of b.space) b.region → ⊥) bar_or_rom_place
     (λ f. place_of_fault (fault_of f)) list lines
 
 -- all of them, in each system with the tree

@@ -3,7 +3,7 @@ ghost use Rattle.std.specs.Prelude.{◌≡◌, ◌++◌, IfOk, OnOk};
 ghost use Rattle.std.specs.List.Sorted.{IsNonDecreasingBy, IsPermutation};
 ghost use Rattle.pci_base.specs.Space.{space_of};
 ghost use Rattle.pci_given.specs.Clashes.{IsOnBusIn};
-ghost use Rattle.pci_given.specs.BarsAndRoms.{place_of, among, AreBarsAndRomsAdded, AreAllBarsAndRoms};
+ghost use Rattle.pci_given.specs.BarsAndRoms.{bar_or_rom_place, among, AreBarsAndRomsAdded, AreAllBarsAndRoms};
 
 use pci_base::memory::OutOfMemory;
 use pci_base::slot::BUSES;
@@ -84,7 +84,7 @@ fn add_all<A: Allocator + Copy>(
 /// Sorts BARs and ROMs by slot and register.
 fn sort<A: Allocator>(list: &mut Vec<BarOrRom, A>) -> Result<(), OutOfMemory>
     ensures permutation { IsPermutation list.old.items list.new.items }
-    ensures sorted { OnOk result (IsNonDecreasingBy place_of list.new.items) }
+    ensures sorted { OnOk result (IsNonDecreasingBy bar_or_rom_place list.new.items) }
 {
     match list.sort_by_key(|bar_or_rom| place(bar_or_rom.region.slot, bar_or_rom.region.reg)) {
         Ok(()) => Ok(()),

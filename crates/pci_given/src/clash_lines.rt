@@ -4,7 +4,7 @@ ghost use Rattle.pci_base.specs.Space.{space_of};
 ghost use Rattle.pci_faults.specs.Shares.{AreWithin};
 ghost use Rattle.pci_claims.specs.Values.{given_value};
 ghost use Rattle.pci_claims.specs.BusClaims.{AreBridgesOf};
-ghost use Rattle.pci_given.specs.Clashes.{told, AreClashesAdded, IsOnBusIn, AreAllClashes};
+ghost use Rattle.pci_given.specs.Clashes.{claims_fault, AreClashesAdded, IsOnBusIn, AreAllClashes};
 
 use super::meetings::meetings;
 use super::quiet::is_bus_quiet;
@@ -24,7 +24,7 @@ use std::alloc::Allocator;
 fn fault<A: Allocator>(claims: &[Claim<A>], among: Among, space: Space, share: Share) -> Fault
     requires first { share.first < length claims.now }
     requires second { share.second < length claims.now }
-    ensures { result ≡ told among space claims.now share }
+    ensures { result ≡ claims_fault among space claims.now share }
 {
     let first = &claims[share.first];
     let second = &claims[share.second];
@@ -60,7 +60,7 @@ pub fn add_told<A: Allocator + Copy>(
     // a share names two of the claims by their index
     requires { AreWithin (length claims.now) shares.now }
     ensures { OnOk result
-        (out.new.items ≡ out.old.items ++ map (told among space claims.now) shares.now) }
+        (out.new.items ≡ out.old.items ++ map (claims_fault among space claims.now) shares.now) }
 {
     for share in shares {
         out.push(fault(claims, among, space, *share))?;

@@ -5,7 +5,7 @@ ghost use Rattle.pci_tree.specs.Ranges.{Covers, IsCanonical};
 ghost use Rattle.pci_faults.specs.Owners.{Owns};
 ghost use Rattle.pci_faults.specs.Shares.{AreWithin};
 ghost use Rattle.pci_given.specs.Clashes.{IsFoundBelow, AreMeetings};
-ghost use Rattle.pci_given.specs.Owned.{group_at, GroupsRise, AreBefore, AreLesser, AreGiven, IsFirstOwned, AreOwned, IsOwnedShare};
+ghost use Rattle.pci_given.specs.Owned.{claim_group_at, ClaimGroupsRise, AreClaimsBefore, AreLesserClaims, AreGiven, IsFirstOwnedPiece, AreClaimsOwned, IsOwnedShare};
 
 use super::pairs::{by_pairs, meeting_from};
 use pci_base::memory::OutOfMemory;
@@ -19,7 +19,7 @@ use std::alloc::Allocator;
 /// over the root buses of two buses.
 fn group<A: Allocator>(claims: &[Claim<A>], k: usize, among: Among) -> u16
     requires { k < length claims.now }
-    ensures { result ≡ group_at among claims.now k }
+    ensures { result ≡ claim_group_at among claims.now k }
 {
     let slot = claims[k].slot();
     match among {
@@ -30,7 +30,7 @@ fn group<A: Allocator>(claims: &[Claim<A>], k: usize, among: Among) -> u16
 
 /// Whether no claim is of a lesser group than one before it.
 fn do_groups_rise<A: Allocator>(claims: &[Claim<A>], among: Among) -> bool
-    ensures { IsTrue result → GroupsRise among claims.now }
+    ensures { IsTrue result → ClaimGroupsRise among claims.now }
 {
     let mut last = 0;
     for k in 0..claims.len() {
@@ -62,7 +62,7 @@ fn add_pieces<A: Allocator + Copy>(
 fn first_owned<A: Allocator + Copy>(owners: &Owners<A>, pieces: &[Range]) -> Option<Found>
     requires { IsCanonical pieces.now }
     ensures { MatchOption result ((a i : ℕ) → Covers pieces.now a → Owns owners.now a i → ⊥)
-        (λ f. IsFirstOwned owners.now pieces.now f) }
+        (λ f. IsFirstOwnedPiece owners.now pieces.now f) }
 {
     for piece in pieces {
         if let Some(found) = owners.first_from(piece.first) {
@@ -84,10 +84,10 @@ fn add_lesser<A: Allocator + Copy>(
 ) -> Result<usize, OutOfMemory>
     requires index { i < length claims.now }
     requires within { added ≤ i }
-    requires rise { GroupsRise among claims.now }
-    requires before { AreBefore added i among claims.now }
-    requires owned { AreOwned added claims.now owners.old }
-    ensures { IfOk result (λ n. AreLesser n i among claims.now × AreOwned n claims.now owners.new) }
+    requires rise { ClaimGroupsRise among claims.now }
+    requires before { AreClaimsBefore added i among claims.now }
+    requires owned { AreClaimsOwned added claims.now owners.old }
+    ensures { IfOk result (λ n. AreLesserClaims n i among claims.now × AreClaimsOwned n claims.now owners.new) }
 {
     let mut n = added;
     while n < i && group(claims, n, among) < group(claims, i, among) {
@@ -126,8 +126,8 @@ fn least_before<A: Allocator + Copy>(
     i: usize,
 ) -> Option<Share>
     requires index { i < length claims.now }
-    requires lesser { AreLesser added i among claims.now }
-    requires owned { AreOwned added claims.now owners.now }
+    requires lesser { AreLesserClaims added i among claims.now }
+    requires owned { AreClaimsOwned added claims.now owners.now }
     ensures { IsFoundBelow among i claims.now i result }
 {
     let found = owned_share(owners, claims, i);
@@ -145,7 +145,7 @@ fn by_owners<A: Allocator + Copy>(
     claims: &[Claim<A>],
     among: Among,
 ) -> Result<Vec<Share, A>, OutOfMemory>
-    requires { GroupsRise among claims.now }
+    requires { ClaimGroupsRise among claims.now }
     ensures within { IfOk result (λ v. AreWithin (length claims.now) v.items) }
     ensures exact { IfOk result (λ v. AreMeetings among claims.now v.items) }
 {

@@ -3,7 +3,7 @@ ghost use Rattle.std.specs.Prelude.{IfOk, OnOk};
 ghost use Rattle.pci_base.specs.Space.{space_of};
 ghost use Rattle.pci_claims.specs.Values.{given_value};
 ghost use Rattle.pci_claims.specs.BusClaims.{AreBridgesOf};
-ghost use Rattle.pci_given.specs.Splits.{AreSplitsAdded, IsIn, AreAllSplits};
+ghost use Rattle.pci_given.specs.Splits.{AreSplitsAdded, IsSplitIn, AreAllSplits};
 
 use super::clash_lines::add_told;
 use super::meetings::meetings;
@@ -29,7 +29,7 @@ fn add_splits_in<A: Allocator + Copy>(
     space: Space,
 ) -> Result<(), OutOfMemory>
     requires { AreBridgesOf outline.now bridges.now }
-    ensures { OnOk result (AreSplitsAdded (IsIn (space_of space)) (given_value given.now)
+    ensures { OnOk result (AreSplitsAdded (IsSplitIn (space_of space)) (given_value given.now)
         outline.now out.old.items out.new.items) }
 {
     if are_roots_quiet(alloc, given, outline, space)? {

@@ -11,7 +11,7 @@ ghost use Rattle.pci_check.specs.Stops.{AreReachesOf, AlwaysNested};
 ghost use Rattle.pci_claims.specs.Values.{given_value};
 ghost use Rattle.pci_claims.specs.Outside.{IsSent};
 ghost use Rattle.pci_claims.specs.Reached.{PassesAt};
-ghost use Rattle.pci_given.specs.Stopped.{PassesSent, IsFirstStop, IsNeverUnreached, IsUnreachedLine};
+ghost use Rattle.pci_given.specs.Stopped.{PassesSent, IsFirstBridgeThatStops, IsNeverUnreached, IsUnreachedLine};
 
 use super::missed::least_missed;
 use pci_base::memory::OutOfMemory;
@@ -55,7 +55,7 @@ fn first_stop<A: Allocator + Copy>(
     requires spans { All HasSpans records.now }
     ensures { IfOk result (λ o. MatchOption o
         (All (PassesSent (given_value given.now) (kind_value kind) records.now root range) path.now)
-        (λ stop. IsFirstStop (IsSent (given_value given.now) (window_space (kind_value kind)) root)
+        (λ stop. IsFirstBridgeThatStops (IsSent (given_value given.now) (window_space (kind_value kind)) root)
         (PassesAt (given_value given.now) (kind_value kind) records.now)
         range path.now stop.bridge stop.address)) }
 {

@@ -13,7 +13,7 @@ use Rattle.pci_spec.specs.Why.{IsRegionIn}
 use Rattle.pci_spec.proofs.Regions.{part_same}
 use Rattle.map_spec.specs.Lines.{is_first_window}
 use Rattle.pci_tree.specs.declared.region.Region.{Region}
-use Rattle.pci_claims.specs.Found.{told, IsFoundIn}
+use Rattle.pci_claims.specs.Found.{region_of_found, IsFoundIn}
 use Rattle.pci_claims.proofs.Founds.{region_in}
 use Rattle.pci_map.specs.Values.{value_of}
 use Rattle.pci_map.specs.Inside.{region_has}
@@ -26,7 +26,7 @@ use Rattle.pci_map.proofs.Insides.{window_claims_of, claims_of}
 -- what is found at a slot and a register is a region
 pub found_region : (s : System) (slot : Slot) (reg : ℕ) (space : Space) (q : Region) → IsFoundIn s slot reg space q → IsRegionIn s (value_of space q)
 found_region s slot reg space q found =
-    subst (λ p. IsRegionIn s (told q p space)) (sym (part_is found.f found.part space q found.is)) (region_in s found.f found.part space q found.listed found.is)
+    subst (λ p. IsRegionIn s (region_of_found q p space)) (sym (part_is found.f found.part space q found.is)) (region_in s found.f found.part space q found.listed found.is)
 
 module _ (s : System) (unique : (f g : Function) → Contains s f → Contains s g → f.slot ≡ g.slot → f ≡ g)
     (b : Function) (listed : Contains s b) (bridge : IsTrue (is_bridge b)) (slot : Slot) (named : b.slot ≡ slot) (a : ℕ) where
@@ -99,7 +99,7 @@ module _ (s : System) (unique : (f g : Function) → Contains s f → Contains s
           | inr isnt ↦ ap not isnt
         ]))
 
-    -- of a space that is told in other words
+    -- of a space that is region_of_found in other words
     pub io_any : (space : Space) (o : Option Judged) → space ≡ Io → IsAddress space a → IsHoldingAt roots s (io_spot slot) a o → IsFirstAt roots s space b a o
     io_any space o is address h = subst (λ sp. IsFirstAt roots s sp b a o) (sym is) (io_first o (subst (λ sp. IsAddress sp a) is address) h)
 

@@ -10,7 +10,7 @@ use Rattle.pci_spec.specs.Why as why
 use Rattle.pci_spec.specs.Why.{IsRegionIn}
 use Rattle.pci_tree.specs.declared.region.Region.{Region}
 use Rattle.pci_tree.specs.Regions.{IsRegionOf, IsRegionOn, HasEachRegion}
-use Rattle.pci_claims.specs.Found.{told}
+use Rattle.pci_claims.specs.Found.{region_of_found}
 use Rattle.pci_claims.proofs.Founds.{region_in}
 use Rattle.pci_map.specs.Values.{kind_at, part_at, part_of, value_of}
 
@@ -29,7 +29,7 @@ part_is f (system.Window kind) space q is =
 -- a region of a bus is one of the definitions'
 pub told_region : (s : System) (bus : ℕ) (space : Space) (q : Region) → IsRegionOn s bus space q → IsRegionIn s (value_of space q)
 told_region s bus space q on =
-    subst (λ p. IsRegionIn s (told q p space)) (sym (part_is on.f on.part space q on.is)) (region_in s on.f on.part space q on.listed on.is)
+    subst (λ p. IsRegionIn s (region_of_found q p space)) (sym (part_is on.f on.part space q on.is)) (region_in s on.f on.part space q on.listed on.is)
 
 -- what claims a region's addresses
 pub told_claims : (f : Function) (part : system.Part) (space : Space) (q : Region) (a : ℕ) → IsRegionOf f part space q → q.first ≤ a → a ≤ q.last → Claims f part space a

@@ -10,7 +10,7 @@ use Rattle.pci_tree.specs.declared.region.Part.{Part}
 use Rattle.pci_tree.specs.declared.region.Part.TheVariants.{Bar, Rom, Window}
 use Rattle.pci_tree.specs.declared.region.Region.{Region}
 use Rattle.pci_tree.specs.Outline.{Tree}
-use Rattle.pci_claims.specs.Found.{told}
+use Rattle.pci_claims.specs.Found.{region_of_found}
 
 -- what is mapped: a space of a system, with what is given
 pub record Mapped : Type 0 where
@@ -38,4 +38,4 @@ abbrev pub part_of : Region → system.Part
 part_of q = part_at q.part q.reg
 
 abbrev pub value_of : Space → Region → why.Region
-value_of space q = told q (part_of q) space
+value_of space q = region_of_found q (part_of q) space

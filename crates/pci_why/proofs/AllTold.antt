@@ -16,7 +16,7 @@ use Rattle.pci_tree.specs.Trees.{HasTree}
 use Rattle.pci_why.specs.Lines.{Appends}
 use Rattle.given_spec.specs.Given.{Given}
 use Rattle.given_spec.specs.Fault.{Fault, Known, Outside}
-use Rattle.given_spec.specs.Why.{Region, Own, IsNamed, IsRegionIn, IsAdviceFor, is_said}
+use Rattle.given_spec.specs.Why.{AnyRegion, Own, IsNamed, IsRegionIn, IsAdviceFor, is_said}
 use Rattle.pci_why.specs.Hosts.{IsOutsideTold}
 use Rattle.pci_why.specs.Bridges.{IsUnreachedTold}
 use Rattle.pci_why.specs.Two.{AreTwoTold}
@@ -53,7 +53,7 @@ split_evident given t space a first first_reg second second_reg old new told s t
 
 -- of a region of the system
 fit_of : (assumed : List AssumedRegister) (given : Given) (t : Tree) (slot : Slot) (reg : ℕ) (space : Space) (old new : List ℕ) → IsFitTold assumed given t (named_region slot reg) space old new → (s : System) → HasTree t s
-    → (q : Region) → IsNamed q slot reg space → IsRegionIn given s q → Appends (IsAdviceFor assumed given t.roots s (named_region slot reg) space) old new
+    → (q : AnyRegion) → IsNamed q slot reg space → IsRegionIn given s q → Appends (IsAdviceFor assumed given t.roots s (named_region slot reg) space) old new
 fit_of assumed given t slot reg space old new told s tree q named is =
     let f = told s q tree named is in
     record { lines = f.lines; text = f.text; are = (q, named, is, f.are) }

@@ -1,4 +1,4 @@
--- What is told behind an unreached region.
+-- What is region_of_found behind an unreached region.
 use Rattle.std.proofs.Common.{◌≡◌, ℕ, List, ◌∷◌, ◌++◌, map, refl, sym, ◌∙◌, ap, Bool, true, false, codes, Option, inl, inr}
 use Rattle.std.specs.Prelude.{◌↔◌}
 use Rattle.std.specs.List.{Contains, flat_map}
@@ -25,8 +25,8 @@ use Rattle.pci_tree.specs.Outline.{RiseBySlot}
 use Rattle.pci_tree.proofs.Lifting.{Has}
 use Rattle.pci_tree.proofs.Regions.{on_same}
 use Rattle.pci_why.specs.RegionLines.{line_of}
-use Rattle.pci_why.specs.Missed.{IsOutside}
-use Rattle.pci_claims.specs.Found.{IsFoundIn, NoneClaims, range_at, told}
+use Rattle.pci_why.specs.Missed.{IsOutsideRange}
+use Rattle.pci_claims.specs.Found.{IsFoundIn, NoneClaims, range_at, region_of_found}
 use Rattle.pci_why.specs.Lines.{Appends}
 use Rattle.pci_why.proofs.Evidences.{line_same, on_the_way, bridge_in}
 use Rattle.pci_claims.proofs.Founds.{region_in}
@@ -38,7 +38,7 @@ use Rattle.given_spec.specs.Fault.{IsUnreached}
 use Rattle.given_spec.specs.Why.{legacy_words, bridge_line, IsBehindUnreached, Misses}
 use Rattle.pci_claims.specs.Passed.{ArePassed, passes_with}
 use Rattle.pci_claims.proofs.Linking.{passes_same}
-use Rattle.pci_why.specs.Bridges.{bridge_text, line_of_bridge, IsMissed, IsBehindOne}
+use Rattle.pci_why.specs.Bridges.{bridge_text, line_of_bridge, IsMissed, IsBehindOneBridge}
 use Rattle.pci_why.proofs.Recorded.{stands_for, has_record}
 
 -- ---- the bridge's line
@@ -64,7 +64,7 @@ by_kind given Memory false a b = refl
 by_kind given Memory true a b = refl
 
 missed_exact : (given : Given) (q : Region) (part : system.Part) (space : Space) (r : Record) (b : Function) (passed missed : List Range) → record_value r ≡ record_of b → IsDecodable b → is_bridge b ≡ true
-    → ArePassed given (kind_in space q.prefetch) r passed → IsOutside (range_at q) passed missed → (a : ℕ) → Covers missed a ↔ Misses given (told q part space) b a
+    → ArePassed given (kind_in space q.prefetch) r passed → IsOutsideRange (range_at q) passed missed → (a : ℕ) → Covers missed a ↔ Misses given (region_of_found q part space) b a
 missed_exact given q part space r b passed missed same is bridge are outside a =
     let by_record : passes given space q.prefetch a b ≡ passes_with given (kind_in space q.prefetch) a r =
     by_kind given space q.prefetch a b ∙ passes_same given (kind_in space q.prefetch) a r b is bridge same in (
@@ -76,7 +76,7 @@ missed_exact given q part space r b passed missed same is bridge are outside a =
               | inr off ↦ off
             ],
           )),
-      λ (h : Misses given (told q part space) b a). (outside.exact a).1 (h.0, λ covered. both_ways (passes given space q.prefetch a b) h.1 (by_record ∙ (are.exact a).0 covered)),
+      λ (h : Misses given (region_of_found q part space) b a). (outside.exact a).1 (h.0, λ covered. both_ways (passes given space q.prefetch a b) h.1 (by_record ∙ (are.exact a).0 covered)),
     )
 
 -- ---- behind the fault
@@ -94,11 +94,11 @@ module _ (given : Given) (roots : List ℕ) (s : System) (rs : List Record) (slo
 
   pub unreached_told : (q : Region) (r : Record) (missed : List Range) (old first second new : List ℕ) → RiseBySlot rs → Contains rs r → r.slot ≡ bridge → IsFoundIn s slot reg space q
       → first ≡ old ++ line_of (codes "needs") space q → second ≡ first ++ line_of_bridge given (record_value r) space q.prefetch → IsMissed given r space q missed → new ≡ second ++ flat_map (range_line (codes "missed") space) (map decoded_range_of missed)
-      → Appends (IsBehindOne given s (named_region slot reg) space bridge) old new
+      → Appends (IsBehindOneBridge given s (named_region slot reg) space bridge) old new
   unreached_told q r missed old first second new rise has at found needs line is_missed text =
       let way = on_the_way s there.root there.bridges slot.bus there.b there.leads there.on_the_way in
       let stands : record_value r ≡ record_of there.b = stands_for s rs r there.b is rise has way.0 (at ∙ sym there.named_bridge) in
-      let v : RegionValue = told q found.part space in
+      let v : RegionValue = region_of_found q found.part space in
       let missed_lines = flat_map (range_line (codes "missed") space) (map decoded_range_of missed) in
       let of_bridge = bridge_line given there.b space q.prefetch in
       let lines = region_line (codes "needs") v ++ (of_bridge ++ missed_lines) in

@@ -13,7 +13,7 @@ use Rattle.pci_tree.specs.declared.region.Region.{Region}
 use Rattle.pci_tree.specs.declared.region.Part.{Part}
 use Rattle.pci_tree.specs.Regions.{IsRegionOf, name_of}
 use Rattle.pci_why.specs.RegionLines.{words_of, window_at, line_of}
-use Rattle.pci_claims.specs.Found.{range_of, told}
+use Rattle.pci_claims.specs.Found.{bounds_range, region_of_found}
 
 -- ---- a region
 
@@ -35,9 +35,9 @@ maps_of : (f : Function) (part : system.Part) (space : Space) (q : Region) → I
 maps_of f part space q is = ((is.claims q.first).0 (omega arith, is.some)).maps
 
 -- its line is the definitions'
-pub line_same : (word : List ℕ) (f : Function) (part : system.Part) (space : Space) (q : Region) → IsRegionOf f part space q → line_of word space q ≡ region_line word (told q part space)
+pub line_same : (word : List ℕ) (f : Function) (part : system.Part) (space : Space) (q : Region) → IsRegionOf f part space q → line_of word space q ≡ region_line word (region_of_found q part space)
 line_same word f part space q is =
-    ap (λ words. inner_line (word ∷ place_words q.slot q.reg words space (range_of q)))
+    ap (λ words. inner_line (word ∷ place_words q.slot q.reg words space (bounds_range q)))
     (named_words f part space q.part q.reg q.prefetch is.named is.register is.prefetch (maps_of f part space q is))
 
 -- ---- a bridge

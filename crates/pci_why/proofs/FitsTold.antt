@@ -1,4 +1,4 @@
--- What is told of where a region would fit.
+-- What is region_of_found of where a region would fit.
 use Rattle.std.proofs.Common.{◌≡◌, ℕ, ◌≤◌, List, [], ◌++◌, map, Bool, true, false, ◌&&◌, ◌||◌, Option, inl, inr, arith, sym, ◌∙◌, ap, subst, refl, append-nil}
 use Rattle.std.specs.Prelude.{◌↔◌, IsTrue, not, MatchOption, MatchBool}
 use Rattle.std.specs.Option.{option_map}
@@ -29,7 +29,7 @@ use Rattle.pci_tree.specs.Trees.{HasTree}
 use Rattle.given_spec.specs.Given.{Given}
 use Rattle.given_spec.specs.Why.{Own, Legacy, IsPlaceFor, IsLeastPlace, IsFit, IsFitBehind, is_said}
 use Rattle.pci_claims.proofs.RegionClaims.{not_legacy}
-use Rattle.pci_claims.specs.Found.{NoneClaims, IsFoundIn, told}
+use Rattle.pci_claims.specs.Found.{NoneClaims, IsFoundIn, region_of_found}
 use Rattle.pci_why.specs.Lines.{Appends}
 use Rattle.pci_why.specs.Wide.{IsWideIn}
 use Rattle.pci_why.proofs.WideBars.{wide_is, same_size, window_part, no_window_part, or_true}
@@ -85,7 +85,7 @@ module _ (s : System) (slot : Slot) (reg : ℕ) (space : Space) where
           omega (arith, up, down)
 
       -- it is what is found
-      named_is : told q found.part space ≡ v
+      named_is : region_of_found q found.part space ≡ v
       named_is =
           let slots : q.slot ≡ v.slot = found.slot_is ∙ sym named.0 in
           let registers : q.reg ≡ v.register = found.register ∙ sym named.1 in
@@ -103,11 +103,11 @@ module _ (s : System) (slot : Slot) (reg : ℕ) (space : Space) where
 
 -- ---- lines
 
--- what is told of a region that may be moved
+-- what is region_of_found of a region that may be moved
 abbrev Movable : List AssumedRegister → Given → List ℕ → System → RegionValue → List ℕ → Type 0
 Movable assumed given roots s v lines = MatchBool (is_size_assumed assumed v.slot v.register) (lines ≡ unknown_line) (IsFit given roots s v lines)
 
--- whether nothing is told of it: it is a window, or on a root bus to which all of the space is sent
+-- whether nothing is region_of_found of it: it is a window, or on a root bus to which all of the space is sent
 abbrev Stays : Given → List ℕ → plain.Part → ℕ → Space → Bool
 Stays given roots part bus space = is_window part || is_root roots bus && not (is_said given space)
 
@@ -115,7 +115,7 @@ module _ (assumed : List AssumedRegister) (given : Given) (t : Tree) (slot : Slo
   nothing : old ≡ old ++ []
   nothing = sym (append-nil old)
 
-  -- nothing is told where nothing is found
+  -- nothing is region_of_found where nothing is found
   pub told_none : ((s : System) → HasTree t s → NoneClaims s slot reg space) → IsFitTold assumed given t (named_region slot reg) space old old
   told_none none s (Own v) tree named is = absurd (never_named s slot reg space (none s tree) v named is)
   told_none none s (Legacy b of_space) tree named is = record { lines = []; text = nothing; are = refl }
@@ -131,11 +131,11 @@ module _ (assumed : List AssumedRegister) (given : Given) (t : Tree) (slot : Slo
     are = subst (λ b. MatchBool b (◌≡◌ {A = List ℕ} [] []) (Movable assumed given t.roots s v [])) (sym stays) (refl {a = []});
   }
 
-  -- nothing is told of a window
+  -- nothing is region_of_found of a window
   pub told_window : (q : outline.Region) → ((s : System) → HasTree t s → IsFoundIn s slot reg space q) → q.part ≡ parts.Window → IsFitTold assumed given t (named_region slot reg) space old old
   told_window q found window s (Own v) tree named is =
       let here = found s tree in
-      let same : told q here.part space ≡ v = named_is s slot reg space q here tree.system v named is in
+      let same : region_of_found q here.part space ≡ v = named_is s slot reg space q here tree.system v named is in
       let is_one : is_window v.part ≡ true = ap (λ (x : RegionValue). is_window x.part) (sym same) ∙ window_part here.part (sym here.is.named ∙ window) in
       nothing_behind s v (ap (λ b. b || is_root t.roots v.slot.bus && not (is_said given v.space)) is_one)
   told_window q found window s (Legacy b of_space) tree named is = record { lines = []; text = nothing; are = refl }
@@ -152,7 +152,7 @@ module _ (assumed : List AssumedRegister) (given : Given) (t : Tree) (slot : Slo
       → is_size_assumed assumed slot reg ≡ true → new ≡ old ++ unknown_line → IsFitTold assumed given t (named_region slot reg) space old new
   told_unknown q new found window on assumed_is text s (Own v) tree named is =
       let here = found s tree in
-      let same : told q here.part space ≡ v = named_is s slot reg space q here tree.system v named is in
+      let same : region_of_found q here.part space ≡ v = named_is s slot reg space q here tree.system v named is in
       let no_window : is_window v.part ≡ false = ap (λ (x : RegionValue). is_window x.part) (sym same) ∙ no_window_part here.part (λ e. window (here.is.named ∙ e)) in
       let moves : Stays given t.roots v.part v.slot.bus v.space ≡ false = ap (λ b. b || is_root t.roots v.slot.bus && not (is_said given v.space)) no_window ∙ named_bus v named false on in
       let size : is_size_assumed assumed v.slot v.register ≡ true = ap (λ x. is_size_assumed assumed x v.register) named.0 ∙ ap (λ n. is_size_assumed assumed slot n) named.1 ∙ assumed_is in
@@ -177,7 +177,7 @@ module _ (assumed : List AssumedRegister) (given : Given) (t : Tree) (slot : Slo
       let wide_same : wide ≡ is_wide_part here.f here.part = wide_is r here.f here.part space q wide stands here.is exact in
       let place = option_map decoded_range_of fit in
       let lines = fits_line space place in
-      let as_told : RegionValue = told q here.part space in
+      let as_told : RegionValue = region_of_found q here.part space in
       let moves : Stays given t.roots here.part q.slot.bus space ≡ false =
       ap (λ b. b || is_root t.roots q.slot.bus && not (is_said given space)) (no_window_part here.part (λ e. window (here.is.named ∙ e)))
       ∙ ap (λ (x : Slot). is_root t.roots x.bus && not (is_said given space)) here.slot_is ∙ on in

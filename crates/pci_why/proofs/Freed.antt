@@ -18,12 +18,12 @@ use Rattle.pci_tree.specs.Ranges.{Holds, Covers}
 use Rattle.pci_tree.specs.Trees.{HasTree}
 use Rattle.given_spec.specs.Given.{Given, legacy_claims}
 use Rattle.given_spec.specs.Claims.{Gets, IsPassedTo, passes, forwards, register_of, may_share}
-use Rattle.given_spec.specs.Why.{IsTaken}
+use Rattle.given_spec.specs.Why.{IsTakenBeside}
 use Rattle.pci_claims.specs.Claim.{Claimed}
 use Rattle.pci_claims.specs.Gathered.{IsGathered, IsCommon}
 use Rattle.pci_claims.specs.Reached.{AreReached, IsStartedReachTo}
-use Rattle.pci_why.specs.Missed.{IsOutside}
-use Rattle.pci_why.specs.Free.{IsAnswered, AreOfOthers, AreClaimsBeside, IsFreeFor}
+use Rattle.pci_why.specs.Missed.{IsOutsideRange}
+use Rattle.pci_why.specs.Free.{IsAnsweredBeside, AreOfOthers, AreClaimsBeside, IsFreeFor}
 
 -- ---- what a bridge passes it forwards
 
@@ -67,7 +67,7 @@ never_unlisted t s tree f slot listed at none =
 -- ---- what is left of it
 
 module _ (given : Given) (roots : List ℕ) (s : System) (q : Region) (claims : List Claimed) (beside : AreClaimsBeside given roots s q.slot.bus q.space claims) where
-  taken_of : (a : ℕ) → IsAnswered claims q.slot q.register a → IsTaken given roots s q a
+  taken_of : (a : ℕ) → IsAnsweredBeside claims q.slot q.register a → IsTakenBeside given roots s q a
   taken_of a h =
       let b = beside.each h.c a h.has h.covered in
       record {
@@ -80,7 +80,7 @@ module _ (given : Given) (roots : List ℕ) (s : System) (q : Region) (claims : 
         claims = b.claims;
       }
 
-  answered_of : (a : ℕ) → Gets given roots s q.space a q.slot.bus → IsTaken given roots s q a → IsAnswered claims q.slot q.register a
+  answered_of : (a : ℕ) → Gets given roots s q.space a q.slot.bus → IsTakenBeside given roots s q a → IsAnsweredBeside claims q.slot q.register a
   answered_of a gets h =
       let of = beside.complete h.f.slot (register_of h.f h.part) a gets record { f = h.f; part = h.part; listed = h.listed; slot_is = refl; register_is = refl; beside = h.beside; claims = h.claims } in
       record {
@@ -94,7 +94,7 @@ module _ (given : Given) (roots : List ℕ) (s : System) (q : Region) (claims : 
       }
 
   pub free_exact : (reach others taken left out : List Range) (whole : Range) → AreReached q.space (λ a. IsPassedTo given roots s (address_in q.space a) q.prefetchable q.slot.bus) reach → AreOfOthers claims q.slot q.register others
-      → IsGathered others taken → ((a : ℕ) → Holds whole a ↔ IsAddress q.space a) → IsOutside whole taken left → IsCommon reach left out → (a : ℕ) → Covers out a ↔ IsFreeFor given roots s q a
+      → IsGathered others taken → ((a : ℕ) → Holds whole a ↔ IsAddress q.space a) → IsOutsideRange whole taken left → IsCommon reach left out → (a : ℕ) → Covers out a ↔ IsFreeFor given roots s q a
   free_exact reach others taken left out whole gets are gathers all outside both a = (
     λ (h : Covers out a). (
         let (in_reach, in_left) = (both.exact a).0 h in

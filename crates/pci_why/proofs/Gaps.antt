@@ -7,7 +7,7 @@ use Rattle.pci_base.specs.declared.range.Range.{Range}
 use Rattle.pci_tree.specs.Ranges.{Holds, Covers, IsCanonical}
 use Rattle.pci_tree.specs.Passing.{IsPush}
 use Rattle.pci_tree.proofs.Passing.{covers_push, canonical_push}
-use Rattle.pci_why.specs.Missed.{IsBetween, IsOutside, IsOutsideBefore}
+use Rattle.pci_why.specs.Missed.{IsBetween, IsOutsideRange, IsOutsideBefore}
 
 -- a piece between two numbers is pushed
 pub between_pushed : (range m : Range) (from end : ℕ) (old new : List Range) → IsCanonical old → ((a : ℕ) → Covers old a → a + 1 < from) → new ≡ old ++ m ∷ []
@@ -111,7 +111,7 @@ outside_more range s ranges k from old new can within is so step =
 
 -- behind the last one
 pub outside_all : (range : Range) (ranges : List Range) (from end k : ℕ) (old new : List Range) → range.last < end → length ranges ≤ k
-    → IsOutsideBefore range ranges (take k ranges) k from old → IsPush old new (IsBetween range from end) → IsOutside range ranges new
+    → IsOutsideBefore range ranges (take k ranges) k from old → IsPush old new (IsBetween range from end) → IsOutsideRange range ranges new
 outside_all range ranges from end k old new top all so step =
     let part : take k ranges ≡ ranges = take_all k ranges all in
     record {

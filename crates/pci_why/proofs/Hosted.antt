@@ -1,4 +1,4 @@
--- What is told behind a region outside the host's ranges.
+-- What is region_of_found behind a region outside the host's ranges.
 use Rattle.std.proofs.Common.{◌≡◌, ℕ, List, [], ◌∷◌, ◌++◌, length, map, arith, refl, sym, ◌∙◌, ap, subst, true, false, codes, None, Some}
 use Rattle.std.specs.Prelude.{◌==◌}
 use Rattle.std.specs.List.{Contains}
@@ -17,7 +17,7 @@ use Rattle.pci_tree.specs.declared.region.Region.{Region}
 use Rattle.pci_tree.specs.Outline.{Tree, IsPathTo}
 use Rattle.pci_tree.specs.Trees.{HasTree}
 use Rattle.pci_why.specs.RegionLines.{line_of}
-use Rattle.pci_claims.specs.Found.{IsFoundIn, NoneClaims, told}
+use Rattle.pci_claims.specs.Found.{IsFoundIn, NoneClaims, region_of_found}
 use Rattle.pci_why.specs.Lines.{Appends}
 use Rattle.pci_why.proofs.Evidences.{line_same}
 use Rattle.pci_claims.proofs.Founds.{region_in}
@@ -26,7 +26,7 @@ use Rattle.given_spec.specs.Fault.{IsOutside}
 use Rattle.given_spec.specs.Why.{ranges_for, ranges_words, host_line}
 use Rattle.pci_claims.specs.Outside.{IsRootOfPath}
 use Rattle.pci_claims.proofs.Outsides.{root_of}
-use Rattle.pci_why.specs.Hosts.{IsRootAbove, IsNowhere, IsBehindOne}
+use Rattle.pci_why.specs.Hosts.{IsRootAbove, IsNowhere, IsBehindOneRoot}
 
 -- ---- the root above
 
@@ -55,9 +55,9 @@ module _ (given : Given) (roots : List ℕ) (s : System) (slot : Slot) (reg : �
 
   pub outside_told : (q : Region) (root : ℕ) (ranges : List HostRange) (old first new : List ℕ) → IsFoundIn s slot reg space q → Contains roots root × (bridges : List Function) × Leads s root bridges slot.bus
       → ranges_said given space ≡ Some ranges → first ≡ old ++ line_of (codes "needs") space q → new ≡ first ++ host_line space (ranges_for root ranges)
-      → Appends (IsBehindOne given roots s (named_region slot reg) space) old new
+      → Appends (IsBehindOneRoot given roots s (named_region slot reg) space) old new
   outside_told q root ranges old first new found (is_root, bridges, leads) said needs host =
-      let v : RegionValue = told q found.part space in
+      let v : RegionValue = region_of_found q found.part space in
       let host_text = host_line space (ranges_for root ranges) in
       record {
         lines = region_line (codes "needs") v ++ host_text;

@@ -6,14 +6,14 @@ use Rattle.pci_base.specs.declared.range.Range.{Range}
 use Rattle.pci_tree.specs.Ranges.{Holds, Covers, IsCanonical}
 use Rattle.pci_tree.proofs.RangeLists.{found_at, covers_at, not_after}
 use Rattle.pci_tree.proofs.Passing.{covers_push}
-use Rattle.pci_why.specs.Places.{IsReachedAt, IsLeastFrom}
+use Rattle.pci_why.specs.Places.{IsPlaceReached, IsLeastPlaceFrom}
 
 -- no place from a number on begins in these ranges
 abbrev pub NoneBeginsIn : List Range → ℕ → ℕ → ℕ → List Range → Type 0
-NoneBeginsIn ranges count end from part = (p : ℕ) → from ≤ p → IsReachedAt ranges count end p → Covers part p → ⊥
+NoneBeginsIn ranges count end from part = (p : ℕ) → from ≤ p → IsPlaceReached ranges count end p → Covers part p → ⊥
 
 -- a place that begins in a range ends there
-within_range : (ranges : List Range) (k : ℕ) (z : Range) (count end p : ℕ) → IsCanonical ranges → k < length ranges → IsReachedAt ranges count end p → Holds (get_or ranges k z) p
+within_range : (ranges : List Range) (k : ℕ) (z : Range) (count end p : ℕ) → IsCanonical ranges → k < length ranges → IsPlaceReached ranges count end p → Holds (get_or ranges k z) p
     → p + count ≤ (get_or ranges k z).last + 1
 within_range ranges k z count end p can within at held = elim (cases_lt ((get_or ranges k z).last + 1) (p + count)) [
   | inl past ↦ absurd (not_after ranges k z can within (at.covered ((get_or ranges k z).last + 1) (let high = held.1 in omega (arith, high)) past))
@@ -24,11 +24,11 @@ module _ (ranges : List Range) (count end from k : ℕ) (z : Range) (low high fi
     (is_low : low ≡ (get_or ranges k z).first) (is_high : high ≡ (get_or ranges k z).last) (some : 0 < count)
     (start : max from low ≤ first) (least : (n : ℕ) → max from low ≤ n → n % count ≡ 0 → first ≤ n)
     (none : NoneBeginsIn ranges count end from (take k ranges)) where
-  from_first : (p : ℕ) → from ≤ p → IsReachedAt ranges count end p → Holds (get_or ranges k z) p → first ≤ p
+  from_first : (p : ℕ) → from ≤ p → IsPlaceReached ranges count end p → Holds (get_or ranges k z) p → first ≤ p
   from_first p le at held = least p (let at_least = held.0 in omega (arith, le, at_least, is_low)) at.multiple
 
   -- the first place in the range is the least
-  pub found_in_range : first % count ≡ 0 → first + count ≤ min end (high + 1) → IsLeastFrom ranges count end from first
+  pub found_in_range : first % count ≡ 0 → first + count ≤ min end (high + 1) → IsLeastPlaceFrom ranges count end from first
   found_in_range multiple fits = record {
     from_on = omega (arith, start);
     is = record {
@@ -56,6 +56,6 @@ module _ (ranges : List Range) (count end from k : ℕ) (z : Range) (low high fi
   ]
 
 -- where none begins in any range, there is none
-pub none_at_all : (ranges : List Range) (count end from k : ℕ) → length ranges ≤ k → 0 < count → NoneBeginsIn ranges count end from (take k ranges) → (p : ℕ) → from ≤ p → IsReachedAt ranges count end p → ⊥
+pub none_at_all : (ranges : List Range) (count end from k : ℕ) → length ranges ≤ k → 0 < count → NoneBeginsIn ranges count end from (take k ranges) → (p : ℕ) → from ≤ p → IsPlaceReached ranges count end p → ⊥
 none_at_all ranges count end from k all some none p le at =
     none p le at (subst (λ xs. Covers xs p) (sym (take_all k ranges all)) (at.covered p (omega arith) (omega (arith, some))))

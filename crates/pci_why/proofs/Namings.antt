@@ -18,7 +18,7 @@ use Rattle.pci_tree.specs.Ranges.{Covers, IsCanonical}
 use Rattle.pci_tree.specs.Ways.{slots_of}
 use Rattle.pci_tree.specs.Outline.{RiseBySlot}
 use Rattle.pci_tree.proofs.Lifting.{Has, function_for, same_slot_of}
-use Rattle.pci_claims.specs.Found.{told, IsFoundIn}
+use Rattle.pci_claims.specs.Found.{region_of_found, IsFoundIn}
 use Rattle.pci_claims.specs.Found as found
 use Rattle.pci_why.proofs.Evidences.{line_same}
 use Rattle.pci_claims.proofs.Founds.{region_in}
@@ -112,7 +112,7 @@ module _ (given : Given) (s : System) (slot : Slot) (reg : ℕ) (space : Space) 
 
   pub own_is_named : IsNamedIn given s (named_region slot reg) space (shown.Own q) out
   own_is_named = record {
-    region = Own (told q is.part space);
+    region = Own (region_of_found q is.part space);
     is = region_in s is.f is.part space q is.listed is.is;
     named = (is.slot_is, is.register, refl);
     line = λ word. line_same word is.f is.part space q is.is;

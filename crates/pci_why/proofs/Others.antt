@@ -8,7 +8,7 @@ use Rattle.pci_spec.proofs.Members.{in_nil}
 use Rattle.pci_base.specs.declared.range.Range.{Range}
 use Rattle.pci_tree.specs.Ranges.{Holds, Covers}
 use Rattle.pci_claims.specs.Claim.{Claimed}
-use Rattle.pci_why.specs.Free.{IsOther, IsAnswered, AreOfOthers}
+use Rattle.pci_why.specs.Free.{IsOther, IsAnsweredBeside, AreOfOthers}
 
 -- ---- ranges of two lists
 
@@ -37,7 +37,7 @@ others_none slot register = record {
   lawful = λ k d within. absurd (let no : ⊥ = omega (arith, within) in no);
   exact = λ a. (
     λ (h : Covers [] a). (let (r, has, held) = covering [] a h in absurd (in_nil r has)),
-    λ (h : IsAnswered [] slot register a). absurd (in_nil h.c h.has),
+    λ (h : IsAnsweredBeside [] slot register a). absurd (in_nil h.c h.has),
   );
 }
 
@@ -47,11 +47,11 @@ module _ (claims : List Claimed) (i : ℕ) (c : Claimed) (slot : Slot) (register
   split = take_more claims i c within ∙ ap (λ x. take i claims ++ x ∷ []) (sym at)
 
   -- one of those before answers
-  before : (a : ℕ) → IsAnswered (take i claims) slot register a → IsAnswered (take (i + 1) claims) slot register a
+  before : (a : ℕ) → IsAnsweredBeside (take i claims) slot register a → IsAnsweredBeside (take (i + 1) claims) slot register a
   before a h = record { c = h.c; has = subst (λ l. Contains l h.c) (sym split) (Contains-append_left (take i claims) (c ∷ []) h.c h.has); other = h.other; covered = h.covered }
 
   -- one of those before answers, or this one
-  either : (a : ℕ) → IsAnswered (take (i + 1) claims) slot register a → IsAnswered (take i claims) slot register a ⊎ (IsOther slot register c × Covers c.pieces a)
+  either : (a : ℕ) → IsAnsweredBeside (take (i + 1) claims) slot register a → IsAnsweredBeside (take i claims) slot register a ⊎ (IsOther slot register c × Covers c.pieces a)
   either a h = elim (Contains-push_cases (take i claims) c h.c (subst (λ l. Contains l h.c) split h.has)) [
     | inl old ↦ inl record { c = h.c; has = old; other = h.other; covered = h.covered }
     | inr same ↦ inr (subst (IsOther slot register) (sym same) h.other, subst (λ (x : Claimed). Covers x.pieces a) (sym same) h.covered)
@@ -65,7 +65,7 @@ module _ (claims : List Claimed) (i : ℕ) (c : Claimed) (slot : Slot) (register
         | inl old ↦ before a ((are.exact a).0 old)
         | inr here ↦ record { c = c; has = subst (λ l. Contains l c) (sym split) (Contains-push (take i claims) c); other = other; covered = here }
       ],
-      λ (h : IsAnswered (take (i + 1) claims) slot register a). elim (either a h) [
+      λ (h : IsAnsweredBeside (take (i + 1) claims) slot register a). elim (either a h) [
         | inl old ↦ covers_left out c.pieces a ((are.exact a).1 old)
         | inr here ↦ covers_right out c.pieces a here.1
       ],
@@ -77,7 +77,7 @@ module _ (claims : List Claimed) (i : ℕ) (c : Claimed) (slot : Slot) (register
     lawful = are.lawful;
     exact = λ a. (
       λ (h : Covers out a). before a ((are.exact a).0 h),
-      λ (h : IsAnswered (take (i + 1) claims) slot register a). elim (either a h) [ inl old ↦ (are.exact a).1 old | inr here ↦ absurd (own here.0) ],
+      λ (h : IsAnsweredBeside (take (i + 1) claims) slot register a). elim (either a h) [ inl old ↦ (are.exact a).1 old | inr here ↦ absurd (own here.0) ],
     );
   }
 

@@ -11,7 +11,7 @@ use Rattle.pci_tree.specs.Outline.{Tree}
 use Rattle.pci_claims.specs.Claim.{Claimed}
 use Rattle.pci_claims.specs.Reached.{IsReachInEach}
 use Rattle.pci_why.specs.Free.{AreClaimsBesideInEach}
-use Rattle.pci_why.specs.Rooms.{RoomValue, IsRoomOf, IsKept, IsRoomFor}
+use Rattle.pci_why.specs.Rooms.{RoomValue, IsRoomOfBus, IsRoomKept, IsRoomFor}
 
 -- a kind's space is that of its region
 pub space_same : (space : Space) (prefetch : Bool) → window_space (kind_in space prefetch) ≡ space
@@ -20,11 +20,11 @@ space_same Memory false = refl
 space_same Memory true = refl
 
 -- what was looked at of the bus is what there is for the region
-pub still_ready : (given : Given) (t : Tree) (slot : Slot) (kind : WindowKind) (o : Option RoomValue) → IsKept given t kind o → MatchOption o ⊥ (λ room. room.bus ≡ slot.bus) → IsRoomFor given t slot kind o
+pub still_ready : (given : Given) (t : Tree) (slot : Slot) (kind : WindowKind) (o : Option RoomValue) → IsRoomKept given t kind o → MatchOption o ⊥ (λ room. room.bus ≡ slot.bus) → IsRoomFor given t slot kind o
 still_ready given t slot kind None kept on = absurd on
 still_ready given t slot kind (Some room) kept on = (kept, on)
 
-pub ready_kept : (given : Given) (t : Tree) (slot : Slot) (kind : WindowKind) (o : Option RoomValue) → IsRoomFor given t slot kind o → IsKept given t kind o
+pub ready_kept : (given : Given) (t : Tree) (slot : Slot) (kind : WindowKind) (o : Option RoomValue) → IsRoomFor given t slot kind o → IsRoomKept given t kind o
 ready_kept given t slot kind None ready = tt {0}
 ready_kept given t slot kind (Some room) ready = ready.0
 

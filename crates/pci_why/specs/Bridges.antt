@@ -16,7 +16,7 @@ use Rattle.pci_function.specs.declared.record.Record.{Record}
 use Rattle.pci_tree.specs.declared.region.Region.{Region}
 use Rattle.pci_tree.specs.Outline.{Tree}
 use Rattle.pci_tree.specs.Trees.{HasTree}
-use Rattle.pci_why.specs.Missed.{IsOutside}
+use Rattle.pci_why.specs.Missed.{IsOutsideRange}
 use Rattle.pci_claims.specs.Found.{range_at}
 use Rattle.pci_why.specs.Lines.{Appends}
 use Rattle.given_spec.specs.Given.{Given}
@@ -45,11 +45,11 @@ pub record IsMissed (given : Given) (r : Record) (space : Space) (q : Region)
     (missed : List Range) : Type 0 where
   pub passed : List Range
   pub exact : ArePassed given (kind_in space q.prefetch) r passed
-  pub outside : IsOutside (range_at q) passed missed
+  pub outside : IsOutsideRange (range_at q) passed missed
 
 -- what stands behind the region that a slot and a register name
-abbrev pub IsBehindOne : Given → System → RegionName → Space → Slot → List ℕ → Type 0
-IsBehindOne given s region space bridge lines =
+abbrev pub IsBehindOneBridge : Given → System → RegionName → Space → Slot → List ℕ → Type 0
+IsBehindOneBridge given s region space bridge lines =
     (q : plain.Region) × plain.IsNamed q region.slot region.register space
     × IsBehindUnreached given s q bridge lines
 
@@ -64,4 +64,4 @@ abbrev pub IsUnreachedTold : Given → Tree → Stopped → List ℕ → List �
 IsUnreachedTold given t stopped old new =
     (s : System) (a : ℕ) → HasTree t s
     → IsUnreached given t.roots s stopped.region (address_in stopped.space a) stopped.bridge
-    → Appends (IsBehindOne given s stopped.region stopped.space stopped.bridge) old new
+    → Appends (IsBehindOneBridge given s stopped.region stopped.space stopped.bridge) old new

@@ -8,10 +8,10 @@ use Rattle.pci_spec.specs.Bus.{IsNested}
 use Rattle.pci_spec.specs.Mark.{AssumedRegister}
 use Rattle.pci_spec.specs.Fault.{RegionName}
 use Rattle.given_spec.specs.Given.{Given}
-use Rattle.given_spec.specs.Why.{Region, IsNamed, IsRegionIn, IsPlaceFor, IsLeastPlace, IsFitBehind}
+use Rattle.given_spec.specs.Why.{AnyRegion, IsNamed, IsRegionIn, IsPlaceFor, IsLeastPlace, IsFitBehind}
 use Rattle.pci_base.specs.Space.{kind_in}
 use Rattle.pci_why.specs.Free.{AreFreeFor}
-use Rattle.pci_why.specs.Rooms.{RoomValue, IsRoomOf, IsRoomFor}
+use Rattle.pci_why.specs.Rooms.{RoomValue, IsRoomOfBus, IsRoomFor}
 use Rattle.pci_base.specs.declared.range.Range.{Range}
 use Rattle.pci_base.specs.Ranges.{decoded_range_of}
 use Rattle.pci_tree.specs.declared.region.Region as outline
@@ -19,12 +19,12 @@ use Rattle.pci_tree.specs.Regions.{IsRegionOf}
 use Rattle.pci_tree.specs.Outline.{Tree}
 use Rattle.pci_tree.specs.Trees.{HasTree}
 use Rattle.pci_why.specs.Lines.{Appends}
-use Rattle.pci_claims.specs.Found.{told}
+use Rattle.pci_claims.specs.Found.{region_of_found}
 
 -- just the addresses that are free for a region, by what there is on its bus
 abbrev pub AreFreeIn : RoomValue → Space → outline.Region → List Range → Type 0
 AreFreeIn room space q out =
-    (given : Given) (t : Tree) → IsRoomOf given t (kind_in space q.prefetch) room
+    (given : Given) (t : Tree) → IsRoomOfBus given t (kind_in space q.prefetch) room
     → room.bus ≡ q.slot.bus → AreFreeFor given t space q out
 
 -- the least place for the region in each system with the tree that has it
@@ -33,8 +33,8 @@ IsFitFor given t space q wide o =
     (s : System) (f : Function) (part : system.Part) → HasTree t s → IsNested t.roots s
     → Contains s f → IsRegionOf f part space q
     → MatchOption (option_map decoded_range_of o)
-    ((first : ℕ) → IsPlaceFor given t.roots s (told q part space) wide first → ⊥)
-    (λ r. IsLeastPlace given t.roots s (told q part space) wide r)
+    ((first : ℕ) → IsPlaceFor given t.roots s (region_of_found q part space) wide first → ⊥)
+    (λ r. IsLeastPlace given t.roots s (region_of_found q part space) wide r)
 
 -- the same by what there is on its bus
 abbrev pub IsFitIn : Option RoomValue → Space → outline.Region → Bool → Option Range → Type 0
@@ -46,6 +46,6 @@ IsFitIn room space q wide o =
 abbrev pub IsFitTold :
     List AssumedRegister → Given → Tree → RegionName → Space → List ℕ → List ℕ → Type 0
 IsFitTold assumed given t region space before after =
-    (s : System) (q : Region) → HasTree t s → IsNamed q region.slot region.register space
+    (s : System) (q : AnyRegion) → HasTree t s → IsNamed q region.slot region.register space
     → IsRegionIn given s q
     → Appends (IsFitBehind assumed given t.roots s q) before after

@@ -9,7 +9,7 @@ use Rattle.pci_spec.specs.Why.{Region as RegionValue}
 use Rattle.pci_spec.specs.Fault.{Address, RegionName, address_in, named_region}
 use Rattle.given_spec.specs.Given.{Given, starts}
 use Rattle.given_spec.specs.Claims.{Part, Claims, Gets, IsPassedTo, register_of, may_share}
-use Rattle.given_spec.specs.Why.{IsTaken}
+use Rattle.given_spec.specs.Why.{IsTakenBeside}
 use Rattle.pci_base.specs.declared.range.Range.{Range}
 use Rattle.pci_tree.specs.declared.region.Region.{Region}
 use Rattle.pci_tree.specs.Ranges.{Covers}
@@ -17,7 +17,7 @@ use Rattle.pci_tree.specs.Regions.{IsRegionOf}
 use Rattle.pci_tree.specs.Outline.{Tree}
 use Rattle.pci_tree.specs.Trees.{HasTree}
 use Rattle.pci_claims.specs.Claim.{Claimed}
-use Rattle.pci_claims.specs.Found.{told}
+use Rattle.pci_claims.specs.Found.{region_of_found}
 
 -- ---- what others answer
 
@@ -28,7 +28,7 @@ IsOther slot register c =
     × (may_share slot register c.slot c.register ≡ false)
 
 -- such a claim has the address
-pub record IsAnswered (claims : List Claimed) (slot : Slot) (register a : ℕ) : Type 0 where
+pub record IsAnsweredBeside (claims : List Claimed) (slot : Slot) (register a : ℕ) : Type 0 where
   pub c : Claimed
   pub has : Contains claims c
   pub other : IsOther slot register c
@@ -38,7 +38,7 @@ pub record IsAnswered (claims : List Claimed) (slot : Slot) (register a : ℕ) :
 pub record AreOfOthers (claims : List Claimed) (slot : Slot) (register : ℕ)
     (out : List Range) : Type 0 where
   pub lawful : All (λ r. r.first ≤ r.last) out
-  pub exact : (a : ℕ) → Covers out a ↔ IsAnswered claims slot register a
+  pub exact : (a : ℕ) → Covers out a ↔ IsAnsweredBeside claims slot register a
 
 -- ---- the regions that can clash with one of a bus
 
@@ -89,11 +89,11 @@ pub record IsFreeFor (given : Given) (roots : List ℕ) (s : System) (q : Region
     (a : ℕ) : Type 0 where
   pub address : IsAddress q.space a
   pub reached : IsPassedTo given roots s (address_in q.space a) q.prefetchable q.slot.bus
-  pub free : IsTaken given roots s q a → ⊥
+  pub free : IsTakenBeside given roots s q a → ⊥
 
 -- just those addresses, in each system with the tree that has the region
 abbrev pub AreFreeFor : Given → Tree → Space → Region → List Range → Type 0
 AreFreeFor given t space q out =
     (s : System) (f : Function) (part : system.Part) → HasTree t s → IsNested t.roots s
     → Contains s f → IsRegionOf f part space q
-    → (a : ℕ) → Covers out a ↔ IsFreeFor given t.roots s (told q part space) a
+    → (a : ℕ) → Covers out a ↔ IsFreeFor given t.roots s (region_of_found q part space) a

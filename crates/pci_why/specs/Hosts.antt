@@ -23,8 +23,8 @@ abbrev pub IsNowhere : Tree → Slot → Type 0
 IsNowhere t slot = Contains (map (λ r. r.slot) t.records) slot → ⊥
 
 -- what stands behind the region that a slot and a register name
-abbrev pub IsBehindOne : Given → List ℕ → System → RegionName → Space → List ℕ → Type 0
-IsBehindOne given roots s region space lines =
+abbrev pub IsBehindOneRoot : Given → List ℕ → System → RegionName → Space → List ℕ → Type 0
+IsBehindOneRoot given roots s region space lines =
     (q : plain.Region) × plain.IsNamed q region.slot region.register space
     × IsBehindOutside given roots s q lines
 
@@ -32,4 +32,4 @@ IsBehindOne given roots s region space lines =
 abbrev pub IsOutsideTold : Given → Tree → RegionName → Space → List ℕ → List ℕ → Type 0
 IsOutsideTold given t region space old new =
     (s : System) (a : ℕ) → HasTree t s → IsOutside given t.roots s region (address_in space a)
-    → Appends (IsBehindOne given t.roots s region space) old new
+    → Appends (IsBehindOneRoot given t.roots s region space) old new

@@ -8,7 +8,7 @@ abbrev pub IsBetween : Range → ℕ → ℕ → ℕ → Type 0
 IsBetween range from end a = Holds range a × (from ≤ a) × (a < end)
 
 -- just the addresses of the range that the list hasn't, with a gap between two ranges
-pub record IsOutside (range : Range) (ranges out : List Range) : Type 0 where
+pub record IsOutsideRange (range : Range) (ranges out : List Range) : Type 0 where
   pub canonical : IsCanonical out
   pub exact : (a : ℕ) → Covers out a ↔ (Holds range a × (Covers ranges a → ⊥))
 

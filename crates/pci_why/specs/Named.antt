@@ -10,7 +10,7 @@ use Rattle.pci_tree.specs.Trees.{HasTree}
 use Rattle.pci_why.specs.RegionLines.{line_of}
 use Rattle.given_spec.specs.Given.{Given}
 use Rattle.given_spec.specs.Claims.{ClaimsOnBus}
-use Rattle.given_spec.specs.Why.{Region, Holds, IsRegionIn, IsNamed, region_line}
+use Rattle.given_spec.specs.Why.{AnyRegion, Holds, IsRegionIn, IsNamed, region_line}
 use Rattle.pci_why.specs.Lines.{legacy_line}
 use Rattle.pci_why.specs.declared.named.Shown.{Shown}
 use Rattle.pci_why.specs.declared.named.Shown.TheVariants.{Own, Legacy}
@@ -21,14 +21,14 @@ shown_line word space (Own q) = line_of word space q
 shown_line word space (Legacy slot is_narrow) = legacy_line word slot is_narrow space
 
 -- the addresses that its line tells are some
-abbrev pub HasAddress : Shown → Type 0
-HasAddress (Own q) = q.first ≤ q.last
-HasAddress (Legacy slot is_narrow) = Unit {0}
+abbrev pub HasOwnAddress : Shown → Type 0
+HasOwnAddress (Own q) = q.first ≤ q.last
+HasOwnAddress (Legacy slot is_narrow) = Unit {0}
 
 -- it is that of a system, with just the addresses that this claims
 pub record IsNamedIn (given : Given) (s : System) (name : RegionName) (space : Space)
     (one : Shown) (addresses : List Range) : Type 0 where
-  pub region : Region
+  pub region : AnyRegion
   pub is : IsRegionIn given s region
   pub named : IsNamed region name.slot name.register space
   pub line : (word : List ℕ) → shown_line word space one ≡ region_line given word region

@@ -9,7 +9,7 @@ use Rattle.pci_spec.specs.Why.{part_text, place_words}
 use Rattle.pci_tree.specs.declared.region.Part.{Part}
 use Rattle.pci_tree.specs.declared.region.Part.TheVariants.{Bar, Rom, Window}
 use Rattle.pci_tree.specs.declared.region.Region.{Region}
-use Rattle.pci_claims.specs.Found.{range_of}
+use Rattle.pci_claims.specs.Found.{bounds_range}
 
 abbrev pub bar_words : Space → Bool → List ℕ
 bar_words space prefetch = part_text (system.Bar 0) space prefetch
@@ -32,4 +32,4 @@ part_words q space = words_of q.part q.reg space q.prefetch
 
 abbrev pub line_of : List ℕ → Space → Region → List ℕ
 line_of word space q =
-    inner_line (word ∷ place_words q.slot q.reg (part_words q space) space (range_of q))
+    inner_line (word ∷ place_words q.slot q.reg (part_words q space) space (bounds_range q))

@@ -18,23 +18,23 @@ pub record RoomValue : Type 0 where
   pub claims : List Claimed
 
 -- they are those of a kind of access, in each system with the tree
-pub record IsRoomOf (given : Given) (t : Tree) (kind : WindowKind) (room : RoomValue) : Type 0 where
+pub record IsRoomOfBus (given : Given) (t : Tree) (kind : WindowKind) (room : RoomValue) : Type 0 where
   pub reached : IsReachInEach given t kind room.bus room.reach
   pub claims : AreClaimsBesideInEach given t room.bus (window_space kind) room.claims
 
 -- if there are any
-abbrev pub IsKept : Given → Tree → WindowKind → Option RoomValue → Type 0
-IsKept given t kind o = IfSome o (λ room. IsRoomOf given t kind room)
+abbrev pub IsRoomKept : Given → Tree → WindowKind → Option RoomValue → Type 0
+IsRoomKept given t kind o = IfSome o (λ room. IsRoomOfBus given t kind room)
 
 -- of each kind
-pub record AreKept (given : Given) (t : Tree) (of_io of_memory of_prefetchable : Option RoomValue)
+pub record AreRoomsKept (given : Given) (t : Tree) (of_io of_memory of_prefetchable : Option RoomValue)
     : Type 0 where
-  pub io : IsKept given t IoWindow of_io
-  pub memory : IsKept given t MemoryWindow of_memory
-  pub prefetchable : IsKept given t PrefetchWindow of_prefetchable
+  pub io : IsRoomKept given t IoWindow of_io
+  pub memory : IsRoomKept given t MemoryWindow of_memory
+  pub prefetchable : IsRoomKept given t PrefetchWindow of_prefetchable
 
 -- those of the bus of a slot, where a function of the tree has it
 abbrev pub IsRoomFor : Given → Tree → Slot → WindowKind → Option RoomValue → Type 0
 IsRoomFor given t slot kind o =
     MatchOption o (Contains (map (λ r. r.slot) t.records) slot → ⊥)
-    (λ room. IsRoomOf given t kind room × (room.bus ≡ slot.bus))
+    (λ room. IsRoomOfBus given t kind room × (room.bus ≡ slot.bus))

@@ -12,7 +12,7 @@ ghost use Rattle.pci_base.specs.Ranges.{decoded_range_of};
 ghost use Rattle.pci_base.specs.Space.{space_of, kind_in};
 ghost use Rattle.pci_claims.specs.Values.{given_value};
 ghost use Rattle.pci_why.specs.Fits.{IsFitIn, IsFitFor, IsFitTold};
-ghost use Rattle.pci_why.specs.Rooms.{IsKept, AreKept};
+ghost use Rattle.pci_why.specs.Rooms.{IsRoomKept, AreRoomsKept};
 
 use super::free::free_in;
 use super::judged::{Judged, RegionName};
@@ -90,9 +90,9 @@ fn fit_by<A: Allocator + Copy>(
 ) -> Result<Option<Range>, OutOfMemory>
     requires some { moving.now.region.first ≤ moving.now.region.last }
     // else it would be of another kind, or of other functions
-    requires kept { IsKept (given_value judged.now.given.now) judged.now.outline.now
+    requires kept { IsRoomKept (given_value judged.now.given.now) judged.now.outline.now
         (kind_in (space_of moving.now.space) moving.now.region.prefetch) kept.old }
-    ensures kept { OnOk result (IsKept (given_value judged.now.given.now) judged.now.outline.now
+    ensures kept { OnOk result (IsRoomKept (given_value judged.now.given.now) judged.now.outline.now
         (kind_in (space_of moving.now.space) moving.now.region.prefetch) kept.new) }
     ensures some { IfOk result (λ o. IfSome o (λ r. r.first ≤ r.last)) }
     ensures exact { IfOk result (λ o. IsFitFor (given_value judged.now.given.now)
@@ -110,9 +110,9 @@ fn fit_of<A: Allocator + Copy>(
     moving: &Moving,
 ) -> Result<Option<Range>, OutOfMemory>
     requires some { moving.now.region.first ≤ moving.now.region.last }
-    requires kept { AreKept (given_value judged.now.given.now) judged.now.outline.now
+    requires kept { AreRoomsKept (given_value judged.now.given.now) judged.now.outline.now
         rooms.old.io rooms.old.mem rooms.old.pref }
-    ensures kept { OnOk result (AreKept (given_value judged.now.given.now) judged.now.outline.now
+    ensures kept { OnOk result (AreRoomsKept (given_value judged.now.given.now) judged.now.outline.now
         rooms.new.io rooms.new.mem rooms.new.pref) }
     ensures some { IfOk result (λ o. IfSome o (λ r. r.first ≤ r.last)) }
     ensures exact { IfOk result (λ o. IsFitFor (given_value judged.now.given.now)
@@ -157,9 +157,9 @@ pub fn push_fits<A: Allocator + Copy, B: Allocator>(
 ) -> Result<(), OutOfMemory>
     // its slots rise, so a block is found by halving
     requires rising { IsDump judged.now.probe.now }
-    requires kept { AreKept (given_value judged.now.given.now) judged.now.outline.now
+    requires kept { AreRoomsKept (given_value judged.now.given.now) judged.now.outline.now
         rooms.old.io rooms.old.mem rooms.old.pref }
-    ensures kept { OnOk result (AreKept (given_value judged.now.given.now) judged.now.outline.now
+    ensures kept { OnOk result (AreRoomsKept (given_value judged.now.given.now) judged.now.outline.now
         rooms.new.io rooms.new.mem rooms.new.pref) }
     ensures told { OnOk result (IsFitTold (all_named judged.now.probe.now)
         (given_value judged.now.given.now) judged.now.outline.now

@@ -2,7 +2,7 @@
 ghost use Rattle.std.specs.Prelude.{◌+◌, ◌<◌, ℕ, IfOk, OnOk};
 ghost use Rattle.pci_tree.specs.Ranges.{Covers, IsCanonical};
 ghost use Rattle.pci_tree.specs.Passing.{IsPush};
-ghost use Rattle.pci_why.specs.Missed.{IsBetween, IsOutside};
+ghost use Rattle.pci_why.specs.Missed.{IsBetween, IsOutsideRange};
 
 use pci_base::memory::OutOfMemory;
 use pci_base::range::Range;
@@ -38,7 +38,7 @@ pub fn outside<A: Allocator>(
 ) -> Result<Vec<Range, A>, OutOfMemory>
     // the runs between them are found in one walk
     requires { IsCanonical ranges.now }
-    ensures { IfOk result (λ v. IsOutside range ranges.now v.items) }
+    ensures { IfOk result (λ v. IsOutsideRange range ranges.now v.items) }
 {
     let mut out = Vec::new(alloc);
     let mut from = 0;

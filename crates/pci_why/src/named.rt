@@ -5,7 +5,7 @@ ghost use Rattle.pci_spec.specs.Fault.{named_region};
 ghost use Rattle.pci_base.specs.Space.{space_of};
 ghost use Rattle.pci_tree.specs.Ranges.{IsCanonical};
 ghost use Rattle.pci_claims.specs.Values.{given_value};
-ghost use Rattle.pci_why.specs.Named.{shown_line, HasAddress, IsNamedInEach, NoneNamed};
+ghost use Rattle.pci_why.specs.Named.{shown_line, HasOwnAddress, IsNamedInEach, NoneNamed};
 
 use super::judged::{Judged, RegionName};
 use super::legacy::{is_narrow, push_legacy_line};
@@ -50,7 +50,7 @@ fn legacy_named<A: Allocator + Copy>(
     space: Space,
 ) -> Result<Option<Named<A>>, OutOfMemory>
     ensures canonical { IfOk result (λ o. IfSome o (λ n. IsCanonical n.addresses.items)) }
-    ensures some { IfOk result (λ o. IfSome o (λ n. HasAddress n.shown)) }
+    ensures some { IfOk result (λ o. IfSome o (λ n. HasOwnAddress n.shown)) }
     ensures exact { IfOk result (λ o. MatchOption o
         (NoneNamed (given_value judged.now.given.now) judged.now.outline.now slot BRIDGE_CONTROL
         (space_of space))
@@ -80,7 +80,7 @@ fn own_named<A: Allocator + Copy>(
     // which names a legacy part
     requires { name.reg ≢ BRIDGE_CONTROL }
     ensures canonical { IfOk result (λ o. IfSome o (λ n. IsCanonical n.addresses.items)) }
-    ensures some { IfOk result (λ o. IfSome o (λ n. HasAddress n.shown)) }
+    ensures some { IfOk result (λ o. IfSome o (λ n. HasOwnAddress n.shown)) }
     ensures exact { IfOk result (λ o. MatchOption o
         (NoneNamed (given_value judged.now.given.now) judged.now.outline.now name.slot name.reg
         (space_of name.space))
@@ -107,7 +107,7 @@ pub fn region_named<A: Allocator + Copy>(
     // what two of them have in common is found range by range
     ensures canonical { IfOk result (λ o. IfSome o (λ n. IsCanonical n.addresses.items)) }
     // so that they can be counted
-    ensures some { IfOk result (λ o. IfSome o (λ n. HasAddress n.shown)) }
+    ensures some { IfOk result (λ o. IfSome o (λ n. HasOwnAddress n.shown)) }
     ensures exact { IfOk result (λ o. MatchOption o
         (NoneNamed (given_value judged.now.given.now) judged.now.outline.now name.slot name.reg
         (space_of name.space))
@@ -129,7 +129,7 @@ pub fn push_shown<A: Allocator>(
     shown: &Shown,
 ) -> Result<(), AllocError>
     // the line tells how many addresses the region has
-    requires { HasAddress shown.now }
+    requires { HasOwnAddress shown.now }
     ensures { OnOk result (string_bytes text.new
         ≡ string_bytes text.old ++ shown_line word.now (space_of space) shown.now) }
 {

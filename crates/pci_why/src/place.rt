@@ -1,7 +1,7 @@
 //! The least place at which a region could stand.
 ghost use Rattle.std.specs.Prelude.{◌≡◌, ◌+◌, ◌<◌, ◌≤◌, ◌%◌, ◌^◌, ℕ, IfSome, MatchOption, max};
 ghost use Rattle.pci_tree.specs.Ranges.{IsCanonical};
-ghost use Rattle.pci_why.specs.Places.{IsReachedAt, IsLeastFrom};
+ghost use Rattle.pci_why.specs.Places.{IsPlaceReached, IsLeastPlaceFrom};
 
 use pci_base::range::Range;
 
@@ -43,8 +43,8 @@ pub fn least_from(ranges: &[Range], from: u128, count: u128, end: u128) -> Optio
     // so that its last address is one
     ensures below { IfSome result (λ p. p + count ≤ end) }
     ensures least { IsCanonical ranges.now → MatchOption result
-        ((p : ℕ) → from ≤ p → IsReachedAt ranges.now count end p → ⊥)
-        (λ p. IsLeastFrom ranges.now count end from p) }
+        ((p : ℕ) → from ≤ p → IsPlaceReached ranges.now count end p → ⊥)
+        (λ p. IsLeastPlaceFrom ranges.now count end from p) }
 {
     for range in ranges {
         let past = u128::from(range.last) + 1;

@@ -6,7 +6,7 @@ ghost use Rattle.pci_base.specs.Space.{space_of, kind_in};
 ghost use Rattle.pci_tree.specs.Outline.{Tree};
 ghost use Rattle.pci_claims.specs.Values.{given_value};
 ghost use Rattle.pci_why.specs.Free.{AreClaimsBesideInEach};
-ghost use Rattle.pci_why.specs.Rooms.{IsKept, AreKept, IsRoomFor};
+ghost use Rattle.pci_why.specs.Rooms.{IsRoomKept, AreRoomsKept, IsRoomFor};
 
 use super::judged::Judged;
 use pci_base::memory::OutOfMemory;
@@ -80,7 +80,7 @@ pub struct Rooms<A: Allocator = Global> {
 
 /// Nothing was looked at.
 pub fn no_rooms<A: Allocator>() -> Rooms<A>
-    ensures { (given : GivenValue) (t : Tree) → AreKept given t result.io result.mem result.pref }
+    ensures { (given : GivenValue) (t : Tree) → AreRoomsKept given t result.io result.mem result.pref }
 {
     Rooms {
         io: None,
@@ -146,7 +146,7 @@ pub fn make_ready<A: Allocator + Copy>(
     moving: &Moving,
 ) -> Result<(), OutOfMemory>
     // else it would be of another kind, or of other functions
-    requires { IsKept (given_value judged.now.given.now) judged.now.outline.now
+    requires { IsRoomKept (given_value judged.now.given.now) judged.now.outline.now
         (kind_in (space_of moving.now.space) moving.now.region.prefetch) kept.old }
     ensures { OnOk result (IsRoomFor (given_value judged.now.given.now) judged.now.outline.now
         moving.now.region.slot (kind_in (space_of moving.now.space) moving.now.region.prefetch)

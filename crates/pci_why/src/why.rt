@@ -9,7 +9,7 @@ ghost use Rattle.pci_function.specs.Fault.{fault_of};
 ghost use Rattle.given_spec.specs.Fault.{Known};
 ghost use Rattle.pci_claims.specs.Values.{given_value};
 ghost use Rattle.pci_given.specs.AllLines.{judged_of};
-ghost use Rattle.pci_why.specs.Rooms.{AreKept};
+ghost use Rattle.pci_why.specs.Rooms.{AreRoomsKept};
 ghost use Rattle.pci_why.specs.Whys.{IsEvidenceTold, IsAdvisedBy, NoneAdvised, IsAdviceTold, IsWhyTold};
 
 use super::bridge::push_unreached;
@@ -167,9 +167,9 @@ fn push_advice<A: Allocator + Copy, B: Allocator>(
 ) -> Result<(), OutOfMemory>
     // its slots rise, so a block is found by halving
     requires rising { IsDump judged.now.probe.now }
-    requires kept { AreKept (given_value judged.now.given.now) judged.now.outline.now
+    requires kept { AreRoomsKept (given_value judged.now.given.now) judged.now.outline.now
         rooms.old.io rooms.old.mem rooms.old.pref }
-    ensures kept { OnOk result (AreKept (given_value judged.now.given.now) judged.now.outline.now
+    ensures kept { OnOk result (AreRoomsKept (given_value judged.now.given.now) judged.now.outline.now
         rooms.new.io rooms.new.mem rooms.new.pref) }
     ensures told { OnOk result (IsAdviceTold (all_named judged.now.probe.now)
         (given_value judged.now.given.now) judged.now.outline.now
@@ -196,9 +196,9 @@ pub fn push_why<A: Allocator + Copy, B: Allocator>(
 ) -> Result<(), OutOfMemory>
     // its slots rise, so a block is found by halving
     requires rising { IsDump judged.now.probe.now }
-    requires kept { AreKept (given_value judged.now.given.now) judged.now.outline.now
+    requires kept { AreRoomsKept (given_value judged.now.given.now) judged.now.outline.now
         rooms.old.io rooms.old.mem rooms.old.pref }
-    ensures kept { OnOk result (AreKept (given_value judged.now.given.now) judged.now.outline.now
+    ensures kept { OnOk result (AreRoomsKept (given_value judged.now.given.now) judged.now.outline.now
         rooms.new.io rooms.new.mem rooms.new.pref) }
     ensures told { OnOk result (IsWhyTold (all_named judged.now.probe.now)
         (given_value judged.now.given.now) judged.now.outline.now

@@ -13,10 +13,10 @@ answer_text (Verdict outcome) = outcome_line outcome
 answer_text (Refused refusal) = refusal_text refusal
 
 -- the verdict on the two texts, or why there is none
-abbrev pub IsVerdictOf : List ℕ → List ℕ → List ℕ → Answer → Type 0
-IsVerdictOf roots dump probe (Verdict outcome) =
+abbrev pub IsVerdictText : List ℕ → List ℕ → List ℕ → Answer → Type 0
+IsVerdictText roots dump probe (Verdict outcome) =
     IsRootList roots × IsAudited roots (Some dump) (Some probe) outcome
-IsVerdictOf roots dump probe (Refused refusal) = IsHeldRefusal roots dump probe refusal
+IsVerdictText roots dump probe (Refused refusal) = IsHeldRefusal roots dump probe refusal
 
 -- an answer that is so, with its text at the front of the bytes
 pub record IsAnswerTold (IsSo : Answer → Type 0) (answer : Answer) (old new : List ℕ)
@@ -28,6 +28,6 @@ pub record IsAnswerTold (IsSo : Answer → Type 0) (answer : Answer) (old new : 
 -- there is an answer, whose text needs so many bytes: more than there are
 pub record IsTooLong (roots dump probe bytes : List ℕ) (needed : ℕ) : Type 0 where
   pub answer : Answer
-  pub answered : IsVerdictOf roots dump probe answer
+  pub answered : IsVerdictText roots dump probe answer
   pub count : needed ≡ length (answer_text answer)
   pub more : length bytes < needed

@@ -7,7 +7,7 @@ ghost use Rattle.pci_tree.specs.Roots.{IsRootList};
 ghost use Rattle.pci_steps.specs.Steps.{judged, steps_of};
 ghost use Rattle.pci_function.specs.declared.fault.Fault.{Fault};
 ghost use Rattle.pci_check.specs.declared.outcome.Outcome.TheVariants.{Yes, No};
-ghost use Rattle.pciplan_c.specs.Answers.{IsVerdictOf, IsAnswerTold, IsTooLong};
+ghost use Rattle.pciplan_c.specs.Answers.{IsVerdictText, IsAnswerTold, IsTooLong};
 ghost use Rattle.pciplan_held.specs.RegisterWrites.{write_value_of};
 ghost use Rattle.pciplan_c.specs.Endings.{ArePut, AreTooMany, IsNoneTold, IsNoneTooLong};
 ghost use Rattle.pciplan_c.specs.PlanAnswers.{ArePlanned, IsNoPlanOf, pools_of};
@@ -50,15 +50,15 @@ pub extern "C" fn pciplan_check(
     line_used: &mut usize,
 ) -> u8
     ensures yes { result ≡ 0
-        → IsAnswerTold (IsVerdictOf roots.now dump.now probe.now)
+        → IsAnswerTold (IsVerdictText roots.now dump.now probe.now)
         (Verdict Yes) line.old line.new line_used.new }
     ensures no { result ≡ 1
         → (fault : Fault)
-        × IsAnswerTold (IsVerdictOf roots.now dump.now probe.now)
+        × IsAnswerTold (IsVerdictText roots.now dump.now probe.now)
         (Verdict (No fault)) line.old line.new line_used.new }
     ensures refused { result ≡ 2
         → (refusal : Refusal)
-        × IsAnswerTold (IsVerdictOf roots.now dump.now probe.now)
+        × IsAnswerTold (IsVerdictText roots.now dump.now probe.now)
         (Refused refusal) line.old line.new line_used.new }
     ensures memory { result ≡ 3 → (line.new ≡ line.old) × (line_used.new ≡ line_used.old) }
     // no memory helps a list that is none

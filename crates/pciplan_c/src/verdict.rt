@@ -1,7 +1,7 @@
 //! The verdict on two texts that lie in memory.
 ghost use Rattle.std.specs.Prelude.{◌≡◌, ◌≤◌, ℕ, List, length, IfOk, IfErr};
 ghost use Rattle.pci_tree.specs.Roots.{IsRootList, buses_of};
-ghost use Rattle.pciplan_c.specs.Answers.{IsVerdictOf, IsAnswerTold, IsTooLong, answer_text};
+ghost use Rattle.pciplan_c.specs.Answers.{IsVerdictText, IsAnswerTold, IsTooLong, answer_text};
 
 use crate::answer::{Answer, ROOT_MESSAGE};
 use pci_base::memory::OutOfMemory;
@@ -48,7 +48,7 @@ fn answer_to<A: Allocator + Copy>(
 ) -> Result<Told<A>, OutOfMemory>
     // of the list of which the roots were made
     ensures answer { IfOk result (λ told. (buses : List ℕ) → buses_of roots ≡ buses → IsRootList buses
-        → IsVerdictOf buses dump.now probe.now told.answer) }
+        → IsVerdictText buses dump.now probe.now told.answer) }
     ensures text { IfOk result (λ told. told.text.items ≡ answer_text told.answer) }
     ensures short { IfOk result (λ told. length told.text.items ≤ 96) }
 {
@@ -89,7 +89,7 @@ pub fn check_into<A: Allocator + Copy>(
     line: &mut [u8],
 ) -> Result<Line, Withheld>
     ensures told { IfOk result
-        (λ l. IsAnswerTold (IsVerdictOf roots.now dump.now probe.now) l.answer line.old line.new l.used) }
+        (λ l. IsAnswerTold (IsVerdictText roots.now dump.now probe.now) l.answer line.old line.new l.used) }
     // part of a line must not be taken for one
     ensures quiet { IfErr result (λ _. line.new ≡ line.old) }
     ensures room { IfErr result (λ why. (needed : ℕ) → why ≡ Withheld.NoRoom needed

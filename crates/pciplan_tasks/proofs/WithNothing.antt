@@ -17,7 +17,7 @@ use Rattle.given_spec.proofs.PlainLists.{same_list, same_text_with, first_of_lis
 use Rattle.pci_claims.specs.Values.{host_value}
 use Rattle.pciplan_tasks.specs.Answers.{Answer}
 use Rattle.pciplan_tasks.specs.FaultsAnswers.{AreTold, given_of, legacy_by, list_answer, vga_of}
-use Rattle.pciplan_tasks.specs.FaultsLaws.{IsFirstLine, PlainWithNothingGiven, NothingSaidGivesNothing}
+use Rattle.pciplan_tasks.specs.FaultsLaws.{FirstLineIsVerdict, PlainWithNothingGiven, NothingSaidGivesNothing}
 use Rattle.pciplan_tasks.specs.declared.task.Beside.{Beside}
 
 none_known : (ps : List plain.Fault) → (ps ≡ []) ↔ (map Known ps ≡ [])
@@ -29,7 +29,7 @@ same_answer [] text = refl
 same_answer (f ∷ rest) text = refl
 
 first_line : (roots : List ℕ) (dump probe : List Block) (ps : List plain.Fault) → IsDump dump → IsDump probe → plain_lines.AreAllFaults roots dump probe ps
-    → IsFirstLine roots dump probe ps
+    → FirstLineIsVerdict roots dump probe ps
 first_line roots dump probe [] is_dump is_probe all = tt {0}
 first_line roots dump probe (f ∷ rest) is_dump is_probe all = first_of_list_is_first roots dump probe f rest is_dump is_probe all
 

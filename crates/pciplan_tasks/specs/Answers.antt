@@ -50,8 +50,8 @@ abbrev pub refused : List ℕ → Answer
 refused line = record { status = 1; text = line; remarks = [] }
 
 -- the line of a fault of this text
-abbrev pub no_line : List ℕ → List ℕ
-no_line text = codes "no" ++ field text ++ 10 ∷ []
+abbrev pub fault_answer_line : List ℕ → List ℕ
+fault_answer_line text = codes "no" ++ field text ++ 10 ∷ []
 
 -- all of a text went out, or a write of it failed after a beginning
 abbrev pub IsTextOut : Option (List ℕ) → Option (List ℕ) → Type 0 → List ℕ → Type 0

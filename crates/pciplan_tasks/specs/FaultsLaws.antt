@@ -14,16 +14,16 @@ use Rattle.pciplan_tasks.specs.FaultsAnswers.{AreTold, given_of, list_answer, vg
 use Rattle.pciplan_tasks.specs.declared.task.Beside.{Beside}
 
 -- where there is a line, the first one is of the fault that is looked for first of those that are there
-abbrev pub IsFirstLine : List ℕ → List Block → List Block → List Fault → Type 0
-IsFirstLine roots dump probe [] = Unit {0}
-IsFirstLine roots dump probe (fault ∷ rest) = IsFirstThere roots dump probe fault
+abbrev pub FirstLineIsVerdict : List ℕ → List Block → List Block → List Fault → Type 0
+FirstLineIsVerdict roots dump probe [] = Unit {0}
+FirstLineIsVerdict roots dump probe (fault ∷ rest) = IsFirstThere roots dump probe fault
 
 -- All faults without what is given, of which the first is the one that `check` names; none exactly where it says yes.
 pub record ArePlainTold (roots : List ℕ) (why : Bool) (dump probe : List Block)
     (answer : Answer) : Type 0 where
   pub faults : List Fault
   pub all : AreAllFaults roots dump probe faults
-  pub first : IsFirstLine roots dump probe faults
+  pub first : FirstLineIsVerdict roots dump probe faults
   pub none : (faults ≡ []) ↔ AreSound roots dump probe
   pub text : List ℕ
   pub is : IsFaultsText (all_named probe) roots (system_of dump probe) why faults text

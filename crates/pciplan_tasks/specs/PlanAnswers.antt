@@ -12,7 +12,7 @@ use Rattle.plan_spec.specs.PlanPromise.{IsPlanFaultOf}
 use Rattle.pci_tree.specs.Admission.{Admission, IsAdmitted}
 use Rattle.pci_place.specs.Above.{system_in}
 use Rattle.pci_plan.specs.Plans.{PlanValue, IsPlanIn}
-use Rattle.pciplan_tasks.specs.Answers.{Answer, done_with, no_line, refused}
+use Rattle.pciplan_tasks.specs.Answers.{Answer, done_with, fault_answer_line, refused}
 use Rattle.pciplan_tasks.specs.ProbeAnswers.{remarks_named}
 
 -- what is asked for: a plan in these pools, with these root buses, as a dump or as writes; and what a class without room
@@ -53,7 +53,7 @@ lacking_lines roots s pools fault = []
 -- the line of a fault of planning, with what lacks where that is asked for
 abbrev pub no_plan_text : Bool → List ℕ → System → plan.Pools → plan.PlanFault → List ℕ
 no_plan_text why roots s pools fault =
-    no_line (plan_fault_text fault) ++ (if why then lacking_lines roots s pools fault else [])
+    fault_answer_line (plan_fault_text fault) ++ (if why then lacking_lines roots s pools fault else [])
 
 -- the line of a fault of planning, where the two are admitted
 pub record IsNoPlanText (asked : PlanAsked) (dump probe : List Block) (answer : Answer) : Type 0 where

@@ -6,7 +6,7 @@ use Rattle.pci_spec.specs.SizesText.{SizesBlock}
 use Rattle.pci_spec.specs.Mark.{AssumedRegister, all_named}
 use Rattle.pci_spec.specs.NoProbe.{Assuming}
 use Rattle.pci_spec.specs.ProbeOf.{ProbeFault, probe_of, assumed_of, assumed_text, probe_fault, probe_fault_text}
-use Rattle.pciplan_tasks.specs.Answers.{Answer, no_line, refused}
+use Rattle.pciplan_tasks.specs.Answers.{Answer, fault_answer_line, refused}
 
 -- the line on standard error of a register whose read back is assumed
 abbrev pub remark : AssumedRegister → List ℕ
@@ -24,7 +24,7 @@ answer_of_fault dump sizes None =
       text = text_of (probe_of dump sizes);
       remarks = flat_map remark (assumed_of dump sizes);
     }
-answer_of_fault dump sizes (Some fault) = refused (no_line (probe_fault_text fault))
+answer_of_fault dump sizes (Some fault) = refused (fault_answer_line (probe_fault_text fault))
 
 abbrev pub probe_answer : Assuming → List Block → List SizesBlock → Answer
 probe_answer assuming dump sizes =

@@ -74,7 +74,7 @@ pub record IsNotSettledText (asked : SettleAsked) (dump probe : List Block) (ans
   pub fault : SettleFault
   pub admitted : IsAdmitted (settle_admission asked dump probe)
   pub stands : IsRefusal (settle_admission asked dump probe) asked.request (refused.Fault fault)
-  pub line : answer ≡ told.refused (told.no_line (settle_fault_text fault))
+  pub line : answer ≡ told.refused (told.fault_answer_line (settle_fault_text fault))
 
 -- `settle`: what settling comes to, or the line of a fault
 abbrev pub IsSettlingTold : SettleAsked → List Block → List Block → Answer → Type 0

@@ -11,7 +11,7 @@ ghost use Rattle.pci_tree.specs.Admission.{IsAdmitted};
 ghost use Rattle.pci_tree.specs.Roots.{buses_of};
 ghost use Rattle.pci_place.specs.Pools.{pools_value};
 ghost use Rattle.pci_plan.specs.Writes.{is_two_or_four, write_value};
-ghost use Rattle.pciplan_tasks.specs.Answers.{answer_of, done_with, no_line, refused, text_bytes};
+ghost use Rattle.pciplan_tasks.specs.Answers.{answer_of, done_with, fault_answer_line, refused, text_bytes};
 ghost use Rattle.pci_plan.specs.Plans.{IsFaultOfPlan, plan_fault_of};
 ghost use Rattle.pciplan_tasks.specs.PlanAnswers.{IsPlanAnswer, no_plan_text, plan_text};
 ghost use Rattle.pciplan_tasks.specs.ProbeAnswers.{remarks_named};
@@ -78,7 +78,7 @@ fn lacking<A: Allocator + Copy>(
 ) -> Result<Reply<A>, OutOfMemory>
     requires { IsFalse (fits admitted.now.roots (system_in admitted.now) (pools_value pools.now)
         (kind_value class)) }
-    ensures { IfOk result (λ reply. answer_of reply ≡ refused (no_line
+    ensures { IfOk result (λ reply. answer_of reply ≡ refused (fault_answer_line
         (plan_fault_text (NoRoom (kind_value class)))
         ++ shortage_line (kind_value class) (shortage admitted.now.roots (system_in admitted.now)
         (pools_value pools.now) (kind_value class)))) }

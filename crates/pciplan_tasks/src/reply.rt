@@ -2,7 +2,7 @@
 ghost use Rattle.std.specs.Prelude.{◌≡◌, ◌<◌, ◌+◌, [], IfOk, IfSome, OnOk, OnErr};
 ghost use Rattle.std.specs.Io.KnownBytes.{Appends};
 ghost use Rattle.pci_dump.specs.Begun.{AppendsBeginning};
-ghost use Rattle.pciplan_tasks.specs.Answers.{IsTextOut, answer_of, done, no_line, refused, text_bytes};
+ghost use Rattle.pciplan_tasks.specs.Answers.{IsTextOut, answer_of, done, fault_answer_line, refused, text_bytes};
 
 use pci_base::memory::OutOfMemory;
 use pci_check::line::no_line;
@@ -63,7 +63,7 @@ pub fn refused<A: Allocator + Copy, F: Display>(
     fault: &F,
 ) -> Result<Reply<A>, OutOfMemory>
     ensures { IfOk result
-        (λ reply. IfSome (F.output fault.now) (λ text. answer_of reply ≡ refused (no_line text))) }
+        (λ reply. IfSome (F.output fault.now) (λ text. answer_of reply ≡ refused (fault_answer_line text))) }
 {
     let line = no_line(alloc, fault)?;
     Ok(Reply {

@@ -24,7 +24,7 @@ use Rattle.pci_spec.proofs.Examples.Sized.{answered}
 use Rattle.given_spec.specs.Given.{nothing_given}
 use Rattle.given_spec.specs.Claims.{Own, Legacy, IsPassedTo, passes}
 use Rattle.given_spec.specs.Fault.{Known}
-use Rattle.given_spec.specs.Why.{IsTaken, IsPlaceFor, IsLeastPlace, IsFit, IsAdvice}
+use Rattle.given_spec.specs.Why.{IsTakenBeside, IsPlaceFor, IsLeastPlace, IsFit, IsAdvice}
 use Rattle.given_spec.specs.Claims as claims
 use Rattle.given_spec.specs.Why as why
 
@@ -121,7 +121,7 @@ is_one_of_three f listed = elim (in_cons_cases above (small ∷ large ∷ []) f 
 -- ---- what others take
 
 abbrev Taken : ℕ → Type 0
-Taken a = IsTaken nothing_given host s of_large a
+Taken a = IsTakenBeside nothing_given host s of_large a
 
 -- the bridge stands on another bus
 not_beside : (a : ℕ) → why.IsBeside nothing_given host of_large a above → ⊥

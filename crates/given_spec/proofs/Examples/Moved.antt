@@ -4,29 +4,29 @@ use Rattle.pci_spec.specs.System.{Function, Memory, Bar}
 use Rattle.pci_spec.specs.Fault.{Orphan, Unreached, Clash, Split, RegionName, named_region}
 use Rattle.pci_spec.proofs.Examples.Samples.{slot, device, bridge}
 use Rattle.given_spec.specs.Fault.{Known, Outside}
-use Rattle.given_spec.specs.Moved.{IsFaultOf, IsItsByte, HasItsRegisters}
+use Rattle.given_spec.specs.Moved.{NamesRegion, IsItsByte, HasItsRegisters}
 
 -- ---- faults
 
 abbrev region : RegionName
 region = named_region (slot 1 0 0) 0x10
 
-not_sent : IsFaultOf region (Outside (slot 1 0 0) 0x10 Memory 0xe0000000)
+not_sent : NamesRegion region (Outside (slot 1 0 0) 0x10 Memory 0xe0000000)
 not_sent = refl
 
-not_reached : IsFaultOf region (Known (Unreached (slot 1 0 0) 0x10 Memory 0xe0000000 (slot 0 1 0)))
+not_reached : NamesRegion region (Known (Unreached (slot 1 0 0) 0x10 Memory 0xe0000000 (slot 0 1 0)))
 not_reached = refl
 
-first_of_two : IsFaultOf region (Known (Clash 1 Memory 0xe0000000 (slot 1 0 0) 0x10 (slot 1 1 0) 0x10))
+first_of_two : NamesRegion region (Known (Clash 1 Memory 0xe0000000 (slot 1 0 0) 0x10 (slot 1 1 0) 0x10))
 first_of_two = inl refl
 
-second_of_two : IsFaultOf region (Known (Split Memory 0xe0000000 (slot 0 1 0) 0x10 (slot 1 0 0) 0x10))
+second_of_two : NamesRegion region (Known (Split Memory 0xe0000000 (slot 0 1 0) 0x10 (slot 1 0 0) 0x10))
 second_of_two = inr refl
 
-of_another_register : IsFaultOf region (Outside (slot 1 0 0) 0x14 Memory 0xe0000000) → ⊥
+of_another_register : NamesRegion region (Outside (slot 1 0 0) 0x14 Memory 0xe0000000) → ⊥
 of_another_register e = let register : 0x14 ≡ 0x10 = ap (λ (n : RegionName). n.register) e in omega (arith, register)
 
-of_a_function : IsFaultOf region (Known (Orphan (slot 1 0 0))) → ⊥
+of_a_function : NamesRegion region (Known (Orphan (slot 1 0 0))) → ⊥
 of_a_function none = none
 
 -- ---- bytes: a BAR of 64 bits has those of two registers

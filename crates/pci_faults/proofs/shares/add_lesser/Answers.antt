@@ -1,6 +1,6 @@
 use Rattle.std.proofs.Common.{◌<◌, ◌+◌, inl, inr, subst, sym, arith}
 use Rattle.std.proofs.lemmas.Bool.{cases_eq}
-use Rattle.pci_faults.specs.Owners.{Ranges}
+use Rattle.pci_faults.specs.Owners.{OwnedRanges}
 use Rattle.pci_faults.specs.Shares.{group_at, AreOwned}
 use Rattle.pci_faults.proofs.Sharing.{one_more_read, one_without_read}
 use Rattle.pci_faults.proofs.shares.add_lesser.Goals.{in-Some+in_ok-add, in_default}
@@ -21,10 +21,10 @@ loop-n-preserved g c =
         | inr differ ↦ c.loop-n.invariant.lesser before k (omega (arith, low, differ))
       ];
       owned = elim c.match-opened.branch [
-        | in-Some+in_ok-add w ↦ subst (λ (o : Ranges). AreOwned (c.loop-n.n + 1) c.args.regions.now c.args.allowed.now o) (sym w.owners-is)
+        | in-Some+in_ok-add w ↦ subst (λ (o : OwnedRanges). AreOwned (c.loop-n.n + 1) c.args.regions.now c.args.allowed.now o) (sym w.owners-is)
             (one_more_read c.args.regions.now c.args.allowed.now c.loop-n.n c.index-regions-n.result (omega (arith, below, index)) c.index-regions-n.is
             _ c.loop-n.owners _ w.in-Some.ensures w.in_ok-add.ensures c.loop-n.invariant.owned)
-        | in_default w ↦ subst (λ (o : Ranges). AreOwned (c.loop-n.n + 1) c.args.regions.now c.args.allowed.now o) (sym w.owners-is)
+        | in_default w ↦ subst (λ (o : OwnedRanges). AreOwned (c.loop-n.n + 1) c.args.regions.now c.args.allowed.now o) (sym w.owners-is)
             (one_without_read c.args.regions.now c.args.allowed.now c.loop-n.n c.index-regions-n.result (omega (arith, below, index)) c.index-regions-n.is
             c.loop-n.owners w.in_default.ensures c.loop-n.invariant.owned)
       ];

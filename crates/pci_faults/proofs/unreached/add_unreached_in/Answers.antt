@@ -5,7 +5,7 @@ use Rattle.pci_function.specs.declared.fault.Fault.{Fault}
 use Rattle.pci_tree.specs.declared.region.Region.{Region}
 use Rattle.pci_tree.specs.Regions.{is_of_window}
 use Rattle.pci_check.specs.Stops.{AreListed, IsReachedAt, IsWholeAt, IsWholeInEach, IsLineFault}
-use Rattle.pci_faults.specs.Lines.{AreAdded, region_at, nowhere}
+use Rattle.pci_faults.specs.Lines.{AreAdded, region_at, nothing_shared}
 use Rattle.pci_faults.proofs.Losing.{IsLineBelow, none_yet, without_line, with_line, none_of_reached, not_whole, found_line, lines_of_bus}
 use Rattle.pci_faults.proofs.unreached.add_unreached_in.Goals.{then-is_lost+in-Some+in_ok-push, then-is_lost+in_default, else-is_lost}
 use Rattle.pci_faults.proofs.unreached.add_unreached_in.Goals as goal
@@ -21,7 +21,7 @@ loop-region-preserved g c =
     let n = c.loop-region.region-index in
     let within = c.loop-region-test.true in
     let listed : AreListed t c.args.bus space regions = subst (λ (l : List Region). AreListed t c.args.bus space l) (sym c.deref-region-items.ensures.value) c.in_ok-regions.ensures in
-    let read : c.region-item.result ≡ region_at regions n = c.region-item.is ∙ get_or_default regions n c.region-item.result nowhere within in
+    let read : c.region-item.result ≡ region_at regions n = c.region-item.is ∙ get_or_default regions n c.region-item.result nothing_shared within in
     elim c.if-is_lost.branch [
       | then-is_lost+in-Some+in_ok-push w ↦
           let lost = rw w.if-is_lost.true at c.is_lost.ensures in

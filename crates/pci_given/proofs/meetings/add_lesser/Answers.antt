@@ -1,6 +1,6 @@
 use Rattle.std.proofs.Common.{◌<◌, length, ◌∙◌, ap, arith}
 use Rattle.pci_claims.specs.Claim.{Claimed}
-use Rattle.pci_given.specs.Owned.{group_at}
+use Rattle.pci_given.specs.Owned.{claim_group_at}
 use Rattle.pci_given.proofs.Owning.{claim_read, one_more_read, before_more}
 use Rattle.pci_given.proofs.meetings.add_lesser.Goals as goal
 
@@ -11,7 +11,7 @@ loop-n-preserved g c =
     let group = c.group.ensures in
     let other = c.group-in-loop-n.ensures in
     let less = c.if-group.true in
-    let here : group_at c.args.among c.args.claims.now c.loop-n.n < group_at c.args.among c.args.claims.now c.args.i = omega (arith, group, other, less) in
+    let here : claim_group_at c.args.among c.args.claims.now c.loop-n.n < claim_group_at c.args.among c.args.claims.now c.args.i = omega (arith, group, other, less) in
     let inside : c.loop-n.n < length c.args.claims.now = omega (arith, below, index) in
     record {
       within = omega (arith, below);

@@ -1,14 +1,14 @@
 use Rattle.std.proofs.Common.{◌≤◌, ◌<◌, length}
 use Rattle.pci_faults.specs.Shares.{AreWithin}
 use Rattle.pci_given.specs.Clashes.{AreMeetingsBelow}
-use Rattle.pci_given.specs.Owned.{AreBefore, AreOwned}
+use Rattle.pci_given.specs.Owned.{AreClaimsBefore, AreClaimsOwned}
 use Rattle.pci_given.proofs.meetings.by_owners.Given as goal
 
 abbrev pub invariant-loop-i : goal.invariant-loop-i
 invariant-loop-i g l = record {
   within : l.added ≤ l.i;
-  before : l.i < length l.claims → AreBefore l.added l.i l.among l.claims;
-  owned : AreOwned l.added l.claims l.owners;
+  before : l.i < length l.claims → AreClaimsBefore l.added l.i l.among l.claims;
+  owned : AreClaimsOwned l.added l.claims l.owners;
   places : AreWithin (length l.claims) l.out.items;
   exact : AreMeetingsBelow l.among l.i l.claims l.out.items;
 }

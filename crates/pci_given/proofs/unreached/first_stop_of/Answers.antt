@@ -11,7 +11,7 @@ use Rattle.pci_claims.specs.Values.{given_value}
 use Rattle.pci_claims.specs.Outside.{IsRootOfPath, IsSent}
 use Rattle.pci_claims.specs.Reached.{PassesAt}
 use Rattle.pci_claims.proofs.Outsides.{range}
-use Rattle.pci_given.specs.Stopped.{PassesSent, IsFirstStop}
+use Rattle.pci_given.specs.Stopped.{PassesSent, IsFirstBridgeThatStops}
 use Rattle.pci_given.proofs.Unreaching.{match_both, without_path, never_unreached, unreached_line}
 use Rattle.pci_given.proofs.unreached.first_stop_of.Goals as goal
 
@@ -35,6 +35,6 @@ returns-in-Some g c =
     (λ s tree. subst (λ (path : List Slot). IsPathTo c.args.outline.now.roots s path c.args.region.now.slot.bus) (sym c.as_slice-path.ensures.value) (c.in-Some.ensures s tree.records))
     (subst (λ n. IsRootOfPath c.as_slice-path.result.now n c.root_above-root.result) c.bus.ensures c.root_above-root.ensures)
     stop.bridge stop.address
-    (subst (λ (kind : WindowKind). IsFirstStop (IsSent (given_value c.args.given.now) (window_space kind) c.root_above-root.result) (PassesAt (given_value c.args.given.now) kind c.records.result.now) (range c.args.region.now) c.as_slice-path.result.now stop.bridge stop.address) c.kind-kind.ensures first))
+    (subst (λ (kind : WindowKind). IsFirstBridgeThatStops (IsSent (given_value c.args.given.now) (window_space kind) c.root_above-root.result) (PassesAt (given_value c.args.given.now) kind c.records.result.now) (range c.args.region.now) c.as_slice-path.result.now stop.bridge stop.address) c.kind-kind.ensures first))
     is)
     c.first_stop.ensures

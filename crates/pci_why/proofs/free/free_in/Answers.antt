@@ -6,8 +6,8 @@ use Rattle.pci_base.specs.Space.{space_of, kind_in}
 use Rattle.pci_claims.specs.Claim.{Claimed}
 use Rattle.pci_claims.specs.Gathered.{IsCommon}
 use Rattle.pci_claims.specs.Reached.{IsStartedReachTo}
-use Rattle.pci_claims.specs.Found.{told}
-use Rattle.pci_why.specs.Missed.{IsOutside}
+use Rattle.pci_claims.specs.Found.{region_of_found}
+use Rattle.pci_why.specs.Missed.{IsOutsideRange}
 use Rattle.pci_why.specs.Free.{AreOfOthers, AreClaimsBeside}
 use Rattle.pci_why.proofs.Freed.{reach_of_kind, free_exact}
 use Rattle.pci_why.proofs.Roomy.{space_same}
@@ -22,14 +22,14 @@ returns-clause-exact g c =
     let others = c.in_ok-pieces_of_others.field-0.items in
     IfOk-weaker c.common.result _ _
     (λ v both given t is bus s f part tree nested listed region.
-    free_exact given t.roots s (told q part space) room.claims
+    free_exact given t.roots s (region_of_found q part space) room.claims
     (subst (λ (sp : Space). AreClaimsBeside given t.roots s q.slot.bus sp room.claims) (space_same space q.prefetch)
     (subst (λ n. AreClaimsBeside given t.roots s n (window_space (kind_in space q.prefetch)) room.claims) bus (is.claims s tree nested)))
     room.reach others c.in_ok-taken.taken.items left v.items c.whole.result
     (reach_of_kind given t.roots s space q.prefetch q.slot.bus room.reach (subst (λ n. IsStartedReachTo given t.roots s (kind_in space q.prefetch) n room.reach) bus (is.reached s tree.records)))
     (subst (λ (l : List Claimed). AreOfOthers l q.slot q.reg others) c.claims.ensures c.in_ok-pieces_of_others.ensures)
     c.in_ok-taken.ensures c.whole.ensures.exact
-    (subst (λ (rs : List Range). IsOutside c.whole.result rs left) c.deref.ensures.value c.in_ok-others_left.ensures)
+    (subst (λ (rs : List Range). IsOutsideRange c.whole.result rs left) c.deref.ensures.value c.in_ok-others_left.ensures)
     (subst (λ (rs : List Range). IsCommon rs left v.items) c.reach.ensures.value
     (subst (λ (rs : List Range). IsCommon c.reach.result.now rs v.items) c.deref-2.ensures.value both)))
     c.common.ensures

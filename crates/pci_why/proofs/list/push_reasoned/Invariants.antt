@@ -3,12 +3,12 @@ use Rattle.std.specs.String.{string_bytes}
 use Rattle.pci_spec.specs.Mark.{all_named}
 use Rattle.pci_claims.specs.Values.{given_value}
 use Rattle.pci_given.specs.AllLines.{judged_of}
-use Rattle.pci_why.specs.Rooms.{AreKept}
+use Rattle.pci_why.specs.Rooms.{AreRoomsKept}
 use Rattle.pci_why.specs.Lists.{AreReasonedTold}
 use Rattle.pci_why.proofs.list.push_reasoned.Given as goal
 
 abbrev pub invariant-loop-fault : goal.invariant-loop-fault
 invariant-loop-fault g l = record {
-  kept : AreKept (given_value l.judged.given.now) l.judged.outline.now l.rooms.io l.rooms.mem l.rooms.pref;
+  kept : AreRoomsKept (given_value l.judged.given.now) l.judged.outline.now l.rooms.io l.rooms.mem l.rooms.pref;
   told : AreReasonedTold (all_named l.judged.probe.now) (given_value l.judged.given.now) l.judged.outline.now (map judged_of (take l.fault-index l.faults)) (string_bytes l.initial.text) (string_bytes l.text);
 }

@@ -1,6 +1,6 @@
 use Rattle.std.proofs.Common.{ℕ, ◌+◌, arith}
 use Rattle.std.proofs.lemmas.Result.{on_ok_weaker}
-use Rattle.pci_faults.specs.Owners.{Holds, Owns}
+use Rattle.pci_faults.specs.Owners.{OwnedRangeHas, Owns}
 use Rattle.pci_faults.proofs.Filling.{added, found_added, end_added}
 use Rattle.pci_faults.proofs.owners.Owners.add.Goals.{in_default-via-in-Some+else-found-range, in_default-via-in_default}
 use Rattle.pci_faults.proofs.owners.Owners.add.Goals as goal
@@ -28,7 +28,7 @@ fill-requires-clause-free g c = elim c.in_default.branch [
 
 pub returns-in_default : goal.returns-in_default
 returns-in_default g c =
-    let free : (a i : ℕ) → Holds (record { first = c.loop-found.first; last = c.args.range.last }) a → Owns c.loop-found.self a i → ⊥ = elim c.in_default.branch [
+    let free : (a i : ℕ) → OwnedRangeHas (record { first = c.loop-found.first; last = c.args.range.last }) a → Owns c.loop-found.self a i → ⊥ = elim c.in_default.branch [
       | in_default-via-in-Some+else-found-range w ↦ λ a i held. w.in-Some.ensures.least a i held.0 (let past = w.if-found-range.false in let to = held.1 in omega (arith, past, to))
       | in_default-via-in_default w ↦ λ a i held. w.in_default.ensures a i held.0
     ] in
