@@ -11,7 +11,7 @@ use Rattle.pci_tree.specs.Outline.{Tree}
 use Rattle.pci_claims.specs.Claim.{Claimed}
 use Rattle.pci_claims.specs.Reached.{IsReachInEach}
 use Rattle.pci_why.specs.Free.{AreClaimsBesideInEach}
-use Rattle.pci_why.specs.Rooms.{RoomValue, IsRoomOfBus, IsRoomKept, IsRoomFor}
+use Rattle.pci_why.specs.Rooms.{RoomValue, IsRoomKept, IsRoomFor}
 
 -- a kind's space is that of its region
 pub space_same : (space : Space) (prefetch : Bool) → window_space (kind_in space prefetch) ≡ space

@@ -1,16 +1,14 @@
 -- What stands behind an unreached region.
-use Rattle.std.specs.Prelude.{◌≡◌, ℕ, ◌++◌, ◌∷◌, Bool, List, [], map, codes, Option, None, Some}
-use Rattle.std.specs.List.{flat_map}
+use Rattle.std.specs.Prelude.{ℕ, ◌++◌, ◌∷◌, Bool, List, [], codes, Option, None, Some}
 use Rattle.pci_spec.specs.Slot.{Slot}
 use Rattle.pci_spec.specs.Text.{slot_text}
 use Rattle.pci_spec.specs.System.{System, Space}
 use Rattle.pci_spec.specs.Decoded as decoded
 use Rattle.pci_spec.specs.Listing.{inner_line, on_text}
-use Rattle.pci_spec.specs.Why.{windows_text, range_line}
+use Rattle.pci_spec.specs.Why.{windows_text}
 use Rattle.pci_spec.specs.Why as plain
 use Rattle.pci_spec.specs.Fault.{RegionName, address_in}
 use Rattle.pci_base.specs.declared.range.Range.{Range}
-use Rattle.pci_base.specs.Ranges.{decoded_range_of}
 use Rattle.pci_base.specs.Space.{is_on, kind_in}
 use Rattle.pci_function.specs.declared.record.Record.{Record}
 use Rattle.pci_tree.specs.declared.region.Region.{Region}

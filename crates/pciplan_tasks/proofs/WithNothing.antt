@@ -1,7 +1,7 @@
 -- What `faults` tells with nothing given, by the laws of the list.
-use Rattle.std.proofs.Common.{◌≡◌, ℕ, ◌<◌, List, [], ◌∷◌, Bool, Option, None, Some, map, option_map, refl, sym, ◌∙◌, ap, subst}
+use Rattle.std.proofs.Common.{◌≡◌, ℕ, List, [], ◌∷◌, map, option_map, refl, sym, ◌∙◌, ap, subst}
 use Rattle.std.specs.Prelude.{◌↔◌}
-use Rattle.pci_spec.specs.Text.{Block, IsDump, slots_of}
+use Rattle.pci_spec.specs.Text.{Block, IsDump}
 use Rattle.pci_spec.specs.System.{System, IsSystem, system_of}
 use Rattle.pci_spec.specs.Fault as plain
 use Rattle.pci_spec.specs.FaultLines as plain_lines
@@ -15,10 +15,8 @@ use Rattle.given_spec.specs.FaultsText.{IsFaultsText}
 use Rattle.given_spec.proofs.Judging.{same_sound}
 use Rattle.given_spec.proofs.PlainLists.{same_list, same_text_with, first_of_list_is_first}
 use Rattle.pci_claims.specs.Values.{host_value}
-use Rattle.pciplan_tasks.specs.Answers.{Answer}
-use Rattle.pciplan_tasks.specs.FaultsAnswers.{AreTold, given_of, legacy_by, list_answer, vga_of}
+use Rattle.pciplan_tasks.specs.FaultsAnswers.{legacy_by, list_answer}
 use Rattle.pciplan_tasks.specs.FaultsLaws.{FirstLineIsVerdict, PlainWithNothingGiven, NothingSaidGivesNothing}
-use Rattle.pciplan_tasks.specs.declared.task.Beside.{Beside}
 
 none_known : (ps : List plain.Fault) → (ps ≡ []) ↔ (map Known ps ≡ [])
 none_known [] = (λ e. refl, λ e. refl)

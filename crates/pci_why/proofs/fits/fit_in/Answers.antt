@@ -1,4 +1,4 @@
-use Rattle.std.proofs.Common.{arith, sym, subst, List, ℕ, ◌+◌, Option}
+use Rattle.std.proofs.Common.{arith, sym, subst, List, ℕ, ◌+◌}
 use Rattle.std.specs.Prelude.{◌↔◌}
 use Rattle.pci_base.specs.declared.range.Range.{Range}
 use Rattle.pci_base.specs.Space.{space_of}

@@ -1,7 +1,6 @@
-use Rattle.std.proofs.Common.{◌≡◌, ◌∙◌, ap, sym, subst}
+use Rattle.std.proofs.Common.{◌∙◌, ap, sym, subst}
 use Rattle.std.proofs.lemmas.Result.{on_ok_weaker}
-use Rattle.pci_spec.specs.Window.{WindowKind, IoWindow, MemoryWindow, PrefetchWindow}
-use Rattle.pci_base.specs.Space.{space_of, kind_in}
+use Rattle.pci_spec.specs.Window.{WindowKind}
 use Rattle.pci_base.specs.WindowKinds.{kind_value}
 use Rattle.pci_claims.specs.Values.{given_value}
 use Rattle.pci_why.specs.Rooms.{IsRoomKept}

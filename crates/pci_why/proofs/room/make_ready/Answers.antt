@@ -1,7 +1,7 @@
 use Rattle.pci_base.specs.Space.{space_of, kind_in}
 use Rattle.pci_claims.specs.Values.{given_value}
 use Rattle.pci_why.proofs.Roomy.{still_ready}
-use Rattle.std.proofs.Common.{subst, sym, ◌≡◌, Option}
+use Rattle.std.proofs.Common.{subst, ◌≡◌, Option}
 use Rattle.std.specs.Prelude.{MatchOption}
 use Rattle.pci_why.specs.Rooms.{RoomValue}
 use Rattle.pci_why.proofs.room.make_ready.Goals as goal

@@ -1,6 +1,4 @@
-use Rattle.std.proofs.Common.{subst, List}
-use Rattle.std.specs.List.{Contains}
-use Rattle.pci_base.specs.Space.{space_of, kind_in}
+use Rattle.pci_base.specs.Space.{space_of}
 use Rattle.pci_claims.specs.Values.{given_value}
 use Rattle.pci_why.proofs.Roomy.{room_for}
 use Rattle.pci_why.proofs.room.room_of.Goals as goal
