@@ -35,7 +35,7 @@ run_parts root last n (x ∷ xs) ys run =
     let rest = run_parts root last (n + 1) xs ys run.1 in
     ((run.0, rest.0), subst (λ k. IsRun root last k ys) (omega arith) rest.1)
 
--- the number that comes next is the greatest_from so far, or there is none left
+-- the number that comes next is the greatest so far, or there is none left
 top_next : (root last n : ℕ) → max (top root last n) (secondary_number root last (n + 1)) ≡ top root last (n + 1)
 top_next root last n = elim (cases_Bool (nat_le (root + (n + 1)) last)) [
   | inl fits ↦ rw fits (omega (arith, leb-true (root + (n + 1)) last fits))

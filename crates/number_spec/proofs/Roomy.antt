@@ -74,7 +74,7 @@ within_last room last bus taken (Node d f image behind others) h low = elim (tur
   | Closed bridge none over numbers rest ↦ rw (behind_closed taken d f image behind others none) (within_last room last bus taken others rest low)
 ]
 
--- nor above the greatest_from number in use
+-- nor above the greatest number in use
 pub within_top : (room : List ℕ → ℕ) (last bus taken : ℕ) (nodes : Nodes) → have_numbers room last bus taken nodes ≡ true → last_behind taken nodes ≤ max taken last
 within_top room last bus taken NoMore h = omega arith
 within_top room last bus taken (Node d f image behind others) h = elim (turn room last bus taken d f image behind others h) [

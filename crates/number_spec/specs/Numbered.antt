@@ -32,12 +32,12 @@ secondaries (Node device function image behind others) =
 abbrev pub secondary_number : ℕ → ℕ → ℕ → ℕ
 secondary_number root last n = if nat_le (root + n) last then root + n else 0
 
--- the greatest_from of a number and those that follow
+-- the greatest of a number and those that follow
 abbrev pub greatest_from : ℕ → List ℕ → ℕ
 greatest_from n [] = n
 greatest_from n (m ∷ more) = greatest_from (max n m) more
 
--- whether a bridge shows the bus that it is on, and the greatest_from secondary bus number of a bridge
+-- whether a bridge shows the bus that it is on, and the greatest secondary bus number of a bridge
 -- behind it or its own; one without a bus shows 0 in all three
 abbrev pub has_range : ℕ → List ℕ → Nodes → Bool
 has_range bus image behind =

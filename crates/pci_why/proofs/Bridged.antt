@@ -1,4 +1,4 @@
--- What is region_of_found behind an unreached region.
+-- What is told behind an unreached region.
 use Rattle.std.proofs.Common.{◌≡◌, ℕ, List, ◌∷◌, ◌++◌, map, refl, sym, ◌∙◌, ap, Bool, true, false, codes, Option, inl, inr}
 use Rattle.std.specs.Prelude.{◌↔◌}
 use Rattle.std.specs.List.{Contains, flat_map}

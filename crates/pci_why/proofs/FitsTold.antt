@@ -1,4 +1,4 @@
--- What is region_of_found of where a region would fit.
+-- What is told of where a region would fit.
 use Rattle.std.proofs.Common.{◌≡◌, ℕ, ◌≤◌, List, [], ◌++◌, map, Bool, true, false, ◌&&◌, ◌||◌, Option, inl, inr, arith, sym, ◌∙◌, ap, subst, refl, append-nil}
 use Rattle.std.specs.Prelude.{◌↔◌, IsTrue, not, MatchOption, MatchBool}
 use Rattle.std.specs.Option.{option_map}
@@ -103,11 +103,11 @@ module _ (s : System) (slot : Slot) (reg : ℕ) (space : Space) where
 
 -- ---- lines
 
--- what is region_of_found of a region that may be moved
+-- what is told of a region that may be moved
 abbrev Movable : List AssumedRegister → Given → List ℕ → System → RegionValue → List ℕ → Type 0
 Movable assumed given roots s v lines = MatchBool (is_size_assumed assumed v.slot v.register) (lines ≡ unknown_line) (IsFit given roots s v lines)
 
--- whether nothing is region_of_found of it: it is a window, or on a root bus to which all of the space is sent
+-- whether nothing is told of it: it is a window, or on a root bus to which all of the space is sent
 abbrev Stays : Given → List ℕ → plain.Part → ℕ → Space → Bool
 Stays given roots part bus space = is_window part || is_root roots bus && not (is_said given space)
 
@@ -115,7 +115,7 @@ module _ (assumed : List AssumedRegister) (given : Given) (t : Tree) (slot : Slo
   nothing : old ≡ old ++ []
   nothing = sym (append-nil old)
 
-  -- nothing is region_of_found where nothing is found
+  -- nothing is told where nothing is found
   pub told_none : ((s : System) → HasTree t s → NoneClaims s slot reg space) → IsFitTold assumed given t (named_region slot reg) space old old
   told_none none s (Own v) tree named is = absurd (never_named s slot reg space (none s tree) v named is)
   told_none none s (Legacy b of_space) tree named is = record { lines = []; text = nothing; are = refl }
@@ -131,7 +131,7 @@ module _ (assumed : List AssumedRegister) (given : Given) (t : Tree) (slot : Slo
     are = subst (λ b. MatchBool b (◌≡◌ {A = List ℕ} [] []) (Movable assumed given t.roots s v [])) (sym stays) (refl {a = []});
   }
 
-  -- nothing is region_of_found of a window
+  -- nothing is told of a window
   pub told_window : (q : outline.Region) → ((s : System) → HasTree t s → IsFoundIn s slot reg space q) → q.part ≡ parts.Window → IsFitTold assumed given t (named_region slot reg) space old old
   told_window q found window s (Own v) tree named is =
       let here = found s tree in

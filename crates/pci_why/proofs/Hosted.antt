@@ -1,4 +1,4 @@
--- What is region_of_found behind a region outside the host's ranges.
+-- What is told behind a region outside the host's ranges.
 use Rattle.std.proofs.Common.{◌≡◌, ℕ, List, [], ◌∷◌, ◌++◌, length, map, arith, refl, sym, ◌∙◌, ap, subst, true, false, codes, None, Some}
 use Rattle.std.specs.Prelude.{◌==◌}
 use Rattle.std.specs.List.{Contains}

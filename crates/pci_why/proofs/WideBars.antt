@@ -1,4 +1,4 @@
--- BARs of 64 bits, and what is region_of_found of where a region would fit.
+-- BARs of 64 bits, and what is told of where a region would fit.
 use Rattle.std.proofs.Common.{◌≡◌, ℕ, ◌+◌, ◌<◌, List, length, get_or, take, sym, ap, subst, inl, inr, arith, ◌∙◌, Bool, true, false, ◌||◌, refl}
 use Rattle.std.specs.Prelude.{◌↔◌, ◌==◌, IsTrue}
 use Rattle.std.specs.List.{All}
@@ -96,7 +96,7 @@ pub wide_is : (r : Record) (f : Function) (part : system.Part) (space : Space) (
     → wide ≡ is_wide_part f part
 wide_is r f part space q wide e is exact = same_truth wide (is_wide_part f part) (λ w. to_wide r f part space q e is (exact.0 w)) (λ w. exact.1 (from_wide r f part space q e is w))
 
--- ---- what is region_of_found of it
+-- ---- what is told of it
 
 pub window_part : (part : system.Part) → name_of part ≡ parts.Window → is_window part ≡ true
 window_part (system.Bar n) e = cc
@@ -112,7 +112,7 @@ pub or_true : (w : Bool) → w || true ≡ true
 or_true true = refl
 or_true false = refl
 
--- whether its size is assumed is region_of_found by the slot and the register that the fault names
+-- whether its size is assumed is told by the slot and the register that the fault names
 pub same_size : (assumed : List AssumedRegister) (s : System) (slot : Slot) (reg : ℕ) (space : Space) (q : Region) (is : Bool) → IsFoundIn s slot reg space q → is_size_assumed assumed slot reg ≡ is
     → is_size_assumed assumed q.slot q.reg ≡ is
 same_size assumed s slot reg space q is found e = ap (λ x. is_size_assumed assumed x q.reg) found.slot_is ∙ ap (λ n. is_size_assumed assumed slot n) found.register ∙ e
