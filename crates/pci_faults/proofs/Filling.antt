@@ -1,4 +1,4 @@
--- OwnedRanges with owners, to which one more is added.
+-- Ranges with owners, to which one more is added.
 use Rattle.std.proofs.Common.{◌≡◌, ℕ, ◌+◌, ◌<◌, ◌≤◌, ◌⊎◌, inl, inr, false, refl, sym, ◌∙◌, ap, subst, arith, Some, Less, Greater}
 use Rattle.std.specs.Prelude.{◌↔◌}
 use Rattle.std.specs.Ordering.{nat_cmp, is_eq}

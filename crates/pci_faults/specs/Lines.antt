@@ -18,7 +18,7 @@ use Rattle.pci_faults.specs.declared.shares.Among.{Among}
 use Rattle.pci_faults.specs.declared.shares.Among.TheVariants.{Bus, Roots}
 use Rattle.pci_faults.specs.declared.shares.Share.{Share}
 
--- ---- what is share_fault of regions that share an address
+-- ---- what is told of regions that share an address
 
 -- the fault that two regions of these claim an address
 abbrev pub share_fault_at : Among → Space → ℕ → Region → Region → Fault

@@ -99,7 +99,7 @@ module _ (s : System) (unique : (f g : Function) → Contains s f → Contains s
           | inr isnt ↦ ap not isnt
         ]))
 
-    -- of a space that is region_of_found in other words
+    -- of a space that is told in other words
     pub io_any : (space : Space) (o : Option Judged) → space ≡ Io → IsAddress space a → IsHoldingAt roots s (io_spot slot) a o → IsFirstAt roots s space b a o
     io_any space o is address h = subst (λ sp. IsFirstAt roots s sp b a o) (sym is) (io_first o (subst (λ sp. IsAddress sp a) is address) h)
 

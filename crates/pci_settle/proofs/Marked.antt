@@ -1,19 +1,18 @@
 -- What is placed and how large windows are where a table marks new windows of 2^64 addresses or more.
-use Rattle.std.proofs.Common.{◌≡◌, ℕ, ◌+◌, ◌-◌, ◌*◌, ◌/◌, ◌^◌, ◌<◌, ◌≤◌, inl, inr, ◌⊎◌, List, [], ◌∷◌, ◌++◌, map, Bool, true, false, cond, ◌&&◌, not, arith, refl, sym, ◌∙◌, ap, subst, Option, Some, None}
-use Rattle.std.specs.Bool.{nat_le}
+use Rattle.std.proofs.Common.{◌≡◌, ℕ, ◌+◌, ◌-◌, ◌^◌, ◌<◌, ◌≤◌, inl, inr, ◌⊎◌, List, [], ◌∷◌, ◌++◌, map, Bool, true, false, cond, ◌&&◌, not, arith, refl, sym, ◌∙◌, ap, subst, Option, Some, None}
 use Rattle.std.specs.List.{Contains, filter, flat_map}
-use Rattle.std.proofs.lemmas.Bool.{and_parts, cases_Bool, both_ways, leb-true, not-true}
+use Rattle.std.proofs.lemmas.Bool.{and_parts, cases_Bool, both_ways}
 use Rattle.std.proofs.lemmas.List.Elements.{Contains-append_left, Contains-append_right}
 use Rattle.std.proofs.lemmas.List.Sorted.{Contains-permutation}
 use Rattle.pci_spec.specs.Decoded.{Range}
 use Rattle.pci_spec.specs.Window.{WindowKind, IoWindow, MemoryWindow, PrefetchWindow, page_size}
 use Rattle.pci_spec.specs.System.{System, Function, is_bridge}
-use Rattle.pci_spec.specs.Bus.{are_siblings, secondary}
-use Rattle.pci_spec.proofs.Members.{in_nil, in_cons_cases, in_head, in_tail, in_map_from}
+use Rattle.pci_spec.specs.Bus.{are_siblings}
+use Rattle.pci_spec.proofs.Members.{in_nil, in_cons_cases, in_head, in_tail}
 use Rattle.plan_spec.specs.Plan.{raised_to}
 use Rattle.plan_spec.specs.Place.{range_from}
 use Rattle.plan_spec.proofs.Planning.Room.{raised}
-use Rattle.settle_spec.specs.FirstPlace.{Extent as ExtentValue, first_spot, ends_by, first_place}
+use Rattle.settle_spec.specs.FirstPlace.{Extent as ExtentValue, first_spot, first_place}
 use Rattle.settle_spec.specs.Lists.{Request}
 use Rattle.settle_spec.specs.Parts.{FunctionPart, function_parts}
 use Rattle.settle_spec.specs.Stands.{window_part}
@@ -22,9 +21,8 @@ use Rattle.settle_spec.proofs.InTurn.{turn_same}
 use Rattle.settle_spec.proofs.LaidOut.{laid_keeps, end_behind}
 use Rattle.pci_settle.specs.declared.extent.Extent.{Extent}
 use Rattle.pci_settle.specs.Spots.{extent_value}
-use Rattle.pci_settle.specs.Placings.{item_extent}
 use Rattle.pci_settle.specs.Own.{IsWindowOf}
-use Rattle.pci_settle.specs.NewWindows.{nowhere, IsMarking, IsMarkedOf, extent_or}
+use Rattle.pci_settle.specs.NewWindows.{nowhere, IsMarkedOf, extent_or}
 
 -- ---- what a table tells
 

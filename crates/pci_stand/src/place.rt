@@ -15,7 +15,7 @@ ghost use Rattle.pci_settle.specs.Lists.{root_range_value, lists_value};
 ghost use Rattle.pci_stand.specs.Boards.{IsBoard, IsKnown, AreOpen};
 ghost use Rattle.pci_stand.specs.Known.{region_value};
 ghost use Rattle.pci_stand.specs.Tables.{stands_in};
-ghost use Rattle.pci_stand.specs.Places.{root_range_holds, is_listed_range, is_range_in_lists, window_for, is_in_windows};
+ghost use Rattle.pci_stand.specs.Places.{root_range_holds, is_range_in_lists, window_for, is_in_windows};
 
 use crate::region::Region;
 use pci_base::range::{Range, RootRange};

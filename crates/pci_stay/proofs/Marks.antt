@@ -1,18 +1,16 @@
 -- Where new windows of 2^64 addresses or more are marked, what else is open has room for the same.
-use Rattle.std.proofs.Common.{◌≡◌, ℕ, ◌+◌, ◌-◌, ◌%◌, ◌^◌, ◌<◌, ◌≤◌, max, inl, inr, ◌⊎◌, List, [], ◌∷◌, map, length, get_or, Bool, true, false, cond, ◌&&◌, ◌||◌, arith, refl, sym, ◌∙◌, ap, subst, Option, Some, None}
-use Rattle.std.specs.Bool.{IsTrue, nat_le, ◌==◌}
+use Rattle.std.proofs.Common.{◌≡◌, ℕ, ◌+◌, ◌-◌, ◌^◌, ◌<◌, ◌≤◌, max, inl, inr, ◌⊎◌, List, [], ◌∷◌, map, length, get_or, Bool, true, false, cond, ◌||◌, arith, refl, sym, ◌∙◌, ap, subst, Option, Some, None}
+use Rattle.std.specs.Bool.{nat_le, ◌==◌}
 use Rattle.std.specs.Option.{is_some}
 use Rattle.std.specs.List.{All, Contains, slice_get}
 use Rattle.std.proofs.lemmas.List.{get_or_default}
 use Rattle.std.proofs.lemmas.Option.{slice_get-get_or, same_Some}
 use Rattle.std.proofs.lemmas.Bool.{and_parts, and_from, or_cases, or_left, or_right, leb-true, eqb-true, eq-eqb, false_from_ne_true, both_ways}
-use Rattle.std.proofs.lemmas.List.Elements.{All-contains}
 use Rattle.pci_spec.specs.Window.{WindowKind, IoWindow, MemoryWindow, PrefetchWindow, page_size}
 use Rattle.pci_spec.specs.System.{System, Function, Window, IsSystem, is_bridge}
-use Rattle.pci_spec.specs.Bus.{secondary, are_siblings, IsNested}
+use Rattle.pci_spec.specs.Bus.{secondary, IsNested}
 use Rattle.pci_spec.specs.Decoded.{Range, HasRecords}
 use Rattle.plan_spec.specs.Plan.{is_open}
-use Rattle.plan_spec.specs.Place.{range_from}
 use Rattle.plan_spec.specs.Planning.Layout.{range_of}
 use Rattle.pci_base.specs.declared.window_kind.WindowKind.{WindowKind as CodeKind}
 use Rattle.pci_base.specs.declared.window_kind.WindowKind.TheVariants as kinds
@@ -30,8 +28,7 @@ use Rattle.pci_stand.proofs.OfRecord.{window_is}
 use Rattle.settle_spec.specs.FirstPlace.{Extent as ExtentValue, ends_by, first_spot, first_place, else_at}
 use Rattle.settle_spec.specs.Lists.{Request}
 use Rattle.settle_spec.specs.Parts.{FunctionPart}
-use Rattle.settle_spec.specs.Stands.{window_part}
-use Rattle.settle_spec.specs.Items.{Item as ItemValue, has_of, bus_items, nothing, new_window, window_around, are_placed, place_all}
+use Rattle.settle_spec.specs.Items.{has_of, bus_items, new_window, are_placed, place_all}
 use Rattle.settle_spec.proofs.FirstSpot.{least_spot, spot_gives}
 use Rattle.settle_spec.proofs.NewWindows.{window_is_around}
 use Rattle.pci_settle.specs.declared.extent.Extent.{Extent}

@@ -57,7 +57,7 @@ part_listed q s f p in_f there is =
     (in_map_from (λ o. record { function = f; part = o }) (parts_of q s f) p (in_filter_from (is_part q s f) (header_parts f) p (header_from f p there) is))
 
 module _ (q : Request) (s : System) (system : IsSystem s) (nested : IsNested q.roots s) where
-  -- what has_room_behind stands, and what stands is a part
+  -- what holds stands, and what stands is a part
   stands_of : (r : FunctionPart) → Contains s r.function → has_room_behind q s r ≡ true → stands q s r ≡ true
   stands_of r listed is = (and_parts (stands q s r) (has_room q s (has_room_behind q s) r.function r.part) (sym (holds_by_bus q s system nested r listed) ∙ is)).0
 
@@ -164,7 +164,7 @@ module _ (q : Request) (s : System) (system : IsSystem s) (nested : IsNested q.r
           let front = (and_parts (not q.anew && is_part q s v.function v.part && is_in_place q s (stands q s) v) (list_all (λ t. not (takes_from q t v && stands q s t)) (system_parts q s)) all).0 in
           (and_parts (not q.anew && is_part q s v.function v.part) (is_in_place q s (stands q s) v) front).1
 
-      -- the window over a part that has_room_behind comes before it, and is told of
+      -- the window over a part that holds comes before it, and is told of
       module _ (b : Function) (leads : LeadsTo s b bus) (c : WindowKind) (is : stands q s (window_part c b) ≡ true) where
         abbrev over : FunctionPart
         over = window_part c b
@@ -204,7 +204,7 @@ module _ (q : Request) (s : System) (system : IsSystem s) (nested : IsNested q.r
       true_and : (a b : Bool) → a ≡ true → (a && b) ≡ b
       true_and a b is = ap (λ y. y && b) is
 
-      -- a part that has_room_behind stays where it is in place by what the table tells
+      -- a part that holds stays where it is in place by what the table tells
       pub stays_is : stays q s v ≡ (has_room_behind q s v && is_in_place q s test v)
       stays_is = elim (cases_Bool (has_room_behind q s v)) [
         | inr off ↦ no_hold_stays v off ∙ sym (ap (λ b. b && is_in_place q s test v) off)

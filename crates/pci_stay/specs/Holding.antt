@@ -72,10 +72,10 @@ pub record IsHeldFrom (q : Request) (s : System) (table : List Kept) (k : ℕ) :
 
 -- whether a window stands with room, by what a table tells
 abbrev pub IsWindowHolding : Request → System → List Kept → Function → WindowKind → Bool → Type 0
-IsWindowHolding q s table f c has_room_behind =
-    has_room_behind ≡ (stands q s (window_part c f) && has_places q s (told_in q s table) f c)
+IsWindowHolding q s table f c holds =
+    holds ≡ (stands q s (window_part c f) && has_places q s (told_in q s table) f c)
 
--- a table by function in slot order, with what has_room_behind of each
+-- a table by function in slot order, with what holds of each
 pub record AreHolding (q : Request) (s : System) (table : List Kept) : Type 0 where
   pub count : length table ≡ length s
   pub opens : AreOpen s table

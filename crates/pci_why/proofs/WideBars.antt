@@ -24,7 +24,7 @@ use Rattle.pci_tree.specs.declared.region.Region.{Region}
 use Rattle.pci_tree.specs.declared.region.Part.TheVariants as parts
 use Rattle.pci_tree.specs.Regions.{IsRegionOf, name_of}
 use Rattle.pci_tree.proofs.Regions.{bar_at_register, bar_of_register}
-use Rattle.pci_claims.specs.Found.{IsFoundIn, region_of_found}
+use Rattle.pci_claims.specs.Found.{IsFoundIn}
 use Rattle.pci_why.specs.Wide.{IsWideAt, IsWideIn}
 
 -- one more BAR that isn't at the register, or has 32 bits

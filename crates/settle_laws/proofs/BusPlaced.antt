@@ -107,7 +107,7 @@ module _ (q : Request) (s : System) (can : CanSettle q s) where
       kept_window : stands q s (window_part c b) ≡ true
       kept_window = stays_stands q s can.system can.nested (window_part c b) listed keeps
 
-      -- what has_room_behind there in the other class is outside
+      -- what holds there in the other class is outside
       of_other : (t : Range) (is : IsTaken q s (window_space c) (has_room_behind q s) bus t) → same_class c (class_in q s is.of.function is.of.part) ≡ false → IsOutside kept_range t
       of_other t is differ =
           let r = is.of in

@@ -177,7 +177,7 @@ module _ (q : Request) (s : System) where
   pub stands_alone : (r : FunctionPart) → part_space r ≡ Io → stands p s r ≡ stands q s r
   stands_alone r io = ap (λ rs. stands_within p s (length rs) r) regions_same ∙ stand_same (length (system_parts q s)) r io
 
-  -- ---- what has_room_behind, and stays
+  -- ---- what holds, and stays
 
   places_same : (keeps other : FunctionPart → Bool) → ((r : FunctionPart) → part_space r ≡ Io → keeps r ≡ other r) → (b : Function) → has_places p s keeps b IoWindow ≡ has_places q s other b IoWindow
   places_same keeps other same b =

@@ -117,7 +117,7 @@ module _ (q : Request) (s : System) where
   stays_holds r is = (and_parts (has_room_behind q s r) _ is).0
 
   module _ (system : IsSystem s) (nested : IsNested q.roots s) where
-    -- what has_room_behind stands, and has room for what is behind it
+    -- what holds stands, and has room for what is behind it
     pub record Holds (r : FunctionPart) : Type 0 where
       pub stands : stands q s r ≡ true
       pub room : has_room q s (has_room_behind q s) r.function r.part ≡ true

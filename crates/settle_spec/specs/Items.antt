@@ -192,7 +192,7 @@ abbrev pub has_room : Request → System → (FunctionPart → Bool) → Functio
 has_room q s keeps f (Window c) = has_places q s keeps f c
 has_room q s keeps f p = true
 
--- a part stands and, if it is a window, has_room_behind, where at most `depth` buses are behind one another
+-- a part stands and, if it is a window, holds, where at most `depth` buses are behind one another
 unfoldable pub holds_within : Request → System → ℕ → FunctionPart → Bool
 holds_within q s zero r = stands q s r
 holds_within q s (suc depth) r = stands q s r && has_room q s (holds_within q s depth) r.function r.part
@@ -200,7 +200,7 @@ holds_within q s (suc depth) r = stands q s r && has_room q s (holds_within q s 
 abbrev pub has_room_behind : Request → System → FunctionPart → Bool
 has_room_behind q s r = holds_within q s 256 r
 
--- a part stays where it has_room_behind and each window of its class above it does
+-- a part stays where it holds and each window of its class above it does
 abbrev pub stays : Request → System → FunctionPart → Bool
 stays q s r =
     has_room_behind q s r

@@ -1,4 +1,4 @@
--- A part has_room_behind by what is on the bus behind it, which is a higher one, and stays by the window over it.
+-- A part holds by what is on the bus behind it, which is a higher one, and stays by the window over it.
 use Rattle.std.proofs.Common.{◌≡◌, ℕ, zero, suc, ◌+◌, ◌<◌, ◌≤◌, inl, inr, List, [], ◌∷◌, ◌++◌, map, Bool, true, false, cond, ◌&&◌, not, arith, sym, ◌∙◌, ap, refl}
 use Rattle.std.specs.List.{Contains, filter, flat_map, list_all}
 use Rattle.std.proofs.lemmas.Bool.{cases_Bool, and_parts}
@@ -97,7 +97,7 @@ module _ (q : Request) (s : System) where
         ∙ sym (ap (λ n. are_placed (place_all (λ i. addresses (window_part c b) ∷ []) (taken_on q s c other n) (bus_items q s c other (new_window q s c) n))) behind)
 
   module _ (system : IsSystem s) (nested : IsNested q.roots s) where
-    -- so what stands has_room_behind by what is on a higher bus
+    -- so what stands holds by what is on a higher bus
     room_same : (test other : FunctionPart → Bool) (f : Function) (p : Part) → Contains s f → stands q s (record { function = f; part = p }) ≡ true → ((t : FunctionPart) → Contains s t.function → f.slot.bus < t.function.slot.bus → test t ≡ other t)
         → has_room q s test f p ≡ has_room q s other f p
     room_same test other f (Bar n) listed is same = refl

@@ -1,4 +1,4 @@
--- Laws of what has_room_behind and what stays: buses can be gone over from the highest down for the one, and as they rise for the other.
+-- Laws of what holds and what stays: buses can be gone over from the highest down for the one, and as they rise for the other.
 use Rattle.std.specs.Prelude.{◌≡◌, Bool, ◌&&◌, IsTrue}
 use Rattle.std.specs.List.{Contains}
 use Rattle.pci_spec.specs.System.{System, Function, IsSystem}
@@ -25,13 +25,13 @@ HoldsAlone =
     (q : Request) (s : System) (test : FunctionPart → Bool) → IsSystem s → IsNested q.roots s
     → TellsRoom q s test → (r : FunctionPart) → Contains s r.function → test r ≡ has_room_behind q s r
 
--- On a root a part stays where it has_room_behind.
+-- On a root a part stays where it holds.
 abbrev pub StaysOnRoot : Type 0
 StaysOnRoot =
     (q : Request) (s : System) (r : FunctionPart) → IsSystem s → IsNested q.roots s
     → IsTrue (is_root q.roots r.function.slot.bus) → stays q s r ≡ has_room_behind q s r
 
--- Behind a bridge it stays where it has_room_behind and the window of its class over it stays.
+-- Behind a bridge it stays where it holds and the window of its class over it stays.
 abbrev pub StaysByBus : Type 0
 StaysByBus =
     (q : Request) (s : System) (r : FunctionPart) (b : Function) → IsSystem s → IsNested q.roots s

@@ -11,7 +11,7 @@ use Rattle.settle_spec.specs.Stands.{rank, part_precedes}
 abbrev pub level : Request → ℕ → ℕ
 level q bus = if is_root q.roots bus then 0 else bus + 1
 
--- lower buses come first, and on one bus what part_precedes
+-- lower buses come first, and on one bus what precedes
 abbrev pub comes_first : Request → FunctionPart → FunctionPart → Bool
 comes_first q t r =
     nat_lt (level q t.function.slot.bus) (level q r.function.slot.bus)

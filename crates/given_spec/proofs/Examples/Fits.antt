@@ -24,7 +24,7 @@ use Rattle.pci_spec.proofs.Examples.Sized.{answered}
 use Rattle.given_spec.specs.Given.{nothing_given}
 use Rattle.given_spec.specs.Claims.{Own, Legacy, IsPassedTo, passes}
 use Rattle.given_spec.specs.Fault.{Known}
-use Rattle.given_spec.specs.Why.{IsTakenBeside, IsPlaceFor, IsLeastPlace, IsFit, IsAdvice}
+use Rattle.given_spec.specs.Why.{IsTakenBeside, IsPlaceFor, IsFit, IsAdvice}
 use Rattle.given_spec.specs.Claims as claims
 use Rattle.given_spec.specs.Why as why
 
