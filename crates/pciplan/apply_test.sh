@@ -173,7 +173,7 @@ fresh
 instead dd "exec \$real \"\$@\" 2>>$room/records"
 apply --yes dump.txt writes.txt
 PATH=$tools
-[ "$(grep 'records out$' records | sort | uniq -c | tr -d ' ')" = '121+0recordsout' ] &&
+[ "$(grep 'records out$' records | sort | uniq -c | tr -d ' ')" = '111+0recordsout' ] &&
     [ "$(sed -n 's/^\([0-9]*\) bytes .*/\1/p' records)" = "$(sed 's/.*\.\([24]\) .*/\1/' writes.txt)" ]
 told 'one access for each write' $?
 
@@ -265,8 +265,8 @@ for register in 00.4 06.2 0e.2 10.2 1c.2 28.4 2c.4 38.4 3c.4 40.4 12.2 04.4; do
 done
 text 'register 18 of a bridge' writes.txt 'line 3: 00:05.0 has no register 18.4 that is written' '3s/20.4/18.4/'
 other='04 changes more than bits 0 and 1 of Command: the writes are of another dump'
-text 'other bits of Command' writes.txt "line 1: 01:01.0 $other" '1s/0100/0000/'
-text 'bus mastering' writes.txt "line 11: 01:03.0 $other" '11s/0002/0006/'
+text 'other bits of Command' writes.txt "line 1: 01:01.0 $other" '1s/0101/0001/'
+text 'bus mastering' writes.txt "line 10: 01:03.0 $other" '10s/0002/0006/'
 for line in 's/^00:00.0/00:00,0/' '1,18s/^40:/41:/' '1s/^/ /' '19s/.*/00:00.0/' '2s/.$//' '3s/ 0/ g/' \
     '18s/^$/ /' '18d' '2d'; do
     cp writes.txt changed
@@ -343,7 +343,7 @@ stops() {
     rm -f calls
     apply --yes dump.txt writes.txt
     PATH=$tools
-    [ $status -eq 2 ] && [ "$(cat err)" = "apply.sh: stopped after $2 of 12 writes: $3" ] &&
+    [ $status -eq 2 ] && [ "$(cat err)" = "apply.sh: stopped after $2 of 11 writes: $3" ] &&
         [ "$(cat out)" = "$(head -n "$2" writes.txt)" ] && same wanted
     told "stopped: $1" $?
     fresh
@@ -366,7 +366,7 @@ exec \$real \"\$@\""
     poke wanted "$slot" $offset "$(echo "$wants" | sed 's/../ 0x&/g' | xargs printf '\\%03o')"
     n=$((n + 1))
 done <cleared/writes.txt
-[ $n -eq 12 ] && cp -R wanted/. sysfs && same cleared/after
+[ $n -eq 11 ] && cp -R wanted/. sysfs && same cleared/after
 told 'stopped: at each write' $?
 
 # a signal between two writes, and a session that ends
@@ -375,7 +375,7 @@ instead dd 'echo >>calls; [ $(wc -l <calls) -ne 3 ] || kill -TERM $PPID; exec $r
 rm -f calls
 apply --yes dump.txt writes.txt
 PATH=$tools
-[ $status -eq 2 ] && [ "$(cat err)" = "apply.sh: stopped after 3 of 12 writes: a signal came before 01:01.0 10.4 20300000" ]
+[ $status -eq 2 ] && [ "$(cat err)" = "apply.sh: stopped after 3 of 11 writes: a signal came before 01:01.0 10.4 20300000" ]
 told 'stopped: a signal' $?
 fresh
 instead dd 'kill -HUP $PPID; exec $real "$@"'

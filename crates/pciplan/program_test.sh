@@ -180,7 +180,7 @@ settled 'old: settle, 02:02.0 cleared' 00 "02:02.0 04.2 0100
 02:02.0 10.4 0000c101
 02:02.0 14.4 fe600000
 02:02.0 04.2 0103$lf" old_cleared.dump
-settled 'roots: settle, 43:00.0 cleared' 00,40 "43:00.0 04.2 0504
+settled 'roots: settle, 43:00.0 cleared' 00,40 "43:00.0 04.2 0505
 43:00.0 10.4 fe000004
 43:00.0 04.2 0507$lf" roots_cleared.dump
 # shellcheck disable=SC2086
@@ -253,14 +253,13 @@ case_of 'cleared: nothing is known of its BARs' 0 '' '' settle cleared.dump clea
 told 01:03.0 0 00000000000fffff 200 01:04.0 0 00000000000fffff 200 <cleared.sizes >cleared.told
 ./pciplan probe cleared.dump cleared.told >cleared.probe
 # shellcheck disable=SC2086
-case_of 'cleared: settled by the sizes of the log' 0 "01:01.0 04.2 0100
-00:05.0 04.2 0100
+case_of 'cleared: settled by the sizes of the log' 0 "01:01.0 04.2 0101
+00:05.0 20.4 0000fff0
 00:05.0 20.4 20302000
 01:01.0 10.4 20300000
 01:02.0 10.4 20000000
 01:03.0 10.4 20100000
 01:04.0 10.4 20200000
-00:05.0 04.2 0103
 01:01.0 04.2 0103
 01:02.0 04.2 0002
 01:03.0 04.2 0002

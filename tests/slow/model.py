@@ -18,7 +18,7 @@ What there is:
 - `bar_mask`, `rom_mask`, `window_bounds(image, kind)`, `page_size`: the registers behind these parts.
 - `capabilities(image)`: the places of the walk, up to where it ends or repeats.
 - `put_window(f, kind, first, last)`, `close_window(f, kind)`, `put_bar(f, part, address)`, `put_rom(f, address, on)`.
-- `address_registers(f)`: (offset, width) of each, in the order of docs/REGISTERS.md.
+- `address_registers(f)`: (offset, width) of each, by rising offset.
 - `write(f, offset, width, value)`: what a write to the register machine changes.
 - `dump_text(functions)`, `probe_text(functions)`, `write_text(slot, offset, width, value)`.
 - `blocks(text)`: (slot, title, image) of each block of a good text. `functions_of(dump, probe)` joins two good texts of
@@ -336,7 +336,7 @@ def put_rom(f, address, on):
 
 
 def address_registers(f):
-    """Offset and width of each register that sets what a function decodes, in the order of their writes."""
+    """Offset and width of each register that sets what a function decodes, by rising offset."""
     if f.is_bridge:
         return [(0x10, 4), (0x14, 4), (0x1C, 2), (0x20, 4), (0x24, 4), (0x28, 4), (0x2C, 4), (0x30, 4), (0x38, 4)]
     return [(0x10 + 4 * n, 4) for n in range(6)] + [(0x30, 4)]

@@ -20,7 +20,8 @@ TURNS = 3
 PLAN_SORTS = ('planned', 'planned, assumed', 'from a sound start', 'from an unsound start', 'already planned', 'sized',
               '70', '71', '72 io', '72 mem', '72 pref')
 SETTLE_SORTS = ('settled', 'settled anew', 'left alone', 'from a sound start', 'from an unsound start',
-                'something fixed', 'several roots', '70', '72 io', '72 mem', '72 pref', '74 does not stand',
+                'something fixed', 'several roots', 'one space shut', 'a window closed', 'an upper limit lowered',
+                'an upper limit set first', '70', '72 io', '72 mem', '72 pref', '74 does not stand',
                 '74 does not stay', '74 would be written', '76', 'too large')
 
 
@@ -213,6 +214,22 @@ def settle_sorts(asker, board, request, plan):
     asker.sorts.add('settled anew' if request.anew else 'settled' if plan.writes else 'left alone')
     asker.sorts |= {'something fixed'} if request.fixed else set()
     asker.sorts |= {'several roots'} if len(board.roots) > 1 else set()
+    asker.sorts |= write_sorts(plan)
+
+
+def write_sorts(plan):
+    """Which sorts of writes there are in a plan of settling."""
+    sorts, closing = set(), plan.writes[:plan.closings]
+    setting = [(slot, offset) for slot, offset, _, _ in plan.writes[plan.closings:]]
+    if any(offset == 0x04 and value & 3 for _, offset, _, value in closing):
+        sorts.add('one space shut')
+    if any(offset in (0x1C, 0x20, 0x24) for _, offset, _, _ in closing):
+        sorts.add('a window closed')
+    if any(offset in (0x2C, 0x30) for _, offset, _, _ in closing):
+        sorts.add('an upper limit lowered')
+    if any(offset == 0x2C and (slot, 0x28) in setting[place:] for place, (slot, offset) in enumerate(setting)):
+        sorts.add('an upper limit set first')
+    return sorts
 
 
 def settle_differs(asker, rule, board, request):

@@ -137,15 +137,21 @@ class Rule:
             put_bar(f, part, at)
 
     def put_bounds(self, f, window):
-        """Opens a window somewhere, or closes it."""
+        """Opens a window somewhere, at times across 64 KB or 4 GB, or closes it, at times by its upper halves."""
         kind, page = window.window, page_size(window.window)
+        across = 0x10000 if kind == 'io' else 0x100000000
         if self.mood == 'zero' or self.one_in(6):
             close_window(f, kind)
+            if window.wide and self.mood != 'zero' and self.one_in(3):
+                low = self.below(3)
+                put_window(f, kind, (low + 1 + self.below(2)) * across, low * across)
             return
         first = self.crowded(window.space, page, window.wide and self.one_in(3))
         put_window(f, kind, first, first + self.one_of([1, 1, 2, 2, 3, 4]) * page - 1)
         if self.one_in(12):
             put_window(f, kind, 0, page - 1)
+        elif window.wide and self.one_in(6):
+            put_window(f, kind, across - page, across + page - 1)
 
     def place(self, f):
         """Puts all parts of a function somewhere, and draws its Command."""

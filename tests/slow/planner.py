@@ -6,7 +6,7 @@ and one item at a time (Bridge 1.2, chapter 4).
 - `Pools(io, mem, pref)`: the first and the last address of each class.
 - `planned(functions, roots, pools)`: a `Plan` with the new functions and the writes, or a `Fault` with its text.
 - `sized(f)`: what sizing register by register finds.
-- `registers_between(old, new)`: the writes to address registers, also for the settler.
+- `writes_between(old, new, registers)`: the writes to some registers, also for the settler.
 """
 
 from collections import namedtuple
@@ -211,16 +211,16 @@ class Planner:
         return new
 
 
-def registers_between(old, new):
-    """The writes to the address registers that differ, by rising offset."""
-    return [(old.slot, offset, width, number_at(new.image, offset, width)) for offset, width in address_registers(old)
+def writes_between(old, new, registers):
+    """The writes to those of some registers that differ."""
+    return [(old.slot, offset, width, number_at(new.image, offset, width)) for offset, width in registers
             if number_at(new.image, offset, width) != number_at(old.image, offset, width)]
 
 
 def planned_writes(olds, news):
     """The writes of a plan in order, and how many of them close: all that is on is closed first."""
     closing = [(f.slot, COMMAND, 2, f.command & ~3) for f in reversed(olds) if f.command & 3]
-    registers = [made for old, new in zip(olds, news) for made in registers_between(old, new)]
+    registers = [made for old, new in zip(olds, news) for made in writes_between(old, new, address_registers(old))]
     opening = [(new.slot, COMMAND, 2, new.command) for old, new in zip(olds, news) if new.command != old.command & ~3]
     return closing + registers + opening, len(closing)
 

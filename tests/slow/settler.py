@@ -3,7 +3,8 @@
 It is read off docs/FORMATS.md ("Settling") and crates/settle_spec/specs, one part, one item and one bus at a time.
 
 - `Request(roots, lists, fixed, anew)`: lists has `io`, `mem` and `pref`, each a list of (root or None, first, last).
-- `settled(functions, request)`: a `Plan` (planner.py) of functions that have none of the faults 20 to 58, or a `Fault`.
+- `settled(functions, request)`: a `Plan` (planner.py), whose writes are those of ordering.py, of functions that have
+  none of the faults 20 to 58, or a `Fault`.
 - `TooLarge` is raised where a new window would have 2^64 addresses or more: nothing is said here of such boards.
 """
 
@@ -11,7 +12,8 @@ from collections import namedtuple
 
 from model import (COMMAND, IO, MEM, WINDOWS, assumed, close_window, page_size, put_bar, put_number, put_rom,
                    put_window, slot_text)
-from planner import Fault, Plan, bridges_above, has_window, is_served, raised, registers_between
+from ordering import Order
+from planner import Fault, bridges_above, has_window, is_served, raised
 
 Request = namedtuple('Request', 'roots lists fixed anew')
 
@@ -337,32 +339,6 @@ class Settler:
         return self.remembered(('live', f.slot, space), lambda: self.is_enabled(f, space) and (
             self.has_own(f, space) or any(self.is_live(g, space) for g in self.behind(f))))
 
-    # ---- writes
-
-    def is_cut_off(self, f, space):
-        """Whether it is on in a space in which it has a BAR or ROM, and a bridge above it isn't."""
-        return f.is_on(space) and self.has_own(f, space) and any(
-            not b.is_on(space) for b in bridges_above(self.functions, f.slot[0]))
-
-    def closed_command(self, old, news):
-        """Command while registers are written."""
-        concerned = [old] + bridges_above(self.functions, old.slot[0])
-        if any(registers_between(f, news[f.slot]) or self.is_cut_off(f, IO) or self.is_cut_off(f, MEM)
-               for f in concerned):
-            return old.command & ~3
-        return old.command & ~1 if self.has_left(old) else old.command
-
-    def plan(self):
-        """The new functions and the writes to them."""
-        news = {f.slot: self.moved(f) for f in self.functions}
-        closed = {f.slot: self.closed_command(f, news) for f in self.functions}
-        closing = [(f.slot, COMMAND, 2, closed[f.slot]) for f in reversed(self.functions)
-                   if closed[f.slot] != f.command]
-        registers = [made for f in self.functions for made in registers_between(f, news[f.slot])]
-        opening = [(f.slot, COMMAND, 2, news[f.slot].command) for f in self.functions
-                   if news[f.slot].command != closed[f.slot]]
-        return Plan(list(news.values()), closing + registers + opening, len(closing))
-
     # ---- why nothing is settled
 
     def are_bad(self):
@@ -412,7 +388,7 @@ class Settler:
                 return Fault('74 Fixed ' + self.fixed_without(test), None, sort)
         if self.lack():
             return Fault('72 NoRoom ' + self.lack(), None, '72 ' + self.lack().split()[0])
-        plan = self.plan()
+        plan = Order(self, {f.slot: self.moved(f) for f in self.functions}).plan()
         for slot, offset, _, _ in plan.writes:
             if slot in self.request.fixed:
                 return Fault('74 Fixed ' + named(slot, offset), None, '74 would be written')

@@ -1,6 +1,7 @@
 pub mod Ways
 pub mod StagedWrites
-pub mod ChangedRegisters
+pub mod Moving
+pub mod ClosedBridges
 pub mod States
 pub mod Closings
 pub mod SettledDumps

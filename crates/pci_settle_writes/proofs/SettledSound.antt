@@ -12,7 +12,6 @@ use Rattle.settle_spec.specs.Places.{lacking}
 use Rattle.settle_spec.specs.Writes.{closings, settle_writes}
 use Rattle.settle_laws.specs.PlacesLaws.{CanSettle}
 use Rattle.settle_laws.proofs.Moves.{new_profile}
-use Rattle.settle_laws.proofs.SettledMoved.{are_settling}
 use Rattle.settle_laws.proofs.SettledSound.{settled_sound}
 use Rattle.settle_laws.proofs.Stopping.{stop_sound, writes_settle}
 use Rattle.pci_base.specs.declared.range.RootRange.{RootRange as CodeRange}
@@ -46,7 +45,7 @@ module _ (a : Admission) (admitted : IsAdmitted a) (l : Lists) (fine : are_bad_l
       writes_reach =
           let q = request a.roots l fixed anew in
           let s = system_in a in
-          ap (system_after s) are ∙ writes_settle q s (are_settling q s can.system can.profile (new_profile q s can)) can.nested ∙ sym is.system
+          ap (system_after s) are ∙ writes_settle q s can.system can.profile (new_profile q s can) ∙ sym is.system
 
       pub writes_stop : (count : ℕ) → count ≡ length (closings (request a.roots l fixed anew) (system_in a) (system_in a)) → (k : ℕ)
           → (count ≤ k) ⊎ IsSound a.roots (system_in a) → IsSound a.roots (system_after (system_in a) (take k writes))
@@ -54,5 +53,5 @@ module _ (a : Admission) (admitted : IsAdmitted a) (l : Lists) (fine : are_bad_l
           let q = request a.roots l fixed anew in
           let s = system_in a in
           subst (λ ws. IsSound a.roots (system_after s (take k ws))) (sym are)
-          (stop_sound q s (are_settling q s can.system can.profile (new_profile q s can)) can.nested can.profile can.chains (settled_sound q s can) k
+          (stop_sound q s can k
           (subst (λ n. (n ≤ k) ⊎ IsSound a.roots s) counted from))

@@ -1,20 +1,29 @@
 -- The writes of settling, a function at a time.
-use Rattle.std.proofs.Common.{◌≡◌, ℕ, suc, ◌+◌, ◌-◌, ◌<◌, List, [], ◌++◌, map, length, get_or, take, drop, arith, sym, ◌∙◌, ap}
-use Rattle.std.specs.List.{flat_map}
-use Rattle.std.proofs.lemmas.List.{append_assoc, get_or-map, get_or_default, length-map, take_more}
+use Rattle.std.proofs.Common.{◌≡◌, ℕ, suc, ◌+◌, ◌-◌, ◌%◌, ◌<◌, ◌≤◌, List, [], ◌∷◌, ◌++◌, Bool, true, false, cond, ◌&&◌, map, length, get_or, take, drop, inl, inr, arith, refl, sym, ◌∙◌, ap}
+use Rattle.std.specs.Bool.{◌==◌, nat_le, if◌then◌else◌}
+use Rattle.std.specs.List.{Contains, flat_map, list_all}
+use Rattle.std.proofs.lemmas.Bool.{cases_Bool, and_parts, leb-true}
+use Rattle.std.proofs.lemmas.List.{append_assoc, append-nil, get_or-map, get_or_default, length-map, take_more}
+use Rattle.std.proofs.lemmas.List.Elements.{All-contains, Contains-get_or}
 use Rattle.std.proofs.Math.Seq.{drop-cons}
-use Rattle.pci_spec.specs.Header.{command}
+use Rattle.pci_spec.specs.Number.{number_at, IsImage}
+use Rattle.pci_spec.specs.Header.{command, layout, registers_by}
 use Rattle.pci_spec.specs.Slot.{Slot}
 use Rattle.pci_spec.specs.Text.{Block}
 use Rattle.pci_spec.specs.Machine.{Write}
-use Rattle.pci_spec.specs.System.{System, Function}
-use Rattle.plan_spec.specs.Planning.PlanWrites.{registers_of}
+use Rattle.pci_spec.specs.System.{System, Function, IsFunction, is_bridge}
+use Rattle.plan_spec.specs.Planning.PlanWrites.{register_write}
+use Rattle.plan_spec.proofs.Planning.Behind.{all_gives}
 use Rattle.settle_spec.specs.Lists.{Request}
 use Rattle.settle_spec.specs.Registers.{settled_function}
-use Rattle.settle_spec.specs.Writes.{change_of, closing_command, closing_from, opening_from, closings}
-use Rattle.pci_plan.specs.Writes.{block_change}
+use Rattle.settle_spec.specs.Writes.{closing_command, closed_function, closing_of, setting_of, closing_from, setting_from, opening_from, closings, closing_registers, setting_registers}
+use Rattle.settle_laws.proofs.ClosedImages.{closed_low, closed_device, closed_command}
+use Rattle.settle_laws.proofs.Images.{same_number}
 use Rattle.pci_plan.proofs.WriteLists.{flat_map_more}
-use Rattle.pci_settle_writes.specs.Stages.{AreOf, AreClosed, AreSettledBlocks, command_at}
+use Rattle.pci_settle_writes.specs.declared.writes.Span.{Span}
+use Rattle.pci_settle_writes.specs.declared.writes.Stages.{Stages}
+use Rattle.pci_settle_writes.specs.Stages.{is_access_of, AreOf, AreStages, HasEachStage, images_change, bridge_closing, bridge_settings, closed_image_by, command_at, closing_at, setting_at}
+use Rattle.pci_settle_writes.proofs.ClosedBridges.{image_by}
 
 -- ---- what stands side by side
 
@@ -27,37 +36,73 @@ same_at g h xs ys same k x y within x_at y_at =
     ap g x_at ∙ sym (get_or-map g xs k x (g x) (omega (arith, left, right, long, within)))
     ∙ ap (λ zs. get_or zs k (g x)) same ∙ get_or-map h ys k y (g x) within ∙ ap h (sym y_at)
 
-module _ (q : Request) (s : System) where
-  -- a function of a system at a place, and what lists say of it there
-  module _ (k : ℕ) (f : Function) (within : k < length s) (f_at : f ≡ get_or s k f) where
-    pub closing_at : (start : List Block) (closed : List ℕ) → AreOf s start → AreClosed q s closed → (b : Block) (c : ℕ) → b ≡ get_or start k b → c ≡ get_or closed k c
-        → command_at b.slot (command b.image) c ≡ closing_from q s f
-    closing_at start closed of are b c b_at c_at =
-        let slot = same_at (λ (x : Block). x.slot) (λ (x : Function). x.slot) start s of.slots k b f within b_at f_at in
-        let image = same_at (λ (x : Block). x.image) (λ (x : Function). x.image) start s of.images k b f within b_at f_at in
-        let value : c ≡ closing_command q s f = c_at ∙ ap (λ cs. get_or cs k c) are ∙ get_or-map (closing_command q s) s k f c within ∙ ap (closing_command q s) (sym f_at) in
-        ap (λ x. command_at x (command b.image) c) slot ∙ ap (λ x. command_at f.slot (command x) c) image ∙ ap (command_at f.slot (command f.image)) value
+-- ---- of a function
 
-    pub opening_at : (start settled : List Block) (closed : List ℕ) → AreOf s start → AreClosed q s closed → AreSettledBlocks q s settled → (b n : Block) (c : ℕ) → b ≡ get_or start k b → n ≡ get_or settled k n → c ≡ get_or closed k c
-        → command_at b.slot c (command n.image) ≡ opening_from q s f
-    opening_at start settled closed of are new b n c b_at n_at c_at =
-        let slot = same_at (λ (x : Block). x.slot) (λ (x : Function). x.slot) start s of.slots k b f within b_at f_at in
-        let image = same_at (λ (x : Block). x.image) (λ (x : Function). (settled_function q s x).image) settled s new k n f within n_at f_at in
-        let value : c ≡ closing_command q s f = c_at ∙ ap (λ cs. get_or cs k c) are ∙ get_or-map (closing_command q s) s k f c within ∙ ap (closing_command q s) (sym f_at) in
-        ap (λ x. command_at x c (command n.image)) slot ∙ ap (λ x. command_at f.slot x (command n.image)) value ∙ ap (λ x. command_at f.slot (closing_command q s f) (command x)) image
+-- writes of registers that are the same before, too
+same_writes : (f : Function) (old closed new : List ℕ) (rs : List (ℕ × ℕ)) → ((o w : ℕ) → 6 ≤ o → number_at closed o w ≡ number_at old o w) → list_all (λ r. nat_le 6 r.0) rs ≡ true
+    → flat_map (register_write (images_change f.slot old new)) rs ≡ flat_map (register_write (images_change f.slot closed new)) rs
+same_writes f old closed new [] same past = refl
+same_writes f old closed new ((o, w) ∷ rs) same past =
+    let parts = and_parts (nat_le 6 o) (list_all (λ r. nat_le 6 r.0) rs) past in
+    let write : Write = record { slot = f.slot; offset = o; width = w; value = number_at new o w } in
+    ap (λ n. (if number_at new o w == n then [] else write ∷ []) ++ flat_map (register_write (images_change f.slot old new)) rs) (sym (same o w (leb-true 6 o parts.0)))
+    ∙ ap (λ ws. (if number_at new o w == number_at closed o w then [] else write ∷ []) ++ ws) (same_writes f old closed new rs same parts.1)
 
-    abbrev bare : Slot → List ℕ → Function
-    bare slot image = record { slot = slot; image = image; probe = [] }
+module _ (q : Request) (s : System) (f : Function) (is : IsImage f.image) where
+  abbrev value : ℕ
+  value = closing_command q s f
 
-    pub setting_at : (start settled : List Block) → AreOf s start → AreSettledBlocks q s settled → (b n : Block) → b ≡ get_or start k b → n ≡ get_or settled k n
-        → registers_of (block_change b n) ≡ registers_of (change_of q s f)
-    setting_at start settled of new b n b_at n_at =
-        let slot = same_at (λ (x : Block). x.slot) (λ (x : Function). x.slot) start s of.slots k b f within b_at f_at in
-        let image = same_at (λ (x : Block). x.image) (λ (x : Function). x.image) start s of.images k b f within b_at f_at in
-        let settled_image = same_at (λ (x : Block). x.image) (λ (x : Function). (settled_function q s x).image) settled s new k n f within n_at f_at in
-        ap (λ x. registers_of record { old = bare x b.image; new = bare n.slot n.image }) slot
-        ∙ ap (λ x. registers_of record { old = bare f.slot x; new = bare n.slot n.image }) image
-        ∙ ap (λ x. registers_of record { old = bare f.slot f.image; new = bare n.slot x }) settled_image
+  abbrev closed : List ℕ
+  closed = (closed_function q s f).image
+
+  abbrev new : List ℕ
+  new = (settled_function q s f).image
+
+  pub closing_same : closing_at f.slot f.image f.probe new value ≡ closing_from q s f
+  closing_same =
+      let windows = flat_map (register_write (images_change f.slot f.image (closed_image_by f.image f.probe new value))) bridge_closing in
+      let alone = command_at f.slot (command f.image) value in
+      let write = register_write (closing_of q s f) in
+      let all : Bool → List Write = λ b. flat_map write ((0x04, 2) ∷ (if b then (0x1c, 2) ∷ (0x30, 4) ∷ (0x20, 4) ∷ (0x24, 4) ∷ (0x2c, 4) ∷ [] else [])) in
+      elim (cases_Bool (is_bridge f)) [
+        | inl bridge ↦
+            ap (λ b. cond b windows alone) bridge
+            ∙ ap (λ x. flat_map (register_write (images_change f.slot f.image x)) bridge_closing) (image_by q s f bridge)
+            ∙ sym (ap all bridge)
+        | inr device ↦
+            ap (λ b. cond b windows alone) device
+            ∙ ap (command_at f.slot (command f.image)) (sym (closed_command q s f is))
+            ∙ sym (append-nil (write (0x04, 2)))
+            ∙ sym (ap all device)
+      ]
+
+  pub setting_same : setting_at f.slot f.image f.probe new value ≡ setting_from q s f
+  setting_same =
+      let by : List ℕ → List Write = λ x. flat_map (register_write (images_change f.slot x new)) (bridge_settings x new) in
+      let alone : Bool → List Write = λ b. flat_map (register_write (images_change f.slot f.image new)) (registers_by b) in
+      let all : Bool → List Write = λ b. flat_map (register_write (setting_of q s f)) (if b then bridge_settings closed new else registers_by (layout closed == 1)) in
+      let same : (layout closed == 1) ≡ is_bridge f = ap (λ n. n % 128 == 1) (closed_low q s f 0x0e (omega arith) (omega arith)) in
+      elim (cases_Bool (is_bridge f)) [
+        | inl bridge ↦
+            ap (λ b. cond b (by (closed_image_by f.image f.probe new value)) (alone (is_bridge f))) bridge
+            ∙ ap by (image_by q s f bridge)
+            ∙ sym (ap all (same ∙ bridge))
+        | inr device ↦
+            ap (λ b. cond b (by (closed_image_by f.image f.probe new value)) (alone (is_bridge f))) device
+            ∙ ap alone device
+            ∙ same_writes f f.image closed new (registers_by false)
+            (λ o w past. same_number closed f.image o w (λ j less. closed_device q s f device (o + j) (inr (omega (arith, past))))) refl
+            ∙ sym (ap all (same ∙ device) ∙ ap (λ b. flat_map (register_write (setting_of q s f)) (registers_by b)) (same ∙ device))
+      ]
+
+  pub opening_same : command_at f.slot value (command new) ≡ opening_from q s f
+  opening_same = ap (λ n. command_at f.slot n (command new)) (sym (closed_command q s f is))
+
+-- each register of a table is a lawful access
+pub access_at : (spans : List Span) → list_all is_access_of spans ≡ true → (i : ℕ) (d : Span) → i < length spans → is_access_of (get_or spans i d) ≡ true
+access_at spans all i d within = all_gives is_access_of spans (get_or spans i d) all (Contains-get_or spans i d within)
+
+-- ---- a function of the stages
 
 -- as many functions as blocks
 pub count_of : (s : System) (start : List Block) → AreOf s start → length s ≡ length start
@@ -78,9 +123,45 @@ function_of_place s k within =
     let none : Function = record { slot = record { bus = 0; device = 0; function = 0 }; image = []; probe = [] } in
     record { f = get_or s k none; within = within; is = get_or_default s k none (get_or s k none) within }
 
--- ---- one function more
+module _ (q : Request) (s : System) (st : Stages) (are : AreStages q s st) where
+  image_at : (k : ℕ) (at : IsAt s k) → IsImage at.f.image
+  image_at k at = (All-contains IsFunction s at.f are.system.each (k, at.within, sym at.is)).image
 
-module _ (q : Request) (s : System) (start : List Block) (of : AreOf s start) where
+  module _ (k : ℕ) (at : IsAt s k) (b p n : Block) (c : ℕ) (b_at : b ≡ get_or st.start.now k b) (p_at : p ≡ get_or st.probe.now k p) (n_at : n ≡ get_or st.settled.now k n) (c_at : c ≡ get_or st.commands.now k c) where
+    abbrev f : Function
+    f = at.f
+
+    slot_is : b.slot ≡ f.slot
+    slot_is = same_at (λ (x : Block). x.slot) (λ (x : Function). x.slot) st.start.now s are.start.slots k b f at.within b_at at.is
+
+    image_is : b.image ≡ f.image
+    image_is = same_at (λ (x : Block). x.image) (λ (x : Function). x.image) st.start.now s are.start.images k b f at.within b_at at.is
+
+    probe_is : p.image ≡ f.probe
+    probe_is = same_at (λ (x : Block). x.image) (λ (x : Function). x.probe) st.probe.now s are.probe k p f at.within p_at at.is
+
+    settled_is : n.image ≡ (settled_function q s f).image
+    settled_is = same_at (λ (x : Block). x.image) (λ (x : Function). (settled_function q s x).image) st.settled.now s are.settled k n f at.within n_at at.is
+
+    value_is : c ≡ closing_command q s f
+    value_is = c_at ∙ ap (λ cs. get_or cs k c) are.commands ∙ get_or-map (closing_command q s) s k f c at.within ∙ ap (closing_command q s) (sym at.is)
+
+    by_parts : (make : Slot → List ℕ → List ℕ → List ℕ → ℕ → List Write) → make b.slot b.image p.image n.image c ≡ make f.slot f.image f.probe (settled_function q s f).image (closing_command q s f)
+    by_parts make =
+        ap (λ x. make x b.image p.image n.image c) slot_is ∙ ap (λ x. make f.slot x p.image n.image c) image_is ∙ ap (λ x. make f.slot f.image x n.image c) probe_is
+        ∙ ap (λ x. make f.slot f.image f.probe x c) settled_is ∙ ap (make f.slot f.image f.probe (settled_function q s f).image) value_is
+
+    closing_is : closing_at b.slot b.image p.image n.image c ≡ closing_from q s f
+    closing_is = by_parts closing_at ∙ closing_same q s f (image_at k at)
+
+    setting_is : setting_at b.slot b.image p.image n.image c ≡ setting_from q s f
+    setting_is = by_parts setting_at ∙ setting_same q s f (image_at k at)
+
+    opening_is : command_at b.slot c (command n.image) ≡ opening_from q s f
+    opening_is = by_parts (λ slot old probe new value. command_at slot value (command new)) ∙ opening_same q s f (image_at k at)
+
+  -- ---- one function more
+
   flat_more : (write : Function → List Write) (before : List Write) (k : ℕ) (at : IsAt s k) → (before ++ flat_map write (take k s)) ++ write at.f ≡ before ++ flat_map write (take (k + 1) s)
   flat_more write before k at =
       append_assoc before (flat_map write (take k s)) (write at.f)
@@ -94,48 +175,56 @@ module _ (q : Request) (s : System) (start : List Block) (of : AreOf s start) wh
       ∙ ap (λ f. before ++ (closings q s (drop (suc k) s) ++ closing_from q s f)) at.is
       ∙ ap (λ ws. before ++ ws) (sym (ap (closings q s) (drop-cons s k at.f at.within)))
 
-  pub closing_step : (closed : List ℕ) → AreClosed q s closed → (done : ℕ) → done < length start → (b : Block) → b ≡ get_or start (length start - 1 - done) b → (before so_far all : List Write) (slot : Slot) (old : ℕ)
-      → all ≡ so_far ++ command_at slot old (get_or closed (length start - 1 - done) 0) → so_far ≡ before ++ closings q s (drop (length s - done) s) → slot ≡ b.slot → old ≡ command b.image
+  -- Command of a function once all is closed
+  abbrev value_at : ℕ → ℕ
+  value_at k = get_or st.commands.now k 0
+
+  value_is_at : (k : ℕ) → IsAt s k → value_at k ≡ get_or st.commands.now k (value_at k)
+  value_is_at k at =
+      let within = at.within in
+      let l = ap length are.commands in
+      let m = length-map s (closing_command q s) in
+      get_or_default st.commands.now k 0 (value_at k) (omega (arith, within, l, m))
+
+  pub closing_step : (done : ℕ) → done < length st.start.now → (b p n : Block) → (k : ℕ) → k ≡ length st.start.now - 1 - done → b ≡ get_or st.start.now k b → p ≡ get_or st.probe.now k p → n ≡ get_or st.settled.now k n
+      → (probe new : List ℕ) → probe ≡ p.image → new ≡ n.image → (before so_far all : List Write) → all ≡ so_far ++ closing_at b.slot b.image probe new (value_at k) → so_far ≡ before ++ closings q s (drop (length s - done) s)
       → all ≡ before ++ closings q s (drop (length s - (done + 1)) s)
-  closing_step closed are done less b b_at before so_far all slot old all_is so_is slot_is old_is =
-      let count = count_of s start of in
-      let k = length start - 1 - done in
-      let within : k < length s = omega (arith, count, less) in
-      let at : IsAt s k = function_of_place s k within in
-      let long : k < length closed = let l = ap length are in let m = length-map s (closing_command q s) in omega (arith, within, l, m) in
-      let c = get_or closed k 0 in
-      let here = closing_at q s k at.f within at.is start closed of are b c b_at (get_or_default closed k 0 c long) in
-      let next : suc k ≡ length s - done = omega (arith, count, less) in
-      let last : k ≡ length s - (done + 1) = omega (arith, count, less) in
-      all_is ∙ ap (λ ws. ws ++ command_at slot old c) so_is
-      ∙ ap (λ n. (before ++ closings q s (drop n s)) ++ command_at slot old c) (sym next)
-      ∙ ap (λ x. (before ++ closings q s (drop (suc k) s)) ++ command_at x old c) slot_is
-      ∙ ap (λ x. (before ++ closings q s (drop (suc k) s)) ++ command_at b.slot x c) old_is
-      ∙ ap (λ ws. (before ++ closings q s (drop (suc k) s)) ++ ws) here
+  closing_step done less b p n k k_is b_at p_at n_at probe new probe_at new_at before so_far all all_is so_is =
+      let count = count_of s st.start.now are.start in
+      let at : IsAt s k = function_of_place s k (omega (arith, count, less, k_is)) in
+      let next : suc k ≡ length s - done = omega (arith, count, less, k_is) in
+      let last : k ≡ length s - (done + 1) = omega (arith, count, less, k_is) in
+      all_is ∙ ap (λ ws. ws ++ closing_at b.slot b.image probe new (value_at k)) so_is
+      ∙ ap (λ m. (before ++ closings q s (drop m s)) ++ closing_at b.slot b.image probe new (value_at k)) (sym next)
+      ∙ ap (λ x. (before ++ closings q s (drop (suc k) s)) ++ closing_at b.slot b.image x new (value_at k)) probe_at
+      ∙ ap (λ x. (before ++ closings q s (drop (suc k) s)) ++ closing_at b.slot b.image p.image x (value_at k)) new_at
+      ∙ ap (λ ws. (before ++ closings q s (drop (suc k) s)) ++ ws) (closing_is k at b p n (value_at k) b_at p_at n_at (value_is_at k at))
       ∙ closing_more before k at
-      ∙ ap (λ n. before ++ closings q s (drop n s)) last
+      ∙ ap (λ m. before ++ closings q s (drop m s)) last
 
-  module _ (k : ℕ) (less : k < length start) (settled : List Block) (new : AreSettledBlocks q s settled) (b n : Block) (b_at : b ≡ get_or start k b) (n_at : n ≡ get_or settled k n) (before so_far all : List Write) where
-    within : k < length s
-    within = let count = count_of s start of in omega (arith, count, less)
+  place : (k : ℕ) → k < length st.start.now → IsAt s k
+  place k less = let count = count_of s st.start.now are.start in function_of_place s k (omega (arith, count, less))
 
-    at : IsAt s k
-    at = function_of_place s k within
+  module _ (k : ℕ) (less : k < length st.start.now) (b n : Block) (b_at : b ≡ get_or st.start.now k b) (n_at : n ≡ get_or st.settled.now k n) (before so_far all : List Write) where
+    pub setting_step : (p : Block) → p ≡ get_or st.probe.now k p → (probe : List ℕ) → probe ≡ p.image → all ≡ so_far ++ setting_at b.slot b.image probe n.image (value_at k) → so_far ≡ before ++ flat_map (setting_from q s) (take k s)
+        → all ≡ before ++ flat_map (setting_from q s) (take (k + 1) s)
+    setting_step p p_at probe probe_at all_is so_is =
+        all_is ∙ ap (λ ws. ws ++ setting_at b.slot b.image probe n.image (value_at k)) so_is
+        ∙ ap (λ x. (before ++ flat_map (setting_from q s) (take k s)) ++ setting_at b.slot b.image x n.image (value_at k)) probe_at
+        ∙ ap (λ ws. (before ++ flat_map (setting_from q s) (take k s)) ++ ws) (setting_is k (place k less) b p n (value_at k) b_at p_at n_at (value_is_at k (place k less)))
+        ∙ flat_more (setting_from q s) before k (place k less)
 
-    pub setting_step : all ≡ so_far ++ registers_of (block_change b n) → so_far ≡ before ++ flat_map (λ f. registers_of (change_of q s f)) (take k s)
-        → all ≡ before ++ flat_map (λ f. registers_of (change_of q s f)) (take (k + 1) s)
-    setting_step all_is so_is =
-        all_is ∙ ap (λ ws. ws ++ registers_of (block_change b n)) so_is
-        ∙ ap (λ ws. (before ++ flat_map (λ f. registers_of (change_of q s f)) (take k s)) ++ ws) (setting_at q s k at.f within at.is start settled of new b n b_at n_at)
-        ∙ flat_more (λ f. registers_of (change_of q s f)) before k at
-
-    pub opening_step : (closed : List ℕ) → AreClosed q s closed → (slot : Slot) (command_new : ℕ) → all ≡ so_far ++ command_at slot (get_or closed k 0) command_new → so_far ≡ before ++ flat_map (opening_from q s) (take k s)
-        → slot ≡ b.slot → command_new ≡ command n.image → all ≡ before ++ flat_map (opening_from q s) (take (k + 1) s)
-    opening_step closed are slot command_new all_is so_is slot_is new_is =
-        let c = get_or closed k 0 in
-        let long : k < length closed = let l = ap length are in let m = length-map s (closing_command q s) in let w = within in omega (arith, w, l, m) in
-        all_is ∙ ap (λ ws. ws ++ command_at slot c command_new) so_is
-        ∙ ap (λ x. (before ++ flat_map (opening_from q s) (take k s)) ++ command_at x c command_new) slot_is
-        ∙ ap (λ x. (before ++ flat_map (opening_from q s) (take k s)) ++ command_at b.slot c x) new_is
-        ∙ ap (λ ws. (before ++ flat_map (opening_from q s) (take k s)) ++ ws) (opening_at q s k at.f within at.is start settled closed of are new b n c b_at n_at (get_or_default closed k 0 c long))
-        ∙ flat_more (opening_from q s) before k at
+    pub opening_step : (slot : Slot) (new : ℕ) → all ≡ so_far ++ command_at slot (value_at k) new → slot ≡ b.slot → new ≡ command n.image → so_far ≡ before ++ flat_map (opening_from q s) (take k s)
+        → all ≡ before ++ flat_map (opening_from q s) (take (k + 1) s)
+    opening_step slot new all_is slot_at new_at so_is =
+        let own = length-map st.probe.now (λ (x : Block). x.image) in
+        let read = length-map s (λ (x : Function). x.probe) in
+        let same = ap length are.probe in
+        let count = count_of s st.start.now are.start in
+        let p = get_or st.probe.now k b in
+        let p_at = get_or_default st.probe.now k b p (omega (arith, own, read, same, count, less)) in
+        all_is ∙ ap (λ ws. ws ++ command_at slot (value_at k) new) so_is
+        ∙ ap (λ x. (before ++ flat_map (opening_from q s) (take k s)) ++ command_at x (value_at k) new) slot_at
+        ∙ ap (λ x. (before ++ flat_map (opening_from q s) (take k s)) ++ command_at b.slot (value_at k) x) new_at
+        ∙ ap (λ ws. (before ++ flat_map (opening_from q s) (take k s)) ++ ws) (opening_is k (place k less) b p n (value_at k) b_at p_at n_at (value_is_at k (place k less)))
+        ∙ flat_more (opening_from q s) before k (place k less)

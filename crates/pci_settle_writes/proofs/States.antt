@@ -17,6 +17,12 @@ images_in [] probe same = refl
 images_in (b ∷ blocks) [] same = absurd (let no : ⊥ = omega (arith, same) in no)
 images_in (b ∷ blocks) (p ∷ probe) same = ap (λ xs. b.image ∷ xs) (images_in blocks probe (omega (arith, same)))
 
+probes_in : (blocks probe : List Block) → length blocks ≡ length probe → map (λ (f : Function). f.probe) (system_of blocks probe) ≡ map (λ (b : Block). b.image) probe
+probes_in [] [] same = refl
+probes_in [] (p ∷ probe) same = absurd (let no : ⊥ = omega (arith, same) in no)
+probes_in (b ∷ blocks) [] same = absurd (let no : ⊥ = omega (arith, same) in no)
+probes_in (b ∷ blocks) (p ∷ probe) same = ap (λ xs. p.image ∷ xs) (probes_in blocks probe (omega (arith, same)))
+
 -- dumps with the same titles are of the same length
 pub same_titles : (xs ys : List Block) → map (λ (b : Block). b.title) xs ≡ map (λ (b : Block). b.title) ys → length xs ≡ length ys
 same_titles xs ys same = sym (length-map xs (λ (b : Block). b.title)) ∙ ap length same ∙ length-map ys (λ (b : Block). b.title)
@@ -27,6 +33,12 @@ module _ (a : Admission) (is : IsAdmitted a) where
     slots = sym (slots-system_of a.dump a.probe is.slots);
     images = sym (images_in a.dump a.probe (same_length a.dump a.probe is.slots));
   }
+
+  pub probe_count : length a.probe ≡ length a.dump
+  probe_count = sym (same_length a.dump a.probe is.slots)
+
+  pub probes_of : map (λ (b : Block). b.image) a.probe ≡ map (λ (f : Function). f.probe) (system_in a)
+  probes_of = sym (probes_in a.dump a.probe (same_length a.dump a.probe is.slots))
 
   module _ (q : Request) (settled : List Block) (to : IsSettledDump q a settled) where
     -- there are as many blocks

@@ -1,51 +1,109 @@
--- Which functions are shut, by what is decoded of each and by what is above its bus.
-use Rattle.std.specs.Prelude.{◌≡◌, ℕ, ◌-◌, ◌%◌, ◌==◌, Bool, ◌&&◌, ◌||◌, not, if◌then◌else◌, List}
+-- Which functions are shut in a space, by what is decoded of each and by what is above its bus.
+use Rattle.std.specs.Prelude.{◌≡◌, ℕ, ◌+◌, ◌==◌, Bool, ◌&&◌, ◌||◌, not, if◌then◌else◌, List, [], ◌∷◌}
+use Rattle.std.specs.Option.{is_some}
 use Rattle.std.specs.List.{list_any, list_all}
 use Rattle.pci_spec.specs.Number.{number_at}
-use Rattle.pci_spec.specs.Header.{layout, address_registers}
+use Rattle.pci_spec.specs.Registers.{IO_BASE, IO_BASE_UPPER, MEMORY_BASE, PREFETCHABLE_BASE, PREFETCHABLE_BASE_UPPER, PREFETCHABLE_LIMIT_UPPER}
+use Rattle.pci_spec.specs.Header.{rom_place}
 use Rattle.pci_spec.specs.Machine.{without_low}
-use Rattle.pci_spec.specs.System.{System, Space, Io, Memory, is_space_on}
+use Rattle.pci_spec.specs.Window.{WindowKind, IoWindow, MemoryWindow, PrefetchWindow}
+use Rattle.pci_spec.specs.System.{System, Space, Io, Memory, Window, is_space_on}
 use Rattle.plan_spec.specs.Plan.{bridges_above}
 use Rattle.settle_spec.specs.Lists.{Request}
-use Rattle.settle_spec.specs.Writes.{is_shut_itself}
+use Rattle.settle_spec.specs.Parts.{are_same_space}
+use Rattle.settle_spec.specs.Writes.{changes_at, is_shut_itself}
 use Rattle.pci_base.specs.Space.{is_on}
+use Rattle.pci_image.specs.declared.bar.Bar.{Bar}
 use Rattle.pci_function.specs.declared.record.Record.{Record}
-use Rattle.pci_place.specs.declared.above.Above.{Above}
-use Rattle.pci_settle.specs.declared.own.Terms.{Terms}
-use Rattle.pci_settling.specs.Claims.{has_left_bar, has_kept}
+use Rattle.pci_place.specs.Classes.{is_wide_kind}
+use Rattle.pci_settle.specs.Own.{AreTerms, is_left_bar, bar_class_of}
+use Rattle.pci_settle.specs.Over.{IsOverBus}
+use Rattle.pci_settling.specs.Claims.{is_bar_in, has_left_bar, is_rom_on, has_kept}
+use Rattle.pci_settle_writes.specs.declared.shut.Around.{Around}
+use Rattle.pci_settle_writes.specs.declared.way.BySpace.{BySpace}
+use Rattle.pci_settle_writes.specs.declared.way.ByClass.{ByClass}
 use Rattle.pci_settle_writes.specs.declared.way.Way.{Way}
 
 -- ---- what is above a bus
 
--- whether all bridges between the host and a bus enable a space, and none of them is shut itself
-pub record IsWay (q : Request) (s : System) (bus : ℕ) (way : Way) : Type 0 where
-  pub io : way.io ≡ list_all (λ b. is_space_on b Io) (bridges_above s bus)
-  pub memory : way.memory ≡ list_all (λ b. is_space_on b Memory) (bridges_above s bus)
-  pub clear : way.clear ≡ list_all (λ b. not (is_shut_itself q s b)) (bridges_above s bus)
+abbrev pub in_space : BySpace → Space → Bool
+in_space b Io = b.io
+in_space b Memory = b.memory
 
-abbrev pub is_way_on : Way → Space → Bool
-is_way_on way Io = way.io
-is_way_on way Memory = way.memory
+abbrev pub in_class : ByClass → WindowKind → Bool
+in_class b IoWindow = b.io
+in_class b MemoryWindow = b.memory
+in_class b PrefetchWindow = b.prefetchable
+
+-- of the bridges between the host and a bus: which spaces all enable, in which none is shut itself, and of which classes no
+-- window changes
+pub record IsWay (q : Request) (s : System) (bus : ℕ) (way : Way) : Type 0 where
+  pub on : (x : Space) → in_space way.on x ≡ list_all (λ b. is_space_on b x) (bridges_above s bus)
+  pub clear : (x : Space) → in_space way.clear x
+      ≡ list_all (λ b. not (is_shut_itself q s x b)) (bridges_above s bus)
+  pub same : (c : WindowKind) → in_class way.same c
+      ≡ list_all (λ b. not (changes_at q s b (Window c))) (bridges_above s bus)
+
+-- what is around what stands on a bus
+pub record IsAround (q : Request) (s : System) (bus : ℕ) (o : Around) : Type 0 where
+  pub over : IsOverBus q s bus o.over
+  pub terms : AreTerms q.lists o.terms
+  pub way : IsWay q s bus o.way
+
+-- ---- what changes
+
+-- a register shows different numbers in two images
+abbrev pub differs_in : List ℕ → List ℕ → (ℕ × ℕ) → Bool
+differs_in old new r = not (number_at new r.0 r.1 == number_at old r.0 r.1)
+
+abbrev pub window_registers : WindowKind → List (ℕ × ℕ)
+window_registers IoWindow = (IO_BASE, 2) ∷ (IO_BASE_UPPER, 4) ∷ []
+window_registers MemoryWindow = (MEMORY_BASE, 4) ∷ []
+window_registers PrefetchWindow =
+    (PREFETCHABLE_BASE, 4) ∷ (PREFETCHABLE_BASE_UPPER, 4) ∷ (PREFETCHABLE_LIMIT_UPPER, 4) ∷ []
+
+abbrev pub is_window_changed : WindowKind → List ℕ → List ℕ → Bool
+is_window_changed c old new = list_any (differs_in old new) (window_registers c)
+
+abbrev pub is_bar_changed : List ℕ → List ℕ → Bar → Bool
+is_bar_changed old new bar =
+    differs_in old new (bar.reg, if is_wide_kind bar.kind then 8 else 4)
 
 -- ---- of a record
 
--- an address register of an image changes
-abbrev pub is_image_changed : List ℕ → List ℕ → Bool
-is_image_changed old new =
-    list_any (λ (r : ℕ × ℕ). not (number_at new r.0 r.1 == number_at old r.0 r.1))
-    (address_registers (layout old))
+-- no window of a BAR's class changes of the bridges above it
+abbrev pub is_same_above : Around → Bar → Bool
+is_same_above o bar = in_class o.way.same (bar_class_of bar o.over o.terms.prefetch_last)
+
+abbrev pub is_moving_bar : Around → Space → List ℕ → List ℕ → Bar → Bool
+is_moving_bar o space old new bar =
+    is_bar_in space bar && not (is_left_bar bar o.over.above o.terms.has_io)
+    && (is_bar_changed old new bar || not (is_same_above o bar))
+
+abbrev pub has_moving_rom : Around → List ℕ → List ℕ → Record → Bool
+has_moving_rom o old new r =
+    is_rom_on r.rom
+    && (differs_in old new (rom_place (is_some r.bridge), 4) || not o.way.same.memory)
+
+-- a BAR or ROM of a space moves
+abbrev pub has_moving_by : Around → Space → List ℕ → List ℕ → Record → Bool
+has_moving_by o space old new r =
+    list_any (is_moving_bar o space old new) r.bars.items
+    || (are_same_space space Memory && has_moving_rom o old new r)
 
 -- it is on in a space in which it has a BAR or ROM, and a bridge above it isn't
-abbrev pub is_cut_off_by : Space → Above → Terms → Way → Record → Bool
-is_cut_off_by space above t way r =
-    is_on r.command space && has_kept space above t r && not (is_way_on way space)
+abbrev pub is_cut_off_by : Around → Space → Record → Bool
+is_cut_off_by o space r =
+    is_on r.command space && has_kept space o.over.above o.terms r
+    && not (in_space o.way.on space)
 
-abbrev pub is_shut_by : Above → Terms → Way → Record → Bool → Bool
-is_shut_by above t way r changed =
-    changed || is_cut_off_by Io above t way r || is_cut_off_by Memory above t way r
+abbrev pub is_shut_by : Around → Space → List ℕ → List ℕ → Record → Bool
+is_shut_by o space old new r = has_moving_by o space old new r || is_cut_off_by o space r
 
-abbrev pub closing_by : Above → Terms → Record → Bool → ℕ
-closing_by above t r shut =
-    if shut then without_low 4 r.command
-    else if has_left_bar r above t then r.command - r.command % 2
-    else r.command
+-- Command once closed, of a function that is shut in these spaces
+abbrev pub closing_by : Around → Record → BySpace → ℕ
+closing_by o r shut =
+    without_low 4 r.command
+    + (if not shut.io && (not (has_left_bar r o.over.above o.terms) && is_on r.command Io)
+    then 1 else 0)
+    + (if not shut.memory && is_on r.command Memory then 2 else 0)

@@ -2,6 +2,7 @@
 #![tactic(auto)]
 
 pub mod assumed;
+pub mod closed;
 pub mod dump;
 pub mod fixed;
 pub mod io;

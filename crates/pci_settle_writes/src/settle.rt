@@ -10,6 +10,7 @@ ghost use Rattle.settle_spec.specs.Writes as spec;
 ghost use Rattle.pci_place.specs.Above.{system_in};
 ghost use Rattle.pci_plan.specs.Writes.{write_value};
 ghost use Rattle.pci_settle.specs.Lists.{lists_value};
+ghost use Rattle.pci_settle.specs.Over.{AreOpenOver};
 ghost use Rattle.pci_stand.specs.Flags.{AreFlags};
 ghost use Rattle.pci_stand.specs.Known.{asked};
 ghost use Rattle.pci_settled.specs.Placed.{CanBeLeft, ArePlacesOff};
@@ -32,7 +33,7 @@ use pci_base::slot::Slot;
 use pci_dump::dump::Dump;
 use pci_settle::kept::{Kept, nothing_kept};
 use pci_settle::list::Lists;
-use pci_settle::over::Left;
+use pci_settle::over::{Left, OpenWindows};
 use pci_settled::place::place;
 use pci_settled::places::Places;
 use pci_stand::fixed::flags_of;
@@ -72,13 +73,14 @@ fn places<A: Allocator + Copy, B: Allocator>(
 }
 
 /// What settling comes to with the places that parts get, none for what stays, and with what stays, both by function in
-/// slot order.
+/// slot order. `overs` has the open windows over each bus, and is empty where all is placed anew.
 ///
 /// Errors: 2 `OutOfMemory` where a growth was refused.
 pub fn settled_at<A: Allocator + Copy, B: Allocator>(
     alloc: A,
     admitted: &Admitted<B>,
     lists: &Lists,
+    overs: &[OpenWindows],
     table: &[Places],
     staying: &[Kept],
 ) -> Result<Settled<A>, OutOfMemory>
@@ -91,12 +93,13 @@ pub fn settled_at<A: Allocator + Copy, B: Allocator>(
         (λ x. map (λ b. b.title) x.dump ≡ map (λ b. b.title) admitted.now.dump) }
     ensures settled { IfOk result (λ x. (q : Request)
         → IsAskedOf q admitted.now.roots (lists_value lists.now)
+        → AreOpenOver q (system_in admitted.now) overs.now
         → HasAllPlaces q (system_in admitted.now) table.now
         → IsTableOf (system_in admitted.now) (stays q (system_in admitted.now)) staying.now
         → IsSettledBy q admitted.now x.dump (map write_value x.writes.all.items) x.writes.closings) }
 {
     let dump = settled_dump(alloc, admitted, lists, table, staying)?;
-    let writes = writes_to(alloc, admitted, lists, dump.blocks())?;
+    let writes = writes_to(alloc, admitted, lists, overs, dump.blocks())?;
     Ok(Settled { dump, writes })
 }
 
@@ -124,7 +127,7 @@ fn settle_held<A: Allocator + Copy, B: Allocator>(
         → IsEndedBy admitted.now q e) }
 {
     let table = places(alloc, admitted, lists, left)?;
-    let settled = settled_at(alloc, admitted, lists, table.as_slice(), staying)?;
+    let settled = settled_at(alloc, admitted, lists, left.over, table.as_slice(), staying)?;
     if let Some(fault) = fixed_write(fixed, settled.writes.all.as_slice()) {
         return Err(Refused::Fault(fault));
     }

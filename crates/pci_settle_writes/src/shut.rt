@@ -1,91 +1,154 @@
-//! Which functions are shut while registers are set, and what Command holds once all is closed.
-ghost use Rattle.std.specs.Prelude.{◌≡◌, ◌==◌, ◌||◌, IfOk, IsTrue, length, map, not};
-ghost use Rattle.pci_spec.specs.Number.{number_at};
-ghost use Rattle.pci_spec.specs.Port as port;
+//! In which spaces functions are shut while registers are set, and what Command holds once all is closed.
+ghost use Rattle.std.specs.Prelude.{◌≡◌, ◌==◌, ◌||◌, IfOk, length, map};
+ghost use Rattle.std.specs.List.{All, list_any};
+ghost use Rattle.pci_spec.specs.System.{Io, Memory};
 ghost use Rattle.settle_spec.specs.Lists.{Request};
 ghost use Rattle.settle_spec.specs.Writes as writes;
 ghost use Rattle.pci_base.specs.Space.{space_of};
 ghost use Rattle.pci_place.specs.Above.{system_in};
 ghost use Rattle.pci_settle.specs.Lists.{lists_value};
+ghost use Rattle.pci_settle.specs.Over.{AreOpenOver};
+ghost use Rattle.pci_settling.specs.Shown.{HasRegister};
 ghost use Rattle.pci_settle_writes.specs.Requests.{IsAskedOf};
 ghost use Rattle.pci_settle_writes.specs.Dumps.{IsSettledDump};
-ghost use Rattle.pci_settle_writes.specs.Shut.{is_image_changed, is_cut_off_by, is_shut_by, closing_by};
+ghost use Rattle.pci_settle_writes.specs.Shut.{is_same_above, is_bar_changed, is_moving_bar, has_moving_rom, has_moving_by, is_cut_off_by, is_shut_by, closing_by};
 
-use crate::way::Way;
+use crate::closed::same_windows;
+use crate::way::{BySpace, Way};
 use pci_base::image::Image;
 use pci_base::memory::OutOfMemory;
 use pci_base::slot::BUSES;
 use pci_base::space::Space;
 use pci_dump::block::Block;
 use pci_function::record::Record;
-use pci_image::layout::Layout;
-use pci_image::register::{Register, address_registers};
-use pci_place::above::{Above, aboves};
+use pci_image::bar::{Bar, BarKind};
+use pci_place::above::aboves;
 use pci_settle::list::Lists;
-use pci_settle::own::Terms;
-use pci_settling::claim::{has_kept, has_left_bar};
+use pci_settle::over::{OpenWindows, Over, open_over};
+use pci_settle::own::{Terms, class_of, is_left_bar};
+use pci_settling::claim::{has_kept, has_left_bar, is_bar_of, is_rom_on};
 use pci_tree::admitted::Admitted;
 use std::alloc::Allocator;
 
-/// Whether a register of two images differs.
-pub fn differs(old: &Image, new: &Image, register: &Register) -> bool
-    // an access lies within one doubleword, so all its bytes are there
-    requires { IsTrue (port.is_access register.now.offset register.now.width) }
-    ensures { result ≡ not (number_at new.now.0 register.now.offset register.now.width
-        == number_at old.now.0 register.now.offset register.now.width) }
-{
-    new.number(register.offset, register.width) != old.number(register.offset, register.width)
+/// What is around the functions on a bus.
+#[derive(Clone, Copy)]
+struct Around {
+    over: Over,
+    terms: Terms,
+    way: Way,
 }
 
-/// Whether an address register of an image changes.
-fn is_changed(old: &Image, new: &Image) -> bool
-    ensures { result ≡ is_image_changed old.now.0 new.now.0 }
+impl Around {
+    /// Whether no window of a BAR's class changes of the bridges above it.
+    fn is_same_above(&self, bar: &Bar) -> bool
+        ensures { result ≡ is_same_above self.now bar.now }
+    {
+        self.way.same.get(class_of(bar, &self.over, self.terms))
+    }
+}
+
+/// Whether the register of a BAR changes, or one of the two of a wide one.
+fn is_bar_changed(old: &Image, new: &Image, bar: &Bar) -> bool
+    requires { HasRegister bar.now }
+    ensures { result ≡ is_bar_changed old.now.0 new.now.0 bar.now }
 {
-    for register in address_registers(Layout::or_device(old)) {
-        if differs(old, new, register) {
+    new.u32(bar.reg) != old.u32(bar.reg)
+        || bar.kind == BarKind::Mem64 && new.u32(bar.reg + 4) != old.u32(bar.reg + 4)
+}
+
+/// Whether a BAR of a space moves: its register changes, or the window of its class of a bridge above it does. One that is
+/// left doesn't.
+fn is_moving_bar(space: Space, around: &Around, old: &Image, new: &Image, bar: &Bar) -> bool
+    requires { HasRegister bar.now }
+    ensures { result ≡ is_moving_bar around.now (space_of space) old.now.0 new.now.0 bar.now }
+{
+    is_bar_of(space, bar)
+        && !is_left_bar(bar, around.over.above, around.terms)
+        && (is_bar_changed(old, new, bar) || !around.is_same_above(bar))
+}
+
+/// Whether one of some BARs does.
+fn has_moving_bar(space: Space, around: &Around, old: &Image, new: &Image, bars: &[Bar]) -> bool
+    requires { All HasRegister bars.now }
+    ensures { result
+        ≡ list_any (is_moving_bar around.now (space_of space) old.now.0 new.now.0) bars.now }
+{
+    for bar in bars {
+        if is_moving_bar(space, around, old, new, bar) {
             return true;
         }
     }
     false
 }
 
+/// Whether a ROM that is on moves, which is of the class of memory.
+fn has_moving_rom(around: &Around, old: &Image, new: &Image, record: &Record) -> bool
+    ensures { result ≡ has_moving_rom around.now old.now.0 new.now.0 «record».now }
+{
+    let register = record.rom_register();
+    is_rom_on(record.rom) && (new.u32(register) != old.u32(register) || !around.way.same.memory)
+}
+
+/// Whether a BAR or ROM of a space moves.
+fn has_moving(space: Space, around: &Around, old: &Image, new: &Image, record: &Record) -> bool
+    requires { All HasRegister «record».now.bars.items }
+    ensures { result
+        ≡ has_moving_by around.now (space_of space) old.now.0 new.now.0 «record».now }
+{
+    has_moving_bar(space, around, old, new, record.bars.as_slice())
+        || space == Space::Mem && has_moving_rom(around, old, new, record)
+}
+
 /// Whether a function is on in a space in which it has a BAR or ROM, and a bridge above it isn't.
-fn is_cut_off(space: Space, record: &Record, above: Above, terms: Terms, way: Way) -> bool
-    ensures { result ≡ is_cut_off_by (space_of space) above terms way «record».now }
+fn is_cut_off(space: Space, around: &Around, record: &Record) -> bool
+    ensures { result ≡ is_cut_off_by around.now (space_of space) «record».now }
 {
-    space.is_on(record.command) && has_kept(space, above, terms, record) && !way.is_on(space)
+    space.is_on(record.command)
+        && has_kept(space, around.over.above, around.terms, record)
+        && !around.way.on.get(space)
 }
 
-/// Whether a function is shut for itself: an address register changes, or it is cut off in a space.
-fn is_shut_itself(record: &Record, above: Above, terms: Terms, way: Way, changed: bool) -> bool
-    ensures { result ≡ is_shut_by above terms way «record».now changed }
+/// In which spaces a function is shut for itself: something of it moves, or it is cut off.
+fn shut_itself(around: &Around, old: &Image, new: &Image, record: &Record) -> BySpace
+    requires { All HasRegister «record».now.bars.items }
+    ensures io { result.io ≡ is_shut_by around.now Io old.now.0 new.now.0 «record».now }
+    ensures memory { result.memory ≡ is_shut_by around.now Memory old.now.0 new.now.0 «record».now }
 {
-    changed
-        || is_cut_off(Space::Io, record, above, terms, way)
-        || is_cut_off(Space::Mem, record, above, terms, way)
-}
-
-/// What Command holds once a function is closed: without its enables where it is shut, without that of I/O where an I/O
-/// BAR is left, else what it holds (PCI 3.0, 6.2.2).
-fn closing_command(record: &Record, above: Above, terms: Terms, shut: bool) -> u16
-    ensures { result ≡ closing_by above terms «record».now shut }
-{
-    if shut {
-        record.command / 4 * 4
-    } else if has_left_bar(record, above, terms) {
-        record.command - record.command % 2
-    } else {
-        record.command
+    BySpace {
+        io: has_moving(Space::Io, around, old, new, record)
+            || is_cut_off(Space::Io, around, record),
+        memory: has_moving(Space::Mem, around, old, new, record)
+            || is_cut_off(Space::Mem, around, record),
     }
 }
 
-/// What Command of each function holds once all is closed, in slot order, where `settled` is the dump as it is to be. What is
-/// shut is known of each bridge above a function before the function itself, as a bridge has a lower slot than what is
-/// behind it.
+/// What Command holds once a function is closed that is shut in these spaces: the enable of a space stays where the function
+/// isn't shut in it, but never for an I/O BAR that is left (PCI 3.0, 6.2.2).
+fn closing_command(around: &Around, record: &Record, shut: BySpace) -> u16
+    ensures { result ≡ closing_by around.now «record».now shut }
+{
+    let over = around.over.above;
+    let io = !shut.io
+        && !has_left_bar(record, over, around.terms)
+        && Space::Io.is_on(record.command);
+    let memory = !shut.memory && Space::Mem.is_on(record.command);
+    let enables = match (io, memory) {
+        (false, false) => 0,
+        (true, false) => 1,
+        (false, true) => 2,
+        (true, true) => 3,
+    };
+    record.command / 4 * 4 + enables
+}
+
+/// What Command of each function holds once all is closed, in slot order, where `settled` is the dump as it is to be and
+/// `overs` the open windows over each bus. What is shut and which windows change is known of each bridge above a function
+/// before the function itself, as a bridge has a lower slot than what is behind it.
 pub fn closing_commands<A: Allocator, B: Allocator>(
     alloc: A,
     admitted: &Admitted<B>,
     lists: &Lists,
+    overs: &[OpenWindows],
     settled: &[Block],
 ) -> Result<Vec<u16, A>, OutOfMemory>
     // old and new of a function have one index
@@ -95,6 +158,7 @@ pub fn closing_commands<A: Allocator, B: Allocator>(
         (λ commands. length commands.items ≡ length (system_in admitted.now)) }
     ensures commands { IfOk result (λ commands. (q : Request)
         → IsAskedOf q admitted.now.roots (lists_value lists.now)
+        → AreOpenOver q (system_in admitted.now) overs.now
         → IsSettledDump q admitted.now settled.now
         → commands.items ≡ map (writes.closing_command q (system_in admitted.now)) (system_in admitted.now)) }
 {
@@ -107,16 +171,20 @@ pub fn closing_commands<A: Allocator, B: Allocator>(
     let mut commands = Vec::new(alloc);
     for k in 0..records.len() {
         let record = &records[k];
-        let bus = usize::from(record.slot.bus());
-        let above = aboves[bus];
-        let way = ways[bus];
+        let bus = record.slot.bus();
+        let way = ways[usize::from(bus)];
+        let over = Over {
+            above: aboves[usize::from(bus)],
+            windows: open_over(overs, bus),
+        };
+        let around = Around { over, terms, way };
         let old = &start[k];
         let new = &settled[k];
-        let changed = is_changed(&old.image, &new.image);
-        let shut = is_shut_itself(record, above, terms, way, changed);
-        commands.push(closing_command(record, above, terms, shut || !way.clear))?;
+        let itself = shut_itself(&around, &old.image, &new.image, record);
+        commands.push(closing_command(&around, record, way.shut(itself)))?;
         if let Some(bridge) = &record.bridge {
-            ways[usize::from(bridge.secondary)] = way.and(record.command, shut);
+            let same = same_windows(&old.image, &new.image);
+            ways[usize::from(bridge.secondary)] = way.and(record.command, itself, same);
         }
     }
     Ok(commands)

@@ -1,50 +1,119 @@
 //! What the bridges between the host and a bus are.
-ghost use Rattle.std.specs.Prelude.{◌≡◌, ◌&&◌, not};
+ghost use Rattle.std.specs.Prelude.{◌≡◌, ◌&&◌, ◌||◌, not};
 ghost use Rattle.pci_spec.specs.System.{Io, Memory};
+ghost use Rattle.pci_spec.specs.Window.{IoWindow, MemoryWindow, PrefetchWindow};
 ghost use Rattle.pci_base.specs.Space.{space_of, is_on};
-ghost use Rattle.pci_settle_writes.specs.Shut.{is_way_on};
+ghost use Rattle.pci_base.specs.WindowKinds.{kind_value};
+ghost use Rattle.pci_settle_writes.specs.Shut.{in_space, in_class};
 
 use pci_base::space::Space;
+use pci_base::window_kind::WindowKind;
 
-/// What all bridges between the host and a bus are; on a root, where there is none, everything.
+/// What holds in each space.
 #[derive(Clone, Copy, Debug, PartialEq, Eq)]
-pub struct Way {
-    /// Whether all of them enable I/O.
+pub struct BySpace {
     pub io: bool,
-    /// Whether all of them enable memory.
     pub memory: bool,
-    /// Whether none of them is shut itself.
-    pub clear: bool,
 }
 
-impl Way {
-    /// Below no bridge.
-    pub const NONE: Way = Way {
-        io: true,
-        memory: true,
-        clear: true,
-    };
-
-    /// Whether all bridges enable a space.
-    pub fn is_on(self, space: Space) -> bool
-        ensures { result ≡ is_way_on self (space_of space) }
+impl BySpace {
+    /// Whether it holds in a space.
+    pub fn get(self, space: Space) -> bool
+        ensures { result ≡ in_space self (space_of space) }
     {
         match space {
             Space::Io => self.io,
             Space::Mem => self.memory,
         }
     }
+}
 
-    /// The same below one more bridge, with this Command, which is shut itself or not.
-    pub fn and(self, command: u16, shut: bool) -> Way
-        ensures io { result.io ≡ (self.io && is_on command Io) }
-        ensures memory { result.memory ≡ (self.memory && is_on command Memory) }
-        ensures clear { result.clear ≡ (self.clear && not shut) }
+/// What holds of the windows of each class.
+#[derive(Clone, Copy, Debug, PartialEq, Eq)]
+pub struct ByClass {
+    pub io: bool,
+    pub memory: bool,
+    pub prefetchable: bool,
+}
+
+impl ByClass {
+    /// Whether it holds of a class.
+    pub fn get(self, class: WindowKind) -> bool
+        ensures { result ≡ in_class self (kind_value class) }
+    {
+        match class {
+            WindowKind::Io => self.io,
+            WindowKind::Memory => self.memory,
+            WindowKind::Prefetchable => self.prefetchable,
+        }
+    }
+}
+
+/// What all bridges between the host and a bus are; on a root, where there is none, everything.
+#[derive(Clone, Copy, Debug, PartialEq, Eq)]
+pub struct Way {
+    /// Which spaces all of them enable.
+    pub on: BySpace,
+    /// In which spaces none of them is shut itself.
+    pub clear: BySpace,
+    /// Of which classes all their windows stay as they are.
+    pub same: ByClass,
+}
+
+impl Way {
+    /// Below no bridge.
+    pub const NONE: Way = Way {
+        on: BySpace {
+            io: true,
+            memory: true,
+        },
+        clear: BySpace {
+            io: true,
+            memory: true,
+        },
+        same: ByClass {
+            io: true,
+            memory: true,
+            prefetchable: true,
+        },
+    };
+
+    /// In which spaces a function below is shut that is shut itself in these.
+    pub fn shut(self, itself: BySpace) -> BySpace
+        ensures io { result.io ≡ (itself.io || not self.clear.io) }
+        ensures memory { result.memory ≡ (itself.memory || not self.clear.memory) }
+    {
+        BySpace {
+            io: itself.io || !self.clear.io,
+            memory: itself.memory || !self.clear.memory,
+        }
+    }
+
+    /// The same below one more bridge, with this Command, which is shut itself in these spaces, and whose windows of these
+    /// classes stay as they are.
+    pub fn and(self, command: u16, shut: BySpace, same: ByClass) -> Way
+        ensures io { result.on.io ≡ (self.on.io && is_on command Io) }
+        ensures memory { result.on.memory ≡ (self.on.memory && is_on command Memory) }
+        ensures clear_io { result.clear.io ≡ (self.clear.io && not shut.io) }
+        ensures clear_memory { result.clear.memory ≡ (self.clear.memory && not shut.memory) }
+        ensures same_io { result.same.io ≡ (self.same.io && same.io) }
+        ensures same_memory { result.same.memory ≡ (self.same.memory && same.memory) }
+        ensures same_prefetchable { result.same.prefetchable ≡ (self.same.prefetchable && same.prefetchable) }
     {
         Way {
-            io: self.io && Space::Io.is_on(command),
-            memory: self.memory && Space::Mem.is_on(command),
-            clear: self.clear && !shut,
+            on: BySpace {
+                io: self.on.io && Space::Io.is_on(command),
+                memory: self.on.memory && Space::Mem.is_on(command),
+            },
+            clear: BySpace {
+                io: self.clear.io && !shut.io,
+                memory: self.clear.memory && !shut.memory,
+            },
+            same: ByClass {
+                io: self.same.io && same.io,
+                memory: self.same.memory && same.memory,
+                prefetchable: self.same.prefetchable && same.prefetchable,
+            },
         }
     }
 }

@@ -16,7 +16,7 @@ use pci_settle::own::{Terms, is_left_bar};
 use pci_settled::places::Places;
 
 /// Whether a BAR is of a space.
-fn is_bar_of(space: Space, bar: &Bar) -> bool
+pub fn is_bar_of(space: Space, bar: &Bar) -> bool
     ensures { result ≡ is_bar_in (space_of space) bar.now }
 {
     match space {

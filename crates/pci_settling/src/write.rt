@@ -66,7 +66,7 @@ pub fn write_rom(bytes: &mut [u8; IMAGE_LEN], old: u32, register: u8, place: Ran
 }
 
 /// Writes the registers of a window.
-fn write_bounds(bytes: &mut [u8; IMAGE_LEN], class: WindowKind, bounds: Bounds)
+pub fn write_bounds(bytes: &mut [u8; IMAGE_LEN], class: WindowKind, bounds: Bounds)
     ensures { bytes.new ≡ with_bounds (kind_value class) (spec_bounds_of bounds) bytes.old }
 {
     match class {

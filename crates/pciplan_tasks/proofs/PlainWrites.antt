@@ -1,5 +1,5 @@
--- The writes of a plan are of two or of four bytes.
-use Rattle.std.proofs.Common.{◌≡◌, ℕ, zero, suc, List, [], ◌∷◌, ◌++◌, Bool, true, false, ◌||◌, refl, ◌∙◌, ap, arith, map, IsTrue}
+-- The writes of a plan are of two or of four bytes, and so are the registers of a settling.
+use Rattle.std.proofs.Common.{◌≡◌, ℕ, zero, suc, List, [], ◌∷◌, ◌++◌, Bool, true, false, cond, ◌||◌, refl, ◌∙◌, ap, arith, map, IsTrue}
 use Rattle.std.specs.Bool.{◌==◌, if◌then◌else◌}
 use Rattle.std.specs.List.{All, list_all, flat_map}
 use Rattle.std.proofs.lemmas.Bool.{and_parts, and_from}
@@ -41,6 +41,20 @@ pub plain_by : (bridge : Bool) → list_all is_plain_register (registers_by brid
 unfolding is_plain_register
 plain_by true = refl
 plain_by false = refl
+
+-- the registers that settling closes and sets, where `limit_first` says which of two comes first
+pub plain_closing_by : (bridge : Bool) → list_all is_plain_register ((0x04, 2) ∷ (cond {A = List (ℕ × ℕ)} bridge ((0x1c, 2) ∷ (0x30, 4) ∷ (0x20, 4) ∷ (0x24, 4) ∷ (0x2c, 4) ∷ []) [])) ≡ true
+unfolding is_plain_register
+plain_closing_by true = refl
+plain_closing_by false = refl
+
+pub plain_setting_by : (bridge limit_first : Bool) → list_all is_plain_register (cond {A = List (ℕ × ℕ)} bridge
+    ((0x10, 4) ∷ (0x14, 4) ∷ (0x30, 4) ∷ (0x1c, 2) ∷ (0x20, 4) ∷ (cond {A = List (ℕ × ℕ)} limit_first ((0x2c, 4) ∷ (0x28, 4) ∷ []) ((0x28, 4) ∷ (0x2c, 4) ∷ []) ++ ((0x24, 4) ∷ (0x38, 4) ∷ [])))
+    (registers_by bridge)) ≡ true
+unfolding is_plain_register
+plain_setting_by true true = refl
+plain_setting_by true false = refl
+plain_setting_by false limit_first = refl
 
 pub plain_register : (c : Change) (rs : List (ℕ × ℕ)) → list_all is_plain_register rs ≡ true → list_all is_plain_value (flat_map (register_write c) rs) ≡ true
 unfolding is_plain_register

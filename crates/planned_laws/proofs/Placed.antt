@@ -20,9 +20,9 @@ use Rattle.plan_spec.proofs.Planning.Safe.{order_of}
 use Rattle.settle_spec.specs.Parts.{lies_within, holds_range, bridge_over, is_in_memory, is_in_prefetch, are_same_space}
 use Rattle.settle_spec.proofs.BridgeOver.{over_is}
 use Rattle.settle_spec.proofs.Nested.{is_no_root, one_bridge}
-use Rattle.settle_laws.proofs.Held.{none_by}
 use Rattle.settle_laws.proofs.InLists.{within_from}
 use Rattle.settle_laws.proofs.PartClasses.{by_tests, by_windows}
+use Rattle.settle_laws.proofs.NonePasses.{none_by}
 
 not_both : Io ≡ Memory → ⊥
 not_both e = both_ways (are_same_space Io Memory) refl (sym (ap (λ s. are_same_space Io s) e))

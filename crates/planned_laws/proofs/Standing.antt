@@ -25,12 +25,12 @@ use Rattle.settle_spec.specs.Parts.{FunctionPart, system_parts, header_bars, hea
 use Rattle.settle_spec.specs.Stands.{rank, window_part, part_space, are_beside, is_in_lists, is_in_window, is_in_place, is_listed, stands}
 use Rattle.settle_laws.proofs.AllInPlace.{all_in_place, apart_from, beside_of, looked, looked_at, two_of}
 use Rattle.settle_laws.proofs.HeaderParts.{part_cases}
-use Rattle.settle_laws.proofs.Held.{none_by}
 use Rattle.settle_laws.proofs.InLists.{listed_in, within_from, within_gives}
 use Rattle.settle_laws.proofs.Kept.{off_roots, one_space}
 use Rattle.settle_laws.proofs.PartClasses.{by_tests, by_windows}
 use Rattle.planned_laws.specs.SettledPlans.{HasPools}
 use Rattle.planned_laws.proofs.Placed.{beside_apart, classes_agree, in_memory, in_prefetch, not_in_memory, open_above, over, space_by_class}
+use Rattle.settle_laws.proofs.NonePasses.{none_by}
 
 inside_through : (r w v : Range) → IsInside r w → IsInside w v → IsInside r v
 inside_through r w v (from, to) (first, last) = (omega (arith, from, first), omega (arith, to, last))

@@ -24,7 +24,6 @@ use Rattle.settle_spec.specs.Registers.{has_own}
 use Rattle.settle_spec.proofs.Nested.{at_secondary}
 use Rattle.stand_laws.proofs.Apart.{apart_where_beside, in_window_over}
 use Rattle.stand_laws.proofs.Standing.{stands_by_itself}
-use Rattle.settle_laws.proofs.After.{none_passes}
 use Rattle.settle_laws.proofs.AllInPlace.{looked, two_ranks}
 use Rattle.settle_laws.proofs.HeaderParts.{header_of}
 use Rattle.settle_laws.proofs.Held.{above_above, and_second_false, claim_on, own_by, same_itself}
@@ -34,6 +33,7 @@ use Rattle.settle_laws.proofs.PartClasses.{prefetch_of_class, space_of_class}
 use Rattle.settle_laws.proofs.SettledSound.{passed_by}
 use Rattle.planned_laws.specs.Switching.{IsStandingSystem, IsUncut}
 use Rattle.planned_laws.proofs.ClaimedParts.{claimed, claimed_part, in_range}
+use Rattle.settle_laws.proofs.NonePasses.{none_passes}
 
 -- a window of this class passes what may use it
 passes_by : (c : WindowKind) (space : Space) (prefetchable : Bool) (a : ℕ) (b : Function) → window_space c ≡ space → (c ≡ PrefetchWindow → prefetchable ≡ true) → window_claims b c a ≡ true → passes space prefetchable a b ≡ true

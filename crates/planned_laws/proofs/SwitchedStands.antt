@@ -30,12 +30,12 @@ use Rattle.settle_laws.proofs.AllInPlace.{all_in_place, looked, looked_at}
 use Rattle.settle_laws.proofs.AllStand.{all_stay}
 use Rattle.settle_laws.proofs.Alike.{IsAlike, all_above, any_above, bus_alike, header_alike, of_bridges, part_alike, rank_alike, space_alike}
 use Rattle.settle_laws.proofs.HeaderParts.{window_of}
-use Rattle.settle_laws.proofs.Held.{none_by}
 use Rattle.settle_laws.proofs.Kept.{above_stays, in_regions, off_roots, one_space, stays_part}
 use Rattle.settle_laws.proofs.PartClasses.{by_tests, by_windows, space_of_class}
 use Rattle.settle_laws.proofs.Zipped.{BothOrNone, find_zip}
 use Rattle.planned_laws.specs.Switching.{EnabledIsUncut, IsStandingSystem, IsSwitched, SwitchedStands}
 use Rattle.planned_laws.proofs.Switched.{open_same, range_same, switched_alike, switched_moves}
+use Rattle.settle_laws.proofs.NonePasses.{none_by}
 
 module _ (q : Request) (s t : System) (pairs : AllZip IsSwitched s t) where
   alikes : AllZip IsAlike s t

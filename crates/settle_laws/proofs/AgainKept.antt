@@ -27,12 +27,12 @@ use Rattle.settle_laws.proofs.Alike.{any_above, rank_alike, space_alike}
 use Rattle.settle_laws.proofs.AllInPlace.{all_in_place, apart_from, beside_of, looked_at, two_of}
 use Rattle.settle_laws.proofs.Claimed.{HasEnd, bridge_stays, ends_open, part_shown}
 use Rattle.settle_laws.proofs.Fits.{was}
-use Rattle.settle_laws.proofs.Held.{none_by}
 use Rattle.settle_laws.proofs.InLists.{on_root, within_from, within_gives}
 use Rattle.settle_laws.proofs.InWindows.{IsInWindow, in_window, are_apart as ends_apart}
 use Rattle.settle_laws.proofs.Kept.{off_roots, one_space}
 use Rattle.settle_laws.proofs.Moves.{moves, new_nested, new_system}
 use Rattle.settle_laws.proofs.PartClasses.{by_tests, by_windows, prefetchable_space, prefetch_windows}
+use Rattle.settle_laws.proofs.NonePasses.{none_by}
 
 -- what the windows over a part have to be for its class to be the one that it had
 record AreWindowsOf (class : WindowKind) (memory prefetch : Bool) : Type 0 where

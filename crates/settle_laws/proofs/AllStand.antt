@@ -24,11 +24,11 @@ use Rattle.stand_laws.specs.Holding.{TellsRoom}
 use Rattle.stand_laws.proofs.Holding.{holds_alone, stays_on_root, stays_by_bus}
 use Rattle.stand_laws.proofs.Standing.{part_of}
 use Rattle.settle_laws.proofs.HeaderParts.{header_of}
-use Rattle.settle_laws.proofs.Held.{none_by}
 use Rattle.settle_laws.proofs.ItemForms.{IsItemOf, IsPlaceable, IsOwnPart, IsNewWindow, items_are, item_moves}
 use Rattle.settle_laws.proofs.Kept.{in_regions, window_listed, within_over}
 use Rattle.settle_laws.proofs.PartPlaces.{IsBehindOf, behind_of}
 use Rattle.settle_laws.proofs.Shown.{IsChanging, changing_is, fold_keeps}
+use Rattle.settle_laws.proofs.NonePasses.{none_by}
 
 none_in : (xs : List Item) → ((i : Item) → Contains xs i → ⊥) → xs ≡ []
 none_in [] none = refl

@@ -126,7 +126,7 @@ module _ (q : Request) (s : System) (can : CanSettle q s) where
       window_by f listed kind a bridge (held kind (settled_function q s f).image f.probe a h).there h (end_range q s (window_part kind f)) refl
 
   -- an I/O BAR that is left is off
-  unleft_bar : (f : Function) (listed : Contains s f) (n : ℕ) → n < bar_count (layout f.image) → has_bar f.probe n ≡ true → is_space_on (settled_function q s f) (space_of f (Bar n)) ≡ true → is_left q s f (Bar n) ≡ false
+  pub unleft_bar : (f : Function) (listed : Contains s f) (n : ℕ) → n < bar_count (layout f.image) → has_bar f.probe n ≡ true → is_space_on (settled_function q s f) (space_of f (Bar n)) ≡ true → is_left q s f (Bar n) ≡ false
   unleft_bar f listed n inside there on = elim (cases_Bool (is_left q s f (Bar n))) [
     | inr fine ↦ fine
     | inl left ↦

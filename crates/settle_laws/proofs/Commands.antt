@@ -7,19 +7,13 @@ use Rattle.pci_spec.specs.Number.{has_bit, IsImage}
 use Rattle.pci_spec.specs.Header.{command}
 use Rattle.pci_spec.specs.System.{System, Function, Space, Io, Memory, is_bridge, is_space_on}
 use Rattle.pci_spec.specs.Bus.{secondary}
-use Rattle.pci_spec.specs.Machine.{without_low}
 use Rattle.pci_spec.proofs.Bits.{digit, digit_of_bit}
-use Rattle.plan_spec.specs.Planning.PlanWrites.{closed_command}
 use Rattle.plan_spec.proofs.Planning.CommandFits.{command_by, command_small, enables_io, enables_memory}
 use Rattle.settle_spec.specs.Lists.{Request}
 use Rattle.settle_spec.specs.Parts.{has_left, are_same_space}
 use Rattle.settle_spec.specs.Registers.{settled_image, settled_function, settled_command, got_place, is_enabled_in, is_live_within}
-use Rattle.settle_spec.specs.Writes.{is_shut, closing_command}
+use Rattle.settle_spec.specs.Writes.{is_shut, is_left_on, closing_command}
 use Rattle.settle_laws.proofs.Numbers.{command_with}
-
--- whether a function still enables a space once the closing writes are made
-abbrev pub is_left_on : Request → System → Space → Function → Bool
-is_left_on q s space f = not (is_shut q s f) && (not (are_same_space space Io && has_left q s f) && is_space_on f space)
 
 first_digit : (b : Bool) → (if b then 1 else 0) ≡ digit b
 first_digit true = refl
@@ -38,29 +32,9 @@ as_it_is n =
     let d : digit (has_bit n 1) ≡ n / 2 % 2 = digit_of_bit n 1 in
     omega (arith, a, b, c, d)
 
-without_first : (n : ℕ) → n - n % 2 ≡ command_by n false (has_bit n 1)
-without_first n =
-    let b = second_digit (has_bit n 1) in
-    let d : digit (has_bit n 1) ≡ n / 2 % 2 = digit_of_bit n 1 in
-    omega (arith, b, d)
-
-without_both : (n : ℕ) → without_low 4 n ≡ command_by n false false
-without_both n = omega arith
-
 module _ (q : Request) (s : System) (f : Function) where
-  abbrev by_tests : Bool → Bool → ℕ
-  by_tests shut left = if shut then closed_command f else if left then command f.image - command f.image % 2 else command f.image
-
-  abbrev by_bits : Bool → Bool → ℕ
-  by_bits shut left = command_by (command f.image) (not shut && (not (true && left) && is_space_on f Io)) (not shut && (not (false && left) && is_space_on f Memory))
-
-  by_both : (shut left : Bool) → by_tests shut left ≡ by_bits shut left
-  by_both true left = without_both (command f.image)
-  by_both false true = without_first (command f.image)
-  by_both false false = as_it_is (command f.image)
-
   pub closing_is : closing_command q s f ≡ command_by (command f.image) (is_left_on q s Io f) (is_left_on q s Memory f)
-  closing_is = by_both (is_shut q s f) (has_left q s f)
+  closing_is = refl
 
   -- what Command enables once it is closed
   pub on_closed : (g : Function) → command g.image ≡ closing_command q s f → (space : Space) → is_space_on g space ≡ is_left_on q s space f
@@ -77,19 +51,19 @@ module _ (q : Request) (s : System) (f : Function) where
 
   -- the parts of what is left on
   pub record IsLeftOn (space : Space) : Type 0 where
-    pub unshut : is_shut q s f ≡ false
+    pub unshut : is_shut q s space f ≡ false
     pub unleft : not (are_same_space space Io && has_left q s f) ≡ true
     pub was : is_space_on f space ≡ true
 
   pub left_parts : (space : Space) → is_left_on q s space f ≡ true → IsLeftOn space
   left_parts space h =
-      let outer = and_parts (not (is_shut q s f)) (not (are_same_space space Io && has_left q s f) && is_space_on f space) h in
+      let outer = and_parts (not (is_shut q s space f)) (not (are_same_space space Io && has_left q s f) && is_space_on f space) h in
       let inner = and_parts (not (are_same_space space Io && has_left q s f)) (is_space_on f space) outer.1 in
-      record { unshut = not-true (is_shut q s f) outer.0; unleft = inner.0; was = inner.1 }
+      record { unshut = not-true (is_shut q s space f) outer.0; unleft = inner.0; was = inner.1 }
 
   pub left_by : (space : Space) → IsLeftOn space → is_left_on q s space f ≡ true
   left_by space is =
-      and_from (not (is_shut q s f)) (not (are_same_space space Io && has_left q s f) && is_space_on f space) (ap not is.unshut)
+      and_from (not (is_shut q s space f)) (not (are_same_space space Io && has_left q s f) && is_space_on f space) (ap not is.unshut)
       (and_from (not (are_same_space space Io && has_left q s f)) (is_space_on f space) is.unleft is.was)
 
   -- what is left on is on in the settled system

@@ -1,32 +1,25 @@
--- How many writes of settling are made to one slot, and which are made to what isn't shut.
-use Rattle.std.proofs.Common.{◌≡◌, ℕ, ◌+◌, ◌≤◌, inl, inr, List, [], ◌∷◌, ◌++◌, refl, Bool, true, false, cond, ◌&&◌, not, arith, sym, ◌∙◌, ap, subst, length, ◌-◌, ◌%◌}
-use Rattle.std.specs.Bool.{◌==◌, if◌then◌else◌}
+-- How many writes of settling are made to one slot.
+use Rattle.std.proofs.Common.{◌≡◌, ℕ, suc, ◌+◌, ◌≤◌, inl, inr, List, [], ◌∷◌, ◌++◌, refl, Bool, true, false, cond, arith, sym, ◌∙◌, ap, length, ◌-◌}
+use Rattle.std.specs.Bool.{◌==◌, if◌then◌else◌, nat_lt}
 use Rattle.std.specs.List.{AllPairs, Contains, count_by, flat_map}
-use Rattle.std.proofs.lemmas.Bool.{and_right, both_ways, eq-eqb, not-false, not_from_false}
+use Rattle.std.proofs.lemmas.Bool.{cases_Bool}
 use Rattle.std.proofs.lemmas.List.{length-append}
-use Rattle.std.proofs.lemmas.List.Elements.{Contains-append_cases}
 use Rattle.std.proofs.lemmas.List.Sums.{sum_by-append, sum_by-cons, count_by-le-length}
 use Rattle.pci_spec.specs.Number.{number_at}
 use Rattle.pci_spec.specs.Slot.{Slot, same_slot, slot_number}
-use Rattle.pci_spec.specs.Header.{command, layout, address_registers, registers_by}
-use Rattle.pci_spec.specs.System.{System, Function, IsSystem, Space, Io, is_bridge, is_space_on}
+use Rattle.pci_spec.specs.Header.{layout, registers_by}
+use Rattle.pci_spec.specs.System.{System, Function, IsSystem, is_bridge}
 use Rattle.pci_spec.specs.Machine.{Write}
-use Rattle.pci_spec.proofs.Members.{in_nil, in_cons_cases, in_head, in_tail, pairs_head, pairs_tail, IsInPiece, in_flat_map_to, IsMade, in_map_to}
-use Rattle.pci_spec.proofs.Nesting.{one_function}
-use Rattle.plan_spec.specs.Planning.Building.{command_write}
-use Rattle.plan_spec.specs.Planning.PlanWrites.{Change, closed_command, register_write, registers_of, register_writes, most_writes}
-use Rattle.plan_spec.proofs.Planning.Kept.{images_of}
-use Rattle.plan_spec.proofs.Planning.Staging.{IsRegisterOf, register_to}
+use Rattle.pci_spec.proofs.Members.{in_nil, in_cons_cases, in_head, in_tail, pairs_head, pairs_tail, IsInPiece, in_flat_map_to}
+use Rattle.plan_spec.specs.Planning.PlanWrites.{Change, register_write}
 use Rattle.plan_spec.proofs.Planning.Writes.{other_number}
+use Rattle.pci_spec.specs.Registers.{COMMAND}
 use Rattle.settle_spec.specs.Lists.{Request}
-use Rattle.settle_spec.specs.Parts.{has_left, are_same_space}
-use Rattle.settle_spec.specs.Registers.{settled_function, settled_command}
-use Rattle.settle_spec.specs.Writes.{change_of, is_changed, is_shut, closing_command, command_from, closing_from, opening_from, closings, settle_writes}
-use Rattle.settle_laws.proofs.After.{none_passes}
-use Rattle.settle_laws.proofs.Commands.{left_by, left_is_enabled, on_settled, settled_is}
-use Rattle.settle_laws.proofs.Held.{unshut_parts}
-use Rattle.settle_laws.proofs.Pieces.{IsCommandOf, Lower, in_command, now, closed, wanted, openings, changes_in, closing_to, opening_to, system_rises, writes_same}
-use Rattle.settle_laws.proofs.Shown.{settled_image_is}
+use Rattle.settle_spec.specs.Registers.{settled_function}
+use Rattle.settle_spec.specs.Writes.{upper_halves, closing_registers, setting_registers, closed_function, closing_of, setting_of, closing_from, setting_from, opening_from, closings, settle_writes}
+use Rattle.settle_laws.specs.WriteLaws.{most_settle_writes}
+use Rattle.settle_laws.proofs.ClosedSame.{closed_layout}
+use Rattle.settle_laws.proofs.Pieces.{Lower, in_command, system_rises}
 
 abbrev count : Slot → List Write → ℕ
 count slot ws = count_by (λ w. same_slot w.slot slot) ws
@@ -75,9 +68,6 @@ one false w = omega arith
 in_one : (b : Bool) (w x : Write) → Contains (cond b [] (w ∷ [])) x → x.slot ≡ w.slot
 in_one b w x has = sym (ap (λ (y : Write). y.slot) (in_command b w x has).1)
 
-one_command : (f : Function) (old new : ℕ) → length (command_from f old new) ≤ 1
-one_command f old new = one (new == old) (command_write f new)
-
 few_flat : {X : Type 0} (g : X → List Write) (xs : List X) → ((x : X) → length (g x) ≤ 1) → length (flat_map g xs) ≤ length xs
 few_flat g [] one = omega arith
 few_flat g (x ∷ xs) one =
@@ -86,99 +76,76 @@ few_flat g (x ∷ xs) one =
     let r = few_flat g xs one in
     omega (arith, e, h, r)
 
-registers_count : (bridge : Bool) → length (registers_by bridge) + 2 ≡ (if bridge then 11 else 9)
-registers_count true = refl
-registers_count false = refl
+closing_count : (bridge : Bool) → length {A = ℕ × ℕ} (if bridge then (0x1c, 2) ∷ (0x30, 4) ∷ (0x20, 4) ∷ (0x24, 4) ∷ (0x2c, 4) ∷ [] else []) ≡ (if bridge then 5 else 0)
+closing_count true = refl
+closing_count false = refl
+
+halves_count : (c : Change) → length (upper_halves c) ≡ 2
+halves_count c = elim (cases_Bool (nat_lt (number_at c.new.image 0x28 4) (number_at c.old.image 0x2c 4))) [
+  | inl first ↦ ap (λ t. length {A = ℕ × ℕ} (cond t ((0x2c, 4) ∷ (0x28, 4) ∷ []) ((0x28, 4) ∷ (0x2c, 4) ∷ []))) first
+  | inr later ↦ ap (λ t. length {A = ℕ × ℕ} (cond t ((0x2c, 4) ∷ (0x28, 4) ∷ []) ((0x28, 4) ∷ (0x2c, 4) ∷ []))) later
+]
+
+five_more : (xs : List (ℕ × ℕ)) → length {A = ℕ × ℕ} ((0x10, 4) ∷ (0x14, 4) ∷ (0x30, 4) ∷ (0x1c, 2) ∷ (0x20, 4) ∷ xs) ≡ suc (suc (suc (suc (suc (length xs)))))
+five_more xs = refl
+
+setting_count : (c : Change) → length (setting_registers c) ≡ (if is_bridge c.old then 9 else 7)
+setting_count c =
+    let behind = upper_halves c ++ ((0x24, 4) ∷ (0x38, 4) ∷ []) in
+    let many = length-append (upper_halves c) ((0x24, 4) ∷ (0x38, 4) ∷ []) in
+    let two = halves_count c in
+    let five = five_more behind in
+    let nine : length {A = ℕ × ℕ} ((0x10, 4) ∷ (0x14, 4) ∷ (0x30, 4) ∷ (0x1c, 2) ∷ (0x20, 4) ∷ behind) ≡ 9 = five ∙ ap (λ n. suc (suc (suc (suc (suc n))))) (many ∙ ap (λ n. n + 2) two) in
+    by (is_bridge c.old) nine
+  where
+    by : (bridge : Bool) → length {A = ℕ × ℕ} ((0x10, 4) ∷ (0x14, 4) ∷ (0x30, 4) ∷ (0x1c, 2) ∷ (0x20, 4) ∷ (upper_halves c ++ ((0x24, 4) ∷ (0x38, 4) ∷ []))) ≡ 9
+        → length {A = ℕ × ℕ} (cond bridge ((0x10, 4) ∷ (0x14, 4) ∷ (0x30, 4) ∷ (0x1c, 2) ∷ (0x20, 4) ∷ (upper_halves c ++ ((0x24, 4) ∷ (0x38, 4) ∷ []))) (registers_by bridge)) ≡ (if bridge then 9 else 7)
+    by true nine = nine
+    by false nine = refl
 
 module _ (q : Request) (s : System) (system : IsSystem s) where
-  command_own : (f : Function) (old new : ℕ) (w : Write) → Contains (command_from f old new) w → w.slot ≡ f.slot
-  command_own f old new w has = in_one (new == old) (command_write f new) w has
+  -- a write between two states of a function goes to its slot
+  pub own_write : (c : Change) (r : ℕ × ℕ) (w : Write) → Contains (register_write c r) w → w.slot ≡ c.old.slot
+  own_write c r w has = in_one (number_at c.new.image r.0 r.1 == number_at c.old.image r.0 r.1) record { slot = c.old.slot; offset = r.0; width = r.1; value = number_at c.new.image r.0 r.1 } w has
 
-  register_own : (f : Function) (w : Write) → Contains (registers_of (change_of q s f)) w → w.slot ≡ f.slot
-  register_own f w has =
-      let piece : IsInPiece (register_write (change_of q s f)) (address_registers (layout f.image)) w = in_flat_map_to (register_write (change_of q s f)) (address_registers (layout f.image)) w has in
-      in_one (number_at (settled_function q s f).image piece.of.0 piece.of.1 == number_at f.image piece.of.0 piece.of.1)
-      record { slot = f.slot; offset = piece.of.0; width = piece.of.1; value = number_at (settled_function q s f).image piece.of.0 piece.of.1 } w piece.piece
+  pub own_writes : (c : Change) (registers : List (ℕ × ℕ)) (w : Write) → Contains (flat_map (register_write c) registers) w → w.slot ≡ c.old.slot
+  own_writes c registers w has =
+      let piece : IsInPiece (register_write c) registers w = in_flat_map_to (register_write c) registers w has in
+      own_write c piece.of w piece.piece
 
-  closing_count : (slot : Slot) (t : System) → count slot (closings q s t) ≡ count slot (flat_map (closing_from q s) t)
-  closing_count slot [] = refl
-  closing_count slot (f ∷ t) =
+  few_writes : (c : Change) (registers : List (ℕ × ℕ)) → length (flat_map (register_write c) registers) ≤ length registers
+  few_writes c registers = few_flat (register_write c) registers
+      (λ r. one (number_at c.new.image r.0 r.1 == number_at c.old.image r.0 r.1) record { slot = c.old.slot; offset = r.0; width = r.1; value = number_at c.new.image r.0 r.1 })
+
+  closings_as_flat : (slot : Slot) (t : System) → count slot (closings q s t) ≡ count slot (flat_map (closing_from q s) t)
+  closings_as_flat slot [] = refl
+  closings_as_flat slot (f ∷ t) =
       let a = count_both slot (closings q s t) (closing_from q s f) in
       let b = count_both slot (closing_from q s f) (flat_map (closing_from q s) t) in
-      let rest = closing_count slot t in
+      let rest = closings_as_flat slot t in
       omega (arith, a, b, rest)
 
-  -- The law: to a slot no more writes are made than there are registers, and two to Command.
-  pub few_each : (f : Function) → Contains s f → count_by (λ w. same_slot w.slot f.slot) (settle_writes q s) ≤ most_writes (change_of q s f)
+  most_is : (bridge : Bool) → (1 + (if bridge then 5 else 0)) + ((if bridge then 9 else 7) + 1) ≡ (if bridge then 16 else 9)
+  most_is true = refl
+  most_is false = refl
+
+  -- The law: to a slot no more writes are made than there are registers to close and to set, and one that opens.
+  pub few_each : (f : Function) → Contains s f → count_by (λ w. same_slot w.slot f.slot) (settle_writes q s) ≤ most_settle_writes f
   few_each f listed =
       let rise = system_rises s system in
-      let registers = flat_map (λ g. registers_of (change_of q s g)) s in
-      let all = count_both f.slot (closings q s s) (registers ++ flat_map (opening_from q s) s) in
-      let later = count_both f.slot registers (flat_map (opening_from q s) s) in
-      let first = closing_count f.slot s in
-      let a = count_flat (closing_from q s) (λ g w has. command_own g (command g.image) (closing_command q s g) w has) s rise f listed in
-      let b = count_flat (λ g. registers_of (change_of q s g)) register_own s rise f listed in
-      let c = count_flat (opening_from q s) (λ g w has. command_own g (closing_command q s g) (command (settled_function q s g).image) w has) s rise f listed in
-      let one_closing = one_command f (command f.image) (closing_command q s f) in
-      let one_opening = one_command f (closing_command q s f) (command (settled_function q s f).image) in
-      let few = few_flat (register_write (change_of q s f)) (address_registers (layout f.image))
-      (λ r. one (number_at (settled_function q s f).image r.0 r.1 == number_at f.image r.0 r.1) record { slot = f.slot; offset = r.0; width = r.1; value = number_at (settled_function q s f).image r.0 r.1 }) in
-      let most = registers_count (is_bridge f) in
-      omega (arith, all, later, first, a, b, c, one_closing, one_opening, few, most)
-
-  -- an unchanged function's registers show their settled numbers
-  pub number_same : (f : Function) → is_changed q s f ≡ false → (r : ℕ × ℕ) → Contains (address_registers (layout f.image)) r → (number_at (settled_function q s f).image r.0 r.1 == number_at f.image r.0 r.1) ≡ true
-  number_same f unchanged r register =
-      not-false (number_at (settled_function q s f).image r.0 r.1 == number_at f.image r.0 r.1)
-      (none_passes (λ (r : ℕ × ℕ). not (number_at (settled_function q s f).image r.0 r.1 == number_at f.image r.0 r.1)) (address_registers (layout f.image)) unchanged r register)
-
-  -- ---- what isn't shut
-
-  module _ (f : Function) (listed : Contains s f) (unshut : is_shut q s f ≡ false) (unleft : has_left q s f ≡ false) where
-    stays_closed : closing_command q s f ≡ command f.image
-    stays_closed = ap (λ t. if t then closed_command f else if has_left q s f then command f.image - command f.image % 2 else command f.image) unshut
-        ∙ ap (λ t. if t then command f.image - command f.image % 2 else command f.image) unleft
-
-    at_slot : (g : Function) → Contains s g → g.slot ≡ f.slot → g ≡ f
-    at_slot g in_g same = one_function s system g f in_g listed (ap slot_number same)
-
-    no_closing : (w : Write) → Contains (closings q s s) w → w.slot ≡ f.slot → ⊥
-    no_closing w has same =
-        let k : IsCommandOf (now q s) (closed q s) s w = closing_to q s s w has in
-        let is = at_slot k.f k.listed (ap (λ (x : Write). x.slot) k.is ∙ same) in
-        both_ways (closed q s k.f == now q s k.f) k.differs (subst (λ g. (closed q s g == now q s g) ≡ true) (sym is) (eq-eqb (closing_command q s f) (command f.image) stays_closed))
-
-    no_register : (w : Write) → Contains (register_writes (changes_in q s s)) w → w.slot ≡ f.slot → ⊥
-    no_register w has same =
-        let k : IsRegisterOf (changes_in q s s) w = register_to (changes_in q s s) w has in
-        let made : IsMade (change_of q s) s k.c = in_map_to (change_of q s) s k.c k.listed in
-        let is = at_slot made.from made.has (ap (λ (c : Change). c.old.slot) made.is ∙ ap (λ (x : Write). x.slot) k.is ∙ same) in
-        let change : change_of q s f ≡ k.c = ap (change_of q s) (sym is) ∙ made.is in
-        let register : Contains (address_registers (layout f.image)) k.r = subst (λ (c : Change). Contains (address_registers (layout c.old.image)) k.r) (sym change) k.register in
-        let differs : (number_at (settled_function q s f).image k.r.0 k.r.1 == number_at f.image k.r.0 k.r.1) ≡ false = subst (λ (c : Change). (number_at c.new.image k.r.0 k.r.1 == number_at c.old.image k.r.0 k.r.1) ≡ false) (sym change) k.differs in
-        both_ways (number_at (settled_function q s f).image k.r.0 k.r.1 == number_at f.image k.r.0 k.r.1) differs (number_same f (unshut_parts q s f unshut).unchanged k.r register)
-
-    command_settled : command (settled_function q s f).image ≡ settled_command q s f
-    command_settled = settled_is q s f (images_of s system f listed) (settled_image_is q s f (images_of s system f listed))
-
-    -- The law: it is only switched on.
-    pub only_opened : (w : Write) → Contains (settle_writes q s) w → w.slot ≡ f.slot → w ≡ command_write f (settled_command q s f)
-    only_opened w has same = elim (Contains-append_cases (closings q s s) (register_writes (changes_in q s s) ++ openings q s s) w (subst (λ ws. Contains ws w) (writes_same q s) has)) [
-      | inl closing ↦ absurd (no_closing w closing same)
-      | inr later ↦ elim (Contains-append_cases (register_writes (changes_in q s s)) (openings q s s) w later) [
-        | inl register ↦ absurd (no_register w register same)
-        | inr opening ↦
-            let k : IsCommandOf (closed q s) (wanted q s) s w = opening_to q s s w opening in
-            let is = at_slot k.f k.listed (ap (λ (x : Write). x.slot) k.is ∙ same) in
-            sym k.is ∙ ap (λ g. command_write g (wanted q s g)) is ∙ ap (command_write f) command_settled
-      ]
-    ]
-
-    pub stays_on : (space : Space) → is_space_on f space ≡ true → is_space_on (settled_function q s f) space ≡ true
-    stays_on space on =
-        on_settled q s f (settled_function q s f) command_settled space
-        ∙ left_is_enabled q s f space (left_by q s f space record {
-          unshut = unshut;
-          unleft = not_from_false (are_same_space space Io && has_left q s f) (and_right (are_same_space space Io) (has_left q s f) unleft);
-          was = on;
-        })
+      let settings = flat_map (setting_from q s) s in
+      let all = count_both f.slot (closings q s s) (settings ++ flat_map (opening_from q s) s) in
+      let later = count_both f.slot settings (flat_map (opening_from q s) s) in
+      let first = closings_as_flat f.slot s in
+      let a = count_flat (closing_from q s) (λ g w has. own_writes (closing_of q s g) (closing_registers g) w has) s rise f listed in
+      let b = count_flat (setting_from q s) (λ g w has. own_writes (setting_of q s g) (setting_registers (setting_of q s g)) w has) s rise f listed in
+      let c = count_flat (opening_from q s) (λ g w has. own_write (setting_of q s g) (COMMAND, 2) w has) s rise f listed in
+      let few_closed = few_writes (closing_of q s f) (closing_registers f) in
+      let few_set = few_writes (setting_of q s f) (setting_registers (setting_of q s f)) in
+      let few_opened = one (number_at (settled_function q s f).image 4 2 == number_at (closed_function q s f).image 4 2) record { slot = f.slot; offset = 4; width = 2; value = number_at (settled_function q s f).image 4 2 } in
+      let of_closing = closing_count (is_bridge f) in
+      let of_setting = setting_count (setting_of q s f) in
+      let kind : is_bridge (closed_function q s f) ≡ is_bridge f = ap (λ n. n == 1) (closed_layout q s f) in
+      let of_kind : ◌≡◌ {A = ℕ} (cond (is_bridge (closed_function q s f)) 9 7) (cond (is_bridge f) 9 7) = ap (λ t. cond t 9 7) kind in
+      let most = most_is (is_bridge f) in
+      omega (arith, all, later, first, a, b, c, few_closed, few_set, few_opened, of_closing, of_setting, of_kind, most)

@@ -29,16 +29,16 @@ use Rattle.settle_spec.proofs.LaidOut.{laid_keeps, end_behind}
 use Rattle.settle_spec.proofs.NewWindows.{window_is_around}
 use Rattle.settle_laws.specs.PlacesLaws.{CanSettle}
 use Rattle.settle_laws.specs.WriteLaws.{AreLists}
-use Rattle.settle_laws.proofs.After.{none_passes}
 use Rattle.settle_laws.proofs.BusPlaced.{page_some}
 use Rattle.settle_laws.proofs.HeaderParts.{is_part_of, part_cases}
-use Rattle.settle_laws.proofs.Held.{and_second_false, none_by}
+use Rattle.settle_laws.proofs.Held.{and_second_false}
 use Rattle.settle_laws.proofs.ItemForms.{IsPlaceable, IsOwnPart, IsNewWindow, extent_by, new_window_power}
 use Rattle.settle_laws.proofs.NewPlaces.{new_place_is as place_is}
 use Rattle.settle_laws.proofs.PartClasses.{io_of_class, prefetch_windows}
 use Rattle.settle_laws.proofs.PartPlaces.{new_place_is, IsBehindOf, behind_of}
 use Rattle.settle_laws.proofs.PlacesFit.{bar_fine, rom_fine, open_fit, closed_fit}
 use Rattle.settle_laws.proofs.Powers.{multiple_below}
+use Rattle.settle_laws.proofs.NonePasses.{none_by, none_passes}
 
 module _ (q : Request) (s : System) (can : CanSettle q s) where
   far : end_above 0xffff_ffff_ffff_ffff q.lists.prefetch ≡ false

@@ -22,16 +22,10 @@ use Rattle.settle_spec.specs.Lists.{Request}
 use Rattle.settle_spec.specs.Parts.{FunctionPart, is_empty, is_left, is_part, header_bars, header_parts, has_left, are_same_space}
 use Rattle.settle_spec.specs.Stands.{part_space}
 use Rattle.settle_spec.specs.Registers.{has_own}
-use Rattle.settle_spec.specs.Writes.{is_changed, is_cut_off_in, is_shut_itself, is_shut}
+use Rattle.settle_spec.specs.Writes.{has_moving, is_cut_off_in, is_shut_itself, is_shut, is_left_on}
 use Rattle.settle_spec.proofs.Nested.{behind_outer}
-use Rattle.settle_laws.proofs.After.{none_passes}
-use Rattle.settle_laws.proofs.Commands.{is_left_on, IsLeftOn, left_parts, left_by}
-
-pub none_by : {X : Type 0} (test : X → Bool) (xs : List X) → ((x : X) → Contains xs x → test x ≡ false) → list_any test xs ≡ false
-none_by test xs each = elim (cases_Bool (list_any test xs)) [
-  | inr none ↦ none
-  | inl some ↦ absurd (let found : Passes test xs = any_gives test xs some in both_ways (test found.x) (each found.x found.listed) found.is)
-]
+use Rattle.settle_laws.proofs.Commands.{IsLeftOn, left_parts, left_by}
+use Rattle.settle_laws.proofs.NonePasses.{none_by, none_passes}
 
 pub and_second_false : (x y : Bool) → x ≡ true → (x && y) ≡ false → y ≡ false
 and_second_false x y is none = elim (and_cases x y none) [ inl other ↦ absurd (both_ways x other is) | inr second ↦ second ]
@@ -53,6 +47,16 @@ claim_on f (Bar n) space a c = subst (λ x. is_space_on f x ≡ true) c.maps c.e
 claim_on f Rom space a c = subst (λ x. is_space_on f x ≡ true) c.maps (and_parts (is_space_on f Memory) (rom_is_on f.image) c.enabled).0
 claim_on f (Window kind) space a c = subst (λ x. is_space_on f x ≡ true) c.maps c.enabled
 
+-- a BAR that claims an address is implemented
+pub claimed_bar : (f : Function) (n : ℕ) (space : Space) (a : ℕ) → Claims f (Bar n) space a → has_bar f.probe n ≡ true
+claimed_bar f n space a c =
+    let starts = c.decodes.0 in
+    let answers = c.decodes.1 in
+    let k = answers.0 in
+    let P : ℕ → Type 0 = λ m. is_lawful (bar_kind m) (if is_wide m then m + 2 ^ 32 * bar_at f.probe (n + 1) else m) k ≡ true in
+    and_from (starts_bar f.probe n) (not (bar_at f.probe n == 0)) starts
+    (not_from_false (bar_at f.probe n == 0) (false_from_ne_true (bar_at f.probe n == 0) (λ none. not_lawful (bar_kind 0) k (subst P (eqb-true (bar_at f.probe n) 0 none) answers.1))))
+
 -- a bridge above a bus has a lower slot than what is on the bus
 pub above_is_lower : (roots : List ℕ) (s : System) → IsSystem s → IsNested roots s → (f b : Function) → Contains s f → Contains (bridges_above s f.slot.bus) b → slot_number b.slot < slot_number f.slot
 above_is_lower roots s system nested f b listed above =
@@ -63,19 +67,17 @@ above_is_lower roots s system nested f b listed above =
     lower_bus f b (slots_of s system b (in_b.0, in_b.1, in_b.2)) (omega (arith, up, low))
 
 module _ (q : Request) (s : System) where
-  -- what a function that isn't shut isn't
-  pub record IsUnshut (f : Function) : Type 0 where
-    pub unchanged : is_changed q s f ≡ false
-    pub io : is_cut_off_in q s f Io ≡ false
-    pub memory : is_cut_off_in q s f Memory ≡ false
-    pub above : list_any (is_shut_itself q s) (bridges_above s f.slot.bus) ≡ false
+  -- what a function that isn't shut in a space isn't
+  pub record IsUnshut (space : Space) (f : Function) : Type 0 where
+    pub resting : has_moving q s space f ≡ false
+    pub reached : is_cut_off_in q s f space ≡ false
+    pub above : list_any (is_shut_itself q s space) (bridges_above s f.slot.bus) ≡ false
 
-  pub unshut_parts : (f : Function) → is_shut q s f ≡ false → IsUnshut f
-  unshut_parts f unshut =
-      let outer = or_parts (is_shut_itself q s f) (list_any (is_shut_itself q s) (bridges_above s f.slot.bus)) unshut in
-      let itself = or_parts (is_changed q s f || is_cut_off_in q s f Io) (is_cut_off_in q s f Memory) outer.0 in
-      let inner = or_parts (is_changed q s f) (is_cut_off_in q s f Io) itself.0 in
-      record { unchanged = inner.0; io = inner.1; memory = itself.1; above = outer.1 }
+  pub unshut_parts : (space : Space) (f : Function) → is_shut q s space f ≡ false → IsUnshut space f
+  unshut_parts space f unshut =
+      let outer = or_parts (is_shut_itself q s space f) (list_any (is_shut_itself q s space) (bridges_above s f.slot.bus)) unshut in
+      let itself = or_parts (has_moving q s space f) (is_cut_off_in q s f space) outer.0 in
+      record { resting = itself.0; reached = itself.1; above = outer.1 }
 
 module _ (q : Request) (s : System) (system : IsSystem s) (nested : IsNested q.roots s) where
   -- what is above a bridge above a bus is above the bus
@@ -90,22 +92,18 @@ module _ (q : Request) (s : System) (system : IsSystem s) (nested : IsNested q.r
       }
 
   -- a bridge above what isn't shut isn't either
-  pub unshut_above : (f b : Function) → is_shut q s f ≡ false → Contains (bridges_above s f.slot.bus) b → is_shut q s b ≡ false
-  unshut_above f b unshut above =
-      let none = (unshut_parts q s f unshut).above in
-      or_from (is_shut_itself q s b) (list_any (is_shut_itself q s) (bridges_above s b.slot.bus))
-      (none_passes (is_shut_itself q s) (bridges_above s f.slot.bus) none b above)
-      (none_by (is_shut_itself q s) (bridges_above s b.slot.bus) (λ d in_d. none_passes (is_shut_itself q s) (bridges_above s f.slot.bus) none d (above_above f b d above in_d)))
-
-  not_cut : (f : Function) (space : Space) → is_shut q s f ≡ false → is_cut_off_in q s f space ≡ false
-  not_cut f Io unshut = (unshut_parts q s f unshut).io
-  not_cut f Memory unshut = (unshut_parts q s f unshut).memory
+  pub unshut_above : (space : Space) (f b : Function) → is_shut q s space f ≡ false → Contains (bridges_above s f.slot.bus) b → is_shut q s space b ≡ false
+  unshut_above space f b unshut above =
+      let none = (unshut_parts q s space f unshut).above in
+      or_from (is_shut_itself q s space b) (list_any (is_shut_itself q s space) (bridges_above s b.slot.bus))
+      (none_passes (is_shut_itself q s space) (bridges_above s f.slot.bus) none b above)
+      (none_by (is_shut_itself q s space) (bridges_above s b.slot.bus) (λ d in_d. none_passes (is_shut_itself q s space) (bridges_above s f.slot.bus) none d (above_above f b d above in_d)))
 
   -- bridges above a part that is on and not shut are on
-  on_above : (f b : Function) (space : Space) → is_shut q s f ≡ false → is_space_on f space ≡ true → has_own q s space f ≡ true → Contains (bridges_above s f.slot.bus) b → is_space_on b space ≡ true
+  on_above : (f b : Function) (space : Space) → is_shut q s space f ≡ false → is_space_on f space ≡ true → has_own q s space f ≡ true → Contains (bridges_above s f.slot.bus) b → is_space_on b space ≡ true
   on_above f b space unshut on own above =
       let none = and_second_false (is_space_on f space && has_own q s space f) (list_any (λ b. not (is_space_on b space)) (bridges_above s f.slot.bus))
-      (and_from (is_space_on f space) (has_own q s space f) on own) (not_cut f space unshut) in
+      (and_from (is_space_on f space) (has_own q s space f) on own) (unshut_parts q s space f unshut).reached in
       not-false (is_space_on b space) (none_passes (λ b. not (is_space_on b space)) (bridges_above s f.slot.bus) none b above)
 
   -- ---- a part that claims an address
@@ -128,20 +126,11 @@ module _ (q : Request) (s : System) (system : IsSystem s) (nested : IsNested q.r
     pub bar_listed : (n : ℕ) → n < bar_count (layout f.image) → Contains (header_bars f) (Bar n)
     bar_listed n inside = in_map_from Bar (range_with_len 0 (bar_count (layout f.image))) n (in_range_from 0 (bar_count (layout f.image)) n (omega arith) (omega (arith, inside)))
 
-    claimed_bar : (n : ℕ) (space : Space) (a : ℕ) → Claims f (Bar n) space a → has_bar f.probe n ≡ true
-    claimed_bar n space a c =
-        let starts = c.decodes.0 in
-        let answers = c.decodes.1 in
-        let k = answers.0 in
-        let P : ℕ → Type 0 = λ m. is_lawful (bar_kind m) (if is_wide m then m + 2 ^ 32 * bar_at f.probe (n + 1) else m) k ≡ true in
-        and_from (starts_bar f.probe n) (not (bar_at f.probe n == 0)) starts
-        (not_from_false (bar_at f.probe n == 0) (false_from_ne_true (bar_at f.probe n == 0) (λ none. not_lawful (bar_kind 0) k (subst P (eqb-true (bar_at f.probe n) 0 none) answers.1))))
-
     -- an I/O BAR that is left makes its function one that has such a BAR
     left_of_bar : (n : ℕ) (space : Space) (a : ℕ) → Claims f (Bar n) space a → is_left q s f (Bar n) ≡ true → has_left q s f ≡ true
     left_of_bar n space a c left =
         any_from (λ p. is_implemented f p && is_left q s f p) (header_bars f) (Bar n) (bar_listed n (ltb-true n (bar_count (layout f.image)) c.there))
-        (and_from (is_implemented f (Bar n)) (is_left q s f (Bar n)) (claimed_bar n space a c) left)
+        (and_from (is_implemented f (Bar n)) (is_left q s f (Bar n)) (claimed_bar f n space a c) left)
 
     io_space : (n : ℕ) → is_io (bar_at f.probe n) ≡ true → space_of f (Bar n) ≡ Io
     io_space n io = ap (λ t. if t then Io else Memory) io
@@ -164,10 +153,10 @@ module _ (q : Request) (s : System) (system : IsSystem s) (nested : IsNested q.r
         (in_map_from (λ p. record { function = f; part = p }) (filter (is_part q s f) (header_parts f)) p (in_filter_from (is_part q s f) (header_parts f) p there part))
         (and_from (are_same_space space (space_of f p)) (not (is_window p)) (ap (are_same_space space) at ∙ same_itself space) (ap not plain))
 
-    own : (p : Part) (space : Space) (a : ℕ) → is_window p ≡ false → Claims f p space a → not (are_same_space space Io && has_left q s f) ≡ true → has_own q s space f ≡ true
+    pub own : (p : Part) (space : Space) (a : ℕ) → is_window p ≡ false → Claims f p space a → not (are_same_space space Io && has_left q s f) ≡ true → has_own q s space f ≡ true
     own (Bar n) space a plain c unleft =
         own_by (Bar n) space (Contains-append_left (header_bars f) _ (Bar n) (bar_listed n (ltb-true n (bar_count (layout f.image)) c.there)))
-        (and_from (has_bar f.probe n) (not (is_left q s f (Bar n))) (claimed_bar n space a c) (ap not (unleft_bar n space a c unleft))) plain c.maps
+        (and_from (has_bar f.probe n) (not (is_left q s f (Bar n))) (claimed_bar f n space a c) (ap not (unleft_bar n space a c unleft))) plain c.maps
     own Rom space a plain c unleft =
         let on = (and_parts (is_space_on f Memory) (rom_is_on f.image) c.enabled).1 in
         let some : (rom_at f.image f.image == 0) ≡ false = ne_eqb (rom_at f.image f.image) 0 (λ none. both_ways (has_bit (rom_at f.image f.image) 0) (ap (λ n. has_bit n 0) none) on) in
@@ -192,7 +181,7 @@ module _ (q : Request) (s : System) (system : IsSystem s) (nested : IsNested q.r
     held b p space a plain c left above =
         let is : IsLeftOn q s f space = left_parts q s f space left in
         left_by q s b space record {
-          unshut = unshut_above f b is.unshut above;
+          unshut = unshut_above space f b is.unshut above;
           unleft = unleft_above b p space a plain c is.unleft above;
           was = on_above f b space is.unshut is.was (own p space a plain c is.unleft) above;
         }

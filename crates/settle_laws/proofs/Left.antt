@@ -1,37 +1,32 @@
 -- What is left of a safe system is safe, where the bridges above what is left pass what they passed.
-use Rattle.std.proofs.Common.{◌≡◌, ℕ, inl, inr, List, [], ◌∷◌, refl, Bool, true, false, ◌&&◌, sym, ◌∙◌, ap, subst, map}
+use Rattle.std.proofs.Common.{◌≡◌, ℕ, inl, inr, List, [], ◌∷◌, refl, Bool, true, false, sym, ◌∙◌, ap, subst, map}
 use Rattle.std.specs.List.{Contains, list_all}
-use Rattle.std.proofs.lemmas.Bool.{and_parts, and_from, or_cases}
+use Rattle.std.proofs.lemmas.Bool.{and_parts, and_from}
 use Rattle.pci_spec.specs.Number.{IsImage}
 use Rattle.pci_spec.specs.Slot.{Slot}
 use Rattle.pci_spec.specs.Header.{layout, secondary_bus, rom_register}
-use Rattle.pci_spec.specs.Window.{MemoryWindow, PrefetchWindow}
-use Rattle.pci_spec.specs.System.{System, Function, IsSystem, Space, Io, Memory, Part, Bar, Rom, Window, Claims, forwards, passes, window_claims, is_bridge, is_window, is_space_on, is_prefetchable_part, register_of, Leads, Gets, IsPassedTo}
+use Rattle.pci_spec.specs.System.{System, Function, IsSystem, Space, Part, Bar, Rom, Window, Claims, forwards, passes, is_bridge, is_window, is_prefetchable_part, register_of, Leads, Gets, IsPassedTo}
 use Rattle.pci_spec.specs.Bus.{secondary, IsNested}
 use Rattle.pci_spec.specs.Sound.{IsSingle, IsHome, IsSameRegion}
 use Rattle.pci_spec.proofs.BusRanges.{behind_of_within}
 use Rattle.pci_spec.proofs.Members.{in_nil, in_cons_cases, in_head, in_tail, IsMade, in_map_to, in_map_from}
 use Rattle.pci_spec.proofs.Ways.{behind_each}
 use Rattle.plan_spec.specs.Plan.{IsMoved, bridges_above}
-use Rattle.plan_spec.specs.Planning.Safety.{is_on, IsSafe}
+use Rattle.plan_spec.specs.Planning.Safety.{IsSafe}
 use Rattle.plan_spec.proofs.Planning.AboveBuses.{above_from}
 use Rattle.plan_spec.proofs.Planning.Kept.{images_of}
 use Rattle.plan_spec.proofs.Planning.Moved.{layout_same, bridge_same, secondary_same}
-use Rattle.plan_spec.proofs.Planning.Safe.{on_by_space, on_by_claim, on_by_forward}
-use Rattle.settle_laws.proofs.Images.{AgreeAside, function_at, claims_aside, forwards_aside, passes_aside}
+use Rattle.settle_laws.proofs.Images.{function_at}
 
 -- Each function of a system as it is in what is left, `h`, and in the whole, `w`.
 pub record IsLeft (s : System) (h w : Function → Function) : Type 0 where
-  -- nothing is on that isn't in the whole, nor elsewhere than there
-  pub on : (f : Function) (space : Space) → Contains s f → is_space_on (h f) space ≡ true → is_space_on (w f) space ≡ true
-  pub same : (f : Function) → Contains s f → is_on (h f) ≡ true → AgreeAside (h f).image (w f).image
-  -- a bridge above what claims an address is on where it is in the whole
-  pub above : (f b : Function) (p : Part) (space : Space) (a : ℕ) → Contains s f → is_window p ≡ false → Claims (h f) p space a
-      → Contains (bridges_above s f.slot.bus) b → is_space_on (w b) space ≡ true → is_space_on (h b) space ≡ true
-
-on_at : (f : Function) (slot : Slot) (probe : List ℕ) (space : Space) → is_space_on (function_at slot f.image probe) space ≡ is_space_on f space
-on_at f slot probe Io = refl
-on_at f slot probe Memory = refl
+  -- what claims an address claims it in the whole
+  pub claimed : (f : Function) (p : Part) (space : Space) (a : ℕ) → Contains s f → Claims (h f) p space a → Claims (w f) p space a
+  -- a bridge forwards what it forwards in the whole
+  pub forwarded : (space : Space) (a : ℕ) (b : Function) → Contains s b → is_bridge b ≡ true → forwards space a (h b) ≡ true → forwards space a (w b) ≡ true
+  -- a bridge above what claims an address passes it where it does in the whole
+  pub passed : (f b : Function) (p : Part) (space : Space) (a : ℕ) → Contains s f → is_window p ≡ false → Claims (h f) p space a
+      → Contains (bridges_above s f.slot.bus) b → passes space (is_prefetchable_part f p) a (w b) ≡ true → passes space (is_prefetchable_part f p) a (h b) ≡ true
 
 register_by : (f g : Function) → layout f.image ≡ layout g.image → (p : Part) → register_of f p ≡ register_of g p
 register_by f g kind (Bar n) = refl
@@ -49,17 +44,6 @@ all_over p r h w [] each all = refl
 all_over p r h w (b ∷ bs) each all =
     let parts = and_parts (p (h b)) (list_all p (map h bs)) all in
     and_from (r (w b)) (list_all r (map w bs)) (each b (in_head b bs) parts.0) (all_over p r h w bs (λ c has. each c (in_tail b bs c has)) parts.1)
-
--- a claim of a moved function is one of another that shows the same and is on wherever it is
-pub claims_over : (f g k : Function) → IsImage f.image → IsMoved f g → IsMoved f k → AgreeAside g.image k.image → ((space : Space) → is_space_on g space ≡ true → is_space_on k space ≡ true)
-    → (p : Part) (space : Space) (a : ℕ) → Claims g p space a → Claims k p space a
-claims_over f g k is m n same on p space a c =
-    let as_g : g ≡ function_at f.slot g.image f.probe = λ i. record { slot = m.slot i; image = g.image; probe = m.probe i } in
-    let as_k : k ≡ function_at f.slot k.image f.probe = λ i. record { slot = n.slot i; image = k.image; probe = n.probe i } in
-    subst (λ x. Claims x p space a) (sym as_k)
-    (claims_aside f.slot f.probe g.image k.image (layout_same f g m is ∙ sym (layout_same f k n is)) same
-    (λ space e. on_at k f.slot f.probe space ∙ on space (sym (on_at g f.slot f.probe space) ∙ e)) p space a
-    (subst (λ x. Claims x p space a) as_g c))
 
 -- ---- ways, where functions are moved one by one
 
@@ -116,27 +100,8 @@ module _ (roots : List ℕ) (s : System) (system : IsSystem s) (nested : IsNeste
   images : (f : Function) → Contains s f → IsImage f.image
   images = images_of s system
 
-  as_h : (f : Function) → Contains s f → h f ≡ function_at f.slot (h f).image f.probe
-  as_h f listed = let m = moved_h f listed in λ i. record { slot = m.slot i; image = (h f).image; probe = m.probe i }
-
-  as_w : (f : Function) → Contains s f → w f ≡ function_at f.slot (w f).image f.probe
-  as_w f listed = let m = moved_w f listed in λ i. record { slot = m.slot i; image = (w f).image; probe = m.probe i }
-
   kind : (f : Function) → Contains s f → layout (h f).image ≡ layout (w f).image
   kind f listed = layout_same f (h f) (moved_h f listed) (images f listed) ∙ sym (layout_same f (w f) (moved_w f listed) (images f listed))
-
-  on_there : (f : Function) → Contains s f → (space : Space) → is_space_on (function_at f.slot (h f).image f.probe) space ≡ true → is_space_on (function_at f.slot (w f).image f.probe) space ≡ true
-  on_there f listed space e = on_at (w f) f.slot f.probe space ∙ left.on f space listed (sym (on_at (h f) f.slot f.probe space) ∙ e)
-
-  claimed : (f : Function) (p : Part) (space : Space) (a : ℕ) → Contains s f → Claims (h f) p space a → Claims (w f) p space a
-  claimed f p space a listed c =
-      claims_over f (h f) (w f) (images f listed) (moved_h f listed) (moved_w f listed) (left.same f listed (on_by_claim (h f) p space a c)) (λ space e. left.on f space listed e) p space a c
-
-  forwarded : (space : Space) (a : ℕ) (b : Function) → Contains s b → forwards space a (h b) ≡ true → forwards space a (w b) ≡ true
-  forwarded space a b listed e =
-      subst (λ g. forwards space a g ≡ true) (sym (as_w b listed))
-      (forwards_aside b.slot b.probe (h b).image (w b).image (kind b listed) (left.same b listed (on_by_forward space a (h b) e)) space a (on_there b listed space)
-      (subst (λ g. forwards space a g ≡ true) (as_h b listed) e))
 
   got : (space : Space) (a bus : ℕ) → Gets roots (map h s) space a bus → Gets roots (map w s) space a bus
   got space a bus (root, starts, bridges, leads, all) =
@@ -145,7 +110,9 @@ module _ (roots : List ℕ) (s : System) (system : IsSystem s) (nested : IsNeste
         starts,
         map w way.of,
         way_after s images w moved_w root way.of bus way.leads,
-        all_over (forwards space a) (forwards space a) h w way.of (λ b has e. forwarded space a b (on_way s root way.of bus way.leads b has).listed e)
+        all_over (forwards space a) (forwards space a) h w way.of (λ b has e.
+            let at = on_way s root way.of bus way.leads b has in
+            left.forwarded space a b at.listed at.bridge e)
             (subst (λ bs. list_all (forwards space a) bs ≡ true) (sym way.is) all),
       )
 
@@ -183,7 +150,7 @@ module _ (roots : List ℕ) (s : System) (system : IsSystem s) (nested : IsNeste
   claimed_of : (g : Function) (p : Part) (space : Space) (a : ℕ) (of_g : IsOf g) → Claims g p space a → Claims (w of_g.f) p space a
   claimed_of g p space a of_g c =
       let listed = of_g.listed in
-      claimed of_g.f p space a (listed.0, listed.1, listed.2) (subst (λ x. Claims x p space a) (sym of_g.is) c)
+      left.claimed of_g.f p space a (listed.0, listed.1, listed.2) (subst (λ x. Claims x p space a) (sym of_g.is) c)
 
   listed_of : (g : Function) (of_g : IsOf g) → Contains (map w s) (w of_g.f)
   listed_of g of_g = in_map_from w s of_g.f of_g.listed
@@ -207,45 +174,27 @@ module _ (roots : List ℕ) (s : System) (system : IsSystem s) (nested : IsNeste
 
   -- ---- and each region is reached
 
-  passes_on : (space : Space) (prefetchable : Bool) (a : ℕ) (b : Function) → passes space prefetchable a b ≡ true → is_space_on b space ≡ true
-  passes_on Io prefetchable a b e = (and_parts (is_space_on b Io) _ e).0
-  passes_on Memory prefetchable a b e = elim (or_cases (window_claims b MemoryWindow a) (prefetchable && window_claims b PrefetchWindow a) e) [
-    | inl m ↦ (and_parts (is_space_on b Memory) _ m).0
-    | inr p ↦ (and_parts (is_space_on b Memory) _ (and_parts prefetchable (window_claims b PrefetchWindow a) p).1).0
-  ]
-
-  passed : (space : Space) (prefetchable : Bool) (a : ℕ) (b : Function) → Contains s b → (is_space_on (w b) space ≡ true → is_space_on (h b) space ≡ true)
-      → passes space prefetchable a (w b) ≡ true → passes space prefetchable a (h b) ≡ true
-  passed space prefetchable a b listed on e =
-      let on_w = passes_on space prefetchable a (w b) e in
-      let on_h = on on_w in
-      let agree = left.same b listed (on_by_space (h b) space on_h) in
-      subst (λ g. passes space prefetchable a g ≡ true) (sym (as_h b listed))
-      (passes_aside b.slot b.probe (w b).image (h b).image (sym (kind b listed)) (λ place low high. sym (agree place low high)) space prefetchable a
-      (λ up. on_at (h b) b.slot b.probe space ∙ on_h)
-      (subst (λ g. passes space prefetchable a g ≡ true) (as_w b listed) e))
-
   reached : (f : Function) (p : Part) (space : Space) (a : ℕ) → Contains s f → is_window p ≡ false → Claims (h f) p space a
       → IsPassedTo roots (map w s) space (is_prefetchable_part (w f) p) a (w f).slot.bus → IsPassedTo roots (map h s) space (is_prefetchable_part (h f) p) a (h f).slot.bus
   reached f p space a in_f plain claim (root, starts, bridges, leads, all) =
       let bus_w : (w f).slot.bus ≡ f.slot.bus = ap (λ (t : Slot). t.bus) (moved_w f in_f).slot in
       let bus_h : f.slot.bus ≡ (h f).slot.bus = sym (ap (λ (t : Slot). t.bus) (moved_h f in_f).slot) in
-      let pre : is_prefetchable_part (h f) p ≡ is_prefetchable_part (w f) p = prefetchable_by (h f) (w f) ((moved_h f in_f).probe ∙ sym (moved_w f in_f).probe) p in
+      let pre_h : is_prefetchable_part (h f) p ≡ is_prefetchable_part f p = prefetchable_by (h f) f (moved_h f in_f).probe p in
+      let pre_w : is_prefetchable_part (w f) p ≡ is_prefetchable_part f p = prefetchable_by (w f) f (moved_w f in_f).probe p in
       let way = way_before s images w moved_w root bridges f.slot.bus (subst (λ n. Leads (map w s) root bridges n) bus_w leads) in
-      let through : (b : Function) → Contains way.of b → passes space (is_prefetchable_part (w f) p) a (w b) ≡ true → passes space (is_prefetchable_part (w f) p) a (h b) ≡ true =
+      let all_w : list_all (passes space (is_prefetchable_part f p) a) bridges ≡ true = subst (λ t. list_all (passes space t a) bridges ≡ true) pre_w all in
+      let through : (b : Function) → Contains way.of b → passes space (is_prefetchable_part f p) a (w b) ≡ true → passes space (is_prefetchable_part f p) a (h b) ≡ true =
       λ b has e.
       let at = on_way s root way.of f.slot.bus way.leads b has in
       let within = behind_each roots s nested root way.of f.slot.bus way.leads b has in
-      let listed = at.listed in
-      passed space (is_prefetchable_part (w f) p) a b (listed.0, listed.1, listed.2)
-      (left.above f b p space a in_f plain claim (above_from s f.slot.bus b record { listed = listed; bridge = at.bridge; behind = behind_of_within b f.slot.bus within })) e in (
+      left.passed f b p space a in_f plain claim (above_from s f.slot.bus b record { listed = at.listed; bridge = at.bridge; behind = behind_of_within b f.slot.bus within }) e in (
         root,
         starts,
         map h way.of,
         subst (λ n. Leads (map h s) root (map h way.of) n) bus_h (way_after s images h moved_h root way.of f.slot.bus way.leads),
-        subst (λ t. list_all (passes space t a) (map h way.of) ≡ true) (sym pre)
-            (all_over (passes space (is_prefetchable_part (w f) p) a) (passes space (is_prefetchable_part (w f) p) a) w h way.of through
-            (subst (λ bs. list_all (passes space (is_prefetchable_part (w f) p) a) bs ≡ true) (sym way.is) all)),
+        subst (λ t. list_all (passes space t a) (map h way.of) ≡ true) (sym pre_h)
+            (all_over (passes space (is_prefetchable_part f p) a) (passes space (is_prefetchable_part f p) a) w h way.of through
+            (subst (λ bs. list_all (passes space (is_prefetchable_part f p) a) bs ≡ true) (sym way.is) all_w)),
       )
 
   left_home : IsHome roots (map w s) → IsHome roots (map h s)

@@ -12,7 +12,7 @@ use Rattle.plan_spec.proofs.Planning.Behind.{all_gives}
 use Rattle.plan_spec.proofs.Planning.Reach.{served_windows}
 use Rattle.settle_spec.specs.Lists.{Request}
 use Rattle.settle_spec.specs.Parts.{is_empty, upper_pools, is_in_memory, is_in_prefetch, prefetchable_class, class_in}
-use Rattle.settle_laws.proofs.After.{none_passes}
+use Rattle.settle_laws.proofs.NonePasses.{none_passes}
 
 -- a window with upper halves is there
 wide_there : (probe : List ℕ) → is_wide_window PrefetchWindow probe ≡ true → has_window PrefetchWindow probe ≡ true

@@ -68,7 +68,7 @@ module _ (f : Function) (is : IsImage f.image) where
     ];
   }
 
-  bounds_fit : (c : WindowKind) (v : Bounds) (image : List ℕ) → PartsFit f c v → HasBits f image → HasBits f (with_bounds c v image)
+  pub bounds_fit : (c : WindowKind) (v : Bounds) (image : List ℕ) → PartsFit f c v → HasBits f image → HasBits f (with_bounds c v image)
   bounds_fit IoWindow v image parts h =
       with_fit 2 0x32 v.limit_upper _ (omega arith) parts.limit_upper (with_fit 2 0x30 v.base_upper _ (omega arith) parts.base_upper
       (with_fit 1 0x1d v.limit _ (omega arith) parts.limit (with_fit 1 0x1c v.base image (omega arith) parts.base h)))

@@ -1,42 +1,47 @@
 -- A function whose parts stay, and those of the bridges above it, is neither shut nor written but for Command's enables.
-use Rattle.std.proofs.Common.{◌≡◌, ℕ, zero, suc, inl, inr, List, Bool, true, false, cond, ◌||◌, not, Option, None, Some, arith, refl, sym, ◌∙◌, ap, subst}
-use Rattle.std.specs.Bool.{◌==◌, nat_le}
+use Rattle.std.proofs.Common.{◌≡◌, ℕ, zero, suc, ◌≤◌, inl, inr, List, [], ◌∷◌, Bool, true, false, cond, ◌&&◌, not, Option, None, Some, arith, refl, sym, ◌∙◌, ap, subst}
+use Rattle.std.specs.Bool.{◌==◌, nat_le, if◌then◌else◌}
 use Rattle.std.specs.Int.{bit_at}
 use Rattle.std.specs.List.{Contains, list_all, list_any}
-use Rattle.std.proofs.lemmas.Bool.{both_ways, cases_Bool, eq-eqb, eqb-true, leb-true, not_from_true, or_from}
+use Rattle.std.proofs.lemmas.Bool.{and_right, both_ways, cases_Bool, eq-eqb, eqb-true, leb-true, not_from_true, or_from}
 use Rattle.pci_spec.specs.Number.{has_bit, number_at, byte_at}
 use Rattle.pci_spec.specs.Registers.{COMMAND}
-use Rattle.pci_spec.specs.Header.{command, layout, address_registers, registers_by}
-use Rattle.pci_spec.specs.Window.{WindowKind, closed_bounds}
+use Rattle.pci_spec.specs.Header.{command, layout, address_registers, registers_by, bar_register, rom_register}
+use Rattle.pci_spec.specs.Bar.{bar_at, is_wide}
+use Rattle.pci_spec.specs.Window.{WindowKind, IoWindow, MemoryWindow, PrefetchWindow, closed_bounds}
 use Rattle.pci_spec.specs.System.{System, Function, IsSystem, Space, Io, Memory, Part, Bar, Rom, Window, has_part, is_window, space_of}
+use Rattle.pci_spec.specs.Bus.{IsNested}
 use Rattle.pci_spec.specs.Machine.{without_low}
 use Rattle.pci_spec.proofs.Bits.{bit_at-without_low}
-use Rattle.pci_spec.proofs.Members.{in_filter_from, in_map_from, in_nil}
+use Rattle.pci_spec.proofs.Members.{in_cons_cases, in_filter_from, in_map_from, in_nil, IsMade, in_map_to}
 use Rattle.plan_spec.specs.Plan.{bridges_above}
 use Rattle.plan_spec.specs.Place.{nibble_of}
 use Rattle.plan_spec.proofs.Planning.AboveBuses.{above_to}
 use Rattle.plan_spec.proofs.Planning.Behind.{all_gives}
 use Rattle.plan_spec.proofs.Planning.Kept.{images_of}
 use Rattle.settle_spec.specs.Lists.{Request}
-use Rattle.settle_spec.specs.Parts.{FunctionPart, header_parts, is_part, class_in}
+use Rattle.settle_spec.specs.Parts.{FunctionPart, header_parts, parts_of, function_parts, is_part, class_in, are_same_space}
+use Rattle.settle_spec.specs.Stands.{part_space}
 use Rattle.settle_spec.specs.Stands.{rank}
 use Rattle.settle_spec.specs.Items.{Item, Placed, Placing, AllPlaced, Lacks, new_window, stays}
 use Rattle.settle_spec.specs.Places.{new_place, placed_of, placing_on, placing_within, ranges_of_item, space_items, taken_at}
 use Rattle.settle_spec.specs.Registers.{closed_if_open, is_enabled_in, settled_command, settled_function, settled_image, shown, changing, with_bounds}
-use Rattle.settle_spec.specs.Writes.{is_changed, is_cut_off_in, is_shut, is_shut_itself}
+use Rattle.settle_spec.specs.Writes.{differs_at, part_registers, changes_at, changes_above, moves, has_moving, is_cut_off_in, is_shut_itself, is_shut}
 use Rattle.settle_spec.specs.PlacingLaws.{ArePlaced}
 use Rattle.settle_spec.proofs.Placed.{are_placed}
 use Rattle.settle_laws.specs.RestLaws.{HasAllOf, IsLeftAlone, KeepsParts}
 use Rattle.settle_laws.proofs.Commands.{settled_is}
-use Rattle.settle_laws.proofs.Few.{stays_on}
+use Rattle.settle_laws.specs.WriteLaws.{KeepsRegisters}
+use Rattle.settle_laws.proofs.OnlyOpened.{stays_on}
 use Rattle.settle_laws.proofs.Finding.{found}
-use Rattle.settle_laws.proofs.HeaderParts.{part_cases}
-use Rattle.settle_laws.proofs.Held.{none_by}
+use Rattle.settle_laws.proofs.HeaderParts.{part_cases, rom_at_end}
+use Rattle.settle_laws.proofs.Held.{above_above}
 use Rattle.settle_laws.proofs.ItemForms.{IsItemIn, IsNewWindow, IsOwnPart, IsPlaceable, header_has, item_by, item_moves, item_positive, same_rank, space_items_are}
 use Rattle.settle_laws.proofs.KeptAside.{enables_alone}
 use Rattle.settle_laws.proofs.Numbers.{with_elsewhere}
 use Rattle.settle_laws.proofs.Shown.{IsChanging, can_change, changing_is, fold_keeps, settled_image_is, window_bridge}
 use Rattle.settle_laws.proofs.WindowBytes.{number_elsewhere}
+use Rattle.settle_laws.proofs.NonePasses.{none_by}
 
 module _ (q : Request) (s : System) (system : IsSystem s) where
   -- ---- what gets a place
@@ -125,30 +130,67 @@ module _ (q : Request) (s : System) (system : IsSystem s) where
         let c : IsChanging q s f r = changing_is q s f r has in
         subst (λ (t : FunctionPart). shown q s t (new_place q s t) x ≡ f.image) c.is (step_leaves c.p c.there (changing_part f r c) x ∙ same)) f.image refl
 
+    first_above : (x : ℕ × ℕ) (more : List (ℕ × ℕ)) → 6 ≤ x.0 → ((r : ℕ × ℕ) → Contains more r → 6 ≤ r.0) → (r : ℕ × ℕ) → Contains (x ∷ more) r → 6 ≤ r.0
+    first_above x more first rest r has = elim (in_cons_cases x more r has) [
+      | inl is ↦ subst (λ (y : ℕ × ℕ). 6 ≤ y.0) is first
+      | inr later ↦ rest r later
+    ]
+
+    none_above : (r : ℕ × ℕ) → Contains [] r → 6 ≤ r.0
+    none_above r none = absurd (in_nil r none)
+
     -- no address register is where Command is
     above_command : (bridge : Bool) → list_all (λ (r : ℕ × ℕ). nat_le 6 r.0) (registers_by bridge) ≡ true
     above_command true = refl
     above_command false = refl
 
-    not_changed : is_changed q s f ≡ false
-    not_changed = none_by (λ (r : ℕ × ℕ). not (number_at (settled_function q s f).image r.0 r.1 == number_at f.image r.0 r.1)) (address_registers (layout f.image))
-        (λ r has.
-        let high = leb-true 6 r.0 (all_gives (λ (r : ℕ × ℕ). nat_le 6 r.0) (registers_by (layout f.image == 1)) r (above_command (layout f.image == 1)) has) in
-        let same : number_at (settled_function q s f).image r.0 r.1 ≡ number_at f.image r.0 r.1 =
-        number_elsewhere 2 COMMAND (settled_command q s f) r.0 r.1 (settled_image q s f) (inr (omega (arith, high))) ∙ ap (λ x. number_at x r.0 r.1) image_rests in
-        not_from_true (number_at (settled_function q s f).image r.0 r.1 == number_at f.image r.0 r.1) (eq-eqb (number_at (settled_function q s f).image r.0 r.1) (number_at f.image r.0 r.1) same))
+    number_rests : (r : ℕ × ℕ) → 6 ≤ r.0 → number_at (settled_function q s f).image r.0 r.1 ≡ number_at f.image r.0 r.1
+    number_rests r high = number_elsewhere 2 COMMAND (settled_command q s f) r.0 r.1 (settled_image q s f) (inr (omega (arith, high))) ∙ ap (λ x. number_at x r.0 r.1) image_rests
 
-    not_shut_itself : is_shut_itself q s f ≡ false
-    not_shut_itself =
-        or_from (is_changed q s f || is_cut_off_in q s f Io) (is_cut_off_in q s f Memory) (or_from (is_changed q s f) (is_cut_off_in q s f Io) not_changed (keeps.reached Io)) (keeps.reached Memory)
+    register_rests : (r : ℕ × ℕ) → Contains (address_registers (layout f.image)) r → number_at (settled_function q s f).image r.0 r.1 ≡ number_at f.image r.0 r.1
+    register_rests r has = number_rests r (leb-true 6 r.0 (all_gives (λ (r : ℕ × ℕ). nat_le 6 r.0) (registers_by (layout f.image == 1)) r (above_command (layout f.image == 1)) has))
+
+    -- the registers of a part are above Command
+    part_above : (p : Part) (r : ℕ × ℕ) → Contains (part_registers f p) r → 6 ≤ r.0
+    part_above (Bar n) = first_above (bar_register n, if is_wide (bar_at f.probe n) then 8 else 4) [] (omega arith) none_above
+    part_above Rom = first_above (rom_register (layout f.image), 4) [] (elim (rom_at_end f) [ inl e ↦ omega (arith, e) | inr e ↦ omega (arith, e) ]) none_above
+    part_above (Window IoWindow) = first_above (0x1c, 2) ((0x30, 4) ∷ []) (omega arith) (first_above (0x30, 4) [] (omega arith) none_above)
+    part_above (Window MemoryWindow) = first_above (0x20, 4) [] (omega arith) none_above
+    part_above (Window PrefetchWindow) = first_above (0x24, 4) ((0x28, 4) ∷ (0x2c, 4) ∷ []) (omega arith) (first_above (0x28, 4) ((0x2c, 4) ∷ []) (omega arith) (first_above (0x2c, 4) [] (omega arith) none_above))
+
+    changes_nowhere : (p : Part) → changes_at q s f p ≡ false
+    changes_nowhere p = none_by (differs_at f (settled_function q s f)) (part_registers f p)
+        (λ r has. not_from_true (number_at (settled_function q s f).image r.0 r.1 == number_at f.image r.0 r.1)
+        (eq-eqb (number_at (settled_function q s f).image r.0 r.1) (number_at f.image r.0 r.1) (number_rests r (part_above p r has))))
+
+  -- where no window above changes either, nothing moves
+  module _ (space : Space) (f : Function) (listed : Contains s f) (keeps : KeepsParts q s f) (over : (b : Function) → Contains (bridges_above s f.slot.bus) b → KeepsParts q s b) where
+    moves_nowhere : (p : Part) → moves q s record { function = f; part = p } ≡ false
+    moves_nowhere p =
+        or_from (changes_at q s f p) (changes_above q s (class_in q s f p) f.slot.bus) (changes_nowhere f listed keeps p)
+        (none_by (λ b. changes_at q s b (Window (class_in q s f p))) (bridges_above s f.slot.bus) (λ b has. changes_nowhere b (above_to s f.slot.bus b has).listed (over b has) (Window (class_in q s f p))))
+
+    none_moves : has_moving q s space f ≡ false
+    none_moves = none_by (λ r. are_same_space space (part_space r) && not (is_window r.part) && moves q s r) (function_parts q s f)
+        (λ r has.
+        let made : IsMade (λ p. record { function = f; part = p }) (parts_of q s f) r = in_map_to (λ p. record { function = f; part = p }) (parts_of q s f) r has in
+        subst (λ (t : FunctionPart). (are_same_space space (part_space t) && not (is_window t.part) && moves q s t) ≡ false) made.is
+        (and_right (are_same_space space (space_of f made.from) && not (is_window made.from)) (moves q s record { function = f; part = made.from }) (moves_nowhere made.from)))
+
+    not_shut_itself : is_shut_itself q s space f ≡ false
+    not_shut_itself = or_from (has_moving q s space f) (is_cut_off_in q s f space) none_moves (keeps.reached space)
 
   -- ---- the laws
 
-  module _ (f : Function) (listed : Contains s f) (alone : IsLeftAlone q s f) where
-    pub not_shut : is_shut q s f ≡ false
-    not_shut =
-        or_from (is_shut_itself q s f) (list_any (is_shut_itself q s) (bridges_above s f.slot.bus)) (not_shut_itself f listed alone.itself)
-        (none_by (is_shut_itself q s) (bridges_above s f.slot.bus) (λ b has. not_shut_itself b (above_to s f.slot.bus b has).listed (alone.above b has)))
+  module _ (nested : IsNested q.roots s) (f : Function) (listed : Contains s f) (alone : IsLeftAlone q s f) where
+    not_shut : (space : Space) → is_shut q s space f ≡ false
+    not_shut space =
+        or_from (is_shut_itself q s space f) (list_any (is_shut_itself q s space) (bridges_above s f.slot.bus)) (not_shut_itself space f listed alone.itself alone.above)
+        (none_by (is_shut_itself q s space) (bridges_above s f.slot.bus)
+        (λ b has. not_shut_itself space b (above_to s f.slot.bus b has).listed (alone.above b has) (λ d in_d. alone.above d (above_above q s system nested f b d has in_d))))
+
+    pub keeps_registers : KeepsRegisters q s f
+    keeps_registers = record { unshut = not_shut; same = register_rests f listed alone.itself; unleft = alone.unleft }
 
     abbrev now : Function
     now = settled_function q s f
@@ -161,8 +203,8 @@ module _ (q : Request) (s : System) (system : IsSystem s) where
 
     -- each bit of Command stays set
     bit_stays : (i : ℕ) → has_bit (command f.image) i ≡ true → has_bit (command now.image) i ≡ true
-    bit_stays zero on = stays_on q s system f listed not_shut alone.unleft Io on
-    bit_stays (suc zero) on = stays_on q s system f listed not_shut alone.unleft Memory on
+    bit_stays zero on = stays_on q s system f listed keeps_registers Io on
+    bit_stays (suc zero) on = stays_on q s system f listed keeps_registers Memory on
     bit_stays (suc (suc i)) on =
         ap (λ n. n == 1)
         (sym (bit_at-without_low (command now.image) 2 (suc (suc i)) (omega arith)) ∙ ap (λ n. bit_at n (suc (suc i))) others_same ∙ bit_at-without_low (command f.image) 2 (suc (suc i)) (omega arith))

@@ -21,10 +21,10 @@ use Rattle.settle_spec.specs.Parts.{FunctionPart, is_left, is_part, header_parts
 use Rattle.settle_spec.specs.Items.{Placed, stays}
 use Rattle.settle_spec.specs.Places.{new_place}
 use Rattle.settle_spec.specs.Registers.{with_bounds, closed_if_open, shown, changing, settled_image}
-use Rattle.settle_laws.proofs.After.{none_passes, outside}
 use Rattle.settle_laws.proofs.HeaderParts.{part_cases, few_bars, rom_at_end}
 use Rattle.settle_laws.proofs.Numbers.{with_elsewhere, with_first, with_image}
 use Rattle.settle_laws.proofs.RomPlaces.{rom_is_even}
+use Rattle.settle_laws.proofs.NonePasses.{none_passes, outside}
 
 pub fold_keeps : {A B : Type 0} (P : A → Type 0) (step : A → B → A) (bs : List B) → ((b : B) → Contains bs b → (a : A) → P a → P (step a b)) → (a : A) → P a → P (fold step a bs)
 fold_keeps P step [] each a h = h

@@ -54,7 +54,7 @@ module _ (q : Request) (s : System) (can : CanSettle q s) (f : Function) (listed
     looked_at : is_part q s f p ≡ true
     looked_at = stays_part q s can.system can.nested (region p) listed keeps
 
-  bar_stays : (n : ℕ) → n < bar_count (layout f.image) → has_part f (Bar n) ≡ true → stays q s (region (Bar n)) ≡ true → whole_bar f.probe g.image n ≡ whole_bar f.probe f.image n
+  pub bar_stays : (n : ℕ) → n < bar_count (layout f.image) → has_part f (Bar n) ≡ true → stays q s (region (Bar n)) ≡ true → whole_bar f.probe g.image n ≡ whole_bar f.probe f.image n
   bar_stays n inside there keeps =
       let v = whole_bar f.probe f.image n in
       let has = (and_parts (has_bar f.probe n) (not (is_left q s f (Bar n))) (looked_at (Bar n) there keeps)).0 in
@@ -67,7 +67,7 @@ module _ (q : Request) (s : System) (can : CanSettle q s) (f : Function) (listed
         | inr other ↦ keeps_whole q s can f listed n inside has c.p c.there c.can other image ∙ same
       ])) f.image refl
 
-  rom_stays : stays q s (region Rom) ≡ true → number_at g.image (rom_register (layout f.image)) 4 ≡ number_at f.image (rom_register (layout f.image)) 4
+  pub rom_stays : stays q s (region Rom) ≡ true → number_at g.image (rom_register (layout f.image)) 4 ≡ number_at f.image (rom_register (layout f.image)) 4
   rom_stays keeps =
       let rom = rom_register (layout f.image) in
       let v = number_at f.image rom 4 in

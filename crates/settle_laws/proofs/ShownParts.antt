@@ -157,7 +157,7 @@ module _ (q : Request) (s : System) (can : CanSettle q s) (f : Function) (listed
   bar_ends n inside there = bar_below q s f can.system listed image_is (decodable q s can f listed) n inside there
 
   -- a bridge's BARs end before its windows
-  bridge_bar : (n : ℕ) → n < bar_count (layout f.image) → has_bar f.probe n ≡ true → is_bridge f ≡ true → bar_register n + width n ≤ 0x18
+  pub bridge_bar : (n : ℕ) → n < bar_count (layout f.image) → has_bar f.probe n ≡ true → is_bridge f ≡ true → bar_register n + width n ≤ 0x18
   bridge_bar n inside there bridge =
       let two : bar_count (layout f.image) ≡ 2 = ap (λ t. cond t 2 6) bridge in
       elim (cases_Bool (is_wide (bar_at f.probe n))) [
@@ -191,7 +191,7 @@ module _ (q : Request) (s : System) (can : CanSettle q s) (f : Function) (listed
     ]
 
     -- the BAR's number is told by its own bytes
-    whole_by_bytes : (a b : List ℕ) → ((place : ℕ) → bar_register n ≤ place → place < bar_register n + width n → byte_at a place ≡ byte_at b place) → whole_bar f.probe a n ≡ whole_bar f.probe b n
+    pub whole_by_bytes : (a b : List ℕ) → ((place : ℕ) → bar_register n ≤ place → place < bar_register n + width n → byte_at a place ≡ byte_at b place) → whole_bar f.probe a n ≡ whole_bar f.probe b n
     whole_by_bytes a b same = elim (cases_Bool (is_wide (bar_at f.probe n))) [
       | inr narrow ↦
           let w : width n ≡ 4 = ap (λ t. if t then 8 else 4) narrow in

@@ -1,33 +1,35 @@
 -- What is settled already is neither shut nor written.
-use Rattle.std.proofs.Common.{◌≡◌, ℕ, zero, suc, ◌<◌, inl, inr, List, [], ◌∷◌, ◌++◌, refl, Bool, true, false, cond, ◌&&◌, ◌||◌, not, arith, sym, ◌∙◌, ap, subst, map}
+use Rattle.std.proofs.Common.{◌≡◌, ℕ, zero, suc, ◌<◌, inl, inr, [], ◌∷◌, ◌++◌, refl, Bool, true, false, cond, ◌&&◌, ◌||◌, not, arith, sym, ◌∙◌, ap, subst, map}
 use Rattle.std.specs.Bool.{◌==◌}
 use Rattle.std.specs.List.{Contains, list_all, list_any, flat_map}
 use Rattle.std.proofs.lemmas.Bool.{and_parts, and_from, and_right, or_from, or_left, or_right, cases_Bool, eq-eqb, not_from_true}
 use Rattle.pci_spec.specs.Number.{number_at}
 use Rattle.pci_spec.specs.Registers.{COMMAND}
-use Rattle.pci_spec.specs.Header.{command, layout, address_registers}
-use Rattle.pci_spec.specs.System.{System, Function, IsSystem, Space, Io, Memory, is_bridge, is_space_on}
+use Rattle.pci_spec.specs.Header.{command}
+use Rattle.pci_spec.specs.Window.{WindowKind}
+use Rattle.pci_spec.specs.System.{System, Function, IsSystem, Space, Io, Part, Window, is_bridge, is_space_on, is_window, space_of}
 use Rattle.pci_spec.specs.Bus.{secondary, IsNested}
-use Rattle.pci_spec.specs.Machine.{Write}
-use Rattle.pci_spec.proofs.Members.{in_nil, in_cons_cases, in_head, in_tail}
+use Rattle.pci_spec.proofs.Members.{in_nil, in_cons_cases, in_head, in_tail, IsMade, in_map_to}
 use Rattle.plan_spec.specs.Plan.{bridges_above}
-use Rattle.plan_spec.specs.Planning.PlanWrites.{register_write, registers_of}
+use Rattle.plan_spec.specs.Planning.PlanWrites.{Change, register_write}
 use Rattle.plan_spec.proofs.Planning.AboveBuses.{above_from, above_to, all_above, all_above_root, root_or_led}
 use Rattle.plan_spec.proofs.Planning.Behind.{any_from, all_gives}
 use Rattle.plan_spec.proofs.Planning.Kept.{images_of}
 use Rattle.plan_spec.proofs.Planning.Safe.{order_of}
-use Rattle.plan_spec.proofs.Planning.CommandFits.{command_by}
 use Rattle.settle_spec.specs.Lists.{Request}
-use Rattle.settle_spec.specs.Parts.{has_left, are_same_space}
+use Rattle.settle_spec.specs.Parts.{FunctionPart, parts_of, function_parts, class_in, has_left, are_same_space}
+use Rattle.settle_spec.specs.Stands.{part_space}
 use Rattle.settle_spec.specs.Registers.{settled, settled_function, got_place, has_own, is_enabled_in}
 use Rattle.settle_spec.specs.LiveLaws.{is_live, has_live_behind}
-use Rattle.settle_spec.specs.Writes.{change_of, is_changed, is_cut_off_in, is_shut_itself, is_shut, closing_command, command_from, closing_from, opening_from, closings, settle_writes}
+use Rattle.settle_spec.specs.Writes.{differs_at, part_registers, changes_at, changes_above, moves, has_moving, is_cut_off_in, is_shut_itself, is_shut, is_left_on, is_replaced, closed_function, closing_of, setting_of, closing_registers, setting_registers, closing_from, setting_from, opening_from, closings, settle_writes}
 use Rattle.settle_spec.proofs.Live.{live_by_bus}
 use Rattle.settle_spec.proofs.Nested.{at_secondary}
-use Rattle.settle_laws.proofs.Commands.{as_it_is, closing_is, is_left_on, on_settled, settled_is, enabled_unleft}
-use Rattle.settle_laws.proofs.Held.{above_above, none_by}
+use Rattle.settle_laws.proofs.ClosedSame.{closed_same, none_flat, no_difference}
+use Rattle.settle_laws.proofs.Commands.{on_settled, settled_is, enabled_unleft}
+use Rattle.settle_laws.proofs.Held.{above_above}
 use Rattle.settle_laws.proofs.Shown.{settled_image_is}
 use Rattle.settle_laws.proofs.Unleft.{unleft}
+use Rattle.settle_laws.proofs.NonePasses.{none_by}
 
 fixed_each : (g : Function → Function) (t : System) → map g t ≡ t → (f : Function) → Contains t f → g f ≡ f
 fixed_each g [] e f has = absurd (in_nil f has)
@@ -47,10 +49,22 @@ module _ (q : Request) (s : System) (system : IsSystem s) (nested : IsNested q.r
   on_as_settled f listed space =
       on_settled q s f f (ap (λ (g : Function). command g.image) (sym (same f listed)) ∙ settled_is q s f (images_of s system f listed) (settled_image_is q s f (images_of s system f listed))) space
 
-  not_changed : (f : Function) → Contains s f → is_changed q s f ≡ false
-  not_changed f listed = none_by (λ (r : ℕ × ℕ). not (number_at (settled_function q s f).image r.0 r.1 == number_at f.image r.0 r.1)) (address_registers (layout f.image))
+  changes_nowhere : (f : Function) → Contains s f → (p : Part) → changes_at q s f p ≡ false
+  changes_nowhere f listed p = none_by (differs_at f (settled_function q s f)) (part_registers f p)
       (λ r has. not_from_true (number_at (settled_function q s f).image r.0 r.1 == number_at f.image r.0 r.1)
       (eq-eqb (number_at (settled_function q s f).image r.0 r.1) (number_at f.image r.0 r.1) (ap (λ (g : Function). number_at g.image r.0 r.1) (same f listed))))
+
+  moves_nowhere : (f : Function) → Contains s f → (p : Part) → moves q s record { function = f; part = p } ≡ false
+  moves_nowhere f listed p =
+      or_from (changes_at q s f p) (changes_above q s (class_in q s f p) f.slot.bus) (changes_nowhere f listed p)
+      (none_by (λ b. changes_at q s b (Window (class_in q s f p))) (bridges_above s f.slot.bus) (λ b has. changes_nowhere b (above_to s f.slot.bus b has).listed (Window (class_in q s f p))))
+
+  none_moves : (space : Space) (f : Function) → Contains s f → has_moving q s space f ≡ false
+  none_moves space f listed = none_by (λ r. are_same_space space (part_space r) && not (is_window r.part) && moves q s r) (function_parts q s f)
+      (λ r has.
+      let made : IsMade (λ p. record { function = f; part = p }) (parts_of q s f) r = in_map_to (λ p. record { function = f; part = p }) (parts_of q s f) r has in
+      subst (λ (t : FunctionPart). (are_same_space space (part_space t) && not (is_window t.part) && moves q s t) ≡ false) made.is
+      (and_right (are_same_space space (space_of f made.from) && not (is_window made.from)) (moves q s record { function = f; part = made.from }) (moves_nowhere f listed made.from)))
 
   -- ---- bridges above what is on are on
 
@@ -81,7 +95,7 @@ module _ (q : Request) (s : System) (system : IsSystem s) (nested : IsNested q.r
           (all_above q.roots s system nested on b in_b leader.bridge ∙ and_from (list_all on (bridges_above s b.slot.bus)) (on b) rest (on_as_settled b in_b space ∙ enabled))
     ]
 
-  not_cut : (f : Function) (space : Space) → Contains s f → is_cut_off_in q s f space ≡ false
+  pub not_cut : (f : Function) (space : Space) → Contains s f → is_cut_off_in q s f space ≡ false
   not_cut f space listed = elim (cases_Bool (is_space_on f space && has_own q s space f)) [
     | inr idle ↦ ap (λ t. t && list_any (λ b. not (is_space_on b space)) (bridges_above s f.slot.bus)) idle
     | inl both ↦
@@ -94,55 +108,52 @@ module _ (q : Request) (s : System) (system : IsSystem s) (nested : IsNested q.r
         (none_by (λ b. not (is_space_on b space)) (bridges_above s f.slot.bus) (λ b has. not_from_true (is_space_on b space) (all_gives (λ b. is_space_on b space) (bridges_above s f.slot.bus) b all has)))
   ]
 
-  not_shut_itself : (f : Function) → Contains s f → is_shut_itself q s f ≡ false
-  not_shut_itself f listed =
-      or_from (is_changed q s f || is_cut_off_in q s f Io) (is_cut_off_in q s f Memory) (or_from (is_changed q s f) (is_cut_off_in q s f Io) (not_changed f listed) (not_cut f Io listed)) (not_cut f Memory listed)
+  not_shut_itself : (space : Space) (f : Function) → Contains s f → is_shut_itself q s space f ≡ false
+  not_shut_itself space f listed = or_from (has_moving q s space f) (is_cut_off_in q s f space) (none_moves space f listed) (not_cut f space listed)
 
-  not_shut : (f : Function) → Contains s f → is_shut q s f ≡ false
-  not_shut f listed =
-      or_from (is_shut_itself q s f) (list_any (is_shut_itself q s) (bridges_above s f.slot.bus)) (not_shut_itself f listed)
-      (none_by (is_shut_itself q s) (bridges_above s f.slot.bus) (λ b has. not_shut_itself b (above_to s f.slot.bus b has).listed))
+  not_shut : (space : Space) (f : Function) → Contains s f → is_shut q s space f ≡ false
+  not_shut space f listed =
+      or_from (is_shut_itself q s space f) (list_any (is_shut_itself q s space) (bridges_above s f.slot.bus)) (not_shut_itself space f listed)
+      (none_by (is_shut_itself q s space) (bridges_above s f.slot.bus) (λ b has. not_shut_itself space b (above_to s f.slot.bus b has).listed))
 
   -- ---- so nothing is written
 
   left_as_on : (f : Function) → Contains s f → (space : Space) → is_left_on q s space f ≡ is_space_on f space
   left_as_on f listed space =
-      ap (λ t. not t && (not (are_same_space space Io && has_left q s f) && is_space_on f space)) (not_shut f listed)
+      ap (λ t. not t && (not (are_same_space space Io && has_left q s f) && is_space_on f space)) (not_shut space f listed)
       ∙ elim (cases_Bool (is_space_on f space)) [
         | inr off ↦ and_right (not (are_same_space space Io && has_left q s f)) (is_space_on f space) off ∙ sym off
         | inl there ↦ ap (λ t. t && is_space_on f space) (enabled_unleft q s f space (sym (on_as_settled f listed space) ∙ there))
       ]
 
-  stays_closed : (f : Function) → Contains s f → closing_command q s f ≡ command f.image
-  stays_closed f listed =
-      closing_is q s f
-      ∙ ap (λ t. command_by (command f.image) t (is_left_on q s Memory f)) (left_as_on f listed Io)
-      ∙ ap (λ t. command_by (command f.image) (is_space_on f Io) t) (left_as_on f listed Memory)
-      ∙ sym (as_it_is (command f.image))
+  -- so its closed state is itself
+  not_replaced : (f : Function) → Contains s f → (c : WindowKind) → is_replaced q s f c ≡ false
+  not_replaced f listed c = and_right (is_bridge f) (changes_at q s f (Window c)) (changes_nowhere f listed (Window c))
 
-  no_command : (f : Function) (old new : ℕ) → new ≡ old → command_from f old new ≡ []
-  no_command f old new e = ap (λ t. cond t [] (record { slot = f.slot; offset = COMMAND; width = 2; value = new } ∷ [])) (eq-eqb new old e)
+  closed_is : (f : Function) → Contains s f → closed_function q s f ≡ f
+  closed_is f listed = closed_same q s f (images_of s system f listed) (not_replaced f listed) (left_as_on f listed)
+
+  -- between one state and the same nothing is written
+  nothing_differs : (c : Change) → c.new ≡ c.old → (r : ℕ × ℕ) → register_write c r ≡ []
+  nothing_differs c e r = no_difference c r (ap (λ (g : Function). number_at g.image r.0 r.1) e)
 
   no_closing : (t : System) → ((f : Function) → Contains t f → Contains s f) → closings q s t ≡ []
   no_closing [] in_s = refl
   no_closing (f ∷ t) in_s =
       ap (λ ws. ws ++ closing_from q s f) (no_closing t (λ g has. in_s g (in_tail f t g has)))
-      ∙ no_command f (command f.image) (closing_command q s f) (stays_closed f (in_s f (in_head f t)))
+      ∙ none_flat (register_write (closing_of q s f)) (closing_registers f) (λ r has. nothing_differs (closing_of q s f) (closed_is f (in_s f (in_head f t))) r)
 
-  none_flat : {X : Type 0} (g : X → List Write) (xs : List X) → ((x : X) → Contains xs x → g x ≡ []) → flat_map g xs ≡ []
-  none_flat g [] none = refl
-  none_flat g (x ∷ xs) none = ap (λ ws. ws ++ flat_map g xs) (none x (in_head x xs)) ∙ none_flat g xs (λ y has. none y (in_tail x xs y has))
+  unset : (f : Function) → Contains s f → settled_function q s f ≡ closed_function q s f
+  unset f listed = same f listed ∙ sym (closed_is f listed)
 
-  no_register : (f : Function) → Contains s f → registers_of (change_of q s f) ≡ []
-  no_register f listed = none_flat (register_write (change_of q s f)) (address_registers (layout f.image))
-      (λ r has. ap (λ t. cond t [] (record { slot = f.slot; offset = r.0; width = r.1; value = number_at (settled_function q s f).image r.0 r.1 } ∷ []))
-      (eq-eqb (number_at (settled_function q s f).image r.0 r.1) (number_at f.image r.0 r.1) (ap (λ (g : Function). number_at g.image r.0 r.1) (same f listed))))
+  no_setting : (f : Function) → Contains s f → setting_from q s f ≡ []
+  no_setting f listed = none_flat (register_write (setting_of q s f)) (setting_registers (setting_of q s f)) (λ r has. nothing_differs (setting_of q s f) (unset f listed) r)
 
   no_opening : (f : Function) → Contains s f → opening_from q s f ≡ []
-  no_opening f listed = no_command f (closing_command q s f) (command (settled_function q s f).image) (ap (λ (g : Function). command g.image) (same f listed) ∙ sym (stays_closed f listed))
+  no_opening f listed = nothing_differs (setting_of q s f) (unset f listed) (COMMAND, 2)
 
   pub no_write : settle_writes q s ≡ []
   no_write =
-      ap (λ ws. ws ++ (flat_map (λ f. registers_of (change_of q s f)) s ++ flat_map (opening_from q s) s)) (no_closing s (λ f has. has))
-      ∙ ap (λ ws. ws ++ flat_map (opening_from q s) s) (none_flat (λ f. registers_of (change_of q s f)) s no_register)
+      ap (λ ws. ws ++ (flat_map (setting_from q s) s ++ flat_map (opening_from q s) s)) (no_closing s (λ f has. has))
+      ∙ ap (λ ws. ws ++ flat_map (opening_from q s) s) (none_flat (setting_from q s) s no_setting)
       ∙ none_flat (opening_from q s) s no_opening

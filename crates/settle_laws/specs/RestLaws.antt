@@ -5,7 +5,8 @@ use Rattle.pci_spec.specs.Number.{byte_at, has_bit}
 use Rattle.pci_spec.specs.Registers.{COMMAND}
 use Rattle.pci_spec.specs.Header.{command}
 use Rattle.pci_spec.specs.Window.{WindowKind}
-use Rattle.pci_spec.specs.System.{System, Function, IsSystem, Space, Part, is_bridge}
+use Rattle.pci_spec.specs.System.{System, Function, IsSystem, Space, Part, has_part, is_bridge, is_window, space_of}
+use Rattle.pci_spec.specs.Bus.{IsNested}
 use Rattle.pci_spec.specs.Machine.{Write, system_after, without_low}
 use Rattle.pci_spec.specs.Sound.{IsInProfile}
 use Rattle.plan_spec.specs.Plan.{bridges_above, is_open}
@@ -14,7 +15,8 @@ use Rattle.settle_spec.specs.Lists.{Request}
 use Rattle.settle_spec.specs.Parts.{parts_of, has_left}
 use Rattle.settle_spec.specs.Items.{has_of, stays}
 use Rattle.settle_spec.specs.Registers.{settled, settled_command}
-use Rattle.settle_spec.specs.Writes.{is_cut_off_in, settle_writes}
+use Rattle.settle_spec.specs.Writes.{moves, is_cut_off_in, is_shut, settle_writes}
+use Rattle.settle_laws.specs.PlacesLaws.{CanSettle}
 
 -- Each part of a function stays, and nothing cuts it off. As a bridge it needs no further window: one of each class of which
 -- a BAR or ROM is behind it is open.
@@ -34,7 +36,7 @@ pub record IsLeftAlone (q : Request) (s : System) (f : Function) : Type 0 where
 -- Then all that is written to the function is Command, and each bit of it that was set is written as set.
 abbrev pub LeftAloneIsOnlySwitchedOn : Type 0
 LeftAloneIsOnlySwitchedOn =
-    (q : Request) (s : System) → IsSystem s → (f : Function) → Contains s f
+    (q : Request) (s : System) → IsSystem s → IsNested q.roots s → (f : Function) → Contains s f
     → IsLeftAlone q s f → (w : Write) → Contains (settle_writes q s) w → w.slot ≡ f.slot
     → (w ≡ command_write f (settled_command q s f))
     × ((i : ℕ) → IsTrue (has_bit (command f.image) i)
@@ -53,7 +55,28 @@ pub record HasAllOf (old new : Function) : Type 0 where
 -- So it is at each stop: no space is off in which it was on, and each byte but those of Command is as it was.
 abbrev pub LeftAloneIsNeverOff : Type 0
 LeftAloneIsNeverOff =
-    (q : Request) (s : System) → IsSystem s → IsInProfile q.roots s
+    (q : Request) (s : System) → IsSystem s → IsNested q.roots s → IsInProfile q.roots s
     → IsInProfile q.roots (settled q s) → (f : Function) → Contains s f → IsLeftAlone q s f
     → (k : ℕ)
     → (g : Function) × Contains (system_after s (take k (settle_writes q s))) g × HasAllOf f g
+
+-- A BAR or ROM that stays doesn't move: its registers stay, and so do the windows of its class above it.
+abbrev pub StayingRests : Type 0
+StayingRests =
+    (q : Request) (s : System) → CanSettle q s → (f : Function) (p : Part) → Contains s f
+    → IsTrue (has_part f p) → IsTrue (stays q s record { function = f; part = p })
+    → IsFalse (moves q s record { function = f; part = p })
+
+-- The BARs and ROM of a function in a space stay, whatever becomes of its windows, and it isn't cut off there.
+pub record KeepsOwn (q : Request) (s : System) (space : Space) (f : Function) : Type 0 where
+  pub parts : (p : Part) → Contains (parts_of q s f) p → IsFalse (is_window p)
+      → space_of f p ≡ space → IsTrue (stays q s record { function = f; part = p })
+  pub reached : IsFalse (is_cut_off_in q s f space)
+
+-- So it is with a function and each bridge above it: then it isn't shut in the space.
+abbrev pub StayingIsUnshut : Type 0
+StayingIsUnshut =
+    (q : Request) (s : System) → CanSettle q s → (space : Space) (f : Function) → Contains s f
+    → KeepsOwn q s space f
+    → ((b : Function) → Contains (bridges_above s f.slot.bus) b → KeepsOwn q s space b)
+    → IsFalse (is_shut q s space f)

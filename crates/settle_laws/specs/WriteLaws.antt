@@ -1,30 +1,21 @@
--- Laws of the writes of settling: where they lead, what they leave alone, and that they can stop anywhere.
-use Rattle.std.specs.Prelude.{◌≡◌, ℕ, ◌+◌, ◌<◌, ◌≤◌, ◌⊎◌, IsTrue, IsFalse, [], length, map, take}
+-- Laws of the writes of settling: where they lead, how many they are, and what they leave alone.
+use Rattle.std.specs.Prelude.{◌≡◌, ℕ, ◌+◌, ◌<◌, ◌≤◌, ◌⊎◌, IsTrue, IsFalse, if◌then◌else◌, [], map, take}
 use Rattle.std.specs.List.{AllZip, Contains, count_by}
-use Rattle.pci_spec.specs.Number.{byte_at, IsImage}
+use Rattle.pci_spec.specs.Number.{byte_at, number_at, IsImage}
 use Rattle.pci_spec.specs.Slot.{same_slot}
 use Rattle.pci_spec.specs.Registers.{COMMAND}
-use Rattle.pci_spec.specs.Header.{command, layout}
-use Rattle.pci_spec.specs.System.{System, Function, IsSystem, Space, is_space_on}
+use Rattle.pci_spec.specs.Header.{command, layout, address_registers}
+use Rattle.pci_spec.specs.System.{System, Function, IsSystem, Space, is_bridge, is_space_on}
 use Rattle.pci_spec.specs.Bus.{IsNested}
 use Rattle.pci_spec.specs.Fault.{is_in_address_register}
 use Rattle.pci_spec.specs.Machine.{Write, after_writes, system_after, target_of, without_low}
-use Rattle.pci_spec.specs.Sound.{IsInProfile, HasChains, IsSound}
+use Rattle.pci_spec.specs.Sound.{IsInProfile, HasChains}
 use Rattle.plan_spec.specs.Plan.{IsMoved}
 use Rattle.plan_spec.specs.Planning.Building.{command_write}
-use Rattle.plan_spec.specs.Planning.PlanWrites.{most_writes}
 use Rattle.settle_spec.specs.Lists.{Request, are_bad_lists, end_above}
 use Rattle.settle_spec.specs.Parts.{has_left}
 use Rattle.settle_spec.specs.Registers.{settled, settled_command, settled_function}
-use Rattle.settle_spec.specs.Writes.{change_of, is_shut, closings, settle_writes}
-
--- Where the settled system is sound, the writes can stop anywhere from a sound start, and from any admitted start once the closing ones are made.
-abbrev pub SettledStopsAreSound : Type 0
-SettledStopsAreSound =
-    (q : Request) (s : System) → IsSystem s → IsNested q.roots s → IsInProfile q.roots s
-    → HasChains s → IsSound q.roots (settled q s) → (k : ℕ)
-    → (length (closings q s s) ≤ k) ⊎ IsSound q.roots s
-    → IsSound q.roots (system_after s (take k (settle_writes q s)))
+use Rattle.settle_spec.specs.Writes.{is_shut, is_left_on, settle_writes}
 
 -- After all writes the system is the settled one.
 abbrev pub WritesSettle : Type 0
@@ -46,18 +37,27 @@ SettledNeedsNoWrite =
     (q : Request) (s : System) → IsSystem s → IsNested q.roots s → settled q s ≡ s
     → settle_writes q s ≡ []
 
--- To a device at most 9 writes are made, and to a bridge 11.
+-- To a device at most 9 writes are made, and to a bridge 16.
+abbrev pub most_settle_writes : Function → ℕ
+most_settle_writes f = if is_bridge f then 16 else 9
+
 abbrev pub FewSettleWritesEach : Type 0
 FewSettleWritesEach =
     (q : Request) (s : System) → IsSystem s → (f : Function) → Contains s f
-    → count_by (λ w. same_slot w.slot f.slot) (settle_writes q s) ≤ most_writes (change_of q s f)
+    → count_by (λ w. same_slot w.slot f.slot) (settle_writes q s) ≤ most_settle_writes f
 
--- A function that isn't shut, with no I/O BAR that is left, is written only to switch it on.
+-- A function is shut in no space, no address register of it changes, and no I/O BAR of it is left.
+pub record KeepsRegisters (q : Request) (s : System) (f : Function) : Type 0 where
+  pub unshut : (space : Space) → IsFalse (is_shut q s space f)
+  pub same : (r : ℕ × ℕ) → Contains (address_registers (layout f.image)) r
+      → number_at (settled_function q s f).image r.0 r.1 ≡ number_at f.image r.0 r.1
+  pub unleft : IsFalse (has_left q s f)
+
+-- Such a function is written only to switch it on.
 abbrev pub UnshutIsOnlySwitchedOn : Type 0
 UnshutIsOnlySwitchedOn =
     (q : Request) (s : System) → IsSystem s → (f : Function) → Contains s f
-    → IsFalse (is_shut q s f) → IsFalse (has_left q s f) → (w : Write)
-    → Contains (settle_writes q s) w → w.slot ≡ f.slot
+    → KeepsRegisters q s f → (w : Write) → Contains (settle_writes q s) w → w.slot ≡ f.slot
     → (w ≡ command_write f (settled_command q s f))
     × ((space : Space) → IsTrue (is_space_on f space)
     → IsTrue (is_space_on (settled_function q s f) space))
@@ -66,10 +66,19 @@ UnshutIsOnlySwitchedOn =
 abbrev pub UnshutStays : Type 0
 UnshutStays =
     (q : Request) (s : System) → IsSystem s → IsInProfile q.roots s
-    → IsInProfile q.roots (settled q s) → (f : Function) → Contains s f
-    → IsFalse (is_shut q s f) → IsFalse (has_left q s f) → (k : ℕ)
+    → IsInProfile q.roots (settled q s) → (f : Function) → Contains s f → KeepsRegisters q s f
+    → (k : ℕ)
     → Contains (system_after s (take k (settle_writes q s))) f
     ⊎ Contains (system_after s (take k (settle_writes q s))) (settled_function q s f)
+
+-- A function is on in a space at each stop where it was on in it and isn't shut there, and has no I/O BAR that is left there.
+abbrev pub UnshutIsNeverOff : Type 0
+UnshutIsNeverOff =
+    (q : Request) (s : System) → IsSystem s → IsInProfile q.roots s
+    → IsInProfile q.roots (settled q s) → (f : Function) → Contains s f → (space : Space)
+    → IsTrue (is_left_on q s space f) → (k : ℕ)
+    → (g : Function) × Contains (system_after s (take k (settle_writes q s))) g × (g.slot ≡ f.slot)
+    × IsTrue (is_space_on g space)
 
 -- ---- what settling keeps
 

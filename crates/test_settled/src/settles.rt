@@ -94,13 +94,14 @@ fn bars_behind_a_bridge_are_placed_and_opened(rt: HostRuntime) -> Result<(), Fai
     ];
     const MEM: &[Listed] = &[(None, 0xe000_0000, 0xefff_ffff)];
     const WANTED: &[Wanted] = &[
+        (0, 1, 0x20, 4, 0x0000_fff0),
         (0, 1, 0x20, 4, 0xe010_e000),
         (1, 0, 0x10, 4, 0xe000_0000),
         (1, 0, 0x14, 4, 0xe010_0000),
         (0, 1, 0x04, 2, 2),
         (1, 0, 0x04, 2, 2),
     ];
-    assert!(rt; settles(rt.alloc(), &[0], BOARD, MEM, 0, WANTED));
+    assert!(rt; settles(rt.alloc(), &[0], BOARD, MEM, 1, WANTED));
     Ok(())
 }
 
@@ -155,12 +156,26 @@ fn io_that_is_left_is_switched_off(rt: HostRuntime) -> Result<(), Fail> {
 fn a_window_with_nothing_behind_is_closed(rt: HostRuntime) -> Result<(), Fail> {
     const BOARD: &[Row] = &[Bridge("00:01.0", 2, (0, 1, 1), &[(0x20, 0xe000_e000, 0xfff0_fff0)])];
     const MEM: &[Listed] = &[(None, 0xe000_0000, 0xe00f_ffff)];
-    const WANTED: &[Wanted] = &[
-        (0, 1, 0x04, 2, 0),
-        (0, 1, 0x20, 4, 0x0000_fff0),
-        (0, 1, 0x04, 2, 2),
-    ];
+    const WANTED: &[Wanted] = &[(0, 1, 0x20, 4, 0x0000_fff0)];
     assert!(rt; settles(rt.alloc(), &[0], BOARD, MEM, 1, WANTED));
+    Ok(())
+}
+
+#[test]
+fn a_bridge_stays_on_while_its_window_moves(rt: HostRuntime) -> Result<(), Fail> {
+    const BOARD: &[Row] = &[
+        Bridge("00:01.0", 3, (0, 1, 1), &[(0x20, 0xe010_e010, 0xfff0_fff0)]),
+        Device("01:00.0", 3, &[(0x10, 0xe010_0000, 0xffff_f000)]),
+    ];
+    const MEM: &[Listed] = &[(None, 0xe000_0000, 0xe00f_ffff)];
+    const WANTED: &[Wanted] = &[
+        (1, 0, 0x04, 2, 1),
+        (0, 1, 0x20, 4, 0x0000_fff0),
+        (0, 1, 0x20, 4, 0xe000_e000),
+        (1, 0, 0x10, 4, 0xe000_0000),
+        (1, 0, 0x04, 2, 3),
+    ];
+    assert!(rt; settles(rt.alloc(), &[0], BOARD, MEM, 2, WANTED));
     Ok(())
 }
 

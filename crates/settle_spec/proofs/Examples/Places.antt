@@ -40,7 +40,7 @@ io_window_of_two_pages = refl
 
 -- a window of wide I/O shows the upper halves
 wide_io_window : settle request (bridge (slot 0 1 0) 0 0x10100 ((0x1c, 0x01f1) ∷ (0x20, 0xfff0) ∷ (0x30, 0x00020003) ∷ []) ((0x1c, 0xf1f1) ∷ (0x30, 0xffffffff) ∷ []) ∷ ports (slot 1 0 0) 0 1 ∷ [])
-    ≡ Settled (write (slot 0 1 0) 0x1c 2 0x1111 ∷ write (slot 0 1 0) 0x30 4 0x00000000 ∷ write (slot 1 0 0) 0x10 4 0x1001 ∷ write (slot 0 1 0) 0x04 2 0x0001 ∷ write (slot 1 0 0) 0x04 2 0x0001 ∷ [])
+    ≡ Settled (write (slot 0 1 0) 0x30 4 0x0 ∷ write (slot 0 1 0) 0x1c 2 0x1111 ∷ write (slot 1 0 0) 0x10 4 0x1001 ∷ write (slot 0 1 0) 0x04 2 0x0001 ∷ write (slot 1 0 0) 0x04 2 0x0001 ∷ [])
 unfolding stands_within window_within holds_within placing_within is_live_within
 wide_io_window = refl
 
@@ -153,7 +153,7 @@ inner_has_none = refl
 
 -- nor has the outer one: what lies in the inner one's goes to memory, and that window is closed
 outer_has_none : settle request (outer 2 0xfff0 ∷ bridge (slot 1 0 0) 2 0x20201 ((0x20, 0xfff0) ∷ (0x24, 0x10001) ∷ (0x28, 1) ∷ (0x2c, 1) ∷ []) ((0x24, 0xfff1fff1) ∷ (0x28, 0xffffffff) ∷ (0x2c, 0xffffffff) ∷ []) ∷ device (slot 2 0 0) 2 ((0x10, 0xc) ∷ (0x14, 1) ∷ []) ((0x10, 0xfff0000c) ∷ (0x14, 0xffffffff) ∷ []) ∷ [])
-    ≡ Settled (write (slot 2 0 0) 0x04 2 0x0000 ∷ write (slot 1 0 0) 0x04 2 0x0000 ∷ write (slot 0 1 0) 0x04 2 0x0000 ∷ write (slot 0 1 0) 0x20 4 0xe000e000 ∷ write (slot 1 0 0) 0x20 4 0xe000e000 ∷ write (slot 1 0 0) 0x24 4 0x0001fff1 ∷ write (slot 1 0 0) 0x28 4 0x00000000 ∷ write (slot 1 0 0) 0x2c 4 0x00000000 ∷ write (slot 2 0 0) 0x10 4 0xe000000c ∷ write (slot 2 0 0) 0x14 4 0x00000000 ∷ write (slot 0 1 0) 0x04 2 0x0002 ∷ write (slot 1 0 0) 0x04 2 0x0002 ∷ write (slot 2 0 0) 0x04 2 0x0002 ∷ [])
+    ≡ Settled (write (slot 2 0 0) 0x04 2 0x0000 ∷ write (slot 1 0 0) 0x24 4 0x1fff1 ∷ write (slot 0 1 0) 0x20 4 0xe000e000 ∷ write (slot 1 0 0) 0x20 4 0xe000e000 ∷ write (slot 1 0 0) 0x2c 4 0x0 ∷ write (slot 1 0 0) 0x28 4 0x0 ∷ write (slot 2 0 0) 0x10 4 0xe000000c ∷ write (slot 2 0 0) 0x14 4 0x0 ∷ write (slot 2 0 0) 0x04 2 0x0002 ∷ [])
 unfolding stands_within window_within holds_within placing_within is_live_within
 outer_has_none = refl
 

@@ -52,7 +52,7 @@ unfolding stands_within window_within holds_within placing_within is_live_within
 what_is_off_stays_off = refl
 
 nothing_stands : settle request start
-    ≡ Settled (write (slot 0 1 0) 0x20 4 0xe010e000 ∷ write (slot 0 2 0) 0x10 4 0xe0200000 ∷ write (slot 1 0 0) 0x10 4 0xe0000000 ∷ write (slot 1 0 0) 0x14 4 0xe0100000 ∷ write (slot 0 1 0) 0x04 2 0x0002 ∷ write (slot 0 2 0) 0x04 2 0x0002 ∷ write (slot 1 0 0) 0x04 2 0x0002 ∷ [])
+    ≡ Settled (write (slot 0 1 0) 0x20 4 0xfff0 ∷ write (slot 0 1 0) 0x20 4 0xe010e000 ∷ write (slot 0 2 0) 0x10 4 0xe0200000 ∷ write (slot 1 0 0) 0x10 4 0xe0000000 ∷ write (slot 1 0 0) 0x14 4 0xe0100000 ∷ write (slot 0 1 0) 0x04 2 0x0002 ∷ write (slot 0 2 0) 0x04 2 0x0002 ∷ write (slot 1 0 0) 0x04 2 0x0002 ∷ [])
 unfolding stands_within window_within holds_within placing_within is_live_within
 nothing_stands = refl
 
@@ -88,7 +88,7 @@ plugged_in = refl
 
 -- and the window goes that can't take it
 window_goes : settle request (over 2 0xe000e000 ∷ plain (slot 1 0 0) 2 0xe0000000 0xfffff000 ∷ plain (slot 1 1 0) 0 0 0xfff00000 ∷ [])
-    ≡ Settled (write (slot 1 0 0) 0x04 2 0x0000 ∷ write (slot 0 1 0) 0x04 2 0x0000 ∷ write (slot 0 1 0) 0x20 4 0xe010e000 ∷ write (slot 1 0 0) 0x10 4 0xe0100000 ∷ write (slot 1 1 0) 0x10 4 0xe0000000 ∷ write (slot 0 1 0) 0x04 2 0x0002 ∷ write (slot 1 0 0) 0x04 2 0x0002 ∷ write (slot 1 1 0) 0x04 2 0x0002 ∷ [])
+    ≡ Settled (write (slot 1 0 0) 0x04 2 0x0000 ∷ write (slot 0 1 0) 0x20 4 0xfff0 ∷ write (slot 0 1 0) 0x20 4 0xe010e000 ∷ write (slot 1 0 0) 0x10 4 0xe0100000 ∷ write (slot 1 1 0) 0x10 4 0xe0000000 ∷ write (slot 1 0 0) 0x04 2 0x0002 ∷ write (slot 1 1 0) 0x04 2 0x0002 ∷ [])
 unfolding stands_within window_within holds_within placing_within is_live_within
 window_goes = refl
 
@@ -100,7 +100,7 @@ no_room = refl
 
 -- but they are where nothing stays
 all_anew : settle (record request { anew = true }) (over 2 0xe000e000 ∷ plain (slot 0 2 0) 2 0xe0100000 0xfff00000 ∷ plain (slot 1 0 0) 2 0xe0000000 0xfffff000 ∷ plain (slot 1 1 0) 0 0 0xfff00000 ∷ [])
-    ≡ Settled (write (slot 1 0 0) 0x04 2 0x0000 ∷ write (slot 0 2 0) 0x04 2 0x0000 ∷ write (slot 0 1 0) 0x04 2 0x0000 ∷ write (slot 0 1 0) 0x20 4 0xe010e000 ∷ write (slot 0 2 0) 0x10 4 0xe0200000 ∷ write (slot 1 0 0) 0x10 4 0xe0100000 ∷ write (slot 1 1 0) 0x10 4 0xe0000000 ∷ write (slot 0 1 0) 0x04 2 0x0002 ∷ write (slot 0 2 0) 0x04 2 0x0002 ∷ write (slot 1 0 0) 0x04 2 0x0002 ∷ write (slot 1 1 0) 0x04 2 0x0002 ∷ [])
+    ≡ Settled (write (slot 1 0 0) 0x04 2 0x0000 ∷ write (slot 0 2 0) 0x04 2 0x0000 ∷ write (slot 0 1 0) 0x20 4 0xfff0 ∷ write (slot 0 1 0) 0x20 4 0xe010e000 ∷ write (slot 0 2 0) 0x10 4 0xe0200000 ∷ write (slot 1 0 0) 0x10 4 0xe0100000 ∷ write (slot 1 1 0) 0x10 4 0xe0000000 ∷ write (slot 0 2 0) 0x04 2 0x0002 ∷ write (slot 1 0 0) 0x04 2 0x0002 ∷ write (slot 1 1 0) 0x04 2 0x0002 ∷ [])
 unfolding stands_within window_within holds_within placing_within is_live_within
 all_anew = refl
 
@@ -118,7 +118,7 @@ later_range = refl
 
 -- a window that firmware left open at 0 is closed
 window_left_open_at_0 : settle request (bridge (slot 0 1 0) 2 0x10100 ((0x20, 0xfff0) ∷ (0x24, 0x10001) ∷ []) ((0x24, 0xfff1fff1) ∷ (0x28, 0xffffffff) ∷ (0x2c, 0xffffffff) ∷ []) ∷ plain (slot 0 2 0) 2 0 0xfffff000 ∷ [])
-    ≡ Settled (write (slot 0 2 0) 0x04 2 0x0000 ∷ write (slot 0 1 0) 0x04 2 0x0000 ∷ write (slot 0 1 0) 0x24 4 0x0001fff1 ∷ write (slot 0 2 0) 0x10 4 0xe0000000 ∷ write (slot 0 1 0) 0x04 2 0x0002 ∷ write (slot 0 2 0) 0x04 2 0x0002 ∷ [])
+    ≡ Settled (write (slot 0 2 0) 0x04 2 0x0000 ∷ write (slot 0 1 0) 0x24 4 0x1fff1 ∷ write (slot 0 2 0) 0x10 4 0xe0000000 ∷ write (slot 0 2 0) 0x04 2 0x0002 ∷ [])
 unfolding stands_within window_within holds_within placing_within is_live_within
 window_left_open_at_0 = refl
 
@@ -140,7 +140,7 @@ unfolding stands_within window_within holds_within placing_within is_live_within
 prefetchable_in_memory_stays = refl
 
 prefetchable_window_opens : settle request (bridge (slot 0 1 0) 2 0x10100 ((0x20, 0xe000e000) ∷ (0x24, 0x1fff1) ∷ []) ((0x24, 0xfff1fff1) ∷ (0x28, 0xffffffff) ∷ (0x2c, 0xffffffff) ∷ []) ∷ device (slot 1 0 0) 0 ((0x10, 0xc) ∷ []) ((0x10, 0xfffff00c) ∷ (0x14, 0xffffffff) ∷ []) ∷ [])
-    ≡ Settled (write (slot 0 1 0) 0x04 2 0x0000 ∷ write (slot 0 1 0) 0x24 4 0x00010001 ∷ write (slot 0 1 0) 0x28 4 0x00000001 ∷ write (slot 0 1 0) 0x2c 4 0x00000001 ∷ write (slot 1 0 0) 0x14 4 0x00000001 ∷ write (slot 0 1 0) 0x04 2 0x0002 ∷ write (slot 1 0 0) 0x04 2 0x0002 ∷ [])
+    ≡ Settled (write (slot 0 1 0) 0x28 4 0x1 ∷ write (slot 0 1 0) 0x2c 4 0x1 ∷ write (slot 0 1 0) 0x24 4 0x10001 ∷ write (slot 1 0 0) 0x14 4 0x1 ∷ write (slot 1 0 0) 0x04 2 0x0002 ∷ [])
 unfolding stands_within window_within holds_within placing_within is_live_within
 prefetchable_window_opens = refl
 

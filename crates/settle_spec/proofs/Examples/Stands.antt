@@ -104,7 +104,7 @@ outside_its_window = refl
 
 -- a window outside the ranges moves with what is behind it
 window_outside_the_ranges : settle request (over 2 0xd000d000 ∷ plain (slot 1 0 0) 2 0xd0000000 0xfffff000 ∷ [])
-    ≡ Settled (write (slot 1 0 0) 0x04 2 0x0000 ∷ write (slot 0 1 0) 0x04 2 0x0000 ∷ write (slot 0 1 0) 0x20 4 0xe000e000 ∷ write (slot 1 0 0) 0x10 4 0xe0000000 ∷ write (slot 0 1 0) 0x04 2 0x0002 ∷ write (slot 1 0 0) 0x04 2 0x0002 ∷ [])
+    ≡ Settled (write (slot 1 0 0) 0x04 2 0x0000 ∷ write (slot 0 1 0) 0x20 4 0xfff0 ∷ write (slot 0 1 0) 0x20 4 0xe000e000 ∷ write (slot 1 0 0) 0x10 4 0xe0000000 ∷ write (slot 1 0 0) 0x04 2 0x0002 ∷ [])
 unfolding stands_within window_within holds_within placing_within is_live_within
 window_outside_the_ranges = refl
 
@@ -112,7 +112,7 @@ window_outside_the_ranges = refl
 
 -- a window that clashes with a larger BAR moves, and a BAR that clashes with that window alone stays
 clash_with_one_that_moves : settle (with_memory (all_roots 0xe0000000 0xe0bfffff ∷ [])) (plain (slot 0 1 0) 2 0xe0400000 0xffc00000 ∷ bridge (slot 0 2 0) 2 0x10100 ((0x20, 0xe090e070) ∷ []) [] ∷ plain (slot 0 3 0) 2 0xe0800000 0xffe00000 ∷ plain (slot 1 0 0) 2 0xe0700000 0xfff00000 ∷ [])
-    ≡ Settled (write (slot 1 0 0) 0x04 2 0x0000 ∷ write (slot 0 2 0) 0x04 2 0x0000 ∷ write (slot 0 2 0) 0x20 4 0xe000e000 ∷ write (slot 1 0 0) 0x10 4 0xe0000000 ∷ write (slot 0 2 0) 0x04 2 0x0002 ∷ write (slot 1 0 0) 0x04 2 0x0002 ∷ [])
+    ≡ Settled (write (slot 1 0 0) 0x04 2 0x0000 ∷ write (slot 0 2 0) 0x20 4 0xfff0 ∷ write (slot 0 2 0) 0x20 4 0xe000e000 ∷ write (slot 1 0 0) 0x10 4 0xe0000000 ∷ write (slot 1 0 0) 0x04 2 0x0002 ∷ [])
 unfolding stands_within window_within holds_within placing_within is_live_within
 clash_with_one_that_moves = refl
 
@@ -130,13 +130,13 @@ full_window_stays = refl
 
 -- the outer window has no room for what is plugged in behind it: all that is behind it loses its place, also in the inner one, and gets another or the same
 outer_window_goes : settle request (bridge (slot 0 1 0) 2 0x20100 ((0x20, 0xe000e000) ∷ []) [] ∷ bridge (slot 1 0 0) 2 0x20201 ((0x20, 0xe000e000) ∷ []) [] ∷ plain (slot 1 1 0) 0 0 0xfff00000 ∷ plain (slot 2 0 0) 2 0xe0001000 0xfffff000 ∷ [])
-    ≡ Settled (write (slot 2 0 0) 0x04 2 0x0000 ∷ write (slot 1 0 0) 0x04 2 0x0000 ∷ write (slot 0 1 0) 0x04 2 0x0000 ∷ write (slot 0 1 0) 0x20 4 0xe010e000 ∷ write (slot 1 1 0) 0x10 4 0xe0100000 ∷ write (slot 2 0 0) 0x10 4 0xe0000000 ∷ write (slot 0 1 0) 0x04 2 0x0002 ∷ write (slot 1 0 0) 0x04 2 0x0002 ∷ write (slot 1 1 0) 0x04 2 0x0002 ∷ write (slot 2 0 0) 0x04 2 0x0002 ∷ [])
+    ≡ Settled (write (slot 2 0 0) 0x04 2 0x0000 ∷ write (slot 0 1 0) 0x20 4 0xfff0 ∷ write (slot 0 1 0) 0x20 4 0xe010e000 ∷ write (slot 1 1 0) 0x10 4 0xe0100000 ∷ write (slot 2 0 0) 0x10 4 0xe0000000 ∷ write (slot 1 1 0) 0x04 2 0x0002 ∷ write (slot 2 0 0) 0x04 2 0x0002 ∷ [])
 unfolding stands_within window_within holds_within placing_within is_live_within
 outer_window_goes = refl
 
 -- a BAR that both windows over it hold counts as memory: the memory window moves with it, as the other one is larger
 in_both_windows : settle (with_prefetch (all_roots 0xe0000000 0xe02fffff ∷ [])) (bridge (slot 0 1 0) 2 0x10100 ((0x20, 0xe000e000) ∷ (0x24, 0xe010e000) ∷ []) ((0x24, 0xfff0fff0) ∷ []) ∷ plain (slot 1 0 0) 2 0xe0000008 0xfffff008 ∷ [])
-    ≡ Settled (write (slot 1 0 0) 0x04 2 0x0000 ∷ write (slot 0 1 0) 0x04 2 0x0000 ∷ write (slot 0 1 0) 0x20 4 0xe020e020 ∷ write (slot 1 0 0) 0x10 4 0xe0200008 ∷ write (slot 0 1 0) 0x04 2 0x0002 ∷ write (slot 1 0 0) 0x04 2 0x0002 ∷ [])
+    ≡ Settled (write (slot 1 0 0) 0x04 2 0x0000 ∷ write (slot 0 1 0) 0x20 4 0xfff0 ∷ write (slot 0 1 0) 0x20 4 0xe020e020 ∷ write (slot 1 0 0) 0x10 4 0xe0200008 ∷ write (slot 1 0 0) 0x04 2 0x0002 ∷ [])
 unfolding stands_within window_within holds_within placing_within is_live_within
 in_both_windows = refl
 
@@ -160,6 +160,6 @@ device_is_no_bridge = refl
 
 -- the inner window has no room for what is plugged in behind it, nor has the outer one for a larger inner one: both go
 both_windows_go : settle request (bridge (slot 0 1 0) 2 0x20100 ((0x20, 0xe000e000) ∷ []) [] ∷ bridge (slot 1 0 0) 2 0x20201 ((0x20, 0xe000e000) ∷ []) [] ∷ plain (slot 2 0 0) 2 0xe0000000 0xfffff000 ∷ plain (slot 2 1 0) 0 0 0xfff00000 ∷ [])
-    ≡ Settled (write (slot 2 0 0) 0x04 2 0x0000 ∷ write (slot 1 0 0) 0x04 2 0x0000 ∷ write (slot 0 1 0) 0x04 2 0x0000 ∷ write (slot 0 1 0) 0x20 4 0xe010e000 ∷ write (slot 1 0 0) 0x20 4 0xe010e000 ∷ write (slot 2 0 0) 0x10 4 0xe0100000 ∷ write (slot 2 1 0) 0x10 4 0xe0000000 ∷ write (slot 0 1 0) 0x04 2 0x0002 ∷ write (slot 1 0 0) 0x04 2 0x0002 ∷ write (slot 2 0 0) 0x04 2 0x0002 ∷ write (slot 2 1 0) 0x04 2 0x0002 ∷ [])
+    ≡ Settled (write (slot 2 0 0) 0x04 2 0x0000 ∷ write (slot 1 0 0) 0x20 4 0xfff0 ∷ write (slot 0 1 0) 0x20 4 0xfff0 ∷ write (slot 0 1 0) 0x20 4 0xe010e000 ∷ write (slot 1 0 0) 0x20 4 0xe010e000 ∷ write (slot 2 0 0) 0x10 4 0xe0100000 ∷ write (slot 2 1 0) 0x10 4 0xe0000000 ∷ write (slot 2 0 0) 0x04 2 0x0002 ∷ write (slot 2 1 0) 0x04 2 0x0002 ∷ [])
 unfolding stands_within window_within holds_within placing_within is_live_within
 both_windows_go = refl

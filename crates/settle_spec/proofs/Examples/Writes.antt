@@ -109,7 +109,7 @@ left_beside_memory = refl
 
 -- the outer of two bridges has no I/O window
 left_two_levels_down : settle request (bridge (slot 0 1 0) 1 0x20100 ((0x20, 0xfff0) ∷ []) [] ∷ bridge (slot 1 0 0) 1 0x20201 ((0x1c, 0x2020) ∷ (0x20, 0xfff0) ∷ []) ((0x1c, 0xf0f0) ∷ []) ∷ device (slot 2 0 0) 1 ((0x10, 0x2001) ∷ []) ((0x10, 0xffffff01) ∷ []) ∷ [])
-    ≡ Settled (write (slot 2 0 0) 0x04 2 0x0000 ∷ write (slot 1 0 0) 0x04 2 0x0000 ∷ write (slot 1 0 0) 0x1c 2 0x00f0 ∷ write (slot 1 0 0) 0x04 2 0x0001 ∷ [])
+    ≡ Settled (write (slot 2 0 0) 0x04 2 0x0000 ∷ write (slot 1 0 0) 0x1c 2 0x00f0 ∷ [])
 unfolding stands_within window_within holds_within placing_within is_live_within
 left_two_levels_down = refl
 
@@ -135,7 +135,7 @@ rom_moves = refl
 
 -- a prefetchable window of two pages above 4 GB
 prefetchable_of_two_pages : settle (record request { lists = record lists { prefetch = all_roots 0x1ffe00000 0x2ffffffff ∷ [] } }) (bridge (slot 0 1 0) 0 0x10100 ((0x20, 0xfff0) ∷ (0x24, 0x1fff1) ∷ []) ((0x24, 0xfff1fff1) ∷ (0x28, 0xffffffff) ∷ (0x2c, 0xffffffff) ∷ []) ∷ device (slot 1 0 0) 0 ((0x10, 0xc) ∷ []) ((0x10, 0xffe0000c) ∷ (0x14, 0xffffffff) ∷ []) ∷ [])
-    ≡ Settled (write (slot 0 1 0) 0x24 4 0xfff1ffe1 ∷ write (slot 0 1 0) 0x28 4 0x00000001 ∷ write (slot 0 1 0) 0x2c 4 0x00000001 ∷ write (slot 1 0 0) 0x10 4 0xffe0000c ∷ write (slot 1 0 0) 0x14 4 0x00000001 ∷ write (slot 0 1 0) 0x04 2 0x0002 ∷ write (slot 1 0 0) 0x04 2 0x0002 ∷ [])
+    ≡ Settled (write (slot 0 1 0) 0x28 4 0x1 ∷ write (slot 0 1 0) 0x2c 4 0x1 ∷ write (slot 0 1 0) 0x24 4 0xfff1ffe1 ∷ write (slot 1 0 0) 0x10 4 0xffe0000c ∷ write (slot 1 0 0) 0x14 4 0x1 ∷ write (slot 0 1 0) 0x04 2 0x0002 ∷ write (slot 1 0 0) 0x04 2 0x0002 ∷ [])
 unfolding stands_within window_within holds_within placing_within is_live_within
 prefetchable_of_two_pages = refl
 
@@ -177,19 +177,19 @@ fixed_bridge_would_open_a_window : settle (record request { fixed = slot 0 1 0 �
 unfolding stands_within window_within holds_within placing_within is_live_within
 fixed_bridge_would_open_a_window = refl
 
--- two functions behind one bridge that moves are shut from the highest slot down, and opened from the lowest up
+-- two functions in one window that moves are shut from the highest slot down, and opened from the lowest up
 shut_from_above : settle request (over 2 0xd000d000 ∷ plain (slot 1 0 0) 6 0xd0000000 0xfffff000 ∷ plain (slot 1 1 0) 2 0xd0001000 0xfffff000 ∷ [])
-    ≡ Settled (write (slot 1 1 0) 0x04 2 0x0000 ∷ write (slot 1 0 0) 0x04 2 0x0004 ∷ write (slot 0 1 0) 0x04 2 0x0000 ∷ write (slot 0 1 0) 0x20 4 0xe000e000 ∷ write (slot 1 0 0) 0x10 4 0xe0000000 ∷ write (slot 1 1 0) 0x10 4 0xe0001000 ∷ write (slot 0 1 0) 0x04 2 0x0002 ∷ write (slot 1 0 0) 0x04 2 0x0006 ∷ write (slot 1 1 0) 0x04 2 0x0002 ∷ [])
+    ≡ Settled (write (slot 1 1 0) 0x04 2 0x0000 ∷ write (slot 1 0 0) 0x04 2 0x0004 ∷ write (slot 0 1 0) 0x20 4 0xfff0 ∷ write (slot 0 1 0) 0x20 4 0xe000e000 ∷ write (slot 1 0 0) 0x10 4 0xe0000000 ∷ write (slot 1 1 0) 0x10 4 0xe0001000 ∷ write (slot 1 0 0) 0x04 2 0x0006 ∷ write (slot 1 1 0) 0x04 2 0x0002 ∷ [])
 unfolding stands_within window_within holds_within placing_within is_live_within
 shut_from_above = refl
 
--- what stays behind a bridge that moves in another space is shut all the same
-shut_for_its_bridge : settle request (bridge (slot 0 1 0) 3 0x10100 ((0x1c, 0x2020) ∷ (0x20, 0xd000d000) ∷ []) ((0x1c, 0xf0f0) ∷ []) ∷ plain (slot 1 0 0) 2 0xd0000000 0xfffff000 ∷ device (slot 1 1 0) 1 ((0x10, 0x2001) ∷ []) ((0x10, 0xffffff01) ∷ []) ∷ [])
-    ≡ Settled (write (slot 1 1 0) 0x04 2 0x0000 ∷ write (slot 1 0 0) 0x04 2 0x0000 ∷ write (slot 0 1 0) 0x04 2 0x0000 ∷ write (slot 0 1 0) 0x20 4 0xe000e000 ∷ write (slot 1 0 0) 0x10 4 0xe0000000 ∷ write (slot 0 1 0) 0x04 2 0x0003 ∷ write (slot 1 0 0) 0x04 2 0x0002 ∷ write (slot 1 1 0) 0x04 2 0x0001 ∷ [])
+-- what is behind a bridge, and not in the window that moves, stays on
+on_behind_another_window : settle request (bridge (slot 0 1 0) 3 0x10100 ((0x1c, 0x2020) ∷ (0x20, 0xd000d000) ∷ []) ((0x1c, 0xf0f0) ∷ []) ∷ plain (slot 1 0 0) 2 0xd0000000 0xfffff000 ∷ device (slot 1 1 0) 1 ((0x10, 0x2001) ∷ []) ((0x10, 0xffffff01) ∷ []) ∷ [])
+    ≡ Settled (write (slot 1 0 0) 0x04 2 0x0000 ∷ write (slot 0 1 0) 0x20 4 0xfff0 ∷ write (slot 0 1 0) 0x20 4 0xe000e000 ∷ write (slot 1 0 0) 0x10 4 0xe0000000 ∷ write (slot 1 0 0) 0x04 2 0x0002 ∷ [])
 unfolding stands_within window_within holds_within placing_within is_live_within
-shut_for_its_bridge = refl
+on_behind_another_window = refl
 
--- a bridge two levels up that changes shuts what is behind, also what keeps its place
+-- a bridge two levels up whose ROM moves shuts what is behind, also what keeps its place
 shut_two_levels_down : settle request (bridge (slot 0 1 0) 2 0x20100 ((0x20, 0xe000e000) ∷ (0x38, 0xd0000001) ∷ []) ((0x38, 0xffff0000) ∷ []) ∷ bridge (slot 1 0 0) 2 0x20201 ((0x20, 0xe000e000) ∷ []) [] ∷ plain (slot 2 0 0) 2 0xe0000000 0xfffff000 ∷ [])
     ≡ Settled (write (slot 2 0 0) 0x04 2 0x0000 ∷ write (slot 1 0 0) 0x04 2 0x0000 ∷ write (slot 0 1 0) 0x04 2 0x0000 ∷ write (slot 0 1 0) 0x38 4 0xe0100001 ∷ write (slot 0 1 0) 0x04 2 0x0002 ∷ write (slot 1 0 0) 0x04 2 0x0002 ∷ write (slot 2 0 0) 0x04 2 0x0002 ∷ [])
 unfolding stands_within window_within holds_within placing_within is_live_within
@@ -206,3 +206,23 @@ upper_half_is_no_io : settle (with_io []) (device (slot 0 1 0) 3 ((0x10, 0xe0000
     ≡ Settled []
 unfolding stands_within window_within holds_within placing_within is_live_within
 upper_half_is_no_io = refl
+
+-- ---- windows that are closed meanwhile
+
+-- one space of a function is shut, the other stays on
+one_space_is_shut : settle request (bridge (slot 0 1 0) 3 0x10100 ((0x1c, 0x1010) ∷ (0x20, 0xd000d000) ∷ []) ((0x1c, 0xf0f0) ∷ []) ∷ device (slot 1 0 0) 3 ((0x10, 0xd0000000) ∷ (0x14, 0x1001) ∷ []) ((0x10, 0xfffff000) ∷ (0x14, 0xffffff01) ∷ []) ∷ [])
+    ≡ Settled (write (slot 1 0 0) 0x04 2 0x0001 ∷ write (slot 0 1 0) 0x20 4 0xfff0 ∷ write (slot 0 1 0) 0x20 4 0xe000e000 ∷ write (slot 1 0 0) 0x10 4 0xe0000000 ∷ write (slot 1 0 0) 0x04 2 0x0003 ∷ [])
+unfolding stands_within window_within holds_within placing_within is_live_within
+one_space_is_shut = refl
+
+-- a prefetchable window of more than 4 GB: its upper limit comes down to the upper base, and then the limit is set before the base
+upper_limit_is_lowered : settle request (bridge (slot 0 1 0) 2 0x10100 ((0x20, 0xfff0) ∷ (0x24, 0xfff10001) ∷ (0x28, 3) ∷ (0x2c, 5) ∷ []) ((0x24, 0xfff1fff1) ∷ (0x28, 0xffffffff) ∷ (0x2c, 0xffffffff) ∷ []) ∷ device (slot 1 0 0) 2 ((0x10, 0xc) ∷ (0x14, 4) ∷ []) ((0x10, 0xfff0000c) ∷ (0x14, 0xffffffff) ∷ []) ∷ [])
+    ≡ Settled (write (slot 1 0 0) 0x04 2 0x0000 ∷ write (slot 0 1 0) 0x24 4 0x1fff1 ∷ write (slot 0 1 0) 0x2c 4 3 ∷ write (slot 0 1 0) 0x2c 4 1 ∷ write (slot 0 1 0) 0x28 4 1 ∷ write (slot 0 1 0) 0x24 4 0x10001 ∷ write (slot 1 0 0) 0x14 4 1 ∷ write (slot 1 0 0) 0x04 2 0x0002 ∷ [])
+unfolding stands_within window_within holds_within placing_within is_live_within
+upper_limit_is_lowered = refl
+
+-- an I/O window of more than 64 KB: both upper halves are written at once
+upper_ports_are_lowered : settle request (bridge (slot 0 1 0) 1 0x10100 ((0x1c, 0xf101) ∷ (0x20, 0xfff0) ∷ (0x30, 0x00020001) ∷ []) ((0x1c, 0xf1f1) ∷ (0x30, 0xffffffff) ∷ []) ∷ [])
+    ≡ Settled (write (slot 0 1 0) 0x1c 2 0x1f1 ∷ write (slot 0 1 0) 0x30 4 0x00010001 ∷ write (slot 0 1 0) 0x30 4 0 ∷ [])
+unfolding stands_within window_within holds_within placing_within is_live_within
+upper_ports_are_lowered = refl

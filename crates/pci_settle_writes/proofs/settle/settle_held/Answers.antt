@@ -23,7 +23,7 @@ returns-in-Some-clause-refusal g c = λ q flags told.
     let s = system_in c.args.admitted.now in
     let placed = c.in_ok-table.ensures.places q told.leaving in
     let places = subst (HasAllPlaces q s) (sym c.as_slice.ensures.value) record { count = placed.count; each = placed.each } in
-    let by = c.in_ok-settled.ensures.settled q told.asked places told.stay in
+    let by = c.in_ok-settled.ensures.settled q told.asked told.leaving.overs_are places told.stay in
     written c.args.admitted.now q told.kept placed.lack (map write_value c.in_ok-settled.settled.writes.all.items) by.writes_are c.in-Some.fault
     (c.in-Some.ensures q flags ∙ ap (λ ws. option_map fixed_register (fixed_write q (map write_value ws))) c.as_slice-2.ensures.value)
 
@@ -32,7 +32,7 @@ returns-clause-ends g c = λ q flags told.
     let s = system_in c.args.admitted.now in
     let placed = c.in_ok-table.ensures.places q told.leaving in
     let places = subst (HasAllPlaces q s) (sym c.as_slice.ensures.value) record { count = placed.count; each = placed.each } in
-    let by = c.in_ok-settled.ensures.settled q told.asked places told.stay in
+    let by = c.in_ok-settled.ensures.settled q told.asked told.leaving.overs_are places told.stay in
     record {
       by = by;
       room = placed.lack;

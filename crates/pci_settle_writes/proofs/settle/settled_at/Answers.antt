@@ -8,7 +8,7 @@ pub writes_to-requires : goal.writes_to-requires
 writes_to-requires g c = ap length c.blocks-2.ensures.value ∙ same_titles c.in_ok-dump.dump c.args.admitted.now.dump c.in_ok-dump.ensures.titles
 
 pub returns-clause-settled : goal.returns-clause-settled
-returns-clause-settled g c = λ q asked places stay.
+returns-clause-settled g c = λ q asked overs_are places stay.
     let to = c.in_ok-dump.ensures.settled q asked places stay in
     let blocks = subst (λ (bs : List Block). IsSettledDump q c.args.admitted.now bs) (sym c.blocks-2.ensures.value) to in
-    record { settled = to; writes_are = c.in_ok-writes.ensures.writes q asked blocks; closing = c.in_ok-writes.ensures.closings q asked blocks }
+    record { settled = to; writes_are = c.in_ok-writes.ensures.writes q asked overs_are blocks; closing = c.in_ok-writes.ensures.closings q asked overs_are blocks }

@@ -1,37 +1,48 @@
-use Rattle.std.proofs.Common.{◌≡◌, ◌∙◌, ◌+◌, ◌<◌, ◌++◌, [], ◌∷◌, ℕ, List, length, get_or, false, not, ◌||◌, arith, sym, ap, subst}
+use Rattle.std.proofs.Common.{◌≡◌, ◌∙◌, ◌+◌, ◌<◌, ◌++◌, [], ◌∷◌, ℕ, List, length, get_or, false, not, ◌&&◌, ◌||◌, arith, sym, ap, subst}
 use Rattle.std.proofs.lemmas.List.{length-append}
 use Rattle.pci_spec.specs.Slot.{Slot}
 use Rattle.pci_spec.specs.Text.{Block}
+use Rattle.pci_spec.specs.System.{Space}
 use Rattle.pci_spec.proofs.Pairing.{same_length, length-system_of}
 use Rattle.settle_spec.specs.Lists.{Request, Lists}
-use Rattle.settle_spec.specs.Writes.{is_changed}
+use Rattle.settle_spec.specs.Registers.{settled_function}
+use Rattle.pci_base.specs.Space.{is_on}
 use Rattle.pci_function.specs.declared.record.Record.{Record}
 use Rattle.pci_tree.specs.Admission.{Admission, IsAdmitted}
 use Rattle.pci_tree.proofs.Lifting.{same_slot_of}
 use Rattle.pci_place.specs.declared.above.Above.{Above}
 use Rattle.pci_place.specs.Above.{system_in, IsAbove}
 use Rattle.pci_place.proofs.Records.{lent, FunctionAt, same_count, function_read}
+use Rattle.pci_settle.specs.declared.over.Over.{Over}
 use Rattle.pci_settle.specs.Lists.{lists_value}
+use Rattle.pci_settle.specs.Over.{AreClassWindows, no_windows}
 use Rattle.pci_settle.specs.Own.{AreTerms}
+use Rattle.pci_settling.proofs.Registers.{have_registers}
+use Rattle.pci_settle_writes.specs.declared.shut.Around.{Around}
 use Rattle.pci_settle_writes.specs.declared.way.Way.{Way}
 use Rattle.pci_settle_writes.specs.Requests.{IsAskedOf}
 use Rattle.pci_settle_writes.specs.Dumps.{IsSettledDump}
-use Rattle.pci_settle_writes.specs.Shut.{is_image_changed, closing_by}
+use Rattle.pci_settle_writes.specs.Shut.{IsWay, IsAround, in_space, in_class, is_window_changed, is_shut_by, closing_by}
 use Rattle.pci_settle_writes.specs.Stages.{AreOf, AreSettledBlocks}
 use Rattle.pci_settle_writes.proofs.States.{start_of, settled_of}
-use Rattle.pci_settle_writes.proofs.Closings.{AreClosedTo, none_closed, all_closed, changed_is, closed_same, closed_more}
+use Rattle.pci_settle_writes.proofs.Ways.{by_spaces, by_classes}
+use Rattle.pci_settle_writes.proofs.Closings.{AreClosedTo, none_closed, all_closed, start_image, settled_image, way_at, closed_same, closed_more}
 use Rattle.pci_settle_writes.proofs.shut.closing_commands.Goals as goal
-use Rattle.pci_settle_writes.proofs.shut.closing_commands.Goals.{After-blocks-start, then-shut, else-shut, in-Some, in_default}
-use Rattle.pci_settle_writes.proofs.shut.closing_commands.Given.{Over}
+use Rattle.pci_settle_writes.proofs.shut.closing_commands.Goals.{After-blocks-start, in-Some, in_default}
+use Rattle.pci_settle_writes.proofs.shut.closing_commands.Given.{Over as Outer}
 
 -- what stands there where a table has no bus
 abbrev no_above : Above
 no_above = record { io = false; pref = false; wide = false }
 
 abbrev no_way : Way
-no_way = record { io = false; memory = false; clear = false }
+no_way = record {
+  on = record { io = false; memory = false };
+  clear = record { io = false; memory = false };
+  same = record { io = false; memory = false; prefetchable = false };
+}
 
-module _ (g : Over) (c : After-blocks-start g) where
+module _ (g : Outer) (c : After-blocks-start g) where
   abbrev a : Admission
   a = c.args.admitted.now
 
@@ -69,7 +80,7 @@ loop-k-init g c =
     let start = (goal.at.loop-k-init g c).After-blocks-start in
     record {
       count = ap length c.new-commands.ensures.items;
-      closed = λ q asked to.
+      closed = λ q asked told to.
           let none = none_closed q (a g start).roots (system_in (a g start)) (admitted_is g start).system (admitted_is g start).nested in
           record { marks = none.marks; values = c.new-commands.ensures.items };
     }
@@ -92,6 +103,12 @@ bounds-settled-k g c =
     let more = c.loop-k-test.true in
     omega (arith, s, n, e, more)
 
+pub shut_itself-itself-requires : goal.shut_itself-itself-requires
+shut_itself-itself-requires g c =
+    let first = (goal.at.shut_itself-itself-requires g c).After-blocks-start in
+    let here = function_here g first c.loop-k.k c.index-records-k.result c.loop-k-test.true c.index-records-k.is in
+    have_registers (system_in (a g first)) here.f c.index-records-k.result here.is
+
 pub loop-k-preserved : goal.loop-k-preserved
 loop-k-preserved g c =
     let first = (goal.at.loop-k-preserved g c).After-blocks-start in
@@ -102,36 +119,50 @@ loop-k-preserved g c =
     let r = c.index-records-k.result in
     let here = function_here g first k r c.loop-k-test.true c.index-records-k.is in
     let f = here.f in
-    let bus : c.from-bus.result ≡ f.slot.bus = c.from-bus.ensures ∙ c.bus.ensures ∙ ap (λ (x : Slot). x.bus) (same_slot_of r f here.is.value) in
-    let over = subst (λ n. IsAbove s f.slot.bus (get_or c.aboves-aboves.result n no_above)) (sym bus) (c.aboves-aboves.ensures f no_above here.is.listed) in
-    let above : Above = get_or c.aboves-aboves.result c.from-bus.result no_above in
-    let way : Way = get_or c.loop-k.ways c.from-bus.result no_way in
-    let shut : c.if-shut.closing_command ≡ (c.is_shut_itself-shut.result || not way.clear) = elim c.if-shut.branch [
-      | then-shut w ↦ w.closing_command-is ∙ w.if-shut.true ∙ sym (ap (λ b. b || not way.clear) w.if-shut.true)
-      | else-shut w ↦ w.closing_command-is ∙ sym (ap (λ b. b || not way.clear) w.if-shut.false)
-    ] in
-    let commands : c.push.new.self.items ≡ c.loop-k.commands.items ++ closing_by above c.of-terms.result r (c.is_shut_itself-shut.result || not way.clear) ∷ [] =
-    c.in_ok-push.ensures.items ∙ ap (λ x. c.loop-k.commands.items ++ x ∷ []) (c.closing_command.ensures ∙ ap (closing_by above c.of-terms.result r) shut) in
+    let bus : c.bus-bus.result ≡ f.slot.bus = c.bus-bus.ensures ∙ ap (λ (x : Slot). x.bus) (same_slot_of r f here.is.value) in
+    let way : Way = get_or c.loop-k.ways c.from.result no_way in
+    let above : Above = get_or c.aboves-aboves.result c.from-in-loop-k.result no_above in
+    let over : Over = record { above = above; windows = c.open_over.result } in
+    let around : Around = record { over = over; terms = c.of-terms.result; way = way } in
+    let commands : c.push.new.self.items ≡ c.loop-k.commands.items ++ closing_by around r c.shut.result ∷ [] =
+    c.in_ok-push.ensures.items ∙ ap (λ x. c.loop-k.commands.items ++ x ∷ []) c.closing_command.ensures in
     record {
       count = ap length commands ∙ length-append c.loop-k.commands.items _ ∙ ap (λ n. n + 1) c.loop-k.invariant.count;
-      closed = λ q asked to.
-          let terms_are = terms g first q asked in
-          let before = c.loop-k.invariant.closed q asked to in
-          let changed : c.is_changed-changed.result ≡ is_changed q s f =
-          c.is_changed-changed.ensures ∙ ap (λ (x : Block). is_image_changed x.image c.new.inside.image.0) c.old.view_is ∙ ap (λ (x : Block). is_image_changed c.index-start-k.result.image x.image) c.new.view_is
-          ∙ changed_is q roots s admitted.system admitted.nested k f r here.at here.is _ over c.of-terms.result terms_are c.blocks-start.result.now c.args.settled.now (start g first) (settled g first q to)
-          c.index-start-k.result c.index-settled-k.result c.index-start-k.is c.index-settled-k.is in
+      closed = λ q asked told to.
+          let was = c.loop-k.invariant.closed q asked told to in
+          let is_around : IsAround q s f.slot.bus around = record {
+            over = record {
+              above = subst (λ n. IsAbove s f.slot.bus (get_or c.aboves-aboves.result n no_above)) (sym (c.from-in-loop-k.ensures ∙ bus)) (c.aboves-aboves.ensures f no_above here.is.listed);
+              windows_are = subst (AreClassWindows q s f.slot.bus) (sym (c.open_over.ensures ∙ ap (λ n. get_or c.args.overs.now n no_windows) bus)) (told f here.is.listed);
+            };
+            terms = terms g first q asked;
+            way = subst (λ n. IsWay q s f.slot.bus (get_or c.loop-k.ways n no_way)) (sym (c.from.ensures ∙ bus)) (way_at q roots s admitted.system admitted.nested k f r here.at here.is c.loop-k.ways c.loop-k.commands.items was no_way);
+          } in
+          let old : List ℕ = c.old.inside.image.0 in
+          let new : List ℕ = c.new.inside.image.0 in
+          let old_is : old ≡ f.image = ap (λ (x : Block). x.image) c.old.view_is
+          ∙ start_image q roots s admitted.system admitted.nested k f r here.at here.is c.blocks-start.result.now c.args.settled.now c.index-start-k.result c.index-settled-k.result c.index-start-k.is c.index-settled-k.is (start g first) in
+          let new_is : new ≡ (settled_function q s f).image = ap (λ (x : Block). x.image) c.new.view_is
+          ∙ settled_image q roots s admitted.system admitted.nested k f r here.at here.is c.blocks-start.result.now c.args.settled.now c.index-start-k.result c.index-settled-k.result c.index-start-k.is c.index-settled-k.is (settled g first q to) in
+          let itself_by : (x : Space) → in_space c.shut_itself-itself.result x ≡ is_shut_by around x old new r =
+          by_spaces (λ x. in_space c.shut_itself-itself.result x ≡ is_shut_by around x old new r) c.shut_itself-itself.ensures.io c.shut_itself-itself.ensures.memory in
+          let shut_by : (x : Space) → in_space c.shut.result x ≡ (in_space c.shut_itself-itself.result x || not (in_space way.clear x)) =
+          by_spaces (λ x. in_space c.shut.result x ≡ (in_space c.shut_itself-itself.result x || not (in_space way.clear x))) c.shut.ensures.io c.shut.ensures.memory in
           let After : List Way → Type 0 = λ ways. AreClosedTo q roots s (k + 1) ways c.push.new.self.items in
           elim c.match-record.branch [
             | in-Some w ↦
                 subst After (sym w.ways-is)
-                (closed_more q roots s admitted.system admitted.nested k f r here.at here.is above over c.of-terms.result terms_are c.loop-k.ways c.loop-k.commands.items before
-                c.is_changed-changed.result changed c.from-bus.result bus no_way c.is_shut_itself-shut.result c.is_shut_itself-shut.ensures _ commands w.in-Some.bridge w.in-Some.is
-                w.from.result w.from.ensures w.and.result w.and.ensures.io w.and.ensures.memory w.and.ensures.clear)
+                (closed_more q roots s admitted.system admitted.nested k f r here.at here.is around is_around old new old_is new_is c.shut_itself-itself.result c.shut.result itself_by shut_by
+                c.loop-k.ways c.loop-k.commands.items c.push.new.self.items was commands w.in-Some.bridge w.in-Some.is w.from-in-Some.result w.from-in-Some.ensures w.same_windows-same.result
+                (by_classes (λ x. in_class w.same_windows-same.result x ≡ not (is_window_changed x old new)) w.same_windows-same.ensures.io w.same_windows-same.ensures.memory w.same_windows-same.ensures.prefetchable)
+                w.and.result
+                (by_spaces (λ x. in_space w.and.result.on x ≡ (in_space way.on x && is_on r.command x)) w.and.ensures.io w.and.ensures.memory)
+                (by_spaces (λ x. in_space w.and.result.clear x ≡ (in_space way.clear x && not (in_space c.shut_itself-itself.result x))) w.and.ensures.clear_io w.and.ensures.clear_memory)
+                (by_classes (λ x. in_class w.and.result.same x ≡ (in_class way.same x && in_class w.same_windows-same.result x)) w.and.ensures.same_io w.and.ensures.same_memory w.and.ensures.same_prefetchable))
             | in_default w ↦
                 subst After (sym w.ways-is)
-                (closed_same q roots s admitted.system admitted.nested k f r here.at here.is above over c.of-terms.result terms_are c.loop-k.ways c.loop-k.commands.items before
-                c.is_changed-changed.result changed c.from-bus.result bus no_way c.is_shut_itself-shut.result c.is_shut_itself-shut.ensures _ commands w.in_default.is)
+                (closed_same q roots s admitted.system admitted.nested k f r here.at here.is around is_around old new old_is new_is c.shut_itself-itself.result c.shut.result itself_by shut_by
+                c.loop-k.ways c.loop-k.commands.items c.push.new.self.items was commands w.in_default.is)
           ];
     }
 
@@ -149,5 +180,5 @@ returns-clause-commands g c =
     let first = (goal.at.returns-clause-commands g c).After-blocks-start in
     let n = count g first in
     let done = c.loop-k-test.false in
-    λ q asked to. all_closed q (a g first).roots (system_in (a g first)) (admitted_is g first).system (admitted_is g first).nested c.loop-k.k c.loop-k.ways c.loop-k.commands.items
-    (c.loop-k.invariant.closed q asked to) (omega (arith, n, done))
+    λ q asked told to. all_closed q (a g first).roots (system_in (a g first)) (admitted_is g first).system (admitted_is g first).nested c.loop-k.k c.loop-k.ways c.loop-k.commands.items
+    (c.loop-k.invariant.closed q asked told to) (omega (arith, n, done))

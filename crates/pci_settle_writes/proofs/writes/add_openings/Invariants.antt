@@ -4,10 +4,10 @@ use Rattle.pci_spec.specs.System.{System}
 use Rattle.settle_spec.specs.Lists.{Request}
 use Rattle.settle_spec.specs.Writes.{opening_from}
 use Rattle.pci_plan.specs.Writes.{write_value}
-use Rattle.pci_settle_writes.specs.Stages.{AreOf, AreClosed, AreSettledBlocks}
+use Rattle.pci_settle_writes.specs.Stages.{AreStages}
 use Rattle.pci_settle_writes.proofs.writes.add_openings.Given as goal
 
 abbrev pub invariant-loop-k : goal.invariant-loop-k
 invariant-loop-k g l =
-    (q : Request) (s : System) → AreOf s l.start → AreClosed q s l.closed → AreSettledBlocks q s l.settled
+    (q : Request) (s : System) → AreStages q s l.stages
     → map write_value l.writes.items ≡ map write_value l.initial.writes.items ++ flat_map (opening_from q s) (take l.k s)

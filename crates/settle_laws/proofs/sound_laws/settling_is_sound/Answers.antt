@@ -3,7 +3,6 @@ use Rattle.pci_spec.specs.System.{space_of}
 use Rattle.settle_laws.proofs.Claimed.{on_now}
 use Rattle.settle_laws.proofs.Lives.{serves, serves_over, serves_enabled}
 use Rattle.settle_laws.proofs.Moves.{new_profile}
-use Rattle.settle_laws.proofs.SettledMoved.{are_settling}
 use Rattle.settle_laws.proofs.SettledSound.{settled_sound}
 use Rattle.settle_laws.proofs.Stopping.{stop_sound, writes_settle}
 use Rattle.settle_laws.proofs.sound_laws.settling_is_sound.Goals as goal
@@ -17,7 +16,7 @@ pub returns-clause-sound : goal.returns-clause-sound
 returns-clause-sound c = settled_sound
 
 pub returns-clause-stop : goal.returns-clause-stop
-returns-clause-stop c = λ q s can k from. stop_sound q s (are_settling q s can.system can.profile (new_profile q s can)) can.nested can.profile can.chains (settled_sound q s can) k from
+returns-clause-stop c = stop_sound
 
 pub returns-clause-settles : goal.returns-clause-settles
-returns-clause-settles c = λ q s can. writes_settle q s (are_settling q s can.system can.profile (new_profile q s can)) can.nested
+returns-clause-settles c = λ q s can. writes_settle q s can.system can.profile (new_profile q s can)

@@ -1,0 +1,177 @@
+-- What moves of a function and in which spaces it is shut, by its record and its two images, is what the definitions say.
+use Rattle.std.proofs.Common.{◌≡◌, ℕ, ◌+◌, List, [], ◌∷◌, Bool, true, false, ◌&&◌, ◌||◌, not, refl, sym, ◌∙◌, ap}
+use Rattle.std.specs.Bool.{if◌then◌else◌}
+use Rattle.std.specs.Option.{is_some}
+use Rattle.std.specs.List.{Contains, filter, list_any}
+use Rattle.std.proofs.lemmas.List.Folds.{list_any-append}
+use Rattle.pci_spec.specs.Header.{command, rom_place}
+use Rattle.pci_spec.specs.Bar.{bar_at, has_bar, is_wide}
+use Rattle.pci_spec.specs.Rom.{has_rom, rom_is_on}
+use Rattle.pci_spec.specs.Machine.{without_low}
+use Rattle.pci_spec.specs.Window.{WindowKind, IoWindow, MemoryWindow, PrefetchWindow}
+use Rattle.pci_spec.specs.Decoded.{DecodedBar, decoded_bar}
+use Rattle.pci_spec.specs.Decoded as decoded
+use Rattle.pci_spec.specs.System.{System, Function, Space, Io, Memory, Part, Bar, Rom, Window, is_window, is_space_on, space_of}
+use Rattle.plan_spec.specs.Plan.{bridges_above, is_open}
+use Rattle.settle_spec.specs.Lists.{Request}
+use Rattle.settle_spec.specs.Parts.{FunctionPart, is_part, is_left, header_bars, header_parts, are_same_space, class_in, has_left}
+use Rattle.settle_spec.specs.Registers.{settled_function, has_own}
+use Rattle.settle_spec.specs.Writes.{differs_at, part_registers, changes_at, changes_above, moves, has_moving, is_cut_off_in, is_shut_itself, is_shut, closing_command}
+use Rattle.pci_base.specs.Space.{is_on}
+use Rattle.pci_image.specs.declared.bar.Bar.{Bar as CodeBar}
+use Rattle.pci_image.specs.Bars.{decoded_bar_of}
+use Rattle.pci_function.specs.declared.record.Record.{Record}
+use Rattle.pci_tree.proofs.Lifting.{same_bridge}
+use Rattle.pci_place.specs.Classes.{is_wide_kind}
+use Rattle.pci_place.specs.Records.{IsRecordOf}
+use Rattle.pci_place.proofs.ClassOf.{kind_wide}
+use Rattle.pci_place.proofs.Parts.{rom_of}
+use Rattle.pci_settle.specs.Own.{is_left_bar, bar_class_of}
+use Rattle.pci_settle.proofs.OwnItems.{class_by}
+use Rattle.pci_settling.specs.Claims.{is_bar_in, has_left_bar, is_rom_on, has_kept}
+use Rattle.pci_settling.proofs.KeptClaims.{any_map, any_filter, any_bar, on_is, bar_space, left_is, left_are, rom_on_is, kept_are}
+use Rattle.pci_settle_writes.specs.declared.shut.Around.{Around}
+use Rattle.pci_settle_writes.specs.declared.way.BySpace.{BySpace}
+use Rattle.pci_settle_writes.specs.Shut.{IsAround, in_space, in_class, differs_in, window_registers, is_window_changed, is_bar_changed, is_moving_bar, has_moving_rom, has_moving_by, is_cut_off_by, is_shut_by, closing_by}
+use Rattle.pci_settle_writes.proofs.Ways.{not_all, not_none}
+
+-- ---- tests
+
+or_nothing : (a : Bool) → (a || false) ≡ a
+or_nothing true = refl
+or_nothing false = refl
+
+-- in the order in which the definitions have them
+moving_order : (there left is moved : Bool) → (there && (is && not left && moved)) ≡ ((there && not left) && (is && true && moved))
+moving_order true true true moved = refl
+moving_order true true false moved = refl
+moving_order true false true moved = refl
+moving_order true false false moved = refl
+moving_order false left is moved = refl
+
+-- a window is no BAR or ROM
+no_window : (part is moved : Bool) → (part && (is && false && moved)) ≡ false
+no_window true true moved = refl
+no_window true false moved = refl
+no_window false is moved = refl
+
+rom_alone : (memory on moved : Bool) → (memory && (on && moved)) ≡ ((on && (memory && true && moved)) || false)
+rom_alone true true true = refl
+rom_alone true true false = refl
+rom_alone true false moved = refl
+rom_alone false true moved = refl
+rom_alone false false moved = refl
+
+registers_same : (f : Function) (c : WindowKind) → window_registers c ≡ part_registers f (Window c)
+registers_same f IoWindow = refl
+registers_same f MemoryWindow = refl
+registers_same f PrefetchWindow = refl
+
+-- ---- what changes
+
+module _ (q : Request) (s : System) (f : Function) (old new : List ℕ) (old_is : old ≡ f.image) (new_is : new ≡ (settled_function q s f).image) where
+  differs : (p : ℕ × ℕ) → differs_in old new p ≡ differs_at f (settled_function q s f) p
+  differs p = ap (λ x. differs_in x new p) old_is ∙ ap (λ x. differs_in f.image x p) new_is
+
+  pub window_is : (c : WindowKind) → is_window_changed c old new ≡ changes_at q s f (Window c)
+  window_is c =
+      ap (λ x. is_window_changed c x new) old_is ∙ ap (λ x. is_window_changed c f.image x) new_is
+      ∙ ap (list_any (differs_at f (settled_function q s f))) (registers_same f c)
+
+-- ---- of a record
+
+module _ (q : Request) (s : System) (f : Function) (r : Record) (is : IsRecordOf s f r) (o : Around) (at : IsAround q s f.slot.bus o) where
+  above_is : (c : WindowKind) → not (in_class o.way.same c) ≡ changes_above q s c f.slot.bus
+  above_is c = ap not (at.way.same c) ∙ not_none (λ b. changes_at q s b (Window c)) (bridges_above s f.slot.bus)
+
+  abbrev region : Part → FunctionPart
+  region part = record { function = f; part = part }
+
+  module _ (old new : List ℕ) (old_is : old ≡ f.image) (new_is : new ≡ (settled_function q s f).image) where
+    bar_is : (bar : CodeBar) (n : ℕ) → decoded_bar_of bar ≡ decoded_bar f.image f.probe n → is_bar_changed old new bar ≡ changes_at q s f (Bar n)
+    bar_is bar n e =
+        differs q s f old new old_is new_is (bar.reg, if is_wide_kind bar.kind then 8 else 4)
+        ∙ ap (λ w. differs_at f (settled_function q s f) (bar.reg, if w then 8 else 4)) (kind_wide f bar n e)
+        ∙ ap (λ (x : DecodedBar). differs_at f (settled_function q s f) (x.register, if is_wide (bar_at f.probe n) then 8 else 4)) e
+        ∙ sym (or_nothing _)
+
+    bar_moves : (bar : CodeBar) (n : ℕ) → decoded_bar_of bar ≡ decoded_bar f.image f.probe n
+        → (is_bar_changed old new bar || not (in_class o.way.same (bar_class_of bar o.over o.terms.prefetch_last))) ≡ moves q s (region (Bar n))
+    bar_moves bar n e =
+        ap (λ b. b || not (in_class o.way.same (bar_class_of bar o.over o.terms.prefetch_last))) (bar_is bar n e)
+        ∙ ap (λ c. changes_at q s f (Bar n) || not (in_class o.way.same c)) (class_by q s f r o.over o.terms is at.terms at.over bar n e)
+        ∙ ap (λ b. changes_at q s f (Bar n) || b) (above_is (class_in q s f (Bar n)))
+
+    module _ (space : Space) where
+      abbrev is_of : Part → Bool
+      is_of part = are_same_space space (space_of f part)
+
+      abbrev others : List Part
+      others = Window IoWindow ∷ Window MemoryWindow ∷ Window PrefetchWindow ∷ Rom ∷ []
+
+      bar_same : (bar : CodeBar) (n : ℕ) → decoded_bar_of bar ≡ decoded_bar f.image f.probe n
+          → is_moving_bar o space old new bar ≡ (is_of (Bar n) && not (is_left q s f (Bar n)) && moves q s (region (Bar n)))
+      bar_same bar n e =
+          let moved : Bool = is_bar_changed old new bar || not (in_class o.way.same (bar_class_of bar o.over o.terms.prefetch_last)) in
+          ap (λ b. b && not (is_left_bar bar o.over.above o.terms.has_io) && moved) (bar_space f space bar n e)
+          ∙ ap (λ b. is_of (Bar n) && not b && moved) (left_is q s f r is o.over.above at.over.above o.terms at.terms bar n e)
+          ∙ ap (λ b. is_of (Bar n) && not (is_left q s f (Bar n)) && b) (bar_moves bar n e)
+
+      abbrev own : Part → Bool
+      own part = is_part q s f part && (is_of part && not (is_window part) && moves q s (region part))
+
+      rom_moves : has_moving_rom o old new r ≡ ((has_rom f.image f.probe && rom_is_on f.image) && moves q s (region Rom))
+      rom_moves =
+          let on : Bool = has_rom f.image f.probe && rom_is_on f.image in
+          ap (λ b. b && (differs_in old new (rom_place (is_some r.bridge), 4) || not o.way.same.memory))
+          (rom_on_is q s f r is o.over.above at.over.above o.terms at.terms space r.rom (rom_of s f r is))
+          ∙ ap (λ b. on && (b || not o.way.same.memory)) (differs q s f old new old_is new_is (rom_place (is_some r.bridge), 4))
+          ∙ ap (λ b. on && (differs_at f (settled_function q s f) (rom_place b, 4) || not o.way.same.memory)) (same_bridge r f is.value)
+          ∙ ap (λ b. on && (b || not o.way.same.memory)) (sym (or_nothing _))
+          ∙ ap (λ b. on && (changes_at q s f Rom || b)) (above_is MemoryWindow)
+
+      own_others : (are_same_space space Memory && has_moving_rom o old new r) ≡ list_any own others
+      own_others =
+          let rest : Bool = own Rom || false in
+          ap (λ b. are_same_space space Memory && b) rom_moves
+          ∙ rom_alone (are_same_space space Memory) (has_rom f.image f.probe && rom_is_on f.image) (moves q s (region Rom))
+          ∙ sym (ap (λ b. b || (own (Window MemoryWindow) || (own (Window PrefetchWindow) || rest))) (no_window (is_open f IoWindow) (is_of (Window IoWindow)) (moves q s (region (Window IoWindow))))
+          ∙ ap (λ b. b || (own (Window PrefetchWindow) || rest)) (no_window (is_open f MemoryWindow) (is_of (Window MemoryWindow)) (moves q s (region (Window MemoryWindow))))
+          ∙ ap (λ b. b || rest) (no_window (is_open f PrefetchWindow) (is_of (Window PrefetchWindow)) (moves q s (region (Window PrefetchWindow)))))
+
+      moving_are : has_moving_by o space old new r ≡ has_moving q s space f
+      moving_are =
+          ap (λ b. b || (are_same_space space Memory && has_moving_rom o old new r))
+          (any_bar s f r is (is_moving_bar o space old new) (λ n. is_of (Bar n) && not (is_left q s f (Bar n)) && moves q s (region (Bar n))) own bar_same
+          (λ n listed. moving_order (has_bar f.probe n) (is_left q s f (Bar n)) (is_of (Bar n)) (moves q s (region (Bar n)))))
+          ∙ ap (λ b. list_any own (header_bars f) || b) own_others
+          ∙ sym (list_any-append own (header_bars f) others)
+          ∙ sym (any_map (λ (x : FunctionPart). are_same_space space (space_of x.function x.part) && not (is_window x.part) && moves q s x) region (filter (is_part q s f) (header_parts f))
+          ∙ any_filter (is_part q s f) (λ part. is_of part && not (is_window part) && moves q s (region part)) (header_parts f))
+
+      -- ---- what is shut
+
+      cut_is : is_cut_off_by o space r ≡ is_cut_off_in q s f space
+      cut_is =
+          ap (λ b. b && has_kept space o.over.above o.terms r && not (in_space o.way.on space)) (on_is s f r is space)
+          ∙ ap (λ b. is_space_on f space && b && not (in_space o.way.on space)) (kept_are q s f r is o.over.above at.over.above o.terms at.terms space)
+          ∙ ap (λ b. is_space_on f space && has_own q s space f && b) (ap not (at.way.on space) ∙ not_all (λ b. is_space_on b space) (bridges_above s f.slot.bus))
+
+      pub itself_is : is_shut_by o space old new r ≡ is_shut_itself q s space f
+      itself_is = ap (λ b. b || is_cut_off_by o space r) moving_are ∙ ap (λ b. has_moving q s space f || b) cut_is
+
+  pub shut_is : (itself shut : BySpace) → ((x : Space) → in_space itself x ≡ is_shut_itself q s x f) → ((x : Space) → in_space shut x ≡ (in_space itself x || not (in_space o.way.clear x)))
+      → (x : Space) → in_space shut x ≡ is_shut q s x f
+  shut_is itself shut same by x =
+      by x ∙ ap (λ b. b || not (in_space o.way.clear x)) (same x)
+      ∙ ap (λ b. is_shut_itself q s x f || b) (ap not (at.way.clear x) ∙ not_none (is_shut_itself q s x) (bridges_above s f.slot.bus))
+
+  pub closing_is : (shut : BySpace) → ((x : Space) → in_space shut x ≡ is_shut q s x f) → closing_by o r shut ≡ closing_command q s f
+  closing_is shut same =
+      let holds : r.command ≡ command f.image = ap (λ (x : decoded.Record). x.command) is.value in
+      let left : Bool = has_left_bar r o.over.above o.terms in
+      ap (λ b. without_low 4 r.command + (if not b && (not left && is_on r.command Io) then 1 else 0) + (if not shut.memory && is_on r.command Memory then 2 else 0)) (same Io)
+      ∙ ap (λ b. without_low 4 r.command + (if not (is_shut q s Io f) && (not left && is_on r.command Io) then 1 else 0) + (if not b && is_on r.command Memory then 2 else 0)) (same Memory)
+      ∙ ap (λ b. without_low 4 r.command + (if not (is_shut q s Io f) && (not b && is_on r.command Io) then 1 else 0) + (if not (is_shut q s Memory f) && is_on r.command Memory then 2 else 0))
+      (left_are q s f r is o.over.above at.over.above o.terms at.terms)
+      ∙ ap (λ n. without_low 4 n + (if not (is_shut q s Io f) && (not (has_left q s f) && is_on n Io) then 1 else 0) + (if not (is_shut q s Memory f) && is_on n Memory then 2 else 0)) holds
