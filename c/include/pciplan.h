@@ -19,7 +19,7 @@
      or a plan of 128, also where these stand on one bus, each with six BARs and a ROM, or are bridges in a row, or on one
      bus with all of their writes (c/test.sh measures these).
    - Texts of at most 1,042 bytes a function, of at most 4,096 functions. A plan has at most 9 writes for a device and 11
-     for a bridge; it compares 8 registers of a device and 10 of a bridge.
+     for a bridge, a settling at most 9 and 16; either compares 8 registers of a device and 10 of a bridge.
    - It may be called again while it runs, from another thread or an interrupt, if the three functions of memory may be.
 
    What the caller has to uphold, which nothing checks: each pointer is to as many bytes as its length says, and isn't
@@ -121,8 +121,8 @@ struct pciplan_settle_words {
 /* Settles the texts of a dump and of its probe: what stands where it works stays there, and all else is placed in the lists.
 
    At YES writes, *writes_used, *safe_from, line and *line_used are as pciplan_plan leaves them. *safe_from is 0 where what
-   the dump shows is sound, else the number of the first writes, which close functions. Where all is settled already there
-   are no writes.
+   the dump shows is sound, else the number of the first writes, which close functions and windows. Where all is settled
+   already there are no writes.
 
    At NO a fault of the texts or of settling is named, as "no 74 Fixed 00:1f.0 10". It is "no 76 Assumed 02:00.0 18" where a
    title of the probe names this BAR as assumed, or this ROM whose bit 0 is set; a title of any other form than those of
