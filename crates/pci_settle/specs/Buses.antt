@@ -9,13 +9,15 @@ use Rattle.settle_spec.specs.FirstPlace.{Extent as ExtentValue}
 use Rattle.settle_spec.specs.Lists.{Request}
 use Rattle.settle_spec.specs.Stands.{rank}
 use Rattle.settle_spec.specs.Items.{Item as ItemValue, has_of, items_of, bus_items}
+use Rattle.pci_base.specs.WindowKinds.{kind_value}
 use Rattle.pci_function.specs.declared.record.Bridge.{Bridge}
 use Rattle.pci_tree.specs.Admission.{Admission}
 use Rattle.pci_place.specs.Above.{system_in}
 use Rattle.pci_settle.specs.declared.extent.Extent.{Extent}
 use Rattle.pci_settle.specs.declared.item.Item.{Item}
 use Rattle.pci_settle.specs.declared.kept.Kept.{Kept}
-use Rattle.pci_settle.specs.declared.over.Left.{Left}
+use Rattle.pci_settle.specs.declared.listing.Classing.{Classing as CodeClassing}
+use Rattle.pci_settle.specs.declared.listing.Listing.{Listing as CodeListing}
 use Rattle.pci_settle.specs.declared.over.OpenWindows.{OpenWindows}
 use Rattle.pci_settle.specs.declared.own.Terms.{Terms}
 use Rattle.pci_settle.specs.Kept.{AreKeptParts}
@@ -52,6 +54,10 @@ abbrev pub classing_of : Admission → Terms → List OpenWindows → Classing
 classing_of a t overs =
     record { roots = a.roots; system = system_in a; terms = t; overs = overs }
 
+-- those of the code
+abbrev pub classing_value : {B : Type 0} → CodeClassing B → Classing
+classing_value p = classing_of p.admitted.now p.terms p.overs.now
+
 -- these open windows tell the classes of what is asked for below these roots, in lists that tell this
 pub record TellsClasses (p : Classing) (q : Request) : Type 0 where
   pub rooted : q.roots ≡ p.roots
@@ -70,9 +76,10 @@ abbrev pub bus_listing : Classing → WindowKind → ℕ → List (Option Extent
 bus_listing p c bus windows kept =
     record { classing = p; class = c; bus = bus; windows = windows; kept = kept }
 
-abbrev pub listing_of : Admission → WindowKind → ℕ → Terms → List (Option Extent) → Left → Listing
-listing_of a c bus t windows left =
-    bus_listing (classing_of a t left.over.now) c bus windows left.kept.now
+-- that of the code, on a bus
+abbrev pub listing_value : {B : Type 0} → CodeListing B → ℕ → Listing
+listing_value l bus =
+    bus_listing (classing_value l.classing.now) (kind_value l.class) bus l.windows.now l.kept.now
 
 -- what is asked for leaves the open windows, and what a test tells, where they stand, and has these new windows
 pub record IsListingOf (a : Asking) (l : Listing) : Type 0 where

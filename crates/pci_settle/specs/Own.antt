@@ -16,6 +16,7 @@ use Rattle.settle_spec.specs.Items.{Item as ItemValue, highest_of_bar, has_of, i
 use Rattle.settle_spec.specs.PlacingLaws.{HasLowerRank}
 use Rattle.pci_base.specs.declared.range.Range.{Range as CodeRange}
 use Rattle.pci_base.specs.Ranges.{decoded_range_of}
+use Rattle.pci_base.specs.WindowKinds.{kind_value}
 use Rattle.pci_image.specs.declared.bar.Bar.{Bar as CodeBar}
 use Rattle.pci_image.specs.declared.rom.Rom.{Rom as CodeRom}
 use Rattle.pci_function.specs.declared.record.Record.{Record}
@@ -30,6 +31,7 @@ use Rattle.pci_settle.specs.declared.item.Part.{Part as CodePart}
 use Rattle.pci_settle.specs.declared.item.Part.TheVariants as parts
 use Rattle.pci_settle.specs.declared.kept.Kept.{Kept}
 use Rattle.pci_settle.specs.declared.over.Over.{Over}
+use Rattle.pci_settle.specs.declared.own.Situation.{Situation as CodeSituation}
 use Rattle.pci_settle.specs.declared.own.Terms.{Terms}
 use Rattle.pci_settle.specs.Kept.{kept_of}
 use Rattle.pci_settle.specs.Over.{range_holds, IsOverBus}
@@ -151,6 +153,11 @@ pub record Situation : Type 0 where
 abbrev pub situation : ℕ → List ℕ → WindowKind → Over → Terms → Option Extent → Kept → Situation
 situation k probe c over t window kept =
     record { place = k; probe = probe; class = c; over = over; terms = t; window = window; kept = kept }
+
+-- that of the code
+abbrev pub situation_value : CodeSituation → Situation
+situation_value x =
+    situation x.function x.probe.now.0 (kind_value x.class) x.over.now x.terms x.window x.kept.now
 
 -- in the order of their registers
 abbrev pub asked_record_items : Situation → Record → List Item

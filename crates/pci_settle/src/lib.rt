@@ -11,6 +11,7 @@ pub mod extent;
 pub mod item;
 pub mod kept;
 pub mod list;
+pub mod listing;
 pub mod new_window;
 pub mod over;
 pub mod own;

@@ -2,21 +2,18 @@
 ghost use Rattle.std.specs.Prelude.{◌≡◌, IfOk};
 ghost use Rattle.pci_base.specs.WindowKinds.{kind_value};
 ghost use Rattle.pci_place.specs.Above.{AreAboves, system_in, is_wide_in};
-ghost use Rattle.pci_settle.specs.Buses.{AreWindows, classing_of};
+ghost use Rattle.pci_settle.specs.Buses.{AreWindows, classing_value};
 ghost use Rattle.pci_settle.specs.NewWindows.{highest_by, nowhere, IsNewWindowPut, first_large, AreNewWindows, AreMarkedWindows};
 
 use crate::bus::items_on;
 use crate::extent::Extent;
-use crate::over::{Left, OpenWindows};
-use crate::own::Terms;
+use crate::listing::{Classing, Listing};
 use crate::window::window_around;
 use pci_base::memory::OutOfMemory;
 use pci_base::slot::BUSES;
 use pci_base::window_kind::WindowKind;
 use pci_function::record::Bridge;
 use pci_image::window::{Window, Windows};
-use pci_place::above::Above;
-use pci_tree::admitted::Admitted;
 use std::alloc::Allocator;
 
 /// Whether a window is there and has upper halves.
@@ -56,26 +53,25 @@ fn nowhere() -> Extent
 /// window would have 2^64 addresses or more, which is marked there.
 fn put_window<A: Allocator + Copy, B: Allocator>(
     alloc: A,
-    admitted: &Admitted<B>,
+    classing: &Classing<B>,
     bridge: &Bridge,
     class: WindowKind,
-    aboves: &[Above; BUSES],
-    terms: Terms,
-    overs: &[OpenWindows],
     windows: &mut [Option<Extent>; BUSES],
 ) -> Result<bool, OutOfMemory>
-    requires above { AreAboves (system_in admitted.now) aboves.now }
+    requires above { AreAboves (system_in classing.now.admitted.now) classing.now.aboves.now }
     requires lawful { AreWindows windows.old }
-    ensures put { IfOk result (IsNewWindowPut (classing_of admitted.now terms overs.now)
+    ensures put { IfOk result (IsNewWindowPut (classing_value classing.now)
         (kind_value class) bridge.now windows.old windows.new) }
     ensures lawful { AreWindows windows.new }
 {
     let bus = bridge.secondary;
-    let left = Left {
-        over: overs,
+    let listing = Listing {
+        classing,
+        class,
+        windows,
         kept: &[],
     };
-    let mut items = items_on(alloc, admitted, bus, class, aboves, terms, windows, &left)?;
+    let mut items = items_on(alloc, &listing, bus)?;
     if items.is_empty() {
         windows[bus as usize] = None;
         return Ok(true);
@@ -105,8 +101,7 @@ fn first_large(large: Option<usize>, fits: bool, function: usize) -> Option<usiz
 }
 
 /// Puts into `windows` the new window of a class over each bus behind a bridge, None where nothing of the class is
-/// behind. `overs` has the open windows over each bus, by which BARs have their classes; it is empty where all is placed
-/// anew. What is behind a bridge has higher slots than the bridge, so one pass from the highest slot down finds
+/// behind. What is behind a bridge has higher slots than the bridge, so one pass from the highest slot down finds
 /// the windows on a bus before the one over it.
 ///
 /// The answer is None where all windows have fewer than 2^64 addresses. Else it is the index of a bridge whose window
@@ -114,33 +109,28 @@ fn first_large(large: Option<usize>, fits: bool, function: usize) -> Option<usiz
 /// for which no range has a place.
 pub fn new_windows<A: Allocator + Copy, B: Allocator>(
     alloc: A,
-    admitted: &Admitted<B>,
+    classing: &Classing<B>,
     class: WindowKind,
-    aboves: &[Above; BUSES],
-    terms: Terms,
-    overs: &[OpenWindows],
     windows: &mut [Option<Extent>; BUSES],
 ) -> Result<Option<usize>, OutOfMemory>
     // the class of a BAR hangs on the windows of the bridges above it
-    requires { AreAboves (system_in admitted.now) aboves.now }
-    ensures windows { IfOk result (AreNewWindows (classing_of admitted.now terms overs.now)
+    requires { AreAboves (system_in classing.now.admitted.now) classing.now.aboves.now }
+    ensures windows { IfOk result (AreNewWindows (classing_value classing.now)
         (kind_value class) windows.new) }
     // what is in the table has addresses and an alignment, also where there was no memory for all
     // where one is too large, all others are as they are, and it is marked
-    ensures marked { IfOk result (λ _. AreMarkedWindows (classing_of admitted.now terms overs.now)
+    ensures marked { IfOk result (λ _. AreMarkedWindows (classing_value classing.now)
         (kind_value class) windows.new) }
     ensures lawful { AreWindows windows.new }
 {
     *windows = [None; BUSES];
     let mut large = None;
-    let outline = admitted.outline();
+    let outline = classing.admitted.outline();
     let records = outline.records();
     for done in 0..records.len() {
         let function = records.len() - 1 - done;
         if let Some(bridge) = &records[function].bridge {
-            let fits = put_window(
-                alloc, admitted, bridge, class, aboves, terms, overs, windows,
-            )?;
+            let fits = put_window(alloc, classing, bridge, class, windows)?;
             large = first_large(large, fits, function);
         }
     }

@@ -8,7 +8,7 @@ ghost use Rattle.settle_spec.specs.Lists as lists;
 ghost use Rattle.pci_base.specs.WindowKinds.{kind_value};
 ghost use Rattle.pci_place.specs.Pools.{pools_value};
 ghost use Rattle.pci_settle.specs.Lists.{root_range_value, lists_value};
-ghost use Rattle.pci_settle.specs.Own.{AreTerms, pools_to, class_anew, bar_class_of, first_bar_register, is_left_bar, is_own_bar, IsSpanned, HasBarRegister, asked_bar_item, asked_bar_items, rom_item, asked_rom_items, asked_window_items, situation, asked_record_items, AreItemsOf};
+ghost use Rattle.pci_settle.specs.Own.{AreTerms, pools_to, class_anew, bar_class_of, first_bar_register, is_left_bar, is_own_bar, IsSpanned, HasBarRegister, asked_bar_item, asked_bar_items, rom_item, asked_rom_items, asked_window_items, situation_value, asked_record_items, AreItemsOf};
 
 use crate::extent::Extent;
 use crate::item::{Item, Part};
@@ -121,14 +121,33 @@ fn bar_number(bar: &Bar) -> u8
     (bar.reg - BASE_ADDRESS) / 4
 }
 
+/// What the items of a function in a class are found by.
+#[derive(Clone, Copy)]
+pub struct Situation<'a> {
+    /// Which of the functions, in slot order.
+    pub function: usize,
+    /// What its registers read back.
+    pub probe: &'a Image,
+    pub class: WindowKind,
+    /// What is over its bus.
+    pub over: &'a Over,
+    pub terms: Terms,
+    /// The new window that it has as a bridge.
+    pub window: Option<Extent>,
+    /// What of it keeps its place.
+    pub kept: &'a Kept,
+}
+
 /// Whether a BAR is placed in a class.
-fn is_own_bar(bar: &Bar, class: WindowKind, over: &Over, terms: Terms, kept: &Kept) -> bool
+fn is_own_bar(bar: &Bar, situation: &Situation) -> bool
     requires { HasBarRegister bar.now }
-    ensures { result ≡ is_own_bar (kind_value class) over.now terms kept.now bar.now }
+    ensures { result ≡ is_own_bar (kind_value situation.now.class) situation.now.over.now
+        situation.now.terms situation.now.kept.now bar.now }
 {
-    !is_left_bar(bar, over.above, terms)
-        && class_of(bar, over, terms) == class
-        && !kept.bar(bar_number(bar))
+    let over = situation.over;
+    !is_left_bar(bar, over.above, situation.terms)
+        && class_of(bar, over, situation.terms) == situation.class
+        && !situation.kept.bar(bar_number(bar))
 }
 
 /// The highest address that a BAR can have, by what its register reads back: an I/O BAR may have 16 bits.
@@ -181,21 +200,18 @@ fn rom_item(function: usize, rom: &Rom) -> Item
 /// Adds the BARs of a class that don't keep their places.
 fn add_bars<A: Allocator>(
     items: &mut Vec<Item, A>,
-    function: usize,
-    probe: &Image,
     bars: &[Bar],
-    class: WindowKind,
-    over: &Over,
-    terms: Terms,
-    kept: &Kept,
+    situation: &Situation,
 ) -> Result<(), OutOfMemory>
     requires { All HasBarRegister bars.now }
     ensures { OnOk result (items.new.items ≡ items.old.items
-        ++ asked_bar_items function probe.now.0 (kind_value class) over.now terms kept.now bars.now) }
+        ++ asked_bar_items situation.now.function situation.now.probe.now.0
+        (kind_value situation.now.class) situation.now.over.now situation.now.terms
+        situation.now.kept.now bars.now) }
 {
     for bar in bars {
-        if is_own_bar(bar, class, over, terms, kept) {
-            items.push(bar_item(function, probe, bar))?;
+        if is_own_bar(bar, situation) {
+            items.push(bar_item(situation.function, situation.probe, bar))?;
         }
     }
     Ok(())
@@ -204,18 +220,17 @@ fn add_bars<A: Allocator>(
 /// Adds a ROM that is on and doesn't keep its place, if the class is that of memory.
 fn add_rom<A: Allocator>(
     items: &mut Vec<Item, A>,
-    function: usize,
     rom: Option<Rom>,
-    class: WindowKind,
-    kept: &Kept,
+    situation: &Situation,
 ) -> Result<(), OutOfMemory>
     requires { IfSome rom (λ rom. IsSpanned rom.first rom.last) }
-    ensures { OnOk result
-        (items.new.items ≡ items.old.items ++ asked_rom_items function (kind_value class) kept.now rom) }
+    ensures { OnOk result (items.new.items ≡ items.old.items
+        ++ asked_rom_items situation.now.function (kind_value situation.now.class)
+        situation.now.kept.now rom) }
 {
     if let Some(rom) = rom {
-        if rom.on && class == WindowKind::Memory && !kept.rom {
-            items.push(rom_item(function, &rom))?;
+        if rom.on && situation.class == WindowKind::Memory && !situation.kept.rom {
+            items.push(rom_item(situation.function, &rom))?;
         }
     }
     Ok(())
@@ -224,18 +239,16 @@ fn add_rom<A: Allocator>(
 /// Adds the new window of a bridge, where it has one and doesn't keep the one that it had.
 fn add_window<A: Allocator>(
     items: &mut Vec<Item, A>,
-    function: usize,
-    window: Option<Extent>,
-    class: WindowKind,
-    kept: &Kept,
+    situation: &Situation,
 ) -> Result<(), OutOfMemory>
-    ensures { OnOk result (items.new.items
-        ≡ items.old.items ++ asked_window_items function (kind_value class) kept.now window) }
+    ensures { OnOk result (items.new.items ≡ items.old.items
+        ++ asked_window_items situation.now.function (kind_value situation.now.class)
+        situation.now.kept.now situation.now.window) }
 {
-    if let Some(extent) = window {
-        if !kept.window(class) {
+    if let Some(extent) = situation.window {
+        if !situation.kept.window(situation.class) {
             items.push(Item {
-                function,
+                function: situation.function,
                 part: Part::Window,
                 extent,
             })?;
@@ -245,40 +258,22 @@ fn add_window<A: Allocator>(
 }
 
 /// Adds the items of a function in a class, in the order of their registers: BARs but those of I/O that are left, the new
-/// window that it has as a bridge, and a ROM that is on; none of them where it keeps its place. `probe` holds what its
-/// registers read back.
+/// window that it has as a bridge, and a ROM that is on; none of them where it keeps its place.
 pub fn add_items<A: Allocator>(
     items: &mut Vec<Item, A>,
-    function: usize,
     record: &Record,
-    probe: &Image,
-    class: WindowKind,
-    over: &Over,
-    terms: Terms,
-    window: Option<Extent>,
-    kept: &Kept,
+    situation: &Situation,
 ) -> Result<(), OutOfMemory>
     // else a register's number or a BAR's size would be below 0
     requires bars { All HasBarRegister «record».now.bars.items }
     // else its size would be below 0, too
     requires rom { IfSome «record».now.rom (λ rom. IsSpanned rom.first rom.last) }
     ensures items { OnOk result (items.new.items ≡ items.old.items
-        ++ asked_record_items (situation function probe.now.0 (kind_value class) over.now terms window kept.now)
-        «record».now) }
+        ++ asked_record_items (situation_value situation.now) «record».now) }
     // they are those of the definitions, whatever system the record is of
-    ensures exact { AreItemsOf (situation function probe.now.0 (kind_value class) over.now terms window kept.now)
-        «record».now }
+    ensures exact { AreItemsOf (situation_value situation.now) «record».now }
 {
-    add_bars(
-        items,
-        function,
-        probe,
-        record.bars.as_slice(),
-        class,
-        over,
-        terms,
-        kept,
-    )?;
-    add_window(items, function, window, class, kept)?;
-    add_rom(items, function, record.rom, class, kept)
+    add_bars(items, record.bars.as_slice(), situation)?;
+    add_window(items, situation)?;
+    add_rom(items, record.rom, situation)
 }

@@ -1,15 +1,14 @@
 use Rattle.std.proofs.Common.{◌∙◌, refl}
 use Rattle.std.proofs.lemmas.List.Sorted.{All-permutation}
-use Rattle.pci_base.specs.WindowKinds.{kind_value}
 use Rattle.pci_settle.specs.Own.{asked_item_value}
-use Rattle.pci_settle.specs.Buses.{listing_of}
+use Rattle.pci_settle.specs.Buses.{listing_value}
 use Rattle.pci_settle.specs.Turns.{HasExtent}
 use Rattle.pci_settle.proofs.PutWindows.{values_rise, turn_is}
 use Rattle.pci_settle.proofs.bus.items_in_turn.Goals as goal
 
 pub returns-clause-turn : goal.returns-clause-turn
 returns-clause-turn g c = λ a is. (
-    let l = listing_of c.args.admitted.now (kind_value c.args.class) c.args.bus c.args.terms c.args.windows.now c.args.left.now in
+    let l = listing_value c.args.listing.now c.args.bus in
     let on = c.in_ok-items.ensures.items in
     c.in_ok-sort_items.ensures.turn (asked_item_value l.classing.system l.class) (λ i. refl) (values_rise l _ on a is) ∙ turn_is l _ on a is)
 

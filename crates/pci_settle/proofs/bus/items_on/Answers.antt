@@ -1,9 +1,8 @@
 use Rattle.std.proofs.Common.{◌≡◌, length, sym, ◌∙◌, ap, subst}
 use Rattle.std.specs.List.{All}
 use Rattle.pci_spec.specs.Bus.{is_root}
-use Rattle.pci_base.specs.WindowKinds.{kind_value}
 use Rattle.pci_place.specs.Above.{system_in}
-use Rattle.pci_settle.specs.Buses.{listing_of, AreOnBusTo, AreBelow}
+use Rattle.pci_settle.specs.Buses.{listing_value, AreOnBusTo, AreBelow}
 use Rattle.pci_settle.specs.Turns.{HasExtent}
 use Rattle.pci_settle.proofs.OnBus.{itself_beside, below_none, below_own, below_roots, below_bus, all_on_bus}
 use Rattle.pci_settle.proofs.bus.items_on.Goals as goal
@@ -11,11 +10,11 @@ use Rattle.pci_settle.proofs.bus.items_on.Goals.{then-is_root+in_ok-add_roots, e
 
 pub returns-clause-items : goal.returns-clause-items
 returns-clause-items g c =
-    let roots = c.args.admitted.now.roots in
-    let s = system_in c.args.admitted.now in
+    let roots = c.args.listing.now.classing.now.admitted.now.roots in
+    let s = system_in c.args.listing.now.classing.now.admitted.now in
     let system = c.outline.ensures.admitted.system in
     let bus = c.args.bus in
-    let l = listing_of c.args.admitted.now (kind_value c.args.class) bus c.args.terms c.args.windows.now c.args.left.now in
+    let l = listing_value c.args.listing.now bus in
     let is : c.is_root.result ≡ is_root roots bus = c.is_root.ensures ∙ ap (λ xs. is_root xs bus) (c.roots.ensures ∙ c.outline.ensures.roots) in
     all_on_bus l system _ (elim c.if-is_root.branch [
       | then-is_root+in_ok-add_roots w ↦
@@ -31,10 +30,10 @@ returns-clause-items g c =
 
 pub returns-clause-lawful : goal.returns-clause-lawful
 returns-clause-lawful g c windows_lawful =
-    let roots = c.args.admitted.now.roots in
+    let roots = c.args.listing.now.classing.now.admitted.now.roots in
     let system = c.outline.ensures.admitted.system in
     let bus = c.args.bus in
-    let l = listing_of c.args.admitted.now (kind_value c.args.class) bus c.args.terms c.args.windows.now c.args.left.now in
+    let l = listing_value c.args.listing.now bus in
     let is : c.is_root.result ≡ is_root roots bus = c.is_root.ensures ∙ ap (λ xs. is_root xs bus) (c.roots.ensures ∙ c.outline.ensures.roots) in
     elim c.if-is_root.branch [
       | then-is_root+in_ok-add_roots w ↦

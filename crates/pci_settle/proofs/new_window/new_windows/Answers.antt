@@ -3,24 +3,24 @@ use Rattle.pci_base.specs.WindowKinds.{kind_value}
 use Rattle.pci_function.specs.declared.record.Record.{Record}
 use Rattle.pci_place.specs.Above.{system_in}
 use Rattle.pci_place.proofs.Records.{lent, same_count}
-use Rattle.pci_settle.specs.Buses.{classing_of}
+use Rattle.pci_settle.specs.Buses.{classing_value}
 use Rattle.pci_settle.proofs.NewWindows.{AreWindowsOrLarge, windows_none, step_same, step_put, whole_windows, marked_windows}
 use Rattle.pci_settle.proofs.new_window.new_windows.Goals as goal
 use Rattle.pci_settle.proofs.new_window.new_windows.Goals.{in-Some+in_ok-fits, in_default}
 
 pub loop-done-init : goal.loop-done-init
 loop-done-init g c =
-    let s = system_in c.args.admitted.now in
+    let s = system_in c.args.classing.now.admitted.now in
     let admitted = c.outline-outline.ensures.admitted in
-    windows_none (classing_of c.args.admitted.now c.args.terms c.args.overs.now) admitted.system admitted.nested (kind_value c.args.class) (length s - 0) (omega arith)
+    windows_none (classing_value c.args.classing.now) admitted.system admitted.nested (kind_value c.args.class) (length s - 0) (omega arith)
 
 pub loop-done-preserved : goal.loop-done-preserved
 loop-done-preserved g c =
-    let s = system_in c.args.admitted.now in
+    let s = system_in c.args.classing.now.admitted.now in
     let admitted = c.outline-outline.ensures.admitted in
     let records = c.records-records.result.now in
     let has = lent s records c.records-records.ensures.value c.outline-outline.ensures.records in
-    let p = classing_of c.args.admitted.now c.args.terms c.args.overs.now in
+    let p = classing_value c.args.classing.now in
     let class = kind_value c.args.class in
     elim c.match-records-function.branch [
       | in-Some+in_ok-fits w ↦
@@ -41,22 +41,22 @@ at_start n done h = omega (arith, h)
 
 pub returns-clause-windows : goal.returns-clause-windows
 returns-clause-windows g c =
-    let s = system_in c.args.admitted.now in
+    let s = system_in c.args.classing.now.admitted.now in
     let admitted = c.outline-outline.ensures.admitted in
     let records = c.records-records.result.now in
     let has = lent s records c.records-records.ensures.value c.outline-outline.ensures.records in
     let count = same_count s records has in
     let start = at_start (length s) c.loop-done.done (omega (arith, count)) in
-    whole_windows (classing_of c.args.admitted.now c.args.terms c.args.overs.now) admitted.system admitted.nested (kind_value c.args.class) c.loop-done.windows c.loop-done.large
-    (subst (λ n. AreWindowsOrLarge (classing_of c.args.admitted.now c.args.terms c.args.overs.now) (kind_value c.args.class) n c.loop-done.windows c.loop-done.large) start c.loop-done.invariant)
+    whole_windows (classing_value c.args.classing.now) admitted.system admitted.nested (kind_value c.args.class) c.loop-done.windows c.loop-done.large
+    (subst (λ n. AreWindowsOrLarge (classing_value c.args.classing.now) (kind_value c.args.class) n c.loop-done.windows c.loop-done.large) start c.loop-done.invariant)
 
 pub returns-clause-marked : goal.returns-clause-marked
 returns-clause-marked g c =
-    let s = system_in c.args.admitted.now in
+    let s = system_in c.args.classing.now.admitted.now in
     let admitted = c.outline-outline.ensures.admitted in
     let records = c.records-records.result.now in
     let has = lent s records c.records-records.ensures.value c.outline-outline.ensures.records in
     let count = same_count s records has in
     let start = at_start (length s) c.loop-done.done (omega (arith, count)) in
-    marked_windows (classing_of c.args.admitted.now c.args.terms c.args.overs.now) admitted.system admitted.nested (kind_value c.args.class) c.loop-done.windows c.loop-done.large
-    (subst (λ n. AreWindowsOrLarge (classing_of c.args.admitted.now c.args.terms c.args.overs.now) (kind_value c.args.class) n c.loop-done.windows c.loop-done.large) start c.loop-done.invariant)
+    marked_windows (classing_value c.args.classing.now) admitted.system admitted.nested (kind_value c.args.class) c.loop-done.windows c.loop-done.large
+    (subst (λ n. AreWindowsOrLarge (classing_value c.args.classing.now) (kind_value c.args.class) n c.loop-done.windows c.loop-done.large) start c.loop-done.invariant)

@@ -1,16 +1,15 @@
-use Rattle.pci_base.specs.WindowKinds.{kind_value}
-use Rattle.pci_settle.specs.Own.{situation}
+use Rattle.pci_settle.specs.Own.{situation_value}
 use Rattle.pci_settle.proofs.Ranks.{items_by_rank}
 use Rattle.pci_settle.proofs.own.add_items.Goals as goal
 
 pub returns-clause-exact : goal.returns-clause-exact
 returns-clause-exact g c = λ a s f asked.
-    items_by_rank a s f (situation c.args.function c.args.probe.now.0 (kind_value c.args.class) c.args.over.now c.args.terms c.args.window c.args.kept.now) c.args.«record».now asked
+    items_by_rank a s f (situation_value c.args.situation.now) c.args.«record».now asked
 
 pub returns-in_err-add_bars-clause-exact : goal.returns-in_err-add_bars-clause-exact
 returns-in_err-add_bars-clause-exact g c = λ a s f asked.
-    items_by_rank a s f (situation c.args.function c.args.probe.now.0 (kind_value c.args.class) c.args.over.now c.args.terms c.args.window c.args.kept.now) c.args.«record».now asked
+    items_by_rank a s f (situation_value c.args.situation.now) c.args.«record».now asked
 
 pub returns-in_err-add_window-clause-exact : goal.returns-in_err-add_window-clause-exact
 returns-in_err-add_window-clause-exact g c = λ a s f asked.
-    items_by_rank a s f (situation c.args.function c.args.probe.now.0 (kind_value c.args.class) c.args.over.now c.args.terms c.args.window c.args.kept.now) c.args.«record».now asked
+    items_by_rank a s f (situation_value c.args.situation.now) c.args.«record».now asked
