@@ -6,7 +6,7 @@ ghost use Rattle.pci_spec.specs.System.{Function};
 ghost use Rattle.settle_spec.specs.Lists.{Request};
 ghost use Rattle.pci_base.specs.WindowKinds.{kind_value};
 ghost use Rattle.pci_place.specs.Above.{AreAboves, system_in};
-ghost use Rattle.pci_settle.specs.Buses.{classing_of};
+ghost use Rattle.pci_settle.specs.Buses.{classing_value};
 ghost use Rattle.pci_stand.specs.Passing.{CanBeNoted, AreStanding};
 ghost use Rattle.pci_stay.specs.Windows.{AreAllLawful};
 ghost use Rattle.pci_stay.specs.Rooms.{region_bus};
@@ -16,102 +16,90 @@ use crate::room::has_places;
 use pci_base::memory::OutOfMemory;
 use pci_base::slot::BUSES;
 use pci_base::window_kind::{ByKind, WindowKind};
-use pci_place::above::Above;
 use pci_settle::extent::Extent;
 use pci_settle::kept::Kept;
-use pci_settle::over::{OpenWindows, open_range};
-use pci_settle::own::Terms;
+use pci_settle::listing::{Classing, Listing};
+use pci_settle::over::open_range;
 use pci_stand::region::Region;
-use pci_tree::admitted::Admitted;
 use std::alloc::Allocator;
+
+/// What is behind windows.
+#[derive(Drop)]
+pub struct Behind<'a, 's, 'b, B: Allocator> {
+    /// What the classes of BARs are told by.
+    pub classing: &'b Classing<'a, 's, B>,
+    /// The new windows over each bus, by class.
+    pub windows: &'b ByKind<[Option<Extent>; BUSES]>,
+    /// The parts of all functions, by rising slots.
+    pub regions: &'b [Region],
+}
 
 /// Whether a window of a function stands, and has a place for each item behind it that doesn't keep its place.
 fn window_holds<A: Allocator + Copy, B: Allocator>(
     alloc: A,
-    admitted: &Admitted<B>,
+    behind: &Behind<B>,
     function: usize,
     class: WindowKind,
-    aboves: &[Above; BUSES],
-    terms: Terms,
-    over: &[OpenWindows],
-    windows: &ByKind<[Option<Extent>; BUSES]>,
-    regions: &[Region],
     table: &[Kept],
 ) -> Result<bool, OutOfMemory>
-    requires above { AreAboves (system_in admitted.now) aboves.now }
-    requires lawful { AreAllLawful windows.now }
-    requires order { IsNonDecreasingBy region_bus regions.now }
-    requires ready { All (CanBeNoted (length table.now)) regions.now }
+    requires above { AreAboves (system_in behind.now.classing.now.admitted.now)
+        behind.now.classing.now.aboves.now }
+    requires lawful { AreAllLawful behind.now.windows.now }
+    requires order { IsNonDecreasingBy region_bus behind.now.regions.now }
+    requires ready { All (CanBeNoted (length table.now)) behind.now.regions.now }
     requires function { function < length table.now }
-    requires count { length table.now ≡ length (system_in admitted.now) }
+    requires count { length table.now ≡ length (system_in behind.now.classing.now.admitted.now) }
     ensures { IfOk result (λ holds. (q : Request) → (f : Function)
-        → IsAsking (classing_of admitted.now terms over.now) windows.now regions.now q
-        → slice_get (system_in admitted.now) function ≡ Some f
-        → IsHeldFrom q (system_in admitted.now) table.now (function + 1)
-        → IsWindowHolding q (system_in admitted.now) table.now f (kind_value class) holds) }
+        → IsAsking (classing_value behind.now.classing.now) behind.now.windows.now
+        behind.now.regions.now q
+        → slice_get (system_in behind.now.classing.now.admitted.now) function ≡ Some f
+        → IsHeldFrom q (system_in behind.now.classing.now.admitted.now) table.now (function + 1)
+        → IsWindowHolding q (system_in behind.now.classing.now.admitted.now) table.now f (kind_value class) holds) }
 {
     if !table[function].window(class) {
         return Ok(false);
     }
-    let records = admitted.outline().records();
+    let records = behind.classing.admitted.outline().records();
     let Some(bridge) = &records[function].bridge else {
         return Ok(false);
     };
     let Some(range) = open_range(&bridge.windows, class) else {
         return Ok(false);
     };
-    let room = has_places(
-        alloc,
-        admitted,
-        bridge.secondary,
+    let listing = Listing {
+        classing: behind.classing,
         class,
-        range,
-        aboves,
-        terms,
-        over,
-        windows.get(class),
-        regions,
-        table,
-    )?;
+        windows: behind.windows.get(class),
+        kept: table,
+    };
+    let room = has_places(alloc, &listing, bridge.secondary, range, behind.regions)?;
     Ok(room)
 }
 
 /// Notes which windows of a bridge hold, where it is noted of all that is behind it.
 fn hold_bridge<A: Allocator + Copy, B: Allocator>(
     alloc: A,
-    admitted: &Admitted<B>,
+    behind: &Behind<B>,
     function: usize,
-    aboves: &[Above; BUSES],
-    terms: Terms,
-    over: &[OpenWindows],
-    windows: &ByKind<[Option<Extent>; BUSES]>,
-    regions: &[Region],
     table: &mut [Kept],
 ) -> Result<(), OutOfMemory>
-    requires above { AreAboves (system_in admitted.now) aboves.now }
-    requires lawful { AreAllLawful windows.now }
-    requires order { IsNonDecreasingBy region_bus regions.now }
-    requires ready { All (CanBeNoted (length table.old)) regions.now }
+    requires above { AreAboves (system_in behind.now.classing.now.admitted.now)
+        behind.now.classing.now.aboves.now }
+    requires lawful { AreAllLawful behind.now.windows.now }
+    requires order { IsNonDecreasingBy region_bus behind.now.regions.now }
+    requires ready { All (CanBeNoted (length table.old)) behind.now.regions.now }
     requires function { function < length table.old }
-    requires count { length table.old ≡ length (system_in admitted.now) }
+    requires count { length table.old ≡ length (system_in behind.now.classing.now.admitted.now) }
     ensures { OnOk result ((q : Request) → (f : Function)
-        → IsAsking (classing_of admitted.now terms over.now) windows.now regions.now q
-        → slice_get (system_in admitted.now) function ≡ Some f
-        → IsHeldFrom q (system_in admitted.now) table.old (function + 1)
-        → IsHeldFrom q (system_in admitted.now) table.new function) }
+        → IsAsking (classing_value behind.now.classing.now) behind.now.windows.now
+        behind.now.regions.now q
+        → slice_get (system_in behind.now.classing.now.admitted.now) function ≡ Some f
+        → IsHeldFrom q (system_in behind.now.classing.now.admitted.now) table.old (function + 1)
+        → IsHeldFrom q (system_in behind.now.classing.now.admitted.now) table.new function) }
 {
-    let class = WindowKind::Io;
-    let io = window_holds(
-        alloc, admitted, function, class, aboves, terms, over, windows, regions, table,
-    )?;
-    let class = WindowKind::Memory;
-    let memory = window_holds(
-        alloc, admitted, function, class, aboves, terms, over, windows, regions, table,
-    )?;
-    let class = WindowKind::Prefetchable;
-    let prefetchable = window_holds(
-        alloc, admitted, function, class, aboves, terms, over, windows, regions, table,
-    )?;
+    let io = window_holds(alloc, behind, function, WindowKind::Io, table)?;
+    let memory = window_holds(alloc, behind, function, WindowKind::Memory, table)?;
+    let prefetchable = window_holds(alloc, behind, function, WindowKind::Prefetchable, table)?;
     table[function].windows = ByKind {
         io,
         memory,
@@ -124,36 +112,31 @@ fn hold_bridge<A: Allocator + Copy, B: Allocator>(
 /// the highest slot down notes it before the windows of the bridge are looked at.
 pub fn hold_all<A: Allocator + Copy, B: Allocator>(
     alloc: A,
-    admitted: &Admitted<B>,
-    aboves: &[Above; BUSES],
-    terms: Terms,
-    over: &[OpenWindows],
-    windows: &ByKind<[Option<Extent>; BUSES]>,
-    regions: &[Region],
+    behind: &Behind<B>,
     table: &mut [Kept],
 ) -> Result<(), OutOfMemory>
     // which windows lead to a BAR decides its class
-    requires above { AreAboves (system_in admitted.now) aboves.now }
+    requires above { AreAboves (system_in behind.now.classing.now.admitted.now)
+        behind.now.classing.now.aboves.now }
     // places are looked for by sizes and alignments
-    requires lawful { AreAllLawful windows.now }
+    requires lawful { AreAllLawful behind.now.windows.now }
     // the parts of a bus stand in a row, whose ends are found by halving
-    requires order { IsNonDecreasingBy region_bus regions.now }
+    requires order { IsNonDecreasingBy region_bus behind.now.regions.now }
     // each part names a function that the table has
-    requires ready { All (CanBeNoted (length table.old)) regions.now }
+    requires ready { All (CanBeNoted (length table.old)) behind.now.regions.now }
     // a function's entry stands where its record does
-    requires count { length table.old ≡ length (system_in admitted.now) }
+    requires count { length table.old ≡ length (system_in behind.now.classing.now.admitted.now) }
     ensures { OnOk result ((q : Request)
-        → IsAsking (classing_of admitted.now terms over.now) windows.now regions.now q
-        → AreStanding q (system_in admitted.now) table.old
-        → AreHolding q (system_in admitted.now) table.new) }
+        → IsAsking (classing_value behind.now.classing.now) behind.now.windows.now
+        behind.now.regions.now q
+        → AreStanding q (system_in behind.now.classing.now.admitted.now) table.old
+        → AreHolding q (system_in behind.now.classing.now.admitted.now) table.new) }
 {
-    let records = admitted.outline().records();
+    let records = behind.classing.admitted.outline().records();
     for done in 0..records.len() {
         let function = records.len() - 1 - done;
         if records[function].bridge.is_some() {
-            hold_bridge(
-                alloc, admitted, function, aboves, terms, over, windows, regions, table,
-            )?;
+            hold_bridge(alloc, behind, function, table)?;
         }
     }
     Ok(())

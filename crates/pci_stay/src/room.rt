@@ -9,26 +9,20 @@ ghost use Rattle.settle_spec.specs.Items.{has_places};
 ghost use Rattle.pci_base.specs.Space.{space_of};
 ghost use Rattle.pci_base.specs.WindowKinds.{kind_value};
 ghost use Rattle.pci_place.specs.Above.{AreAboves, system_in};
-ghost use Rattle.pci_settle.specs.Buses.{AreWindows, classing_of, bus_listing};
+ghost use Rattle.pci_settle.specs.Buses.{AreWindows, listing_value};
 ghost use Rattle.pci_stand.specs.Passing.{CanBeNoted};
 ghost use Rattle.pci_stay.specs.Rooms.{region_bus, wanted_value, IsRoomOf};
 
 use crate::taken::taken_on;
 use pci_base::memory::OutOfMemory;
 use pci_base::range::Range;
-use pci_base::slot::BUSES;
 use pci_base::space::Space;
 use pci_base::window_kind::WindowKind;
-use pci_place::above::Above;
 use pci_settle::bus::items_in_turn;
-use pci_settle::extent::Extent;
 use pci_settle::item::Item;
-use pci_settle::kept::Kept;
-use pci_settle::over::{Left, OpenWindows};
-use pci_settle::own::Terms;
+use pci_settle::listing::Listing;
 use pci_settle::placing::{Wanted, place_all};
 use pci_stand::region::Region;
-use pci_tree::admitted::Admitted;
 use std::alloc::Allocator;
 
 /// The space of a class.
@@ -58,36 +52,30 @@ fn wanted_of<A: Allocator>(alloc: A, items: &[Item]) -> Result<Vec<Wanted, A>, O
 /// Whether a window has a place for each item on the bus behind it that doesn't keep its place, off those that do.
 pub fn has_places<A: Allocator + Copy, B: Allocator>(
     alloc: A,
-    admitted: &Admitted<B>,
+    listing: &Listing<B>,
     bus: u8,
-    class: WindowKind,
     range: Range,
-    aboves: &[Above; BUSES],
-    terms: Terms,
-    over: &[OpenWindows],
-    windows: &[Option<Extent>; BUSES],
     regions: &[Region],
-    table: &[Kept],
 ) -> Result<bool, OutOfMemory>
     // which windows lead to a BAR decides its class
-    requires above { AreAboves (system_in admitted.now) aboves.now }
+    requires above { AreAboves (system_in listing.now.classing.now.admitted.now)
+        listing.now.classing.now.aboves.now }
     // places are looked for by sizes and alignments
-    requires lawful { AreWindows windows.now }
+    requires lawful { AreWindows listing.now.windows.now }
     // the parts of a bus stand in a row, whose ends are found by halving
     requires order { IsNonDecreasingBy region_bus regions.now }
     // each part names a function that the table has
-    requires ready { All (CanBeNoted (length table.now)) regions.now }
+    requires ready { All (CanBeNoted (length listing.now.kept.now)) regions.now }
     ensures { IfOk result (λ room. (q : Request) → (keeps : RegionValue → Bool) → (b : Function)
-        → IsRoomOf
-        (bus_listing (classing_of admitted.now terms over.now) (kind_value class) bus windows.now table.now)
-        regions.now range q keeps b
-        → room ≡ has_places q (system_in admitted.now) keeps b (kind_value class)) }
+        → IsRoomOf (listing_value listing.now bus) regions.now range q keeps b
+        → room ≡ has_places q (system_in listing.now.classing.now.admitted.now) keeps b
+        (kind_value listing.now.class)) }
 {
-    let left = Left { over, kept: table };
-    let items = items_in_turn(alloc, admitted, bus, class, aboves, terms, windows, &left)?;
+    let items = items_in_turn(alloc, listing, bus)?;
     let wanted = wanted_of(alloc, items.as_slice())?;
     let mut places = vec![in alloc; 0; wanted.len()]?;
-    let mut taken = taken_on(alloc, regions, bus, space_of(class), table)?;
+    let space = space_of(listing.class);
+    let mut taken = taken_on(alloc, regions, bus, space, listing.kept)?;
     let mut window = Vec::new(alloc);
     window.push(range)?;
     let mut lists = Vec::new(alloc);

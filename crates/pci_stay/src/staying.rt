@@ -5,7 +5,7 @@ ghost use Rattle.pci_spec.specs.System.{System};
 ghost use Rattle.settle_spec.specs.Lists.{Request};
 ghost use Rattle.pci_tree.specs.Ways.{IsBridgeToBus};
 ghost use Rattle.pci_place.specs.Above.{AreAboves, system_in};
-ghost use Rattle.pci_settle.specs.Buses.{classing_of};
+ghost use Rattle.pci_settle.specs.Buses.{classing_value};
 ghost use Rattle.pci_settle.specs.Lists.{lists_value};
 ghost use Rattle.pci_stand.specs.Boards.{IsBoard};
 ghost use Rattle.pci_stand.specs.Known.{asked, AreParts};
@@ -14,18 +14,18 @@ ghost use Rattle.pci_stay.specs.Windows.{AreAllLawful};
 ghost use Rattle.pci_stay.specs.Holding.{IsKnowing, AreHolding};
 ghost use Rattle.pci_stay.specs.Staying.{IsStayedTo, AreStaying, IsTooLargeFor, IsTooLargeInIo, asked_in_io};
 
-use crate::holding::hold_all;
+use crate::holding::{Behind, hold_all};
 use crate::windows::{TooLarge, all_windows, io_windows, open_windows, unknown_beside};
 use pci_base::memory::{OutOfMemory, Refused};
 use pci_base::range::RootRange;
 use pci_base::slot::{BUSES, Slot};
 use pci_base::window_kind::ByKind;
 use pci_function::record::Record;
-use pci_place::above::{Above, aboves};
+use pci_place::above::aboves;
 use pci_settle::extent::Extent;
 use pci_settle::kept::Kept;
 use pci_settle::list::Lists;
-use pci_settle::over::OpenWindows;
+use pci_settle::listing::Classing;
 use pci_settle::own::Terms;
 use pci_stand::collect::regions;
 use pci_stand::pass::standing;
@@ -34,76 +34,79 @@ use pci_stand::region::Region;
 use pci_tree::admitted::Admitted;
 use std::alloc::Allocator;
 
+/// The functions of a board, and their parts.
+#[derive(Clone, Copy)]
+struct Board<'a> {
+    records: &'a [Record],
+    /// The bridge over each bus, by its place among the records; None on a root.
+    over: &'a [Option<usize>; BUSES],
+    /// The parts of all functions, by rising slots.
+    regions: &'a [Region],
+}
+
 /// Notes of a part that holds whether it stays: it is on a root, or the window over it stays.
-fn stay_one(
-    records: &[Record],
-    over: &[Option<usize>; BUSES],
-    lists: &Lists,
-    regions: &[Region],
-    index: usize,
-    table: &mut [Kept],
-)
-    requires over { IsBridgeToBus records.now over.now }
-    requires count { length table.old ≡ length records.now }
-    requires ready { All (CanBeNoted (length records.now)) regions.now }
-    requires index { index < length regions.now }
-    ensures { (q : Request) → (s : System) → IsBoard q s records.now (lists_value lists.now)
-        → AreParts q s regions.now
-        → IsStayedTo q s regions.now index table.old
-        → IsStayedTo q s regions.now (index + 1) table.new }
+fn stay_one(board: &Board, lists: &Lists, index: usize, table: &mut [Kept])
+    requires over { IsBridgeToBus board.now.records.now board.now.over.now }
+    requires count { length table.old ≡ length board.now.records.now }
+    requires ready { All (CanBeNoted (length board.now.records.now)) board.now.regions.now }
+    requires index { index < length board.now.regions.now }
+    ensures { (q : Request) → (s : System) → IsBoard q s board.now.records.now (lists_value lists.now)
+        → AreParts q s board.now.regions.now
+        → IsStayedTo q s board.now.regions.now index table.old
+        → IsStayedTo q s board.now.regions.now (index + 1) table.new }
 {
-    let region = &regions[index];
-    if !is_in_place(records, over, lists, region, table) {
+    let region = &board.regions[index];
+    if !is_in_place(board.records, board.over, lists, region, table) {
         table[region.function].clear(region.part);
     }
 }
 
 /// Notes in a table of what holds what stays. The parts come by rising slots, so a window comes before what is in it.
-fn stay_all(
-    records: &[Record],
-    over: &[Option<usize>; BUSES],
-    lists: &Lists,
-    regions: &[Region],
-    table: &mut [Kept],
-)
-    requires over { IsBridgeToBus records.now over.now }
-    requires count { length table.old ≡ length records.now }
-    requires ready { All (CanBeNoted (length records.now)) regions.now }
-    ensures { (q : Request) → (s : System) → IsBoard q s records.now (lists_value lists.now)
-        → AreParts q s regions.now → AreHolding q s table.old → AreStaying q s table.new }
+fn stay_all(board: &Board, lists: &Lists, table: &mut [Kept])
+    requires over { IsBridgeToBus board.now.records.now board.now.over.now }
+    requires count { length table.old ≡ length board.now.records.now }
+    requires ready { All (CanBeNoted (length board.now.records.now)) board.now.regions.now }
+    ensures { (q : Request) → (s : System) → IsBoard q s board.now.records.now (lists_value lists.now)
+        → AreParts q s board.now.regions.now → AreHolding q s table.old → AreStaying q s table.new }
 {
-    for index in 0..regions.len() {
-        stay_one(records, over, lists, regions, index, table);
+    for index in 0..board.regions.len() {
+        stay_one(board, lists, index, table);
     }
 }
 
 /// Which parts of each function stay, by the open windows over each bus and the new ones of each class.
-fn stay_by<A: Allocator + Copy, B: Allocator>(
+fn stay_by<'b, A: Allocator + Copy, B: Allocator>(
     alloc: A,
-    admitted: &Admitted<B>,
+    classing: &'b Classing<B>,
     lists: &Lists,
     fixed: &[Slot],
-    aboves: &[Above; BUSES],
-    terms: Terms,
-    opened: &[OpenWindows],
-    windows: &ByKind<[Option<Extent>; BUSES]>,
+    windows: &'b ByKind<[Option<Extent>; BUSES]>,
 ) -> Result<Vec<Kept, A>, OutOfMemory>
-    requires above { AreAboves (system_in admitted.now) aboves.now }
+    requires above { AreAboves (system_in classing.now.admitted.now) classing.now.aboves.now }
     requires lawful { AreAllLawful windows.now }
-    ensures { IfOk result (λ table. IsKnowing (classing_of admitted.now terms opened.now) windows.now
-        (asked admitted.now.roots (lists_value lists.now) fixed.now)
-        → AreStaying (asked admitted.now.roots (lists_value lists.now) fixed.now)
-        (system_in admitted.now) table.items) }
+    ensures { IfOk result (λ table. IsKnowing (classing_value classing.now) windows.now
+        (asked classing.now.admitted.now.roots (lists_value lists.now) fixed.now)
+        → AreStaying (asked classing.now.admitted.now.roots (lists_value lists.now) fixed.now)
+        (system_in classing.now.admitted.now) table.items) }
 {
+    let admitted = classing.admitted;
     let records = admitted.outline().records();
     let regions = regions(alloc, admitted, lists, fixed)?;
     let mut table = standing(alloc, admitted, lists, fixed)?;
     let regions = regions.as_slice();
     let entries = table.as_mut_slice();
-    hold_all(
-        alloc, admitted, aboves, terms, opened, windows, regions, entries,
-    )?;
-    stay_all(records, &bridges_over(records), lists, regions, entries);
+    let behind = Behind {
+        classing,
+        windows,
+        regions,
+    };
+    hold_all(alloc, &behind, entries)?;
+    let board = Board {
+        records,
+        over: &bridges_over(records),
+        regions,
+    };
+    stay_all(&board, lists, entries);
     Ok(table)
 }
 
@@ -125,17 +128,19 @@ pub fn staying<A: Allocator + Copy, B: Allocator>(
         (asked admitted.now.roots (lists_value lists.now) fixed.now) (system_in admitted.now)) }
 {
     let aboves = aboves(admitted);
-    let terms = Terms::of(lists);
     let records = admitted.outline().records();
     let opened = open_windows(records);
-    let windows = all_windows(alloc, admitted, &aboves, terms, &opened)?;
+    let classing = Classing {
+        admitted,
+        aboves: &aboves,
+        terms: Terms::of(lists),
+        overs: &opened,
+    };
+    let windows = all_windows(alloc, &classing)?;
     if let Some(window) = unknown_beside(windows.large, records) {
         return Err(Refused::Fault(window));
     }
-    let tables = &windows.tables;
-    let table = stay_by(
-        alloc, admitted, lists, fixed, &aboves, terms, &opened, tables,
-    )?;
+    let table = stay_by(alloc, &classing, lists, fixed, &windows.tables)?;
     Ok(table)
 }
 
@@ -159,11 +164,14 @@ pub fn staying_in_io<A: Allocator + Copy, B: Allocator>(
         pref: &[],
     };
     let aboves = aboves(admitted);
-    let terms = Terms::of(&lists);
     let opened = open_windows(admitted.outline().records());
-    let windows = io_windows(alloc, admitted, &aboves, terms, &opened)?;
-    let table = stay_by(
-        alloc, admitted, &lists, fixed, &aboves, terms, &opened, &windows,
-    )?;
+    let classing = Classing {
+        admitted,
+        aboves: &aboves,
+        terms: Terms::of(&lists),
+        overs: &opened,
+    };
+    let windows = io_windows(alloc, &classing)?;
+    let table = stay_by(alloc, &classing, &lists, fixed, &windows)?;
     Ok(table)
 }

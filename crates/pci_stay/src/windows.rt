@@ -7,7 +7,7 @@ ghost use Rattle.std.specs.Option.{option_map};
 ghost use Rattle.pci_base.specs.Ranges.{decoded_range_of};
 ghost use Rattle.pci_base.specs.WindowKinds.{kind_value};
 ghost use Rattle.pci_place.specs.Above.{AreAboves, system_in};
-ghost use Rattle.pci_settle.specs.Buses.{AreWindows, classing_of};
+ghost use Rattle.pci_settle.specs.Buses.{AreWindows, classing_value};
 ghost use Rattle.pci_spec.specs.Window.{IoWindow};
 ghost use Rattle.pci_stay.specs.Windows.{AreOpenFor, HasWindowsOf, IsTooLargeOf, first_of, AreAllNew, AreAllLawful, is_whole_range, opens_whole, has_whole, HasWhole};
 
@@ -16,12 +16,10 @@ use pci_base::range::Range;
 use pci_base::slot::BUSES;
 use pci_base::window_kind::{ByKind, WindowKind};
 use pci_function::record::{Bridge, Record};
-use pci_place::above::Above;
 use pci_settle::extent::Extent;
+use pci_settle::listing::Classing;
 use pci_settle::new_window::new_windows;
 use pci_settle::over::{OpenWindows, open_range};
-use pci_settle::own::Terms;
-use pci_tree::admitted::Admitted;
 use std::alloc::Allocator;
 
 /// A bridge whose new window would have 2^64 addresses or more.
@@ -51,21 +49,18 @@ pub fn open_windows(records: &[Record]) -> [OpenWindows; BUSES]
 /// Puts the new windows of a class into a table, or names the bridge of which that would have 2^64 addresses or more.
 fn class_windows<A: Allocator + Copy, B: Allocator>(
     alloc: A,
-    admitted: &Admitted<B>,
+    classing: &Classing<B>,
     class: WindowKind,
-    aboves: &[Above; BUSES],
-    terms: Terms,
-    over: &[OpenWindows],
     windows: &mut [Option<Extent>; BUSES],
 ) -> Result<(), Refused<TooLarge>>
-    requires { AreAboves (system_in admitted.now) aboves.now }
-    ensures windows { OnOk result (HasWindowsOf (classing_of admitted.now terms over.now)
+    requires { AreAboves (system_in classing.now.admitted.now) classing.now.aboves.now }
+    ensures windows { OnOk result (HasWindowsOf (classing_value classing.now)
         (kind_value class) windows.new) }
     ensures lawful { AreWindows windows.new }
-    ensures fault { IfErr result (IsTooLargeOf (classing_of admitted.now terms over.now)
+    ensures fault { IfErr result (IsTooLargeOf (classing_value classing.now)
         (kind_value class)) }
 {
-    match new_windows(alloc, admitted, class, aboves, terms, over, windows)? {
+    match new_windows(alloc, classing, class, windows)? {
         Some(function) => Err(Refused::Fault(TooLarge { class, function })),
         None => Ok(()),
     }
@@ -100,27 +95,21 @@ fn first_of(
 /// The new windows over each bus, by class.
 pub fn all_windows<A: Allocator + Copy, B: Allocator>(
     alloc: A,
-    admitted: &Admitted<B>,
-    aboves: &[Above; BUSES],
-    terms: Terms,
-    over: &[OpenWindows],
+    classing: &Classing<B>,
 ) -> Result<NewWindows, OutOfMemory>
     // which windows lead to a BAR decides its class
-    requires { AreAboves (system_in admitted.now) aboves.now }
+    requires { AreAboves (system_in classing.now.admitted.now) classing.now.aboves.now }
     ensures windows { IfOk result (λ windows. AreAllNew
-        (classing_of admitted.now terms over.now) windows.tables windows.large) }
+        (classing_value classing.now) windows.tables windows.large) }
     ensures lawful { IfOk result (λ windows. AreAllLawful windows.tables) }
 {
     let mut io = [None; BUSES];
     let mut memory = [None; BUSES];
     let mut prefetchable = [None; BUSES];
-    let class = WindowKind::Io;
-    let in_io = new_windows(alloc, admitted, class, aboves, terms, over, &mut io)?;
-    let class = WindowKind::Memory;
-    let in_memory = new_windows(alloc, admitted, class, aboves, terms, over, &mut memory)?;
+    let in_io = new_windows(alloc, classing, WindowKind::Io, &mut io)?;
+    let in_memory = new_windows(alloc, classing, WindowKind::Memory, &mut memory)?;
     let class = WindowKind::Prefetchable;
-    let wide = &mut prefetchable;
-    let in_wide = new_windows(alloc, admitted, class, aboves, terms, over, wide)?;
+    let in_wide = new_windows(alloc, classing, class, &mut prefetchable)?;
     let large = first_of(in_io, in_memory, in_wide);
     Ok(NewWindows {
         tables: ByKind {
@@ -189,21 +178,17 @@ pub fn unknown_beside(large: Option<TooLarge>, records: &[Record]) -> Option<Too
 /// The new windows of I/O over each bus, and none of memory.
 pub fn io_windows<A: Allocator + Copy, B: Allocator>(
     alloc: A,
-    admitted: &Admitted<B>,
-    aboves: &[Above; BUSES],
-    terms: Terms,
-    over: &[OpenWindows],
+    classing: &Classing<B>,
 ) -> Result<ByKind<[Option<Extent>; BUSES]>, Refused<TooLarge>>
     // which windows lead to a BAR decides its class
-    requires { AreAboves (system_in admitted.now) aboves.now }
+    requires { AreAboves (system_in classing.now.admitted.now) classing.now.aboves.now }
     ensures windows { IfOk result (λ windows. HasWindowsOf
-        (classing_of admitted.now terms over.now) IoWindow windows.io) }
+        (classing_value classing.now) IoWindow windows.io) }
     ensures lawful { IfOk result AreAllLawful }
-    ensures fault { IfErr result (IsTooLargeOf (classing_of admitted.now terms over.now) IoWindow) }
+    ensures fault { IfErr result (IsTooLargeOf (classing_value classing.now) IoWindow) }
 {
     let mut io = [None; BUSES];
-    let class = WindowKind::Io;
-    class_windows(alloc, admitted, class, aboves, terms, over, &mut io)?;
+    class_windows(alloc, classing, WindowKind::Io, &mut io)?;
     Ok(ByKind {
         io,
         memory: [None; BUSES],

@@ -30,7 +30,7 @@ pub loop-done-init : goal.loop-done-init
 loop-done-init g c = record {
   size = refl;
   held = λ q asking are. (
-      let s = system_in c.args.admitted.now in
+      let s = system_in c.args.behind.now.classing.now.admitted.now in
       subst (IsHeldFrom q s c.args.table.now) (sym (all_of (length s))) (held_last q s asking.system asking.nested c.args.table.now are));
 }
 
@@ -38,7 +38,7 @@ pub loop-done-preserved : goal.loop-done-preserved
 loop-done-preserved g c = record {
   size = c.if-is_some.auto.table ∙ c.loop-done.invariant.size;
   held = λ q asking are. (
-      let s = system_in c.args.admitted.now in
+      let s = system_in c.args.behind.now.classing.now.admitted.now in
       let records = c.records-records.result.now in
       let has = lent s records c.records-records.ensures.value c.outline.ensures.records in
       let count = same_count s records has in
@@ -62,7 +62,7 @@ loop-done-preserved g c = record {
 
 pub returns : goal.returns
 returns g c = λ q asking are.
-    let s = system_in c.args.admitted.now in
+    let s = system_in c.args.behind.now.classing.now.admitted.now in
     let records = c.records-records.result.now in
     let has = lent s records c.records-records.ensures.value c.outline.ensures.records in
     let count = same_count s records has in

@@ -1,7 +1,7 @@
 use Rattle.std.proofs.Common.{◌≡◌, ◌-◌, length}
 use Rattle.settle_spec.specs.Lists.{Request}
 use Rattle.pci_place.specs.Above.{system_in}
-use Rattle.pci_settle.specs.Buses.{classing_of}
+use Rattle.pci_settle.specs.Buses.{classing_value}
 use Rattle.pci_stand.specs.Passing.{AreStanding}
 use Rattle.pci_stay.specs.Holding.{IsAsking, IsHeldFrom}
 use Rattle.pci_stay.proofs.holding.hold_all.Given as goal
@@ -9,6 +9,6 @@ use Rattle.pci_stay.proofs.holding.hold_all.Given as goal
 abbrev pub invariant-loop-done : goal.invariant-loop-done
 invariant-loop-done g l = record {
   size : length l.table ≡ length l.fn.table;
-  held : (q : Request) → IsAsking (classing_of l.admitted l.terms l.over) l.windows l.regions q
-      → AreStanding q (system_in l.admitted) l.fn.table → IsHeldFrom q (system_in l.admitted) l.table (length (system_in l.admitted) - l.done);
+  held : (q : Request) → IsAsking (classing_value l.behind.classing.now) l.behind.windows.now l.behind.regions.now q
+      → AreStanding q (system_in l.behind.classing.now.admitted.now) l.fn.table → IsHeldFrom q (system_in l.behind.classing.now.admitted.now) l.table (length (system_in l.behind.classing.now.admitted.now) - l.done);
 }

@@ -16,7 +16,7 @@ use Rattle.pci_tree.proofs.Lifting.{same_bridge}
 use Rattle.pci_tree.proofs.RegionParts.{same_bridge_of}
 use Rattle.pci_place.specs.Above.{system_in}
 use Rattle.pci_place.proofs.Records.{lent}
-use Rattle.pci_settle.specs.Buses.{AreBehind, classing_of}
+use Rattle.pci_settle.specs.Buses.{AreBehind, classing_value}
 use Rattle.pci_stand.proofs.OfRecord.{window_is}
 use Rattle.pci_stay.specs.Holding.{HasNewBeside, told_in}
 use Rattle.pci_stay.proofs.Marks.{room_beside}
@@ -25,11 +25,11 @@ use Rattle.pci_stay.proofs.holding.window_holds.Goals as goal
 
 pub returns-then-not-window : goal.returns-then-not-window
 returns-then-not-window g c = λ q f asking at held.
-    unnoted_holds q (system_in c.args.admitted.now) asking.system asking.nested c.args.function f at c.args.table.now held (kind_value c.args.class) (sym c.window.ensures ∙ c.if-not-window.true)
+    unnoted_holds q (system_in c.args.behind.now.classing.now.admitted.now) asking.system asking.nested c.args.function f at c.args.table.now held (kind_value c.args.class) (sym c.window.ensures ∙ c.if-not-window.true)
 
 pub returns-in_default : goal.returns-in_default
 returns-in_default g c = λ q f asking at held.
-    let s = system_in c.args.admitted.now in
+    let s = system_in c.args.behind.now.classing.now.admitted.now in
     let r = c.index-records-function.result in
     let is = record_at s c.records-records.result.now (lent s c.records-records.result.now c.records-records.ensures.value c.outline.ensures.records) c.args.function f at r c.index-records-function.is in
     let other : is_bridge f ≡ false = sym (same_bridge r f is.value) ∙ ap (λ (x : Record). is_some x.bridge) c.index-records-function.is ∙ ap is_some c.in_default.is in
@@ -37,7 +37,7 @@ returns-in_default g c = λ q f asking at held.
 
 pub returns-in_default-open_range : goal.returns-in_default-open_range
 returns-in_default-open_range g c = λ q f asking at held.
-    let s = system_in c.args.admitted.now in
+    let s = system_in c.args.behind.now.classing.now.admitted.now in
     let r = c.index-records-function.result in
     let is = record_at s c.records-records.result.now (lent s c.records-records.result.now c.records-records.ensures.value c.outline.ensures.records) c.args.function f at r c.index-records-function.is in
     let class = kind_value c.args.class in
@@ -46,7 +46,7 @@ returns-in_default-open_range g c = λ q f asking at held.
 
 pub returns : goal.returns
 returns g c = λ q f asking at held.
-    let s = system_in c.args.admitted.now in
+    let s = system_in c.args.behind.now.classing.now.admitted.now in
     let r = c.index-records-function.result in
     let is = record_at s c.records-records.result.now (lent s c.records-records.result.now c.records-records.ensures.value c.outline.ensures.records) c.args.function f at r c.index-records-function.is in
     let b = c.in-Some.bridge in
@@ -61,8 +61,8 @@ returns g c = λ q f asking at held.
     let small : c.in-Some-open_range.range.last < 2 ^ 64 = search rules in
     let last : (range_of f (Window class)).last < 2 ^ 64 = subst (λ (x : decoded.Range). x.last < 2 ^ 64) range small in
     let keeps = told_in q s c.args.table.now in
-    let beside : HasNewBeside q (classing_of c.args.admitted.now c.args.terms c.args.over.now) class (by_kind c.args.windows.now c.args.class) f = asking.new c.args.class f is.listed stand in
-    let room = room_beside (classing_of c.args.admitted.now c.args.terms c.args.over.now) q asking.system asking.nested class (by_kind c.args.windows.now c.args.class) f shows last keeps b.secondary beside in
+    let beside : HasNewBeside q (classing_value c.args.behind.now.classing.now) class (by_kind c.args.behind.now.windows.now c.args.class) f = asking.new c.args.class f is.listed stand in
+    let room = room_beside (classing_value c.args.behind.now.classing.now) q asking.system asking.nested class (by_kind c.args.behind.now.windows.now c.args.class) f shows last keeps b.secondary beside in
     noted_holds q s asking.system asking.nested c.args.function f at c.args.table.now held class c.in_ok-room.room bridge (sym c.window.ensures ∙ c.if-not-window.false)
     (c.in_ok-room.ensures q (told_in q s c.args.table.now) f record {
       system = asking.system;

@@ -3,8 +3,8 @@ use Rattle.pci_stay.proofs.Stays.{stayed_none, all_stay}
 use Rattle.pci_stay.proofs.staying.stay_all.Goals as goal
 
 pub loop-index-init : goal.loop-index-init
-loop-index-init c = record { size = refl; stayed = λ q s board parts are. stayed_none q s board.system board.nested c.args.regions.now parts c.args.table.now are }
+loop-index-init c = record { size = refl; stayed = λ q s board parts are. stayed_none q s board.system board.nested c.args.board.now.regions.now parts c.args.table.now are }
 
 pub returns : goal.returns
 returns c = λ q s board parts are.
-    all_stay q s board.system board.nested c.args.regions.now parts c.loop-index.index c.loop-index-test.false c.loop-index.table (c.loop-index.invariant.stayed q s board parts are)
+    all_stay q s board.system board.nested c.args.board.now.regions.now parts c.loop-index.index c.loop-index-test.false c.loop-index.table (c.loop-index.invariant.stayed q s board parts are)

@@ -11,6 +11,6 @@ use Rattle.pci_stay.proofs.staying.stay_all.Given as goal
 abbrev pub invariant-loop-index : goal.invariant-loop-index
 invariant-loop-index l = record {
   size : length l.table ≡ length l.fn.table;
-  stayed : (q : Request) (s : System) → IsBoard q s l.records (lists_value l.lists) → AreParts q s l.regions → AreHolding q s l.fn.table
-      → IsStayedTo q s l.regions l.index l.table;
+  stayed : (q : Request) (s : System) → IsBoard q s l.board.records.now (lists_value l.lists) → AreParts q s l.board.regions.now → AreHolding q s l.fn.table
+      → IsStayedTo q s l.board.regions.now l.index l.table;
 }

@@ -6,7 +6,7 @@ use Rattle.pci_stay.proofs.staying.stay_one.Goals as goal
 
 pub returns-then-not-is_in_place : goal.returns-then-not-is_in_place
 returns-then-not-is_in_place c = λ q s board parts was.
-    let rs = c.args.regions.now in
+    let rs = c.args.board.now.regions.now in
     let x = get_or rs c.args.index _ in
     let x_is = get_or_default rs c.args.index _ x c.requires.index in
     let known = known_of_code q s board.system board.nested rs parts x (Contains-get_or rs c.args.index _ c.requires.index) in
@@ -16,7 +16,7 @@ returns-then-not-is_in_place c = λ q s board parts was.
 
 pub returns-else-not-is_in_place : goal.returns-else-not-is_in_place
 returns-else-not-is_in_place c = λ q s board parts was.
-    let rs = c.args.regions.now in
+    let rs = c.args.board.now.regions.now in
     let x = get_or rs c.args.index _ in
     let x_is = get_or_default rs c.args.index _ x c.requires.index in
     let known = known_of_code q s board.system board.nested rs parts x (Contains-get_or rs c.args.index _ c.requires.index) in
