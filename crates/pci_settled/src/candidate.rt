@@ -15,6 +15,7 @@ use pci_base::window_kind::WindowKind;
 use pci_settle::bus::items_in_turn;
 use pci_settle::extent::Extent;
 use pci_settle::item::Item;
+use pci_settle::listing::{Classing, Listing};
 use std::alloc::Allocator;
 
 /// An item of a bus with the class in which it is placed.
@@ -78,12 +79,19 @@ fn add_class<A: Allocator + Copy, B: Allocator>(
         → OnOk result (All HasAddressAndAlignment candidates.new.items) }
 {
     let setting = pass.setting;
-    let admitted = setting.admitted;
-    let aboves = setting.aboves;
-    let terms = setting.terms;
-    let left = &setting.staying.left;
-    let windows = pass.windows.of(class);
-    let items = items_in_turn(alloc, admitted, bus, class, aboves, terms, windows, left)?;
+    let classing = Classing {
+        admitted: setting.admitted,
+        aboves: setting.aboves,
+        terms: setting.terms,
+        overs: setting.staying.left.over,
+    };
+    let listing = Listing {
+        classing: &classing,
+        class,
+        windows: pass.windows.of(class),
+        kept: setting.staying.left.kept,
+    };
+    let items = items_in_turn(alloc, &listing, bus)?;
     add_items(candidates, class, items.as_slice())?;
     Ok(())
 }

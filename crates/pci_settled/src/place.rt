@@ -25,6 +25,7 @@ use pci_base::window_kind::WindowKind;
 use pci_place::above::aboves;
 use pci_settle::extent::Extent;
 use pci_settle::list::Lists;
+use pci_settle::listing::Classing;
 use pci_settle::new_window::new_windows;
 use pci_settle::over::Left;
 use pci_settle::own::Terms;
@@ -46,10 +47,13 @@ fn class_windows<A: Allocator + Copy, B: Allocator>(
     ensures fault { IfErr result (IsClassTooLarge (setting_value setting.now)
         (kind_value class)) }
 {
-    let admitted = setting.admitted;
-    let aboves = setting.aboves;
-    let over = setting.staying.left.over;
-    match new_windows(alloc, admitted, class, aboves, setting.terms, over, windows)? {
+    let classing = Classing {
+        admitted: setting.admitted,
+        aboves: setting.aboves,
+        terms: setting.terms,
+        overs: setting.staying.left.over,
+    };
+    match new_windows(alloc, &classing, class, windows)? {
         Some(function) => Err(Refused::Fault(Unplaced::TooLarge { class, function })),
         None => Ok(()),
     }
