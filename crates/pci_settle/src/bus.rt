@@ -104,7 +104,7 @@ fn add_roots<A: Allocator, B: Allocator>(
     Ok(())
 }
 
-/// The items of a bus in a class, in slot and register order; what keeps its place is none. All roots are one bus.
+/// The items of a bus in a class, in slot and register order; what keeps its place is no item. All roots are one bus.
 pub fn items_on<A: Allocator, B: Allocator>(
     alloc: A,
     listing: &Listing<B>,
@@ -126,7 +126,7 @@ pub fn items_on<A: Allocator, B: Allocator>(
     Ok(items)
 }
 
-/// The items of a bus in a class in the order in which they are placed; what keeps its place is none.
+/// The items of a bus in a class in the order in which they are placed; what keeps its place is no item.
 pub fn items_in_turn<A: Allocator + Copy, B: Allocator>(
     alloc: A,
     listing: &Listing<B>,

@@ -54,7 +54,8 @@ fn window_holds<A: Allocator + Copy, B: Allocator>(
         behind.now.regions.now q
         → slice_get (system_in behind.now.classing.now.admitted.now) function ≡ Some f
         → IsHeldFrom q (system_in behind.now.classing.now.admitted.now) table.now (function + 1)
-        → IsWindowHolding q (system_in behind.now.classing.now.admitted.now) table.now f (kind_value class) holds) }
+        → IsWindowHolding q (system_in behind.now.classing.now.admitted.now) table.now f
+        (kind_value class) holds) }
 {
     if !table[function].window(class) {
         return Ok(false);
