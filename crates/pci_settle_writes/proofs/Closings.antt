@@ -1,5 +1,5 @@
 -- What Command of each function holds once all is closed, in one pass over the records in slot order.
-use Rattle.std.proofs.Common.{◌≡◌, ℕ, ◌+◌, ◌≤◌, List, [], ◌∷◌, ◌++◌, map, length, take, set, get_or, replicate, Bool, true, false, ◌&&◌, ◌||◌, not, refl, sym, ◌∙◌, ap, None, Some}
+use Rattle.std.proofs.Common.{◌≡◌, ℕ, ◌+◌, ◌≤◌, List, [], ◌∷◌, ◌++◌, map, length, take, set, get_or, replicate, true, false, ◌&&◌, ◌||◌, not, refl, sym, ◌∙◌, ap, None, Some}
 use Rattle.std.specs.Option.{is_some}
 use Rattle.std.specs.List.{slice_get}
 use Rattle.std.proofs.lemmas.List.{map-append, take_all, take_more}

@@ -2,7 +2,7 @@
 use Rattle.std.proofs.Common.{◌≡◌, ℕ, ◌+◌, List, [], ◌∷◌, Bool, true, false, ◌&&◌, ◌||◌, not, refl, sym, ◌∙◌, ap}
 use Rattle.std.specs.Bool.{if◌then◌else◌}
 use Rattle.std.specs.Option.{is_some}
-use Rattle.std.specs.List.{Contains, filter, list_any}
+use Rattle.std.specs.List.{filter, list_any}
 use Rattle.std.proofs.lemmas.List.Folds.{list_any-append}
 use Rattle.pci_spec.specs.Header.{command, rom_place}
 use Rattle.pci_spec.specs.Bar.{bar_at, has_bar, is_wide}
@@ -28,7 +28,7 @@ use Rattle.pci_place.proofs.ClassOf.{kind_wide}
 use Rattle.pci_place.proofs.Parts.{rom_of}
 use Rattle.pci_settle.specs.Own.{is_left_bar, bar_class_of}
 use Rattle.pci_settle.proofs.OwnItems.{class_by}
-use Rattle.pci_settling.specs.Claims.{is_bar_in, has_left_bar, is_rom_on, has_kept}
+use Rattle.pci_settling.specs.Claims.{has_left_bar, has_kept}
 use Rattle.pci_settling.proofs.KeptClaims.{any_map, any_filter, any_bar, on_is, bar_space, left_is, left_are, rom_on_is, kept_are}
 use Rattle.pci_settle_writes.specs.declared.shut.Around.{Around}
 use Rattle.pci_settle_writes.specs.declared.way.BySpace.{BySpace}

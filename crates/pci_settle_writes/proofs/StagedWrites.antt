@@ -1,7 +1,7 @@
 -- The writes of settling, a function at a time.
-use Rattle.std.proofs.Common.{◌≡◌, ℕ, suc, ◌+◌, ◌-◌, ◌%◌, ◌<◌, ◌≤◌, List, [], ◌∷◌, ◌++◌, Bool, true, false, cond, ◌&&◌, map, length, get_or, take, drop, inl, inr, arith, refl, sym, ◌∙◌, ap}
+use Rattle.std.proofs.Common.{◌≡◌, ℕ, suc, ◌+◌, ◌-◌, ◌%◌, ◌<◌, ◌≤◌, List, [], ◌∷◌, ◌++◌, Bool, true, false, cond, map, length, get_or, take, drop, inl, inr, arith, refl, sym, ◌∙◌, ap}
 use Rattle.std.specs.Bool.{◌==◌, nat_le, if◌then◌else◌}
-use Rattle.std.specs.List.{Contains, flat_map, list_all}
+use Rattle.std.specs.List.{flat_map, list_all}
 use Rattle.std.proofs.lemmas.Bool.{cases_Bool, and_parts, leb-true}
 use Rattle.std.proofs.lemmas.List.{append_assoc, append-nil, get_or-map, get_or_default, length-map, take_more}
 use Rattle.std.proofs.lemmas.List.Elements.{All-contains, Contains-get_or}
@@ -16,13 +16,13 @@ use Rattle.plan_spec.specs.Planning.PlanWrites.{register_write}
 use Rattle.plan_spec.proofs.Planning.Behind.{all_gives}
 use Rattle.settle_spec.specs.Lists.{Request}
 use Rattle.settle_spec.specs.Registers.{settled_function}
-use Rattle.settle_spec.specs.Writes.{closing_command, closed_function, closing_of, setting_of, closing_from, setting_from, opening_from, closings, closing_registers, setting_registers}
+use Rattle.settle_spec.specs.Writes.{closing_command, closed_function, closing_of, setting_of, closing_from, setting_from, opening_from, closings}
 use Rattle.settle_laws.proofs.ClosedImages.{closed_low, closed_device, closed_command}
 use Rattle.settle_laws.proofs.Images.{same_number}
 use Rattle.pci_plan.proofs.WriteLists.{flat_map_more}
 use Rattle.pci_settle_writes.specs.declared.writes.Span.{Span}
 use Rattle.pci_settle_writes.specs.declared.writes.Stages.{Stages}
-use Rattle.pci_settle_writes.specs.Stages.{is_access_of, AreOf, AreStages, HasEachStage, images_change, bridge_closing, bridge_settings, closed_image_by, command_at, closing_at, setting_at}
+use Rattle.pci_settle_writes.specs.Stages.{is_access_of, AreOf, AreStages, images_change, bridge_closing, bridge_settings, closed_image_by, command_at, closing_at, setting_at}
 use Rattle.pci_settle_writes.proofs.ClosedBridges.{image_by}
 
 -- ---- what stands side by side

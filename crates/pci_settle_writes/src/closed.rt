@@ -2,7 +2,7 @@
 ghost use Rattle.std.specs.Prelude.{◌≡◌, ◌<◌, ◌%◌, not};
 ghost use Rattle.pci_base.specs.Bounds.{spec_bounds_of};
 ghost use Rattle.pci_base.specs.WindowKinds.{kind_value};
-ghost use Rattle.pci_spec.specs.Window.{IoWindow, MemoryWindow, PrefetchWindow, is_wide_window};
+ghost use Rattle.pci_spec.specs.Window.{IoWindow, MemoryWindow, PrefetchWindow};
 ghost use Rattle.settle_spec.specs.Writes as writes;
 ghost use Rattle.pci_settle_writes.specs.Shut.{differs_in, is_window_changed};
 ghost use Rattle.pci_settle_writes.specs.Stages.{nibble_in, with_closed_window, closed_image_by};

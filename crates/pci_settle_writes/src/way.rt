@@ -1,7 +1,6 @@
 //! What the bridges between the host and a bus are.
 ghost use Rattle.std.specs.Prelude.{◌≡◌, ◌&&◌, ◌||◌, not};
 ghost use Rattle.pci_spec.specs.System.{Io, Memory};
-ghost use Rattle.pci_spec.specs.Window.{IoWindow, MemoryWindow, PrefetchWindow};
 ghost use Rattle.pci_base.specs.Space.{space_of, is_on};
 ghost use Rattle.pci_base.specs.WindowKinds.{kind_value};
 ghost use Rattle.pci_settle_writes.specs.Shut.{in_space, in_class};
