@@ -5,12 +5,12 @@ ghost use Rattle.pci_base.specs.Space.{space_of};
 ghost use Rattle.pci_check.specs.Stops.{AreReachesOf};
 ghost use Rattle.pci_faults.specs.Lines.{AreLinesAdded, IsAt};
 
+use super::board::Board;
 use super::shares::{Among, shares};
 use super::told::add_told;
 use pci_base::memory::OutOfMemory;
 use pci_base::slot::BUSES;
 use pci_base::space::Space;
-use pci_check::reached::Reached;
 use pci_check::split::of_roots;
 use pci_function::fault::Fault;
 use pci_tree::outline::Outline;
@@ -20,20 +20,19 @@ use std::alloc::Allocator;
 fn add_clashes_in<A: Allocator + Copy>(
     alloc: A,
     out: &mut Vec<Fault, A>,
-    outline: &Outline<A>,
-    reached: &Reached<A>,
+    board: &Board<'_, A>,
     bus: u8,
     space: Space,
 ) -> Result<(), OutOfMemory>
-    requires { AreReachesOf outline.now reached.now }
-    ensures { OnOk result (AreLinesAdded (IsAt Clashes bus (space_of space)) outline.now
+    requires { AreReachesOf board.now.outline.now board.now.reached.now }
+    ensures { OnOk result (AreLinesAdded (IsAt Clashes bus (space_of space)) board.now.outline.now
         out.old.items out.new.items) }
 {
     let among = Among::Bus(bus);
-    let regions = outline.regions(bus, space)?;
+    let regions = board.outline.regions(bus, space)?;
     let regions = regions.as_slice();
     // Two regions meet where any access gets, so what gets furthest decides.
-    let allowed = reached.ranges(bus, space.furthest());
+    let allowed = board.reached.ranges(bus, space.furthest());
     let shared = shares(alloc, regions, allowed, among)?;
     add_told(out, regions, among, space, shared.as_slice())
 }
@@ -42,32 +41,30 @@ fn add_clashes_in<A: Allocator + Copy>(
 fn add_clashes_on<A: Allocator + Copy>(
     alloc: A,
     out: &mut Vec<Fault, A>,
-    outline: &Outline<A>,
-    reached: &Reached<A>,
+    board: &Board<'_, A>,
     bus: u8,
 ) -> Result<(), OutOfMemory>
-    requires { AreReachesOf outline.now reached.now }
-    ensures { OnOk result (AreLinesAdded (λ c b sp. (c ≡ Clashes) × (b ≡ bus)) outline.now
-        out.old.items out.new.items) }
+    requires { AreReachesOf board.now.outline.now board.now.reached.now }
+    ensures { OnOk result (AreLinesAdded (λ c b sp. (c ≡ Clashes) × (b ≡ bus))
+        board.now.outline.now out.old.items out.new.items) }
 {
-    add_clashes_in(alloc, out, outline, reached, bus, Space::Io)?;
-    add_clashes_in(alloc, out, outline, reached, bus, Space::Mem)
+    add_clashes_in(alloc, out, board, bus, Space::Io)?;
+    add_clashes_in(alloc, out, board, bus, Space::Mem)
 }
 
 /// Adds the clashes of all buses.
 pub fn add_clashes<A: Allocator + Copy>(
     alloc: A,
     out: &mut Vec<Fault, A>,
-    outline: &Outline<A>,
-    reached: &Reached<A>,
+    board: &Board<'_, A>,
 ) -> Result<(), OutOfMemory>
     // made once, for all buses
-    requires { AreReachesOf outline.now reached.now }
-    ensures { OnOk result (AreLinesAdded (λ c b sp. c ≡ Clashes) outline.now out.old.items
-        out.new.items) }
+    requires { AreReachesOf board.now.outline.now board.now.reached.now }
+    ensures { OnOk result (AreLinesAdded (λ c b sp. c ≡ Clashes) board.now.outline.now
+        out.old.items out.new.items) }
 {
     for bus in 0..BUSES {
-        add_clashes_on(alloc, out, outline, reached, bus as u8)?;
+        add_clashes_on(alloc, out, board, bus as u8)?;
     }
     Ok(())
 }

@@ -2,6 +2,7 @@
 ghost use Rattle.std.specs.Prelude.{IfOk};
 ghost use Rattle.pci_faults.specs.Lines.{AreAllListed};
 
+use super::board::Board;
 use super::clashes::{add_clashes, add_splits};
 use super::order::sort;
 use super::unreached::add_unreached;
@@ -30,8 +31,12 @@ pub fn all_of_judging<A: Allocator + Copy>(
         Some(_) => {}
     }
     let reached = Reached::of(outline)?;
-    add_unreached(&mut faults, outline, &reached)?;
-    add_clashes(alloc, &mut faults, outline, &reached)?;
+    let board = Board {
+        outline,
+        reached: &reached,
+    };
+    add_unreached(&mut faults, &board)?;
+    add_clashes(alloc, &mut faults, &board)?;
     add_splits(alloc, &mut faults, outline)?;
     sort(&mut faults)?;
     Ok(faults)

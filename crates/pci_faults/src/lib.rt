@@ -13,6 +13,7 @@
 //! ```
 #![tactic(auto)]
 
+pub mod board;
 pub mod clashes;
 pub mod judging;
 pub mod order;

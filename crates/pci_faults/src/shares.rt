@@ -29,14 +29,22 @@ pub struct Share {
     pub second: usize,
 }
 
+/// The regions of which some may share an address, and among which addresses that is looked for.
+#[derive(Clone, Copy)]
+struct Compared<'a> {
+    regions: &'a [Region],
+    allowed: &'a [Range],
+    among: Among,
+}
+
 /// The group of the region at an index: regions of two groups are apart.
-fn group(regions: &[Region], k: usize, by: Among) -> usize
-    requires { k < length regions.now }
-    ensures { result ≡ group_at by regions.now k }
+fn group(compared: &Compared, k: usize) -> usize
+    requires { k < length compared.now.regions.now }
+    ensures { result ≡ group_at compared.now.among compared.now.regions.now k }
 {
-    match by {
+    match compared.among {
         Among::Bus(_) => k,
-        Among::Roots => usize::from(regions[k].slot.bus()),
+        Among::Roots => usize::from(compared.regions[k].slot.bus()),
     }
 }
 
@@ -62,23 +70,24 @@ fn opened(region: &Region, allowed: &[Range]) -> Option<Range>
 /// Adds the regions from `added` on that are of lesser groups than the one at `i`, and answers how many are added.
 fn add_lesser<A: Allocator + Copy>(
     owners: &mut Owners<A>,
-    regions: &[Region],
-    allowed: &[Range],
-    by: Among,
+    compared: &Compared,
     added: usize,
     i: usize,
 ) -> Result<usize, OutOfMemory>
-    requires canonical { IsCanonical allowed.now }
-    requires index { i < length regions.now }
+    requires canonical { IsCanonical compared.now.allowed.now }
+    requires index { i < length compared.now.regions.now }
     requires within { added ≤ i }
-    requires owned { AreOwned added regions.now allowed.now owners.old }
-    ensures { IfOk result (λ n. (n ≤ i) × AreOwned n regions.now allowed.now owners.new
-        × (GroupsRise by regions.now → AreBefore added i by regions.now
-        → AreLesser n i by regions.now)) }
+    requires owned { AreOwned added compared.now.regions.now compared.now.allowed.now owners.old }
+    ensures { IfOk result (λ n. (n ≤ i)
+        × AreOwned n compared.now.regions.now compared.now.allowed.now owners.new
+        × (GroupsRise compared.now.among compared.now.regions.now
+        → AreBefore added i compared.now.among compared.now.regions.now
+        → AreLesser n i compared.now.among compared.now.regions.now)) }
 {
+    let regions = compared.regions;
     let mut n = added;
-    while n < i && group(regions, n, by) < group(regions, i, by) {
-        if let Some(range) = opened(&regions[n], allowed) {
+    while n < i && group(compared, n) < group(compared, i) {
+        if let Some(range) = opened(&regions[n], compared.allowed) {
             owners.add(range, n)?;
         }
         n += 1;
@@ -87,23 +96,22 @@ fn add_lesser<A: Allocator + Copy>(
 }
 
 /// What the region at `i` shares with those that have owners' addresses.
-fn share_at<A: Allocator + Copy>(
-    owners: &Owners<A>,
-    regions: &[Region],
-    allowed: &[Range],
-    i: usize,
-) -> Option<Share>
-    requires canonical { IsCanonical allowed.now }
-    requires index { i < length regions.now }
-    ensures within { (n : ℕ) → n ≤ i → AreOwned n regions.now allowed.now owners.now
+fn share_at<A: Allocator + Copy>(owners: &Owners<A>, compared: &Compared, i: usize) -> Option<Share>
+    requires canonical { IsCanonical compared.now.allowed.now }
+    requires index { i < length compared.now.regions.now }
+    ensures within { (n : ℕ) → n ≤ i
+        → AreOwned n compared.now.regions.now compared.now.allowed.now owners.now
         → IfSome result (λ s. (s.first < s.second) × (s.second ≡ i)) }
-    ensures least { (by : AmongValue) (n : ℕ) → AreLesser n i by regions.now
-        → AreOwned n regions.now allowed.now owners.now
+    ensures least { (by : AmongValue) (n : ℕ) → AreLesser n i by compared.now.regions.now
+        → AreOwned n compared.now.regions.now compared.now.allowed.now owners.now
         → MatchOption result
-        ((a first : ℕ) → IsShared by regions.now allowed.now a first i → ⊥)
-        (λ s. (s.second ≡ i) × IsLeastShared by regions.now allowed.now s) }
+        ((a first : ℕ) → IsShared by compared.now.regions.now compared.now.allowed.now a first i
+        → ⊥)
+        (λ s. (s.second ≡ i)
+        × IsLeastShared by compared.now.regions.now compared.now.allowed.now s) }
 {
-    let Some(range) = opened(&regions[i], allowed) else {
+    let regions = compared.regions;
+    let Some(range) = opened(&regions[i], compared.allowed) else {
         return None;
     };
     match owners.first_from(range.first) {
@@ -122,22 +130,27 @@ pub fn shares<A: Allocator + Copy>(
     alloc: A,
     regions: &[Region],
     allowed: &[Range],
-    by: Among,
+    among: Among,
 ) -> Result<Vec<Share, A>, OutOfMemory>
     // what two regions have in common is looked for among these by halving
     requires canonical { IsCanonical allowed.now }
     // whoever tells them takes the regions by these
     ensures within { IfOk result (λ out. AreWithin (length regions.now) out.items) }
     // what the order of the regions is, a caller knows of each system that has them
-    ensures exact { IfOk result (λ out. GroupsRise by regions.now
-        → AreShares by regions.now allowed.now out.items) }
+    ensures exact { IfOk result (λ out. GroupsRise among regions.now
+        → AreShares among regions.now allowed.now out.items) }
 {
     let mut out = Vec::new(alloc);
     let mut owners = Owners::new(alloc);
+    let compared = Compared {
+        regions,
+        allowed,
+        among,
+    };
     let mut added = 0;
     for i in 0..regions.len() {
-        added = add_lesser(&mut owners, regions, allowed, by, added, i)?;
-        if let Some(share) = share_at(&owners, regions, allowed, i) {
+        added = add_lesser(&mut owners, &compared, added, i)?;
+        if let Some(share) = share_at(&owners, &compared, i) {
             out.push(share)?;
         }
     }

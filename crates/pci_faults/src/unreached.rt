@@ -5,32 +5,30 @@ ghost use Rattle.pci_base.specs.Space.{space_of};
 ghost use Rattle.pci_check.specs.Stops.{AlwaysNested, AreReachesOf};
 ghost use Rattle.pci_faults.specs.Lines.{AreLinesAdded, IsAt};
 
+use super::board::Board;
 use pci_base::memory::OutOfMemory;
 use pci_base::slot::BUSES;
 use pci_base::space::Space;
-use pci_check::reached::Reached;
 use pci_check::unreached::{is_lost, unreached_at};
 use pci_function::fault::Fault;
-use pci_tree::outline::Outline;
 use std::alloc::Allocator;
 
 /// Adds those of a bus and space.
 fn add_unreached_in<A: Allocator + Copy>(
     out: &mut Vec<Fault, A>,
-    outline: &Outline<A>,
-    reached: &Reached<A>,
+    board: &Board<'_, A>,
     bus: u8,
     space: Space,
 ) -> Result<(), OutOfMemory>
-    requires reached { AreReachesOf outline.now reached.now }
-    requires nested { AlwaysNested outline.now }
-    ensures { OnOk result (AreLinesAdded (IsAt Reach bus (space_of space)) outline.now
+    requires reached { AreReachesOf board.now.outline.now board.now.reached.now }
+    requires nested { AlwaysNested board.now.outline.now }
+    ensures { OnOk result (AreLinesAdded (IsAt Reach bus (space_of space)) board.now.outline.now
         out.old.items out.new.items) }
 {
-    let regions = outline.regions(bus, space)?;
+    let regions = board.outline.regions(bus, space)?;
     for region in regions.iter() {
-        if is_lost(region, reached, space, bus) {
-            if let Some(fault) = unreached_at(outline, reached, region, space) {
+        if is_lost(region, board.reached, space, bus) {
+            if let Some(fault) = unreached_at(board.outline, board.reached, region, space) {
                 out.push(fault)?;
             }
         }
@@ -41,34 +39,32 @@ fn add_unreached_in<A: Allocator + Copy>(
 /// Adds those of a bus.
 fn add_unreached_on<A: Allocator + Copy>(
     out: &mut Vec<Fault, A>,
-    outline: &Outline<A>,
-    reached: &Reached<A>,
+    board: &Board<'_, A>,
     bus: u8,
 ) -> Result<(), OutOfMemory>
-    requires reached { AreReachesOf outline.now reached.now }
-    requires nested { AlwaysNested outline.now }
-    ensures { OnOk result (AreLinesAdded (λ c b sp. (c ≡ Reach) × (b ≡ bus)) outline.now
+    requires reached { AreReachesOf board.now.outline.now board.now.reached.now }
+    requires nested { AlwaysNested board.now.outline.now }
+    ensures { OnOk result (AreLinesAdded (λ c b sp. (c ≡ Reach) × (b ≡ bus)) board.now.outline.now
         out.old.items out.new.items) }
 {
-    add_unreached_in(out, outline, reached, bus, Space::Io)?;
-    add_unreached_in(out, outline, reached, bus, Space::Mem)
+    add_unreached_in(out, board, bus, Space::Io)?;
+    add_unreached_in(out, board, bus, Space::Mem)
 }
 
 /// Adds those of all buses.
 pub fn add_unreached<A: Allocator + Copy>(
     out: &mut Vec<Fault, A>,
-    outline: &Outline<A>,
-    reached: &Reached<A>,
+    board: &Board<'_, A>,
 ) -> Result<(), OutOfMemory>
     // made once, for all buses
-    requires reached { AreReachesOf outline.now reached.now }
+    requires reached { AreReachesOf board.now.outline.now board.now.reached.now }
     // one way alone leads to each bus
-    requires nested { AlwaysNested outline.now }
-    ensures { OnOk result (AreLinesAdded (λ c b sp. c ≡ Reach) outline.now out.old.items
-        out.new.items) }
+    requires nested { AlwaysNested board.now.outline.now }
+    ensures { OnOk result (AreLinesAdded (λ c b sp. c ≡ Reach) board.now.outline.now
+        out.old.items out.new.items) }
 {
     for bus in 0..BUSES {
-        add_unreached_on(out, outline, reached, bus as u8)?;
+        add_unreached_on(out, board, bus as u8)?;
     }
     Ok(())
 }

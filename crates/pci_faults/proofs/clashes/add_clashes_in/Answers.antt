@@ -12,8 +12,8 @@ use Rattle.pci_faults.proofs.clashes.add_clashes_in.Goals as goal
 
 pub returns : goal.returns
 returns g c = on_ok_weaker c.add_told.result
-    (clashes_added c.args.outline.now c.args.bus c.args.space c.as_slice-regions.result.now c.ranges-allowed.result.now
-    (subst (λ (l : List Region). AreListed c.args.outline.now c.args.bus (space_of c.args.space) l) (sym c.as_slice-regions.ensures.value) c.in_ok-regions.ensures)
-    (allowed_at c.args.outline.now c.args.reached.now (space_of c.args.space) c.args.bus c.ranges-allowed.result.now (omega arith)
-    (c.ranges-allowed.ensures.same ∙ ap (λ k. get_or (reaches_by c.args.reached.now k) c.args.bus []) c.furthest.ensures) c.requires)
+    (clashes_added c.args.board.now.outline.now c.args.bus c.args.space c.as_slice-regions.result.now c.ranges-allowed.result.now
+    (subst (λ (l : List Region). AreListed c.args.board.now.outline.now c.args.bus (space_of c.args.space) l) (sym c.as_slice-regions.ensures.value) c.in_ok-regions.ensures)
+    (allowed_at c.args.board.now.outline.now c.args.board.now.reached.now (space_of c.args.space) c.args.bus c.ranges-allowed.result.now (omega arith)
+    (c.ranges-allowed.ensures.same ∙ ap (λ k. get_or (reaches_by c.args.board.now.reached.now k) c.args.bus []) c.furthest.ensures) c.requires)
     c.as_slice.result.now (λ rise. subst (λ (l : List Share). AreShares (Bus c.args.bus) c.as_slice-regions.result.now c.ranges-allowed.result.now l) (sym c.as_slice.ensures.value) (c.in_ok-shared.ensures.exact rise)) c.args.out.now.items c.add_told.new.out.items) c.add_told.ensures

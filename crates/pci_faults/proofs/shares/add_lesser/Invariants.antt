@@ -5,8 +5,8 @@ use Rattle.pci_faults.proofs.shares.add_lesser.Given as goal
 abbrev pub invariant-loop-n : goal.invariant-loop-n
 invariant-loop-n g l = record {
   within : l.n ≤ l.i;
-  lesser : AreBefore l.added l.i l.by l.regions → (k : ℕ) → k < l.n → group_at l.by l.regions k < group_at l.by l.regions l.i;
-  owned : AreOwned l.n l.regions l.allowed l.owners;
+  lesser : AreBefore l.added l.i l.compared.among l.compared.regions.now → (k : ℕ) → k < l.n → group_at l.compared.among l.compared.regions.now k < group_at l.compared.among l.compared.regions.now l.i;
+  owned : AreOwned l.n l.compared.regions.now l.compared.allowed.now l.owners;
 }
 
 abbrev pub decreases-loop-n : goal.decreases-loop-n

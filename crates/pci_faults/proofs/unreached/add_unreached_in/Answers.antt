@@ -11,11 +11,11 @@ use Rattle.pci_faults.proofs.unreached.add_unreached_in.Goals.{then-is_lost+in-S
 use Rattle.pci_faults.proofs.unreached.add_unreached_in.Goals as goal
 
 pub loop-region-init : goal.loop-region-init
-loop-region-init g c = none_yet c.args.outline.now (space_of c.args.space) c.deref-region-items.result.now c.args.out.now.items
+loop-region-init g c = none_yet c.args.board.now.outline.now (space_of c.args.space) c.deref-region-items.result.now c.args.out.now.items
 
 pub loop-region-preserved : goal.loop-region-preserved
 loop-region-preserved g c =
-    let t = c.args.outline.now in
+    let t = c.args.board.now.outline.now in
     let space = space_of c.args.space in
     let regions = c.deref-region-items.result.now in
     let n = c.loop-region.region-index in
@@ -28,25 +28,25 @@ loop-region-preserved g c =
           let line = rw w.in-Some.is at w.unreached_at.ensures.line in
           subst (λ (l : List Fault). AreAdded t (IsLineBelow t space regions (n + 1)) c.args.out.now.items l) (sym (ap (λ v. v.items) w.out-is ∙ w.in_ok-push.ensures.items))
           (with_line t c.args.bus space regions listed n within c.args.out.now.items c.loop-region.out.items w.in-Some.fault
-          (found_line t c.args.bus space regions listed c.args.reached.now c.requires.reached c.requires.nested n within w.in-Some.fault
+          (found_line t c.args.bus space regions listed c.args.board.now.reached.now c.requires.reached c.requires.nested n within w.in-Some.fault
           (subst (λ (r : Region). is_of_window r.part ≡ false) read lost.0) (subst (λ (r : Region). IsLineFault t space r w.in-Some.fault) read line)) c.loop-region.invariant)
       | then-is_lost+in_default w ↦
           let lost = rw w.if-is_lost.true at c.is_lost.ensures in
           subst (λ (l : List Fault). AreAdded t (IsLineBelow t space regions (n + 1)) c.args.out.now.items l) (sym (ap (λ v. v.items) w.out-is))
           (without_line t c.args.bus space regions listed n within c.args.out.now.items c.loop-region.out.items
-          (λ s tree f line. absurd (not_whole t c.args.bus space regions listed c.args.reached.now c.requires.reached c.requires.nested n within
-          (λ whole. lost.1 (subst (λ (r : Region). IsWholeAt c.args.reached.now space c.args.bus r) (sym read) whole))
-          (subst (λ (r : Region). IsWholeInEach t c.args.reached.now space r) read (rw w.in_default.is at w.unreached_at.ensures.fault)) s tree)) c.loop-region.invariant)
+          (λ s tree f line. absurd (not_whole t c.args.bus space regions listed c.args.board.now.reached.now c.requires.reached c.requires.nested n within
+          (λ whole. lost.1 (subst (λ (r : Region). IsWholeAt c.args.board.now.reached.now space c.args.bus r) (sym read) whole))
+          (subst (λ (r : Region). IsWholeInEach t c.args.board.now.reached.now space r) read (rw w.in_default.is at w.unreached_at.ensures.fault)) s tree)) c.loop-region.invariant)
       | else-is_lost w ↦
           subst (λ (l : List Fault). AreAdded t (IsLineBelow t space regions (n + 1)) c.args.out.now.items l) (sym (ap (λ v. v.items) w.out-is))
           (without_line t c.args.bus space regions listed n within c.args.out.now.items c.loop-region.out.items
-          (none_of_reached t c.args.bus space regions listed c.args.reached.now c.requires.reached c.requires.nested n within
-          (subst (λ (r : Region). IsReachedAt c.args.reached.now space c.args.bus r) read (rw w.if-is_lost.false at c.is_lost.ensures))) c.loop-region.invariant)
+          (none_of_reached t c.args.bus space regions listed c.args.board.now.reached.now c.requires.reached c.requires.nested n within
+          (subst (λ (r : Region). IsReachedAt c.args.board.now.reached.now space c.args.bus r) read (rw w.if-is_lost.false at c.is_lost.ensures))) c.loop-region.invariant)
     ]
 
 pub returns : goal.returns
 returns g c =
-    let t = c.args.outline.now in
+    let t = c.args.board.now.outline.now in
     let space = space_of c.args.space in
     let regions = c.deref-region-items.result.now in
     let past = c.loop-region-test.false in
