@@ -6,10 +6,11 @@ ghost use Rattle.pci_claims.specs.Values.{given_value};
 ghost use Rattle.pci_claims.specs.BusClaims.{AreBridgesOf};
 ghost use Rattle.pci_given.specs.Clashes.{claims_fault, AreClashesAdded, IsOnBusIn, AreAllClashes};
 
+use super::board::Board;
 use super::meetings::meetings;
 use super::quiet::is_bus_quiet;
 use pci_base::memory::OutOfMemory;
-use pci_base::slot::{BUSES, Slot};
+use pci_base::slot::BUSES;
 use pci_base::space::Space;
 use pci_claims::bus_claims::claims_among;
 use pci_claims::claim::Claim;
@@ -68,25 +69,30 @@ pub fn add_told<A: Allocator + Copy>(
     Ok(())
 }
 
-/// Adds the clashes of a bus in a space, `bridges` being the slots of all bridges.
+/// Adds the clashes of a bus in a space.
 fn add_clashes_in<A: Allocator + Copy>(
     alloc: A,
     out: &mut Vec<Fault, A>,
-    given: &Given<'_>,
-    outline: &Outline<A>,
-    bridges: &[Slot],
+    board: &Board<'_, '_, A>,
     bus: u8,
     space: Space,
 ) -> Result<(), OutOfMemory>
-    requires { AreBridgesOf outline.now bridges.now }
-    ensures { OnOk result (AreClashesAdded (IsOnBusIn bus (space_of space)) (given_value given.now)
-        outline.now out.old.items out.new.items) }
+    requires { AreBridgesOf board.now.outline.now board.now.bridges.now }
+    ensures { OnOk result (AreClashesAdded (IsOnBusIn bus (space_of space))
+        (given_value board.now.given) board.now.outline.now out.old.items out.new.items) }
 {
     // so it is on most buses, and lists of claims cost more
-    if is_bus_quiet(alloc, given, outline, bus, space)? {
+    if is_bus_quiet(alloc, &board.given, board.outline, bus, space)? {
         return Ok(());
     }
-    let claims = claims_among(alloc, given, outline, bridges, bus, space)?;
+    let claims = claims_among(
+        alloc,
+        &board.given,
+        board.outline,
+        board.bridges,
+        bus,
+        space,
+    )?;
     let among = Among::Bus(bus);
     let shares = meetings(alloc, &claims, among)?;
     add_told(out, &claims, among, space, &shares)
@@ -96,17 +102,15 @@ fn add_clashes_in<A: Allocator + Copy>(
 fn add_clashes_on<A: Allocator + Copy>(
     alloc: A,
     out: &mut Vec<Fault, A>,
-    given: &Given<'_>,
-    outline: &Outline<A>,
-    bridges: &[Slot],
+    board: &Board<'_, '_, A>,
     bus: u8,
 ) -> Result<(), OutOfMemory>
-    requires { AreBridgesOf outline.now bridges.now }
-    ensures { OnOk result (AreClashesAdded (λ b sp. b ≡ bus) (given_value given.now) outline.now
-        out.old.items out.new.items) }
+    requires { AreBridgesOf board.now.outline.now board.now.bridges.now }
+    ensures { OnOk result (AreClashesAdded (λ b sp. b ≡ bus) (given_value board.now.given)
+        board.now.outline.now out.old.items out.new.items) }
 {
-    add_clashes_in(alloc, out, given, outline, bridges, bus, Space::Io)?;
-    add_clashes_in(alloc, out, given, outline, bridges, bus, Space::Mem)
+    add_clashes_in(alloc, out, board, bus, Space::Io)?;
+    add_clashes_in(alloc, out, board, bus, Space::Mem)
 }
 
 /// Adds the clashes of all buses.
@@ -120,8 +124,13 @@ fn add_clashes<A: Allocator + Copy>(
         out.old.items out.new.items) }
 {
     let bridges = outline.bridges()?;
+    let board = Board {
+        outline,
+        given: *given,
+        bridges: &bridges,
+    };
     for bus in 0..BUSES {
-        add_clashes_on(alloc, out, given, outline, &bridges, bus as u8)?;
+        add_clashes_on(alloc, out, &board, bus as u8)?;
     }
     Ok(())
 }

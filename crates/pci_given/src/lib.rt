@@ -5,6 +5,7 @@
 pub mod all_lines;
 pub mod any_fault;
 pub mod bars_and_roms;
+pub mod board;
 pub mod clash_lines;
 pub mod every;
 mod meetings;

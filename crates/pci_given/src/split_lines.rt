@@ -5,11 +5,11 @@ ghost use Rattle.pci_claims.specs.Values.{given_value};
 ghost use Rattle.pci_claims.specs.BusClaims.{AreBridgesOf};
 ghost use Rattle.pci_given.specs.Splits.{AreSplitsAdded, IsSplitIn, AreAllSplits};
 
+use super::board::Board;
 use super::clash_lines::add_told;
 use super::meetings::meetings;
 use super::quiet::are_roots_quiet;
 use pci_base::memory::OutOfMemory;
-use pci_base::slot::Slot;
 use pci_base::space::Space;
 use pci_claims::given::Given;
 use pci_claims::root_claims::claims_of_roots;
@@ -19,23 +19,21 @@ use pci_function::fault::Fault;
 use pci_tree::outline::Outline;
 use std::alloc::Allocator;
 
-/// Adds the splits of a space, `bridges` being the slots of all bridges.
+/// Adds the splits of a space.
 fn add_splits_in<A: Allocator + Copy>(
     alloc: A,
     out: &mut Vec<Fault, A>,
-    given: &Given<'_>,
-    outline: &Outline<A>,
-    bridges: &[Slot],
+    board: &Board<'_, '_, A>,
     space: Space,
 ) -> Result<(), OutOfMemory>
-    requires { AreBridgesOf outline.now bridges.now }
-    ensures { OnOk result (AreSplitsAdded (IsSplitIn (space_of space)) (given_value given.now)
-        outline.now out.old.items out.new.items) }
+    requires { AreBridgesOf board.now.outline.now board.now.bridges.now }
+    ensures { OnOk result (AreSplitsAdded (IsSplitIn (space_of space)) (given_value board.now.given)
+        board.now.outline.now out.old.items out.new.items) }
 {
-    if are_roots_quiet(alloc, given, outline, space)? {
+    if are_roots_quiet(alloc, &board.given, board.outline, space)? {
         return Ok(());
     }
-    let claims = claims_of_roots(alloc, given, outline, bridges, space)?;
+    let claims = claims_of_roots(alloc, &board.given, board.outline, board.bridges, space)?;
     let shares = meetings(alloc, &claims, Among::Roots)?;
     add_told(out, &claims, Among::Roots, space, &shares)
 }
@@ -51,8 +49,13 @@ fn add_splits<A: Allocator + Copy>(
         out.old.items out.new.items) }
 {
     let bridges = outline.bridges()?;
-    add_splits_in(alloc, out, given, outline, &bridges, Space::Io)?;
-    add_splits_in(alloc, out, given, outline, &bridges, Space::Mem)
+    let board = Board {
+        outline,
+        given: *given,
+        bridges: &bridges,
+    };
+    add_splits_in(alloc, out, &board, Space::Io)?;
+    add_splits_in(alloc, out, &board, Space::Mem)
 }
 
 /// All splits of the systems with these records and root buses, with what is given: 62 of each BAR, ROM, window or legacy

@@ -13,6 +13,7 @@ ghost use Rattle.pci_claims.specs.Outside.{IsSent};
 ghost use Rattle.pci_claims.specs.Reached.{PassesAt};
 ghost use Rattle.pci_given.specs.Stopped.{PassesSent, IsFirstBridgeThatStops, IsNeverUnreached, IsUnreachedLine};
 
+use super::bars_and_roms::BarOrRom;
 use super::missed::least_missed;
 use pci_base::memory::OutOfMemory;
 use pci_base::range::Range;
@@ -28,7 +29,6 @@ use pci_claims::sent::sent_to;
 use pci_function::record::Record;
 use pci_tree::bus::record_at;
 use pci_tree::outline::Outline;
-use pci_tree::region::Region;
 use std::alloc::Allocator;
 
 /// A bridge, and an address that it doesn't pass.
@@ -38,30 +38,38 @@ pub struct Stop {
     pub address: u64,
 }
 
-/// The first bridge of a path that doesn't pass all that the host sends of a range to the root, and the least address that
+/// A way from a root bus: the slots of the bridges on it, and the records among which they are found.
+#[derive(Clone, Copy)]
+struct Way<'a> {
+    root: u8,
+    bridges: &'a [Slot],
+    records: &'a [Record],
+}
+
+/// The first bridge of a way that doesn't pass all that the host sends of a range to the root, and the least address that
 /// it doesn't pass.
 fn first_stop<A: Allocator + Copy>(
     alloc: A,
     given: &Given<'_>,
-    records: &[Record],
-    path: &[Slot],
-    root: u8,
+    way: &Way,
     range: Range,
     kind: WindowKind,
 ) -> Result<Option<Stop>, OutOfMemory>
     // found by halving
-    requires rising { RiseBySlot records.now }
+    requires rising { RiseBySlot way.now.records.now }
     // of an empty window no address could be told
-    requires spans { All HasSpans records.now }
+    requires spans { All HasSpans way.now.records.now }
     ensures { IfOk result (λ o. MatchOption o
-        (All (PassesSent (given_value given.now) (kind_value kind) records.now root range) path.now)
-        (λ stop. IsFirstBridgeThatStops (IsSent (given_value given.now) (window_space (kind_value kind)) root)
-        (PassesAt (given_value given.now) (kind_value kind) records.now)
-        range path.now stop.bridge stop.address)) }
+        (All (PassesSent (given_value given.now) (kind_value kind) way.now.records.now way.now.root range)
+        way.now.bridges.now)
+        (λ stop. IsFirstBridgeThatStops
+        (IsSent (given_value given.now) (window_space (kind_value kind)) way.now.root)
+        (PassesAt (given_value given.now) (kind_value kind) way.now.records.now)
+        range way.now.bridges.now stop.bridge stop.address)) }
 {
-    let sent = sent_to(alloc, given, Space::of(kind), root)?;
-    for slot in path {
-        if let Some(bridge) = record_at(records, *slot) {
+    let sent = sent_to(alloc, given, Space::of(kind), way.root)?;
+    for slot in way.bridges {
+        if let Some(bridge) = record_at(way.records, *slot) {
             let passed = passed_with(alloc, given, bridge, kind)?;
             if let Some(address) = least_missed(range, &sent, &passed) {
                 return Ok(Some(Stop {
@@ -80,25 +88,29 @@ pub fn first_stop_of<A: Allocator + Copy>(
     alloc: A,
     given: &Given<'_>,
     outline: &Outline<A>,
-    region: &Region,
-    space: Space,
+    one: &BarOrRom,
 ) -> Result<Option<Stop>, OutOfMemory>
     ensures { IfOk result (λ o. MatchOption o
-        (IsNeverUnreached (given_value given.now) outline.now (space_of space) region.now)
-        (λ stop. IsUnreachedLine (given_value given.now) outline.now (space_of space) region.now
-        stop.address stop.bridge)) }
+        (IsNeverUnreached (given_value given.now) outline.now (space_of one.now.space) one.now.region)
+        (λ stop. IsUnreachedLine (given_value given.now) outline.now (space_of one.now.space)
+        one.now.region stop.address stop.bridge)) }
 {
+    let region = &one.region;
     match outline.path(region.slot) {
         None => Ok(None),
         Some(bridges) => {
             let path = bridges.as_slice();
-            let root = root_above(path, region.slot.bus());
+            let way = Way {
+                root: root_above(path, region.slot.bus()),
+                bridges: path,
+                records: outline.records(),
+            };
             let range = Range {
                 first: region.first,
                 last: region.last,
             };
-            let kind = space.kind(region.prefetch);
-            first_stop(alloc, given, outline.records(), path, root, range, kind)
+            let kind = one.space.kind(region.prefetch);
+            first_stop(alloc, given, &way, range, kind)
         }
     }
 }
@@ -109,21 +121,20 @@ pub fn stop_of_lost<A: Allocator + Copy>(
     given: &Given<'_>,
     outline: &Outline<A>,
     reached: &Reached<A>,
-    region: &Region,
-    space: Space,
+    one: &BarOrRom,
 ) -> Result<Option<Stop>, OutOfMemory>
     // made once, for all regions
     requires reached { AreReachesOf outline.now reached.now }
     // one way alone leads to each bus
     requires nested { AlwaysNested outline.now }
     ensures { IfOk result (λ o. MatchOption o
-        (IsNeverUnreached (given_value given.now) outline.now (space_of space) region.now)
-        (λ stop. IsUnreachedLine (given_value given.now) outline.now (space_of space) region.now
-        stop.address stop.bridge)) }
+        (IsNeverUnreached (given_value given.now) outline.now (space_of one.now.space) one.now.region)
+        (λ stop. IsUnreachedLine (given_value given.now) outline.now (space_of one.now.space)
+        one.now.region stop.address stop.bridge)) }
 {
     // what the windows on the way pass isn't stopped, so that few ways are walked
-    if is_lost(region, reached, space, region.slot.bus()) {
-        first_stop_of(alloc, given, outline, region, space)
+    if is_lost(&one.region, reached, one.space, one.region.slot.bus()) {
+        first_stop_of(alloc, given, outline, one)
     } else {
         Ok(None)
     }

@@ -33,11 +33,10 @@ fn unreached_among<A: Allocator + Copy>(
 {
     let mut out = Vec::new(alloc);
     for one in list {
-        let region = &one.region;
-        if let Some(stop) = stop_of_lost(alloc, given, outline, reached, region, one.space)? {
+        if let Some(stop) = stop_of_lost(alloc, given, outline, reached, one)? {
             out.push(Fault::Unreached {
-                slot: region.slot,
-                reg: region.reg,
+                slot: one.region.slot,
+                reg: one.region.reg,
                 space: one.space,
                 address: stop.address,
                 bridge: stop.bridge,

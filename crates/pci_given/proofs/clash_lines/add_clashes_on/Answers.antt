@@ -5,4 +5,4 @@ use Rattle.pci_given.proofs.clash_lines.add_clashes_on.Goals as goal
 
 pub returns : goal.returns
 returns g c = on_ok_weaker c.add_clashes_in-2.result
-    (both_spaces (given_value c.args.given.now) c.args.outline.now c.args.bus c.args.out.now.items c.add_clashes_in.new.out.items c.add_clashes_in-2.new.out.items c.in_ok-add_clashes_in.ensures) c.add_clashes_in-2.ensures
+    (both_spaces (given_value c.args.board.now.given) c.args.board.now.outline.now c.args.bus c.args.out.now.items c.add_clashes_in.new.out.items c.add_clashes_in-2.new.out.items c.in_ok-add_clashes_in.ensures) c.add_clashes_in-2.ensures

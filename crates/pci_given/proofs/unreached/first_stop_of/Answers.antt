@@ -19,22 +19,22 @@ pub first_stop-requires-clause-spans : goal.first_stop-requires-clause-spans
 first_stop-requires-clause-spans g c = have_spans c.records.result.now c.records.ensures.lawful
 
 pub returns-in-None : goal.returns-in-None
-returns-in-None g c = without_path (given_value c.args.given.now) c.args.outline.now (space_of c.args.space) c.args.region.now c.in-None.ensures
+returns-in-None g c = without_path (given_value c.args.given.now) c.args.outline.now (space_of c.args.one.now.space) c.args.one.now.region c.in-None.ensures
 
 pub returns-in-Some : goal.returns-in-Some
 returns-in-Some g c =
     IfOk-weaker c.first_stop.result _ _
     (λ o is. match_both o _ _ _ _
-    (λ all. never_unreached (given_value c.args.given.now) c.args.outline.now (space_of c.args.space) c.args.region.now c.records.result.now c.records.ensures.value c.records.ensures.rising c.records.ensures.nested
-    c.as_slice-path.result.now c.root_above-root.result
-    (λ s tree. subst (λ (path : List Slot). IsPathTo c.args.outline.now.roots s path c.args.region.now.slot.bus) (sym c.as_slice-path.ensures.value) (c.in-Some.ensures s tree.records))
-    (subst (λ n. IsRootOfPath c.as_slice-path.result.now n c.root_above-root.result) c.bus.ensures c.root_above-root.ensures)
-    (subst (λ (kind : WindowKind). All (PassesSent (given_value c.args.given.now) kind c.records.result.now c.root_above-root.result (range c.args.region.now)) c.as_slice-path.result.now) c.kind-kind.ensures all))
-    (λ stop first. unreached_line (given_value c.args.given.now) c.args.outline.now (space_of c.args.space) c.args.region.now c.records.result.now c.records.ensures.value c.records.ensures.rising c.records.ensures.nested
-    c.as_slice-path.result.now c.root_above-root.result
-    (λ s tree. subst (λ (path : List Slot). IsPathTo c.args.outline.now.roots s path c.args.region.now.slot.bus) (sym c.as_slice-path.ensures.value) (c.in-Some.ensures s tree.records))
-    (subst (λ n. IsRootOfPath c.as_slice-path.result.now n c.root_above-root.result) c.bus.ensures c.root_above-root.ensures)
+    (λ all. never_unreached (given_value c.args.given.now) c.args.outline.now (space_of c.args.one.now.space) c.args.one.now.region c.records.result.now c.records.ensures.value c.records.ensures.rising c.records.ensures.nested
+    c.as_slice-path.result.now c.root_above.result
+    (λ s tree. subst (λ (path : List Slot). IsPathTo c.args.outline.now.roots s path c.args.one.now.region.slot.bus) (sym c.as_slice-path.ensures.value) (c.in-Some.ensures s tree.records))
+    (subst (λ n. IsRootOfPath c.as_slice-path.result.now n c.root_above.result) c.bus.ensures c.root_above.ensures)
+    (subst (λ (kind : WindowKind). All (PassesSent (given_value c.args.given.now) kind c.records.result.now c.root_above.result (range c.args.one.now.region)) c.as_slice-path.result.now) c.kind-kind.ensures all))
+    (λ stop first. unreached_line (given_value c.args.given.now) c.args.outline.now (space_of c.args.one.now.space) c.args.one.now.region c.records.result.now c.records.ensures.value c.records.ensures.rising c.records.ensures.nested
+    c.as_slice-path.result.now c.root_above.result
+    (λ s tree. subst (λ (path : List Slot). IsPathTo c.args.outline.now.roots s path c.args.one.now.region.slot.bus) (sym c.as_slice-path.ensures.value) (c.in-Some.ensures s tree.records))
+    (subst (λ n. IsRootOfPath c.as_slice-path.result.now n c.root_above.result) c.bus.ensures c.root_above.ensures)
     stop.bridge stop.address
-    (subst (λ (kind : WindowKind). IsFirstBridgeThatStops (IsSent (given_value c.args.given.now) (window_space kind) c.root_above-root.result) (PassesAt (given_value c.args.given.now) kind c.records.result.now) (range c.args.region.now) c.as_slice-path.result.now stop.bridge stop.address) c.kind-kind.ensures first))
+    (subst (λ (kind : WindowKind). IsFirstBridgeThatStops (IsSent (given_value c.args.given.now) (window_space kind) c.root_above.result) (PassesAt (given_value c.args.given.now) kind c.records.result.now) (range c.args.one.now.region) c.as_slice-path.result.now stop.bridge stop.address) c.kind-kind.ensures first))
     is)
     c.first_stop.ensures
