@@ -42,10 +42,8 @@ fn push_bridge_line<A: Allocator>(
     let Some(bridge) = function.bridge else {
         return Ok(());
     };
-    let slot = function.slot;
-    let command = function.command;
-    push_bridge(text, slot, command, &bridge.windows, space, prefetch)?;
-    push_legacy_word(text, given, slot)?;
+    push_bridge(text, function, &bridge.windows, space, prefetch)?;
+    push_legacy_word(text, given, function.slot)?;
     end_line(text)
 }
 

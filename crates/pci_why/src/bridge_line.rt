@@ -11,8 +11,8 @@ ghost use Rattle.pci_why.specs.Bridges.{bridge_start};
 
 use super::region_line::push_range_line;
 use pci_base::range::Range;
-use pci_base::slot::Slot;
 use pci_base::space::Space;
+use pci_function::record::Record;
 use pci_image::window::Windows;
 use pci_listing::hex_text::push_slot;
 use pci_listing::listing::bridge::push_held;
@@ -58,19 +58,20 @@ fn on_name(on: bool) -> &'static str
 /// for a region.
 pub fn push_bridge<A: Allocator>(
     text: &mut String<A>,
-    slot: Slot,
-    command: u16,
+    function: &Record,
     windows: &Windows,
     space: Space,
     prefetch: bool,
 ) -> Result<(), AllocError>
-    ensures { OnOk result (string_bytes text.new ≡ string_bytes text.old ++ bridge_start slot
-        (is_on command (space_of space)) (space_of space) prefetch (decoded_windows_of windows.now)) }
+    ensures { OnOk result (string_bytes text.new
+        ≡ string_bytes text.old ++ bridge_start function.now.slot
+        (is_on function.now.command (space_of space)) (space_of space) prefetch
+        (decoded_windows_of windows.now)) }
 {
-    let on = on_name(space.is_on(command));
+    let on = on_name(space.is_on(function.command));
     text.push_str("  bridge")?;
     text.push_str(" ")?;
-    push_slot(text, slot)?;
+    push_slot(text, function.slot)?;
     text.push_str(" ")?;
     text.push_str(on)?;
     text.push_str(" ")?;

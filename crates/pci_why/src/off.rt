@@ -10,6 +10,7 @@ ghost use Rattle.pci_function.specs.Values.{record_value};
 ghost use Rattle.pci_tree.specs.Regions.{IsLawful};
 ghost use Rattle.pci_why.specs.Off.{off_text, off_of_bars, off_of_record};
 
+use super::judged::RegionName;
 use super::region_line::{bar_name, push_place};
 use pci_base::memory::OutOfMemory;
 use pci_base::range::Range;
@@ -30,15 +31,13 @@ fn push_line<A: Allocator>(text: &mut String<A>, slot: Slot, bar: Bar) -> Result
         first: bar.first,
         last: bar.last,
     };
-    text.push_str("off")?;
-    push_place(
-        text,
+    let name = RegionName {
         slot,
-        bar.reg,
-        bar_name(space, bar.prefetch),
+        reg: bar.reg,
         space,
-        range,
-    )
+    };
+    text.push_str("off")?;
+    push_place(text, name, bar_name(space, bar.prefetch), range)
 }
 
 /// Appends the line of a BAR, where Command doesn't enable its space.

@@ -7,9 +7,9 @@ ghost use Rattle.pci_base.specs.Ranges.{decoded_range_of};
 ghost use Rattle.pci_base.specs.Space.{space_of};
 ghost use Rattle.pci_why.specs.RegionLines.{bar_words, window_at, part_words, line_of};
 
+use super::judged::RegionName;
 use pci_base::offset::{IO_BASE, MEMORY_BASE};
 use pci_base::range::Range;
-use pci_base::slot::Slot;
 use pci_base::space::Space;
 use pci_listing::amount::push_amount;
 use pci_listing::hex_text::{end_line, push_byte, push_slot};
@@ -72,24 +72,22 @@ pub fn push_extent<A: Allocator>(
 /// Appends a region by its slot, its register and what it is, with its addresses, and ends the line.
 pub fn push_place<A: Allocator>(
     text: &mut String<A>,
-    slot: Slot,
-    reg: u8,
+    name: RegionName,
     part: &'static str,
-    space: Space,
     range: Range,
 ) -> Result<(), AllocError>
     // the line tells how many addresses the range has
     requires { range.first ≤ range.last }
     ensures { OnOk result (string_bytes text.new ≡ string_bytes text.old
-        ++ words (place_words slot reg part.now (space_of space) (decoded_range_of range))) }
+        ++ words (place_words name.slot name.reg part.now (space_of name.space) (decoded_range_of range))) }
 {
     text.push_str(" ")?;
-    push_slot(text, slot)?;
+    push_slot(text, name.slot)?;
     text.push_str(" ")?;
-    push_byte(text, reg)?;
+    push_byte(text, name.reg)?;
     text.push_str(" ")?;
     text.push_str(part)?;
-    push_extent(text, space, range)
+    push_extent(text, name.space, range)
 }
 
 /// Appends the line of a range, as `missed 00000000e0100000-00000000e01fffff 1M`.
@@ -125,8 +123,13 @@ pub fn push_region_line<A: Allocator>(
         first: region.first,
         last: region.last,
     };
+    let name = RegionName {
+        slot: region.slot,
+        reg: region.reg,
+        space,
+    };
     text.push_str("  ")?;
     text.push_str(word)?;
     let part = part_name(region, space);
-    push_place(text, region.slot, region.reg, part, space, range)
+    push_place(text, name, part, range)
 }
