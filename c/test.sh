@@ -38,7 +38,7 @@ shows() {
 # What firmware takes is compiled with no header but the compiler's own.
 headers=$(${CC:-cc} -print-file-name=include)
 for part in capture/pciplan_capture number/pciplan_number apply/pciplan_apply memory/pciplan_fixed_memory \
-    processor/pciplan_supported example/pciplan_bring_up; do
+    processor/pciplan_supported version/pciplan_version example/pciplan_bring_up; do
     compiled "${part##*_}.o" -ffreestanding -nostdinc -isystem "$headers" -c "$here/$part.c"
 done
 
@@ -53,6 +53,14 @@ compiled capture "$here/test/pciplan_capture_test.c" "$built/capture.o"
 for machine in desk old port roots; do
     told "$machine: " "$built/capture" "$machines/$machine.dump" "$machines/$machine.probe"
 done
+# The version is that of the change log, where a patch of 0 isn't written.
+compiled version "$here/test/pciplan_version_test.c" "$built/version.o"
+told 'version: ' "$built/version"
+changed=$(sed -n '/^## /{s/## //p;q;}' "$here/../CHANGELOG.md")
+case $("$built/version") in
+"$changed" | "$changed.0") ;;
+*) echo "CHANGELOG.md begins with $changed"; exit 1 ;;
+esac
 compiled number "$here/test/pciplan_number_test.c" "$here/test/pciplan_board.c" "$built/number.o" "$built/capture.o"
 told 'number: ' "$built/number"
 # The writes are those that crates/test_numbering makes on the same boards.

@@ -1,9 +1,11 @@
 /* The verdict, the plan and the settling of pciplan, and the accesses that put these onto a machine, from C: link
-   crates/pciplan_c/out/libpciplan_c.a, which `rt lib` makes there.
+   crates/pciplan_c/out/libpciplan_c.a, which `rt lib` makes there, or libpciplan.a or libpciplan.so.0, which
+   `install.sh --library` makes of it and of c/memory/pciplan_memory.c, c/processor and c/version.
 
    The library holds no state, keeps nothing between calls, starts no thread and touches no file. Besides memcpy, memmove,
    memset and the compiler's own __umodti3 (libgcc has it) it needs the three functions of memory at the end;
-   c/memory/pciplan_memory.c gives them over malloc, c/memory/pciplan_fixed_memory.c over an array of fixed size.
+   c/memory/pciplan_memory.c gives them over malloc, c/memory/pciplan_fixed_memory.c over an array of fixed size. The
+   installed libraries have those over malloc, but a program that defines the three itself and links libpciplan.a gets its own.
 
    What it needs of its place; c/test.sh measures the stack:
    - x86-64, in ELF, by the System V calling convention, with the instructions of x86-64-v2 (SSE up to 4.2, POPCNT,
@@ -34,6 +36,14 @@
 #ifdef __cplusplus
 extern "C" {
 #endif
+
+/* The version of this header: major, minor and patch, eight bits each. */
+#define PCIPLAN_VERSION 0x000500
+
+/* The version of the library, as PCIPLAN_VERSION has it. Of c/version/pciplan_version.c. What is called at run time may be
+   of another version than the header; a program that can meet such a library compares the two. The number behind
+   libpciplan.so changes where a struct or a call does. */
+uint32_t pciplan_version(void);
 
 /* Whether this processor has the instructions that the library needs: 1, or 0. Of c/processor/pciplan_supported.c, which
    needs none of them. */

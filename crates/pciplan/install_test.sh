@@ -189,7 +189,7 @@ other'
 removed 'uninstalled beside another file' "$room/old" "$room/old" ./bin/other
 
 # what is refused
-usage='usage: install.sh [--uninstall] PREFIX, which begins with a slash'
+usage='usage: install.sh [--uninstall] [--library] PREFIX, which begins with a slash'
 refused 'no prefix' 2 "$usage"
 refused 'two prefixes' 2 "$usage" "$room/one" "$room/two"
 refused 'an empty prefix' 2 "$usage" ''

@@ -1,8 +1,9 @@
 #!/bin/sh
 # Runs the commands that pages show, as they stand there: in a block that is indented by four spaces, each line that
 # begins with `$ ` is a command, those behind it that begin with `> ` go on with it, and the others are what it prints on
-# both of its outputs. Blocks that don't begin with `$ ` aren't run. Each page begins in a new folder: it has the texts of
-# crates/pciplan/data and the files of machines/, these also below the name `machines`. A page that can't be read fails.
+# both of its outputs. Blocks that don't begin with `$ ` aren't run, nor are commands that begin with `make` or `parallel`
+# where there is no such program. Each page begins in a new folder: it has the texts of crates/pciplan/data and the files
+# of machines/, these also below the name `machines`. A page that can't be read fails.
 #
 # The Rattle that docs/APPLYING.md shows is looked for in the crate that proves it. The lines that capture a machine are the
 # same in README.md and in the manual page. No page has a sentence or a table cell that docs/long_sentences.sh
@@ -54,6 +55,12 @@ for page; do
     for step in ../steps/*.run; do
         [ -e "$step" ] || continue
         name="${page##*/}: $(head -n 1 "$step")"
+        tool=$(sed 's/ .*//;q' "$step")
+        case $tool in
+        make | parallel)
+            command -v "$tool" >/dev/null || { echo "skipped: $name"; continue; }
+            ;;
+        esac
         sh "$step" >got 2>&1
         if cmp -s got "${step%.run}.wanted"; then
             echo "ok: $name"

@@ -3,7 +3,8 @@
 # and the status. A line is printed for each case, and one for each file of cases; the status is 1 where one differs.
 #
 # Usage: program_test.sh [PROGRAM], by default out/pciplan beside this file, which `rt ci` and `rt run` make, and then
-# out/pciplan.by-rattle, which `rt ci` has from its second compiler; after them the C of c/, where a C compiler is.
+# out/pciplan.by-rattle, which `rt ci` has from its second compiler; after them the C of c/ and the packages, where a C
+# compiler is.
 set -u
 
 here=$(CDPATH='' cd -- "$(dirname -- "$0")" && pwd) || exit 1
@@ -17,6 +18,8 @@ if [ $# -eq 0 ]; then
     echo '== c/test.sh'
     if command -v "${CC:-cc}" >/dev/null; then
         "$here/../../c/test.sh" --built || worst=1
+        echo '== c/package_test.sh'
+        "$here/../../c/package_test.sh" || worst=1
     else
         echo 'skipped: all of it, as no C compiler is here'
     fi
@@ -61,7 +64,7 @@ for cases in cases/*.txt; do
     ln -s ../../pciplan ../../cases "$cases.d"
     (cd "$cases.d" && exec awk -f ../../cases.awk "$cases" >"../../$cases.told") &
 done
-scripts='apply assumed capture install lists models pages rescan'
+scripts='apply assumed capture install library lists models pages rescan'
 for script in $scripts; do
     "$here/${script}_test.sh" "$made" >$script.told &
 done

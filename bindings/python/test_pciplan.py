@@ -1,0 +1,122 @@
+"""The module against the texts of this repository.
+
+PCIPLAN_LIBRARY names the library; by default the dynamic linker finds it.
+"""
+import ctypes
+import os
+import pathlib
+import subprocess
+import sys
+import unittest
+
+import pciplan
+
+TOP = pathlib.Path(__file__).resolve().parents[2]
+DATA, MACHINES = TOP / 'crates/pciplan/data', TOP / 'machines'
+BARE = (DATA / 'bare.txt').read_bytes(), (DATA / 'bare_probe.txt').read_bytes()
+PLUGGED = (DATA / 'plugged.txt').read_bytes(), (DATA / 'plugged_probe.txt').read_bytes()
+IO, PREF = (0x1000, 0xffff), (0x100000000, 0x1ffffffff)
+
+
+def function(bar, size):
+    """Dump and probe of a device with one memory BAR of 32 bits."""
+    image, mask = bytearray(256), bytearray(256)
+    image[0:4] = bytes.fromhex('34127856')
+    image[4] = 2
+    image[0x10:0x14] = bar.to_bytes(4, 'little')
+    mask[0x10:0x14] = (0x100000000 - size).to_bytes(4, 'little')
+    return bytes(image), bytes(mask)
+
+
+class Machines(unittest.TestCase):
+    def test_verdicts(self):
+        for name, roots in ('old', (0,)), ('desk', (0,)), ('port', (0,)), ('roots', (0, 0x40)):
+            with self.subTest(name):
+                wanted = (MACHINES / (name + '.check')).read_text().rstrip('\n')
+                dump, probe = ((MACHINES / (name + kind)).read_bytes() for kind in ('.dump', '.probe'))
+                got = pciplan.check(dump, probe, roots)
+                self.assertEqual((got, bool(got)), ((wanted == 'yes', wanted), wanted == 'yes'))
+
+    def test_plan(self):
+        got = pciplan.plan(*BARE, IO, (0xe0000000, 0xe02fffff), PREF)
+        self.assertEqual(len(got.writes), 7)
+        self.assertEqual(got.writes[0], pciplan.Write(0, 1, 0, 0x20, 4, 0xe010e000))
+
+    def test_settle(self):
+        got = pciplan.settle(*PLUGGED, mem='e0000000-e02fffff')
+        writes = [pciplan.Write(2, 0, 0, 0x10, 4, 0xe0100000), pciplan.Write(2, 0, 0, 4, 2, 2)]
+        self.assertEqual(got, pciplan.Plan(writes, 0))
+
+    def test_nothing_to_settle(self):
+        dump, probe = (MACHINES / 'old.dump').read_bytes(), (MACHINES / 'old.probe').read_bytes()
+        got = pciplan.settle(dump, probe, io='700-ffff', mem='80000000-febfffff')
+        self.assertEqual(got, pciplan.Plan([], 0))
+
+
+class NoAnswer(unittest.TestCase):
+    def test_faults(self):
+        with self.assertRaises(pciplan.Fault) as no:
+            pciplan.plan(*BARE, IO, (0xe0000000, 0xe00fffff), PREF)
+        self.assertEqual((no.exception.number, no.exception.line), (72, 'no 72 NoRoom mem'))
+        with self.assertRaisesRegex(pciplan.Fault, '^no 70 BadPools$'):
+            pciplan.plan(b'', b'', IO, IO, (1, 0))
+        with self.assertRaisesRegex(pciplan.Fault, '^no 74 Fixed 02:00.0 10$'):
+            pciplan.settle(*PLUGGED, mem='e0000000-e02fffff', fixed='02:00.0')
+
+    def test_texts_and_words_that_are_none(self):
+        for message, call, words in (
+                ('dump: 5 BadLine 2', pciplan.check, [b'00:00.0\nxx', b'']),
+                ('probe: 5 BadLine 2', pciplan.check, [b'', b'00:00.0\nxx']),
+                ('root', pciplan.check, [b'', b'', ()]),
+                ('root', pciplan.check, [b'', b'', (3, 3)]),
+                ('pool io', pciplan.settle, [b'', b'', 'g', 'g']),
+                ('pool mem', pciplan.settle, [b'', b'', 'none', '\u00e9']),
+                ('pool pref', pciplan.settle, [b'', b'', 'none', 'none', '']),
+                ('fixed', pciplan.settle, [b'', b'', 'none', 'none', 'none', '00:00.8'])):
+            with self.subTest(message), self.assertRaisesRegex(pciplan.Refused, '^%s$' % message):
+                call(*words)
+
+    def test_what_is_no_text(self):
+        with self.assertRaises(ctypes.ArgumentError):
+            pciplan.check('00:00.0', b'')
+        with self.assertRaises(ValueError):
+            pciplan.check(b'', b'', (256,))
+
+
+class Texts(unittest.TestCase):
+    def test_text(self):
+        image, mask = function(0xe0000000, 0x1000)
+        slots = (0, 1, 0), (0, 2, 0)
+        self.assertEqual(pciplan.check(pciplan.text({slots[0]: image}), pciplan.text({slots[0]: mask})).line, 'yes')
+        self.assertEqual(
+            pciplan.check(*(pciplan.text(dict.fromkeys(slots, it)) for it in (image, mask))),
+            pciplan.Verdict(False, 'no 61 Clash bus 00 mem 00000000e0000000 00:01.0 10 00:02.0 10'))
+
+    def test_many_functions(self):
+        """Each of 32 functions is placed, and what the writes lead to is sound."""
+        slots = [(0, device, 0) for device in range(32)]
+        image, mask = (dict.fromkeys(slots, it) for it in function(0, 0x1000))
+        probe = pciplan.text(mask)
+        got = pciplan.plan(pciplan.text(image), probe, IO, (0xe0000000, 0xe001ffff), PREF)
+        spaces = {slot: bytearray(space) for slot, space in image.items()}
+        for write in got.writes:
+            space = spaces[write.bus, write.device, write.function]
+            space[write.offset:write.offset + write.width] = write.value.to_bytes(write.width, 'little')
+        self.assertTrue(pciplan.check(pciplan.text(spaces), probe).yes)
+
+    def test_length(self):
+        with self.assertRaisesRegex(ValueError, '00:01.0 has 255 bytes in place of 256'):
+            pciplan.text({(0, 1, 0): bytes(255)})
+
+
+class Library(unittest.TestCase):
+    def test_another_version(self):
+        """A library of another version is refused when the module is loaded."""
+        source = pathlib.Path(pciplan.__file__).read_text().replace("__version__ = '0.", "__version__ = '7.")
+        ended = subprocess.run([sys.executable, '-c', source], env=os.environ, capture_output=True, text=True)
+        self.assertEqual(ended.returncode, 1)
+        self.assertIn('ImportError: pciplan 7.5.0 needs a library of its version, and found 0.5.0', ended.stderr)
+
+
+if __name__ == '__main__':
+    unittest.main()

@@ -1,0 +1,97 @@
+//! The crate against the texts of this repository.
+use pciplan::{check, plan, settle, supported, text, version, Plan, Pools, Refusal, Settle, Slot, Write};
+use std::{env, fs, path::PathBuf};
+
+/// A file of the repository, which `PCIPLAN_SOURCE` names where this crate doesn't stand in it.
+fn read(name: &str) -> Vec<u8> {
+    let top = env::var_os("PCIPLAN_SOURCE").map_or_else(|| PathBuf::from("../.."), PathBuf::from);
+    fs::read(top.join(name)).unwrap()
+}
+
+/// A text of crates/pciplan/data, and its probe.
+fn data(name: &str) -> (Vec<u8>, Vec<u8>) {
+    (read(&format!("crates/pciplan/data/{name}.txt")), read(&format!("crates/pciplan/data/{name}_probe.txt")))
+}
+
+/// Pools for the bare board, with this end of that for memory.
+fn pools(mem_last: u64) -> Pools {
+    Pools {
+        io_first: 0x1000,
+        io_last: 0xffff,
+        mem_first: 0xe000_0000,
+        mem_last,
+        pref_first: 1 << 32,
+        pref_last: (2 << 32) - 1,
+    }
+}
+
+/// A configuration space with these bytes at these offsets.
+fn space(parts: &[(usize, &[u8])]) -> [u8; 256] {
+    let mut space = [0; 256];
+    for (at, bytes) in parts {
+        space[*at..*at + bytes.len()].copy_from_slice(bytes);
+    }
+    space
+}
+
+#[test]
+fn verdicts() {
+    for (name, roots) in [("old", &[0u8][..]), ("desk", &[0]), ("port", &[0]), ("roots", &[0, 0x40])] {
+        let wanted = String::from_utf8(read(&format!("machines/{name}.check"))).unwrap();
+        let got = match check(&read(&format!("machines/{name}.dump")), &read(&format!("machines/{name}.probe")), roots) {
+            Ok(()) => "yes".into(),
+            Err(Refusal::No(line)) => line,
+            other => panic!("{name}: {other:?}"),
+        };
+        assert_eq!(got, wanted.trim_end(), "{name}");
+    }
+}
+
+#[test]
+fn plans() {
+    let (dump, probe) = data("bare");
+    let got = plan(&dump, &probe, &[0], &pools(0xe02f_ffff)).unwrap();
+    assert_eq!(got.writes.len(), 7);
+    assert_eq!(got.writes[0], Write { bus: 0, device: 1, function: 0, offset: 0x20, width: 4, value: 0xe010_e000 });
+    let no = |mem_last| plan(&dump, &probe, &[0], &pools(mem_last)).unwrap_err();
+    assert_eq!(no(0xe00f_ffff), Refusal::No("no 72 NoRoom mem".into()));
+    assert_eq!(no(0), Refusal::No("no 70 BadPools".into()));
+}
+
+#[test]
+fn settlings() {
+    let (dump, probe) = data("plugged");
+    let asked = Settle { mem: "e0000000-e02fffff", ..Settle::default() };
+    let write = Write { bus: 2, device: 0, function: 0, offset: 0x10, width: 4, value: 0xe010_0000 };
+    let writes = vec![write, Write { offset: 4, width: 2, value: 2, ..write }];
+    assert_eq!(settle(&dump, &probe, &[0], &asked), Ok(Plan { writes, safe_from: 0 }));
+    let fixed = settle(&dump, &probe, &[0], &Settle { fixed: "02:00.0", ..asked });
+    assert_eq!(fixed, Err(Refusal::No("no 74 Fixed 02:00.0 10".into())));
+}
+
+#[test]
+fn texts_and_words_that_are_none() {
+    let refused = |message: &str| Refusal::Refused(message.into());
+    assert_eq!(check(b"00:00.0\nxx", b"", &[0]), Err(refused("dump: 5 BadLine 2")));
+    assert_eq!(check(b"", b"", &[]), Err(refused("root")));
+    assert_eq!(settle(b"", b"", &[3, 3], &Settle::default()), Err(refused("root")));
+    assert_eq!(settle(b"", b"", &[0], &Settle { mem: "g", ..Settle::default() }), Err(refused("pool mem")));
+}
+
+#[test]
+fn texts() {
+    let image = space(&[(0, &[0x34, 0x12, 0x78, 0x56, 2]), (0x10, &[0, 0, 0, 0xe0])]);
+    let mask = space(&[(0x10, &[0, 0xf0, 0xff, 0xff])]);
+    let slots = [Slot { bus: 0, device: 1, function: 0 }, Slot { bus: 0, device: 2, function: 0 }];
+    let of = |count: usize, space: [u8; 256]| text(&slots[..count].iter().map(|slot| (*slot, space)).collect());
+    assert_eq!(check(&of(1, image), &of(1, mask), &[0]), Ok(()));
+    let clash = "no 61 Clash bus 00 mem 00000000e0000000 00:01.0 10 00:02.0 10";
+    assert_eq!(check(&of(2, image), &of(2, mask), &[0]), Err(Refusal::No(clash.into())));
+}
+
+#[test]
+fn library() {
+    assert!(supported());
+    let numbers = env!("CARGO_PKG_VERSION").split('.').map(|number| number.parse::<u32>().unwrap());
+    assert_eq!(version(), numbers.fold(0, |all, number| all << 8 | number));
+}
