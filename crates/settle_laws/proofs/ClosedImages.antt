@@ -132,9 +132,6 @@ module _ (q : Request) (s : System) (f : Function) where
   pub closed_low : (place : ℕ) → 6 ≤ place → place < 0x1c → byte_at (closed_function q s f).image place ≡ byte_at f.image place
   closed_low place from to = closed_outside place (inr from) (λ c mine. let low = (window_bytes c place mine).0 in omega (arith, low, to))
 
-  pub closed_high : (place : ℕ) → 0x34 ≤ place → byte_at (closed_function q s f).image place ≡ byte_at f.image place
-  closed_high place from = closed_outside place (inr (omega (arith, from))) (λ c mine. let high = (window_bytes c place mine).1 in omega (arith, high, from))
-
   -- ---- the image
 
   module _ (is : IsImage f.image) where

@@ -136,9 +136,6 @@ module _ (q : Request) (s : System) (can : CanSettle q s) (f : Function) (listed
   abbrev width : ℕ → ℕ
   width n = if is_wide (bar_at f.probe n) then 8 else 4
 
-  four_or_eight : (n : ℕ) → (width n ≡ 4) ⊎ (width n ≡ 8)
-  four_or_eight n = elim (cases_Bool (is_wide (bar_at f.probe n))) [ inl wide ↦ inr (ap (λ t. if t then 8 else 4) wide) | inr narrow ↦ inl (ap (λ t. if t then 8 else 4) narrow) ]
-
   -- a BAR ends before a later one begins
   bar_before : (n m : ℕ) → has_bar f.probe n ≡ true → has_bar f.probe m ≡ true → n < m → bar_register n + width n ≤ bar_register m
   bar_before n m there_n there_m less = elim (cases_Bool (is_wide (bar_at f.probe n))) [

@@ -278,15 +278,6 @@ module _ (s : System) (system : IsSystem s) (closed final : Function → Functio
   abbrev pub set_function : Function → Function
   set_function f = function_after (closed f) (all_settings closed final s)
 
-  pub setting_order : (p rest : List Write) → p ++ rest ≡ all_settings closed final s → (f b : Function) → Contains s f → Contains s b → slot_number b.slot < slot_number f.slot
-      → (function_after (closed b) p ≡ set_function b) ⊎ (function_after (closed f) p ≡ closed f)
-  setting_order p rest split f b in_f in_b low =
-      elim (in_turn (setting_list closed final) Lower lower_unlike s (system_rises s system) own_settings p rest split
-      b f in_b in_f (lower_unlike b f low) (λ other. let no : ⊥ = omega (arith, other, low) in no)) [
-        | inl done ↦ inl (done (closed b) (closed_slot b in_b) ∙ sym (whole (setting_list closed final) Lower lower_unlike s (system_rises s system) own_settings b in_b (closed b) (closed_slot b in_b)))
-        | inr waits ↦ inr (waits (closed f) (closed_slot f in_f))
-      ]
-
   -- ---- once all are set
 
   module _ (f : Function) (listed : Contains s f) where
@@ -363,14 +354,6 @@ module _ (s : System) (system : IsSystem s) (closed final : Function → Functio
   -- ---- opening
 
   module _ (p rest : List Write) (split : p ++ rest ≡ all_openings closed final s) where
-    pub in_openings : (x : Write) → Contains p x → Contains (all_stages closed final s) x
-    in_openings x has =
-        Contains-append_right (all_closings closed final s) (all_settings closed final s ++ all_openings closed final s) x
-        (Contains-append_right (all_settings closed final s) (all_openings closed final s) x (subst (λ ws. Contains ws x) split (Contains-append_left p rest x has)))
-
-    pub opening_moved : (f : Function) → Contains s f → IsMoved f (function_after (set_function f) p)
-    opening_moved f listed = stage_moved f (set_function f) listed (set_moved f listed) p in_openings
-
     pub opening_progress : (f : Function) → Contains s f → (function_after (set_function f) p ≡ set_function f) ⊎ (function_after (set_function f) p ≡ final f)
     opening_progress f listed =
         let r : IsReached (opening_list closed final f) p f.slot = reached (opening_list closed final) Lower lower_unlike s (system_rises s system) own_openings p rest split f listed in

@@ -18,9 +18,9 @@ use Rattle.plan_spec.specs.Planning.PlanWrites.{Change, register_write}
 use Rattle.plan_spec.proofs.Planning.Behind.{Passes, all_gives, any_gives}
 use Rattle.plan_spec.proofs.Planning.OtherRules.{byte_number}
 use Rattle.plan_spec.proofs.Planning.Reached.{byte_of_number, slot_itself, two_of}
-use Rattle.plan_spec.proofs.Planning.Registers.{fits_by_number, number_below, register_bit}
+use Rattle.plan_spec.proofs.Planning.Registers.{fits_by_number, number_below}
 use Rattle.plan_spec.proofs.Planning.Settled.{IsQuiet, IsSetting, function_after, function_moved, settled, untouched}
-use Rattle.plan_spec.proofs.Planning.Staging.{number_write}
+use Rattle.plan_spec.proofs.Planning.Staging.{number_fits, number_write}
 use Rattle.settle_laws.proofs.Stages.{IsProgress}
 use Rattle.settle_laws.proofs.StagePrefixes.{IsRegisters}
 use Rattle.settle_laws.proofs.NonePasses.{none_passes, outside}
@@ -179,19 +179,12 @@ register_written c registers r listed differs =
     (subst (λ b. Contains (cond b [] (number_write c r ∷ [])) (number_write c r)) (sym differs) (in_head (number_write c r) []))
 
 -- the number of a moved function fits
-number_fits : (f g : Function) (r : ℕ × ℕ) → IsMoved f g → IsImage f.image → IsPlain (is_bridge f) r → (slot : Slot) → FitsByNumber record { slot = slot; offset = r.0; width = r.1; value = number_at g.image r.0 r.1 } f
-number_fits f g r m is plain slot = record {
-  inside = plain.inside;
-  same = λ j i short small free other.
-      let inside = plain.inside in
-      register_bit g.image r.0 m.image r.1 j i short small ∙ m.same (r.0 + j) i (omega (arith, inside, short)) small free other ∙ sym (register_bit f.image r.0 is r.1 j i short small);
-  status = plain.status;
-  second = plain.second;
-}
+fits_moved : (f g : Function) (r : ℕ × ℕ) → IsMoved f g → IsImage f.image → IsPlain (is_bridge f) r → (slot : Slot) → FitsByNumber record { slot = slot; offset = r.0; width = r.1; value = number_at g.image r.0 r.1 } f
+fits_moved f g r m is plain = number_fits f g r.0 r.1 m is plain.inside plain.status plain.second
 
 module _ (f : Function) (is : IsImage f.image) (c : Change) (at : c.old.slot ≡ f.slot) (n : IsMoved f c.new) (registers : List (ℕ × ℕ)) (plain : (r : ℕ × ℕ) → Contains registers r → IsPlain (is_bridge f) r) where
   pub write_fits : (x : Write) → IsRegisterWrite c registers x → IsFitting x f
-  write_fits x k = subst (λ w. IsFitting w f) k.is (fits_by_number (number_write c k.r) f is (number_fits f c.new k.r n is (plain k.r k.listed) c.old.slot))
+  write_fits x k = subst (λ w. IsFitting w f) k.is (fits_by_number (number_write c k.r) f is (fits_moved f c.new k.r n is (plain k.r k.listed) c.old.slot))
 
   here : same_slot f.slot c.old.slot ≡ true
   here = subst (λ s. same_slot f.slot s ≡ true) (sym at) (slot_itself f.slot)
@@ -266,9 +259,6 @@ module _ (f : Function) (is : IsImage f.image) (c : Change) (at : c.old.slot ≡
 
     made_now : function_after h (flat_map (register_write c) k.made) ≡ now
     made_now = ap (function_after h) (sym k.is)
-
-    pub part_moved : IsMoved f now
-    part_moved = subst (IsMoved f) made_now (made_moved apart h m k.made in_made)
 
     pub part_progress : ShowAs registers c.old h → IsProgress registers c.old c.new now
     part_progress shows = record {

@@ -10,7 +10,7 @@ use Rattle.pci_spec.specs.System.{Function}
 use Rattle.pci_spec.specs.Machine.{Write, in_fields, address_fields}
 use Rattle.plan_spec.specs.Plan.{IsMoved}
 use Rattle.plan_spec.specs.Planning.Fitting.{FitsByNumber}
-use Rattle.plan_spec.specs.Planning.Building.{write_of, command_write, AreFitting, IsBuilt}
+use Rattle.plan_spec.specs.Planning.Building.{write_of, command_write, AreFitting}
 use Rattle.plan_spec.specs.Planning.Numbers.{IsFilled}
 use Rattle.plan_spec.proofs.Planning.Registers.{register_bit}
 use Rattle.plan_spec.proofs.Planning.Behind.{any_gives}
@@ -60,7 +60,3 @@ module _ (f g : Function) (value : ℕ × ℕ → ℕ) (new_command : ℕ) (is :
       ]
     ];
   }
-
-  -- and it shows the numbers
-  pub filled_is_built : IsBuilt f g value new_command
-  filled_is_built = record { moved = filled_is_moved; registers = filled.registers; command_is = filled.command_is }

@@ -30,12 +30,6 @@ abbrev pub at_place : (s : System) (k : ℕ) (f : Function) → slice_get s k �
 at_place s k f at = (k, slice_get_within s k f at, get_or_from_slice_get s k f f at)
 
 module _ (s : System) (system : IsSystem s) (k : ℕ) (f : Function) (at : slice_get s k ≡ Some f) where
-  -- what was passed has a lower slot than the next function
-  pub passed_is_lower : (g : Function) → Contains (take k s) g → slot_number g.slot < slot_number f.slot
-  passed_is_lower g passed =
-      let is : IsBefore k s g = in_front_to k s g passed in
-      earlier_is_lower s system g f is.listed (at_place s k f at) is.before
-
   -- what has a lower slot was passed
   pub lower_is_passed : (g : Function) → Contains s g → slot_number g.slot < slot_number f.slot → Contains (take k s) g
   lower_is_passed g (j, less, is) lower = elim (cases_lt j k) [

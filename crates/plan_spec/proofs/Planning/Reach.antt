@@ -14,14 +14,13 @@ use Rattle.plan_spec.specs.Plan.{Pools, pool_of, class_of, same_class, bridges_a
 use Rattle.plan_spec.specs.Place.{nibble_of}
 use Rattle.plan_spec.specs.Planning.Showing.{reach_of}
 use Rattle.plan_spec.specs.Planning.Plannable.{IsPlannable}
-use Rattle.plan_spec.specs.Planning.Table.{need_behind, is_placed, IsPlacing, IsTable}
+use Rattle.plan_spec.specs.Planning.Table.{need_behind, is_placed, IsTable}
 use Rattle.pci_spec.proofs.BarLaws.{kind_by}
 use Rattle.pci_spec.proofs.Members.{in_filter_from}
 use Rattle.plan_spec.proofs.Planning.Placement.{window_least, step_power, power_multiple, multiple_of_mod, multiple_trans, mod_of_multiple}
 use Rattle.plan_spec.proofs.Planning.Behind.{Passes, any_gives, all_gives, behind_is_need, listed_plain}
 use Rattle.plan_spec.proofs.Planning.NeededWindows.{served_by_class}
 use Rattle.plan_spec.proofs.Planning.Tables.{class_itself}
-use Rattle.plan_spec.proofs.Planning.Rooms.{table_by_fit}
 use Rattle.plan_spec.proofs.Planning.InPool.{in_pool}
 
 -- ---- pools that aren't refused
@@ -135,14 +134,6 @@ reached_by s pools good top b PrefetchWindow listed bridge has end below = (
         absurd (let impossible : ⊥ = omega (arith, none, one) in impossible)
   ],
 )
-
--- ---- tables
-
--- where the places of each class are found largest first, they are tables
-pub tables_of_placing : (roots : List ℕ) (s : System) (pools : Pools) → IsPlannable roots s pools → (first : Function → Part → ℕ) → ((c : WindowKind) → IsPlacing roots s pools c first)
-    → (c : WindowKind) → IsTable roots s pools c first
-tables_of_placing roots s pools p first placing c =
-    table_by_fit roots s pools c p.system p.nested first (p.can.room c) (pool_below pools (good_pools pools p.can.good) p.addresses c) (placing c)
 
 -- ---- the places of a table
 

@@ -142,7 +142,7 @@ is_register f r listed =
 -- ---- each fits
 
 -- what moving leaves, register by register
-number_fits : (f g : Function) (o w : ℕ) → IsMoved f g → IsImage f.image → o + w ≤ 256 → (o + w ≤ 6) ⊎ (8 ≤ o) → (is_bridge f ≡ true → (o + w ≤ 0x1e) ⊎ (0x20 ≤ o))
+pub number_fits : (f g : Function) (o w : ℕ) → IsMoved f g → IsImage f.image → o + w ≤ 256 → (o + w ≤ 6) ⊎ (8 ≤ o) → (is_bridge f ≡ true → (o + w ≤ 0x1e) ⊎ (0x20 ≤ o))
     → (slot : Slot) → FitsByNumber record { slot = slot; offset = o; width = w; value = number_at g.image o w } f
 number_fits f g o w m is inside status second slot = record {
   inside = inside;

@@ -131,10 +131,6 @@ command_written f value i h =
 
 -- ---- what is on
 
--- it takes bits 0 and 1 of Command
-pub on_by_bits : (f g : Function) → has_bit (command g.image) 0 ≡ has_bit (command f.image) 0 → has_bit (command g.image) 1 ≡ has_bit (command f.image) 1 → is_on g ≡ is_on f
-on_by_bits f g e0 e1 = ap (λ b. b || has_bit (command g.image) 1) e0 ∙ ap (λ b. has_bit (command f.image) 0 || b) e1
-
 -- a write that clears them turns the function off
 pub off_by_write : (w : Write) (f : Function) → same_slot f.slot w.slot ≡ true → w.offset ≡ 4 → w.width ≡ 2 → has_bit w.value 0 ≡ false → has_bit w.value 1 ≡ false → is_on (write_function w f) ≡ false
 off_by_write w f here at wide zero_clear one_clear =
