@@ -99,6 +99,14 @@ io_is_off_above : settle request (bridge (slot 0 1 0) 2 0x10100 ((0x1c, 0x2020) 
 unfolding stands_within window_within holds_within placing_within is_live_within
 io_is_off_above = refl
 
+-- ---- what moves
+
+-- a BAR whose register stays moves where the window above it changes: it is off while that window is replaced
+moves_with_the_window : settle request (over 2 0xe000e000 ∷ device (slot 1 0 0) 2 ((0x10, 0xe0000000) ∷ (0x14, 0xe0100000) ∷ []) ((0x10, 0xfff00000) ∷ (0x14, 0xfff00000) ∷ []) ∷ [])
+    ≡ Settled (write (slot 1 0 0) 0x04 2 0x0000 ∷ write (slot 0 1 0) 0x20 4 0x0000fff0 ∷ write (slot 0 1 0) 0x20 4 0xe010e000 ∷ write (slot 1 0 0) 0x04 2 0x0002 ∷ [])
+unfolding stands_within window_within holds_within placing_within is_live_within
+moves_with_the_window = refl
+
 -- ---- I/O that is left
 
 -- a function whose I/O BAR is left keeps memory on while I/O is switched off
