@@ -27,7 +27,7 @@ VGA_PLACES = (0x9FFF0, 0xA0000, 0xA8000, 0xB0000, 0xBFFF0, 0xC0000)
 IO_PAGES = (0, 0, 1, 0xC, 0xF, 0x10, 0x11, 0xFFFFF)
 MEMORY_PAGES = (0, 0, 1, 2, 3, 0xFFF)
 HIGH_PAGES = (0, 1, 0x1000, 0x1001, 0xFFFFFFFFFFF)
-MODEL_WORDS = ('ide', 'power', 'reset', 'subtractive', 'unnumbered')
+MODEL_WORDS = ('cardbus', 'ide', 'power', 'reset', 'subtractive', 'unnumbered', 'windows')
 
 
 class Board:
@@ -259,7 +259,7 @@ class Maker:
         """Words of `--model`, and what the host sends."""
         board = self.board
         if self.is_vga or self.one_in(2):
-            words = self.draw.sample(MODEL_WORDS, self.draw.randrange(0, 6))
+            words = self.draw.sample(MODEL_WORDS, self.draw.randrange(0, 8))
             words += self.draw.choice(([], ['vga'], ['vga16'], ['vga']))
             if self.is_vga and not {'vga', 'vga16'} & set(words):
                 words.append('vga')

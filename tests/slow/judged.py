@@ -6,9 +6,13 @@ from judge import faults, verdict
 from program import put_files, run
 from regions import Given
 from why import faults_and_why
+from words import names_of
 
-# what has to be there among many boards: each fault's number, and a yes
-SORTS = tuple('%d' % number for first, end in ((20, 32), (50, 59), (60, 64)) for number in range(first, end)) + ('yes',)
+# words without which a list has to be another one, on some boards
+NEEDED = ('cardbus', 'windows')
+# what has to be there among many boards: each fault's number, a yes, and a board that needs each of these words
+SORTS = tuple('%d' % number for first, end in ((20, 32), (50, 59), (60, 64)) for number in range(first, end)) + (
+    ('yes',) + NEEDED)
 
 
 def cases_of(made, texts):
@@ -26,12 +30,22 @@ def cases_of(made, texts):
         yield ['map'] + texts + made.options(), mapped, 1 if mapped.startswith('no ') else 0
 
 
+def needed_words(made, listed):
+    """Which of the words that have to be needed the list of all faults does need."""
+    given = Given(made.roots, made.host_io, made.host_mem)
+    names = names_of(made.words)
+    return {word for word in NEEDED if word in names and listed != faults(
+        made.listed, made.probe_slots, given, ','.join(sorted(names - {word})) or None)}
+
+
 def compare(seed, program, folder):
     """What differs on the seed's board, None where nothing does; and which faults it has, or `yes`."""
     made = board(seed)
     texts = put_files(folder, (('dump.txt', made.dump), ('probe.txt', made.probe)))
     cases = list(cases_of(made, texts))
     sorts = {line.split()[0] for line in cases[1][1].splitlines() if line[0] != ' '} & set(SORTS)
+    sorts |= needed_words(made, faults(made.listed, made.probe_slots, Given(made.roots, made.host_io, made.host_mem),
+                                       made.words))
     for words, wanted, wanted_status in cases:
         status, told, error = run(program, words)
         if (status, told, error) != (wanted_status, wanted, ''):

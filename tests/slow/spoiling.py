@@ -223,12 +223,55 @@ def clear_optional_window(draw, board, f):
             put_bounds(image, kind, (0, 0, 0, 0))
 
 
+def say_word(draw, board, word):
+    """Says a word of `--model`, mostly."""
+    words = board.words.split(',') if board.words else []
+    if draw.randrange(4) > 0 and 'all' not in words and word not in words:
+        board.words = ','.join(words + [word])
+
+
+def make_socket(draw, board, f):
+    """A CardBus bridge: header layout 2, with registers and a list of its own."""
+    say_word(draw, board, 'cardbus')
+    f.image[HEADER] = draw.choice((2, 2, 0x82))
+    f.image[0x10:0x40] = bytes(draw.choice((0, 0, 1, 0x41, 0xE0, 0xFF)) for _ in range(0x30))
+    f.image[STATUS] = draw.choice((0, 0x10, 0x10, 0xB0))
+    f.image[CAPABILITIES] = draw.choice((0, 0x14, 0x40, 0x40))
+    f.image[0x40:0x48] = bytes((1, 0, 3, 0, draw.randrange(4), 0, 0, 0))
+    for offset in draw.choice(((), (0x10,), (0x10, 0x24), (0x10, 0x30), (0x10, 0x2C), (0x34,))):
+        put_number(f.probe, offset, 4, draw.choice((0xFFFFF000, 0xFFFFFFFD, 0xFFFFFFFF)))
+
+
+def fix_window(draw, board, f):
+    """A window whose read backs are none: what is shown, nothing, or those of another window."""
+    if not f.is_bridge:
+        return
+    say_word(draw, board, 'windows')
+    kind = draw.choice(sorted(WINDOW_REGISTER))
+    shown = list(window_bounds(f.image, kind))
+    change = draw.randrange(6)
+    if change == 1:
+        shown[draw.randrange(2)] ^= draw.choice((1, 2, 8))
+    elif change == 2:
+        nibble = draw.choice((0, 1, 1, 2))
+        shown[:2] = [end & 0xFFF0 | nibble for end in shown[:2]]
+    elif change == 3 and kind != 'mem':
+        shown[draw.choice((2, 3))] ^= 1
+    elif change == 4:
+        shown = [0, 0, 0, 0]
+    put_bounds(f.image, kind, shown)
+    nothing, page = (0, 0, 0, 0), 0xF0 if kind == 'io' else 0xFFF0
+    put_bounds(f.probe, kind, draw.choice((nothing, nothing, tuple(shown), (page, 0, 0, 0), (page | 2, page | 2, 0, 0),
+                                           (page, page, 0, 0), (page | 1, page | 1, 0, 0))))
+
+
 COMMON = (move_part, move_part, move_part, move_window, move_window, move_window, change_upper_half, change_command,
           change_command, switch_rom)
 RARE = (snoop, change_control, mix_profile, mix_profile, change_class, clear_buses, change_buses, change_buses,
         change_buses, change_buses, change_roots, change_roots, change_identity, change_identity, flip_bit,
         change_read_back, change_encoding, change_list, change_list, change_list, lose_upper_half, put_to_sleep,
-        drop_function, drop_function, hide_function_zero, hide_function_zero, clear_optional_window)
+        drop_function, drop_function, hide_function_zero, hide_function_zero, clear_optional_window, make_socket, make_socket, fix_window, fix_window,
+        fix_window)
 
 
 def spoil(draw, board):

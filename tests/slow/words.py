@@ -1,9 +1,10 @@
 """The words of `--model`: how functions are taken by a user's words, and which bridges have legacy parts."""
 
-from early import decoding_lines, identity_lines, is_asleep, profile_lines
-from model import BRIDGE_CONTROL, CLASS, COMMAND, HEADER, STATUS, IO, bit, number_at
+from early import decoding_lines, has_window_fault, identity_lines, is_asleep, profile_lines
+from model import (BRIDGE_CONTROL, CLASS, COMMAND, HEADER, STATUS, IO, WINDOWS, bit, number_at, put_bounds,
+                   window_bounds)
 
-NAMES = ('ide', 'power', 'reset', 'subtractive', 'unnumbered', 'vga', 'vga16')
+NAMES = ('cardbus', 'ide', 'power', 'reset', 'subtractive', 'unnumbered', 'vga', 'vga16', 'windows')
 
 
 def names_of(words):
@@ -33,6 +34,47 @@ def is_anyone_behind(functions, b):
 def clear(image, offset, width):
     """Clears some bytes."""
     image[offset:offset + width] = bytes(width)
+
+
+def take_socket(f):
+    """`cardbus`: a function of header layout 2 is a device without address registers and without a list."""
+    f.image[HEADER] &= 0x80
+    f.image[STATUS] &= ~0x10 & 0xFF
+    for image in (f.image, f.probe):
+        clear(image, 0x10, 24)
+        clear(image, 0x30, 4)
+
+
+def shown_nibble(bounds, kind):
+    """The low nibble of base and limit, if what a window shows goes with it; else None."""
+    base, limit = bounds[:2]
+    if base & 15 != limit & 15:
+        return None
+    if base & 15 == 1:
+        return None if kind == 'mem' else 1
+    return 0 if base & 15 == 0 and bounds[2:] == (0, 0) else None
+
+
+def take_window(f, kind):
+    """`windows`: a window with a 26 is the one that it shows, or a closed one where nothing of it is there."""
+    shown, reads = window_bounds(f.image, kind), window_bounds(f.probe, kind)
+    nibble = shown_nibble(shown, kind)
+    if nibble is None or not has_window_fault(f, kind):
+        return
+    if kind == 'mem' and shown == reads == (0, 0, 0, 0):
+        put_bounds(f.image, kind, (0xFFF0, 0, 0, 0))
+    page = 0xF0 if kind == 'io' else 0xFFF0
+    upper = {'io': 0xFFFF, 'mem': 0, 'pref': 0xFFFFFFFF}[kind] if nibble else 0
+    put_bounds(f.probe, kind, (page | nibble, page | nibble, upper, upper))
+
+
+def take_registers(f, names):
+    """`cardbus` and `windows`: what the registers of a function decode."""
+    if 'cardbus' in names and f.layout == 2:
+        take_socket(f)
+    if 'windows' in names and f.is_bridge:
+        for kind in WINDOWS:
+            take_window(f, kind)
 
 
 def take_sleeping(f, names):
@@ -91,6 +133,7 @@ def taken(functions, names):
         has_legacy = bool(names & {'vga', 'vga16'}) and has_vga_enable(f)
         if has_legacy:
             f.image[BRIDGE_CONTROL] &= ~8 & 0xFF
+        take_registers(f, names)
         take_sleeping(f, names)
         take_bridge(functions, f, names)
         if not identity_lines(f) and not decoding_lines(f) and not profile_lines(f):

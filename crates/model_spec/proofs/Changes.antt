@@ -1,16 +1,16 @@
 -- What the changes of images are for.
-use Rattle.std.proofs.Common.{◌≡◌, ℕ, zero, suc, ◌+◌, ◌*◌, ◌/◌, ◌%◌, ◌==◌, ◌<◌, List, length, set, false, refl, sym, ◌∙◌, arith}
+use Rattle.std.proofs.Common.{◌≡◌, ℕ, zero, suc, ◌+◌, ◌*◌, ◌/◌, ◌%◌, ◌==◌, ◌<◌, List, length, set, false, inl, inr, refl, sym, ◌∙◌, ap, arith}
 use Rattle.std.specs.Int.{bit_at}
-use Rattle.std.proofs.lemmas.Bool.{both_ways, ne_eqb}
+use Rattle.std.proofs.lemmas.Bool.{both_ways, cases_lt, ne_eqb}
 use Rattle.std.proofs.Math.Bool.{and-false}
-use Rattle.std.proofs.lemmas.List.{get_or-set_same, get_or-set_other, length-set}
+use Rattle.std.proofs.lemmas.List.{get_or-set_same, get_or-set_other, get_or_past, length-set}
 use Rattle.pci_spec.specs.Number.{byte_at, has_bit, IsImage}
 use Rattle.pci_spec.specs.Registers.{COMMAND, STATUS, INTERFACE, HEADER_TYPE, PRIMARY_BUS, BRIDGE_CONTROL, SECONDARY_BUS_RESET}
 use Rattle.pci_spec.specs.Header.{command, status, class_code, layout, bridge_control}
 use Rattle.pci_spec.specs.Capability.{pointer}
 use Rattle.pci_spec.specs.System.{Function, Space, Io, Memory, Part, Bar, Rom, Window, Claims, is_space_on, is_enabled, is_bridge, space_of, window_space}
 use Rattle.pci_spec.specs.Fault.{IsNotInD0, controls_bridge, is_subtractive_bridge}
-use Rattle.model_spec.specs.Bytes.{cleared, as_device, out_of_reset, positive, switched_off}
+use Rattle.model_spec.specs.Bytes.{as_bare_device, cleared, as_device, out_of_reset, positive, switched_off, without_registers}
 use Rattle.model_spec.specs.Taken.{function_with_image, without_buses}
 
 -- ---- off
@@ -50,7 +50,7 @@ no_list image is =
     get_or-set_same (set image COMMAND (byte_at image COMMAND / 4 * 4)) STATUS _ 0 (omega (arith, full, long)) in
     ne_eqb (bit_at (status (switched_off image)) 4) 1 (λ one. omega (arith, one, low))
 
-no_pointer : (image : List ℕ) (n : ℕ) → has_bit (status image) 4 ≡ false → pointer image n ≡ 0
+pub no_pointer : (image : List ℕ) (n : ℕ) → has_bit (status image) 4 ≡ false → pointer image n ≡ 0
 no_pointer image zero none = rw none refl
 no_pointer image (suc n) none = rw (no_pointer image n none) refl
 
@@ -75,16 +75,31 @@ positive_is image is =
     let other = ne_eqb (class_code (positive image)) 0x060401 (λ same. omega (arith, same, low)) in
     rw other (and-false _)
 
-length_cleared : (offset count : ℕ) (image : List ℕ) → length (cleared offset count image) ≡ length image
+pub length_cleared : (offset count : ℕ) (image : List ℕ) → length (cleared offset count image) ≡ length image
 length_cleared offset zero image = refl
 length_cleared offset (suc count) image = length-set (cleared offset count image) (offset + count) 0 ∙ length_cleared offset count image
 
-pub device_is_none : (image : List ℕ) → length image ≡ 256 → (layout (as_device image) == 1) ≡ false
-device_is_none image full =
-    let long = length_cleared PRIMARY_BUS 28 image in
-    let low : byte_at (as_device image) HEADER_TYPE ≡ byte_at image HEADER_TYPE / 128 * 128 =
-    get_or-set_same (cleared PRIMARY_BUS 28 image) HEADER_TYPE _ 0 (omega (arith, full, long)) in
-    ne_eqb (layout (as_device image)) 1 (λ same. omega (arith, same, low))
+-- Header Type without its layout
+header_put : (image : List ℕ) (n : ℕ) → layout (set image HEADER_TYPE (n / 128 * 128)) ≡ 0
+header_put image n =
+    let put = set image HEADER_TYPE (n / 128 * 128) in
+    elim (cases_lt HEADER_TYPE (length image)) [
+      | inl within ↦ (let is : byte_at put HEADER_TYPE ≡ n / 128 * 128 = get_or-set_same image HEADER_TYPE _ 0 within in omega (arith, is))
+      | inr past ↦ (let long = length-set image HEADER_TYPE (n / 128 * 128) in let none : byte_at put HEADER_TYPE ≡ 0 = get_or_past put HEADER_TYPE 0 (omega (arith, past, long)) in omega (arith, none))
+    ]
+
+pub device_is_device : (image : List ℕ) → layout (as_device image) ≡ 0
+device_is_device image = header_put (cleared PRIMARY_BUS 28 image) (byte_at image HEADER_TYPE)
+
+pub device_is_none : (image : List ℕ) → (layout (as_device image) == 1) ≡ false
+device_is_none image = ne_eqb (layout (as_device image)) 1 (let zero = device_is_device image in λ one. omega (arith, one, zero))
 
 pub device_leads_nowhere : (f : Function) → IsImage f.image → is_bridge (without_buses f) ≡ false
-device_leads_nowhere f is = device_is_none f.image is.full
+device_leads_nowhere f is = device_is_none f.image
+
+-- ---- CardBus bridges
+
+pub bare_is_device : (image : List ℕ) → layout (as_bare_device image) ≡ 0
+bare_is_device image =
+    let put = set (without_registers image) HEADER_TYPE (byte_at image HEADER_TYPE / 128 * 128) in
+    ap (λ n. n % 128) (get_or-set_other put STATUS HEADER_TYPE _ 0 (λ e. cc e)) ∙ header_put (without_registers image) (byte_at image HEADER_TYPE)

@@ -1,13 +1,14 @@
 -- What words leave as it is.
 use Rattle.std.proofs.Common.{◌≡◌, ℕ, List, [], ◌∷◌, Bool, false, ◌&&◌, refl, ◌∙◌, ap, inl, inr, map, is_some, None, Some}
 use Rattle.std.specs.Bool.{if◌then◌else◌}
-use Rattle.std.proofs.lemmas.Bool.{and_cases, and_left, and_right, cases_Bool, or_parts}
+use Rattle.std.proofs.lemmas.Bool.{and_cases, and_left, and_right, cases_Bool, cond_both, or_parts}
 use Rattle.pci_spec.specs.Slot.{Slot}
 use Rattle.pci_spec.specs.System.{Function, System, is_bridge}
 use Rattle.pci_spec.specs.Decoded.{bridge_of, record_of}
 use Rattle.model_spec.specs.Words.{Words, no_words}
-use Rattle.model_spec.specs.Taken.{IsTakenAs, IsWhere, AreFunctionsTakenAs, is_ide, is_unnumbered, function_with_image, bridge_aside, reset_aside, parts_aside, vga_aside_by, has_legacy_by, is_unnumbered_bridge}
+use Rattle.model_spec.specs.Taken.{IsTakenAs, IsWhere, AreFunctionsTakenAs, is_cardbus, is_ide, is_unnumbered, function_with_image, bridge_aside, cardbus_aside, first_aside, reset_aside, parts_aside, vga_aside_by, windows_aside, has_legacy_by, is_unnumbered_bridge, without_socket}
 use Rattle.model_spec.specs.WordsLaws.{NoPartsChangeNothing}
+use Rattle.model_spec.proofs.WindowBytes.{aside_differs}
 
 -- ---- no words
 
@@ -17,7 +18,7 @@ unchanged Condition f changed g (inr (fails, is)) same = is
 
 pub taken_same : (slots : List Slot) (f h : Function) → IsTakenAs no_words slots f h → h ≡ f
 taken_same slots f h taken =
-    unchanged _ taken.g taken.g h taken.parts (λ holds. refl)
+    taken.header ∙ unchanged _ taken.g taken.g taken.k taken.parts (λ holds. refl)
     ∙ unchanged _ f _ taken.g taken.power (λ holds. cc holds.0)
 
 pub all_same : (slots : List Slot) (s t : System) → AreFunctionsTakenAs no_words slots s t → t ≡ s
@@ -28,7 +29,7 @@ all_same slots (f ∷ s) (h ∷ t) taken = rw (taken_same slots f h taken.0, all
 
 -- ---- functions without parts
 
-unnumbered_is_bridge : (legacy : Bool) (f : Function) → is_bridge f ≡ false → is_unnumbered legacy f ≡ false
+pub unnumbered_is_bridge : (legacy : Bool) (f : Function) → is_bridge f ≡ false → is_unnumbered legacy f ≡ false
 unnumbered_is_bridge legacy f device = ap (λ b. is_unnumbered_bridge legacy (record_of f) (if b then Some (bridge_of f.image f.probe) else None)) device
 
 pub no_parts : NoPartsChangeNothing
@@ -51,6 +52,12 @@ bridge_slot w slots f = at_slot (reset_aside w slots f) _ _ ∙ at_slot f _ _
 vga_slot : (w : Words) (f : Function) → (vga_aside_by w f).slot ≡ f.slot
 vga_slot w f = elim (cases_Bool (is_some w.vga)) [ inl counts ↦ rw counts refl | inr other ↦ rw other refl ]
 
+first_slot : (w : Words) (f : Function) → (first_aside w f).slot ≡ f.slot
+first_slot w f = let shown = aside_differs w f in vga_slot w (windows_aside w f) ∙ shown.slot
+
+cardbus_slot : (w : Words) (f : Function) → (cardbus_aside w f).slot ≡ f.slot
+cardbus_slot w f = cond_both (w.cardbus && is_cardbus f) (without_socket f) f (λ g. g.slot ≡ f.slot) (λ counts. refl) (λ other. refl)
+
 parts_slot : (w : Words) (legacy : Bool) (f : Function) → (parts_aside w legacy f).slot ≡ f.slot
 parts_slot w legacy f = elim (cases_Bool (w.ide && is_ide f.image)) [
   | inl ide ↦ rw ide refl
@@ -64,8 +71,9 @@ kept_slot Condition f changed g (inr (fails, is)) same = ap (λ x. x.slot) is
 taken_slot : (w : Words) (slots : List Slot) (f h : Function) → IsTakenAs w slots f h → h.slot ≡ f.slot
 taken_slot w slots f h taken =
     let b = bridge_aside w slots taken.g in
-    kept_slot _ b _ h taken.parts (parts_slot w (has_legacy_by w f) b) ∙ bridge_slot w slots taken.g
-    ∙ kept_slot _ (vga_aside_by w f) _ taken.g taken.power refl ∙ vga_slot w f
+    ap (λ (x : Function). x.slot) taken.header ∙ cardbus_slot w taken.k
+    ∙ kept_slot _ b _ taken.k taken.parts (parts_slot w (has_legacy_by w f) b) ∙ bridge_slot w slots taken.g
+    ∙ kept_slot _ (first_aside w f) _ taken.g taken.power refl ∙ first_slot w f
 
 pub slots_same : (w : Words) (slots : List Slot) (s t : System) → AreFunctionsTakenAs w slots s t → map (λ f. f.slot) t ≡ map (λ f. f.slot) s
 slots_same w slots [] [] taken = refl

@@ -13,10 +13,11 @@ use Rattle.pci_spec.specs.Decoded.{DecodedBar}
 use Rattle.pci_spec.specs.Fault.{controls_bridge, is_subtractive_bridge}
 use Rattle.given_spec.specs.Words.{without_vga}
 use Rattle.model_spec.specs.Words.{Words}
-use Rattle.model_spec.specs.Bytes.{cleared, out_of_reset, positive, switched_off, width_of, without_bars}
-use Rattle.model_spec.specs.Taken.{IsWhere, bridge_aside, compatible_bars, has_legacy_by, is_anyone_behind, is_ide, is_unnumbered, parts_aside, reset_aside, vga_aside_by, function_with_image, without_channels}
+use Rattle.model_spec.specs.Bytes.{as_bare_device, cleared, out_of_reset, positive, switched_off, width_of, without_bars}
+use Rattle.model_spec.specs.Taken.{IsWhere, bridge_aside, cardbus_aside, compatible_bars, first_aside, has_legacy_by, is_anyone_behind, is_cardbus, is_ide, is_unnumbered, parts_aside, reset_aside, windows_aside, function_with_image, without_channels, without_socket}
 use Rattle.model_spec.specs.WordsLaws.{TakenHasNoVgaEnable}
-use Rattle.model_spec.proofs.Changes.{device_is_none}
+use Rattle.model_spec.proofs.Changes.{bare_is_device, device_is_none}
+use Rattle.model_spec.proofs.WindowBytes.{aside_differs}
 
 -- an image of 256 bytes without VGA Enable
 record IsOff (image : List ℕ) : Type 0 where
@@ -32,16 +33,15 @@ still_off image changed kind bit off =
 
 -- ---- each change
 
-start_off : (image : List ℕ) → IsImage image → IsOff (without_vga image)
-start_off image is = cond_both (controls_bridge image VGA_ENABLE) _ image (λ x. IsOff x)
+start_off : (image : List ℕ) → length image ≡ 256 → IsOff (without_vga image)
+start_off image full = cond_both (controls_bridge image VGA_ENABLE) _ image (λ x. IsOff x)
     (λ on.
-    let full = is.full in
     let control = byte_at image BRIDGE_CONTROL in
     let new = set image BRIDGE_CONTROL (control / 16 * 16 + control % 8) in
     let low : byte_at new BRIDGE_CONTROL ≡ control / 16 * 16 + control % 8 = get_or-set_same image BRIDGE_CONTROL _ 0 (omega (arith, full)) in
     let none : has_bit (bridge_control new) VGA_ENABLE ≡ false = ne_eqb (bit_at (bridge_control new) 3) 1 (λ one. omega (arith, one, low)) in
     record { full = length-set image BRIDGE_CONTROL _ ∙ full; off = rw none (and-false _) })
-    (λ off. record { full = is.full; off = off })
+    (λ off. record { full = full; off = off })
 
 pub off_at : (image : List ℕ) (k : ℕ) → (k ≡ COMMAND → ⊥) → (k ≡ STATUS → ⊥) → byte_at (switched_off image) k ≡ byte_at image k
 off_at image k command status =
@@ -104,14 +104,14 @@ cleared_stays : (offset count : ℕ) (image : List ℕ) → layout image ≡ 0 �
 cleared_stays offset zero image device = device
 cleared_stays offset (suc count) image device = zero_stays (cleared offset count image) (offset + count) (cleared_stays offset count image device)
 
-bars_stay : (bars : List DecodedBar) (image : List ℕ) → layout image ≡ 0 → layout (without_bars bars image) ≡ 0
+pub bars_stay : (bars : List DecodedBar) (image : List ℕ) → layout image ≡ 0 → layout (without_bars bars image) ≡ 0
 bars_stay [] image device = device
 bars_stay (bar ∷ bars) image device = bars_stay bars (cleared bar.register (width_of bar.kind) image) (cleared_stays bar.register (width_of bar.kind) image device)
 
 zero_is_no_bridge : (n : ℕ) → n ≡ 0 → (n == 1) ≡ false
 zero_is_no_bridge n device = ne_eqb n 1 (λ one. omega (arith, device, one))
 
-is_controller : (f : Function) → is_ide f.image ≡ true → layout f.image ≡ 0
+pub is_controller : (f : Function) → is_ide f.image ≡ true → layout f.image ≡ 0
 is_controller f ide = elim (cases_eq (layout f.image) 0) [
   | inl device ↦ device
   | inr other ↦ absurd (both_ways (is_ide f.image) (and_left _ _ (ne_eqb (layout f.image) 0 other)) ide)
@@ -125,23 +125,31 @@ parts_stay_off w legacy f is = elim (cases_Bool (w.ide && is_ide f.image)) [
       rw channels (and_left _ _ (zero_is_no_bridge (layout (without_channels f).image) device))
       )
   | inr other ↦ elim (cases_Bool (w.unnumbered && is_unnumbered legacy f)) [
-    | inl bare ↦ rw (other, bare) (and_left _ _ (device_is_none f.image is.full))
+    | inl bare ↦ rw (other, bare) (and_left _ _ (device_is_none f.image))
     | inr numbered ↦ rw (other, numbered) is.off
   ]
 ]
 
+-- a function with another layout than 1 is no bridge
+cardbus_stays_off : (w : Words) (f : Function) → controls_bridge f.image VGA_ENABLE ≡ false → controls_bridge (cardbus_aside w f).image VGA_ENABLE ≡ false
+cardbus_stays_off w f off =
+    cond_both (w.cardbus && is_cardbus f) (without_socket f) f (λ x. controls_bridge x.image VGA_ENABLE ≡ false)
+    (λ counts. and_left _ _ (zero_is_no_bridge (layout (as_bare_device f.image)) (bare_is_device f.image))) (λ other. off)
+
 -- ---- all of them
 
 -- what is so with a change and without it is so
-where_either : (Q : Function → Type 0) (Condition : Type 0) (f changed g : Function) → IsWhere Condition f changed g → Q changed → Q f → Q g
+pub where_either : (Q : Function → Type 0) (Condition : Type 0) (f changed g : Function) → IsWhere Condition f changed g → Q changed → Q f → Q g
 where_either Q Condition f changed g (inl (holds, is)) with_it without_it = subst Q (sym is) with_it
 where_either Q Condition f changed g (inr (fails, is)) with_it without_it = subst Q (sym is) without_it
 
 pub taken_has_no_vga_enable : TakenHasNoVgaEnable
 taken_has_no_vga_enable w slots f h is counts taken =
-    let start = vga_aside_by w f in
-    let start_is : IsOff start.image = rw counts (start_off f.image is) in
+    let start = first_aside w f in
+    let shown = aside_differs w f in
+    let start_is : IsOff start.image = rw counts (start_off (windows_aside w f).image (shown.full ∙ is.full)) in
     let g_is : IsOff taken.g.image = where_either (λ x. IsOff x.image) _ start _ taken.g taken.power (switched_stays_off start.image start_is) start_is in
     let b = bridge_aside w slots taken.g in
     let b_is : IsOff b.image = bridge_stays_off w slots taken.g g_is in
-    where_either (λ x. controls_bridge x.image VGA_ENABLE ≡ false) _ b _ h taken.parts (parts_stay_off w (has_legacy_by w f) b b_is) b_is.off
+    let k_is = where_either (λ x. controls_bridge x.image VGA_ENABLE ≡ false) _ b _ taken.k taken.parts (parts_stay_off w (has_legacy_by w f) b b_is) b_is.off in
+    subst (λ (x : Function). controls_bridge x.image VGA_ENABLE ≡ false) (sym taken.header) (cardbus_stays_off w taken.k k_is)

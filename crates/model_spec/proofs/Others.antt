@@ -1,7 +1,7 @@
 -- What `ide` and `unnumbered` leave alone, whatever other words count.
 use Rattle.std.proofs.Common.{◌≡◌, ℕ, ◌/◌, ◌%◌, ◌==◌, ◌<◌, inl, inr, List, length, set, Bool, true, false, ◌&&◌, ◌||◌, not, refl, sym, ◌∙◌, ap, subst, arith, Some, None, is_some}
 use Rattle.std.specs.Bool.{IsTrue, if◌then◌else◌}
-use Rattle.std.proofs.lemmas.Bool.{and_left, and_right, both_ways, cases_Bool, cases_lt, cond_both, or_cases, or_left}
+use Rattle.std.proofs.lemmas.Bool.{and_left, and_parts, and_right, both_ways, cases_Bool, cases_lt, cond_both, eqb-true, ne_eqb, or_cases, or_left}
 use Rattle.std.proofs.lemmas.List.{get_or-set_same, get_or-set_other, get_or_past, length-set}
 use Rattle.pci_spec.specs.Number.{byte_at, IsImage}
 use Rattle.pci_spec.specs.Registers.{COMMAND, STATUS, INTERFACE, HEADER_TYPE, PRIMARY_BUS, SECONDARY_BUS, SUBORDINATE_BUS, BRIDGE_CONTROL, SECONDARY_BUS_RESET, VGA_ENABLE}
@@ -14,23 +14,25 @@ use Rattle.pci_spec.specs.Order.{Place}
 use Rattle.given_spec.specs.Words.{without_vga, vga_aside}
 use Rattle.model_spec.specs.Words.{Words, no_words}
 use Rattle.model_spec.specs.Bytes.{out_of_reset, positive, switched_off}
-use Rattle.model_spec.specs.Taken.{HasNoOwnFaultBefore, IsTakenAs, IsWhere, bridge_aside, has_legacy_by, has_numbers, is_anyone_behind, is_ide, is_unnumbered, is_unnumbered_bridge, may_have_parts_by, parts_aside, reset_aside, vga_aside_by, function_with_image, without_buses, without_channels}
+use Rattle.model_spec.specs.Taken.{HasNoOwnFaultBefore, IsTakenAs, IsWhere, bridge_aside, cardbus_aside, first_aside, has_legacy_by, is_cardbus, has_numbers, is_anyone_behind, is_ide, is_unnumbered, is_unnumbered_bridge, may_have_parts_by, parts_aside, reset_aside, windows_aside, function_with_image, without_buses, without_channels, without_socket}
 use Rattle.model_spec.specs.WordsLaws.{IdeLeavesOthers, UnnumberedLeavesOthers, UnnumberedLeavesNumbers, IdeAloneLeavesOthers, UnnumberedAloneLeavesOthers}
-use Rattle.model_spec.proofs.Kept.{taken_same}
+use Rattle.model_spec.proofs.Kept.{taken_same, unnumbered_is_bridge}
+use Rattle.model_spec.proofs.WindowBytes.{IsOutside, aside_differs}
 use Rattle.model_spec.proofs.NoVga.{off_at}
 
 -- ---- which bytes words change
 
 -- a byte of none of the registers that words change before they look for parts
-record IsAside (k : ℕ) : Type 0 where
-  command : k ≡ COMMAND → ⊥
-  status : k ≡ STATUS → ⊥
-  interface : k ≡ INTERFACE → ⊥
-  control : k ≡ BRIDGE_CONTROL → ⊥
+pub record IsAside (k : ℕ) : Type 0 where
+  pub command : k ≡ COMMAND → ⊥
+  pub status : k ≡ STATUS → ⊥
+  pub interface : k ≡ INTERFACE → ⊥
+  pub control : k ≡ BRIDGE_CONTROL → ⊥
+  pub window : IsOutside k
 
-record IsAlike (image changed : List ℕ) : Type 0 where
-  same : (k : ℕ) → IsAside k → byte_at changed k ≡ byte_at image k
-  small : byte_at image INTERFACE < 256 → byte_at changed INTERFACE < 256
+pub record IsAlike (image changed : List ℕ) : Type 0 where
+  pub same : (k : ℕ) → IsAside k → byte_at changed k ≡ byte_at image k
+  pub small : byte_at image INTERFACE < 256 → byte_at changed INTERFACE < 256
 
 alike_itself : (image : List ℕ) → IsAlike image image
 alike_itself image = record { same = λ k aside. refl; small = λ is. is }
@@ -71,31 +73,42 @@ bridge_alike w slots g =
     (λ on. positive_alike r.image) (λ off. alike_itself r.image) in
     alike_through g.image r.image (bridge_aside w slots g).image first second
 
-start_alike : (w : Words) (f : Function) → IsAlike f.image (vga_aside_by w f).image
-start_alike w f = cond_both (is_some w.vga) (vga_aside f) f (λ x. IsAlike f.image x.image) (λ on. vga_alike f.image) (λ off. alike_itself f.image)
+windows_alike : (w : Words) (f : Function) → IsAlike f.image (windows_aside w f).image
+windows_alike w f =
+    let shown = aside_differs w f in
+    record {
+      same = λ k aside. shown.same k aside.window;
+      small = λ is. (let same = shown.same INTERFACE (inl (omega arith)) in omega (arith, same, is));
+    }
+
+start_alike : (w : Words) (f : Function) → IsAlike f.image (first_aside w f).image
+start_alike w f =
+    let g = windows_aside w f in
+    let second : IsAlike g.image (first_aside w f).image = cond_both (is_some w.vga) (vga_aside g) g (λ x. IsAlike g.image x.image) (λ on. vga_alike g.image) (λ off. alike_itself g.image) in
+    alike_through f.image g.image (first_aside w f).image (windows_alike w f) second
 
 -- a function before its parts are looked at
-before_alike : (w : Words) (slots : List Slot) (f h : Function) (t : IsTakenAs w slots f h) → IsAlike f.image (bridge_aside w slots t.g).image
+pub before_alike : (w : Words) (slots : List Slot) (f h : Function) (t : IsTakenAs w slots f h) → IsAlike f.image (bridge_aside w slots t.g).image
 before_alike w slots f h t =
-    let start = vga_aside_by w f in
+    let start = first_aside w f in
     let power : IsAlike start.image t.g.image = elim t.power [
       | inl on ↦ subst (λ (x : Function). IsAlike start.image x.image) (sym on.1) (off_alike start.image)
       | inr off ↦ subst (λ (x : Function). IsAlike start.image x.image) (sym off.1) (alike_itself start.image)
     ] in
     alike_through f.image start.image (bridge_aside w slots t.g).image (start_alike w f) (alike_through start.image t.g.image (bridge_aside w slots t.g).image power (bridge_alike w slots t.g))
 
-aside : (k : ℕ) → (k ≡ COMMAND → ⊥) → (k ≡ STATUS → ⊥) → (k ≡ INTERFACE → ⊥) → (k ≡ BRIDGE_CONTROL → ⊥) → IsAside k
-aside k a b c d = record { command = a; status = b; interface = c; control = d }
+aside : (k : ℕ) → (k ≡ COMMAND → ⊥) → (k ≡ STATUS → ⊥) → (k ≡ INTERFACE → ⊥) → (k ≡ BRIDGE_CONTROL → ⊥) → IsOutside k → IsAside k
+aside k a b c d e = record { command = a; status = b; interface = c; control = d; window = e }
 
-layout_same : (image changed : List ℕ) → IsAlike image changed → layout changed ≡ layout image
-layout_same image changed alike = ap (λ n. n % 128) (alike.same HEADER_TYPE (aside HEADER_TYPE (λ e. cc e) (λ e. cc e) (λ e. cc e) (λ e. cc e)))
+pub layout_same : (image changed : List ℕ) → IsAlike image changed → layout changed ≡ layout image
+layout_same image changed alike = ap (λ n. n % 128) (alike.same HEADER_TYPE (aside HEADER_TYPE (λ e. cc e) (λ e. cc e) (λ e. cc e) (λ e. cc e) (inl (omega arith))))
 
 ide_same : (image changed : List ℕ) → IsImage image → IsAlike image changed → is_ide changed ≡ is_ide image
 ide_same image changed is alike =
     let first = is.bytes INTERFACE in
     let other = alike.small first in
-    let low = alike.same 10 (aside 10 (λ e. cc e) (λ e. cc e) (λ e. cc e) (λ e. cc e)) in
-    let high = alike.same 11 (aside 11 (λ e. cc e) (λ e. cc e) (λ e. cc e) (λ e. cc e)) in
+    let low = alike.same 10 (aside 10 (λ e. cc e) (λ e. cc e) (λ e. cc e) (λ e. cc e) (inl (omega arith))) in
+    let high = alike.same 11 (aside 11 (λ e. cc e) (λ e. cc e) (λ e. cc e) (λ e. cc e) (inl (omega arith))) in
     let class : class_code changed / 256 ≡ class_code image / 256 = omega (arith, first, other, low, high) in
     λ i. layout_same image changed alike i == 0 && class i == 0x0101
 
@@ -124,8 +137,8 @@ module _ (w : Words) (slots : List Slot) (f h g : Function) where
 
 pub ide_leaves_others : IdeLeavesOthers
 ide_leaves_others w slots f h is other = (
-  λ t. record { g = t.g; power = t.power; parts = subst (λ (T : Type 0). T) (parts_same w slots f h t.g (ide_same f.image (bridge_aside w slots t.g).image is (before_alike w slots f h t) ∙ other)) t.parts },
-  λ t. record { g = t.g; power = t.power; parts = subst (λ (T : Type 0). T) (sym (parts_same w slots f h t.g (ide_same f.image (bridge_aside w slots t.g).image is (before_alike (record w { ide = false }) slots f h t) ∙ other))) t.parts },
+  λ t. record { g = t.g; k = t.k; power = t.power; parts = subst (λ (T : Type 0). T) (parts_same w slots f t.k t.g (ide_same f.image (bridge_aside w slots t.g).image is (before_alike w slots f h t) ∙ other)) t.parts; header = t.header },
+  λ t. record { g = t.g; k = t.k; power = t.power; parts = subst (λ (T : Type 0). T) (sym (parts_same w slots f t.k t.g (ide_same f.image (bridge_aside w slots t.g).image is (before_alike (record w { ide = false }) slots f h t) ∙ other))) t.parts; header = t.header },
 )
 
 -- ---- unnumbered
@@ -136,7 +149,7 @@ module _ (w : Words) (slots : List Slot) (f h : Function) where
 
   -- what is taken with the word, and is no unnumbered bridge before its parts are looked at
   leaves : (t : IsTakenAs w slots f h) → ((w.ide && is_ide (bridge_aside w slots t.g).image) ≡ false → is_unnumbered (has_legacy_by w f) (bridge_aside w slots t.g) ≡ false) → IsTakenAs no_unnumbered slots f h
-  leaves t none = record { g = t.g; power = t.power; parts = by t.parts }
+  leaves t none = record { g = t.g; k = t.k; power = t.power; parts = by t.parts; header = t.header }
     where
       b : Function
       b = bridge_aside w slots t.g
@@ -147,7 +160,7 @@ module _ (w : Words) (slots : List Slot) (f h : Function) where
       fewer : may_have_parts_by no_unnumbered b ≡ true → (w.ide && is_ide b.image) ≡ true
       fewer may = elim (or_cases (w.ide && is_ide b.image) (false && is_bridge b) may) [ inl ide ↦ ide | inr none ↦ absurd (both_ways false refl none) ]
 
-      by : IsWhere (IsTrue (may_have_parts_by w b) × HasNoOwnFaultBefore Place b) b (parts_aside w legacy b) h → IsWhere (IsTrue (may_have_parts_by no_unnumbered b) × HasNoOwnFaultBefore Place b) b (parts_aside no_unnumbered legacy b) h
+      by : IsWhere (IsTrue (may_have_parts_by w b) × HasNoOwnFaultBefore Place b) b (parts_aside w legacy b) t.k → IsWhere (IsTrue (may_have_parts_by no_unnumbered b) × HasNoOwnFaultBefore Place b) b (parts_aside no_unnumbered legacy b) t.k
       by (inr (fails, is)) = inr (λ holds. fails (or_left (w.ide && is_ide b.image) (w.unnumbered && is_bridge b) (fewer holds.0), holds.1), is)
       by (inl (holds, is)) = elim (cases_Bool (w.ide && is_ide b.image)) [
         | inl ide ↦ inl (
@@ -163,9 +176,10 @@ module _ (w : Words) (slots : List Slot) (f h : Function) where
       ]
 
   -- how the other words take what is no controller
-  taken_before : (t : IsTakenAs w slots f h) → (w.ide && is_ide (bridge_aside w slots t.g).image) ≡ false → IsTakenAs no_unnumbered slots f (bridge_aside w slots t.g)
+  taken_before : (t : IsTakenAs w slots f h) → (w.ide && is_ide (bridge_aside w slots t.g).image) ≡ false → IsTakenAs no_unnumbered slots f (cardbus_aside w (bridge_aside w slots t.g))
   taken_before t other = record {
     g = t.g;
+    k = bridge_aside w slots t.g;
     power = t.power;
     parts = inr (
       λ may. elim (or_cases (w.ide && is_ide (bridge_aside w slots t.g).image) (false && is_bridge (bridge_aside w slots t.g)) may.0) [
@@ -174,10 +188,22 @@ module _ (w : Words) (slots : List Slot) (f h : Function) where
       ],
       refl,
     );
+    header = refl;
   }
 
+-- a CardBus bridge is no unnumbered bridge, so it makes no difference whether it is one no more
+numbered_as_device : (w : Words) (legacy : Bool) (f : Function) → is_unnumbered legacy (cardbus_aside w f) ≡ false → is_unnumbered legacy f ≡ false
+numbered_as_device w legacy f =
+    cond_both (w.cardbus && is_cardbus f) (without_socket f) f (λ g. is_unnumbered legacy g ≡ false → is_unnumbered legacy f ≡ false)
+    (λ counts none. unnumbered_is_bridge legacy f (ne_eqb (layout f.image) 1 (λ one. let two = eqb-true (layout f.image) 2 (and_second w.cardbus (is_cardbus f) counts) in omega (arith, one, two))))
+    (λ other none. none)
+  where
+    and_second : (x y : Bool) → (x && y) ≡ true → y ≡ true
+    and_second x y both = (and_parts x y both).1
+
 pub unnumbered_leaves_others : UnnumberedLeavesOthers
-unnumbered_leaves_others w slots f h t none = leaves w slots f h t (λ other. none (bridge_aside w slots t.g) (taken_before w slots f h t other))
+unnumbered_leaves_others w slots f h t none = leaves w slots f h t (λ other.
+    numbered_as_device w (has_legacy_by w f) (bridge_aside w slots t.g) (none (cardbus_aside w (bridge_aside w slots t.g)) (taken_before w slots f h t other)))
 
 -- a bridge without bus numbers has none before
 numbered_before : (legacy : Bool) (f b : Function) → IsAlike f.image b.image → (is_bridge f && not (has_numbers (bridge_of f.image f.probe))) ≡ false → is_unnumbered legacy b ≡ false
@@ -186,9 +212,9 @@ numbered_before legacy f b alike numbered = elim (cases_Bool (is_bridge b)) [
   | inl bridge ↦
       let kind : is_bridge b ≡ is_bridge f = ap (λ n. n == 1) (layout_same f.image b.image alike) in
       let number = λ (k : ℕ) (is : IsAside k). alike.same k is in
-      let primary = number PRIMARY_BUS (aside PRIMARY_BUS (λ e. cc e) (λ e. cc e) (λ e. cc e) (λ e. cc e)) in
-      let secondary = number SECONDARY_BUS (aside SECONDARY_BUS (λ e. cc e) (λ e. cc e) (λ e. cc e) (λ e. cc e)) in
-      let subordinate = number SUBORDINATE_BUS (aside SUBORDINATE_BUS (λ e. cc e) (λ e. cc e) (λ e. cc e) (λ e. cc e)) in
+      let primary = number PRIMARY_BUS (aside PRIMARY_BUS (λ e. cc e) (λ e. cc e) (λ e. cc e) (λ e. cc e) (inl (omega arith))) in
+      let secondary = number SECONDARY_BUS (aside SECONDARY_BUS (λ e. cc e) (λ e. cc e) (λ e. cc e) (λ e. cc e) (inl (omega arith))) in
+      let subordinate = number SUBORDINATE_BUS (aside SUBORDINATE_BUS (λ e. cc e) (λ e. cc e) (λ e. cc e) (λ e. cc e) (inl (omega arith))) in
       let same : has_numbers (bridge_of b.image b.probe) ≡ has_numbers (bridge_of f.image f.probe) = λ i. not (primary i == 0 && secondary i == 0 && subordinate i == 0) in
       let none : not (has_numbers (bridge_of b.image b.probe)) ≡ false = ap not same ∙ and_second_false (is_bridge f) (not (has_numbers (bridge_of f.image f.probe))) (sym kind ∙ bridge) numbered in
       ap (λ x. is_unnumbered_bridge legacy (record_of b) (if x then Some (bridge_of b.image b.probe) else None)) bridge

@@ -1,7 +1,7 @@
 -- Images with some of their bytes changed.
 use Rattle.std.specs.Prelude.{ℕ, zero, suc, ◌+◌, ◌*◌, ◌/◌, ◌%◌, List, [], ◌∷◌, set}
 use Rattle.pci_spec.specs.Number.{byte_at}
-use Rattle.pci_spec.specs.Registers.{COMMAND, STATUS, INTERFACE, HEADER_TYPE, PRIMARY_BUS, BRIDGE_CONTROL, BRIDGE_EXPANSION_ROM}
+use Rattle.pci_spec.specs.Registers.{COMMAND, STATUS, INTERFACE, HEADER_TYPE, BASE_ADDRESS, EXPANSION_ROM, PRIMARY_BUS, BRIDGE_CONTROL, BRIDGE_EXPANSION_ROM}
 use Rattle.pci_spec.specs.Bar.{BarKind, IoBar, Memory32, Memory64, Reserved}
 use Rattle.pci_spec.specs.Decoded.{DecodedBar}
 
@@ -34,6 +34,21 @@ as_device image =
 -- what reads back of it: its ROM is left out too
 abbrev pub device_read_backs : List ℕ → List ℕ
 device_read_backs probe = cleared BRIDGE_EXPANSION_ROM 4 (cleared PRIMARY_BUS 28 probe)
+
+-- the address registers of a header of type 0, 10h to 27h and 30h to 33h, show 0 (PCI 3.0, 6.1)
+abbrev pub without_registers : List ℕ → List ℕ
+without_registers image = cleared EXPANSION_ROM 4 (cleared BASE_ADDRESS 24 image)
+
+-- Status says that there is no capabilities list (PCI 3.0, 6.2.3)
+abbrev pub without_list : List ℕ → List ℕ
+without_list image =
+    set image STATUS (byte_at image STATUS / 32 * 32 + byte_at image STATUS % 16)
+
+-- a header of type 0 without address registers and without a capabilities list, whatever the layout was
+abbrev pub as_bare_device : List ℕ → List ℕ
+as_bare_device image =
+    without_list
+    (set (without_registers image) HEADER_TYPE (byte_at image HEADER_TYPE / 128 * 128))
 
 -- the bytes of a BAR's registers
 abbrev pub width_of : BarKind → ℕ

@@ -1,5 +1,6 @@
 pub mod Words
 pub mod Bytes
+pub mod Windows
 pub mod Taken
 pub mod TakenDumps
 pub mod WordsLaws

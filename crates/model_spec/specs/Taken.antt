@@ -13,7 +13,8 @@ use Rattle.pci_spec.specs.Fault.{Fault, IsIn, IsNotInD0, controls_bridge, is_sub
 use Rattle.pci_spec.specs.Order.{Phase, Profile, Place, phase_key, phase_of}
 use Rattle.given_spec.specs.Words.{has_legacy, vga_aside}
 use Rattle.model_spec.specs.Words.{Words}
-use Rattle.model_spec.specs.Bytes.{as_device, device_read_backs, out_of_reset, positive, switched_off, without_bars}
+use Rattle.model_spec.specs.Bytes.{as_bare_device, as_device, device_read_backs, out_of_reset, positive, switched_off, without_bars, without_registers}
+use Rattle.model_spec.specs.Windows.{windows_as_shown}
 
 -- nothing is wrong with the function by itself that is looked for before a phase
 abbrev pub HasNoOwnFaultBefore : Phase → Function → Type 0
@@ -28,11 +29,21 @@ is_anyone_behind slots b = list_any (λ slot. is_behind b slot.bus) slots
 abbrev pub function_with_image : Function → List ℕ → Function
 function_with_image f image = record { slot = f.slot; image = image; probe = f.probe }
 
+-- ---- windows
+
+-- a bridge whose windows are those that they show, where that counts
+abbrev pub windows_aside : Words → Function → Function
+windows_aside w f = if w.windows && is_bridge f then windows_as_shown f else f
+
 -- ---- vga
 
 -- a bridge without VGA Enable, where its legacy part is given beside the system (Bridge 1.2, 3.2.5.18)
 abbrev pub vga_aside_by : Words → Function → Function
 vga_aside_by w f = if is_some w.vga then vga_aside f else f
+
+-- what is left aside before anything is asked of a function: the read backs of windows, and VGA Enable
+abbrev pub first_aside : Words → Function → Function
+first_aside w f = vga_aside_by w (windows_aside w f)
 
 -- whether a function has a legacy part that is given
 abbrev pub has_legacy_by : Words → Function → Bool
@@ -125,6 +136,21 @@ abbrev pub without_buses : Function → Function
 without_buses f =
     record { slot = f.slot; image = as_device f.image; probe = device_read_backs f.probe }
 
+-- ---- cardbus
+
+-- whether it is a CardBus bridge: header layout 2 (PC Card Standard 8.0, volume 7, 4.4)
+abbrev pub is_cardbus : Function → Bool
+is_cardbus f = layout f.image == 2
+
+-- one as a device whose BARs and ROM show and read back 0
+abbrev pub without_socket : Function → Function
+without_socket f =
+    record
+    { slot = f.slot; image = as_bare_device f.image; probe = without_registers f.probe }
+
+abbrev pub cardbus_aside : Words → Function → Function
+cardbus_aside w f = if w.cardbus && is_cardbus f then without_socket f else f
+
 -- ---- all of them
 
 -- whether a word counts for parts that a function can have by its header: the channels of a controller, the buses of a
@@ -143,16 +169,19 @@ abbrev pub IsWhere : Type 0 → Function → Function → Function → Type 0
 IsWhere Condition f changed g = (Condition × (g ≡ changed)) ⊎ ((Condition → ⊥) × (g ≡ f))
 
 -- The function h is how f is taken. What is wrong with it by itself is told before all else: `power` leaves a function be
--- whose registers or list don't decode, `ide` and `unnumbered` one that has any fault by itself. VGA Enable is left aside
--- first, so that it is no such fault where a word for it counts.
+-- whose registers or list don't decode, `ide` and `unnumbered` one that has any fault by itself. Read backs of windows and
+-- VGA Enable are left aside first, so that they are no such faults where words for them count. A CardBus bridge is left as
+-- it is by all other words, as its header is such a fault.
 pub record IsTakenAs (w : Words) (slots : List Slot) (f h : Function) : Type 0 where
   pub g : Function
-  pub power : IsWhere (IsTrue w.power × IsAsleep (vga_aside_by w f)) (vga_aside_by w f)
-      (function_with_image (vga_aside_by w f) (switched_off (vga_aside_by w f).image)) g
+  pub k : Function
+  pub power : IsWhere (IsTrue w.power × IsAsleep (first_aside w f)) (first_aside w f)
+      (function_with_image (first_aside w f) (switched_off (first_aside w f).image)) g
   pub parts : IsWhere
       (IsTrue (may_have_parts_by w (bridge_aside w slots g))
       × HasNoOwnFaultBefore Place (bridge_aside w slots g))
-      (bridge_aside w slots g) (parts_aside w (has_legacy_by w f) (bridge_aside w slots g)) h
+      (bridge_aside w slots g) (parts_aside w (has_legacy_by w f) (bridge_aside w slots g)) k
+  pub header : h ≡ cardbus_aside w k
 
 -- the same of each function of a system
 abbrev pub AreFunctionsTakenAs : Words → List Slot → System → System → Type 0

@@ -5,6 +5,8 @@ use Rattle.given_spec.specs.Words.{VgaWord, Vga, Vga16}
 
 -- Which of them count.
 pub record Words : Type 0 where
+  -- a function of header layout 2 has no address registers that decode
+  pub cardbus : Bool
   -- IDE channels in compatibility mode answer fixed ports, and not their BARs
   pub ide : Bool
   -- what isn't in D0 decodes nothing
@@ -17,27 +19,48 @@ pub record Words : Type 0 where
   pub unnumbered : Bool
   -- a bridge may have VGA Enable set: its legacy part is given beside the system
   pub vga : Option VgaWord
+  -- a window of a bridge is the one that it shows, whatever it reads back
+  pub windows : Bool
 
 abbrev pub no_words : Words
 no_words =
-    record
-    { ide = false; power = false; reset = false; subtractive = false; unnumbered = false; vga = None }
+    record {
+      cardbus = false;
+      ide = false;
+      power = false;
+      reset = false;
+      subtractive = false;
+      unnumbered = false;
+      vga = None;
+      windows = false;
+    }
 
 abbrev pub all_words : Words
 all_words =
-    record
-    { ide = true; power = true; reset = true; subtractive = true; unnumbered = true; vga = Some Vga }
+    record {
+      cardbus = true;
+      ide = true;
+      power = true;
+      reset = true;
+      subtractive = true;
+      unnumbered = true;
+      vga = Some Vga;
+      windows = true;
+    }
 
 -- What a word of a list names.
 pub data Name : Type 0 where
+  Cardbus : Name
   Ide : Name
   Power : Name
   Reset : Name
   Subtractive : Name
   Unnumbered : Name
   Legacy : (vga : VgaWord) → Name
+  Windows : Name
 
 abbrev pub name_text : Name → List ℕ
+name_text Cardbus = codes "cardbus"
 name_text Ide = codes "ide"
 name_text Power = codes "power"
 name_text Reset = codes "reset"
@@ -45,15 +68,18 @@ name_text Subtractive = codes "subtractive"
 name_text Unnumbered = codes "unnumbered"
 name_text (Legacy Vga) = codes "vga"
 name_text (Legacy Vga16) = codes "vga16"
+name_text Windows = codes "windows"
 
 -- what a word names counts
 abbrev pub IsCounted : Words → Name → Type 0
+IsCounted w Cardbus = IsTrue w.cardbus
 IsCounted w Ide = IsTrue w.ide
 IsCounted w Power = IsTrue w.power
 IsCounted w Reset = IsTrue w.reset
 IsCounted w Subtractive = IsTrue w.subtractive
 IsCounted w Unnumbered = IsTrue w.unnumbered
 IsCounted w (Legacy vga) = w.vga ≡ Some vga
+IsCounted w Windows = IsTrue w.windows
 
 -- just what these words name counts, and none stands twice
 pub record AreNames (names : List Name) (w : Words) : Type 0 where

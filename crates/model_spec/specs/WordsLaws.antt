@@ -1,14 +1,17 @@
 -- Laws of what words take.
-use Rattle.std.specs.Prelude.{◌≡◌, ◌↔◌, ℕ, Bool, true, false, ◌&&◌, not, IsTrue, IsFalse, List, map, is_some}
+use Rattle.std.specs.Prelude.{◌≡◌, ◌↔◌, ℕ, Bool, true, false, ◌&&◌, not, IsTrue, IsFalse, List, [], map, None, is_some}
+use Rattle.std.specs.List.{Contains}
 use Rattle.pci_spec.specs.Slot.{Slot}
 use Rattle.pci_spec.specs.Number.{IsImage}
 use Rattle.pci_spec.specs.Registers.{SECONDARY_BUS_RESET, VGA_ENABLE}
 use Rattle.pci_spec.specs.System.{System, Function, Space, Part, Claims, is_bridge}
-use Rattle.pci_spec.specs.Decoded.{bridge_of}
-use Rattle.pci_spec.specs.Fault.{IsNotInD0, controls_bridge, is_subtractive_bridge}
+use Rattle.pci_spec.specs.Window.{WindowKind, bounds_at, breaks_window_rule, is_zero}
+use Rattle.pci_spec.specs.Decoded.{IsDecodable, bridge_of, record_of}
+use Rattle.pci_spec.specs.Fault.{IsNotInD0, controls_bridge, has_no_vendor, is_subtractive_bridge}
 use Rattle.model_spec.specs.Words.{Words, no_words}
 use Rattle.model_spec.specs.Bytes.{out_of_reset, positive, switched_off}
-use Rattle.model_spec.specs.Taken.{AreFunctionsTakenAs, IsTakenAs, has_legacy_by, has_numbers, is_ide, is_unnumbered, may_have_parts_by, parts_aside, function_with_image, without_buses}
+use Rattle.model_spec.specs.Windows.{shown_nibble, window_as_shown}
+use Rattle.model_spec.specs.Taken.{AreFunctionsTakenAs, IsTakenAs, cardbus_aside, has_legacy_by, has_numbers, is_cardbus, is_ide, is_unnumbered, may_have_parts_by, parts_aside, function_with_image, without_buses, without_socket}
 
 -- Without words a system is taken as it is.
 abbrev pub NoWordsChangeNothing : Type 0
@@ -59,6 +62,37 @@ NoPartsChangeNothing =
     (w : Words) (legacy : Bool) (f : Function) → IsFalse (may_have_parts_by w f)
     → parts_aside w legacy f ≡ f
 
+-- A CardBus bridge that is taken as a device decodes, where it answers at all: to no BAR, to no ROM, and to no bridge.
+pub record IsBare (f : Function) : Type 0 where
+  pub decodable : IsDecodable f
+  pub bars : (record_of f).bars ≡ []
+  pub rom : (record_of f).rom ≡ None
+  pub bridge : (record_of f).bridge ≡ None
+
+abbrev pub SocketIsBare : Type 0
+SocketIsBare =
+    (f : Function) → IsFalse (has_no_vendor f.image) → IsBare (without_socket f)
+
+-- It has no list, and so shows no power state.
+abbrev pub SocketShowsNoState : Type 0
+SocketShowsNoState =
+    (f : Function) → IsImage f.image → IsNotInD0 (without_socket f).image → ⊥
+
+-- A window that shows one has no 26 once it is taken as that one,
+abbrev pub ShownWindowsAreLawful : Type 0
+ShownWindowsAreLawful =
+    (kind : WindowKind) (f : Function) → IsImage f.image → IsImage f.probe
+    → IsTrue (is_some (shown_nibble kind (bounds_at kind f.image)))
+    → IsFalse (breaks_window_rule kind (window_as_shown kind f).image
+    (window_as_shown kind f).probe)
+
+-- and it has the pages that it showed, unless it shows 0 and reads back 0.
+abbrev pub ShownWindowsKeepPages : Type 0
+ShownWindowsKeepPages =
+    (kind : WindowKind) (f : Function)
+    → IsFalse (is_zero (bounds_at kind f.image) && is_zero (bounds_at kind f.probe))
+    → (window_as_shown kind f).image ≡ f.image
+
 -- ---- what a word leaves alone
 
 -- A function that is no IDE controller is taken with `ide` as without it, whatever other words count.
@@ -81,6 +115,38 @@ UnnumberedLeavesNumbers =
     (w : Words) (slots : List Slot) (f h : Function) → IsTakenAs w slots f h
     → IsFalse (is_bridge f && not (has_numbers (bridge_of f.image f.probe)))
     → IsTakenAs (record w { unnumbered = false }) slots f h
+
+-- A function that is no CardBus bridge is taken with `cardbus` as without it, whatever other words count,
+abbrev pub CardbusLeavesOthers : Type 0
+CardbusLeavesOthers =
+    (w : Words) (slots : List Slot) (f h : Function) → IsFalse (is_cardbus f)
+    → IsTakenAs w slots f h ↔ IsTakenAs (record w { cardbus = false }) slots f h
+
+-- and a CardBus bridge by `cardbus` alone.
+abbrev pub OthersLeaveCardbus : Type 0
+OthersLeaveCardbus =
+    (w : Words) (slots : List Slot) (f h : Function) → IsTrue (is_cardbus f)
+    → IsTakenAs w slots f h → h ≡ cardbus_aside w f
+
+-- whether a window of a function has a 26
+abbrev pub has_bad_window : Function → WindowKind → Bool
+has_bad_window f kind = is_bridge f && breaks_window_rule kind f.image f.probe
+
+-- A function of which no window has a 26 is taken with `windows` as without it.
+abbrev pub WindowsLeaveOthers : Type 0
+WindowsLeaveOthers =
+    (w : Words) (slots : List Slot) (f h : Function)
+    → ((kind : WindowKind) → IsFalse (has_bad_window f kind))
+    → IsTakenAs w slots f h ↔ IsTakenAs (record w { windows = false }) slots f h
+
+-- So a system without such functions is taken with both of these words as without them.
+abbrev pub BothLeaveOthers : Type 0
+BothLeaveOthers =
+    (w : Words) (slots : List Slot) (s t : System)
+    → ((f : Function) → Contains s f
+    → IsFalse (is_cardbus f) × ((kind : WindowKind) → IsFalse (has_bad_window f kind)))
+    → AreFunctionsTakenAs w slots s t
+    ↔ AreFunctionsTakenAs (record w { cardbus = false; windows = false }) slots s t
 
 -- By `ide` alone what is no IDE controller is taken as it is,
 abbrev pub IdeAloneLeavesOthers : Type 0

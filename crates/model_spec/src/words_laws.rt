@@ -1,6 +1,6 @@
 //! Laws of words. These functions do nothing: each contract is a law.
 
-ghost use Rattle.model_spec.specs.WordsLaws.{NoWordsChangeNothing, SlotsAreKept, OffByWordsClaimsNothing, OffShowsNoState, OutOfResetIs, PositiveIs, DeviceLeadsNowhere, TakenHasNoVgaEnable, NoPartsChangeNothing, IdeLeavesOthers, UnnumberedLeavesOthers, UnnumberedLeavesNumbers, IdeAloneLeavesOthers, UnnumberedAloneLeavesOthers};
+ghost use Rattle.model_spec.specs.WordsLaws.{NoWordsChangeNothing, SlotsAreKept, OffByWordsClaimsNothing, OffShowsNoState, OutOfResetIs, PositiveIs, DeviceLeadsNowhere, SocketIsBare, SocketShowsNoState, ShownWindowsAreLawful, ShownWindowsKeepPages, TakenHasNoVgaEnable, NoPartsChangeNothing, IdeLeavesOthers, UnnumberedLeavesOthers, UnnumberedLeavesNumbers, CardbusLeavesOthers, OthersLeaveCardbus, WindowsLeaveOthers, BothLeaveOthers, IdeAloneLeavesOthers, UnnumberedAloneLeavesOthers};
 
 /// Without words a system is taken as it is.
 pub fn no_words_change_nothing()
@@ -22,6 +22,18 @@ pub fn changes_do_what_they_are_for()
     ensures device { DeviceLeadsNowhere }
 {}
 
+/// A CardBus bridge that is taken as a device decodes to no address, and shows no power state.
+pub fn sockets_are_bare_devices()
+    ensures bare { SocketIsBare }
+    ensures state { SocketShowsNoState }
+{}
+
+/// A window that shows one has no 26 once it is taken as that one. It keeps its pages, unless it shows and reads back 0.
+pub fn shown_windows_decode()
+    ensures lawful { ShownWindowsAreLawful }
+    ensures pages { ShownWindowsKeepPages }
+{}
+
 /// What is taken with a word for legacy parts is no bridge with VGA Enable.
 pub fn taken_functions_have_no_vga_enable()
     ensures none { TakenHasNoVgaEnable }
@@ -40,4 +52,13 @@ pub fn words_leave_others_alone()
     ensures numbers { UnnumberedLeavesNumbers }
     ensures ide_alone { IdeAloneLeavesOthers }
     ensures unnumbered_alone { UnnumberedAloneLeavesOthers }
+{}
+
+/// The words `cardbus` and `windows` leave each function alone that is no CardBus bridge, or that has no window with a 26,
+/// whatever other words count. All other words leave a CardBus bridge alone.
+pub fn words_leave_other_headers_alone()
+    ensures cardbus { CardbusLeavesOthers }
+    ensures windows { WindowsLeaveOthers }
+    ensures both { BothLeaveOthers }
+    ensures others { OthersLeaveCardbus }
 {}

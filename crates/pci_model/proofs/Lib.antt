@@ -1,5 +1,6 @@
 pub mod Alone
 pub mod Behind
 pub mod Channels
+pub mod ShownWindows
 pub mod Takes
 pub mod Parts

@@ -6,8 +6,8 @@ use Rattle.pci_spec.specs.Registers.{INTERFACE}
 use Rattle.pci_spec.specs.System.{Function}
 use Rattle.pci_spec.specs.Decoded.{Record, record_of}
 use Rattle.model_spec.specs.Words.{Words}
-use Rattle.model_spec.specs.Bytes.{as_device, device_read_backs, without_bars}
-use Rattle.model_spec.specs.Taken.{is_compatible, is_ide, is_unnumbered, is_unnumbered_bridge, parts_aside}
+use Rattle.model_spec.specs.Bytes.{as_bare_device, as_device, device_read_backs, without_bars, without_registers}
+use Rattle.model_spec.specs.Taken.{cardbus_aside, is_cardbus, is_compatible, is_ide, is_unnumbered, is_unnumbered_bridge, parts_aside}
 
 pub channels_aside : (w : Words) (legacy : Bool) (f : Function) (r : Record) → r ≡ record_of f → w.ide ≡ true → is_ide f.image ≡ true
     → (image probe : List ℕ) → image ≡ without_bars (filter (λ bar. is_compatible (byte_at f.image INTERFACE) bar.register) r.bars) f.image
@@ -28,3 +28,13 @@ pub nothing_aside : (w : Words) (legacy : Bool) (f : Function) (r : Record) → 
 nothing_aside w legacy f r same other numbered =
     let is : (w.unnumbered && is_unnumbered legacy f) ≡ false = ap (λ x. w.unnumbered && is_unnumbered_bridge legacy x x.bridge) (sym same) ∙ numbered in
     rw (other, is) refl
+
+-- ---- CardBus bridges
+
+pub socket_aside : (w : Words) (f : Function) → w.cardbus ≡ true → is_cardbus f ≡ true
+    → (image probe : List ℕ) → image ≡ as_bare_device f.image → probe ≡ without_registers f.probe
+    → record { slot = f.slot; image = image; probe = probe } ≡ cardbus_aside w f
+socket_aside w f counts socket image probe image_is probe_is = rw (counts, socket, image_is, probe_is) refl
+
+pub header_stays : (w : Words) (f : Function) → (w.cardbus && is_cardbus f) ≡ false → f ≡ cardbus_aside w f
+header_stays w f other = rw other refl

@@ -12,10 +12,12 @@ vga_value Vga16 = given.Vga16
 
 abbrev pub words_value : Words → model.Words
 words_value w = record {
+  cardbus = w.cardbus;
   ide = w.ide;
   power = w.power;
   reset = w.reset;
   subtractive = w.subtractive;
   unnumbered = w.unnumbered;
   vga = option_map vga_value w.vga;
+  windows = w.windows;
 }

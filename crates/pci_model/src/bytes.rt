@@ -5,12 +5,16 @@ ghost use Rattle.model_spec.specs.Bytes as bytes;
 
 use pci_base::image::Image;
 use pci_base::offset::{
-    BRIDGE_CONTROL, BRIDGE_EXPANSION_ROM, COMMAND, HEADER_TYPE, INTERFACE, PRIMARY_BUS, STATUS,
+    BASE_ADDRESS, BRIDGE_CONTROL, BRIDGE_EXPANSION_ROM, COMMAND, EXPANSION_ROM, HEADER_TYPE,
+    INTERFACE, PRIMARY_BUS, STATUS,
 };
 use pci_function::profile::{VGA_ENABLE, controls_bridge};
 
 /// The bytes of a bridge's numbers and windows, 18h to 33h (Bridge 1.2, 3.2.5).
 const BRIDGE_REGISTERS: u8 = 28;
+
+/// The bytes of a device's six BARs (PCI 3.0, 6.1).
+const BARS: u8 = 24;
 
 /// The bytes of an expansion ROM register.
 const ROM_REGISTER: u8 = 4;
@@ -76,4 +80,30 @@ pub fn make_device_read_backs(probe: &mut Image)
 {
     clear(probe, PRIMARY_BUS, BRIDGE_REGISTERS);
     clear(probe, BRIDGE_EXPANSION_ROM, ROM_REGISTER);
+}
+
+/// Status without a capabilities list (PCI 3.0, 6.2.3).
+fn clear_list(image: &mut Image)
+    ensures { image.new.0 ≡ bytes.without_list image.old.0 }
+{
+    let bits = image.u8(STATUS);
+    image.0[usize::from(STATUS)] = bits / 32 * 32 + bits % 16;
+}
+
+/// Clears the address registers of a header of type 0.
+pub fn clear_registers(image: &mut Image)
+    ensures { image.new.0 ≡ bytes.without_registers image.old.0 }
+{
+    clear(image, BASE_ADDRESS, BARS);
+    clear(image, EXPANSION_ROM, ROM_REGISTER);
+}
+
+/// A header of type 0 without address registers and without a capabilities list (PCI 3.0, 6.1 and 6.2.3).
+pub fn make_bare_device(image: &mut Image)
+    ensures { image.new.0 ≡ bytes.as_bare_device image.old.0 }
+{
+    let header_type = image.u8(HEADER_TYPE);
+    clear_registers(image);
+    image.0[usize::from(HEADER_TYPE)] = header_type / 128 * 128;
+    clear_list(image);
 }

@@ -11,5 +11,7 @@ pub mod aside;
 pub mod bytes;
 pub mod listed_behind;
 pub mod power;
+pub mod socket;
 pub mod take;
+pub mod windows;
 pub mod words;

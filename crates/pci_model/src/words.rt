@@ -12,6 +12,8 @@ pub enum VgaWord {
 /// Which words count.
 #[derive(Clone, Copy, Debug, PartialEq, Eq)]
 pub struct Words {
+    /// A function of header layout 2 has no address registers that decode (PC Card Standard 8.0, volume 7, 4.4).
+    pub cardbus: bool,
     /// IDE channels in compatibility mode answer fixed ports, and not their BARs (PCI IDE Controller 1.0, 2.1).
     pub ide: bool,
     /// What isn't in D0 decodes nothing (Power Management 1.2, 5.4).
@@ -24,4 +26,6 @@ pub struct Words {
     pub unnumbered: bool,
     /// A bridge may have VGA Enable set: its legacy part is given beside the system (Bridge 1.2, 3.2.5.18).
     pub vga: Option<VgaWord>,
+    /// A window of a bridge is the one that it shows, whatever it reads back (Bridge 1.2, 3.2.5).
+    pub windows: bool,
 }

@@ -37,7 +37,7 @@ mod rom;
 pub mod sizes;
 mod sizes_block;
 mod sizes_fault;
-mod sizes_line;
+pub mod sizes_line;
 pub mod sizes_reader;
 mod window;
 

@@ -70,7 +70,7 @@ pub(crate) fn line_of(text: &[u8]) -> Option<ResourceLine>
 }
 
 /// The seven lines that a text is go into their places. False where it is none such: some of them may be there then.
-pub(crate) fn lines_into(text: &[u8], lines: &mut [ResourceLine; 7]) -> bool
+pub fn lines_into(text: &[u8], lines: &mut [ResourceLine; 7]) -> bool
     requires { length text.now ≡ 399 }
     ensures seven { length lines.new ≡ 7 }
     ensures yes { IsTrue result

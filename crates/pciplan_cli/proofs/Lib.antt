@@ -1,3 +1,2 @@
 mod RootWords
-mod ModelWords
 mod Invocations

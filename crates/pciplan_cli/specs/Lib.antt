@@ -1,6 +1,4 @@
 pub mod MapAsked
-pub mod ModelWords
-pub mod NameWords
 pub mod RootWords
 pub mod OptionWords
 pub mod BesideWords

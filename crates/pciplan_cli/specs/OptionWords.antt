@@ -11,7 +11,7 @@ use Rattle.pci_tree.specs.Roots.{buses_of}
 use Rattle.pci_tree.specs.declared.roots.Roots.{Roots}
 use Rattle.pciplan_lists.specs.ListWords.{HasRanges, IsListWord}
 use Rattle.pciplan_lists.specs.HostLists.{IsGoodHostList}
-use Rattle.pciplan_cli.specs.ModelWords.{IsModelWord}
+use Rattle.pciplan_lists.specs.ModelWords.{IsModelWord}
 use Rattle.pciplan_cli.specs.RootWords.{IsRootWord}
 use Rattle.pciplan_tasks.specs.declared.failure.Failure.{Failure}
 use Rattle.pciplan_tasks.specs.declared.failure.Failure.TheVariants.{Host, Memory}

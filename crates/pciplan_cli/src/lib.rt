@@ -15,7 +15,6 @@ mod beside;
 pub mod faults_asked;
 pub mod invocation;
 mod map_asked;
-pub mod model_words;
 pub mod opened;
 pub mod option_words;
 pub mod program;

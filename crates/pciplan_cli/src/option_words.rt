@@ -5,7 +5,6 @@ ghost use Rattle.pciplan_lists.specs.PoolWords.{HasNoPool, IsPoolWord};
 ghost use Rattle.pciplan_tasks.specs.declared.failure.Failure.{Failure};
 ghost use Rattle.pciplan_cli.specs.OptionWords.{AreRootsOf, AreWordsOf, AreRangesOf, HasNoRoots, HasNoWords, IsNoListFor};
 
-use crate::model_words::words_of_list;
 use crate::root_list::roots_of_list;
 use pci_base::range::{Range, RootRange};
 use pci_base::space::Space;
@@ -13,6 +12,7 @@ use pci_model::words::Words;
 use pci_tree::roots::Roots;
 use pciplan_lists::host_list::is_good_host_list;
 use pciplan_lists::list_word::list_of_word;
+use pciplan_lists::model_words::words_of_list;
 use pciplan_lists::pool_word::pool_of_word;
 use pciplan_tasks::failure::{Failure, PoolOption};
 use std::alloc::Global;

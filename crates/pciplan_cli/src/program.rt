@@ -104,7 +104,7 @@ fn without_second<A: Allocator, D: Source>(alloc: A, task: &Task, dump: &mut D) 
 
 /// Opens the two texts of a line, the dump first. The failure names the first that can't be opened, unless that is the
 /// second text and the dump isn't read.
-fn open_texts<A: Allocator, D: Opening, P: Opening>(
+pub fn open_texts<A: Allocator, D: Opening, P: Opening>(
     alloc: A,
     line: &Invocation,
     dump: &mut D,

@@ -1,9 +1,10 @@
-mod HexWords
-mod PoolWords
+pub mod HexWords
+pub mod PoolWords
 pub mod Without
-mod RangeWords
+pub mod RangeWords
 pub mod Joined
-mod ListWords
-mod SlotWords
-mod RisingSlots
-mod HostLists
+pub mod ListWords
+pub mod SlotWords
+pub mod RisingSlots
+pub mod HostLists
+mod ModelWords

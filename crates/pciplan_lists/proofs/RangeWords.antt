@@ -17,15 +17,15 @@ IsNoDigit byte = (d : ℕ) → hex_digit d ≢ byte
 pub no_comma : IsNoDigit 44
 no_comma = no_digit 44 (inl (omega arith))
 
-no_colon : IsNoDigit 58
+pub no_colon : IsNoDigit 58
 no_colon = no_digit 58 (inr (omega arith, omega arith))
 
-without_address : (byte : ℕ) → IsNoDigit byte → (word : List ℕ) (address : ℕ) → IsAddressWord word address → Without byte word
+pub without_address : (byte : ℕ) → IsNoDigit byte → (word : List ℕ) (address : ℕ) → IsAddressWord word address → Without byte word
 without_address byte none word address is = λ i inside e.
     let digit = address_digit word address i is inside in
     none digit.value (digit.is ∙ e)
 
-without_pool : (byte : ℕ) → IsNoDigit byte → 45 ≢ byte → (word : List ℕ) (pool : Range) → IsPoolWord word pool → Without byte word
+pub without_pool : (byte : ℕ) → IsNoDigit byte → 45 ≢ byte → (word : List ℕ) (pool : Range) → IsPoolWord word pool → Without byte word
 without_pool byte none other word pool is = subst (λ w. Without byte w) (sym is.parts)
     (without_both byte is.first (45 ∷ is.last) (without_address byte none is.first pool.first is.from)
     (without_one byte 45 is.last other (without_address byte none is.last pool.last is.to)))

@@ -3,3 +3,5 @@ pub mod PoolWords
 pub mod Joined
 pub mod ListWords
 pub mod SlotWords
+pub mod ModelWords
+pub mod NameWords

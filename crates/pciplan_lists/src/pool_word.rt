@@ -9,8 +9,8 @@ use pci_base::range::Range;
 /// The most digits of an address.
 const DIGITS_MAX: usize = 16;
 
-/// An address of 1 to 16 lower-case hex digits.
-fn address_of(word: &str) -> Option<u64>
+/// The address of a word of 1 to 16 lower-case hex digits. There is none of any other word.
+pub fn address_of(word: &str) -> Option<u64>
     ensures { MatchOption result ((address : ℕ) → IsAddressWord word.now address → ⊥)
         (λ address. IsAddressWord word.now address) }
 {

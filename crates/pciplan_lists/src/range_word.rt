@@ -8,8 +8,8 @@ use crate::pool_word::pool_of_word;
 use pci_base::digit::digit_value;
 use pci_base::range::RootRange;
 
-/// A bus of two lower-case hex digits.
-fn bus_of_word(word: &str) -> Option<u8>
+/// The bus of a word of two lower-case hex digits. There is none of any other word.
+pub fn bus_of_word(word: &str) -> Option<u8>
     ensures word { IfSome result (λ bus. (bus < 256) × (word.now ≡ hex_byte bus)) }
     ensures only { (bus : ℕ) → bus < 256 → word.now ≡ hex_byte bus → result ≡ Some bus }
 {

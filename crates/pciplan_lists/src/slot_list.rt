@@ -13,7 +13,7 @@ use std::alloc::Allocator;
 const SLOT_LEN: usize = 7;
 
 /// The slot of a word `bb:dd.f`, in lower-case hex digits. There is none of any other word.
-fn slot_of_word(word: &str) -> Option<Slot>
+pub fn slot_of_word(word: &str) -> Option<Slot>
     ensures word { IfSome result (λ slot. IsSlotWord word.now slot) }
     ensures only { (slot : SlotValue) → IsSlotWord word.now slot → result ≡ Some slot }
 {

@@ -58,12 +58,14 @@ fn task_given(alloc: Global, why: bool) -> Made {
 
 /// All words but that for legacy parts.
 const ALL_WORDS: Words = Words {
+    cardbus: true,
     ide: true,
     power: true,
     reset: true,
     subtractive: true,
     unnumbered: true,
     vga: None,
+    windows: true,
 };
 
 /// A bridge that is off above a BAR, a clash, and a BAR that is off.

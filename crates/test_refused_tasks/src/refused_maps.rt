@@ -83,12 +83,14 @@ off
 
 /// All words there are.
 const WORDS: Words = Words {
+    cardbus: true,
     ide: true,
     power: true,
     reset: true,
     subtractive: true,
     unnumbered: true,
     vga: Some(VgaWord::Vga),
+    windows: true,
 };
 
 #[test]

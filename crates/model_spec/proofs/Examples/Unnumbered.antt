@@ -11,7 +11,7 @@ use Rattle.std.specs.List.{list_any, range_with_len}
 use Rattle.pci_spec.proofs.Examples.Samples.{bridge, device, slot, range, host}
 use Rattle.given_spec.specs.Words.{Vga}
 use Rattle.model_spec.specs.Words.{Words, no_words}
-use Rattle.model_spec.specs.Taken.{HasNoOwnFaultBefore, IsTakenAs, IsWhere, bridge_aside, has_legacy_by, is_unnumbered, may_have_parts_by, parts_aside, vga_aside_by, without_buses}
+use Rattle.model_spec.specs.Taken.{HasNoOwnFaultBefore, IsTakenAs, IsWhere, bridge_aside, first_aside, has_legacy_by, is_unnumbered, may_have_parts_by, parts_aside, without_buses}
 
 abbrev unnumbered_counts : Words
 unnumbered_counts = record no_words { unnumbered = true }
@@ -67,7 +67,7 @@ none_behind command = bridge (slot 0 1 0) command 0 closed []
 
 -- as a function is taken that isn't switched off and has no fault by itself
 abbrev taken_by : Words → Function → Function
-taken_by w f = parts_aside w (has_legacy_by w f) (bridge_aside w [] (vga_aside_by w f))
+taken_by w f = parts_aside w (has_legacy_by w f) (bridge_aside w [] (first_aside w f))
 
 -- it stays a bridge where its legacy part answers in one space or both
 stays_a_bridge : map (λ command. is_bridge (taken_by with_vga (adapter_behind command))) (0x0003 ∷ 0x0001 ∷ 0x0002 ∷ []) ≡ true ∷ true ∷ true ∷ []
@@ -103,8 +103,8 @@ has_isa_enable = (with_isa_enable, (0, lit< tt, refl), refl, refl)
 unnumbered_leaves_it : (h : Function) → IsTakenAs unnumbered_counts [] with_isa_enable h → h ≡ with_isa_enable
 unnumbered_leaves_it h taken =
     let same : taken.g ≡ with_isa_enable = left_where _ with_isa_enable _ taken.g taken.power (λ holds. cc holds.0) in
-    left_where _ with_isa_enable _ h
-    (subst (λ g. IsWhere (IsTrue (may_have_parts_by unnumbered_counts (bridge_aside unnumbered_counts [] g)) × HasNoOwnFaultBefore Place (bridge_aside unnumbered_counts [] g)) (bridge_aside unnumbered_counts [] g) (parts_aside unnumbered_counts (has_legacy_by unnumbered_counts with_isa_enable) (bridge_aside unnumbered_counts [] g)) h) same taken.parts)
+    taken.header ∙ left_where _ with_isa_enable _ taken.k
+    (subst (λ g. IsWhere (IsTrue (may_have_parts_by unnumbered_counts (bridge_aside unnumbered_counts [] g)) × HasNoOwnFaultBefore Place (bridge_aside unnumbered_counts [] g)) (bridge_aside unnumbered_counts [] g) (parts_aside unnumbered_counts (has_legacy_by unnumbered_counts with_isa_enable) (bridge_aside unnumbered_counts [] g)) taken.k) same taken.parts)
     (λ holds. absurd (holds.1 (IsaEnable (slot 0 1 0)) (lit< tt) has_isa_enable))
 
 number_of_isa_enable : fault_number (IsaEnable (slot 0 1 0)) ≡ 53

@@ -2,16 +2,18 @@
 use Rattle.std.specs.Prelude.{◌≡◌, ◌⊎◌, ◌↔◌}
 use Rattle.model_spec.specs.Words as model
 use Rattle.pci_model.specs.WordsValue.{vga_value}
-use Rattle.pciplan_cli.specs.declared.model_words.Name.{Name}
-use Rattle.pciplan_cli.specs.declared.model_words.Name.TheVariants as names
+use Rattle.pciplan_lists.specs.declared.model_words.Name.{Name}
+use Rattle.pciplan_lists.specs.declared.model_words.Name.TheVariants as names
 
 abbrev pub name_value : Name → model.Name
+name_value names.Cardbus = model.Cardbus
 name_value names.Ide = model.Ide
 name_value names.Power = model.Power
 name_value names.Reset = model.Reset
 name_value names.Subtractive = model.Subtractive
 name_value names.Unnumbered = model.Unnumbered
 name_value (names.Legacy vga) = model.Legacy (vga_value vga)
+name_value names.Windows = model.Windows
 
 -- what is named counts, too, and didn't before
 pub record IsNameAdded (old new : model.Words) (name : model.Name) : Type 0 where

@@ -7,15 +7,15 @@ use Rattle.std.proofs.lemmas.List.{append_assoc, length-append, get_or_append_le
 use Rattle.std.proofs.lemmas.List.Elements.{Contains-append_left, Contains-append_right, Contains-append_cases}
 use Rattle.std.proofs.lemmas.List.Quantifiers.{all_pairs_push}
 use Rattle.given_spec.specs.Words.{VgaWord, Vga, Vga16}
-use Rattle.model_spec.specs.Words.{Words, Name, Ide, Power, Reset, Subtractive, Unnumbered, Legacy, name_text, IsCounted, AreNames, no_words}
+use Rattle.model_spec.specs.Words.{Words, Name, Cardbus, Ide, Power, Reset, Subtractive, Unnumbered, Legacy, Windows, name_text, IsCounted, AreNames, no_words}
 use Rattle.pci_model.specs.WordsValue.{vga_value, words_value}
 use Rattle.pci_model.specs.declared.words.VgaWord.{VgaWord as DeclaredVga}
 use Rattle.pci_model.specs.declared.words.Words as declared
 use Rattle.pciplan_lists.specs.Joined.{AreJoined, behind}
 use Rattle.pciplan_lists.proofs.Joined.{IsRead, read_bad, read_more, read_all, read_only, read_none}
 use Rattle.pciplan_lists.proofs.Without.{Without, without_one}
-use Rattle.pciplan_cli.specs.ModelWords.{IsNameWord, IsWordList, IsModelWord}
-use Rattle.pciplan_cli.specs.NameWords.{IsNameAdded, IsTooMuch}
+use Rattle.pciplan_lists.specs.ModelWords.{IsNameWord, IsWordList, IsModelWord}
+use Rattle.pciplan_lists.specs.NameWords.{IsNameAdded, IsTooMuch}
 
 -- ---- a name has no comma
 
@@ -26,6 +26,7 @@ no_comma (x ∷ text) all =
     without_one 44 x text (λ same. omega (arith, same, ltb-true 44 x parts.0)) (no_comma text parts.1)
 
 all_above : (n : Name) → list_all (λ b. nat_lt 44 b) (name_text n) ≡ true
+all_above Cardbus = refl
 all_above Ide = refl
 all_above Power = refl
 all_above Reset = refl
@@ -33,6 +34,7 @@ all_above Subtractive = refl
 all_above Unnumbered = refl
 all_above (Legacy Vga) = refl
 all_above (Legacy Vga16) = refl
+all_above Windows = refl
 
 pub name_without_comma : (word : List ℕ) (n : Name) → IsNameWord word n → Without 44 word
 name_without_comma word n is = subst (λ w. Without 44 w) (sym is) (no_comma (name_text n) (all_above n))
@@ -52,13 +54,20 @@ same_vga (Some v) b h = sym ((h v).0 refl)
 
 pub same_words : (w v : Words) → ((n : Name) → IsCounted w n ↔ IsCounted v n) → w ≡ v
 same_words w v h = λ i. record {
+  cardbus = same_flag w.cardbus v.cardbus (h Cardbus) i;
   ide = same_flag w.ide v.ide (h Ide) i;
   power = same_flag w.power v.power (h Power) i;
   reset = same_flag w.reset v.reset (h Reset) i;
   subtractive = same_flag w.subtractive v.subtractive (h Subtractive) i;
   unnumbered = same_flag w.unnumbered v.unnumbered (h Unnumbered) i;
   vga = same_vga w.vga v.vga (λ x. h (Legacy x)) i;
+  windows = same_flag w.windows v.windows (h Windows) i;
 }
+
+-- ---- what counts already can't be named again
+
+pub counts_already : (w : Words) (n : Name) → IsCounted w n → IsTooMuch w n
+counts_already w n is = record { other = n; counted = is; never = λ v a b. refl }
 
 -- ---- one legacy word alone counts
 
@@ -84,12 +93,14 @@ code_too_much w y some = legacy_too_much (words_value w) (option_map vga_value w
 -- ---- names that were read, and the words that count by them
 
 nothing_counts : (n : Name) → IsCounted no_words n → ⊥
+nothing_counts Cardbus is = false≢true is
 nothing_counts Ide is = false≢true is
 nothing_counts Power is = false≢true is
 nothing_counts Reset is = false≢true is
 nothing_counts Subtractive is = false≢true is
 nothing_counts Unnumbered is = false≢true is
 nothing_counts (Legacy v) is = cc is
+nothing_counts Windows is = false≢true is
 
 none_counted : AreNames [] no_words
 none_counted = record {
@@ -210,6 +221,7 @@ words_only word w taken v list =
 
 -- each name has another first letter
 first_letter : (n : Name) → get_or (name_text n) 0 0 ≢ 97
+first_letter Cardbus = omega arith
 first_letter Ide = omega arith
 first_letter Power = omega arith
 first_letter Reset = omega arith
@@ -217,8 +229,10 @@ first_letter Subtractive = omega arith
 first_letter Unnumbered = omega arith
 first_letter (Legacy Vga) = omega arith
 first_letter (Legacy Vga16) = omega arith
+first_letter Windows = omega arith
 
 some_letter : (n : Name) (rest : List ℕ) → get_or (name_text n ++ rest) 0 0 ≡ get_or (name_text n) 0 0
+some_letter Cardbus rest = refl
 some_letter Ide rest = refl
 some_letter Power rest = refl
 some_letter Reset rest = refl
@@ -226,6 +240,7 @@ some_letter Subtractive rest = refl
 some_letter Unnumbered rest = refl
 some_letter (Legacy Vga) rest = refl
 some_letter (Legacy Vga16) rest = refl
+some_letter Windows rest = refl
 
 no_all : (n : Name) (word rest : List ℕ) → IsNameWord word n → 44 ∷ codes "all" ≡ 44 ∷ (word ++ rest) → ⊥
 no_all n word rest is parts =

@@ -2,8 +2,8 @@ use Rattle.std.proofs.Common.{◌≡◌, ◌≢◌, List, ℕ, Bool, false, code
 use Rattle.std.specs.Str.{bytes_eq}
 use Rattle.std.proofs.lemmas.Slice.Eq.{slice_eq-Decides}
 use Rattle.std.proofs.lemmas.Bool.Decides.{Decides-eqb}
-use Rattle.pciplan_cli.proofs.ModelWords.{listed_alone}
-use Rattle.pciplan_cli.proofs.model_words.words_of_list.Goals as goal
+use Rattle.pciplan_lists.proofs.ModelWords.{listed_alone}
+use Rattle.pciplan_lists.proofs.model_words.words_of_list.Goals as goal
 
 other_word : (word : List ℕ) (equal : Bool) → equal ≡ bytes_eq word (codes "all") → equal ≡ false → word ≢ codes "all"
 other_word word equal is other same =

@@ -2,11 +2,11 @@
 ghost use Rattle.std.specs.Prelude.{◌≡◌, ◌↔◌, Some, true, false, option_map, IsSomeAnd, IsTrue, IsFalse, MatchOption};
 ghost use Rattle.model_spec.specs.Words as model;
 ghost use Rattle.pci_model.specs.WordsValue.{words_value};
-ghost use Rattle.pciplan_cli.specs.ModelWords.{IsModelWord, IsWordList};
-ghost use Rattle.pciplan_cli.specs.NameWords.{name_value, IsNameAdded, IsTooMuch};
+ghost use Rattle.pciplan_lists.specs.ModelWords.{IsModelWord, IsWordList};
+ghost use Rattle.pciplan_lists.specs.NameWords.{name_value, IsNameAdded, IsTooMuch};
 
+use crate::part::first_of;
 use pci_model::words::{VgaWord, Words};
-use pciplan_lists::part::first_of;
 
 /// The word for every word but `vga16`.
 const ALL: &str = "all";
@@ -14,12 +14,14 @@ const ALL: &str = "all";
 /// What one word of a list names.
 #[derive(Clone, Copy)]
 enum Name {
+    Cardbus,
     Ide,
     Power,
     Reset,
     Subtractive,
     Unnumbered,
     Legacy(VgaWord),
+    Windows,
 }
 
 /// What a word names; None of any other word.
@@ -27,7 +29,9 @@ fn name_of(word: &str) -> Option<Name>
     ensures { (n : model.Name) → (option_map name_value result ≡ Some n)
         ↔ (word.now ≡ model.name_text n) }
 {
-    if word == "ide" {
+    if word == "cardbus" {
+        Some(Name::Cardbus)
+    } else if word == "ide" {
         Some(Name::Ide)
     } else if word == "power" {
         Some(Name::Power)
@@ -41,6 +45,8 @@ fn name_of(word: &str) -> Option<Name>
         Some(Name::Legacy(VgaWord::Vga))
     } else if word == "vga16" {
         Some(Name::Legacy(VgaWord::Vga16))
+    } else if word == "windows" {
+        Some(Name::Windows)
     } else {
         None
     }
@@ -64,6 +70,7 @@ fn adds(words: &mut Words, name: Name) -> bool
     ensures much { IsFalse result → IsTooMuch (words_value words.old) (name_value name) }
 {
     match name {
+        Name::Cardbus => sets(&mut words.cardbus),
         Name::Ide => sets(&mut words.ide),
         Name::Power => sets(&mut words.power),
         Name::Reset => sets(&mut words.reset),
@@ -76,6 +83,7 @@ fn adds(words: &mut Words, name: Name) -> bool
             }
             is_none
         }
+        Name::Windows => sets(&mut words.windows),
     }
 }
 
@@ -88,12 +96,14 @@ fn listed_words(list: &str) -> Option<Words>
         → IsSomeAnd result (λ found. words_value found ≡ words) }
 {
     let mut words = Words {
+        cardbus: false,
         ide: false,
         power: false,
         reset: false,
         subtractive: false,
         unnumbered: false,
         vga: None,
+        windows: false,
     };
     let mut left = Some(list);
     'parts: while let Some(text) = left {
@@ -120,12 +130,14 @@ pub fn words_of_list(list: &str) -> Option<Words>
 {
     if list == ALL {
         return Some(Words {
+            cardbus: true,
             ide: true,
             power: true,
             reset: true,
             subtractive: true,
             unnumbered: true,
             vga: Some(VgaWord::Vga),
+            windows: true,
         });
     }
     listed_words(list)

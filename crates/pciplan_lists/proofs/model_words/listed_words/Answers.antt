@@ -2,9 +2,9 @@ use Rattle.std.proofs.Common.{◌∷◌, ◌∙◌, ap, subst}
 use Rattle.std.specs.Prelude.{option_map}
 use Rattle.pci_model.specs.WordsValue.{words_value}
 use Rattle.pciplan_lists.specs.Joined.{behind}
-use Rattle.pciplan_cli.specs.NameWords.{name_value}
-use Rattle.pciplan_cli.proofs.ModelWords.{IsTakenTo, no_name, too_much, taken_more, words_are, words_only}
-use Rattle.pciplan_cli.proofs.model_words.listed_words.Goals as goal
+use Rattle.pciplan_lists.specs.NameWords.{name_value}
+use Rattle.pciplan_lists.proofs.ModelWords.{IsTakenTo, no_name, too_much, taken_more, words_are, words_only}
+use Rattle.pciplan_lists.proofs.model_words.listed_words.Goals as goal
 
 pub returns-in_default-name_of-clause-word : goal.returns-in_default-name_of-clause-word
 returns-in_default-name_of-clause-word c = λ words list.

@@ -1,8 +1,8 @@
 use Rattle.std.proofs.Common.{◌∷◌, length}
 use Rattle.pci_model.specs.WordsValue.{words_value}
 use Rattle.pciplan_lists.specs.Joined.{behind}
-use Rattle.pciplan_cli.proofs.ModelWords.{IsTakenTo}
-use Rattle.pciplan_cli.proofs.model_words.listed_words.Given as goal
+use Rattle.pciplan_lists.proofs.ModelWords.{IsTakenTo}
+use Rattle.pciplan_lists.proofs.model_words.listed_words.Given as goal
 
 abbrev pub invariant-parts : goal.invariant-parts
 invariant-parts l = IsTakenTo (44 ∷ l.fn.list) (behind l.left) (words_value l.words)
