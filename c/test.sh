@@ -94,6 +94,20 @@ for memory in pciplan_memory pciplan_fixed_memory; do
         "$here/test/pciplan_test.c" "$here/memory/$memory.c" "$library"
     told "$memory: " "$built/$memory"
 done
+# The library lists the faults of the program's own cases as the program does.
+cases=$here/../crates/pciplan
+run_cases() {
+    (cd "$built/cases" && awk -f "$cases/cases.awk" "$1")
+}
+mkdir "$built/cases"
+for memory in pciplan_memory pciplan_fixed_memory; do
+    compiled cases/pciplan -Wl,--wrap=rattle_alloc,--wrap=rattle_realloc \
+        "$here/test/pciplan_faults_test.c" "$here/memory/$memory.c" "$library"
+    for of in faults given_reasons host_ranges models vga; do
+        awk -f "$here/test/faults_cases.awk" "$cases/cases/$of.txt" >"$built/cases/$of.txt"
+        told "$memory: faults of " run_cases "$of.txt"
+    done
+done
 compiled used -Wl,--wrap=rattle_alloc,--wrap=rattle_realloc \
     "$here/test/pciplan_memory_test.c" "$built/memory.o" "$library"
 told '' "$built/used"

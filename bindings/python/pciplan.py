@@ -1,4 +1,4 @@
-"""Verdicts, plans and settlings of PCI dumps, by the shared library of pciplan.
+"""Verdicts, lists of faults, plans and settlings of PCI dumps, by the shared library of pciplan.
 
     >>> import pciplan
     >>> pciplan.check(dump, probe)
@@ -9,8 +9,8 @@
 Dump and probe are bytes in the form that docs/FORMATS.md tells. `text` makes them of configuration spaces. `roots` are the
 root buses, each above the one before it.
 
-A `no` of `check` is a value. `plan` and `settle` raise Fault where there is none. A text or a word that is none raises
-Refused, and want of memory raises MemoryError.
+A `no` of `check` and `faults` is a value. `plan` and `settle` raise Fault where there is none. A text or a word that is none
+raises Refused, and want of memory raises MemoryError.
 
 The library is `libpciplan.so.0` as the dynamic linker finds it, or the file that PCIPLAN_LIBRARY names in the environment.
 """
@@ -26,6 +26,8 @@ _bytes = ctypes.c_char_p
 
 # PCIPLAN_LINE of the header: so long a line holds every answer.
 _LINE = 96
+# A list of faults that is longer is asked for twice.
+_LIST = 4096
 # A function has 16 writes at most, and 841 bytes of a dump at least: its slot, 16 rows of 52 bytes, and an empty line that
 # the last may lack.
 _WRITES, _FUNCTION = 16, 841
@@ -44,7 +46,11 @@ class _Text(ctypes.Structure):
     _fields_ = [('at', _bytes), ('len', _size)]
 
 
-class _Words(ctypes.Structure):
+class _FaultsWords(ctypes.Structure):
+    _fields_ = [(name, _Text) for name in ('model', 'host_io', 'host_mem')] + [('why', ctypes.c_uint8)]
+
+
+class _SettleWords(ctypes.Structure):
     _fields_ = [(name, _Text) for name in ('io', 'mem', 'pref', 'fixed')] + [('anew', ctypes.c_uint8)]
 
 
@@ -64,8 +70,9 @@ def _load():
     line = [_bytes, _size, _size_at]
     library.pciplan_check.argtypes = texts + line
     library.pciplan_plan.argtypes = texts + [ctypes.POINTER(_Pools)] + writes + line
-    library.pciplan_settle.argtypes = texts + [ctypes.POINTER(_Words)] + writes + line
-    for call in (library.pciplan_check, library.pciplan_plan, library.pciplan_settle):
+    library.pciplan_settle.argtypes = texts + [ctypes.POINTER(_SettleWords)] + writes + line
+    library.pciplan_faults.argtypes = texts + [ctypes.POINTER(_FaultsWords)] + line
+    for call in (library.pciplan_check, library.pciplan_faults, library.pciplan_plan, library.pciplan_settle):
         call.restype = ctypes.c_uint8
     return library
 
@@ -81,6 +88,15 @@ Plan.__doc__ = """Writes in the order in which they are made. After `safe_from` 
 
 class Verdict(namedtuple('Verdict', 'yes line')):
     """What `check` answers: whether it is a yes, and its line, as 'no 58 Orphan 40:00.0'. A no is false."""
+
+    __slots__ = ()
+
+    def __bool__(self):
+        return self.yes
+
+
+class Listing(namedtuple('Listing', 'yes text')):
+    """What `faults` answers: whether it is a yes, and its text, which is `yes` or has the faults. A list of faults is false."""
 
     __slots__ = ()
 
@@ -108,6 +124,22 @@ def check(dump, probe, roots=(0,)):
     return Verdict(status == 0, _said(status, line, used))
 
 
+def faults(dump, probe, roots=(0,), model='', host_io='', host_mem='', why=True):
+    """All faults of a dump and its probe, each with its reason where `why` is true.
+
+    model has the words by which functions are taken, as 'power,reset' or 'all'. host_io and host_mem are the lists of what the
+    host sends to its root buses, as '0-cf7,d00-ffff'. A word that is empty isn't said. They are those of the command line.
+    """
+    words = _FaultsWords(*_words(model, host_io, host_mem), why)
+    room = _LIST
+    while True:
+        text, used = ctypes.create_string_buffer(room), _size()
+        status = _library.pciplan_faults(*_texts(dump, probe, roots), ctypes.byref(words), text, room, ctypes.byref(used))
+        if status != 4:
+            return Listing(status == 0, _said(status, text, used))
+        room = used.value
+
+
 def plan(dump, probe, io, mem, pref, roots=(0,)):
     """The plan that places all anew in three pools, each (first, last)."""
     return _written(_library.pciplan_plan, dump, probe, roots, _Pools(*io, *mem, *pref))
@@ -119,8 +151,8 @@ def settle(dump, probe, io='none', mem='none', pref='none', fixed='', anew=False
     io, mem and pref are lists as '1000-ffff' or '00:e0000000-e7ffffff,e8000000-e8ffffff'. fixed lists the slots of which no
     register may be written, as '00:1f.0,01:00.0'. Where anew is true, nothing stays where it is.
     """
-    words = [_Text(word.encode(), len(word.encode())) for word in (io, mem, pref, fixed)]
-    return _written(_library.pciplan_settle, dump, probe, roots, _Words(*words, anew))
+    words = _SettleWords(*_words(io, mem, pref, fixed), anew)
+    return _written(_library.pciplan_settle, dump, probe, roots, words)
 
 
 def text(images):
@@ -136,13 +168,17 @@ def text(images):
     return ''.join(parts).encode()
 
 
+def _words(*words):
+    return [_Text(word.encode(), len(word.encode())) for word in words]
+
+
 def _texts(dump, probe, roots):
     roots = bytes(roots)
     return dump, len(dump), probe, len(probe), roots, len(roots)
 
 
 def _said(status, line, used):
-    """What stands in the line at the statuses 0 to 2. The line is long enough, so 4 doesn't come for its sake."""
+    """What stands in the line or text at the statuses 0 to 2. Each is long enough here, so 4 doesn't come for its sake."""
     if status > 2:
         raise MemoryError('pciplan')
     said = line.raw[:used.value].decode().rstrip('\n')

@@ -53,6 +53,50 @@ class Machines(unittest.TestCase):
         self.assertEqual(got, pciplan.Plan([], 0))
 
 
+class Faults(unittest.TestCase):
+    SLOTS = (0, 1, 0), (0, 2, 0)
+    CLASH = '61 Clash bus 00 mem 00000000e0000000 00:01.0 10 00:02.0 10'
+    REASON = CLASH + """
+  first 00:01.0 10 bar mem 00000000e0000000-00000000e0000fff 4K
+  second 00:02.0 10 bar mem 00000000e0000000-00000000e0000fff 4K
+  shared 00000000e0000000-00000000e0000fff 4K"""
+
+    def board(self):
+        return [pciplan.text(dict.fromkeys(self.SLOTS, it)) for it in function(0xe0000000, 0x1000)]
+
+    def test_lists(self):
+        dump, probe = self.board()
+        got = pciplan.faults(dump, probe)
+        self.assertEqual((got, bool(got)), ((False, self.REASON), False))
+        self.assertEqual(pciplan.faults(dump, probe, why=False), (False, self.CLASH))
+        self.assertEqual(pciplan.faults(dump, probe, model='all', host_io='none', why=False), (False, self.CLASH))
+        outside = '63 Outside 00:01.0 10 mem 00000000e0000000\n63 Outside 00:02.0 10 mem 00000000e0000000'
+        self.assertEqual(pciplan.faults(dump, probe, host_mem='none', why=False), (False, outside))
+
+    def test_machines(self):
+        for name, roots in ('old', (0,)), ('desk', (0,)), ('port', (0,)), ('roots', (0, 0x40)):
+            with self.subTest(name):
+                dump, probe = ((MACHINES / (name + kind)).read_bytes() for kind in ('.dump', '.probe'))
+                got = pciplan.faults(dump, probe, roots, why=False)
+                verdict = pciplan.check(dump, probe, roots)
+                self.assertEqual(got.yes, verdict.yes)
+                self.assertIn(verdict.line.split(' ', 1)[-1], got.text.split('\n'))
+                if verdict:
+                    self.assertEqual(pciplan.faults(dump, probe, roots, model='all'), (True, 'yes'))
+
+    def test_words(self):
+        dump, probe = ((MACHINES / ('desk' + kind)).read_bytes() for kind in ('.dump', '.probe'))
+        got = pciplan.faults(dump, probe, model='vga', why=False)
+        self.assertEqual(got, (False, '61 Clash bus 00 io 000013b0 00:02.0 3e 00:03.0 1c'))
+
+    def test_long_list(self):
+        """Each of 32 functions clashes with the first, so that the list is longer than the first room for it."""
+        board = [pciplan.text({(0, device, 0): it for device in range(32)}) for it in function(0xe0000000, 0x1000)]
+        got = pciplan.faults(*board).text
+        self.assertGreater(len(got), 4096)
+        self.assertEqual((len(got.split('\n')), got.count('61 Clash')), (4 * 31, 31))
+
+
 class NoAnswer(unittest.TestCase):
     def test_faults(self):
         with self.assertRaises(pciplan.Fault) as no:
@@ -69,6 +113,12 @@ class NoAnswer(unittest.TestCase):
                 ('probe: 5 BadLine 2', pciplan.check, [b'', b'00:00.0\nxx']),
                 ('root', pciplan.check, [b'', b'', ()]),
                 ('root', pciplan.check, [b'', b'', (3, 3)]),
+                ('root', pciplan.faults, [b'', b'', (3, 3), 'any']),
+                ('model', pciplan.faults, [b'', b'', (0,), 'power,', '-']),
+                ('model', pciplan.faults, [b'', b'', (0,), '\u00e9']),
+                ('host io', pciplan.faults, [b'', b'', (0,), '', '2-1', '-']),
+                ('host mem', pciplan.faults, [b'', b'', (0,), '', '', '01:1-2']),
+                ('dump: 5 BadLine 2', pciplan.faults, [b'00:00.0\nxx', b'']),
                 ('pool io', pciplan.settle, [b'', b'', 'g', 'g']),
                 ('pool mem', pciplan.settle, [b'', b'', 'none', '\u00e9']),
                 ('pool pref', pciplan.settle, [b'', b'', 'none', 'none', '']),

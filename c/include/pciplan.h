@@ -1,5 +1,5 @@
-/* The verdict, the plan and the settling of pciplan, and the accesses that put these onto a machine, from C: link
-   crates/pciplan_c/out/libpciplan_c.a, which `rt lib` makes there, or libpciplan.a or libpciplan.so.0, which
+/* The verdict, the list of faults, the plan and the settling of pciplan, and the accesses that put these onto a machine, from
+   C: link crates/pciplan_c/out/libpciplan_c.a, which `rt lib` makes there, or libpciplan.a or libpciplan.so.0, which
    `install.sh --library` makes of it and of c/memory/pciplan_memory.c, c/processor and c/version.
 
    The library holds no state, keeps nothing between calls, starts no thread and touches no file. Besides memcpy, memmove,
@@ -12,10 +12,10 @@
      CMPXCHG16B). pciplan_supported says whether the processor has them. Firmware switches SSE on first (CR0.EM clear,
      CR0.MP set, CR4.OSFXSR set), or the first call is an invalid opcode.
      `rt lib --backend rattle --cpu x86-64` builds it for every x86-64 processor; then pciplan_supported needn't be asked.
-   - Stack: 32 KB for each call, 224 KB for pciplan_settle, which keeps tables of all buses there. 128 bytes below the
-     stack pointer are in use: what interrupts on the same stack leaves them alone (firmware is built with -mno-red-zone
-     for that; this library isn't). In a build with `--backend rattle` nothing was found that does so, and pciplan_plan
-     needs 80 KB (docs/C.md).
+   - Stack: 32 KB for each call, but 64 KB for pciplan_faults, and 224 KB for pciplan_settle, which keeps tables of all
+     buses there. 128 bytes below the stack pointer are in use: what interrupts on the same stack leaves them alone
+     (firmware is built with -mno-red-zone for that; this library isn't). In a build with `--backend rattle` nothing was
+     found that does so, and pciplan_plan needs 80 KB (docs/C.md).
    - Memory: a check holds some 340 bytes a function at once, a plan some 1,860 and 17 KB more, a settling up to 200 KB
      more than a plan; lists grow by doubling. The 256 KB of c/memory/pciplan_fixed_memory.c hold a check of 512 functions
      or a plan of 128, also where these stand on one bus, each with six BARs and a ROM, or are bridges in a row, or on one
@@ -26,7 +26,8 @@
 
    What the caller has to uphold, which nothing checks: each pointer is to as many bytes as its length says, and isn't
    null, even where the length is 0; they stay as they are during the call; what is written to (line, line_used,
-   writes, writes_used, safe_from, registers, registers_used, access) overlaps nothing else that is handed in. */
+   text, text_used, writes, writes_used, safe_from, registers, registers_used, access) overlaps nothing else that is handed
+   in. */
 #ifndef PCIPLAN_H
 #define PCIPLAN_H
 
@@ -50,15 +51,17 @@ uint32_t pciplan_version(void);
 uint8_t pciplan_supported(void);
 
 enum pciplan_status {
-    PCIPLAN_YES = 0,     /* check: both texts list the same slots, and their system is sound; plan and settle: it is done */
-    PCIPLAN_NO = 1,      /* that isn't so, and a fault that is there is named */
-    PCIPLAN_REFUSED = 2, /* the roots are no list of roots, else a word of settle has no meaning, else the dump is no text,
-                            else the probe is none */
+    PCIPLAN_YES = 0,     /* check, faults: both texts list the same slots, and their system is sound; plan and settle: it is
+                            done */
+    PCIPLAN_NO = 1,      /* that isn't so, and a fault that is there is named; faults: each of them is */
+    PCIPLAN_REFUSED = 2, /* the roots are no list of roots, else a word of faults or settle has no meaning, else the dump is
+                            no text, else the probe is none */
     PCIPLAN_MEMORY = 3,  /* a growth was refused */
-    PCIPLAN_SHORT = 4    /* line or writes is too short */
+    PCIPLAN_SHORT = 4    /* line, text or writes is too short */
 };
 
-/* So long a line holds every answer of pciplan_check, of pciplan_plan and of pciplan_settle. */
+/* So long a line holds every answer of pciplan_check, of pciplan_plan and of pciplan_settle, and every message of
+   pciplan_faults. */
 #define PCIPLAN_LINE 96
 
 /* Judges the texts of a dump and of its probe. roots are the buses on which the host's accesses start, each above the
@@ -73,6 +76,39 @@ uint8_t pciplan_check(const uint8_t *dump, size_t dump_len,
                       const uint8_t *probe, size_t probe_len,
                       const uint8_t *roots, size_t roots_len,
                       uint8_t *line, size_t line_len, size_t *line_used);
+
+/* Bytes that lie in memory. */
+struct pciplan_text {
+    const uint8_t *at;
+    size_t len;
+};
+
+/* What is given to pciplan_faults beside the texts, in words as on the command line (docs/FORMATS.md). A word of no byte isn't
+   said.
+
+   model has the words by which functions are taken, as "power,reset" or "all". host_io and host_mem list the ranges that the
+   host sends to its root buses: "none", or ranges joined by commas, each "A-B" of all root buses or "bb:A-B" of one, as
+   "0-cf7,d00-ffff". Where a list isn't said, the host sends all addresses to each root bus. why is 0 where no reasons are
+   told, else they stand behind each fault. */
+struct pciplan_faults_words {
+    struct pciplan_text model, host_io, host_mem;
+    uint8_t why;
+};
+
+/* Lists all faults of the texts of a dump and of its probe.
+
+   At YES "yes" with its line end stands at the front of text, at NO the faults: just what the program prints by `faults`, with
+   `--model`, `--host-io`, `--host-mem` and `--why` as words say. At REFUSED a message without a line end stands there: "root",
+   else "model", "host io" or "host mem" for the first word without a meaning, else a message of pciplan_check. *text_used is
+   its length, and what follows it in text isn't changed.
+
+   At MEMORY nothing is changed. At SHORT text isn't, and *text_used, above text_len, is the length that is needed. So a first
+   call with text_len 0 asks for the length; the list is made in both. */
+uint8_t pciplan_faults(const uint8_t *dump, size_t dump_len,
+                       const uint8_t *probe, size_t probe_len,
+                       const uint8_t *roots, size_t roots_len,
+                       const struct pciplan_faults_words *words,
+                       uint8_t *text, size_t text_len, size_t *text_used);
 
 /* A pool of addresses for I/O, for memory and for prefetchable memory, both ends of each inclusive. */
 struct pciplan_pools {
@@ -109,12 +145,6 @@ uint8_t pciplan_plan(const uint8_t *dump, size_t dump_len,
                      struct pciplan_write *writes, size_t writes_len, size_t *writes_used,
                      size_t *safe_from,
                      uint8_t *line, size_t line_len, size_t *line_used);
-
-/* Bytes that lie in memory. */
-struct pciplan_text {
-    const uint8_t *at;
-    size_t len;
-};
 
 /* What is asked of pciplan_settle, in words as on the command line (docs/FORMATS.md).
 

@@ -1,5 +1,5 @@
-/* Measures how much stack a check, a plan and a settling of a sound machine use, and what it starts from: pciplan_stack_test
-   DUMP PROBE. Each runs on a stack of its own, whose bytes were painted before. */
+/* Measures how much stack a check, a list of faults, a plan and a settling of a sound machine use, and what it starts from:
+   pciplan_stack_test DUMP PROBE. Each runs on a stack of its own, whose bytes were painted before. */
 #define _XOPEN_SOURCE 700
 #include <stdio.h>
 #include <stdlib.h>
@@ -15,12 +15,15 @@ enum { STACK = 256 * 1024, TEXT = 1 << 22, WRITES = 4096, PAINT = 0xa5 };
 #ifndef PLAN_NEEDS
 #define PLAN_NEEDS (32 * 1024)
 #endif
+#ifndef FAULTS_NEEDS
+#define FAULTS_NEEDS (64 * 1024)
+#endif
 #ifndef SETTLE_NEEDS
 #define SETTLE_NEEDS (224 * 1024)
 #endif
 
 static _Alignas(16) uint8_t stack[STACK];
-static uint8_t dump[TEXT], probe[TEXT], line[PCIPLAN_LINE];
+static uint8_t dump[TEXT], probe[TEXT], line[PCIPLAN_LINE], list[1 << 16];
 static struct pciplan_write writes[WRITES];
 static size_t dump_len, probe_len;
 static const uint8_t root[] = {0};
@@ -52,14 +55,22 @@ static void check(void)
     status = pciplan_check(dump, dump_len, probe, probe_len, root, sizeof root, line, sizeof line, &used);
 }
 
+#define TEXT_OF(words) {(const uint8_t *)words, sizeof words - 1}
+
+/* Where the host sends no memory, each BAR and ROM that decodes memory is a fault, with its reason. */
+static void faults(void)
+{
+    const struct pciplan_faults_words given = {TEXT_OF("all"), TEXT_OF("0-ffff"), TEXT_OF("none"), 1};
+    size_t used;
+    status = pciplan_faults(dump, dump_len, probe, probe_len, root, sizeof root, &given, list, sizeof list, &used);
+}
+
 static void plan(void)
 {
     size_t count, safe_from, used;
     status = pciplan_plan(dump, dump_len, probe, probe_len, root, sizeof root, &pools, writes, WRITES, &count, &safe_from,
                           line, sizeof line, &used);
 }
-
-#define TEXT_OF(words) {(const uint8_t *)words, sizeof words - 1}
 
 static void settle_as(uint8_t anew)
 {
@@ -86,8 +97,8 @@ static void start(void)
     status = pciplan_start(dump, dump_len, writes, WRITES, &count);
 }
 
-/* The bytes of the stack that a call used, which has to answer YES. */
-static size_t stack_of(void (*call)(void))
+/* The bytes of the stack that a call used, which has to answer this. */
+static size_t stack_of(void (*call)(void), uint8_t answer)
 {
     size_t untouched = 0;
 
@@ -100,8 +111,8 @@ static size_t stack_of(void (*call)(void))
     makecontext(&callee, call, 0);
     if (swapcontext(&caller, &callee) != 0)
         stop("no context");
-    if (status != PCIPLAN_YES)
-        stop("another answer than yes");
+    if (status != answer)
+        stop("another answer");
     while (untouched < STACK && stack[untouched] == PAINT)
         untouched++;
     return STACK - untouched;
@@ -109,19 +120,21 @@ static size_t stack_of(void (*call)(void))
 
 int main(int count, char **words)
 {
-    size_t of_check, of_plan, of_settle, of_anew, of_start;
+    size_t of_check, of_faults, of_plan, of_settle, of_anew, of_start;
 
     if (count != 3)
         stop("usage: pciplan_stack_test DUMP PROBE");
     dump_len = text_of(words[1], dump);
     probe_len = text_of(words[2], probe);
-    of_check = stack_of(check);
-    of_plan = stack_of(plan);
-    of_settle = stack_of(settle);
-    of_anew = stack_of(settle_anew);
-    of_start = stack_of(start);
-    printf("a check used %zu bytes of stack, a plan %zu, a settling %zu, one of all anew %zu, a start %zu\n", of_check,
-           of_plan, of_settle, of_anew, of_start);
-    return of_check > CHECK_NEEDS || of_plan > PLAN_NEEDS || of_settle > SETTLE_NEEDS || of_anew > SETTLE_NEEDS ||
-           of_start > CHECK_NEEDS;
+    of_check = stack_of(check, PCIPLAN_YES);
+    of_faults = stack_of(faults, PCIPLAN_NO);
+    of_plan = stack_of(plan, PCIPLAN_YES);
+    of_settle = stack_of(settle, PCIPLAN_YES);
+    of_anew = stack_of(settle_anew, PCIPLAN_YES);
+    of_start = stack_of(start, PCIPLAN_YES);
+    printf("a check used %zu bytes of stack, a list of faults %zu, a plan %zu, a settling %zu, one of all anew %zu, ",
+           of_check, of_faults, of_plan, of_settle, of_anew);
+    printf("a start %zu\n", of_start);
+    return of_check > CHECK_NEEDS || of_faults > FAULTS_NEEDS || of_plan > PLAN_NEEDS || of_settle > SETTLE_NEEDS ||
+           of_anew > SETTLE_NEEDS || of_start > CHECK_NEEDS;
 }

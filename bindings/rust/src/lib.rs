@@ -1,4 +1,4 @@
-//! Verdicts, plans and settlings of PCI dumps, by the static library of pciplan.
+//! Verdicts, lists of faults, plans and settlings of PCI dumps, by the static library of pciplan.
 //!
 //! Dump and probe are bytes in the form that docs/FORMATS.md tells; [`text`] makes them of configuration spaces. `roots` are
 //! the root buses, each above the one before it.
@@ -50,6 +50,25 @@ pub struct Write {
     pub value: u32,
 }
 
+/// What is given to [`faults`] beside the texts, in words as on the command line. A word that is empty isn't said.
+#[derive(Clone, Copy, Debug)]
+pub struct Faults<'a> {
+    /// The words by which functions are taken, as `power,reset` or `all`.
+    pub model: &'a str,
+    /// The list of the I/O that the host sends to its root buses, as `0-cf7,d00-ffff`.
+    pub host_io: &'a str,
+    /// The list of the memory that it sends.
+    pub host_mem: &'a str,
+    /// Whether reasons are told behind each fault, which is so by default.
+    pub why: bool,
+}
+
+impl Default for Faults<'_> {
+    fn default() -> Self {
+        Faults { model: "", host_io: "", host_mem: "", why: true }
+    }
+}
+
 /// What is asked of [`settle`], in words as on the command line. `io`, `mem` and `pref` are `none` by default.
 #[derive(Clone, Copy, Debug)]
 pub struct Settle<'a> {
@@ -81,7 +100,7 @@ pub struct Plan {
 /// Why there is no answer, or the answer is no.
 #[derive(Clone, Debug, PartialEq, Eq)]
 pub enum Refusal {
-    /// It is a no, and the line names a fault that is there, as `no 72 NoRoom mem`.
+    /// It is a no, and the line names a fault that is there, as `no 72 NoRoom mem`. Of [`faults`] it is the list of all.
     No(String),
     /// A text or a word is none; the message is that of the program, as `dump: 5 BadLine 17`.
     Refused(String),
@@ -103,6 +122,8 @@ pub struct Slot {
 
 /// So long a line holds every answer: `PCIPLAN_LINE` of the header.
 const LINE: usize = 96;
+/// A list of faults that is longer is asked for twice.
+const LIST: usize = 4096;
 /// The version whose structs and calls these are: `PCIPLAN_VERSION` of the header. Its patch doesn't matter.
 const VERSION: u32 = 0x000500;
 /// So many writes a function has at most.
@@ -124,6 +145,33 @@ pub fn check(dump: &[u8], probe: &[u8], roots: &[u8]) -> Result<(), Refusal> {
     if status == 0 { Ok(()) } else { Err(line.refusal(status)) }
 }
 
+/// Lists all faults of a dump and its probe. `Ok` is a yes, and [`Refusal::No`] has the list.
+pub fn faults(dump: &[u8], probe: &[u8], roots: &[u8], asked: &Faults<'_>) -> Result<(), Refusal> {
+    be_usable()?;
+    let words = raw::FaultsWords {
+        model: word(asked.model),
+        host_io: word(asked.host_io),
+        host_mem: word(asked.host_mem),
+        why: asked.why.into(),
+    };
+    let mut list = vec![0; LIST];
+    loop {
+        let mut used = 0;
+        // SAFETY: as in `check`; what `words` points to lives as long as `asked`, and `list` is this function's own.
+        let status = unsafe {
+            raw::pciplan_faults(
+                dump.as_ptr(), dump.len(), probe.as_ptr(), probe.len(), roots.as_ptr(), roots.len(), &words,
+                list.as_mut_ptr(), list.len(), &mut used,
+            )
+        };
+        match status {
+            0 => return Ok(()),
+            4 => list.resize(used, 0),
+            _ => return Err(refusal(status, &list[..used.min(list.len())])),
+        }
+    }
+}
+
 /// Places all anew in three pools.
 pub fn plan(dump: &[u8], probe: &[u8], roots: &[u8], pools: &Pools) -> Result<Plan, Refusal> {
     written(dump.len(), |room| {
@@ -140,12 +188,11 @@ pub fn plan(dump: &[u8], probe: &[u8], roots: &[u8], pools: &Pools) -> Result<Pl
 
 /// Leaves what works where it is, and places the rest.
 pub fn settle(dump: &[u8], probe: &[u8], roots: &[u8], asked: &Settle<'_>) -> Result<Plan, Refusal> {
-    let text = |word: &str| raw::Text { at: word.as_ptr(), len: word.len() };
-    let words = raw::Words {
-        io: text(asked.io),
-        mem: text(asked.mem),
-        pref: text(asked.pref),
-        fixed: text(asked.fixed),
+    let words = raw::SettleWords {
+        io: word(asked.io),
+        mem: word(asked.mem),
+        pref: word(asked.pref),
+        fixed: word(asked.fixed),
         anew: asked.anew.into(),
     };
     written(dump.len(), |room| {
@@ -204,6 +251,21 @@ fn be_usable() -> Result<(), Refusal> {
     Ok(())
 }
 
+/// A word as C has it.
+fn word(word: &str) -> raw::Text {
+    raw::Text { at: word.as_ptr(), len: word.len() }
+}
+
+/// What a status other than 0 says. 4 doesn't come, as line, list and writes are long enough.
+fn refusal(status: u8, said: &[u8]) -> Refusal {
+    let said = || String::from_utf8_lossy(said).trim_end().into();
+    match status {
+        1 => Refusal::No(said()),
+        2 => Refusal::Refused(said()),
+        _ => Refusal::Memory,
+    }
+}
+
 /// The line of an answer, of which the first `used` bytes count.
 struct Line {
     bytes: [u8; LINE],
@@ -217,14 +279,8 @@ impl Default for Line {
 }
 
 impl Line {
-    /// What a status other than 0 says. 4 doesn't come, as line and writes are long enough.
     fn refusal(&self, status: u8) -> Refusal {
-        let said = || String::from_utf8_lossy(&self.bytes[..self.used]).trim_end().into();
-        match status {
-            1 => Refusal::No(said()),
-            2 => Refusal::Refused(said()),
-            _ => Refusal::Memory,
-        }
+        refusal(status, &self.bytes[..self.used])
     }
 }
 

@@ -8,7 +8,15 @@ pub struct Text {
 }
 
 #[repr(C)]
-pub struct Words {
+pub struct FaultsWords {
+    pub model: Text,
+    pub host_io: Text,
+    pub host_mem: Text,
+    pub why: u8,
+}
+
+#[repr(C)]
+pub struct SettleWords {
     pub io: Text,
     pub mem: Text,
     pub pref: Text,
@@ -23,6 +31,11 @@ extern "C" {
         dump: *const u8, dump_len: usize, probe: *const u8, probe_len: usize, roots: *const u8, roots_len: usize,
         line: *mut u8, line_len: usize, line_used: *mut usize,
     ) -> u8;
+    pub fn pciplan_faults(
+        dump: *const u8, dump_len: usize, probe: *const u8, probe_len: usize, roots: *const u8, roots_len: usize,
+        words: *const FaultsWords,
+        text: *mut u8, text_len: usize, text_used: *mut usize,
+    ) -> u8;
     pub fn pciplan_plan(
         dump: *const u8, dump_len: usize, probe: *const u8, probe_len: usize, roots: *const u8, roots_len: usize,
         pools: *const Pools,
@@ -31,7 +44,7 @@ extern "C" {
     ) -> u8;
     pub fn pciplan_settle(
         dump: *const u8, dump_len: usize, probe: *const u8, probe_len: usize, roots: *const u8, roots_len: usize,
-        words: *const Words,
+        words: *const SettleWords,
         writes: *mut Write, writes_len: usize, writes_used: *mut usize, safe_from: *mut usize,
         line: *mut u8, line_len: usize, line_used: *mut usize,
     ) -> u8;

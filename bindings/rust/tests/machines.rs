@@ -1,5 +1,5 @@
 //! The crate against the texts of this repository.
-use pciplan::{check, plan, settle, supported, text, version, Plan, Pools, Refusal, Settle, Slot, Write};
+use pciplan::{check, faults, plan, settle, supported, text, version, Faults, Plan, Pools, Refusal, Settle, Slot, Write};
 use std::{env, fs, path::PathBuf};
 
 /// A file of the repository, which `PCIPLAN_SOURCE` names where this crate doesn't stand in it.
@@ -45,6 +45,37 @@ fn verdicts() {
         };
         assert_eq!(got, wanted.trim_end(), "{name}");
     }
+}
+
+#[test]
+fn lists() {
+    let (dump, probe) = (read("machines/desk.dump"), read("machines/desk.probe"));
+    let list = |roots: &[u8], asked: Faults| faults(&dump, &probe, roots, &asked);
+    let alone = Faults { why: false, ..Faults::default() };
+    let no = |text: &str| Err(Refusal::No(text.into()));
+    assert_eq!(list(&[0], alone), no("52 VgaEnable 00:02.0\n52 VgaEnable 01:00.0"));
+    assert_eq!(list(&[0], Faults { model: "vga", ..alone }), no("61 Clash bus 00 io 000013b0 00:02.0 3e 00:03.0 1c"));
+    let (old, old_probe) = (read("machines/old.dump"), read("machines/old.probe"));
+    assert_eq!(faults(&old, &old_probe, &[0], &Faults { model: "all", ..Faults::default() }), Ok(()));
+    for (message, roots, asked) in [
+        ("root", &[3u8, 3][..], Faults { model: "any", ..alone }),
+        ("model", &[0], Faults { model: "power,", host_io: "-", ..alone }),
+        ("host io", &[0], Faults { host_io: "2-1", host_mem: "-", ..alone }),
+        ("host mem", &[0], Faults { host_mem: "01:1-2", ..alone }),
+    ] {
+        assert_eq!(list(roots, asked), Err(Refusal::Refused(message.into())));
+    }
+}
+
+#[test]
+fn long_list() {
+    // each of 32 functions clashes with the first, so that the list is longer than the first room for it
+    let image = space(&[(0, &[0x34, 0x12, 0x78, 0x56, 2]), (0x10, &[0, 0, 0, 0xe0])]);
+    let mask = space(&[(0x10, &[0, 0xf0, 0xff, 0xff])]);
+    let board = |it| text(&(0..32).map(|device| (Slot { bus: 0, device, function: 0 }, it)).collect());
+    let Err(Refusal::No(list)) = faults(&board(image), &board(mask), &[0], &Faults::default()) else { panic!("no list") };
+    assert!(list.len() > 4096);
+    assert_eq!((list.lines().count(), list.matches("61 Clash").count()), (4 * 31, 31));
 }
 
 #[test]

@@ -1,4 +1,4 @@
--- No line that says a verdict, or why there is none or why there are no writes, is longer than 96 bytes.
+-- No line that says a verdict, or why there is none, no writes or no list, is longer than 96 bytes.
 use Rattle.std.proofs.Common.{◌≡◌, ℕ, ◌+◌, ◌-◌, ◌^◌, ◌≤◌, ◌<◌, ◌++◌, length, replicate, refl, ap, arith, Some, codes}
 use Rattle.std.proofs.lemmas.List.{length-append, length-replicate}
 use Rattle.pci_spec.specs.Slot.{Slot}
@@ -18,7 +18,13 @@ use Rattle.pci_settle_writes.specs.declared.lack.SettleFault.{SettleFault}
 use Rattle.pci_settle_writes.specs.declared.lack.SettleFault.TheVariants as settle
 pub use Rattle.pciplan_held.proofs.Lengths.{refusal_short}
 use Rattle.pciplan_held.proofs.Lengths.{ended, fault_short, line_length, unread_short}
+use Rattle.pciplan_c.specs.FaultsWords.{faults_word_text}
+use Rattle.pciplan_c.specs.NoLists.{no_list_line, no_list_text}
 use Rattle.pciplan_c.specs.NoWrites.{no_writes_numbers, no_writes_text, settle_fault_numbers, settle_word_text}
+use Rattle.pciplan_c.specs.declared.faults_words.FaultsWord.{FaultsWord}
+use Rattle.pciplan_c.specs.declared.faults_words.FaultsWord.TheVariants.{Model, HostIo, HostMem}
+use Rattle.pciplan_c.specs.declared.no_list.NoList.{NoList}
+use Rattle.pciplan_c.specs.declared.no_list.NoList.TheVariants as no_list
 use Rattle.pciplan_c.specs.declared.no_writes.NoWrites.{NoWrites}
 use Rattle.pciplan_c.specs.declared.no_writes.NoWrites.TheVariants.{BadWord, Unread, NotPlanned, NotSettled}
 use Rattle.pciplan_c.specs.declared.settle_words.SettleWord.{SettleWord}
@@ -101,3 +107,14 @@ no_writes_short (NotSettled fault) few less =
     let short = settle_fault_short fault few less in
     let bytes = line_length (settle_fault_text fault) in
     omega (arith, short, bytes)
+
+-- ---- why there is no list of faults
+
+faults_word_short : (bad : FaultsWord) → length (faults_word_text bad) ≤ 96
+faults_word_short Model = let bytes : length (faults_word_text Model) ≡ 5 = refl in omega (arith, bytes)
+faults_word_short HostIo = let bytes : length (faults_word_text HostIo) ≡ 7 = refl in omega (arith, bytes)
+faults_word_short HostMem = let bytes : length (faults_word_text HostMem) ≡ 8 = refl in omega (arith, bytes)
+
+pub no_list_short : (why : NoList) → no_list_line why < 2 ^ 64 → length (no_list_text why) ≤ 96
+no_list_short (no_list.BadWord bad) less = faults_word_short bad
+no_list_short (no_list.Unread refusal) less = refusal_short refusal less

@@ -2,3 +2,4 @@ pub mod Lengths
 pub mod WordBytes
 pub mod Settlings
 pub mod Wants
+pub mod Listings

@@ -1,19 +1,24 @@
--- Words of lists and of slots are UTF-8, so bytes that aren't are no such words.
-use Rattle.std.proofs.Common.{◌≡◌, ℕ, zero, suc, ◌+◌, ◌/◌, ◌%◌, ◌<◌, nat_lt, List, [], ◌∷◌, ◌++◌, drop, length, codes, Option, None, Some, sym, ap, subst, arith, inl, inr}
-use Rattle.std.specs.Prelude.{IfSome}
+-- Words of lists, of slots and of what is taken are UTF-8, so bytes that aren't are no such words.
+use Rattle.std.proofs.Common.{◌≡◌, ℕ, zero, suc, ◌+◌, ◌/◌, ◌%◌, ◌<◌, nat_lt, Bool, true, false, List, [], ◌∷◌, ◌++◌, drop, length, codes, Option, None, Some, refl, sym, ap, subst, arith, inl, inr}
+use Rattle.std.specs.Prelude.{IfSome, ◌==◌}
+use Rattle.std.specs.List.{list_all}
 use Rattle.std.specs.Str.{IsUtf8, IsAscii}
 use Rattle.std.proofs.Math.Nat.{mod-lt}
-use Rattle.std.proofs.lemmas.Bool.{cases_lt, lt-ltb, le-ltb, cond-true, cond-false}
+use Rattle.std.proofs.lemmas.Bool.{and_parts, cases_lt, lt-ltb, ltb-true, le-ltb, cond-true, cond-false}
 use Rattle.std.proofs.lemmas.Str.{IsUtf8-append, IsUtf8-from_ascii, IsUtf8-nil}
 use Rattle.pci_spec.specs.Slot.{Slot}
 use Rattle.pci_spec.specs.Text.{hex_byte, hex_digit}
 use Rattle.pci_spec.specs.Line.{hex_number}
+use Rattle.given_spec.specs.Words.{Vga, Vga16}
+use Rattle.model_spec.specs.Words.{Words, Name, Cardbus, Ide, Power, Reset, Subtractive, Unnumbered, Legacy, Windows, name_text}
 use Rattle.pci_base.specs.declared.range.Range.{Range}
 use Rattle.pci_base.specs.declared.range.RootRange.{RootRange}
 use Rattle.pciplan_lists.specs.Joined.{AreJoined}
 use Rattle.pciplan_lists.specs.PoolWords.{IsAddressWord, IsPoolWord}
 use Rattle.pciplan_lists.specs.ListWords.{IsListWord, IsRangeWord, bus_text}
+use Rattle.pciplan_lists.specs.ModelWords.{IsModelWord, IsNameWord}
 use Rattle.pciplan_lists.specs.SlotWords.{IsSlotWord}
+use Rattle.pciplan_c.specs.FaultsWords.{HasNoRanges, HasNoWords}
 use Rattle.pciplan_c.specs.SettleWords.{HasNoList, HasNoSlots}
 
 one : (byte : ℕ) → byte < 128 → IsAscii (byte ∷ [])
@@ -90,6 +95,32 @@ list_utf8 : (word : List ℕ) (list : List RootRange) → IsListWord word list �
 list_utf8 word [] is = subst (λ w. IsUtf8 w) (sym is) none_utf8
 list_utf8 word (r ∷ more) is = behind_utf8 IsRangeWord range_utf8 word (r ∷ more) is
 
+-- ---- words by which functions are taken
+
+plain_utf8 : (text : List ℕ) → list_all (λ b. nat_lt b 128) text ≡ true → IsUtf8 text
+plain_utf8 [] all = IsUtf8-nil
+plain_utf8 (x ∷ text) all =
+    let parts = and_parts (nat_lt x 128) (list_all (λ b. nat_lt b 128) text) all in
+    before x text (ltb-true x 128 parts.0) (plain_utf8 text parts.1)
+
+all_plain : (n : Name) → list_all (λ b. nat_lt b 128) (name_text n) ≡ true
+all_plain Cardbus = refl
+all_plain Ide = refl
+all_plain Power = refl
+all_plain Reset = refl
+all_plain Subtractive = refl
+all_plain Unnumbered = refl
+all_plain (Legacy Vga) = refl
+all_plain (Legacy Vga16) = refl
+all_plain Windows = refl
+
+name_utf8 : (word : List ℕ) (n : Name) → IsNameWord word n → IsUtf8 word
+name_utf8 word n is = subst (λ w. IsUtf8 w) (sym is) (plain_utf8 (name_text n) (all_plain n))
+
+model_utf8 : (word : List ℕ) (w : Words) → IsModelWord word w → IsUtf8 word
+model_utf8 word w (inl all) = subst (λ t. IsUtf8 t) (sym all.0) (plain_utf8 (codes "all") refl)
+model_utf8 word w (inr list) = behind_utf8 IsNameWord name_utf8 word list.names list.joined
+
 -- ---- bytes that aren't UTF-8
 
 pub no_list : (word : List ℕ) → (IsUtf8 word → ⊥) → HasNoList word
@@ -98,3 +129,17 @@ no_list word other = λ list is. other (list_utf8 word list is)
 pub no_slots : (word : List ℕ) → (IsUtf8 word → ⊥) → HasNoSlots word
 no_slots [] other = λ slots is. other IsUtf8-nil
 no_slots (byte ∷ more) other = λ slots is. other (behind_utf8 IsSlotWord slot_utf8 (byte ∷ more) slots is.joined)
+
+pub no_words : (word : List ℕ) → (IsUtf8 word → ⊥) → HasNoWords word
+no_words [] other = other IsUtf8-nil
+no_words (byte ∷ more) other = λ words is. other (model_utf8 (byte ∷ more) words is)
+
+-- a word that has a byte, and is read as no words
+pub none_read : (word text : List ℕ) (empty : Bool) → empty ≡ (length word == 0) → empty ≡ false → text ≡ word
+    → ((words : Words) → IsModelWord text words → ⊥) → HasNoWords word
+none_read [] text empty is some same none = absurd (cc (is, some))
+none_read (byte ∷ more) text empty is some same none = λ words named. none words (subst (λ t. IsModelWord t words) (sym same) named)
+
+pub no_ranges : (word roots : List ℕ) → (IsUtf8 word → ⊥) → HasNoRanges word roots
+no_ranges [] roots other = other IsUtf8-nil
+no_ranges (byte ∷ more) roots other = λ list is good. other (list_utf8 (byte ∷ more) list is)

@@ -5,3 +5,6 @@ pub mod PlanAnswers
 pub mod SettleWords
 pub mod SettleAnswers
 pub mod Stepping
+pub mod FaultsWords
+pub mod NoLists
+pub mod Listings

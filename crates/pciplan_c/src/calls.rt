@@ -8,16 +8,21 @@ ghost use Rattle.pci_steps.specs.Steps.{judged, steps_of};
 ghost use Rattle.pci_function.specs.declared.fault.Fault.{Fault};
 ghost use Rattle.pci_check.specs.declared.outcome.Outcome.TheVariants.{Yes, No};
 ghost use Rattle.pciplan_c.specs.Answers.{IsVerdictText, IsAnswerTold, IsTooLong};
+ghost use Rattle.pciplan_c.specs.Listings.{IsListing, IsListingTooLong, IsTextPut, MayWantToList};
 ghost use Rattle.pciplan_held.specs.RegisterWrites.{write_value_of};
 ghost use Rattle.pciplan_c.specs.Endings.{ArePut, AreTooMany, IsNoneTold, IsNoneTooLong};
 ghost use Rattle.pciplan_c.specs.PlanAnswers.{ArePlanned, IsNoPlanOf, pools_of};
 ghost use Rattle.pciplan_c.specs.SettleAnswers.{AreSettled, IsNoSettlingOf, MayWant};
 ghost use Rattle.pciplan_c.specs.Stepping.{IsStartPut, IsStartTooLong, answer_number, said_of, shown_value, c_step_value};
 ghost use Rattle.pciplan_c.specs.declared.answer.Answer.TheVariants.{Verdict, Refused};
+ghost use Rattle.pciplan_c.specs.declared.listing.Listing.{Listing};
+ghost use Rattle.pciplan_c.specs.declared.no_list.NoList.{NoList};
 ghost use Rattle.pciplan_held.specs.declared.refusal.Refusal.{Refusal};
 
 use crate::answer::Answer;
 use crate::ending::{Ending, HeldBack};
+use crate::faults_words::FaultsWords;
+use crate::listing::{Listing, faults_into};
 use crate::planning::plan_into;
 use crate::pools::PoolsOfC;
 use crate::settle_words::SettleWords;
@@ -250,6 +255,64 @@ pub extern "C" fn pciplan_settle(
         Err(HeldBack::Line(needed)) => {
             *writes_used = 0;
             *line_used = needed;
+            4
+        }
+    }
+}
+
+/// Lists all faults of the texts of a dump and of its probe, with the root buses that `roots` lists, and with what these
+/// words give beside them.
+///
+/// It answers 0 and the text `yes` where there are none, and 1 and the list where there are: what the program's `faults`
+/// prints. It answers 2 and a message where `roots` is empty or doesn't rise, else where a word has no meaning (`model`,
+/// `host io`, `host mem`), else where the dump's text has a fault, else where the probe's has. The list or the message
+/// stands at the front of `text`, and `text_used` is its length.
+///
+/// It answers 3 where a growth was refused; then nothing was changed. `roots` is a list of root buses then. Each word has a
+/// meaning, or one has ranges and those before it have a meaning. It answers 4 where `text` is too short; then it wasn't
+/// changed, and `text_used` is the length that is needed. No message needs more than 96 bytes.
+#[unsafe(no_mangle)]
+pub extern "C" fn pciplan_faults(
+    alloc: Global,
+    dump: &[u8],
+    probe: &[u8],
+    roots: &[u8],
+    words: &FaultsWords<'_>,
+    text: &mut [u8],
+    text_used: &mut usize,
+) -> u8
+    ensures sound { result ≡ 0
+        → IsTextPut (IsListing roots.now dump.now probe.now words.now Listing.Sound) text.old text.new
+        text_used.new }
+    ensures faults { result ≡ 1
+        → IsTextPut (IsListing roots.now dump.now probe.now words.now Listing.Faults) text.old text.new
+        text_used.new }
+    ensures refused { result ≡ 2
+        → (why : NoList)
+        × IsTextPut (IsListing roots.now dump.now probe.now words.now (Listing.Refused why)) text.old
+        text.new text_used.new }
+    ensures memory { result ≡ 3 → (text.new ≡ text.old) × (text_used.new ≡ text_used.old) }
+    // no memory helps a list or a word that is none
+    ensures wanted { result ≡ 3 → MayWantToList roots.now words.now }
+    // half a list must not be taken for all of it
+    ensures room { result ≡ 4
+        → (text.new ≡ text.old)
+        × IsListingTooLong roots.now dump.now probe.now words.now text.old text_used.new }
+    // a caller's switch has no other case
+    ensures known { result ≤ 4 }
+{
+    match faults_into(alloc, dump, probe, roots, words, text) {
+        Ok(listed) => {
+            *text_used = listed.used;
+            match listed.listing {
+                Listing::Sound => 0,
+                Listing::Faults => 1,
+                Listing::Refused(_) => 2,
+            }
+        }
+        Err(Withheld::Memory) => 3,
+        Err(Withheld::NoRoom(needed)) => {
+            *text_used = needed;
             4
         }
     }

@@ -1,16 +1,22 @@
-//! Verdicts, plans and settlings for callers in C: two texts and a list of root buses in, a status and a line of text out,
-//! or register writes; and the accesses by which these are put onto a machine.
+//! Verdicts, lists of faults, plans and settlings for callers in C: two texts and a list of root buses in, a status and a
+//! text out, or register writes; and the accesses by which these are put onto a machine.
 //!
-//! `calls` has what C calls; what C has to uphold is said in c/include/pciplan.h. `verdict`, `planning` and `settling` do
-//! the work over slices: they read the texts where they lie, and put what is answered into the caller's memory only once it
-//! is whole, by `pciplan_held`. `settle_words` reads what is asked of settling; `ending` has what planning and settling end
-//! with, and `no_writes` why there are no writes. As no hook of C can be called from here, a plan is put onto a machine by
+//! `calls` has what C calls; what C has to uphold is said in c/include/pciplan.h. `verdict`, `listing`, `planning` and
+//! `settling` do the work over slices: they read the texts where they lie, and put what is answered into the caller's memory
+//! only once it is whole, by `pciplan_held`. `faults_words` reads what is given beside texts whose faults are listed, and
+//! `no_list` has why there is no list. `settle_words` reads what is asked of settling; `ending` has what planning and
+//! settling end with, and `no_writes` why there are no writes. As no hook of C can be called from here, a plan is put onto a machine by
 //! accesses that C makes one after another: `starting` and `stepping` say which, and what follows from each.
 #![tactic(auto)]
 
 pub mod answer;
 pub mod calls;
 pub mod ending;
+#[cfg(test)]
+mod faults_tests;
+pub mod faults_words;
+pub mod listing;
+pub mod no_list;
 pub mod no_writes;
 #[cfg(test)]
 mod plan_tests;

@@ -7,7 +7,7 @@ ghost use Rattle.pci_spec.specs.Mark.{all_named};
 ghost use Rattle.pci_tree.specs.Roots.{buses_of};
 ghost use Rattle.pci_claims.specs.Values.{given_value, host_value, legacy_value};
 ghost use Rattle.pci_given.specs.AllLines.{judged_of};
-ghost use Rattle.pciplan_tasks.specs.Answers.{answer_of};
+ghost use Rattle.pciplan_tasks.specs.Answers.{AreLines, answer_of};
 ghost use Rattle.pciplan_tasks.specs.FaultsAnswers.{AreTold, IsFaultsAnswer, IsListText, legacy_by, vga_of};
 
 use crate::reply::{Reply, Text};
@@ -99,8 +99,9 @@ fn faults_pair<A: Allocator + Copy>(
     probe: &Dump<A>,
     asked: &Asked<'_>,
 ) -> Result<Reply<A>, OutOfMemory>
-    ensures { IfOk result (λ reply. AreTold (given_value asked.now.given) (buses_of asked.now.roots)
-        asked.now.why dump.now probe.now (answer_of reply)) }
+    ensures told { IfOk result (λ reply. AreTold (given_value asked.now.given)
+        (buses_of asked.now.roots) asked.now.why dump.now probe.now (answer_of reply)) }
+    ensures lines { IfOk result (λ reply. AreLines reply.text) }
 {
     let found = all_faults(alloc, dump, probe, asked.roots, &asked.given)?;
     let faults = found.faults.as_slice();
@@ -121,8 +122,10 @@ pub fn faults_by<A: Allocator + Copy>(
     beside: &Beside,
     why: bool,
 ) -> Result<Reply<A>, OutOfMemory>
-    ensures { IfOk result (λ reply. IsFaultsAnswer beside.now why dump.now probe.now
+    ensures told { IfOk result (λ reply. IsFaultsAnswer beside.now why dump.now probe.now
         (answer_of reply)) }
+    // so a caller has the text of the list as it is
+    ensures lines { IfOk result (λ reply. AreLines reply.text) }
 {
     let legacy = legacy_by(alloc, dump, beside.words)?;
     let asked = Asked {

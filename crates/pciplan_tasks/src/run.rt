@@ -112,7 +112,7 @@ fn derive_texts<A: Allocator + Copy, D: Source, S: Source>(
 }
 
 /// What a task that takes a whole dump and a whole probe answers to them.
-fn pair_reply<A: Allocator + Copy>(
+pub fn pair_reply<A: Allocator + Copy>(
     alloc: A,
     task: &Task,
     dump: Dump<A>,
@@ -158,7 +158,7 @@ fn pair_texts<A: Allocator + Copy, D: Source, P: Source>(
 }
 
 /// What a task answers to two texts. A fault of the dump's text goes before one of the second.
-fn reply_to<A: Allocator + Copy, D: Source, S: Source>(
+pub fn reply_to<A: Allocator + Copy, D: Source, S: Source>(
     alloc: A,
     task: &Task,
     dump: &mut D,

@@ -11,8 +11,8 @@ use Rattle.pciplan_tasks.specs.FaultsAnswers.{IsListText}
 use Rattle.pciplan_tasks.proofs.Faults.{line_is, none_of_items, told}
 use Rattle.pciplan_tasks.proofs.faulting.faults_pair.Goals as goal
 
-pub returns : goal.returns
-returns g c =
+pub returns-clause-told : goal.returns-clause-told
+returns-clause-told g c =
     let given = given_value c.args.asked.now.given in
     let roots = buses_of c.args.asked.now.roots in
     let found = c.in_ok-found.found in
