@@ -5,8 +5,8 @@
 #
 # Printed are the functions that are removed, with their drivers and with what the machine uses them for: mounted file
 # systems, swap, and the interface of a default route. With --yes they are removed, the machine is captured again into
-# dump.after.txt, sizes.after.txt and probe.after.txt, and the faults of both are counted. A function that is in use is
-# removed with --force alone.
+# dump.after.txt, sizes.after.txt and probe.after.txt, and the faults of both are counted. A BAR that is off and shows
+# address 0 counts as one: Linux had no place for it. A function that is in use is removed with --force alone.
 #
 # Usage: rescan.sh [--yes] [--force] DUMP PROBE WRITES [DOMAIN], as root; domain 0000 if none is said. SYSFS and PROC say
 # where sysfs and proc are, if not in /sys and /proc; PCIPLAN names the program, if it isn't `pciplan`. The status is 0 where
@@ -106,11 +106,12 @@ $top/"*) used="$used $1" ;;
     esac
 }
 
-# faults DUMP PROBE ROOTS: the list of all faults into the file `list`, and how many there are
+# faults DUMP PROBE ROOTS: the list of all faults and of BARs without a place into the file `list`, and how many there are
 faults() {
-    "$pciplan" faults "$1" "$2" --root "$3" --model all >"$room/list"
+    "$pciplan" faults "$1" "$2" --root "$3" --model all --why >"$room/why"
     [ $? -le 1 ] || refused "$1: pciplan can't judge it" || return
-    grep -v '^yes$' "$room/list" | grep -c '^[0-9]'
+    awk '/^off / ? / 0+-/ : !/^ /' "$room/why" >"$room/list"
+    grep -c -e '^[0-9]' -e '^off' "$room/list"
     return 0
 }
 

@@ -118,7 +118,7 @@ wrote '  nothing is'
 cp settled shown
 rescan 'removed, and better afterwards' 0 "${all}removed 0000:00:03.0
 yes
-faults before: 1, now: 0
+faults before: 2, now: 0
 " '' --yes dump probe writes
 wrote '  the topmost bridge, and one rescan' devices/0000:00:03.0/remove rescan
 cmp -s settled dump.after.txt && cmp -s sizes sizes.after.txt
@@ -127,7 +127,18 @@ told '  the texts of the new capture are kept' $?
 machine
 rescan 'removed, and no better' 3 "${all}removed 0000:00:03.0
 60 Unreached 02:02.0 18 mem 0000000000000000 bridge 00:03.0
-faults before: 1, now: 1
+off 02:03.0 10 bar mem pref 0000000000000000-0000000003ffffff 64M
+faults before: 2, now: 2
+" '' --yes dump probe writes
+
+# 02:02.0 is off now, as a device is that its driver gave up: both BARs are off, and have no place
+machine
+sed '/^02:02.0/{n;s/^\(00: .. .. .. ..\) ../\1 00/;}' dump >shown
+rescan 'no fault is left, and no BAR has a place' 3 "${all}removed 0000:00:03.0
+yes
+off 02:02.0 18 bar mem pref 0000000000000000-0000000003ffffff 64M
+off 02:03.0 10 bar mem pref 0000000000000000-0000000003ffffff 64M
+faults before: 2, now: 2
 " '' --yes dump probe writes
 
 machine
@@ -143,7 +154,7 @@ cp settled shown
 rescan 'removed with --force' 0 "$all  used: mounted on /srv
 removed 0000:00:03.0
 yes
-faults before: 1, now: 0
+faults before: 2, now: 0
 " '' --force --yes dump probe writes
 
 machine
