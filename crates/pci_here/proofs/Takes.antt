@@ -1,0 +1,75 @@
+-- What is taken at one place more.
+use Rattle.std.proofs.Common.{◌≡◌, ℕ, ◌+◌, ◌<◌, ◌↔◌, Bool, true, false, List, [], ◌∷◌, ◌++◌, length, get_or, set, Some, cond, sym, ◌∙◌, ap, subst, arith, true≢false}
+use Rattle.std.specs.List.{Contains, count_by}
+use Rattle.std.proofs.lemmas.Bool.{both_ways}
+use Rattle.std.proofs.lemmas.List.{get_or-replicate}
+use Rattle.std.proofs.lemmas.List.Sums.{sum_by_push}
+use Rattle.pci_spec.specs.Text.{Block}
+use Rattle.pci_spec.specs.SizesText.{SizesBlock}
+use Rattle.pci_spec.proofs.Members.{in_nil}
+use Rattle.pci_here.specs.Place.{Place}
+use Rattle.pci_here.specs.Shown.{Shown}
+use Rattle.pci_here.specs.Functions.{IsBlockAt, IsSizesAt, IsRootAt, IsTaken}
+use Rattle.pci_here.specs.Taken.{Among, AreTaken, IsNoneTaken, is_left_out, is_yes}
+use Rattle.pci_here.specs.declared.functions.Functions.{Functions}
+use Rattle.pci_here.specs.declared.function.Function.{Function}
+use Rattle.pci_here.proofs.Among.{among_none, list_same, list_more, flags_same, flags_more}
+use Rattle.pci_here.proofs.Only.{block_only, sizes_only, root_only}
+
+pub none_taken : (m : Shown) (f : Functions) → IsNoneTaken f → AreTaken m [] f
+none_taken m f none = record {
+  blocks = λ b. (λ has. absurd (in_nil b (subst (λ l. Contains l b) none.dump has)), λ a. absurd (among_none (IsBlockAt m) b a));
+  sizes = λ s. (λ has. absurd (in_nil s (subst (λ l. Contains l s) none.sizes has)), λ a. absurd (among_none (IsSizesAt m) s a));
+  roots = λ n small. (
+    λ h. absurd (both_ways (get_or f.is_root n false) (ap (λ l. get_or l n false) none.roots ∙ get_or-replicate 256 n false false small) h),
+    λ a. absurd (among_none (IsRootAt m) n a),
+  );
+  left_out = none.left_out;
+}
+
+not_own : (m : Shown) (p : Place) → m.is_virtual p ≡ Some true → m.is_virtual p ≡ Some false → ⊥
+not_own m p virtual own = true≢false (ap is_yes (sym virtual ∙ own))
+
+counted : (m : Shown) (p : Place) (b : Bool) (places : List Place) → m.is_virtual p ≡ Some b
+    → count_by (is_left_out m) (places ++ p ∷ []) ≡ count_by (is_left_out m) places + cond b 1 0
+counted m p b places is = sum_by_push (λ q. cond (is_left_out m q) 1 0) places p ∙ ap (λ o. count_by (is_left_out m) places + cond (is_yes o) 1 0) is
+
+-- a virtual function: nothing but the count changes
+pub record IsCounted (f g : Functions) : Type 0 where
+  pub dump : g.dump ≡ f.dump
+  pub sizes : g.sizes ≡ f.sizes
+  pub roots : g.is_root ≡ f.is_root
+  pub left_out : g.left_out ≡ f.left_out + 1
+
+pub virtual_taken : (m : Shown) (p : Place) (places : List Place) (f g : Functions) → m.is_virtual p ≡ Some true → IsCounted f g
+    → AreTaken m places f → AreTaken m (places ++ p ∷ []) g
+virtual_taken m p places f g virtual is was = record {
+  blocks = subst (λ l. (b : Block) → Contains l b ↔ Among (IsBlockAt m) (places ++ p ∷ []) b) (sym is.dump)
+      (list_same (IsBlockAt m) places p f.dump was.blocks (λ b at. not_own m p virtual at.own));
+  sizes = subst (λ l. (s : SizesBlock) → Contains l s ↔ Among (IsSizesAt m) (places ++ p ∷ []) s) (sym is.sizes)
+      (list_same (IsSizesAt m) places p f.sizes was.sizes (λ s at. not_own m p virtual at.own));
+  roots = subst (λ l. (n : ℕ) → n < 256 → (get_or l n false ≡ true) ↔ Among (IsRootAt m) (places ++ p ∷ []) n) (sym is.roots)
+      (flags_same (IsRootAt m) places p f.is_root was.roots (λ n at. not_own m p virtual at.own));
+  left_out = is.left_out ∙ ap (λ n. n + 1) was.left_out ∙ sym (counted m p true places virtual);
+}
+
+-- a function of its own
+pub record IsPut (f g : Functions) (x : Function) : Type 0 where
+  pub dump : g.dump ≡ f.dump ++ x.block ∷ []
+  pub sizes : g.sizes ≡ f.sizes ++ x.sizes ∷ []
+  pub roots : g.is_root ≡ set f.is_root x.root true
+  pub left_out : g.left_out ≡ f.left_out
+  pub flags : length f.is_root ≡ 256
+  pub small : x.root < 256
+
+pub function_taken : (m : Shown) (p : Place) (places : List Place) (f g : Functions) (x : Function) → IsTaken m p x → IsPut f g x
+    → AreTaken m places f → AreTaken m (places ++ p ∷ []) g
+function_taken m p places f g x at is was = record {
+  blocks = subst (λ l. (b : Block) → Contains l b ↔ Among (IsBlockAt m) (places ++ p ∷ []) b) (sym is.dump)
+      (list_more (IsBlockAt m) places p f.dump x.block was.blocks at.block (block_only m p x.block at.block));
+  sizes = subst (λ l. (s : SizesBlock) → Contains l s ↔ Among (IsSizesAt m) (places ++ p ∷ []) s) (sym is.sizes)
+      (list_more (IsSizesAt m) places p f.sizes x.sizes was.sizes at.sizes (sizes_only m p x.sizes at.sizes));
+  roots = subst (λ l. (n : ℕ) → n < 256 → (get_or l n false ≡ true) ↔ Among (IsRootAt m) (places ++ p ∷ []) n) (sym is.roots)
+      (flags_more (IsRootAt m) places p f.is_root x.root is.flags is.small was.roots at.root (root_only m p x.root at.root));
+  left_out = is.left_out ∙ was.left_out ∙ omega (arith, counted m p false places at.block.own);
+}

@@ -1,0 +1,14 @@
+pub mod Place
+pub mod Bus
+pub mod Link
+pub mod BusLine
+pub mod HostRanges
+pub mod Resource
+pub mod Shown
+pub mod Functions
+pub mod Parts
+pub mod Trouble
+pub mod Places
+pub mod Taken
+pub mod Domain
+pub mod Words

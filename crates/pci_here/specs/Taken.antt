@@ -1,0 +1,47 @@
+-- What was taken of the functions at some places.
+use Rattle.std.specs.Prelude.{◌≡◌, ◌↔◌, ℕ, ◌<◌, Bool, true, false, List, [], ◌∷◌, ◌++◌, Option, None, Some, replicate, slice_index_or}
+use Rattle.std.specs.List.{All, Contains, count_by}
+use Rattle.pci_spec.specs.Text.{Block}
+use Rattle.pci_spec.specs.SizesText.{SizesBlock}
+use Rattle.pci_here.specs.Place.{Place}
+use Rattle.pci_here.specs.Shown.{Shown}
+use Rattle.pci_here.specs.Functions.{IsBlockAt, IsSizesAt, IsRootAt, IsReadable, IsNotTaken}
+use Rattle.pci_here.specs.declared.trouble.TroubleAt.{TroubleAt}
+use Rattle.pci_here.specs.declared.functions.Functions.{Functions}
+
+-- of one of the places
+abbrev pub Among : {X : Type 0} → (Place → X → Type 0) → List Place → X → Type 0
+Among Is places x = (p : Place) × Contains places p × Is p x
+
+-- whether it is said, and yes
+abbrev pub is_yes : Option Bool → Bool
+is_yes None = false
+is_yes (Some b) = b
+
+-- whether a function is virtual
+abbrev pub is_left_out : Shown → Place → Bool
+is_left_out m p = is_yes (m.is_virtual p)
+
+-- exactly the blocks and the sizes of those that aren't virtual, their host buses, and the count of the others
+pub record AreTaken (m : Shown) (places : List Place) (f : Functions) : Type 0 where
+  pub blocks : (b : Block) → Contains f.dump b ↔ Among (IsBlockAt m) places b
+  pub sizes : (s : SizesBlock) → Contains f.sizes s ↔ Among (IsSizesAt m) places s
+  pub roots : (bus : ℕ) → bus < 256 → (slice_index_or f.is_root bus false ≡ true) ↔ Among (IsRootAt m) places bus
+  pub left_out : f.left_out ≡ count_by (is_left_out m) places
+
+-- nothing was taken
+pub record IsNoneTaken (f : Functions) : Type 0 where
+  pub dump : f.dump ≡ []
+  pub sizes : f.sizes ≡ []
+  pub roots : f.is_root ≡ replicate 256 false
+  pub left_out : f.left_out ≡ 0
+
+-- the first of some functions that can't be taken, and why
+pub record IsFirstTrouble (m : Shown) (places : List Place) (at : TroubleAt) : Type 0 where
+  pub before : List Place
+  pub place : Place
+  pub behind : List Place
+  pub parts : places ≡ before ++ place ∷ behind
+  pub is_place : at.place ≡ Some place
+  pub not_taken : IsNotTaken m place at.trouble
+  pub others : All (IsReadable m) before

@@ -1,0 +1,30 @@
+-- The troubles in reading a machine.
+use Rattle.std.specs.Prelude.{ℕ, List, [], ◌∷◌, ◌++◌, Option, None, Some, codes}
+use Rattle.pci_here.specs.Place.{Place, place_text}
+use Rattle.pci_here.specs.declared.trouble.TroubleAt.{TroubleAt}
+use Rattle.pci_here.specs.declared.trouble.Trouble.{Trouble}
+use Rattle.pci_here.specs.declared.trouble.Trouble.TheVariants.{Memory, Unread, Short, NoRoot, TooMany}
+
+-- the status of the program
+abbrev pub trouble_status : Trouble → ℕ
+trouble_status Memory = 3
+trouble_status Unread = 4
+trouble_status Short = 2
+trouble_status NoRoot = 2
+trouble_status TooMany = 2
+
+-- how it is printed
+abbrev pub trouble_text : Trouble → List ℕ
+trouble_text Memory = codes "2 Memory"
+trouble_text Unread = codes "1 Io"
+trouble_text Short = codes "short"
+trouble_text NoRoot = codes "no host bus"
+trouble_text TooMany = codes "8 TooMany"
+
+-- a space and the function, where there is one
+abbrev pub at_text : Option Place → List ℕ
+at_text None = []
+at_text (Some place) = 32 ∷ place_text place
+
+abbrev pub trouble_at_text : TroubleAt → List ℕ
+trouble_at_text t = trouble_text t.trouble ++ at_text t.place
