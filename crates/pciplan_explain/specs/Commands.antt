@@ -1,0 +1,36 @@
+-- The commands that are explained.
+use Rattle.std.specs.Prelude.{ℕ, List, ◌++◌, codes}
+use Rattle.pciplan_explain.specs.declared.command.Command.{Command}
+use Rattle.pciplan_explain.specs.declared.command.Command.TheVariants.{Here, Show, Check, Faults, Map, Size, Plan, Settle, Probe, Explain, Version}
+use Rattle.pciplan_explain.specs.declared.command_texts.TheConstants.{HERE, SHOW, CHECK, FAULTS, MAP, SIZE, PLAN, SETTLE, PROBE, EXPLAIN, VERSION}
+
+abbrev pub command_name : Command → List ℕ
+command_name Here = codes "here"
+command_name Show = codes "show"
+command_name Check = codes "check"
+command_name Faults = codes "faults"
+command_name Map = codes "map"
+command_name Size = codes "size"
+command_name Plan = codes "plan"
+command_name Settle = codes "settle"
+command_name Probe = codes "probe"
+command_name Explain = codes "explain"
+command_name Version = codes "version"
+
+-- the words with which a command's text begins
+abbrev pub command_heading : Command → List ℕ
+command_heading command = codes "pciplan " ++ command_name command
+
+-- its text, which the manual page has
+abbrev pub command_text : Command → List ℕ
+command_text Here = HERE.now
+command_text Show = SHOW.now
+command_text Check = CHECK.now
+command_text Faults = FAULTS.now
+command_text Map = MAP.now
+command_text Size = SIZE.now
+command_text Plan = PLAN.now
+command_text Settle = SETTLE.now
+command_text Probe = PROBE.now
+command_text Explain = EXPLAIN.now
+command_text Version = VERSION.now

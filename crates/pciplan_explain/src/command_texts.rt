@@ -1,0 +1,219 @@
+//! The texts of the commands. `tests/explain.py --write` makes this file of the manual page.
+
+pub const HERE: &str = "\
+pciplan here [faults | map | dump | probe | words] [--domain D] [--from FOLDER]
+  Reads the Linux machine that it runs on and judges it; root has to run it.
+  faults prints what the command faults prints of its texts, with --why and the
+  words that words prints; this is what is printed if no word is said. map
+  prints what the command map prints with these words. dump and probe print the
+  two texts, and words the line of options, so that the other commands can judge
+  the texts elsewhere. The probe is derived as by probe --least: a fault holds
+  whatever sizes are assumed, and a yes holds for these sizes alone. Virtual
+  functions (SR-IOV) are left out. The first 256 bytes of each function are
+  read, and nothing is written.
+  --domain D
+    here judges the functions of this PCI domain alone: 4 to 8 lower-case hex
+    digits. If it isn't said, all domains are judged, by rising number. Where
+    there are several, a line domain and the number stands before what is said
+    of each. The status is the greatest one.
+  --from FOLDER
+    here reads the folders sys and proc of this folder, as a copy of another
+    machine has them. / if it isn't said.
+";
+
+pub const SHOW: &str = "\
+pciplan show DUMP PROBE
+  Prints what each function decodes to: its header, BARs, ROM, bus numbers,
+  windows and capabilities. Faults: 20 to 31.
+";
+
+pub const CHECK: &str = "\
+pciplan check DUMP PROBE [--root LIST]
+  Prints yes, or the first of the faults 20 to 31 and 50 to 62.
+  --root LIST
+    The buses on which the host's accesses start: two lower-case hex digits
+    each, rising, with commas between them. 00 if it isn't said. On Linux they
+    are in the names of /sys/devices/pci0000:*: 00,40 for pci0000:00 and
+    pci0000:40.
+";
+
+pub const FAULTS: &str = "\
+pciplan faults DUMP PROBE [--root LIST] [--model WORDS] [--host-io LIST]
+    [--host-mem LIST] [--why]
+  Prints yes, or a line for each fault of the earliest phase that has any,
+  without the no, in the order in which check looks; the first line is the fault
+  that check names. LIST OF FAULTS says which lines there are.
+  --root LIST
+    The buses on which the host's accesses start: two lower-case hex digits
+    each, rising, with commas between them. 00 if it isn't said. On Linux they
+    are in the names of /sys/devices/pci0000:*: 00,40 for pci0000:00 and
+    pci0000:40.
+  --model WORDS
+    faults and map take functions otherwise than their registers say: one or
+    more of cardbus, ide, power, reset, subtractive, unnumbered, windows and one
+    of vga and vga16, in any order, with commas between them, none twice; or
+    all, which is all but vga16, so a bridge decodes ten bits of a port unless
+    its bit VGA 16-bit Decode is set. cardbus takes a CardBus bridge (header
+    layout 2) as a device that decodes no address; ide leaves out the BARs of
+    IDE channels in compatibility mode; power takes a function that isn't in D0
+    as one that decodes nothing; reset and subtractive take away the faults 55
+    and 54 of a bridge behind which no function is listed; unnumbered takes a
+    bridge whose bus numbers are 0 and whose windows claim nothing as one that
+    leads nowhere; vga judges what bridges with VGA Enable forward to a display,
+    and not what the display itself answers: the legacy addresses, which come
+    again in each KB of I/O space where the bridge decodes ten bits alone; vga16
+    takes each of them to decode 16 bits; windows takes a bridge's window whose
+    read back is of none (26) as the one that its registers show.
+  --host-io LIST
+  --host-mem LIST
+    faults judges beside what the host sends to its root buses, and map shows
+    what of that is free there and what isn't within it: none, or ranges with
+    commas between them, each A-B for all root buses or bb:A-B for the root bus
+    bb alone, from address A to address B, each of 1 to 16 lower-case hex
+    digits. Of a space without a list all is sent to each.
+  --why
+    faults tells with what ranges each fault 60 to 63 is there, and which BARs
+    are off. Behind a fault 72 plan prints a second line: how many addresses the
+    class needs, from which address on, and how many its pool has from there.
+";
+
+pub const MAP: &str = "\
+pciplan map DUMP PROBE [--root LIST] [--model WORDS] [--host-io LIST]
+    [--host-mem LIST]
+  Prints which enabled BAR, ROM or window sits where, what is inside each
+  window, and what of it is free; ADDRESS MAP says which lines there are.
+  Faults: 20 to 31 and 50 to 58; what would be 60 to 62 is shown as it is.
+  --root LIST
+    The buses on which the host's accesses start: two lower-case hex digits
+    each, rising, with commas between them. 00 if it isn't said. On Linux they
+    are in the names of /sys/devices/pci0000:*: 00,40 for pci0000:00 and
+    pci0000:40.
+  --model WORDS
+    faults and map take functions otherwise than their registers say: one or
+    more of cardbus, ide, power, reset, subtractive, unnumbered, windows and one
+    of vga and vga16, in any order, with commas between them, none twice; or
+    all, which is all but vga16, so a bridge decodes ten bits of a port unless
+    its bit VGA 16-bit Decode is set. cardbus takes a CardBus bridge (header
+    layout 2) as a device that decodes no address; ide leaves out the BARs of
+    IDE channels in compatibility mode; power takes a function that isn't in D0
+    as one that decodes nothing; reset and subtractive take away the faults 55
+    and 54 of a bridge behind which no function is listed; unnumbered takes a
+    bridge whose bus numbers are 0 and whose windows claim nothing as one that
+    leads nowhere; vga judges what bridges with VGA Enable forward to a display,
+    and not what the display itself answers: the legacy addresses, which come
+    again in each KB of I/O space where the bridge decodes ten bits alone; vga16
+    takes each of them to decode 16 bits; windows takes a bridge's window whose
+    read back is of none (26) as the one that its registers show.
+  --host-io LIST
+  --host-mem LIST
+    faults judges beside what the host sends to its root buses, and map shows
+    what of that is free there and what isn't within it: none, or ranges with
+    commas between them, each A-B for all root buses or bb:A-B for the root bus
+    bb alone, from address A to address B, each of 1 to 16 lower-case hex
+    digits. Of a space without a list all is sent to each.
+";
+
+pub const SIZE: &str = "\
+pciplan size DUMP PROBE
+  Prints the probe that firmware sizing register by register would read, on a
+  machine of the two texts. Faults: 20 to 26, 30 and 31.
+";
+
+pub const PLAN: &str = "\
+pciplan plan DUMP PROBE --io A-B --mem A-B --pref A-B [--root LIST] [--writes]
+    [--why]
+  Places all that has an address in three pools, and prints the planned dump, or
+  the register writes that lead there. For each register that the titles of the
+  probe name as assumed, standard error has a line pciplan: assumed, slot and
+  register. Faults: 20 to 31, 50 to 58 and 70 to 72.
+  --root LIST
+    The buses on which the host's accesses start: two lower-case hex digits
+    each, rising, with commas between them. 00 if it isn't said. On Linux they
+    are in the names of /sys/devices/pci0000:*: 00,40 for pci0000:00 and
+    pci0000:40.
+  --io A-B
+  --mem A-B
+  --pref A-B
+    The pools of plan for I/O, memory and prefetchable memory: from address A to
+    address B, each of 1 to 16 lower-case hex digits. All three have to be said.
+    Of settle they are lists: none, or ranges with commas between them, each A-B
+    for all root buses or bb:A-B for the root bus bb alone. What stands first in
+    a list is taken first.
+  --writes
+    plan and settle print a line for each register write in place of the planned
+    dump: slot, offset and width, and the value. Made in their order they may
+    stop anywhere.
+  --why
+    faults tells with what ranges each fault 60 to 63 is there, and which BARs
+    are off. Behind a fault 72 plan prints a second line: how many addresses the
+    class needs, from which address on, and how many its pool has from there.
+";
+
+pub const SETTLE: &str = "\
+pciplan settle DUMP PROBE --io LIST --mem LIST --pref LIST [--root LIST]
+    [--fixed SLOTS] [--anew] [--writes]
+  Leaves what works where it is, and places the rest in three lists of ranges,
+  each of all root buses or of one, with windows that are as large as what is in
+  them; prints the settled dump, or the register writes that lead there. A part
+  stays where it lies in a range of its root, or in a window that stays itself,
+  and shares no address with another part that stays. A window goes where what
+  has to be placed behind it has no room in it. By the writes a function is off
+  meanwhile only in the space in which a BAR or ROM of it moves; a bridge stays
+  on, and a window that moves is closed. A BAR, or a ROM whose bit 0 is set,
+  that the titles of the probe name as assumed is refused: it may decode more
+  addresses than the probe tells. Faults: 20 to 31, 50 to 58, 70, 72, 74 and 76.
+  --root LIST
+    The buses on which the host's accesses start: two lower-case hex digits
+    each, rising, with commas between them. 00 if it isn't said. On Linux they
+    are in the names of /sys/devices/pci0000:*: 00,40 for pci0000:00 and
+    pci0000:40.
+  --io A-B
+  --mem A-B
+  --pref A-B
+    The pools of plan for I/O, memory and prefetchable memory: from address A to
+    address B, each of 1 to 16 lower-case hex digits. All three have to be said.
+    Of settle they are lists: none, or ranges with commas between them, each A-B
+    for all root buses or bb:A-B for the root bus bb alone. What stands first in
+    a list is taken first.
+  --fixed SLOTS
+    settle writes no register of the functions at these slots, which are joined
+    by commas, each above the one before: 00:02.0,01:00.0. A slot that the dump
+    doesn't have says nothing.
+  --anew
+    settle leaves nothing where it stands.
+  --writes
+    plan and settle print a line for each register write in place of the planned
+    dump: slot, offset and width, and the value. Made in their order they may
+    stop anywhere.
+";
+
+pub const PROBE: &str = "\
+pciplan probe DUMP SIZES [--exact | --least]
+  Prints the probe that is derived of the dump and the sizes that Linux found.
+  It assumes that a ROM that is off and has no size told has 2 KB, and that a
+  window that shows 0 while its space is enabled is absent. The title of a block
+  names the registers that are assumed in it. For each of them standard error
+  has a line pciplan: assumed, slot and register. Faults: 20, 21, 30, 32 and 33.
+  --exact
+    probe assumes nothing: a register whose read back would be assumed is the
+    fault 32.
+  --least
+    probe takes a BAR, or an enabled ROM, of which no size is told to have the
+    least size: 16 addresses, 4 of I/O, 2 KB of a ROM. Each has its remark, and
+    is named in a title. Such a probe is for judging: settle refuses a BAR that
+    is so assumed. A fault that check finds in such a probe is there whatever
+    the sizes are; its yes holds for these sizes alone.
+";
+
+pub const EXPLAIN: &str = "\
+pciplan explain [WORD]
+  Prints what a fault is, what it mostly comes from and what to do. WORD is the
+  number of a fault, its name in any case, or a command. Of a command its words,
+  its answer and its options are printed. Without a word all names are printed,
+  with a line for each.
+";
+
+pub const VERSION: &str = "\
+pciplan version
+  Prints pciplan 0.5.
+";
