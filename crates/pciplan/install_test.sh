@@ -272,7 +272,7 @@ options=$(sed -n 's/^.* \(--[a-z-]*\).*$/\1/p' synopsis | sort -u)
 cp synopsis wanted
 
 awk '
-    /compgen -W/ { split($0, parts, "\047"); count = split(parts[2], words, " "); while (count) print words[count--] }
+    /local commands=/ { split($0, parts, "\047"); count = split(parts[2], words, " "); while (count) print words[count--] }
     /\) options=\047/ {
         split($0, parts, "\047")
         count = split(parts[2], words, " ")
@@ -314,15 +314,19 @@ pools_but() {
     done
 }
 
-# taken COMMAND [WORD..]: whether the program takes these words, after what the command needs.
+# taken COMMAND [WORD..]: whether the program takes these words, after what the command needs. `here` reads a folder
+# without a machine.
 taken() {
     command=$1
     shift
     # shellcheck disable=SC2046
     case $command in
-    plan | settle) set -- $(pools_but "${1-}") "$@" ;;
+    plan | settle) set -- bare.txt bare_probe.txt $(pools_but "${1-}") "$@" ;;
+    here) [ "${1-}" = --from ] || set -- --from home "$@" ;;
+    explain | version) ;;
+    *) set -- bare.txt bare_probe.txt "$@" ;;
     esac
-    usr/bin/pciplan "$command" bare.txt bare_probe.txt "$@" >out 2>err
+    usr/bin/pciplan "$command" "$@" >out 2>err
     ! grep -q '^pciplan: usage$' err
 }
 
@@ -334,6 +338,8 @@ for command in $commands; do
         --root) word=00 ;;
         --model) word=power ;;
         --fixed) word=00:02.0 ;;
+        --domain) word=0000 ;;
+        --from) word=home ;;
         --pref) word=f0000000-ffffffff ;;
         *) word=1000-ffff ;;
         esac
@@ -346,9 +352,9 @@ same 'the program takes the commands and options of the page, and no other of th
 # The names that the program's definitions have, so that none is missing in the page.
 words=$top/crates/pciplan_words/src/commands.rt
 {
-    sed -n 's/^ *name: "\([a-z]*\)",$/\1/p' "$words"
+    sed -n 's/^ *Command::[A-Za-z]* => "\([a-z]*\)",$/\1/p' "$top/crates/pciplan_explain/src/command.rt"
     sed -n 's/^pub const [A-Z_]*: &str = "\([a-z-]*\)";$/--\1/p' "$words"
-} | sort >got
+} | sort -u >got
 tr ' ' '\n' <synopsis | tr -d = | sort -u >wanted
 same 'the page has the names of the definitions'
 for word in --help -h help --version; do
@@ -439,8 +445,8 @@ offers() {
 
 quiet 'bash takes its completion' bash -n $names/pciplan.bash
 if command -v bash >/dev/null; then
-    offers "''" 'show check faults map size plan settle probe'
-    for command in $commands; do
+    offers "''" 'here show check faults map size plan settle probe explain version'
+    for command in show check faults map size plan settle probe; do
         offers "$command ''" FILES
         offers "$command dump.txt probe.txt ''" \
             "$(sed -n "s/^$command \(--[a-z-]*\).*/\1/p" synopsis | tr '\n' ' ' | sed 's/ $//')"
@@ -459,13 +465,24 @@ if command -v bash >/dev/null; then
     offers "show check probe ''" ''
     offers 'plan --io 0-1 dump.txt --writes --' '--mem --pref --root --why'
     offers 'probe dump.txt --exact s' FILES
-    offers "faults --model ''" 'ide power reset subtractive unnumbered vga vga16 all'
+    offers "faults --model ''" 'cardbus ide power reset subtractive unnumbered vga vga16 windows all'
     offers 'faults --model =' ''
     offers "map --model = p" 'power'
     offers 'faults dump.txt probe.txt --model vga,r' 'vga,reset'
-    offers 'faults --model power,vga16,' 'power,vga16,ide power,vga16,reset power,vga16,subtractive power,vga16,unnumbered'
+    offers 'faults --model power,vga16,' 'power,vga16,cardbus power,vga16,ide power,vga16,reset power,vga16,subtractive power,vga16,unnumbered power,vga16,windows'
     offers "faults --model power dump.txt ''" FILES
     offers "judge ''" ''
+    offers "here ''" 'faults map dump probe words'
+    offers 'here -' '--domain --from'
+    offers 'here map -' '--domain --from'
+    offers "here map ''" '--domain --from'
+    offers "here --domain ''" ''
+    offers "here --from ''" ''
+    offers 'here --domain = 0000 m' 'map'
+    offers "here --domain 0000 dump ''" '--from'
+    offers "explain ''" 'here show check faults map size plan settle probe explain version'
+    offers "explain check ''" ''
+    offers "version ''" ''
 else
     echo 'skipped: what bash offers'
 fi

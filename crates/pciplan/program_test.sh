@@ -58,13 +58,13 @@ awk 'BEGIN {
 
 # Boards written as text, with what the program answers about each, run beside what follows, each file in a folder of its
 # own: it prints `FILE: N passed, M failed`. So do the scripts around the program: writes on a running Linux, capture and
-# conversion of texts, what is installed, slow models on boards made by rule, and the commands that pages show.
+# conversion of texts, machines that `here` reads, what is installed, slow models on boards made by rule, and the commands that pages show.
 for cases in cases/*.txt; do
     mkdir "$cases.d"
     ln -s ../../pciplan ../../cases "$cases.d"
     (cd "$cases.d" && exec awk -f ../../cases.awk "$cases" >"../../$cases.told") &
 done
-scripts='apply assumed capture install library lists models pages rescan'
+scripts='apply assumed capture explain here install library lists models pages rescan'
 for script in $scripts; do
     "$here/${script}_test.sh" "$made" >$script.told &
 done
@@ -146,7 +146,7 @@ for machine in desk old port roots; do
     # by all words, and by ports of 16 bits
     case $machine in
     desk) text="61 Clash bus 00 io 000013b0 00:02.0 3e 00:03.0 1c$lf" judged=1 ;;
-    port) text="26 WindowMask 00:06.0 1c$lf" judged=1 ;;
+    port) text="60 Unreached 02:00.0 18 io 00002000 bridge 00:06.0$lf" judged=1 ;;
     *) text="yes$lf" judged=0 ;;
     esac
     case_of "$machine: faults by all words" $judged "$text" '' \

@@ -1,16 +1,23 @@
-//! The program: `pciplan TASK DUMP PROBE`; `probe` takes sizes in the place of a probe.
+//! The program: `pciplan TASK DUMP PROBE`, where `probe` takes sizes in the place of a probe; `pciplan here`, which reads the
+//! machine that it runs on; `explain` and `version`.
 #![tactic(auto)]
 
 use pci_dump::std_streams::Outgoing;
 use pciplan_cli::opened::FileText;
-use pciplan_cli::program::{program, words_of};
+use pciplan_cli::program::words_of;
+use pciplan_front::folder::FolderMachine;
+use pciplan_front::front::front;
+use pciplan_front::outside::Outside;
 use std::process::ExitCode;
 
 fn main(rt: HostRuntime) -> ExitCode {
-    let mut dump = FileText::closed(&rt);
-    let mut probe = FileText::closed(&rt);
-    let mut out = Outgoing::new(rt.stdout());
-    let mut err = Outgoing::new(rt.stderr());
+    let mut outside = Outside {
+        dump: FileText::closed(&rt),
+        second: FileText::closed(&rt),
+        machine: FolderMachine::own(&rt),
+        out: Outgoing::new(rt.stdout()),
+        err: Outgoing::new(rt.stderr()),
+    };
     let words = words_of(&rt);
-    ExitCode::from(program(rt.alloc(), words, &mut dump, &mut probe, &mut out, &mut err))
+    ExitCode::from(front(rt.alloc(), words, &mut outside))
 }

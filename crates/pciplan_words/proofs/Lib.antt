@@ -1,2 +1,3 @@
 mod CommandWords
 mod CommandLines
+mod FurtherLines

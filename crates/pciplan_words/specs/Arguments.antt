@@ -1,9 +1,9 @@
 -- What the entries of the table of commands stand for.
 use Rattle.std.specs.Prelude.{fold}
-use Rattle.clap.specs.Words.{App, Rule, with_rule, with_subcommand}
+use Rattle.clap.specs.Words.{App, Rule, new_rule, with_rule, with_subcommand}
 use Rattle.pciplan_words.specs.CommandLines.{flag_rule, option_rule, path_rule, pool_rule, with_paths}
 use Rattle.pciplan_words.specs.declared.commands.Argument.{Argument}
-use Rattle.pciplan_words.specs.declared.commands.Argument.TheVariants.{Path, Word, Required, Flag}
+use Rattle.pciplan_words.specs.declared.commands.Argument.TheVariants.{Path, Word, Required, Flag, Optional}
 use Rattle.pciplan_words.specs.declared.commands.Subcommand.{Subcommand}
 
 abbrev pub argument_rule : Argument → Rule
@@ -11,6 +11,7 @@ argument_rule (Path name) = path_rule name.now
 argument_rule (Word name) = option_rule name.now
 argument_rule (Required name) = pool_rule name.now
 argument_rule (Flag name) = flag_rule name.now
+argument_rule (Optional name) = new_rule name.now
 
 abbrev pub with_argument : App → Argument → App
 with_argument app argument = with_rule app (argument_rule argument)

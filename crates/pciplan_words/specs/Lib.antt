@@ -1,3 +1,4 @@
 pub mod Arguments
 pub mod CommandWords
 pub mod CommandLines
+pub mod FurtherWords

@@ -3,6 +3,7 @@ ghost use Rattle.std.specs.Prelude.{◌≡◌, false, fold, IfOk};
 ghost use Rattle.clap.specs.Words.{app_of, rule_of};
 ghost use Rattle.clap.specs.declared.builder.command.Command.TheViews.{out-Command};
 ghost use Rattle.pciplan_words.specs.CommandLines.{commands};
+ghost use Rattle.pciplan_words.specs.FurtherWords.{further_commands};
 ghost use Rattle.pciplan_words.specs.Arguments.{app_of_subcommand, argument_rule, with_argument, with_entry};
 
 use clap::{Arg, ArgAction, Command};
@@ -60,7 +61,20 @@ pub enum Argument<'a> {
     Required(&'a str),
     /// An option without a word.
     Flag(&'a str),
+    /// A word that may be left out.
+    Optional(&'a str),
 }
+
+/// The names of the words of `here` and `explain`.
+pub const WHAT: &str = "WHAT";
+
+pub const WORD: &str = "WORD";
+
+/// The name of the option that names a PCI domain.
+pub const DOMAIN: &str = "domain";
+
+/// The name of the option that names the folder of a machine's `sys` and `proc`.
+pub const FROM: &str = "from";
 
 /// A subcommand by its name, and what it takes beside the two texts.
 #[derive(Clone, Copy)]
@@ -71,6 +85,16 @@ pub struct Subcommand<'a> {
 
 /// What each subcommand takes.
 const TEXTS: [Argument<'static>; 2] = [Argument::Path(DUMP), Argument::Path(PROBE)];
+
+/// What `here` takes.
+const LOOKING: [Argument<'static>; 3] = [
+    Argument::Optional(WHAT),
+    Argument::Word(DOMAIN),
+    Argument::Word(FROM),
+];
+
+/// What `explain` takes.
+const EXPLAINING: [Argument<'static>; 1] = [Argument::Optional(WORD)];
 
 /// The subcommands of `pciplan`.
 const SUBCOMMANDS: [Subcommand<'static>; 8] = [
@@ -144,6 +168,7 @@ fn arg_of<'a>(alloc: Global, argument: Argument<'a>) -> Arg<'a>
         Argument::Word(name) => Arg::new(alloc, name).long(name),
         Argument::Required(name) => Arg::new(alloc, name).long(name).required(true),
         Argument::Flag(name) => Arg::new(alloc, name).long(name).action(ArgAction::SetTrue),
+        Argument::Optional(name) => Arg::new(alloc, name),
     }
 }
 
@@ -204,4 +229,22 @@ pub fn command<'a>(alloc: Global) -> Result<Command<'a>, AllocError>
         .no_binary_name(true)
         .subcommand_required(true);
     with_subcommands(alloc, program, subcommands.as_slice())
+}
+
+/// `pciplan` with the commands that take no texts.
+pub fn further_commands<'a>(alloc: Global) -> Result<Command<'a>, AllocError>
+    ensures { IfOk result (λ command. app_of command ≡ further_commands) }
+{
+    let looking: [Argument<'static>; 3] = LOOKING;
+    let explaining: [Argument<'static>; 1] = EXPLAINING;
+    let here = with_arguments(alloc, Command::new(alloc, "here"), looking.as_slice())?;
+    let explain = with_arguments(alloc, Command::new(alloc, "explain"), explaining.as_slice())?;
+    let version = Command::new(alloc, "version");
+    let program = Command::new(alloc, "pciplan")
+        .no_binary_name(true)
+        .subcommand_required(true);
+    program
+        .subcommand(here)?
+        .subcommand(explain)?
+        .subcommand(version)
 }

@@ -1,0 +1,5 @@
+mod FirstWords
+mod DomainReplies
+mod HerePieces
+mod HereWords
+mod Texts

@@ -1,0 +1,47 @@
+use Rattle.std.proofs.Common.{◌≡◌, ◌+◌, ℕ, List, map, subst, inl, inr}
+use Rattle.std.specs.String.{string_bytes}
+use Rattle.pciplan_front.specs.FirstWords.{AreOfTexts, IsFirst}
+use Rattle.pciplan_front.specs.HereTold.{IsHere}
+use Rattle.pciplan_front.specs.TextAsked.{IsTold}
+use Rattle.pciplan_front.specs.Went.{Went, went}
+use Rattle.pciplan_front.proofs.FirstWords.{not_texts, of_explain, of_here, of_version}
+use Rattle.pciplan_front.proofs.front.front.Goals as goal
+
+pub returns-in_default : goal.returns-in_default
+returns-in_default g c =
+    let items : c.as_slice.result.now ≡ c.in-Ok.words.items = cc (c.as_slice.ensures.value) in
+    let again : c.as_slice-in_default.result.now ≡ c.in-Ok.words.items = cc (c.as_slice-in_default.ensures.value) in
+    let is : IsFirst (map string_bytes c.in-Ok.words.items) c.first_of.result =
+    subst (λ v. IsFirst (map string_bytes v) c.first_of.result) items c.first_of.ensures in
+    let none : AreOfTexts (map string_bytes c.in-Ok.words.items) → ⊥ =
+    not_texts (map string_bytes c.in-Ok.words.items) c.first_of.result is c.in_default.not-Texts in
+    rw c.in-Ok.is record {
+      memory = tt;
+      unread = tt;
+      done = λ small. λ of. absurd (none of);
+      quiet = λ status. λ of. absurd (none of);
+      begun = λ status. λ of. absurd (none of);
+      refused = λ status. λ of. absurd (none of);
+      failed = λ status. λ of. absurd (none of);
+      text = λ begins. subst
+          (λ v. IsTold (map string_bytes v) c.beside.result
+          (went (g.O.Sink.taken c.args.outside.now.out) (g.O.Sink.taken c.beside.new.outside.out) (c.beside.new.outside.out ≡ c.args.outside.now.out)
+          (g.O.Sink.failures c.beside.new.outside.out ≡ g.O.Sink.failures c.args.outside.now.out + 1)))
+          again
+          (c.beside.ensures.text (elim begins [
+            | inl explain ↦ inl (of_explain (map string_bytes c.in-Ok.words.items) c.first_of.result is explain)
+            | inr version ↦ inr (of_version (map string_bytes c.in-Ok.words.items) c.first_of.result is version)
+          ]));
+      here = λ begins. subst
+          (λ v. IsHere (map string_bytes v) (g.M.Foldered.shown_in c.args.outside.now.machine) c.beside.result
+          (went (g.O.Sink.taken c.args.outside.now.out) (g.O.Sink.taken c.beside.new.outside.out) (c.beside.new.outside.out ≡ c.args.outside.now.out)
+          ((x : ℕ) × (g.O.Sink.failures c.beside.new.outside.out ≡ x + 1))))
+          again (c.beside.ensures.here (of_here (map string_bytes c.in-Ok.words.items) c.first_of.result is begins));
+      known = c.beside.ensures.known;
+    }
+
+pub returns-in-Texts-clause-text : goal.returns-in-Texts-clause-text
+returns-in-Texts-clause-text g c =
+    let items : c.as_slice.result.now ≡ c.in-Ok.words.items = cc (c.as_slice.ensures.value) in
+    let of : AreOfTexts (map string_bytes c.in-Ok.words.items) = subst (λ v. AreOfTexts (map string_bytes v)) items c.in-Texts.ensures in
+    rw c.in-Ok.is (λ begins. absurd (elim begins [ inl explain ↦ of.no_explain explain | inr version ↦ of.no_version version ]))

@@ -1,0 +1,34 @@
+use Rattle.std.proofs.Common.{◌≡◌, ℕ, ◌+◌, Option, refl, rules, subst, inl, inr}
+use Rattle.pci_here.specs.Shown.{Shown}
+use Rattle.pciplan_front.specs.HereTold.{AreAsked}
+use Rattle.pciplan_front.proofs.HerePieces.{told_of_list}
+use Rattle.pciplan_front.proofs.here.here.Goals as goal
+
+pub returns-in-Err-asked_domains-clause-done : goal.returns-in-Err-asked_domains-clause-done
+returns-in-Err-asked_domains-clause-done g c =
+    inr (inl (
+      record {
+        asked = c.in-Ok.asked;
+        of_words = c.in-Ok.ensures;
+        trouble = c.in-Err-asked_domains.trouble;
+        status_is = c.tell_trouble.ensures.named;
+      },
+      refl,
+    ))
+
+pub returns-clause-done : goal.returns-clause-done
+returns-clause-done g c =
+    inr (inr record {
+      asked = c.in-Ok.asked;
+      of_words = c.in-Ok.ensures;
+      domains = c.in-Ok-asked_domains.domains.items;
+      are =
+          subst (λ (s : Option Shown). AreAsked s c.in-Ok.asked.domain c.in-Ok-asked_domains.domains.items)
+          c.look_in.ensures c.in-Ok-asked_domains.ensures;
+      tells =
+          told_of_list (g.M.Machine.shown c.look_in.new.self) _ c.in-Ok.asked.what c.len.result c.as_slice.result.now
+          c.in-Ok-asked_domains.domains.items c.tell_domains.result (g.O.Sink.taken c.args.outside.now.out)
+          (g.O.Sink.taken c.tell_domains.new.out) (c.tell_domains.new.out ≡ c.args.outside.now.out)
+          ((before : ℕ) × (g.O.Sink.failures c.tell_domains.new.out ≡ before + 1)) c.look_in.ensures (search rules)
+          c.as_slice.ensures.value c.tell_domains.ensures.told;
+    })

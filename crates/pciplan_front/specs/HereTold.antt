@@ -1,0 +1,154 @@
+-- What `here` writes of the domains of a machine.
+use Rattle.std.specs.Prelude.{◌≡◌, ◌⊎◌, ℕ, List, [], ◌∷◌, ◌++◌, Bool, true, false, Option, None, Some, IfSome, codes, fold, length, map, nat_lt, string_bytes, if◌then◌else◌}
+use Rattle.std.specs.List.{All, flat_map}
+use Rattle.std.specs.Io.KnownBytes.{Appends}
+use Rattle.pci_dump.specs.Begun.{AppendsBeginning}
+use Rattle.pci_spec.specs.Line.{hex_number}
+use Rattle.pci_here.specs.Domain.{IsDomain}
+use Rattle.pci_here.specs.Places.{AreDomainsOf}
+use Rattle.pci_here.specs.Shown.{Shown}
+use Rattle.pci_here.specs.Trouble.{trouble_status}
+use Rattle.pci_here.specs.declared.domain.Domain.{Domain}
+use Rattle.pci_here.specs.declared.trouble.Trouble.{Trouble}
+use Rattle.pciplan_tasks.specs.Answers.{Answer}
+use Rattle.pciplan_front.specs.DomainAnswers.{IsToldAs}
+use Rattle.pciplan_front.specs.HereAsked.{AskForNothing, IsHereAsked}
+use Rattle.pciplan_front.specs.Went.{Went}
+use Rattle.pciplan_front.specs.declared.here_asked.HereAsked.{HereAsked}
+use Rattle.pciplan_front.specs.declared.here_asked.What.{What}
+
+-- how many hex digits a domain is printed in: four, or as many as it has
+abbrev pub domain_digits : ℕ → ℕ
+domain_digits domain =
+    if nat_lt domain 65536 then 4
+    else if nat_lt domain 1048576 then 5
+    else if nat_lt domain 16777216 then 6
+    else if nat_lt domain 268435456 then 7 else 8
+
+-- the line before what is printed of a domain, where there is one
+abbrev pub heading : Bool → ℕ → List ℕ
+heading true domain = codes "domain " ++ hex_number (domain_digits domain) domain ++ 10 ∷ []
+heading false domain = []
+
+-- ---- one domain
+
+-- what is printed of a domain that was read
+pub record IsPrint (shown : Option Shown) (what : What) (headed : Bool) (domain : ℕ)
+    (head : List ℕ) (told : Answer) : Type 0 where
+  pub read : Domain
+  pub is : IfSome shown (λ m. IsDomain m domain read)
+  pub answer : IsToldAs what read told
+  pub head_is : head ≡ heading headed domain
+
+-- what is written of a domain, and its status
+pub record Piece : Type 0 where
+  pub domain : ℕ
+  pub status : ℕ
+  pub text : List ℕ
+
+-- the domain was read, and what is asked for of it is written
+pub record IsRead (shown : Option Shown) (what : What) (headed : Bool) (p : Piece) : Type 0 where
+  pub head : List ℕ
+  pub told : Answer
+  pub print : IsPrint shown what headed p.domain head told
+  pub status : p.status ≡ told.status
+  pub text : p.text ≡ head ++ told.text
+
+-- it couldn't be read, or memory was refused: nothing of it is written
+pub record IsUnread (p : Piece) : Type 0 where
+  pub trouble : Trouble
+  pub status : p.status ≡ trouble_status trouble
+  pub text : p.text ≡ []
+
+abbrev pub IsPiece : Option Shown → What → Bool → Piece → Type 0
+IsPiece shown what headed p = IsRead shown what headed p ⊎ IsUnread p
+
+pub record IsPieceOut (shown : Option Shown) (what : What) (headed : Bool) (domain status : ℕ)
+    (IsWritten : List ℕ → Type 0) : Type 0 where
+  pub text : List ℕ
+  pub is : IsPiece shown what headed record { domain = domain; status = status; text = text }
+  pub written : IsWritten text
+
+-- ---- some domains, one after the other
+
+-- a piece of each
+pub record ArePieces (shown : Option Shown) (what : What) (headed : Bool) (domains : List ℕ)
+    (pieces : List Piece) : Type 0 where
+  pub of_domains : map (λ p. p.domain) pieces ≡ domains
+  pub each : All (IsPiece shown what headed) pieces
+
+abbrev pub text_of_pieces : List Piece → List ℕ
+text_of_pieces = flat_map (λ p. p.text)
+
+abbrev pub greater : ℕ → ℕ → ℕ
+greater a b = if nat_lt a b then b else a
+
+-- the greatest status of some pieces
+abbrev pub status_of_pieces : List Piece → ℕ
+status_of_pieces pieces = fold greater 0 (map (λ p. p.status) pieces)
+
+-- all of them are written
+pub record AreTold (shown : Option Shown) (what : What) (headed : Bool) (domains : List ℕ)
+    (status : ℕ) (IsWritten : List ℕ → Type 0) : Type 0 where
+  pub pieces : List Piece
+  pub are : ArePieces shown what headed domains pieces
+  pub status_is : status ≡ status_of_pieces pieces
+  pub written : IsWritten (text_of_pieces pieces)
+
+-- a beginning of the pieces of the first of them
+pub record AreBegun (shown : Option Shown) (what : What) (headed : Bool) (domains : List ℕ)
+    (IsWritten : List ℕ → Type 0) : Type 0 where
+  pub first : List ℕ
+  pub behind : List ℕ
+  pub parts : domains ≡ first ++ behind
+  pub pieces : List Piece
+  pub are : ArePieces shown what headed first pieces
+  pub written : IsWritten (text_of_pieces pieces)
+
+-- a write failed
+pub record IsCutOff (shown : Option Shown) (what : What) (headed : Bool) (domains : List ℕ)
+    (status : ℕ) (out : Went) : Type 0 where
+  pub status_is : status ≡ 4
+  pub failed : out.failed
+  pub begun : AreBegun shown what headed domains (AppendsBeginning out.before out.after)
+
+-- ---- what `here` did
+
+-- the domains that are asked for: one, or all that are shown
+abbrev pub AreAsked : Option Shown → Option ℕ → List ℕ → Type 0
+AreAsked shown (Some domain) domains = domains ≡ domain ∷ []
+AreAsked shown None domains = IfSome shown (λ m. AreDomainsOf m domains)
+
+-- what is told of the domains that the words ask for, of the machine in the folder that they name; each has a heading
+-- where there are several
+pub record IsOfDomains (words : List (List ℕ)) (shown_in : List ℕ → Option Shown)
+    (Tells : Option Shown → What → Bool → List ℕ → Type 0) : Type 0 where
+  pub asked : HereAsked
+  pub of_words : IsHereAsked words asked
+  pub domains : List ℕ
+  pub are : AreAsked (shown_in (string_bytes asked.folder)) asked.domain domains
+  pub tells : Tells (shown_in (string_bytes asked.folder)) asked.what (nat_lt 1 (length domains)) domains
+
+-- nothing is asked for by the words, or memory was refused
+abbrev pub IsUnasked : List (List ℕ) → ℕ → Type 0
+IsUnasked words status = ((status ≡ 2) × AskForNothing words) ⊎ (status ≡ 3)
+
+-- the domains of the machine can't be had
+pub record HasNoDomains (words : List (List ℕ)) (status : ℕ) : Type 0 where
+  pub asked : HereAsked
+  pub of_words : IsHereAsked words asked
+  pub trouble : Trouble
+  pub status_is : status ≡ trouble_status trouble
+
+-- each domain is told or unread, and the status is the greatest of theirs; or a write failed
+abbrev pub IsDone : List (List ℕ) → (List ℕ → Option Shown) → ℕ → Went → Type 0
+IsDone words shown_in status out =
+    IsOfDomains words shown_in
+    (λ shown what headed domains. AreTold shown what headed domains status
+    (Appends out.before out.after) ⊎ IsCutOff shown what headed domains status out)
+
+-- nothing is written in the first two cases
+abbrev pub IsHere : List (List ℕ) → (List ℕ → Option Shown) → ℕ → Went → Type 0
+IsHere words shown_in status out =
+    (IsUnasked words status × out.same) ⊎ (HasNoDomains words status × out.same)
+    ⊎ IsDone words shown_in status out

@@ -1,0 +1,6 @@
+pub mod FirstWords
+pub mod Went
+pub mod TextAsked
+pub mod HereAsked
+pub mod DomainAnswers
+pub mod HereTold

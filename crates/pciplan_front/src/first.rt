@@ -1,0 +1,28 @@
+//! The first word of a command line.
+ghost use Rattle.std.specs.Prelude.{map, string_bytes};
+ghost use Rattle.pciplan_front.specs.FirstWords.{IsFirst};
+
+/// Whose the words are.
+#[derive(Clone, Copy, Debug, PartialEq, Eq)]
+pub enum First {
+    /// Those of a command of two texts, or of none.
+    Texts,
+    Here,
+    Explain,
+    Version,
+}
+
+/// Whose the words are, by the first one.
+pub fn first_of(words: &[String]) -> First
+    ensures { IsFirst (map string_bytes words.now) result }
+{
+    let Some(word) = words.first() else {
+        return First::Texts;
+    };
+    match word.as_str() {
+        "here" => First::Here,
+        "explain" => First::Explain,
+        "version" => First::Version,
+        _ => First::Texts,
+    }
+}
