@@ -4,22 +4,27 @@
 _pciplan_model() {
     local begun='' each offered=''
     [[ $1 != *,* ]] || begun=${1%,*},
-    for each in ide power reset subtractive unnumbered vga vga16; do
+    for each in cardbus ide power reset subtractive unnumbered vga vga16 windows; do
         [[ ,$begun == *,$each,* || ($each == vga* && ,$begun == *,vga*) ]] || offered+="$begun$each "
     done
     [ -n "$begun" ] || offered+=all
     mapfile -t COMPREPLY < <(compgen -W "$offered" -- "$1")
 }
 
-# Fills COMPREPLY with what may stand at the cursor: a command, a text's file, or an option that isn't said yet.
+# Fills COMPREPLY with what may stand at the cursor: a command, a text's file or another word, or an option that isn't
+# said yet.
 _pciplan() {
-    local word=${COMP_WORDS[COMP_CWORD]} options said=' ' texts=0 ended='' at
+    local commands='here show check faults map size plan settle probe explain version'
+    local line=("${COMP_WORDS[@]}") place=$COMP_CWORD options said=' ' words='' most=2 count=0 ended='' word at
     COMPREPLY=()
-    if [ "$COMP_CWORD" -eq 1 ]; then
-        mapfile -t COMPREPLY < <(compgen -W 'show check faults map size plan settle probe' -- "$word")
+    word=${line[place]}
+    if [ "$place" -eq 1 ]; then
+        mapfile -t COMPREPLY < <(compgen -W "$commands" -- "$word")
         return
     fi
-    case ${COMP_WORDS[1]} in
+    [[ " $commands " == *" ${line[1]} "* ]] || return
+    case ${line[1]} in
+    here) options='--domain --from' most=1 words='faults map dump probe words' ;;
     show | size) options='' ;;
     check) options='--root' ;;
     faults) options='--host-io --host-mem --model --root --why' ;;
@@ -27,33 +32,37 @@ _pciplan() {
     plan) options='--io --mem --pref --root --why --writes' ;;
     settle) options='--anew --fixed --io --mem --pref --root --writes' ;;
     probe) options='--exact --least' ;;
+    explain) options='' most=1 words=$commands ;;
     *) return ;;
     esac
 
-    # Which options are said before the cursor, and how many texts. An equals sign is a word of its own here.
-    for ((at = 2; at < COMP_CWORD; at++)); do
-        case $ended${COMP_WORDS[at]} in
+    # Which options are said before the cursor, and how many other words. An equals sign is a word of its own here.
+    for ((at = 2; at < place; at++)); do
+        case $ended${line[at]} in
         --) ended=. ;;
-        --root | --model | --host-io | --host-mem | --io | --mem | --pref | --fixed)
-            said+="${COMP_WORDS[at]} "
-            [ "${COMP_WORDS[at + 1]}" != = ] || at=$((at + 1))
+        --root | --model | --host-io | --host-mem | --io | --mem | --pref | --fixed | --domain | --from)
+            said+="${line[at]} "
+            [ "${line[at + 1]}" != = ] || at=$((at + 1))
             at=$((at + 1))
             ;;
-        --*) said+="${COMP_WORDS[at]} " ;;
-        *) texts=$((texts + 1)) ;;
+        --*) said+="${line[at]} " ;;
+        *) count=$((count + 1)) ;;
         esac
     done
-    # For an option's own word nothing is offered, but for that of --model.
-    if [ "$at" -ne "$COMP_CWORD" ]; then
+    # For an option's own word nothing is offered, but for those of --model and --from.
+    if [ "$at" -ne "$place" ]; then
         [[ $said != *' --model ' || $word == = ]] || _pciplan_model "$word"
+        [[ $said != *' --from ' || $word == = ]] || compopt -o dirnames
         return
     fi
 
-    if [[ -z $ended && ($word == -* || $texts -ge 2) ]]; then
+    if [[ -z $ended && ($word == -* || $count -ge $most) ]]; then
         for at in $options; do
             [[ $said == *" $at "* || $at != "$word"* ]] || COMPREPLY+=("$at")
         done
-    elif [ "$texts" -lt 2 ]; then
+    elif [[ $count -lt $most && -n $words ]]; then
+        mapfile -t COMPREPLY < <(compgen -W "$words" -- "$word")
+    elif [ "$count" -lt "$most" ]; then
         compopt -o default
     fi
 }

@@ -5,6 +5,12 @@ function __pciplan_wants_command
     test (count (commandline -opc)) -eq 1
 end
 
+# __pciplan_is_behind COMMAND: whether a word behind this command alone is wanted.
+function __pciplan_is_behind
+    set -l words (commandline -opc)
+    test (count $words) -eq 2; and test "$words[2]" = "$argv[1]"
+end
+
 # __pciplan_takes OPTION COMMAND..: whether the command is one of these, and the option isn't said yet.
 function __pciplan_takes
     set -l words (commandline -opc)
@@ -35,6 +41,7 @@ end
 
 complete -c pciplan -f
 complete -c pciplan -n __pciplan_wants_text -F
+complete -c pciplan -n __pciplan_wants_command -a here -d 'Judge the Linux machine that it runs on'
 complete -c pciplan -n __pciplan_wants_command -a show -d 'List what each function decodes to'
 complete -c pciplan -n __pciplan_wants_command -a check -d 'Judge a dump and its probe'
 complete -c pciplan -n __pciplan_wants_command -a faults -d 'List all faults at once'
@@ -43,8 +50,14 @@ complete -c pciplan -n __pciplan_wants_command -a size -d 'Print the probe that 
 complete -c pciplan -n __pciplan_wants_command -a plan -d 'Plan the addresses of a board'
 complete -c pciplan -n __pciplan_wants_command -a settle -d 'Move what is at fault, within lists of ranges'
 complete -c pciplan -n __pciplan_wants_command -a probe -d 'Derive the probe from what Linux sized'
+complete -c pciplan -n __pciplan_wants_command -a explain -d 'Explain a fault or a command'
+complete -c pciplan -n __pciplan_wants_command -a version -d 'Print the version'
+complete -c pciplan -n '__pciplan_is_behind here' -a 'faults map dump probe words'
+complete -c pciplan -n '__pciplan_is_behind explain' -a 'here show check faults map size plan settle probe explain version'
+complete -c pciplan -n '__pciplan_takes domain here' -l domain -x -d 'Judge this domain alone'
+complete -c pciplan -n '__pciplan_takes from here' -l from -x -a '(__fish_complete_directories)' -d 'Folder that has sys and proc'
 complete -c pciplan -n '__pciplan_takes root check faults map plan settle' -l root -x -d 'Buses on which accesses of the host start'
-complete -c pciplan -n '__pciplan_takes model faults map' -l model -x -a '(__fish_append , all ide power reset subtractive unnumbered vga vga16)' -d 'Words by which functions are taken'
+complete -c pciplan -n '__pciplan_takes model faults map' -l model -x -a '(__fish_append , all cardbus ide power reset subtractive unnumbered vga vga16 windows)' -d 'Words by which functions are taken'
 complete -c pciplan -n '__pciplan_takes host-io faults map' -l host-io -x -d 'I/O addresses that the host sends'
 complete -c pciplan -n '__pciplan_takes host-mem faults map' -l host-mem -x -d 'Memory addresses that the host sends'
 complete -c pciplan -n '__pciplan_takes io plan settle' -l io -x -d 'Pool or ranges of I/O addresses'
