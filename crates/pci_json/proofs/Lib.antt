@@ -1,0 +1,6 @@
+pub mod Cuts
+pub mod Tokens
+pub mod Steps
+pub mod Largest
+pub mod Choices
+pub mod ReadBack

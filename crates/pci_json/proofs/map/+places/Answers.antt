@@ -1,0 +1,19 @@
+use Rattle.std.proofs.Common.{◌∷◌, [], ◌∙◌, Bool, codes, sym, ap, if◌then◌else◌}
+use Rattle.pci_json.specs.Lines.{lines_of}
+use Rattle.pci_json.specs.Members.{with_members, with_items, array_of}
+use Rattle.pci_json.proofs.Tokens.{array_value, named_value}
+use Rattle.pci_json.proofs.Steps.{no_parts}
+use Rattle.pci_json.specs.Documents.{places_of}
+use Rattle.pci_json.proofs.Steps.{items_done}
+use Rattle.std.proofs.Common.{◌+◌}
+use Rattle.pci_json.proofs.map.+places.Goals as goal
+
+pub push_inside-returns-clause-written : goal.push_inside-returns-clause-written
+push_inside-returns-clause-written g t c =
+    named_value c.args.out.now c.key.new.self c.end_array.new.self (codes "inside") (array_of (places_of (c.args.depth + 1) (lines_of c.args.text.now))) c.in_ok-key.ensures (array_value c.key.new.self c.begin_array.new.self c.push_places.new.out c.end_array.new.self (places_of (c.args.depth + 1) (lines_of c.args.text.now)) c.in_ok-begin_array.ensures c.in_ok-rest.ensures.written c.in_ok-end_array.ensures)
+    ∙ ap (with_members c.args.out.now) (ap (λ (b : Bool). if b then (codes "inside", array_of (places_of (c.args.depth + 1) (lines_of c.args.text.now))) ∷ [] else []) (sym (sym c.is_word.ensures ∙ c.if-not-is_word.false)))
+
+pub push_places-returns-clause-written : goal.push_places-returns-clause-written
+push_places-returns-clause-written g t c =
+    items_done c.loop-line.out (with_items c.args.out.now (places_of c.args.depth (lines_of c.args.text.now))) (places_of c.args.depth (lines_of c.loop-line.rest.now))
+    (ap (places_of c.args.depth) (no_parts 10 c.loop-line.rest.now c.is_empty.result c.is_empty.ensures c.loop-line-test.false)) c.loop-line.invariant.written

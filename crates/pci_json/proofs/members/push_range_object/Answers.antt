@@ -1,0 +1,7 @@
+use Rattle.std.proofs.lemmas.Result.{on_ok_weaker}
+use Rattle.pci_json.specs.Members.{range_members}
+use Rattle.pci_json.proofs.Tokens.{object_written}
+use Rattle.pci_json.proofs.members.push_range_object.Goals as goal
+
+pub returns : goal.returns
+returns g c = on_ok_weaker c.end_object.result (λ e. cc (e, c.in_ok-begin_object.ensures, c.in_ok-push_range.ensures, object_written c.args.out.now (range_members c.args.range.now))) c.end_object.ensures

@@ -1,0 +1,89 @@
+-- The lines of a listing, of a map, and of writes (docs/FORMATS.md, "Listing", "Address map" and "Planning").
+use Rattle.std.specs.Prelude.{ℕ, ◌==◌, Bool, true, List, [], ◌∷◌, ◌++◌, length, codes, if◌then◌else◌}
+use Rattle.std.specs.List.{before_first, after_first}
+use Rattle.json.specs.Json.{Json, string, boolean}
+use Rattle.pci_json.specs.Lines.{word, is_word, behind, value_of}
+use Rattle.pci_json.specs.Members.{array_of, hex, count, slot_and_register, last_of, range_members}
+
+-- ---- a listing
+
+-- S type T vendor V device D class C command X status X
+abbrev pub header_members : List ℕ → List (List ℕ × Json)
+header_members line =
+    (codes "slot", string (word 0 line)) ∷ (codes "type", count (value_of 10 (word 2 line)))
+    ∷ (codes "vendor", hex (word 4 line)) ∷ (codes "device", hex (word 6 line)) ∷ (codes "class", hex (word 8 line))
+    ∷ (codes "command", hex (word 10 line)) ∷ (codes "status", hex (word 12 line)) ∷ []
+
+-- bar r KIND F-L, or bar r KIND pref F-L
+abbrev pub bar_range_place : List ℕ → ℕ
+bar_range_place line = if is_word 3 (codes "pref") line then 4 else 3
+
+abbrev pub bar_members : List ℕ → List (List ℕ × Json)
+bar_members line =
+    (codes "register", hex (word 1 line)) ∷ (codes "kind", string (word 2 line))
+    ∷ (codes "prefetchable", boolean (is_word 3 (codes "pref") line))
+    ∷ range_members (word (bar_range_place line) line)
+
+-- rom r on F-L
+abbrev pub rom_members : List ℕ → List (List ℕ × Json)
+rom_members line =
+    (codes "register", hex (word 1 line)) ∷ (codes "on", boolean (is_word 2 (codes "on") line)) ∷ range_members (word 3 line)
+
+-- bus P S B
+abbrev pub bus_members : List ℕ → List (List ℕ × Json)
+bus_members line =
+    (codes "primary", string (word 1 line)) ∷ (codes "secondary", string (word 2 line))
+    ∷ (codes "subordinate", string (word 3 line)) ∷ []
+
+-- window r KIND F-L, or none or closed
+abbrev pub state_members : List ℕ → List (List ℕ × Json)
+state_members window =
+    if length (last_of window) == 0 then (codes "state", string window) ∷ []
+    else (codes "state", string (codes "open")) ∷ range_members window
+
+abbrev pub window_members : List ℕ → List (List ℕ × Json)
+window_members line =
+    (codes "register", hex (word 1 line)) ∷ (codes "kind", string (word 2 line)) ∷ state_members (word 3 line)
+
+-- cap p KIND and what it says
+abbrev pub capability_members : List ℕ → List (List ℕ × Json)
+capability_members line =
+    (codes "at", hex (word 1 line)) ∷ (codes "kind", string (word 2 line)) ∷ (codes "text", string (behind 3 line)) ∷ []
+
+-- ---- a map: F-L N free, F-L N PART S r, or F-L N PART pref S r
+
+abbrev pub kind_members : List ℕ → List (List ℕ × Json)
+kind_members line =
+    if is_word 3 (codes "pref") line then (codes "prefetchable", boolean true) ∷ slot_and_register 4 line
+    else slot_and_register 3 line
+
+abbrev pub free_members : List ℕ → List (List ℕ × Json)
+free_members line = (codes "part", string (codes "free")) ∷ range_members (word 0 line)
+
+abbrev pub sits_members : List ℕ → List (List ℕ × Json)
+sits_members line = (codes "part", string (word 2 line)) ∷ (kind_members line ++ range_members (word 0 line))
+
+abbrev pub outer_members : List ℕ → List (List ℕ × Json)
+outer_members line = if is_word 2 (codes "free") line then free_members line else sits_members line
+
+-- what a window has inside
+abbrev pub inside_members : List ℕ → List Json → List (List ℕ × Json)
+inside_members line inside = if is_word 2 (codes "window") line then (codes "inside", array_of inside) ∷ [] else []
+
+abbrev pub place_members : List ℕ → List Json → List (List ℕ × Json)
+place_members line inside = outer_members line ++ inside_members line inside
+
+-- bus bb SPACE
+abbrev pub root_members : List ℕ → List Json → List (List ℕ × Json)
+root_members line regions =
+    (codes "bus", string (word 1 line)) ∷ (codes "space", string (word 2 line)) ∷ (codes "regions", array_of regions) ∷ []
+
+-- ---- a write: S oo.w v
+
+abbrev pub is_point : ℕ → Bool
+is_point b = b == 46
+
+abbrev pub write_members : List ℕ → List (List ℕ × Json)
+write_members line =
+    (codes "slot", string (word 0 line)) ∷ (codes "offset", hex (before_first is_point (word 1 line)))
+    ∷ (codes "width", count (value_of 10 (after_first is_point (word 1 line)))) ∷ (codes "value", hex (word 2 line)) ∷ []

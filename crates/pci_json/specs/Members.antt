@@ -1,0 +1,85 @@
+-- The members of objects, and those that several kinds of lines share.
+use Rattle.std.specs.Prelude.{ℕ, ◌+◌, ◌-◌, ◌==◌, Bool, List, [], ◌∷◌, ◌++◌, codes, decimal, fold, map, length, if◌then◌else◌}
+use Rattle.std.specs.List.{before_first, after_first}
+use Rattle.json.specs.Json.{Json, string, number, array, object, Items, no_items, item, Members, no_members, member}
+use Rattle.json.specs.Token.{Token}
+use Rattle.json.specs.Tree.{json_tokens}
+use Rattle.pci_json.specs.Lines.{word, value_of, parts_of}
+
+-- a member: its name and its value
+abbrev pub Member : Type 0
+Member = List ℕ × Json
+
+abbrev pub members_of : List (List ℕ × Json) → Members
+members_of [] = no_members
+members_of (m ∷ ms) = member m.0 m.1 (members_of ms)
+
+abbrev pub object_of : List (List ℕ × Json) → Json
+object_of ms = object (members_of ms)
+
+abbrev pub items_of : List Json → Items
+items_of [] = no_items
+items_of (j ∷ js) = item j (items_of js)
+
+abbrev pub array_of : List Json → Json
+array_of js = array (items_of js)
+
+-- ---- their tokens, without the brackets
+
+abbrev pub member_tokens : List ℕ × Json → List Token
+member_tokens m = Token.key m.0 ∷ json_tokens m.1
+
+abbrev pub add_member : List Token → List ℕ × Json → List Token
+add_member tokens m = tokens ++ member_tokens m
+
+-- these tokens, and those of the members behind them
+abbrev pub with_members : List Token → List (List ℕ × Json) → List Token
+with_members tokens members = fold add_member tokens members
+
+abbrev pub add_item : List Token → Json → List Token
+add_item tokens j = tokens ++ json_tokens j
+
+abbrev pub with_items : List Token → List Json → List Token
+with_items tokens items = fold add_item tokens items
+
+-- ---- values of words
+
+-- a register, an offset, an address or a value of a register: its digits behind 0x
+abbrev pub hex : List ℕ → Json
+hex digits = string (48 ∷ 120 ∷ digits)
+
+abbrev pub count : ℕ → Json
+count n = number (decimal n)
+
+abbrev pub slot_and_register : ℕ → List ℕ → List (List ℕ × Json)
+slot_and_register n content = (codes "slot", string (word n content)) ∷ (codes "register", hex (word (n + 1) content)) ∷ []
+
+-- ---- a range F-L: its first and last address, and how many they are
+
+abbrev pub is_dash : ℕ → Bool
+is_dash b = b == 45
+
+abbrev pub first_of : List ℕ → List ℕ
+first_of = before_first is_dash
+
+abbrev pub last_of : List ℕ → List ℕ
+last_of = after_first is_dash
+
+abbrev pub size_of : List ℕ → ℕ
+size_of range = value_of 16 (last_of range) - value_of 16 (first_of range) + 1
+
+abbrev pub range_members : List ℕ → List (List ℕ × Json)
+range_members range =
+    (codes "first", hex (first_of range)) ∷ (codes "last", hex (last_of range))
+    ∷ (codes "size", count (size_of range)) ∷ []
+
+abbrev pub range_object : List ℕ → Json
+range_object range = object_of (range_members range)
+
+-- a range, or the word that stands in its place
+abbrev pub opening : List ℕ → Json
+opening range = if length (last_of range) == 0 then string range else range_object range
+
+-- the ranges that stand in a text with this byte between them
+abbrev pub ranges_of : ℕ → List ℕ → List Json
+ranges_of end text = map range_object (parts_of end text)

@@ -1,0 +1,60 @@
+-- The lines behind a fault's line, and what is off (docs/FORMATS.md, "All faults" and "Reasons with what is given").
+use Rattle.std.specs.Prelude.{ℕ, ◌+◌, ◌||◌, List, [], ◌∷◌, ◌++◌, codes, if◌then◌else◌}
+use Rattle.json.specs.Json.{Json, string, boolean, null}
+use Rattle.pci_json.specs.Lines.{word, is_word, behind}
+use Rattle.pci_json.specs.Members.{object_of, array_of, count, slot_and_register, range_members, opening, ranges_of}
+
+-- S r PART F-L N behind so many words; PART is two words, and may be followed by `pref`
+abbrev pub range_place : ℕ → List ℕ → ℕ
+range_place n line = if is_word (n + 4) (codes "pref") line then n + 5 else n + 4
+
+-- S r PART behind so many words
+abbrev pub part_members : ℕ → List ℕ → List (List ℕ × Json)
+part_members n line =
+    slot_and_register n line ++ (codes "part", string (word (n + 2) line)) ∷ (codes "space", string (word (n + 3) line)) ∷ []
+
+abbrev pub region_members : ℕ → List ℕ → List (List ℕ × Json)
+region_members n line =
+    part_members n line ++ (codes "prefetchable", boolean (is_word (n + 4) (codes "pref") line))
+    ∷ range_members (word (range_place n line) line)
+
+-- S 3e vga SPACE F-L,F-L of each 1K: the last three words where each KB has these ports
+abbrev pub each_members : List ℕ → List (List ℕ × Json)
+each_members line = if is_word 6 (codes "of") line then (codes "each", count 1024) ∷ [] else []
+
+abbrev pub legacy_members : List ℕ → List (List ℕ × Json)
+legacy_members line =
+    part_members 1 line ++ (codes "ranges", array_of (ranges_of 44 (word 5 line))) ∷ each_members line
+
+-- needs, first, second: a region, or a legacy part
+abbrev pub claim_members : List ℕ → List (List ℕ × Json)
+claim_members line =
+    if is_word 3 (codes "vga") line || is_word 3 (codes "vga16") line then legacy_members line else region_members 1 line
+
+-- bridge S on SPACE W, or behind SPACE W pref W; and vga or vga16 at the end
+abbrev pub prefetchable_window : List ℕ → List (List ℕ × Json)
+prefetchable_window line = if is_word 5 (codes "pref") line then (codes "pref", opening (word 6 line)) ∷ [] else []
+
+abbrev pub legacy_place : List ℕ → ℕ
+legacy_place line = if is_word 5 (codes "pref") line then 7 else 5
+
+abbrev pub legacy_word : List ℕ → List (List ℕ × Json)
+legacy_word line =
+    if is_word (legacy_place line) [] line then [] else (codes "legacy", string (word (legacy_place line) line)) ∷ []
+
+abbrev pub way_members : List ℕ → List (List ℕ × Json)
+way_members line = (word 3 line, opening (word 4 line)) ∷ prefetchable_window line
+
+abbrev pub bridge_members : List ℕ → List (List ℕ × Json)
+bridge_members line =
+    (codes "slot", string (word 1 line)) ∷ (codes "on", boolean (is_word 2 (codes "on") line))
+    ∷ (codes "windows", object_of (way_members line))
+    ∷ legacy_word line
+
+-- host SPACE F-L .., or host SPACE none
+abbrev pub host_ranges : List ℕ → List Json
+host_ranges line = if is_word 2 (codes "none") line then [] else ranges_of 32 (behind 2 line)
+
+-- fits F-L N, fits none, or fits unknown
+abbrev pub fits_value : List ℕ → Json
+fits_value line = if is_word 1 (codes "none") line then null else opening (word 1 line)

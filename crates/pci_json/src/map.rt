@@ -1,0 +1,191 @@
+//! The regions of a map.
+ghost use Rattle.std.specs.Prelude.{◌≡◌, ◌<◌, ◌≤◌, ◌+◌, ◌^◌, ◌++◌, ℕ, length, OnOk, IfOk};
+ghost use Rattle.pci_json.specs.Lines.{lines_of};
+ghost use Rattle.pci_json.specs.Members.{with_members, with_items};
+ghost use Rattle.pci_json.specs.Listings.{free_members, sits_members, outer_members, inside_members, root_members};
+ghost use Rattle.pci_json.specs.Documents.{place_of, places_of, root_of, buses_of, behind_heading, aside_of, is_heading};
+
+use crate::lines::{content, cut, depth_of, is_inner, is_word, word};
+use crate::listing::push_kind;
+use crate::members::push_range;
+use crate::output::Output;
+use std::alloc::{AllocError, Allocator};
+
+/// A free run.
+fn push_free<A: Allocator>(out: &mut Output<A>, line: &str) -> Result<(), AllocError>
+    ensures { OnOk result (out.new ≡ with_members out.old (free_members line.now)) }
+{
+    out.text("part", "free")?;
+    push_range(out, word(line, 0))
+}
+
+/// The members of a region, but what is inside it.
+fn push_sits<A: Allocator>(out: &mut Output<A>, line: &str) -> Result<(), AllocError>
+    ensures { OnOk result (out.new ≡ with_members out.old (sits_members line.now)) }
+{
+    out.text("part", word(line, 2))?;
+    push_kind(out, line)?;
+    push_range(out, word(line, 0))
+}
+
+/// The members of a line of a map, but what is inside it.
+fn push_place<A: Allocator>(out: &mut Output<A>, line: &str) -> Result<(), AllocError>
+    ensures { OnOk result (out.new ≡ with_members out.old (outer_members line.now)) }
+{
+    if is_word(line, 2, "free") {
+        push_free(out, line)
+    } else {
+        push_sits(out, line)
+    }
+}
+
+/// The regions at this depth, up to the first line above it, and the text from that line on.
+#[cycle(places)]
+pub fn push_places<'a, A: Allocator>(
+    out: &mut Output<A>,
+    text: &'a str,
+    depth: usize,
+) -> Result<&'a str, AllocError>
+    ensures written { OnOk result (out.new
+        ≡ with_items out.old (places_of depth (lines_of text.now))) }
+    // what was passed over stands at this depth or deeper
+    ensures rest { IfOk result (λ rest. (above : ℕ) → above < depth
+        → places_of above (lines_of rest.now) ≡ places_of above (lines_of text.now)) }
+    ensures shorter { IfOk result (λ rest. length rest.now ≤ length text.now) }
+{
+    let mut rest = text;
+    while !rest.is_empty() {
+        let (line, more) = cut(rest, '\n');
+        if depth_of(line) < depth {
+            return Ok(rest);
+        }
+        rest = push_here(out, line, more, depth)?;
+    }
+    Ok(rest)
+}
+
+/// The region of a line, if it stands at this depth, with what is inside, and the text behind that.
+#[cycle(places)]
+fn push_here<'a, A: Allocator>(
+    out: &mut Output<A>,
+    line: &str,
+    text: &'a str,
+    depth: usize,
+) -> Result<&'a str, AllocError>
+    ensures written { OnOk result (out.new ≡ with_items out.old (place_of depth line.now (places_of (depth + 1) (lines_of text.now)))) }
+    ensures rest { IfOk result (λ rest. (above : ℕ) → above ≤ depth
+        → places_of above (lines_of rest.now) ≡ places_of above (lines_of text.now)) }
+    ensures shorter { IfOk result (λ rest. length rest.now ≤ length text.now) }
+{
+    if depth_of(line) != depth {
+        return Ok(text);
+    }
+    let line = content(line);
+    out.begin_object()?;
+    push_place(out, line)?;
+    let rest = push_inside(out, line, text, depth)?;
+    out.end_object()?;
+    Ok(rest)
+}
+
+/// What a window has inside, and the text behind that.
+#[cycle(places)]
+fn push_inside<'a, A: Allocator>(
+    out: &mut Output<A>,
+    line: &str,
+    text: &'a str,
+    depth: usize,
+) -> Result<&'a str, AllocError>
+    requires { depth < 2 ^ 63 }
+    ensures written { OnOk result (out.new ≡ with_members out.old (inside_members line.now (places_of (depth + 1) (lines_of text.now)))) }
+    ensures rest { IfOk result (λ rest. (above : ℕ) → above ≤ depth
+        → places_of above (lines_of rest.now) ≡ places_of above (lines_of text.now)) }
+    ensures shorter { IfOk result (λ rest. length rest.now ≤ length text.now) }
+{
+    if !is_word(line, 2, "window") {
+        return Ok(text);
+    }
+    out.key("inside")?;
+    out.begin_array()?;
+    let rest = push_places(out, text, depth + 1)?;
+    out.end_array()?;
+    Ok(rest)
+}
+
+/// Whether a line isn't indented and begins with this word.
+pub fn is_heading(line: &str, name: &str) -> bool
+    ensures { result ≡ is_heading name.now line.now }
+{
+    !is_inner(line) && is_word(content(line), 0, name)
+}
+
+/// The members of a root bus and a space, of their heading and the text behind it.
+fn push_root_members<A: Allocator>(
+    out: &mut Output<A>,
+    line: &str,
+    text: &str,
+) -> Result<(), AllocError>
+    ensures { OnOk result (out.new
+        ≡ with_members out.old (root_members line.now (places_of 1 (lines_of text.now)))) }
+{
+    out.text("bus", word(line, 1))?;
+    out.text("space", word(line, 2))?;
+    out.key("regions")?;
+    out.begin_array()?;
+    push_places(out, text, 1)?;
+    out.end_array()
+}
+
+/// The root bus and the space of a line, if it is such a heading, with the regions of the text behind it.
+fn push_root<A: Allocator>(out: &mut Output<A>, line: &str, text: &str) -> Result<(), AllocError>
+    ensures { OnOk result
+        (out.new ≡ with_items out.old (root_of line.now (lines_of text.now))) }
+{
+    if !is_heading(line, "bus") {
+        return Ok(());
+    }
+    out.begin_object()?;
+    push_root_members(out, content(line), text)?;
+    out.end_object()
+}
+
+/// The root buses of a map.
+pub fn push_roots<A: Allocator>(out: &mut Output<A>, text: &str) -> Result<(), AllocError>
+    ensures { OnOk result (out.new ≡ with_items out.old (buses_of (lines_of text.now))) }
+{
+    let mut rest = text;
+    while !rest.is_empty() {
+        let (line, more) = cut(rest, '\n');
+        push_root(out, line, more)?;
+        rest = more;
+    }
+    Ok(())
+}
+
+/// The text behind the first heading that begins with this word, or no text.
+fn behind_heading<'a>(text: &'a str, name: &str) -> &'a str
+    ensures { lines_of result.now ≡ behind_heading name.now (lines_of text.now) }
+{
+    let mut rest = text;
+    while !rest.is_empty() {
+        let (line, more) = cut(rest, '\n');
+        if is_heading(line, name) {
+            return more;
+        }
+        rest = more;
+    }
+    rest
+}
+
+/// The regions below the first such heading.
+pub fn push_aside<A: Allocator>(
+    out: &mut Output<A>,
+    text: &str,
+    name: &str,
+) -> Result<(), AllocError>
+    ensures { OnOk result (out.new
+        ≡ with_items out.old (aside_of name.now (lines_of text.now))) }
+{
+    push_places(out, behind_heading(text, name), 1)?;
+    Ok(())
+}
