@@ -323,6 +323,7 @@ taken() {
     case $command in
     plan | settle) set -- bare.txt bare_probe.txt $(pools_but "${1-}") "$@" ;;
     here) [ "${1-}" = --from ] || set -- --from home "$@" ;;
+    json) [ $# -gt 0 ] || set -- check bare.txt bare_probe.txt ;;
     explain | version) ;;
     *) set -- bare.txt bare_probe.txt "$@" ;;
     esac
@@ -445,7 +446,7 @@ offers() {
 
 quiet 'bash takes its completion' bash -n $names/pciplan.bash
 if command -v bash >/dev/null; then
-    offers "''" 'here show check faults map size plan settle probe explain version'
+    offers "''" 'here show check faults map size plan settle probe json explain version'
     for command in show check faults map size plan settle probe; do
         offers "$command ''" FILES
         offers "$command dump.txt probe.txt ''" \
@@ -480,9 +481,15 @@ if command -v bash >/dev/null; then
     offers "here --from ''" ''
     offers 'here --domain = 0000 m' 'map'
     offers "here --domain 0000 dump ''" '--from'
-    offers "explain ''" 'here show check faults map size plan settle probe explain version'
+    offers "explain ''" 'here show check faults map size plan settle probe json explain version'
     offers "explain check ''" ''
     offers "version ''" ''
+    offers "json ''" 'show check faults map plan settle'
+    offers "json s" 'show settle'
+    offers "json probe ''" ''
+    offers "json json ''" ''
+    offers "json faults ''" FILES
+    offers "json faults dump.txt probe.txt --m" '--model'
 else
     echo 'skipped: what bash offers'
 fi

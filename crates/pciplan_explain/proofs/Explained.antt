@@ -69,6 +69,7 @@ names_name commands.Size = refl
 names_name commands.Plan = refl
 names_name commands.Settle = refl
 names_name commands.Probe = refl
+names_name commands.Json = refl
 names_name commands.Explain = refl
 names_name commands.Version = refl
 

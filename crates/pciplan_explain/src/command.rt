@@ -17,12 +17,13 @@ pub enum Command {
     Plan,
     Settle,
     Probe,
+    Json,
     Explain,
     Version,
 }
 
 /// All commands in the order of the manual page.
-pub const COMMANDS: [Command; 11] = [
+pub const COMMANDS: [Command; 12] = [
     Command::Here,
     Command::Show,
     Command::Check,
@@ -32,6 +33,7 @@ pub const COMMANDS: [Command; 11] = [
     Command::Plan,
     Command::Settle,
     Command::Probe,
+    Command::Json,
     Command::Explain,
     Command::Version,
 ];
@@ -51,6 +53,7 @@ impl Command {
             Command::Plan => "plan",
             Command::Settle => "settle",
             Command::Probe => "probe",
+            Command::Json => "json",
             Command::Explain => "explain",
             Command::Version => "version",
         }
@@ -71,6 +74,7 @@ impl Command {
             Command::Plan => texts::PLAN,
             Command::Settle => texts::SETTLE,
             Command::Probe => texts::PROBE,
+            Command::Json => texts::JSON,
             Command::Explain => texts::EXPLAIN,
             Command::Version => texts::VERSION,
         }

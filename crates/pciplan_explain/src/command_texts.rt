@@ -205,6 +205,14 @@ pciplan probe DUMP SIZES [--exact | --least]
     the sizes are; its yes holds for these sizes alone.
 ";
 
+pub const JSON: &str = "\
+pciplan json COMMAND WORDS
+  Prints the answer of a command as one JSON document on one line, with the
+  status and the messages of that command. COMMAND WORDS are those of check,
+  faults, map or show, or of plan or settle with --writes. The file
+  docs/answer.schema.json of the source tree is the schema of the documents.
+";
+
 pub const EXPLAIN: &str = "\
 pciplan explain [WORD]
   Prints what a fault is, what it mostly comes from and what to do. WORD is the

@@ -57,6 +57,7 @@ size: Prints the probe that firmware sizing register by register would read.
 plan: Places all that has an address in three pools, and prints the planned dump.
 settle: Leaves what works where it is, and places the rest in three lists of ranges.
 probe: Prints the probe that is derived of the dump and the sizes that Linux found.
+json: Prints the answer of a command as one JSON document on one line.
 explain: Prints what a fault is, what it mostly comes from and what to do.
 version: Prints pciplan 0.5.
 ";

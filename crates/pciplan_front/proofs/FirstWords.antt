@@ -2,7 +2,7 @@
 use Rattle.std.proofs.Common.{◌≡◌, ◌<◌, ℕ, List, [], ◌∷◌, refl, sym, ap, ◌∙◌, codes, get_or, arith}
 use Rattle.pciplan_front.specs.FirstWords.{AreOfTexts, BeginsWith, IsFirst}
 use Rattle.pciplan_front.specs.declared.first.First.{First}
-use Rattle.pciplan_front.specs.declared.first.First.TheVariants.{Texts, Here, Explain, Version}
+use Rattle.pciplan_front.specs.declared.first.First.TheVariants.{Texts, Here, Explain, Version, Json}
 
 -- words begin with one word alone
 not_both : (words : List (List ℕ)) (a b : List ℕ) → (a ≡ b → ⊥) → BeginsWith words a → BeginsWith words b → ⊥
@@ -18,8 +18,17 @@ here_explain same = cc same
 here_version : codes "here" ≡ codes "version" → ⊥
 here_version same = cc same
 
+here_json : codes "here" ≡ codes "json" → ⊥
+here_json same = less_apart 104 106 (omega arith) (ap (λ (v : List ℕ). get_or v 0 0) same)
+
 explain_version : codes "explain" ≡ codes "version" → ⊥
 explain_version same = less_apart 101 118 (omega arith) (ap (λ (v : List ℕ). get_or v 0 0) same)
+
+explain_json : codes "explain" ≡ codes "json" → ⊥
+explain_json same = cc same
+
+version_json : codes "version" ≡ codes "json" → ⊥
+version_json same = cc same
 
 -- words that are another's are none of two texts
 pub not_texts : (words : List (List ℕ)) (first : First) → IsFirst words first → (first ≡ Texts → ⊥) → AreOfTexts words → ⊥
@@ -27,21 +36,32 @@ not_texts words Texts is other of = other refl
 not_texts words Here is other of = of.no_here is
 not_texts words Explain is other of = of.no_explain is
 not_texts words Version is other of = of.no_version is
+not_texts words Json is other of = of.no_json is
 
 pub of_here : (words : List (List ℕ)) (first : First) → IsFirst words first → BeginsWith words (codes "here") → first ≡ Here
 of_here words Texts is begins = absurd (is.no_here begins)
 of_here words Here is begins = refl
 of_here words Explain is begins = absurd (not_both words _ _ here_explain begins is)
 of_here words Version is begins = absurd (not_both words _ _ here_version begins is)
+of_here words Json is begins = absurd (not_both words _ _ here_json begins is)
 
 pub of_explain : (words : List (List ℕ)) (first : First) → IsFirst words first → BeginsWith words (codes "explain") → first ≡ Explain
 of_explain words Texts is begins = absurd (is.no_explain begins)
 of_explain words Here is begins = absurd (not_both words _ _ here_explain is begins)
 of_explain words Explain is begins = refl
 of_explain words Version is begins = absurd (not_both words _ _ explain_version begins is)
+of_explain words Json is begins = absurd (not_both words _ _ explain_json begins is)
 
 pub of_version : (words : List (List ℕ)) (first : First) → IsFirst words first → BeginsWith words (codes "version") → first ≡ Version
 of_version words Texts is begins = absurd (is.no_version begins)
 of_version words Here is begins = absurd (not_both words _ _ here_version is begins)
 of_version words Explain is begins = absurd (not_both words _ _ explain_version is begins)
 of_version words Version is begins = refl
+of_version words Json is begins = absurd (not_both words _ _ version_json begins is)
+
+pub of_json : (words : List (List ℕ)) (first : First) → IsFirst words first → BeginsWith words (codes "json") → first ≡ Json
+of_json words Texts is begins = absurd (is.no_json begins)
+of_json words Here is begins = absurd (not_both words _ _ here_json is begins)
+of_json words Explain is begins = absurd (not_both words _ _ explain_json is begins)
+of_json words Version is begins = absurd (not_both words _ _ version_json is begins)
+of_json words Json is begins = refl

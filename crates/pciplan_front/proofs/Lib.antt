@@ -2,4 +2,5 @@ mod FirstWords
 mod DomainReplies
 mod HerePieces
 mod HereWords
+mod JsonReplies
 mod Texts

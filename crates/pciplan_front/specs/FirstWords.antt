@@ -1,21 +1,28 @@
 -- Whose the words of a command line are.
 use Rattle.std.specs.Prelude.{◌≡◌, ℕ, List, [], ◌∷◌, codes}
 use Rattle.pciplan_front.specs.declared.first.First.{First}
-use Rattle.pciplan_front.specs.declared.first.First.TheVariants.{Texts, Here, Explain, Version}
+use Rattle.pciplan_front.specs.declared.first.First.TheVariants.{Texts, Here, Explain, Version, Json}
 
 -- the first word is this one
 abbrev pub BeginsWith : List (List ℕ) → List ℕ → Type 0
 BeginsWith [] name = ⊥
 BeginsWith (word ∷ rest) name = word ≡ name
 
--- the first word is none of the three, or there is none
+-- the first word is none of the four, or there is none
 pub record AreOfTexts (words : List (List ℕ)) : Type 0 where
   pub no_here : BeginsWith words (codes "here") → ⊥
   pub no_explain : BeginsWith words (codes "explain") → ⊥
   pub no_version : BeginsWith words (codes "version") → ⊥
+  pub no_json : BeginsWith words (codes "json") → ⊥
 
 abbrev pub IsFirst : List (List ℕ) → First → Type 0
 IsFirst words Texts = AreOfTexts words
 IsFirst words Here = BeginsWith words (codes "here")
 IsFirst words Explain = BeginsWith words (codes "explain")
 IsFirst words Version = BeginsWith words (codes "version")
+IsFirst words Json = BeginsWith words (codes "json")
+
+-- the words behind the first one
+abbrev pub behind : List (List ℕ) → List (List ℕ)
+behind [] = []
+behind (word ∷ rest) = rest

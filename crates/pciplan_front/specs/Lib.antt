@@ -1,6 +1,7 @@
 pub mod FirstWords
 pub mod Went
 pub mod TextAsked
+pub mod JsonAsked
 pub mod HereAsked
 pub mod DomainAnswers
 pub mod HereTold

@@ -10,6 +10,7 @@ pub enum First {
     Here,
     Explain,
     Version,
+    Json,
 }
 
 /// Whose the words are, by the first one.
@@ -23,6 +24,7 @@ pub fn first_of(words: &[String]) -> First
         "here" => First::Here,
         "explain" => First::Explain,
         "version" => First::Version,
+        "json" => First::Json,
         _ => First::Texts,
     }
 }

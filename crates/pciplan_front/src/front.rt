@@ -7,11 +7,13 @@ ghost use Rattle.pciplan_cli.specs.Invocations.{HasBadWords, IsInvocationOf};
 ghost use Rattle.pciplan_cli.specs.declared.invocation.Invocation.{Invocation};
 ghost use Rattle.pciplan_tasks.specs.Answers.{AreRemarked};
 ghost use Rattle.pciplan_tasks.specs.Tasks.{HasFailed, IsTaskRefused};
-ghost use Rattle.pciplan_front.specs.FirstWords.{AreOfTexts, BeginsWith};
+ghost use Rattle.pciplan_front.specs.FirstWords.{AreOfTexts, BeginsWith, behind};
 ghost use Rattle.pciplan_front.specs.HereTold.{IsHere};
+ghost use Rattle.pciplan_front.specs.JsonAsked.{IsJson};
 ghost use Rattle.pciplan_front.specs.TextAsked.{IsTold};
 ghost use Rattle.pciplan_front.specs.Went.{went};
 
+use crate::documents::json;
 use crate::first::{First, first_of};
 use crate::folder::Foldered;
 use crate::here::here;
@@ -36,6 +38,16 @@ fn lent<'a>(alloc: Global, words: &'a [String]) -> Result<Vec<&'a str>, AllocErr
     Ok(lent)
 }
 
+/// The words behind the first one.
+fn behind_first<'a>(words: &'a [&'a str]) -> &'a [&'a str]
+    ensures { map (λ word. word.now) result.now ≡ behind (map (λ word. word.now) words.now) }
+{
+    if words.is_empty() {
+        return words;
+    }
+    &words[1..]
+}
+
 /// Does what the words of a command beside those of two texts ask for.
 fn beside<D: Opening, P: Opening, M: Foldered, O: Sink, E: Sink>(
     alloc: Global,
@@ -47,6 +59,17 @@ fn beside<D: Opening, P: Opening, M: Foldered, O: Sink, E: Sink>(
         → IsTold (map string_bytes words.now) result
         (went (O.taken outside.old.out) (O.taken outside.new.out) (outside.new.out ≡ outside.old.out)
         (O.failures outside.new.out ≡ O.failures outside.old.out + 1)) }
+    ensures json { first ≡ First.Json → IsJson (behind (map string_bytes words.now))
+        (texts (D.stands outside.old.dump) (D.bytes_at outside.old.dump))
+        (texts (P.stands outside.old.second) (P.bytes_at outside.old.second))
+        result
+        (went (O.taken outside.old.out) (O.taken outside.new.out) (outside.new.out ≡ outside.old.out)
+        (O.failures outside.new.out ≡ O.failures outside.old.out + 1))
+        (went (E.taken outside.old.err) (E.taken outside.new.err) (outside.new.err ≡ outside.old.err)
+        (E.failures outside.new.err ≡ E.failures outside.old.err + 1))
+        (HasFailed (D.failures outside.old.dump) (D.failures outside.new.dump)
+        (P.failures outside.old.second) (P.failures outside.new.second)
+        (O.failures outside.old.out) (O.failures outside.new.out)) }
     ensures here { first ≡ First.Here → IsHere (map string_bytes words.now)
         (M.shown_in outside.old.machine) result
         (went (O.taken outside.old.out) (O.taken outside.new.out) (outside.new.out ≡ outside.old.out)
@@ -59,6 +82,7 @@ fn beside<D: Opening, P: Opening, M: Foldered, O: Sink, E: Sink>(
     let words = lent.as_slice();
     match first {
         First::Here => here(alloc, words, outside),
+        First::Json => json(alloc, behind_first(words), outside),
         First::Explain | First::Version | First::Texts => {
             tell(alloc, words, &mut outside.out, &mut outside.err)
         }
@@ -114,6 +138,19 @@ pub fn front<D: Opening, P: Opening, M: Foldered, O: Sink, E: Sink>(
         → IsTold (map string_bytes words.items) result
         (went (O.taken outside.old.out) (O.taken outside.new.out) (outside.new.out ≡ outside.old.out)
         (O.failures outside.new.out ≡ O.failures outside.old.out + 1))) }
+    // `json` and a command
+    ensures json { IfOk words (λ words. BeginsWith (map string_bytes words.items) (codes "json")
+        → IsJson (behind (map string_bytes words.items))
+        (texts (D.stands outside.old.dump) (D.bytes_at outside.old.dump))
+        (texts (P.stands outside.old.second) (P.bytes_at outside.old.second))
+        result
+        (went (O.taken outside.old.out) (O.taken outside.new.out) (outside.new.out ≡ outside.old.out)
+        (O.failures outside.new.out ≡ O.failures outside.old.out + 1))
+        (went (E.taken outside.old.err) (E.taken outside.new.err) (outside.new.err ≡ outside.old.err)
+        (E.failures outside.new.err ≡ E.failures outside.old.err + 1))
+        (HasFailed (D.failures outside.old.dump) (D.failures outside.new.dump)
+        (P.failures outside.old.second) (P.failures outside.new.second)
+        (O.failures outside.old.out) (O.failures outside.new.out))) }
     ensures here { IfOk words (λ words. BeginsWith (map string_bytes words.items) (codes "here")
         → IsHere (map string_bytes words.items) (M.shown_in outside.old.machine) result
         (went (O.taken outside.old.out) (O.taken outside.new.out) (outside.new.out ≡ outside.old.out)

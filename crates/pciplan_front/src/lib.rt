@@ -1,4 +1,4 @@
-//! The words of `pciplan`: the commands of two texts, and `here`, `explain` and `version` beside them.
+//! The words of `pciplan`: the commands of two texts, and `here`, `explain`, `version` and `json` beside them.
 //!
 //! [`front::front`] looks at the first word and does what is asked for: it is all that `main` calls.
 //!
@@ -9,6 +9,7 @@
 //! ```
 #![tactic(auto)]
 
+pub mod documents;
 pub mod domain_reply;
 pub mod first;
 pub mod folder;

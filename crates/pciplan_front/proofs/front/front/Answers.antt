@@ -1,10 +1,13 @@
 use Rattle.std.proofs.Common.{◌≡◌, ◌+◌, ℕ, List, map, subst, inl, inr}
 use Rattle.std.specs.String.{string_bytes}
-use Rattle.pciplan_front.specs.FirstWords.{AreOfTexts, IsFirst}
+use Rattle.pciplan_cli.specs.CarriedOut.{texts}
+use Rattle.pciplan_tasks.specs.Tasks.{HasFailed}
+use Rattle.pciplan_front.specs.FirstWords.{AreOfTexts, IsFirst, behind}
 use Rattle.pciplan_front.specs.HereTold.{IsHere}
+use Rattle.pciplan_front.specs.JsonAsked.{IsJson}
 use Rattle.pciplan_front.specs.TextAsked.{IsTold}
 use Rattle.pciplan_front.specs.Went.{Went, went}
-use Rattle.pciplan_front.proofs.FirstWords.{not_texts, of_explain, of_here, of_version}
+use Rattle.pciplan_front.proofs.FirstWords.{not_texts, of_explain, of_here, of_json, of_version}
 use Rattle.pciplan_front.proofs.front.front.Goals as goal
 
 pub returns-in_default : goal.returns-in_default
@@ -32,6 +35,19 @@ returns-in_default g c =
             | inl explain ↦ inl (of_explain (map string_bytes c.in-Ok.words.items) c.first_of.result is explain)
             | inr version ↦ inr (of_version (map string_bytes c.in-Ok.words.items) c.first_of.result is version)
           ]));
+      json = λ begins. subst
+          (λ v. IsJson (behind (map string_bytes v))
+          (texts (g.D.Opening.stands c.args.outside.now.dump) (g.D.Opening.bytes_at c.args.outside.now.dump))
+          (texts (g.P.Opening.stands c.args.outside.now.second) (g.P.Opening.bytes_at c.args.outside.now.second))
+          c.beside.result
+          (went (g.O.Sink.taken c.args.outside.now.out) (g.O.Sink.taken c.beside.new.outside.out) (c.beside.new.outside.out ≡ c.args.outside.now.out)
+          (g.O.Sink.failures c.beside.new.outside.out ≡ g.O.Sink.failures c.args.outside.now.out + 1))
+          (went (g.E.Sink.taken c.args.outside.now.err) (g.E.Sink.taken c.beside.new.outside.err) (c.beside.new.outside.err ≡ c.args.outside.now.err)
+          (g.E.Sink.failures c.beside.new.outside.err ≡ g.E.Sink.failures c.args.outside.now.err + 1))
+          (HasFailed (g.D.Source.failures c.args.outside.now.dump) (g.D.Source.failures c.beside.new.outside.dump)
+          (g.P.Source.failures c.args.outside.now.second) (g.P.Source.failures c.beside.new.outside.second)
+          (g.O.Sink.failures c.args.outside.now.out) (g.O.Sink.failures c.beside.new.outside.out)))
+          again (c.beside.ensures.json (of_json (map string_bytes c.in-Ok.words.items) c.first_of.result is begins));
       here = λ begins. subst
           (λ v. IsHere (map string_bytes v) (g.M.Foldered.shown_in c.args.outside.now.machine) c.beside.result
           (went (g.O.Sink.taken c.args.outside.now.out) (g.O.Sink.taken c.beside.new.outside.out) (c.beside.new.outside.out ≡ c.args.outside.now.out)
@@ -45,3 +61,9 @@ returns-in-Texts-clause-text g c =
     let items : c.as_slice.result.now ≡ c.in-Ok.words.items = cc (c.as_slice.ensures.value) in
     let of : AreOfTexts (map string_bytes c.in-Ok.words.items) = subst (λ v. AreOfTexts (map string_bytes v)) items c.in-Texts.ensures in
     rw c.in-Ok.is (λ begins. absurd (elim begins [ inl explain ↦ of.no_explain explain | inr version ↦ of.no_version version ]))
+
+pub returns-in-Texts-clause-json : goal.returns-in-Texts-clause-json
+returns-in-Texts-clause-json g c =
+    let items : c.as_slice.result.now ≡ c.in-Ok.words.items = cc (c.as_slice.ensures.value) in
+    let of : AreOfTexts (map string_bytes c.in-Ok.words.items) = subst (λ v. AreOfTexts (map string_bytes v)) items c.in-Texts.ensures in
+    rw c.in-Ok.is (λ begins. absurd (of.no_json begins))
