@@ -14,9 +14,13 @@ _pciplan_model() {
 # Fills COMPREPLY with what may stand at the cursor: a command, a text's file or another word, or an option that isn't
 # said yet.
 _pciplan() {
-    local commands='here show check faults map size plan settle probe explain version'
+    local commands='here show check faults map size plan settle probe json explain version'
     local line=("${COMP_WORDS[@]}") place=$COMP_CWORD options said=' ' words='' most=2 count=0 ended='' word at
     COMPREPLY=()
+    # What follows `json` is one of these commands with its words.
+    if [[ ${line[1]} == json && $place -gt 1 ]]; then
+        line=("${line[@]:1}") place=$((place - 1)) commands=${commands/*probe json*/show check faults map plan settle}
+    fi
     word=${line[place]}
     if [ "$place" -eq 1 ]; then
         mapfile -t COMPREPLY < <(compgen -W "$commands" -- "$word")

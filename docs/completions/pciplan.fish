@@ -5,6 +5,15 @@ function __pciplan_wants_command
     test (count (commandline -opc)) -eq 1
 end
 
+# The words before the cursor; what follows json is a command with its words.
+function __pciplan_words
+    set -l words (commandline -opc)
+    if test (count $words) -gt 2; and test "$words[2]" = json
+        set -e words[2]
+    end
+    string join \n -- $words
+end
+
 # __pciplan_is_behind COMMAND: whether a word behind this command alone is wanted.
 function __pciplan_is_behind
     set -l words (commandline -opc)
@@ -13,14 +22,14 @@ end
 
 # __pciplan_takes OPTION COMMAND..: whether the command is one of these, and the option isn't said yet.
 function __pciplan_takes
-    set -l words (commandline -opc)
+    set -l words (__pciplan_words)
     contains -- "$words[2]" $argv[2..-1]
     and not string match -qr -- "^--$argv[1](=|\$)" $words
 end
 
 # Whether one of the two texts is still wanted, and the cursor doesn't stand in an option's own word.
 function __pciplan_wants_text
-    set -l words (commandline -opc)
+    set -l words (__pciplan_words)
     contains -- "$words[2]" show check faults map size plan settle probe; or return
     set -e words[1..2]
     set -l valued --root --model --host-io --host-mem --io --mem --pref --fixed
@@ -50,10 +59,12 @@ complete -c pciplan -n __pciplan_wants_command -a size -d 'Print the probe that 
 complete -c pciplan -n __pciplan_wants_command -a plan -d 'Plan the addresses of a board'
 complete -c pciplan -n __pciplan_wants_command -a settle -d 'Move what is at fault, within lists of ranges'
 complete -c pciplan -n __pciplan_wants_command -a probe -d 'Derive the probe from what Linux sized'
+complete -c pciplan -n __pciplan_wants_command -a json -d 'Print the answer of a command as JSON'
 complete -c pciplan -n __pciplan_wants_command -a explain -d 'Explain a fault or a command'
 complete -c pciplan -n __pciplan_wants_command -a version -d 'Print the version'
 complete -c pciplan -n '__pciplan_is_behind here' -a 'faults map dump probe words'
-complete -c pciplan -n '__pciplan_is_behind explain' -a 'here show check faults map size plan settle probe explain version'
+complete -c pciplan -n '__pciplan_is_behind json' -a 'show check faults map plan settle'
+complete -c pciplan -n '__pciplan_is_behind explain' -a 'here show check faults map size plan settle probe json explain version'
 complete -c pciplan -n '__pciplan_takes domain here' -l domain -x -d 'Judge this domain alone'
 complete -c pciplan -n '__pciplan_takes from here' -l from -x -a '(__fish_complete_directories)' -d 'Folder that has sys and proc'
 complete -c pciplan -n '__pciplan_takes root check faults map plan settle' -l root -x -d 'Buses on which accesses of the host start'
