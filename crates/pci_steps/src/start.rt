@@ -12,7 +12,7 @@ use pci_plan::write::Write;
 use std::alloc::Allocator;
 
 /// Adds Command and each address register of a function, with what it shows there.
-fn add_shown<A: Allocator>(all: &mut Vec<Write, A>, block: &Block) -> Result<(), OutOfMemory>
+pub fn add_shown<A: Allocator>(all: &mut Vec<Write, A>, block: &Block) -> Result<(), OutOfMemory>
     ensures { OnOk result (map write_value all.new.items
         ≡ map write_value all.old.items ++ shown_writes block.now) }
 {
