@@ -1,3 +1,4 @@
+pub mod Forms
 pub mod Arguments
 pub mod CommandWords
 pub mod CommandLines

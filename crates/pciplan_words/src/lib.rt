@@ -5,5 +5,6 @@
 
 pub mod asked;
 mod commands;
+pub mod forms;
 pub mod further;
 pub mod words;
