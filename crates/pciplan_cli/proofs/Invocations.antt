@@ -1,7 +1,9 @@
 -- From the words to the line that is carried out.
-use Rattle.std.proofs.Common.{◌≡◌, ◌⊎◌, inr, List, ℕ, sym}
+use Rattle.std.proofs.Common.{◌≡◌, ◌⊎◌, inl, inr, List, ℕ, subst, sym}
 use Rattle.std.specs.Prelude.{Result, Ok, Err, IfOk, IfErr, MatchResult}
 use Rattle.std.proofs.lemmas.Result.{IfErr-at_err}
+use Rattle.pciplan_words.specs.CommandLines.{HasNoLine}
+use Rattle.pciplan_words.specs.Forms.{plain_words}
 use Rattle.pciplan_cli.specs.Invocations.{IsRefusedLine, AreWordsRefused, HasBadWords}
 use Rattle.pciplan_tasks.specs.Statuses.{status_of}
 use Rattle.pciplan_cli.specs.declared.invocation.Invocation.{Invocation}
@@ -14,6 +16,13 @@ line_refused words failure = elim failure as (λ f. IsRefusedLine words f → Ar
   | Memory ↦ λ refused. tt
   | Usage ↦ λ refused. inr refused
   | _ ↦ λ refused. refused
+]
+
+-- words are refused where those without their forms make no command line
+pub none_without_forms : (words plain : List (List ℕ)) → plain ≡ plain_words words → (failure : Failure) → (failure ≡ Memory) ⊎ ((failure ≡ Usage) × HasNoLine plain) → AreWordsRefused words failure
+none_without_forms words plain same failure either = elim either [
+  | inl e ↦ subst (AreWordsRefused words) (sym e) tt
+  | inr none ↦ subst (AreWordsRefused words) (sym none.0) (inl (subst HasNoLine same none.1))
 ]
 
 -- what holds of the line that the words make holds of one that they make

@@ -1,5 +1,5 @@
 -- The task that a command line asks for, and the word that it is refused for.
-use Rattle.std.specs.Prelude.{◌≡◌, Bool, true, false}
+use Rattle.std.specs.Prelude.{◌≡◌, Bool, true, false, Option, None, Some}
 use Rattle.pci_base.specs.declared.range.Range.{Range}
 use Rattle.pci_place.specs.declared.pools.Pools.{Pools}
 use Rattle.pci_probe.specs.declared.assuming.Assuming.{Assuming}
@@ -13,6 +13,7 @@ use Rattle.pciplan_lists.specs.PoolWords.{IsPoolWord, HasNoPool}
 use Rattle.pciplan_words.specs.declared.asked.Asked.{Asked}
 use Rattle.pciplan_words.specs.declared.asked.Asked.TheVariants as asked
 use Rattle.pciplan_words.specs.declared.asked.PlanWords.{PlanWords}
+use Rattle.pciplan_words.specs.declared.forms.Form.{Form}
 use Rattle.pciplan_tasks.specs.declared.task.Task.{Task}
 use Rattle.pciplan_tasks.specs.declared.task.Task.TheVariants as task
 use Rattle.pciplan_tasks.specs.declared.failure.PoolOption.TheVariants.{Io, Mem, Pref}
@@ -36,6 +37,7 @@ IsAssumingOf true false assuming = assuming ≡ Nothing
 IsAssumingOf false true assuming = assuming ≡ Any
 IsAssumingOf false false assuming = assuming ≡ Disabled
 
+-- without a form of the writes
 abbrev pub IsTaskOf : Asked → Task → Type 0
 IsTaskOf asked.Show t = t ≡ task.Show
 IsTaskOf (asked.Check root) t = (roots : Roots) × AreRootsOf root roots × (t ≡ task.Check roots)
@@ -43,9 +45,18 @@ IsTaskOf (asked.Faults words) t = IsFaultsOf words t
 IsTaskOf (asked.Map words) t = IsMapOf words t
 IsTaskOf asked.Size t = t ≡ task.Size
 IsTaskOf (asked.Plan words) t = IsPlanningOf words t
-IsTaskOf (asked.Settle words) t = IsSettlingOf words t
+IsTaskOf (asked.Settle words) t = IsSettlingOf None words t
 IsTaskOf (asked.Probe exact least) t =
     (assuming : Assuming) × IsAssumingOf exact least assuming × (t ≡ task.Probe assuming)
+
+-- with a form of the writes, which `settle` alone has
+abbrev pub IsFormOf : Form → Asked → Task → Type 0
+IsFormOf form (asked.Settle words) t = IsSettlingOf (Some form) words t
+IsFormOf form _ t = ⊥
+
+abbrev pub IsTaskWith : Option Form → Asked → Task → Type 0
+IsTaskWith None asked t = IsTaskOf asked t
+IsTaskWith (Some form) asked t = IsFormOf form asked t
 
 -- the words before the one that is refused have their roots and pools
 abbrev pub HasRoots : PlanWords → Type 0
@@ -70,3 +81,12 @@ IsAskedRefused (asked.Plan words) (Pool Pref) = HasMem words × HasNoPool words.
 IsAskedRefused (asked.Settle words) failure = IsSettlingRefused words failure
 IsAskedRefused (asked.Probe exact least) Usage = (exact ≡ true) × (least ≡ true)
 IsAskedRefused _ _ = ⊥
+
+-- the same with a form: it alone refuses a command other than `settle`
+abbrev pub IsFormRefused : Asked → Failure → Type 0
+IsFormRefused (asked.Settle words) failure = IsSettlingRefused words failure
+IsFormRefused _ failure = failure ≡ Usage
+
+abbrev pub IsRefusedWith : Option Form → Asked → Failure → Type 0
+IsRefusedWith None asked failure = IsAskedRefused asked failure
+IsRefusedWith (Some form) asked failure = IsFormRefused asked failure

@@ -1,14 +1,20 @@
 -- The settling that a command line asks for.
-use Rattle.std.specs.Prelude.{◌≡◌, ◌⊎◌, ℕ, List, [], Option, None, Some}
+use Rattle.std.specs.Prelude.{◌≡◌, ◌⊎◌, ℕ, Bool, true, false, List, [], Option, None, Some}
 use Rattle.std.specs.Borrow.{Bor}
 use Rattle.std.specs.Global.{Vec}
 use Rattle.pci_spec.specs.Slot.{Slot}
 use Rattle.pci_base.specs.declared.range.RootRange.{RootRange}
+use Rattle.pci_script.specs.declared.form.Form.{Form as ScriptForm}
+use Rattle.pci_script.specs.declared.form.Form.TheVariants as scripts
 use Rattle.pci_tree.specs.declared.roots.Roots.{Roots}
 use Rattle.pciplan_lists.specs.ListWords.{HasRanges, IsListWord}
 use Rattle.pciplan_lists.specs.SlotWords.{IsSlotList, IsSlotListWord}
 use Rattle.pciplan_words.specs.declared.asked.SettleWords.{SettleWords}
+use Rattle.pciplan_words.specs.declared.forms.Form.{Form}
+use Rattle.pciplan_words.specs.declared.forms.Form.TheVariants.{Setpci, Grub}
 use Rattle.pciplan_cli.specs.OptionWords.{AreRootsOf, HasNoRoots}
+use Rattle.pciplan_tasks.specs.declared.task.Printed.{Printed}
+use Rattle.pciplan_tasks.specs.declared.task.Printed.TheVariants.{Dump, Writes, Script}
 use Rattle.pciplan_tasks.specs.declared.task.SettleRequest.{SettleRequest}
 use Rattle.pciplan_tasks.specs.declared.task.Task.{Task}
 use Rattle.pciplan_tasks.specs.declared.task.Task.TheVariants as task
@@ -25,8 +31,19 @@ abbrev pub AreFixed : Option (Bor (List ℕ)) → Vec Slot → Type 0
 AreFixed None slots = slots.items ≡ []
 AreFixed (Some word) slots = IsSlotListWord word.now slots.items
 
+-- the script of a form that a word names
+abbrev pub script_form : Form → ScriptForm
+script_form Setpci = scripts.Setpci
+script_form Grub = scripts.Grub
+
+-- what is printed: a script where a form is named, else the writes where they are asked for, else the settled dump
+abbrev pub printed_of : Option Form → Bool → Printed
+printed_of (Some form) writes = Script (script_form form)
+printed_of None true = Writes
+printed_of None false = Dump
+
 -- the settling that the words ask for: each list is that of its own option
-pub record IsSettlingOf (asked : SettleWords) (t : Task) : Type 0 where
+pub record IsSettlingOf (form : Option Form) (asked : SettleWords) (t : Task) : Type 0 where
   pub request : SettleRequest
   pub are_roots : AreRootsOf asked.root request.roots
   pub io : IsListOf asked.io request.lists.io
@@ -34,7 +51,7 @@ pub record IsSettlingOf (asked : SettleWords) (t : Task) : Type 0 where
   pub pref : IsListOf asked.pref request.lists.pref
   pub fixed : AreFixed asked.fixed request.fixed
   pub anew : request.anew ≡ asked.anew
-  pub is : t ≡ task.Settle request asked.writes
+  pub is : t ≡ task.Settle request (printed_of form asked.writes)
 
 -- ---- the first word that is none
 

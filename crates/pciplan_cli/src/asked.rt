@@ -1,7 +1,7 @@
 //! The task that a command line asks for.
 ghost use Rattle.std.specs.Prelude.{◌≡◌, true, MatchOption, MatchResult};
 ghost use Rattle.pciplan_words.specs.declared.asked.Asked.{Asked};
-ghost use Rattle.pciplan_cli.specs.Asked.{IsAssumingOf, IsTaskOf, IsAskedRefused};
+ghost use Rattle.pciplan_cli.specs.Asked.{IsAskedRefused, IsAssumingOf, IsFormOf, IsFormRefused, IsRefusedWith, IsTaskOf, IsTaskWith};
 
 use crate::faults_asked::faults_of;
 use crate::map_asked::map_of;
@@ -12,6 +12,7 @@ use pci_probe::assuming::Assuming;
 use pciplan_tasks::failure::{Failure, PoolOption};
 use pciplan_tasks::task::Task;
 use pciplan_words::asked::{Asked, PlanWords};
+use pciplan_words::forms::Form;
 use std::alloc::Global;
 
 /// The planning that is asked for.
@@ -46,7 +47,7 @@ fn assuming_of(exact: bool, least: bool) -> Option<Assuming>
 /// The task that is asked for. The root list is read first, then the words of `--model` and what the host sends, of I/O
 /// before memory, or the pools or lists, of I/O, memory and prefetchable memory, and the fixed slots: the first word that is
 /// none is the fault.
-pub fn task_of(alloc: Global, asked: &Asked<'_>) -> Result<Task, Failure>
+fn task_of(alloc: Global, asked: &Asked<'_>) -> Result<Task, Failure>
     ensures { MatchResult result (IsTaskOf asked.now) (IsAskedRefused asked.now) }
 {
     match asked {
@@ -58,9 +59,29 @@ pub fn task_of(alloc: Global, asked: &Asked<'_>) -> Result<Task, Failure>
         Asked::Map(words) => map_of(alloc, words),
         Asked::Size => Ok(Task::Size),
         Asked::Plan(words) => planning_of(words),
-        Asked::Settle(words) => settling_of(alloc, words),
+        Asked::Settle(words) => settling_of(alloc, words, None),
         Asked::Probe { exact, least } => Ok(Task::Probe {
             assuming: assuming_of(*exact, *least).ok_or(Failure::Usage)?,
         }),
+    }
+}
+
+/// The task that is asked for with a form of the writes: `settle` alone has any.
+fn task_of_form(alloc: Global, asked: &Asked<'_>, form: Form) -> Result<Task, Failure>
+    ensures { MatchResult result (IsFormOf form asked.now) (IsFormRefused asked.now) }
+{
+    match asked {
+        Asked::Settle(words) => settling_of(alloc, words, Some(form)),
+        _ => Err(Failure::Usage),
+    }
+}
+
+/// The task that is asked for, with the form of the writes where one is named.
+pub fn task_with(alloc: Global, asked: &Asked<'_>, form: Option<Form>) -> Result<Task, Failure>
+    ensures { MatchResult result (IsTaskWith form asked.now) (IsRefusedWith form asked.now) }
+{
+    match form {
+        None => task_of(alloc, asked),
+        Some(form) => task_of_form(alloc, asked, form),
     }
 }

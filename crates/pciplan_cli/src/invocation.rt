@@ -5,11 +5,12 @@ ghost use Rattle.pciplan_words.specs.CommandLines.{IsGiven, HasNoLine};
 ghost use Rattle.pciplan_tasks.specs.Statuses.{status_of};
 ghost use Rattle.pciplan_tasks.specs.declared.failure.Failure.{Failure};
 
-use crate::asked::task_of;
+use crate::asked::task_with;
 use pci_dump::streams::Sink;
 use pciplan_tasks::failure::{Failure, report};
 use pciplan_tasks::task::Task;
 use pciplan_words::asked::{Given, WordsFault};
+use pciplan_words::forms::{form_in, plain_words};
 use pciplan_words::words::words_given;
 use std::alloc::Global;
 
@@ -40,9 +41,10 @@ fn invocation_of(alloc: Global, words: &[&str]) -> Result<Invocation, Failure>
     ensures { MatchResult result (IsInvocationOf (map (λ w. w.now) words.now))
         (AreWordsRefused (map (λ w. w.now) words.now)) }
 {
-    let given = given_by(alloc, words)?;
+    let plain = plain_words(alloc, words)?;
+    let given = given_by(alloc, plain.as_slice())?;
     Ok(Invocation {
-        task: task_of(alloc, &given.asked)?,
+        task: task_with(alloc, &given.asked, form_in(words))?,
         dump: String::from_str(alloc, given.dump)?,
         probe: String::from_str(alloc, given.second)?,
     })

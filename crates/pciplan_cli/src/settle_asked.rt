@@ -1,19 +1,19 @@
 //! The settling that a command line asks for.
 ghost use Rattle.std.specs.Prelude.{◌≡◌, ◌⊎◌, MatchResult};
-ghost use Rattle.pciplan_words.specs.declared.asked.Asked.{Asked};
-ghost use Rattle.pciplan_cli.specs.Asked.{IsTaskOf, IsAskedRefused};
-ghost use Rattle.pciplan_cli.specs.SettleAsked.{AreFixed, IsListOf, HasNoListWord, HasNoSlotsWord, SpellsSlots};
+ghost use Rattle.pciplan_cli.specs.SettleAsked.{AreFixed, HasNoListWord, HasNoSlotsWord, IsListOf, IsSettlingOf, IsSettlingRefused, SpellsSlots, printed_of};
 ghost use Rattle.pciplan_lists.specs.ListWords.{HasRanges};
 ghost use Rattle.pciplan_tasks.specs.declared.failure.Failure.{Failure};
 
 use crate::option_words::roots_of;
 use pci_base::range::RootRange;
 use pci_base::slot::Slot;
+use pci_script::form::Form as ScriptForm;
 use pciplan_lists::list_word::list_of_word;
 use pciplan_lists::slot_list::slots_of_word;
 use pciplan_tasks::failure::{Failure, PoolOption};
-use pciplan_tasks::task::{SettleLists, SettleRequest, Task};
+use pciplan_tasks::task::{Printed, SettleLists, SettleRequest, Task};
 use pciplan_words::asked::SettleWords;
+use pciplan_words::forms::Form;
 use std::alloc::Global;
 
 /// The list of the word of an option.
@@ -37,10 +37,25 @@ fn fixed_of(alloc: Global, word: Option<&str>) -> Result<Vec<Slot>, Failure>
     }
 }
 
+/// What is to be printed, by the form that is named and by whether the writes are asked for.
+fn printed_of(form: Option<Form>, writes: bool) -> Printed
+    ensures { result ≡ printed_of form writes }
+{
+    match (form, writes) {
+        (Some(Form::Setpci), _) => Printed::Script(ScriptForm::Setpci),
+        (Some(Form::Grub), _) => Printed::Script(ScriptForm::Grub),
+        (None, true) => Printed::Writes,
+        (None, false) => Printed::Dump,
+    }
+}
+
 /// The settling that is asked for.
-pub fn settling_of(alloc: Global, asked: &SettleWords<'_>) -> Result<Task, Failure>
-    ensures { MatchResult result (IsTaskOf (Asked.Settle asked.now))
-        (IsAskedRefused (Asked.Settle asked.now)) }
+pub fn settling_of(
+    alloc: Global,
+    asked: &SettleWords<'_>,
+    form: Option<Form>,
+) -> Result<Task, Failure>
+    ensures { MatchResult result (IsSettlingOf form asked.now) (IsSettlingRefused asked.now) }
 {
     let roots = roots_of(asked.root).ok_or(Failure::Root)?;
     let lists = SettleLists {
@@ -56,6 +71,6 @@ pub fn settling_of(alloc: Global, asked: &SettleWords<'_>) -> Result<Task, Failu
     };
     Ok(Task::Settle {
         request,
-        writes: asked.writes,
+        printed: printed_of(form, asked.writes),
     })
 }

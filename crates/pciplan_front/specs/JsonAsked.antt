@@ -12,18 +12,19 @@ use Rattle.pciplan_cli.specs.Invocations.{IsInvocationOf, HasBadWords}
 use Rattle.pciplan_cli.specs.declared.invocation.Invocation.{Invocation}
 use Rattle.pciplan_tasks.specs.Answers.{Answer, AreRemarked}
 use Rattle.pciplan_tasks.specs.Tasks.{IsAnswerOf, IsTaskRefused}
+use Rattle.pciplan_tasks.specs.declared.task.Printed.TheVariants.{Writes}
 use Rattle.pciplan_tasks.specs.declared.task.Task.{Task}
 use Rattle.pciplan_tasks.specs.declared.task.Task.TheVariants as task
 use Rattle.pciplan_front.specs.Went.{Went}
 
--- the command whose answer has a document: an answer that is a dump has none
+-- the command whose answer has a document: an answer that is a dump has none, nor has a script
 abbrev pub IsDocumented : Task → Command → Type 0
 IsDocumented task.Show command = command ≡ json.Show
 IsDocumented (task.Check roots) command = command ≡ json.Check
 IsDocumented (task.Faults beside why) command = command ≡ json.Faults
 IsDocumented (task.Map beside) command = command ≡ json.Map
 IsDocumented (task.Plan pools true why roots) command = command ≡ json.Plan
-IsDocumented (task.Settle request true) command = command ≡ json.Settle
+IsDocumented (task.Settle request Writes) command = command ≡ json.Settle
 IsDocumented _ command = ⊥
 
 -- the document of a text of this status, on one line

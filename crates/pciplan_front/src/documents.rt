@@ -20,7 +20,7 @@ use pciplan_cli::program::open_texts;
 use pciplan_tasks::failure::{Failure, report};
 use pciplan_tasks::reply::{Reply, Text, send};
 use pciplan_tasks::run::reply_to;
-use pciplan_tasks::task::Task;
+use pciplan_tasks::task::{Printed, Task};
 use std::alloc::Global;
 
 /// The command whose answer has a document; None of a task whose answer is the text of a dump, and of `size`.
@@ -34,7 +34,10 @@ fn command_of(task: &Task) -> Option<Command>
         Task::Faults { .. } => Some(Command::Faults),
         Task::Map { .. } => Some(Command::Map),
         Task::Plan { writes: true, .. } => Some(Command::Plan),
-        Task::Settle { writes: true, .. } => Some(Command::Settle),
+        Task::Settle {
+            printed: Printed::Writes,
+            ..
+        } => Some(Command::Settle),
         Task::Plan { .. } | Task::Settle { .. } | Task::Size | Task::Probe { .. } => None,
     }
 }

@@ -3,4 +3,5 @@ mod PlainWrites
 mod Tasks
 pub mod Faults
 mod WithNothing
+mod SettlingTold
 mod SettlingWrites

@@ -33,5 +33,5 @@ pair_answered (task.Faults beside why) whole dump_left second_left answer is = i
 pair_answered (task.Map beside) whole dump_left second_left answer is = is
 pair_answered task.Size whole dump_left second_left answer is = is
 pair_answered (task.Plan pools writes why roots) whole dump_left second_left answer is = is
-pair_answered (task.Settle request writes) whole dump_left second_left answer is = is
+pair_answered (task.Settle request printed) whole dump_left second_left answer is = is
 pair_answered (task.Probe assuming) whole dump_left second_left answer is = absurd whole

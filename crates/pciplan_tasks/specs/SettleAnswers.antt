@@ -1,5 +1,5 @@
 -- What the program answers where two texts are to be settled.
-use Rattle.std.specs.Prelude.{◌≡◌, ◌⊎◌, ℕ, List, map, Bool, if◌then◌else◌}
+use Rattle.std.specs.Prelude.{◌≡◌, ◌⊎◌, ℕ, List, map}
 use Rattle.std.specs.List.{flat_map}
 use Rattle.pci_spec.specs.Text.{Block, text_of}
 use Rattle.pci_spec.specs.System.{system_of}
@@ -11,6 +11,7 @@ use Rattle.settle_spec.specs.Writes.{Settled, settle}
 use Rattle.pci_place.specs.Above.{system_in}
 use Rattle.pci_settle.specs.Lists.{root_range_value}
 use Rattle.pci_base.specs.declared.memory.Refused.TheVariants as refused
+use Rattle.pci_script.specs.Scripts.{script}
 use Rattle.pci_settle_writes.specs.Requests.{request}
 use Rattle.pci_settle_writes.specs.Dumps.{IsSettledDump}
 use Rattle.pci_settle_writes.specs.Endings.{IsRefusal, HasNoAssumed}
@@ -21,6 +22,8 @@ use Rattle.pci_tree.specs.Roots.{buses_of}
 use Rattle.pciplan_tasks.specs.Answers.{Answer}
 use Rattle.pciplan_tasks.specs.Answers as told
 use Rattle.pciplan_tasks.specs.PlanAnswers.{IsRefusedText}
+use Rattle.pciplan_tasks.specs.declared.task.Printed.{Printed}
+use Rattle.pciplan_tasks.specs.declared.task.Printed.TheVariants.{Dump, Writes, Script}
 use Rattle.pciplan_tasks.specs.declared.task.SettleLists.{SettleLists}
 use Rattle.pciplan_tasks.specs.declared.task.SettleRequest.{SettleRequest}
 
@@ -36,10 +39,10 @@ lists_said l = record {
 abbrev pub request_said : SettleRequest → Request
 request_said r = request (buses_of r.roots) (lists_said r.lists) r.fixed.items r.anew
 
--- what is asked for: how two texts are settled, and whether as writes
+-- what is asked for: how two texts are settled, and what is printed
 pub record SettleAsked : Type 0 where
   pub request : Request
-  pub writes : Bool
+  pub printed : Printed
 
 -- two dumps with the root buses
 abbrev pub settle_admission : SettleAsked → List Block → List Block → Admission
@@ -56,9 +59,11 @@ pub record IsSettled (q : Request) (a : Admission) (after : List Block) (writes 
   pub settled : IsSettledDump q a after
   pub is : settle q (system_in a) ≡ Settled writes
 
--- a line for each write where the writes are asked for, else the settled dump
-abbrev pub settled_text : Bool → List Write → List Block → List ℕ
-settled_text is_writes writes after = if is_writes then flat_map write_line writes else text_of after
+-- what is printed of it: the settled dump, a line for each write, or their script, which compares with the start
+abbrev pub settled_text : Printed → List Block → List Write → List Block → List ℕ
+settled_text Dump start writes after = text_of after
+settled_text Writes start writes after = flat_map write_line writes
+settled_text (Script form) start writes after = script form start writes
 
 -- what settling comes to, which is sound
 pub record IsSettledText (asked : SettleAsked) (dump probe : List Block) (answer : Answer) : Type 0 where
@@ -67,7 +72,7 @@ pub record IsSettledText (asked : SettleAsked) (dump probe : List Block) (answer
   pub admitted : IsAdmitted (settle_admission asked dump probe)
   pub is : IsSettled asked.request (settle_admission asked dump probe) after writes
   pub sound : IsSound asked.request.roots (system_of after probe)
-  pub line : answer ≡ told.done (settled_text asked.writes writes after)
+  pub line : answer ≡ told.done (settled_text asked.printed dump writes after)
 
 -- the line of the fault for which nothing is settled, where the two are admitted
 pub record IsNotSettledText (asked : SettleAsked) (dump probe : List Block) (answer : Answer) : Type 0 where

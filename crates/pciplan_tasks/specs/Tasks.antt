@@ -53,8 +53,8 @@ IsPairAnswer (task.Plan pools writes why roots) =
       why = why;
       roots = buses_of roots;
     }
-IsPairAnswer (task.Settle request writes) =
-    IsSettlingTold record { request = request_said request; writes = writes }
+IsPairAnswer (task.Settle request printed) =
+    IsSettlingTold record { request = request_said request; printed = printed }
 IsPairAnswer (task.Probe assuming) = λ dump probe answer. ⊥
 
 -- the task takes a whole dump and a whole probe: the verdict reads both side by side, and a derived probe takes sizes

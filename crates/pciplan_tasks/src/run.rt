@@ -132,7 +132,7 @@ pub fn pair_reply<A: Allocator + Copy>(
             why,
             roots,
         } => plan_pair(alloc, dump, probe, pools, *writes, *why, *roots),
-        Task::Settle { request, writes } => settle_pair(alloc, dump, probe, request, *writes),
+        Task::Settle { request, printed } => settle_pair(alloc, dump, probe, request, *printed),
         Task::Check { .. } | Task::Probe { .. } => unreachable!(),
     }
 }

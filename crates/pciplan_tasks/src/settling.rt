@@ -10,31 +10,40 @@ ghost use Rattle.pciplan_tasks.specs.SettleAnswers.{IsSettlingTold, request_said
 
 use crate::planning::lines_of;
 use crate::reply::{Reply, Text, done, refused};
-use crate::task::SettleRequest;
+use crate::task::{Printed, SettleRequest};
 use pci_base::memory::{OutOfMemory, Refused};
 use pci_base::slot::Slot;
 use pci_dump::dump::Dump;
+use pci_script::script::script;
 use pci_settle::list::Lists;
 use pci_settle_writes::settle::{Settled, settle};
 use pci_tree::admit::admit_with;
 use pci_tree::admitted::Admitted;
 use std::alloc::Allocator;
 
-/// What settling answers: its writes, or the settled dump.
+/// What settling answers: the settled dump, its writes, or the script of them.
 fn settled_reply<A: Allocator + Copy>(
     alloc: A,
+    admitted: &Admitted<A>,
     settled: Settled<A>,
-    writes: bool,
+    printed: Printed,
 ) -> Result<Reply<A>, OutOfMemory>
     requires { All (λ w. IsTrue (is_two_or_four w)) settled.writes.all.items }
-    ensures { IfOk result (λ reply. answer_of reply
-        ≡ done (settled_text writes (map write_value settled.writes.all.items) settled.dump)) }
+    ensures { IfOk result (λ reply. answer_of reply ≡ done (settled_text printed admitted.now.dump
+        (map write_value settled.writes.all.items) settled.dump)) }
 {
-    if writes {
-        let lines = lines_of(alloc, settled.writes.all.as_slice())?;
-        return Ok(done(alloc, Text::Lines(lines)));
+    match printed {
+        Printed::Dump => Ok(done(alloc, Text::Dump(settled.dump))),
+        Printed::Writes => {
+            let lines = lines_of(alloc, settled.writes.all.as_slice())?;
+            Ok(done(alloc, Text::Lines(lines)))
+        }
+        Printed::Script(form) => {
+            let start = admitted.dump().blocks();
+            let lines = script(alloc, form, start, settled.writes.all.as_slice())?;
+            Ok(done(alloc, Text::Lines(lines)))
+        }
     }
-    Ok(done(alloc, Text::Dump(settled.dump)))
 }
 
 /// Settles what was admitted.
@@ -44,32 +53,32 @@ fn settle_admitted<A: Allocator + Copy>(
     lists: &Lists,
     fixed: &[Slot],
     anew: bool,
-    writes: bool,
+    printed: Printed,
 ) -> Result<Reply<A>, OutOfMemory>
     requires { IsAdmitted admitted.now }
     ensures { IfOk result (λ reply. IsSettlingTold record {
       request = request admitted.now.roots (lists_value lists.now) fixed.now anew;
-      writes = writes;
+      printed = printed;
     } admitted.now.dump admitted.now.probe (answer_of reply)) }
 {
     match settle(alloc, admitted, lists, fixed, anew) {
-        Ok(settled) => settled_reply(alloc, settled, writes),
+        Ok(settled) => settled_reply(alloc, admitted, settled, printed),
         Err(Refused::Fault(fault)) => refused(alloc, &fault),
         Err(Refused::Memory) => Err(OutOfMemory),
     }
 }
 
-/// Settles a dump and its probe as it is asked for: writes in the place of the settled dump, where they are asked for.
+/// Settles a dump and its probe as it is asked for, and answers what is to be printed of it.
 pub fn settle_pair<A: Allocator + Copy>(
     alloc: A,
     dump: Dump<A>,
     probe: Dump<A>,
     request: &SettleRequest,
-    writes: bool,
+    printed: Printed,
 ) -> Result<Reply<A>, OutOfMemory>
     ensures { IfOk result (λ reply. IsSettlingTold record {
       request = request_said request.now;
-      writes = writes;
+      printed = printed;
     } dump probe (answer_of reply)) }
 {
     let lists = Lists {
@@ -84,7 +93,7 @@ pub fn settle_pair<A: Allocator + Copy>(
             &lists,
             request.fixed.as_slice(),
             request.anew,
-            writes,
+            printed,
         ),
         Err(Refused::Fault(fault)) => refused(alloc, &fault),
         Err(Refused::Memory) => Err(OutOfMemory),

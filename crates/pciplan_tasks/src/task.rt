@@ -5,6 +5,7 @@ use pci_base::slot::Slot;
 use pci_model::words::Words;
 use pci_place::pools::Pools;
 use pci_probe::assuming::Assuming;
+use pci_script::form::Form;
 use pci_tree::roots::Roots;
 
 /// The ranges that the host sends to its root buses, of I/O and of memory; None of a space of which nothing is said: it
@@ -44,6 +45,17 @@ pub struct SettleRequest {
     pub anew: bool,
 }
 
+/// What is printed of a settling.
+#[derive(Clone, Copy)]
+pub enum Printed {
+    /// The settled dump.
+    Dump,
+    /// The writes that lead there, a line for each.
+    Writes,
+    /// The same writes as a script.
+    Script(Form),
+}
+
 /// What is to be done with a dump and its probe.
 #[derive(Drop)]
 pub enum Task {
@@ -77,7 +89,7 @@ pub enum Task {
     /// Settles them as it is asked for: the settled dump, or the writes that lead there.
     Settle {
         request: SettleRequest,
-        writes: bool,
+        printed: Printed,
     },
     /// Derives the probe from the dump and the sizes that Linux tells, which are the second text, assuming the least size of
     /// these registers where none is told.

@@ -2,8 +2,9 @@
 use crate::on_boards::{Made, is_cut_off, is_printed, is_refused, is_unread};
 use pci_base::range::{Range, RootRange};
 use pci_base::slot::Slot;
+use pci_script::form::Form;
 use pci_tree::roots::Roots;
-use pciplan_tasks::task::{SettleLists, SettleRequest, Task};
+use pciplan_tasks::task::{Printed, SettleLists, SettleRequest, Task};
 use std::alloc::{AllocError, Global};
 use std::test::Fail;
 use test_support::row::Row;
@@ -39,14 +40,14 @@ fn lists_to(alloc: Global, last: u64) -> Result<SettleLists, AllocError> {
 
 /// Settling in these lists, with the function at this device of bus 00 not to be written, where one is named, and else all
 /// placed anew.
-fn task_to(alloc: Global, last: u64, fixed: Option<u8>, writes: bool) -> Made {
+fn task_to(alloc: Global, last: u64, fixed: Option<u8>, printed: Printed) -> Made {
     let request = SettleRequest {
         roots: Roots::host(),
         lists: lists_to(alloc, last)?,
         fixed: fixed_at(alloc, fixed)?,
         anew: fixed.is_none(),
     };
-    Ok(Task::Settle { request, writes })
+    Ok(Task::Settle { request, printed })
 }
 
 /// A bridge with a BAR behind it that is on at its own window's place, and a BAR beside it.
@@ -109,34 +110,60 @@ fn what_stands_is_left_where_it_is(rt: HostRuntime) -> Result<(), Fail> {
 
 #[test]
 fn settling_that_is_refused_a_growth_says_just_that(rt: HostRuntime) -> Result<(), Fail> {
-    is_refused(rt.alloc(), task_to(rt.alloc(), LAST, None, true), BOARD)
+    is_refused(
+        rt.alloc(),
+        task_to(rt.alloc(), LAST, None, Printed::Writes),
+        BOARD,
+    )
 }
 
 #[test]
 fn so_does_one_that_prints_the_dump(rt: HostRuntime) -> Result<(), Fail> {
-    is_refused(rt.alloc(), task_to(rt.alloc(), LAST, None, false), BOARD)
+    is_refused(
+        rt.alloc(),
+        task_to(rt.alloc(), LAST, None, Printed::Dump),
+        BOARD,
+    )
+}
+
+#[test]
+fn so_does_one_that_prints_a_script(rt: HostRuntime) -> Result<(), Fail> {
+    let script = Printed::Script(Form::Grub);
+    is_refused(rt.alloc(), task_to(rt.alloc(), LAST, None, script), BOARD)
 }
 
 #[test]
 fn so_does_one_without_room(rt: HostRuntime) -> Result<(), Fail> {
-    is_refused(rt.alloc(), task_to(rt.alloc(), LAST - 1, None, true), BOARD)
+    is_refused(
+        rt.alloc(),
+        task_to(rt.alloc(), LAST - 1, None, Printed::Writes),
+        BOARD,
+    )
 }
 
 #[test]
 fn so_does_one_that_leaves_what_stands(rt: HostRuntime) -> Result<(), Fail> {
-    is_refused(rt.alloc(), task_to(rt.alloc(), LAST, Some(1), true), BOARD)
+    is_refused(
+        rt.alloc(),
+        task_to(rt.alloc(), LAST, Some(1), Printed::Writes),
+        BOARD,
+    )
 }
 
 #[test]
 fn so_does_one_whose_fixed_part_does_not_stand(rt: HostRuntime) -> Result<(), Fail> {
-    is_refused(rt.alloc(), task_to(rt.alloc(), LAST, Some(2), true), BOARD)
+    is_refused(
+        rt.alloc(),
+        task_to(rt.alloc(), LAST, Some(2), Printed::Writes),
+        BOARD,
+    )
 }
 
 #[test]
 fn a_writer_that_fails_holds_a_beginning_of_the_writes(rt: HostRuntime) -> Result<(), Fail> {
     is_cut_off(
         rt.alloc(),
-        task_to(rt.alloc(), LAST, None, true),
+        task_to(rt.alloc(), LAST, None, Printed::Writes),
         BOARD,
         7,
         &[0, 1, 100],
@@ -145,5 +172,10 @@ fn a_writer_that_fails_holds_a_beginning_of_the_writes(rt: HostRuntime) -> Resul
 
 #[test]
 fn a_read_that_fails_leaves_nothing_settled(rt: HostRuntime) -> Result<(), Fail> {
-    is_unread(rt.alloc(), task_to(rt.alloc(), LAST, None, true), BOARD, 0)
+    is_unread(
+        rt.alloc(),
+        task_to(rt.alloc(), LAST, None, Printed::Writes),
+        BOARD,
+        0,
+    )
 }
