@@ -222,7 +222,7 @@ def commands():
     for name, synopsis in synopses().items():
         lines = filled(synopsis, indent="", hanging=4) + filled(told[name])
         for headings, text in options:
-            if any(re.search(r"%s\b" % heading.split()[0], synopsis) for heading in headings):
+            if any(re.search(r"%s\b" % heading.split()[0], synopsis.replace("[=", "=")) for heading in headings):
                 lines += ["  " + heading for heading in headings] + filled(text, indent="    ")
         found.append((name, summary(told[name]), "\n".join(lines) + "\n"))
     return found

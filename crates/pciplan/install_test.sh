@@ -264,8 +264,10 @@ awk '
         gsub(/\\f.|[][]/, "")
         gsub(/\\-/, "-")
         for (at = 1; at <= NF; at++)
-            if ($at ~ /^--/)
-                print command " " $at ($(at + 1) ~ /^[A-Z]/ ? "=" : "")
+            if ($at ~ /^--/) {
+                form = sub(/=FORM$/, "", $at)
+                print command " " $at (!form && $(at + 1) ~ /^[A-Z]/ ? "=" : "")
+            }
     }' "$page" | sort >synopsis
 commands=$(grep -v ' ' synopsis)
 options=$(sed -n 's/^.* \(--[a-z-]*\).*$/\1/p' synopsis | sort -u)
@@ -291,6 +293,7 @@ awk '
     /^ *\047(\(--[a-z]+\))?--/ {
         sub(/\(--[a-z]+\)/, "")
         split($0, parts, /[\047[]/)
+        sub(/=-$/, "", parts[2])
         for (at = 1; at <= count; at++)
             print commands[at] " " parts[2]
     }' $names/_pciplan | sort >got
@@ -349,6 +352,15 @@ for command in $commands; do
     done
 done | sort >got
 same 'the program takes the commands and options of the page, and no other of them'
+
+# the forms of the writes, which settle alone has
+for command in $commands; do
+    for form in setpci grub; do
+        taken "$command" "--writes=$form" && echo "$command $form"
+    done
+done >got
+has 'the forms of the writes' 'settle setpci
+settle grub'
 
 # The names that the program's definitions have, so that none is missing in the page.
 words=$top/crates/pciplan_words/src/commands.rt
@@ -465,6 +477,11 @@ if command -v bash >/dev/null; then
     offers "check -- dump.txt probe.txt ''" ''
     offers "show check probe ''" ''
     offers 'plan --io 0-1 dump.txt --writes --' '--mem --pref --root --why'
+    offers 'settle --writes =' ''
+    offers "settle --writes = ''" 'grub setpci'
+    offers 'settle dump.txt --writes = s' 'setpci'
+    offers "settle --writes = grub ''" FILES
+    offers "plan --writes = ''" ''
     offers 'probe dump.txt --exact s' FILES
     offers "faults --model ''" 'cardbus ide power reset subtractive unnumbered vga vga16 windows all'
     offers 'faults --model =' ''

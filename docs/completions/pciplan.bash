@@ -49,14 +49,20 @@ _pciplan() {
             [ "${line[at + 1]}" != = ] || at=$((at + 1))
             at=$((at + 1))
             ;;
+        --writes*)
+            said+="${line[at]} "
+            [ "${line[at + 1]}" != = ] || at=$((at + 2))
+            ;;
         --*) said+="${line[at]} " ;;
         *) count=$((count + 1)) ;;
         esac
     done
-    # For an option's own word nothing is offered, but for those of --model and --from.
+    # For an option's own word nothing is offered, but for those of --model and --from, and for the forms of settle.
     if [ "$at" -ne "$place" ]; then
         [[ $said != *' --model ' || $word == = ]] || _pciplan_model "$word"
         [[ $said != *' --from ' || $word == = ]] || compopt -o dirnames
+        [[ $said != *' --writes ' || $word == = || ${line[1]} != settle ]] ||
+            mapfile -t COMPREPLY < <(compgen -W 'grub setpci' -- "$word")
         return
     fi
 

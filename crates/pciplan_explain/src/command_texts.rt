@@ -151,17 +151,18 @@ pciplan plan DUMP PROBE --io A-B --mem A-B --pref A-B [--root LIST] [--writes]
 
 pub const SETTLE: &str = "\
 pciplan settle DUMP PROBE --io LIST --mem LIST --pref LIST [--root LIST]
-    [--fixed SLOTS] [--anew] [--writes]
+    [--fixed SLOTS] [--anew] [--writes[=FORM]]
   Leaves what works where it is, and places the rest in three lists of ranges,
   each of all root buses or of one, with windows that are as large as what is in
-  them; prints the settled dump, or the register writes that lead there. A part
-  stays where it lies in a range of its root, or in a window that stays itself,
-  and shares no address with another part that stays. A window goes where what
-  has to be placed behind it has no room in it. By the writes a function is off
-  meanwhile only in the space in which a BAR or ROM of it moves; a bridge stays
-  on, and a window that moves is closed. A BAR, or a ROM whose bit 0 is set,
-  that the titles of the probe name as assumed is refused: it may decode more
-  addresses than the probe tells. Faults: 20 to 31, 50 to 58, 70, 72, 74 and 76.
+  them; prints the settled dump, the register writes that lead there, or a
+  script that makes them. A part stays where it lies in a range of its root, or
+  in a window that stays itself, and shares no address with another part that
+  stays. A window goes where what has to be placed behind it has no room in it.
+  By the writes a function is off meanwhile only in the space in which a BAR or
+  ROM of it moves; a bridge stays on, and a window that moves is closed. A BAR,
+  or a ROM whose bit 0 is set, that the titles of the probe name as assumed is
+  refused: it may decode more addresses than the probe tells. Faults: 20 to 31,
+  50 to 58, 70, 72, 74 and 76.
   --root LIST
     The buses on which the host's accesses start: two lower-case hex digits
     each, rising, with commas between them. 00 if it isn't said. On Linux they
@@ -185,6 +186,12 @@ pciplan settle DUMP PROBE --io LIST --mem LIST --pref LIST [--root LIST]
     plan and settle print a line for each register write in place of the planned
     dump: slot, offset and width, and the value. Made in their order they may
     stop anywhere.
+  --writes=FORM
+    settle prints the same writes as a script. FORM is setpci, for a shell over
+    setpci of pciutils, or grub, for GRUB. The script compares Command and the
+    address registers of each function that it writes with the dump first, and
+    writes nothing where one differs. It reads each write back, and stops where
+    that differs.
 ";
 
 pub const PROBE: &str = "\
