@@ -1,5 +1,5 @@
 -- What is written of domains, one after the other.
-use Rattle.std.proofs.Common.{◌≡◌, ◌⊎◌, ℕ, ◌+◌, ◌<◌, ◌≤◌, Bool, List, [], ◌∷◌, ◌++◌, Option, None, Some, length, refl, sym, ap, subst, ◌∙◌, map, take, drop, fold, get_or, nat_lt, inl, inr, append_assoc, arith}
+use Rattle.std.proofs.Common.{◌≡◌, ◌⊎◌, ℕ, ◌+◌, ◌<◌, ◌≤◌, Bool, List, [], ◌∷◌, ◌++◌, Option, None, Some, IfSome, length, refl, sym, ap, subst, ◌∙◌, map, take, drop, fold, get_or, nat_lt, inl, inr, append_assoc, arith}
 use Rattle.std.specs.Io.KnownBytes.{Appends}
 use Rattle.std.proofs.lemmas.Bool.Decides.{nat_tests}
 use Rattle.std.proofs.lemmas.Grind.{flat_map-append}
@@ -8,12 +8,14 @@ use Rattle.std.proofs.lemmas.List.Elements.{All-append, All-cons, All-nil}
 use Rattle.std.proofs.lemmas.List.Sums.{fold-append}
 use Rattle.pci_dump.proofs.Told.{Appends-more}
 use Rattle.pci_dump.specs.Begun.{AppendsBeginning}
+use Rattle.pci_here.specs.Domain.{IsNoDomain}
 use Rattle.pci_here.specs.Shown.{Shown}
 use Rattle.pci_here.specs.Trouble.{trouble_status}
 use Rattle.pci_here.specs.declared.trouble.Trouble.{Trouble}
 use Rattle.pci_here.specs.declared.trouble.Trouble.TheVariants.{Memory, Unread, Short, NoRoot, TooMany}
+use Rattle.pci_here.specs.declared.trouble.TroubleAt.{TroubleAt}
 use Rattle.pciplan_tasks.specs.Answers.{Answer}
-use Rattle.pciplan_front.specs.HereTold.{ArePieces, AreBegun, AreTold, IsCutOff, IsPiece, IsPieceOut, IsPrint, Piece, greater, text_of_pieces}
+use Rattle.pciplan_front.specs.HereTold.{ArePieces, AreBegun, AreTold, IsCutOff, IsPiece, IsPieceOut, IsPrint, IsTrouble, Piece, greater, text_of_pieces}
 use Rattle.pciplan_front.specs.Went.{went}
 use Rattle.pciplan_front.specs.declared.here_asked.What.{What}
 
@@ -120,9 +122,17 @@ greater_known a b low lower = grind (arith, nat_tests)
 
 -- ---- one piece
 
--- want of memory is a trouble, and no trouble has a status above 4
-pub memory_trouble : (status : ℕ) → status ≡ 3 → (trouble : Trouble) × (status ≡ trouble_status trouble)
-memory_trouble status is = (Memory, is)
+-- want of memory is a trouble of any machine, and no trouble has a status above 4
+untold : (shown : Option Shown) (domain : ℕ) → IfSome shown (λ m. IsNoDomain m domain record { trouble = Memory; place = None })
+untold None domain = tt
+untold (Some m) domain = inr (refl, tt)
+
+pub memory_trouble : (shown : Option Shown) (domain status : ℕ) → status ≡ 3 → IsTrouble shown domain status
+memory_trouble shown domain status is = record { at = record { trouble = Memory; place = None }; is = untold shown domain; status_is = is }
+
+pub found_trouble : (shown : Option Shown) (domain status : ℕ) (at : TroubleAt) → IfSome shown (λ m. IsNoDomain m domain at)
+    → status ≡ trouble_status at.trouble → IsTrouble shown domain status
+found_trouble shown domain status at is same = record { at = at; is = is; status_is = same }
 
 pub trouble_known : (trouble : Trouble) → trouble_status trouble ≤ 4
 trouble_known Memory = omega arith
@@ -133,11 +143,11 @@ trouble_known TooMany = omega arith
 
 -- nothing of a domain that couldn't be read
 pub unread_out : (shown : Option Shown) (what : What) (headed : Bool) (domain status : ℕ) (o n : Option (List ℕ)) → n ≡ o
-    → ((trouble : Trouble) × (status ≡ trouble_status trouble)) → IsPieceOut shown what headed domain status (Appends o n)
-unread_out shown what headed domain status o n same (trouble, is) =
+    → IsTrouble shown domain status → IsPieceOut shown what headed domain status (Appends o n)
+unread_out shown what headed domain status o n same trouble =
     record {
       text = [];
-      is = inr record { trouble = trouble; status = is; text = refl };
+      is = inr record { trouble = trouble; text = refl };
       written = subst (λ v. Appends o v []) (sym same) (none_out o);
     }
 

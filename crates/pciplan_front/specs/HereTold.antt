@@ -4,12 +4,14 @@ use Rattle.std.specs.List.{All, flat_map}
 use Rattle.std.specs.Io.KnownBytes.{Appends}
 use Rattle.pci_dump.specs.Begun.{AppendsBeginning}
 use Rattle.pci_spec.specs.Line.{hex_number}
-use Rattle.pci_here.specs.Domain.{IsDomain}
-use Rattle.pci_here.specs.Places.{AreDomainsOf}
+use Rattle.pci_here.specs.Domain.{IsDomain, IsNoDomain}
+use Rattle.pci_here.specs.Places.{AreDomainsOf, HasNoDomains}
 use Rattle.pci_here.specs.Shown.{Shown}
 use Rattle.pci_here.specs.Trouble.{trouble_status}
 use Rattle.pci_here.specs.declared.domain.Domain.{Domain}
 use Rattle.pci_here.specs.declared.trouble.Trouble.{Trouble}
+use Rattle.pci_here.specs.declared.trouble.Trouble.TheVariants.{Memory}
+use Rattle.pci_here.specs.declared.trouble.TroubleAt.{TroubleAt}
 use Rattle.pciplan_tasks.specs.Answers.{Answer}
 use Rattle.pciplan_front.specs.DomainAnswers.{IsToldAs}
 use Rattle.pciplan_front.specs.HereAsked.{AskForNothing, IsHereAsked}
@@ -54,14 +56,19 @@ pub record IsRead (shown : Option Shown) (what : What) (headed : Bool) (p : Piec
   pub status : p.status ≡ told.status
   pub text : p.text ≡ head ++ told.text
 
+-- why a domain isn't printed: the machine shows this trouble, or memory was refused; the status is the trouble's
+pub record IsTrouble (shown : Option Shown) (domain status : ℕ) : Type 0 where
+  pub at : TroubleAt
+  pub is : IfSome shown (λ m. IsNoDomain m domain at)
+  pub status_is : status ≡ trouble_status at.trouble
+
 -- it couldn't be read, or memory was refused: nothing of it is written
-pub record IsUnread (p : Piece) : Type 0 where
-  pub trouble : Trouble
-  pub status : p.status ≡ trouble_status trouble
+pub record IsUnread (shown : Option Shown) (p : Piece) : Type 0 where
+  pub trouble : IsTrouble shown p.domain p.status
   pub text : p.text ≡ []
 
 abbrev pub IsPiece : Option Shown → What → Bool → Piece → Type 0
-IsPiece shown what headed p = IsRead shown what headed p ⊎ IsUnread p
+IsPiece shown what headed p = IsRead shown what headed p ⊎ IsUnread shown p
 
 pub record IsPieceOut (shown : Option Shown) (what : What) (headed : Bool) (domain status : ℕ)
     (IsWritten : List ℕ → Type 0) : Type 0 where
@@ -133,11 +140,17 @@ pub record IsOfDomains (words : List (List ℕ)) (shown_in : List ℕ → Option
 abbrev pub IsUnasked : List (List ℕ) → ℕ → Type 0
 IsUnasked words status = ((status ≡ 2) × AskForNothing words) ⊎ (status ≡ 3)
 
--- the domains of the machine can't be had
-pub record HasNoDomains (words : List (List ℕ)) (status : ℕ) : Type 0 where
+-- why the domains that are asked for can't be had: the machine shows none, or memory was refused
+abbrev pub AreNotHad : Option Shown → Option ℕ → Trouble → Type 0
+AreNotHad shown (Some domain) trouble = trouble ≡ Memory
+AreNotHad shown None trouble = IfSome shown (λ m. HasNoDomains m trouble)
+
+pub record IsWithoutDomains (words : List (List ℕ)) (shown_in : List ℕ → Option Shown)
+    (status : ℕ) : Type 0 where
   pub asked : HereAsked
   pub of_words : IsHereAsked words asked
   pub trouble : Trouble
+  pub are_not : AreNotHad (shown_in (string_bytes asked.folder)) asked.domain trouble
   pub status_is : status ≡ trouble_status trouble
 
 -- each domain is told or unread, and the status is the greatest of theirs; or a write failed
@@ -150,5 +163,5 @@ IsDone words shown_in status out =
 -- nothing is written in the first two cases
 abbrev pub IsHere : List (List ℕ) → (List ℕ → Option Shown) → ℕ → Went → Type 0
 IsHere words shown_in status out =
-    (IsUnasked words status × out.same) ⊎ (HasNoDomains words status × out.same)
+    (IsUnasked words status × out.same) ⊎ (IsWithoutDomains words shown_in status × out.same)
     ⊎ IsDone words shown_in status out

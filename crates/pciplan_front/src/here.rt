@@ -1,11 +1,10 @@
 //! `here`: reads the machine of a folder and judges it, domain by domain.
-ghost use Rattle.std.specs.Prelude.{◌≡◌, ◌⊎◌, ◌≤◌, ◌+◌, ◌++◌, ℕ, true, IfErr, IfOk, OnErr, OnOk, map, string_bytes};
+ghost use Rattle.std.specs.Prelude.{◌≡◌, ◌⊎◌, ◌≤◌, ◌+◌, ◌++◌, ℕ, true, IfErr, IfOk, MatchResult, OnErr, OnOk, map, string_bytes};
 ghost use Rattle.std.specs.Io.KnownBytes.{Appends};
 ghost use Rattle.pci_dump.specs.Begun.{AppendsBeginning};
 ghost use Rattle.pci_here.specs.Trouble.{trouble_status};
-ghost use Rattle.pci_here.specs.declared.trouble.Trouble.{Trouble};
 ghost use Rattle.pciplan_tasks.specs.Answers.{answer_of};
-ghost use Rattle.pciplan_front.specs.HereTold.{AreAsked, AreTold, IsCutOff, IsHere, IsPieceOut, IsPrint, domain_digits, greater, heading};
+ghost use Rattle.pciplan_front.specs.HereTold.{AreAsked, AreNotHad, AreTold, IsCutOff, IsHere, IsPieceOut, IsPrint, IsTrouble, domain_digits, greater, heading};
 ghost use Rattle.pciplan_front.specs.Went.{went};
 
 use crate::domain_reply::domain_reply;
@@ -91,7 +90,7 @@ struct Print {
 
 /// Reads a domain and makes what is printed of it. Where it can't be read, it writes the message to `err` and answers the
 /// status.
-#[tactic(auto, using(crate::proofs::HerePieces::memory_trouble, crate::proofs::HerePieces::trouble_known))]
+#[tactic(auto, using(crate::proofs::HerePieces::found_trouble, crate::proofs::HerePieces::memory_trouble, crate::proofs::HerePieces::trouble_known))]
 fn print_of<M: Machine, E: Sink>(
     alloc: Global,
     each: &Each<'_, M>,
@@ -100,7 +99,7 @@ fn print_of<M: Machine, E: Sink>(
 ) -> Result<Print, u8>
     ensures print { IfOk result (λ print. IsPrint (M.shown each.now.machine.now) each.now.what
         each.now.headed domain (string_bytes print.heading) (answer_of print.reply)) }
-    ensures status { IfErr result (λ status. (trouble : Trouble) × (status ≡ trouble_status trouble)) }
+    ensures status { IfErr result (λ status. IsTrouble (M.shown each.now.machine.now) domain status) }
     ensures known { IfErr result (λ status. status ≤ 4) }
 {
     let found = match domain_of(alloc, each.machine, domain) {
@@ -185,7 +184,8 @@ fn asked_domains<M: Machine>(
     machine: &M,
     domain: Option<u32>,
 ) -> Result<Vec<u32>, Trouble>
-    ensures { IfOk result (λ domains. AreAsked (M.shown machine.now) domain domains.items) }
+    ensures { MatchResult result (λ domains. AreAsked (M.shown machine.now) domain domains.items)
+        (AreNotHad (M.shown machine.now) domain) }
 {
     let Some(domain) = domain else {
         return domains_of(alloc, machine);

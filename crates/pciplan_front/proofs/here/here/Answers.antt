@@ -1,6 +1,6 @@
 use Rattle.std.proofs.Common.{◌≡◌, ℕ, ◌+◌, Option, refl, rules, subst, inl, inr}
 use Rattle.pci_here.specs.Shown.{Shown}
-use Rattle.pciplan_front.specs.HereTold.{AreAsked}
+use Rattle.pciplan_front.specs.HereTold.{AreAsked, AreNotHad}
 use Rattle.pciplan_front.proofs.HerePieces.{told_of_list}
 use Rattle.pciplan_front.proofs.here.here.Goals as goal
 
@@ -11,6 +11,9 @@ returns-in-Err-asked_domains-clause-done g c =
         asked = c.in-Ok.asked;
         of_words = c.in-Ok.ensures;
         trouble = c.in-Err-asked_domains.trouble;
+        are_not =
+            subst (λ (s : Option Shown). AreNotHad s c.in-Ok.asked.domain c.in-Err-asked_domains.trouble)
+            c.look_in.ensures c.in-Err-asked_domains.ensures;
         status_is = c.tell_trouble.ensures.named;
       },
       refl,
