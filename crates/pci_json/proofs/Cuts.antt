@@ -1,5 +1,5 @@
 -- Where a text is cut, its parts begin.
-use Rattle.std.proofs.Common.{arith, ◌≡◌, ℕ, suc, ◌+◌, ◌-◌, ◌<◌, ◌==◌, List, [], ◌∷◌, length, take, drop, Bool, true, false, not, cond, refl, ap, ap₂, ◌∙◌, if◌then◌else◌}
+use Rattle.std.proofs.Common.{arith, ◌≡◌, ℕ, zero, suc, ◌+◌, ◌-◌, ◌<◌, ◌==◌, List, [], ◌∷◌, length, take, drop, Bool, true, false, not, cond, refl, sym, ap, ap₂, ◌∙◌, if◌then◌else◌}
 use Rattle.std.proofs.Math.Seq.{take-length}
 use Rattle.std.proofs.lemmas.List.{drop_all}
 use Rattle.std.specs.List.{before_first, after_first, position_or_len}
@@ -38,6 +38,20 @@ unfolding behind
 behind_next words done rest less =
     let one : words - done ≡ suc (words - (done + 1)) = omega arith in
     ap (λ n. behind n rest) one
+
+pub behind_here : (content : List ℕ) → behind 0 content ≡ content
+unfolding behind
+behind_here content = refl
+
+-- what stands behind words that stand behind words
+pub behind_there : (n k : ℕ) (content : List ℕ) → behind k (behind n content) ≡ behind (n + k) content
+unfolding behind
+behind_there zero k content =
+    let none : k ≡ 0 + k = omega arith in
+    ap (behind k) (behind_here content) ∙ ap (λ m. behind m content) none
+behind_there (suc n) k content =
+    let one : suc n + k ≡ suc (n + k) = omega arith in
+    behind_there n k (after_first is_blank content) ∙ sym (ap (λ m. behind m content) one)
 
 pub behind_none : (n : ℕ) (rest : List ℕ) → behind (n - n) rest ≡ rest
 unfolding behind

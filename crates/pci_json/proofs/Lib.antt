@@ -1,4 +1,5 @@
 pub mod Cuts
+pub mod Indents
 pub mod Tokens
 pub mod Steps
 pub mod Largest

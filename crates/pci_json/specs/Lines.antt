@@ -1,7 +1,6 @@
 -- The lines of a text, the words of a line, and the numbers that words have.
-use Rattle.std.specs.Prelude.{ℕ, zero, suc, ◌+◌, ◌-◌, ◌*◌, ◌/◌, ◌%◌, ◌^◌, ◌==◌, ◌&&◌, nat_eq, nat_lt, nat_le, Bool, List, [], ◌∷◌, length, fold, if◌then◌else◌}
-use Rattle.std.specs.List.{before_first, after_first}
-use Rattle.std.specs.Str.{trim_start}
+use Rattle.std.specs.Prelude.{ℕ, zero, suc, ◌+◌, ◌-◌, ◌*◌, ◌/◌, ◌%◌, ◌^◌, ◌==◌, ◌&&◌, nat_eq, nat_lt, nat_le, Bool, List, [], ◌∷◌, length, drop, fold, if◌then◌else◌}
+use Rattle.std.specs.List.{before_first, after_first, prefix_len}
 use Rattle.std.specs.Cmp.Lexicographic.{pointwise}
 
 abbrev pub is_blank : ℕ → Bool
@@ -22,12 +21,16 @@ lines_of = parts_of 10
 
 -- ---- a line: how deep it stands, and what stands there
 
+-- how many blanks it begins with
+abbrev pub indent_of : List ℕ → ℕ
+indent_of line = prefix_len is_blank line
+
 abbrev pub content_of : List ℕ → List ℕ
-content_of line = trim_start line
+content_of line = drop (indent_of line) line
 
 -- two blanks for each step
 abbrev pub depth_of : List ℕ → ℕ
-depth_of line = (length line - length (content_of line)) / 2
+depth_of line = indent_of line / 2
 
 -- the line is indented
 abbrev pub is_inner : List ℕ → Bool

@@ -14,15 +14,17 @@ header_members line =
     ∷ (codes "vendor", hex (word 4 line)) ∷ (codes "device", hex (word 6 line)) ∷ (codes "class", hex (word 8 line))
     ∷ (codes "command", hex (word 10 line)) ∷ (codes "status", hex (word 12 line)) ∷ []
 
--- bar r KIND F-L, or bar r KIND pref F-L
+-- bar r KIND F-L, or bar r KIND pref F-L: what stands behind KIND
 abbrev pub bar_range_place : List ℕ → ℕ
-bar_range_place line = if is_word 3 (codes "pref") line then 4 else 3
+bar_range_place rest = if is_word 0 (codes "pref") rest then 1 else 0
+
+abbrev pub bar_range_members : List ℕ → List (List ℕ × Json)
+bar_range_members rest =
+    (codes "prefetchable", boolean (is_word 0 (codes "pref") rest)) ∷ range_members (word (bar_range_place rest) rest)
 
 abbrev pub bar_members : List ℕ → List (List ℕ × Json)
 bar_members line =
-    (codes "register", hex (word 1 line)) ∷ (codes "kind", string (word 2 line))
-    ∷ (codes "prefetchable", boolean (is_word 3 (codes "pref") line))
-    ∷ range_members (word (bar_range_place line) line)
+    (codes "register", hex (word 1 line)) ∷ (codes "kind", string (word 2 line)) ∷ bar_range_members (behind 3 line)
 
 -- rom r on F-L
 abbrev pub rom_members : List ℕ → List (List ℕ × Json)
@@ -52,19 +54,22 @@ capability_members line =
 
 -- ---- a map: F-L N free, F-L N PART S r, or F-L N PART pref S r
 
+-- what stands behind PART
 abbrev pub kind_members : List ℕ → List (List ℕ × Json)
-kind_members line =
-    if is_word 3 (codes "pref") line then (codes "prefetchable", boolean true) ∷ slot_and_register 4 line
-    else slot_and_register 3 line
+kind_members rest =
+    if is_word 0 (codes "pref") rest then (codes "prefetchable", boolean true) ∷ slot_and_register 1 rest
+    else slot_and_register 0 rest
 
 abbrev pub free_members : List ℕ → List (List ℕ × Json)
 free_members line = (codes "part", string (codes "free")) ∷ range_members (word 0 line)
 
-abbrev pub sits_members : List ℕ → List (List ℕ × Json)
-sits_members line = (codes "part", string (word 2 line)) ∷ (kind_members line ++ range_members (word 0 line))
+-- the line, and what stands there from PART on
+abbrev pub sits_members : List ℕ → List ℕ → List (List ℕ × Json)
+sits_members line part = (codes "part", string (word 0 part)) ∷ (kind_members (behind 1 part) ++ range_members (word 0 line))
 
 abbrev pub outer_members : List ℕ → List (List ℕ × Json)
-outer_members line = if is_word 2 (codes "free") line then free_members line else sits_members line
+outer_members line =
+    if is_word 0 (codes "free") (behind 2 line) then free_members line else sits_members line (behind 2 line)
 
 -- what a window has inside
 abbrev pub inside_members : List ℕ → List Json → List (List ℕ × Json)

@@ -1,7 +1,8 @@
 //! The lines of a text and the words of a line.
 ghost use Rattle.std.specs.Prelude.{◌≡◌, ◌<◌, ◌≤◌, ◌==◌, ◌^◌, ◌∷◌, length};
+ghost use Rattle.std.specs.Str.{IsCharBoundary};
 ghost use Rattle.std.specs.List.{before_first, after_first};
-ghost use Rattle.pci_json.specs.Lines.{parts_of, lines_of, content_of, depth_of, is_inner, is_blank, behind, word, is_word, digit_value, value_of};
+ghost use Rattle.pci_json.specs.Lines.{parts_of, lines_of, indent_of, content_of, depth_of, is_inner, is_blank, behind, word, is_word, digit_value, value_of};
 
 /// The first part of a text that ends with this byte, and what stands behind that byte.
 pub fn cut(text: &str, end: char) -> (&str, &str)
@@ -18,11 +19,26 @@ pub fn cut(text: &str, end: char) -> (&str, &str)
     }
 }
 
+/// How many blanks a line begins with.
+fn indent(line: &str) -> usize
+    ensures value { result ≡ indent_of line.now }
+    ensures cut { IsCharBoundary line.now result }
+{
+    let mut blanks = 0;
+    for byte in line.as_bytes() {
+        if *byte != b' ' {
+            return blanks;
+        }
+        blanks += 1;
+    }
+    blanks
+}
+
 /// The line without its indentation.
 pub fn content(line: &str) -> &str
     ensures { result.now ≡ content_of line.now }
 {
-    line.trim_start()
+    &line[indent(line)..]
 }
 
 /// How many steps of two blanks a line is indented by.
@@ -30,7 +46,7 @@ pub fn depth_of(line: &str) -> usize
     ensures value { result ≡ depth_of line.now }
     ensures small { result < 2 ^ 63 }
 {
-    (line.len() - line.trim_start().len()) / 2
+    indent(line) / 2
 }
 
 /// Whether a line is indented.

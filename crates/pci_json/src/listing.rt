@@ -2,7 +2,7 @@
 ghost use Rattle.std.specs.Prelude.{◌≡◌, ◌++◌, OnOk};
 ghost use Rattle.std.specs.List.{before_first, after_first};
 ghost use Rattle.pci_json.specs.Members.{with_members};
-ghost use Rattle.pci_json.specs.Listings.{is_point, header_members, bar_range_place, bar_members, rom_members, bus_members, state_members, window_members, capability_members, kind_members, write_members};
+ghost use Rattle.pci_json.specs.Listings.{is_point, header_members, bar_range_place, bar_range_members, bar_members, rom_members, bus_members, state_members, window_members, capability_members, kind_members, write_members};
 
 use crate::lines::{behind, is_word, value, word};
 use crate::members::{ends_of, push_range, push_slot_and_register};
@@ -13,20 +13,34 @@ use std::alloc::{AllocError, Allocator};
 pub fn push_header<A: Allocator>(out: &mut Output<A>, line: &str) -> Result<(), AllocError>
     ensures { OnOk result (out.new ≡ with_members out.old (header_members line.now)) }
 {
+    let kind = behind(line, 2);
+    let vendor = behind(kind, 2);
+    let device = behind(vendor, 2);
+    let class = behind(device, 2);
+    let command = behind(class, 2);
+    let status = behind(command, 2);
     out.text("slot", word(line, 0))?;
-    out.number("type", value(word(line, 2), 10))?;
-    out.hex("vendor", word(line, 4))?;
-    out.hex("device", word(line, 6))?;
-    out.hex("class", word(line, 8))?;
-    out.hex("command", word(line, 10))?;
-    out.hex("status", word(line, 12))
+    out.number("type", value(word(kind, 0), 10))?;
+    out.hex("vendor", word(vendor, 0))?;
+    out.hex("device", word(device, 0))?;
+    out.hex("class", word(class, 0))?;
+    out.hex("command", word(command, 0))?;
+    out.hex("status", word(status, 0))
 }
 
-/// Where the range of a BAR stands.
-fn bar_range_place(line: &str) -> usize
-    ensures { result ≡ bar_range_place line.now }
+/// Where the range of a BAR stands behind its kind.
+fn bar_range_place(rest: &str) -> usize
+    ensures { result ≡ bar_range_place rest.now }
 {
-    if is_word(line, 3, "pref") { 4 } else { 3 }
+    if is_word(rest, 0, "pref") { 1 } else { 0 }
+}
+
+/// What a line tells of a BAR behind its kind.
+fn push_bar_range<A: Allocator>(out: &mut Output<A>, rest: &str) -> Result<(), AllocError>
+    ensures { OnOk result (out.new ≡ with_members out.old (bar_range_members rest.now)) }
+{
+    out.boolean("prefetchable", is_word(rest, 0, "pref"))?;
+    push_range(out, word(rest, bar_range_place(rest)))
 }
 
 /// The members of a BAR.
@@ -35,8 +49,7 @@ pub fn push_bar<A: Allocator>(out: &mut Output<A>, line: &str) -> Result<(), All
 {
     out.hex("register", word(line, 1))?;
     out.text("kind", word(line, 2))?;
-    out.boolean("prefetchable", is_word(line, 3, "pref"))?;
-    push_range(out, word(line, bar_range_place(line)))
+    push_bar_range(out, behind(line, 3))
 }
 
 /// The members of an expansion ROM.
@@ -81,20 +94,22 @@ pub fn push_window<A: Allocator>(out: &mut Output<A>, line: &str) -> Result<(), 
 pub fn push_capability<A: Allocator>(out: &mut Output<A>, line: &str) -> Result<(), AllocError>
     ensures { OnOk result (out.new ≡ with_members out.old (capability_members line.now)) }
 {
-    out.hex("at", word(line, 1))?;
-    out.text("kind", word(line, 2))?;
-    out.text("text", behind(line, 3))
+    let at = behind(line, 1);
+    let kind = behind(at, 1);
+    out.hex("at", word(at, 0))?;
+    out.text("kind", word(kind, 0))?;
+    out.text("text", behind(kind, 1))
 }
 
-/// Whether a region of a map is prefetchable, and its slot and register.
-pub fn push_kind<A: Allocator>(out: &mut Output<A>, line: &str) -> Result<(), AllocError>
-    ensures { OnOk result (out.new ≡ with_members out.old (kind_members line.now)) }
+/// Whether a region of a map is prefetchable, and its slot and register, of what stands behind its part.
+pub fn push_kind<A: Allocator>(out: &mut Output<A>, rest: &str) -> Result<(), AllocError>
+    ensures { OnOk result (out.new ≡ with_members out.old (kind_members rest.now)) }
 {
-    if is_word(line, 3, "pref") {
+    if is_word(rest, 0, "pref") {
         out.boolean("prefetchable", true)?;
-        push_slot_and_register(out, line, 4)
+        push_slot_and_register(out, rest, 1)
     } else {
-        push_slot_and_register(out, line, 3)
+        push_slot_and_register(out, rest, 0)
     }
 }
 

@@ -5,7 +5,7 @@ ghost use Rattle.pci_json.specs.Members.{with_members, with_items};
 ghost use Rattle.pci_json.specs.Listings.{free_members, sits_members, outer_members, inside_members, root_members};
 ghost use Rattle.pci_json.specs.Documents.{place_of, places_of, root_of, buses_of, behind_heading, aside_of, is_heading};
 
-use crate::lines::{content, cut, depth_of, is_inner, is_word, word};
+use crate::lines::{behind, content, cut, depth_of, is_inner, is_word, word};
 use crate::listing::push_kind;
 use crate::members::push_range;
 use crate::output::Output;
@@ -19,12 +19,12 @@ fn push_free<A: Allocator>(out: &mut Output<A>, line: &str) -> Result<(), AllocE
     push_range(out, word(line, 0))
 }
 
-/// The members of a region, but what is inside it.
-fn push_sits<A: Allocator>(out: &mut Output<A>, line: &str) -> Result<(), AllocError>
-    ensures { OnOk result (out.new ≡ with_members out.old (sits_members line.now)) }
+/// The members of a region, but what is inside it, of its line and what stands there from the part on.
+fn push_sits<A: Allocator>(out: &mut Output<A>, line: &str, part: &str) -> Result<(), AllocError>
+    ensures { OnOk result (out.new ≡ with_members out.old (sits_members line.now part.now)) }
 {
-    out.text("part", word(line, 2))?;
-    push_kind(out, line)?;
+    out.text("part", word(part, 0))?;
+    push_kind(out, behind(part, 1))?;
     push_range(out, word(line, 0))
 }
 
@@ -32,10 +32,11 @@ fn push_sits<A: Allocator>(out: &mut Output<A>, line: &str) -> Result<(), AllocE
 fn push_place<A: Allocator>(out: &mut Output<A>, line: &str) -> Result<(), AllocError>
     ensures { OnOk result (out.new ≡ with_members out.old (outer_members line.now)) }
 {
-    if is_word(line, 2, "free") {
+    let part = behind(line, 2);
+    if is_word(part, 0, "free") {
         push_free(out, line)
     } else {
-        push_sits(out, line)
+        push_sits(out, line, part)
     }
 }
 

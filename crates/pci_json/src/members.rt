@@ -4,7 +4,7 @@ ghost use Rattle.json.specs.Tree.{json_tokens};
 ghost use Rattle.json.specs.Json.{array};
 ghost use Rattle.pci_json.specs.Members.{with_members, with_items, first_of, last_of, slot_and_register, range_members, range_object, opening, ranges_of, array_of};
 
-use crate::lines::{cut, value, word};
+use crate::lines::{behind, cut, value, word};
 use crate::output::Output;
 use std::alloc::{AllocError, Allocator};
 
@@ -17,8 +17,9 @@ pub fn push_slot_and_register<A: Allocator>(
     requires { n < 1000 }
     ensures { OnOk result (out.new ≡ with_members out.old (slot_and_register n line.now)) }
 {
-    out.text("slot", word(line, n))?;
-    out.hex("register", word(line, n + 1))
+    let slot = behind(line, n);
+    out.text("slot", word(slot, 0))?;
+    out.hex("register", word(slot, 1))
 }
 
 /// What stands before and behind the dash of a range.
