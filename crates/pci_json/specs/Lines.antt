@@ -1,5 +1,5 @@
 -- The lines of a text, the words of a line, and the numbers that words have.
-use Rattle.std.specs.Prelude.{ℕ, zero, suc, ◌+◌, ◌-◌, ◌*◌, ◌/◌, ◌%◌, ◌^◌, ◌==◌, ◌&&◌, nat_eq, nat_lt, nat_le, Bool, List, [], ◌∷◌, length, drop, fold, if◌then◌else◌}
+use Rattle.std.specs.Prelude.{ℕ, zero, suc, ◌+◌, ◌-◌, ◌*◌, ◌/◌, ◌%◌, ◌^◌, ◌==◌, ◌&&◌, nat_eq, nat_lt, nat_le, Bool, List, [], ◌∷◌, drop, fold, if◌then◌else◌}
 use Rattle.std.specs.List.{before_first, after_first, prefix_len}
 use Rattle.std.specs.Cmp.Lexicographic.{pointwise}
 

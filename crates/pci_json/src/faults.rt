@@ -2,7 +2,7 @@
 ghost use Rattle.std.specs.Prelude.{◌≡◌, ◌<◌, ◌++◌, OnOk};
 ghost use Rattle.json.specs.Tree.{json_tokens};
 ghost use Rattle.pci_json.specs.Members.{with_members, object_of, slot_and_register};
-ghost use Rattle.pci_json.specs.Faults.{space_and_address, two_regions, unreached_members, clash_members, split_members, outside_members, amount_members, part_members, no_room_members, register_members, slot_members, named_members, fault_members};
+ghost use Rattle.pci_json.specs.Faults.{space_and_address, two_regions, unreached_members, clash_members, split_members, outside_members, amount_members, part_members, no_room_members, slot_members, named_members, fault_members};
 
 use crate::lines::{is_word, value, word};
 use crate::members::push_slot_and_register;

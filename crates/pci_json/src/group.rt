@@ -1,11 +1,11 @@
 //! The lines behind a line, and the object that they make with it.
-ghost use Rattle.std.specs.Prelude.{◌≡◌, ◌++◌, [], ◌∷◌, codes, OnOk, IsTrue};
+ghost use Rattle.std.specs.Prelude.{◌≡◌, ◌++◌, [], ◌∷◌, codes, OnOk};
 ghost use Rattle.json.specs.Tree.{json_tokens};
 ghost use Rattle.pci_json.specs.Lines.{lines_of, word};
 ghost use Rattle.pci_json.specs.Reasons.{claim_members, bridge_members};
 ghost use Rattle.pci_json.specs.Listings.{rom_members, bus_members};
 ghost use Rattle.pci_json.specs.Members.{with_members, with_items, object_of};
-ghost use Rattle.pci_json.specs.Groups.{inner_of, has_any, kind_word, list_name, item_members, item_of, listed, has_listed, list_member, optional_list, is_claim, single_members, singles, why_members, why_member, fault_object, function_members, function_object};
+ghost use Rattle.pci_json.specs.Groups.{inner_of, has_any, kind_word, list_name, item_members, item_of, listed, has_listed, list_member, optional_list, single_members, singles, why_members, why_member, fault_object, function_members, function_object};
 
 use crate::faults::push_fault;
 use crate::lines::{content, cut, is_inner, is_word, word};

@@ -2,7 +2,7 @@
 ghost use Rattle.std.specs.Prelude.{◌≡◌, ◌<◌, ◌≤◌, ◌==◌, ◌^◌, ◌∷◌, length};
 ghost use Rattle.std.specs.Str.{IsCharBoundary};
 ghost use Rattle.std.specs.List.{before_first, after_first};
-ghost use Rattle.pci_json.specs.Lines.{parts_of, lines_of, indent_of, content_of, depth_of, is_inner, is_blank, behind, word, is_word, digit_value, value_of};
+ghost use Rattle.pci_json.specs.Lines.{parts_of, indent_of, content_of, depth_of, is_inner, is_blank, behind, word, is_word, digit_value, value_of};
 
 /// The first part of a text that ends with this byte, and what stands behind that byte.
 pub fn cut(text: &str, end: char) -> (&str, &str)

@@ -1,5 +1,5 @@
 //! The lines of a listing, of a map, and of writes.
-ghost use Rattle.std.specs.Prelude.{◌≡◌, ◌++◌, OnOk};
+ghost use Rattle.std.specs.Prelude.{◌≡◌, OnOk};
 ghost use Rattle.std.specs.List.{before_first, after_first};
 ghost use Rattle.pci_json.specs.Members.{with_members};
 ghost use Rattle.pci_json.specs.Listings.{is_point, header_members, bar_range_place, bar_range_members, bar_members, rom_members, bus_members, state_members, window_members, capability_members, kind_members, write_members};

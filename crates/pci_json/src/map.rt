@@ -1,5 +1,5 @@
 //! The regions of a map.
-ghost use Rattle.std.specs.Prelude.{◌≡◌, ◌<◌, ◌≤◌, ◌+◌, ◌^◌, ◌++◌, ℕ, length, OnOk, IfOk};
+ghost use Rattle.std.specs.Prelude.{◌≡◌, ◌<◌, ◌≤◌, ◌+◌, ◌^◌, ℕ, length, OnOk, IfOk};
 ghost use Rattle.pci_json.specs.Lines.{lines_of};
 ghost use Rattle.pci_json.specs.Members.{with_members, with_items};
 ghost use Rattle.pci_json.specs.Listings.{free_members, sits_members, outer_members, inside_members, root_members};

@@ -1,8 +1,7 @@
 //! Members that several kinds of lines have.
 ghost use Rattle.std.specs.Prelude.{◌≡◌, ◌<◌, ◌++◌, OnOk};
 ghost use Rattle.json.specs.Tree.{json_tokens};
-ghost use Rattle.json.specs.Json.{array};
-ghost use Rattle.pci_json.specs.Members.{with_members, with_items, first_of, last_of, slot_and_register, range_members, range_object, opening, ranges_of, array_of};
+ghost use Rattle.pci_json.specs.Members.{with_members, with_items, first_of, last_of, slot_and_register, range_members, range_object, opening, ranges_of};
 
 use crate::lines::{behind, cut, value, word};
 use crate::output::Output;
