@@ -1,0 +1,159 @@
+-- The members that are made of a fault's line are those of the fault.
+use Rattle.std.proofs.Common.{◌≡◌, ℕ, List, [], ◌∷◌, ◌++◌, get_or, refl, ap, ap₂, ◌∙◌, codes, if◌then◌else◌}
+use Rattle.std.specs.Prelude.{nat_eq}
+use Rattle.std.specs.Cmp.Lexicographic.{pointwise}
+use Rattle.json.specs.Json.{Json, string}
+use Rattle.pci_spec.specs.Slot.{Slot}
+use Rattle.pci_spec.specs.Text.{hex_byte, slot_text}
+use Rattle.pci_spec.specs.System.{Space, Io, Memory}
+use Rattle.pci_spec.specs.Line.{space_text, address_text, fault_name, fault_text}
+use Rattle.pci_spec.specs.Fault.{Fault, fault_number, NoVendor, HeaderKind, BarType, BarMask, BarPair, RomMask, WindowMask, CapRange, CapLoop, CapCut, SlotsDiffer, StrayProbe, LoneFunction, PaletteSnoop, VgaEnable, IsaEnable, Subtractive, InReset, PowerState, BusRange, Orphan, Unreached, Clash, Split}
+use Rattle.given_spec.specs.Fault as given
+use Rattle.given_spec.specs.Line as given_line
+use Rattle.pci_json.specs.Lines.{behind, word}
+use Rattle.pci_json.specs.Members.{hex, count}
+use Rattle.pci_json.specs.Faults.{slot_members, unreached_members, clash_members, split_members, outside_members}
+use Rattle.json_laws.specs.FaultValues.{slot_value, region_values, address_values, two_region_values}
+use Rattle.json_laws.specs.FaultLaws.{HasFaultMembers, HasGivenFaultMembers}
+use Rattle.json_laws.proofs.Words.{AreWords, tail_of, words_of, byte_ok, slot_ok, space_ok, address_ok}
+
+-- a word behind the number and the name
+there : (line w : List ℕ) (ws : List (List ℕ)) → behind 2 line ≡ w ++ tail_of ws → AreWords (w ∷ ws) → (k : ℕ) → word k (behind 2 line) ≡ get_or (w ∷ ws) k []
+there line w ws at ok k = ap (word k) at ∙ words_of w ws ok k
+
+-- ---- the forms of lines
+
+slot_alone : (line : List ℕ) (s : Slot) → behind 2 line ≡ slot_text s → slot_members line ≡ slot_value (codes "slot") s
+unfolding behind
+slot_alone line s at =
+    let ok : AreWords (slot_text s ∷ []) = (slot_ok s, tt) in
+    let slot : word 2 line ≡ slot_text s = there line (slot_text s) [] at ok 0 in
+    let none : word 3 line ≡ [] = there line (slot_text s) [] at ok 1 in
+    ap₂ (λ (x y : List ℕ). (codes "slot", string x) ∷ (if pointwise nat_eq y [] then [] else (codes "register", hex y) ∷ [])) slot none
+
+region : (line : List ℕ) (s : Slot) (r : ℕ) → behind 2 line ≡ slot_text s ++ tail_of (hex_byte r ∷ []) → slot_members line ≡ region_values s r
+unfolding behind
+region line s r at =
+    let ok : AreWords (slot_text s ∷ hex_byte r ∷ []) = (slot_ok s, (byte_ok r, tt)) in
+    let slot : word 2 line ≡ slot_text s = there line (slot_text s) (hex_byte r ∷ []) at ok 0 in
+    let register : word 3 line ≡ hex_byte r = there line (slot_text s) (hex_byte r ∷ []) at ok 1 in
+    ap₂ (λ (x y : List ℕ). (codes "slot", string x) ∷ (if pointwise nat_eq y [] then [] else (codes "register", hex y) ∷ [])) slot register
+
+unreached : (line : List ℕ) (s : Slot) (r : ℕ) (space : Space) (a : ℕ) (b : Slot)
+    → behind 2 line ≡ slot_text s ++ tail_of (hex_byte r ∷ space_text space ∷ address_text space a ∷ codes "bridge" ∷ slot_text b ∷ [])
+    → unreached_members line ≡ region_values s r ++ (address_values space a ++ slot_value (codes "bridge") b)
+unfolding behind
+unreached line s r space a b at =
+    let ws : List (List ℕ) = hex_byte r ∷ space_text space ∷ address_text space a ∷ codes "bridge" ∷ slot_text b ∷ [] in
+    let ok : AreWords (slot_text s ∷ hex_byte r ∷ space_text space ∷ address_text space a ∷ codes "bridge" ∷ slot_text b ∷ []) = (slot_ok s, (byte_ok r, (space_ok space, (address_ok space a, (refl, (slot_ok b, tt)))))) in
+    let w2 : word 2 line ≡ slot_text s = there line (slot_text s) ws at ok 0 in
+    let w3 : word 3 line ≡ hex_byte r = there line (slot_text s) ws at ok 1 in
+    let w4 : word 4 line ≡ space_text space = there line (slot_text s) ws at ok 2 in
+    let w5 : word 5 line ≡ address_text space a = there line (slot_text s) ws at ok 3 in
+    let w7 : word 7 line ≡ slot_text b = there line (slot_text s) ws at ok 5 in
+    cc (w2, w3, w4, w5, w7)
+
+clash : (line : List ℕ) (bus : ℕ) (space : Space) (a : ℕ) (s : Slot) (r : ℕ) (t : Slot) (q : ℕ)
+    → behind 2 line ≡ codes "bus" ++ tail_of (hex_byte bus ∷ space_text space ∷ address_text space a ∷ slot_text s ∷ hex_byte r ∷ slot_text t ∷ hex_byte q ∷ [])
+    → clash_members line ≡ (codes "bus", string (hex_byte bus)) ∷ (address_values space a ++ two_region_values s r t q)
+unfolding behind
+clash line bus space a s r t q at =
+    let ws : List (List ℕ) = hex_byte bus ∷ space_text space ∷ address_text space a ∷ slot_text s ∷ hex_byte r ∷ slot_text t ∷ hex_byte q ∷ [] in
+    let ok : AreWords (codes "bus" ∷ hex_byte bus ∷ space_text space ∷ address_text space a ∷ slot_text s ∷ hex_byte r ∷ slot_text t ∷ hex_byte q ∷ []) = (refl, (byte_ok bus, (space_ok space, (address_ok space a, (slot_ok s, (byte_ok r, (slot_ok t, (byte_ok q, tt)))))))) in
+    let w3 : word 3 line ≡ hex_byte bus = there line (codes "bus") ws at ok 1 in
+    let w4 : word 4 line ≡ space_text space = there line (codes "bus") ws at ok 2 in
+    let w5 : word 5 line ≡ address_text space a = there line (codes "bus") ws at ok 3 in
+    let w6 : word 6 line ≡ slot_text s = there line (codes "bus") ws at ok 4 in
+    let w7 : word 7 line ≡ hex_byte r = there line (codes "bus") ws at ok 5 in
+    let w8 : word 8 line ≡ slot_text t = there line (codes "bus") ws at ok 6 in
+    let w9 : word 9 line ≡ hex_byte q = there line (codes "bus") ws at ok 7 in
+    cc (w3, w4, w5, w6, w7, w8, w9)
+
+split : (line : List ℕ) (space : Space) (a : ℕ) (s : Slot) (r : ℕ) (t : Slot) (q : ℕ)
+    → behind 2 line ≡ space_text space ++ tail_of (address_text space a ∷ slot_text s ∷ hex_byte r ∷ slot_text t ∷ hex_byte q ∷ [])
+    → split_members line ≡ address_values space a ++ two_region_values s r t q
+unfolding behind
+split line space a s r t q at =
+    let ws : List (List ℕ) = address_text space a ∷ slot_text s ∷ hex_byte r ∷ slot_text t ∷ hex_byte q ∷ [] in
+    let ok : AreWords (space_text space ∷ address_text space a ∷ slot_text s ∷ hex_byte r ∷ slot_text t ∷ hex_byte q ∷ []) = (space_ok space, (address_ok space a, (slot_ok s, (byte_ok r, (slot_ok t, (byte_ok q, tt)))))) in
+    let w2 : word 2 line ≡ space_text space = there line (space_text space) ws at ok 0 in
+    let w3 : word 3 line ≡ address_text space a = there line (space_text space) ws at ok 1 in
+    let w4 : word 4 line ≡ slot_text s = there line (space_text space) ws at ok 2 in
+    let w5 : word 5 line ≡ hex_byte r = there line (space_text space) ws at ok 3 in
+    let w6 : word 6 line ≡ slot_text t = there line (space_text space) ws at ok 4 in
+    let w7 : word 7 line ≡ hex_byte q = there line (space_text space) ws at ok 5 in
+    cc (w2, w3, w4, w5, w6, w7)
+
+outside : (line : List ℕ) (s : Slot) (r : ℕ) (space : Space) (a : ℕ)
+    → behind 2 line ≡ slot_text s ++ tail_of (hex_byte r ∷ space_text space ∷ address_text space a ∷ [])
+    → outside_members line ≡ region_values s r ++ address_values space a
+unfolding behind
+outside line s r space a at =
+    let ws : List (List ℕ) = hex_byte r ∷ space_text space ∷ address_text space a ∷ [] in
+    let ok : AreWords (slot_text s ∷ hex_byte r ∷ space_text space ∷ address_text space a ∷ []) = (slot_ok s, (byte_ok r, (space_ok space, (address_ok space a, tt)))) in
+    let w2 : word 2 line ≡ slot_text s = there line (slot_text s) ws at ok 0 in
+    let w3 : word 3 line ≡ hex_byte r = there line (slot_text s) ws at ok 1 in
+    let w4 : word 4 line ≡ space_text space = there line (slot_text s) ws at ok 2 in
+    let w5 : word 5 line ≡ address_text space a = there line (slot_text s) ws at ok 3 in
+    cc (w2, w3, w4, w5)
+
+-- ---- each fault
+
+abbrev head : ℕ → List ℕ → List ℕ → List (List ℕ × Json) → List (List ℕ × Json)
+head number name line named = (codes "number", count number) ∷ (codes "name", string name) ∷ (codes "text", string line) ∷ named
+
+of_slot : (f : Fault) → (s : Slot) → behind 2 (fault_text f) ≡ slot_text s → head (fault_number f) (fault_name f) (fault_text f) (slot_members (fault_text f)) ≡ head (fault_number f) (fault_name f) (fault_text f) (slot_value (codes "slot") s)
+of_slot f s at = ap (head (fault_number f) (fault_name f) (fault_text f)) (slot_alone (fault_text f) s at)
+
+of_region : (f : Fault) → (s : Slot) (r : ℕ) → behind 2 (fault_text f) ≡ slot_text s ++ tail_of (hex_byte r ∷ []) → head (fault_number f) (fault_name f) (fault_text f) (slot_members (fault_text f)) ≡ head (fault_number f) (fault_name f) (fault_text f) (region_values s r)
+of_region f s r at = ap (head (fault_number f) (fault_name f) (fault_text f)) (region (fault_text f) s r at)
+
+pub has_fault_members : HasFaultMembers
+unfolding behind
+has_fault_members (NoVendor slot) = of_slot (NoVendor slot) slot refl
+has_fault_members (HeaderKind slot) = of_slot (HeaderKind slot) slot refl
+has_fault_members (SlotsDiffer slot) = of_slot (SlotsDiffer slot) slot refl
+has_fault_members (LoneFunction slot) = of_slot (LoneFunction slot) slot refl
+has_fault_members (PaletteSnoop slot) = of_slot (PaletteSnoop slot) slot refl
+has_fault_members (VgaEnable slot) = of_slot (VgaEnable slot) slot refl
+has_fault_members (IsaEnable slot) = of_slot (IsaEnable slot) slot refl
+has_fault_members (Subtractive slot) = of_slot (Subtractive slot) slot refl
+has_fault_members (InReset slot) = of_slot (InReset slot) slot refl
+has_fault_members (PowerState slot) = of_slot (PowerState slot) slot refl
+has_fault_members (BusRange slot) = of_slot (BusRange slot) slot refl
+has_fault_members (Orphan slot) = of_slot (Orphan slot) slot refl
+has_fault_members (BarType slot register) = of_region (BarType slot register) slot register refl
+has_fault_members (BarMask slot register) = of_region (BarMask slot register) slot register refl
+has_fault_members (BarPair slot register) = of_region (BarPair slot register) slot register refl
+has_fault_members (RomMask slot register) = of_region (RomMask slot register) slot register refl
+has_fault_members (WindowMask slot register) = of_region (WindowMask slot register) slot register refl
+has_fault_members (CapRange slot register) = of_region (CapRange slot register) slot register refl
+has_fault_members (CapLoop slot register) = of_region (CapLoop slot register) slot register refl
+has_fault_members (CapCut slot register) = of_region (CapCut slot register) slot register refl
+has_fault_members (StrayProbe slot register) = of_region (StrayProbe slot register) slot register refl
+has_fault_members (Unreached slot register Io address bridge) =
+    ap (head 60 (codes "Unreached") (fault_text (Unreached slot register Io address bridge))) (unreached (fault_text (Unreached slot register Io address bridge)) slot register Io address bridge refl)
+has_fault_members (Clash bus Io address first first_register second second_register) =
+    ap (head 61 (codes "Clash") (fault_text (Clash bus Io address first first_register second second_register)))
+    (clash (fault_text (Clash bus Io address first first_register second second_register)) bus Io address first first_register second second_register refl)
+has_fault_members (Split Io address first first_register second second_register) =
+    ap (head 62 (codes "Split") (fault_text (Split Io address first first_register second second_register)))
+    (split (fault_text (Split Io address first first_register second second_register)) Io address first first_register second second_register refl)
+has_fault_members (Unreached slot register Memory address bridge) =
+    ap (head 60 (codes "Unreached") (fault_text (Unreached slot register Memory address bridge))) (unreached (fault_text (Unreached slot register Memory address bridge)) slot register Memory address bridge refl)
+has_fault_members (Clash bus Memory address first first_register second second_register) =
+    ap (head 61 (codes "Clash") (fault_text (Clash bus Memory address first first_register second second_register)))
+    (clash (fault_text (Clash bus Memory address first first_register second second_register)) bus Memory address first first_register second second_register refl)
+has_fault_members (Split Memory address first first_register second second_register) =
+    ap (head 62 (codes "Split") (fault_text (Split Memory address first first_register second second_register)))
+    (split (fault_text (Split Memory address first first_register second second_register)) Memory address first first_register second second_register refl)
+
+pub has_given_fault_members : HasGivenFaultMembers
+unfolding behind
+has_given_fault_members (given.Known fault) = has_fault_members fault
+has_given_fault_members (given.Outside slot register Io address) =
+    ap (head 63 (codes "Outside") (given_line.fault_text (given.Outside slot register Io address)))
+    (outside (given_line.fault_text (given.Outside slot register Io address)) slot register Io address refl)
+has_given_fault_members (given.Outside slot register Memory address) =
+    ap (head 63 (codes "Outside") (given_line.fault_text (given.Outside slot register Memory address)))
+    (outside (given_line.fault_text (given.Outside slot register Memory address)) slot register Memory address refl)

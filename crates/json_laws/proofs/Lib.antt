@@ -1,0 +1,5 @@
+mod Values
+mod Words
+pub mod Texts
+pub mod FaultMembers
+pub mod FaultLists

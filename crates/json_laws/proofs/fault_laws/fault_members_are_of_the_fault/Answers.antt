@@ -1,0 +1,8 @@
+use Rattle.json_laws.proofs.FaultMembers.{has_fault_members, has_given_fault_members}
+use Rattle.json_laws.proofs.fault_laws.fault_members_are_of_the_fault.Goals as goal
+
+pub returns-clause-known : goal.returns-clause-known
+returns-clause-known c = λ fault. has_fault_members fault
+
+pub returns-clause-given : goal.returns-clause-given
+returns-clause-given c = λ fault. has_given_fault_members fault

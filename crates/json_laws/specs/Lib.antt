@@ -1,0 +1,4 @@
+pub mod Values
+pub mod TextLaws
+pub mod FaultValues
+pub mod FaultLaws
