@@ -21,7 +21,10 @@ WIDTH = 80
 
 def page(name):
     with open(os.path.join(TOP, "docs", name), encoding="utf-8") as file:
-        return file.read()
+        text = file.read()
+    if re.search(r"(?m)^(<{7}|={7}|>{7})( |$)", text):
+        sys.exit("explain.py: docs/%s has both sides of a merge" % name)
+    return text
 
 
 def plain_roff(line):

@@ -7,7 +7,7 @@
 #
 # The Rattle that docs/APPLYING.md shows is looked for in the crate that proves it. The lines that capture a machine are the
 # same in README.md and in the manual page. No page has a sentence or a table cell that docs/long_sentences.sh
-# calls too long.
+# calls too long, and none has both sides of a merge.
 #
 # Usage: pages_test.sh PROGRAM [PAGE..]; README.md and all of docs/*.md if none is said.
 set -u
@@ -93,6 +93,14 @@ else
     echo "FAILED: $name"
     printf '%s\n' "$long"
     failed=$((failed + 1))
+fi
+name='README.md and docs/*.md: no side of a merge'
+if grep -nE '^(<{7}|>{7}) ' "$here/../../README.md" "$here"/../../docs/*.md; then
+    echo "FAILED: $name"
+    failed=$((failed + 1))
+else
+    echo "ok: $name"
+    passed=$((passed + 1))
 fi
 flat() {
     tr -s ' \n' ' '

@@ -90,13 +90,10 @@ pub const NO_VENDOR: &str = "\
 pub const HEADER_KIND: &str = "\
 21 HeaderKind S
   The header's layout is neither 0 nor 1.
-  Mostly: <<<<<<< HEAD The function is a CardBus bridge (header type 2). It
-    isn't decoded, nor is what is behind it. faults --model cardbus judges the
-    rest. So does check without the function's two blocks. ======= The function
-    is a CardBus bridge (header type 2). It isn't decoded, nor is what is behind
-    it.
-  Do: Without its block a verdict is of the rest alone. >>>>>>> 8cf94f95
-    (pciplan_explain: texts of faults and commands, made of the pages).
+  Mostly: The function is a CardBus bridge (header type 2). It isn't decoded,
+    nor is what is behind it.
+  Do: faults --model cardbus judges the rest. So does check without the
+    function's two blocks.
 ";
 
 pub const BAR_TYPE: &str = "\
@@ -110,15 +107,11 @@ pub const BAR_TYPE: &str = "\
 pub const BAR_MASK: &str = "\
 23 BarMask S r
   A BAR's read back is of no BAR, or its value doesn't go with it.
-  Mostly: <<<<<<< HEAD No BAR or window has such a read back: not all ones were
-    written, or a window takes nothing. Size it again with decoding off. Of a
-    derived probe, look at the device's errata. Of a window that can't be
-    written faults --model windows judges what it shows. ======= No BAR or
-    window has such a read back: not all ones were written, or a window takes
-    nothing.
+  Mostly: No BAR or window has such a read back: not all ones were written, or a
+    window takes nothing.
   Do: Size it again with decoding off. Of a derived probe, look at the device's
-    errata. >>>>>>> 8cf94f95 (pciplan_explain: texts of faults and commands,
-    made of the pages).
+    errata. Of a window that can't be written faults --model windows judges what
+    it shows.
 ";
 
 pub const BAR_PAIR: &str = "\
@@ -139,15 +132,11 @@ pub const ROM_MASK: &str = "\
 pub const WINDOW_MASK: &str = "\
 26 WindowMask S r
   The same as 23, of a bridge's window.
-  Mostly: <<<<<<< HEAD No BAR or window has such a read back: not all ones were
-    written, or a window takes nothing. Size it again with decoding off. Of a
-    derived probe, look at the device's errata. Of a window that can't be
-    written faults --model windows judges what it shows. ======= No BAR or
-    window has such a read back: not all ones were written, or a window takes
-    nothing.
+  Mostly: No BAR or window has such a read back: not all ones were written, or a
+    window takes nothing.
   Do: Size it again with decoding off. Of a derived probe, look at the device's
-    errata. >>>>>>> 8cf94f95 (pciplan_explain: texts of faults and commands,
-    made of the pages).
+    errata. Of a window that can't be written faults --model windows judges what
+    it shows.
 ";
 
 pub const CAP_RANGE: &str = "\
