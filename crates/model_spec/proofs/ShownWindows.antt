@@ -1,14 +1,14 @@
 -- A window that is taken as the one that it shows has no 26.
 use Rattle.std.specs.Prelude.{◌⊎◌}
-use Rattle.std.proofs.Common.{◌≡◌, ℕ, zero, suc, ◌+◌, ◌*◌, ◌/◌, ◌%◌, ◌^◌, ◌==◌, ◌<◌, ◌≤◌, List, length, set, Bool, true, false, ◌&&◌, ◌||◌, not, Option, Some, None, is_some, inl, inr, refl, ◌∙◌, ap, sym, subst, arith, lit<}
+use Rattle.std.proofs.Common.{◌≡◌, ℕ, zero, suc, ◌+◌, ◌*◌, ◌/◌, ◌%◌, ◌^◌, ◌<◌, ◌≤◌, List, length, set, Bool, true, false, ◌&&◌, not, Option, Some, None, is_some, inl, inr, refl, ◌∙◌, ap, sym, subst, arith, lit<}
 use Rattle.std.proofs.lemmas.Bool.{and_parts, both_ways, cases_Bool, cases_lt, cond_both, eqb-true, or_left, or_right}
 use Rattle.std.proofs.lemmas.List.{get_or-set_same, length-set}
-use Rattle.pci_spec.specs.Number.{byte_at, number_at, IsImage}
+use Rattle.pci_spec.specs.Number.{byte_at, number_at}
 use Rattle.pci_spec.specs.Registers.{IO_BASE, IO_LIMIT, IO_BASE_UPPER, IO_LIMIT_UPPER, MEMORY_BASE, MEMORY_LIMIT, PREFETCHABLE_BASE, PREFETCHABLE_LIMIT, PREFETCHABLE_BASE_UPPER, PREFETCHABLE_LIMIT_UPPER}
 use Rattle.pci_spec.specs.Window.{WindowKind, IoWindow, MemoryWindow, PrefetchWindow, Bounds, bounds_at, breaks_window_rule, closed_bounds, is_lawful_window, is_optional, is_window_value, is_zero, shows_window}
 use Rattle.pci_spec.specs.Derived.{bounds_of_nibble}
 use Rattle.pci_spec.specs.System.{Function}
-use Rattle.model_spec.specs.Windows.{with_number, with_bounds, shown_nibble, image_with_window, with_nibble, window_as_shown}
+use Rattle.model_spec.specs.Windows.{with_number, with_bounds, shown_nibble, image_with_window, with_nibble}
 use Rattle.model_spec.specs.WordsLaws.{ShownWindowsAreLawful, ShownWindowsKeepPages}
 use Rattle.model_spec.proofs.WindowBytes.{number_length, number_other}
 

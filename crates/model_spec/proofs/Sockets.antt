@@ -1,22 +1,19 @@
 -- CardBus bridges that are taken as devices without address registers.
 use Rattle.std.specs.Prelude.{◌⊎◌}
-use Rattle.std.proofs.Common.{◌≡◌, ℕ, zero, suc, ◌+◌, ◌*◌, ◌/◌, ◌%◌, ◌==◌, ◌<◌, ◌≤◌, List, [], ◌∷◌, length, set, map, Bool, true, false, ◌&&◌, ◌||◌, not, Some, None, inl, inr, refl, ◌∙◌, ap, sym, arith, lit<}
+use Rattle.std.proofs.Common.{◌≡◌, ℕ, zero, suc, ◌+◌, ◌*◌, ◌/◌, ◌%◌, ◌==◌, ◌<◌, ◌≤◌, List, [], ◌∷◌, length, set, map, Bool, false, ◌&&◌, ◌||◌, not, Some, None, inl, inr, refl, ◌∙◌, ap, sym, arith, lit<}
 use Rattle.std.specs.Bool.{if◌then◌else◌}
 use Rattle.std.specs.Int.{bit_at}
 use Rattle.std.specs.List.{filter, range_with_len}
 use Rattle.std.proofs.lemmas.Bool.{and_left, cases_lt, cond_both, ne_eqb}
 use Rattle.std.proofs.Math.Bool.{and-false}
 use Rattle.std.proofs.lemmas.List.{get_or-set_same, get_or-set_other, get_or_past, length-set}
-use Rattle.pci_spec.specs.Number.{byte_at, number_at, has_bit, IsImage}
+use Rattle.pci_spec.specs.Number.{byte_at, number_at, has_bit}
 use Rattle.pci_spec.specs.Registers.{STATUS, HEADER_TYPE, BASE_ADDRESS, EXPANSION_ROM}
 use Rattle.pci_spec.specs.Header.{bar_count, bar_register, layout, rom_register, status, vendor_id}
 use Rattle.pci_spec.specs.Bar.{BarReading, bar_at, bar_fault, bar_reading, first_broken, has_bar, starts_bar}
 use Rattle.pci_spec.specs.Rom.{has_rom, rom_at}
-use Rattle.pci_spec.specs.System.{Function}
-use Rattle.pci_spec.specs.Decoded.{Record, bridge_of, decoded_bar, decoded_bars, IsDecodable}
-use Rattle.pci_spec.specs.Fault.{IsNotInD0, has_no_vendor}
+use Rattle.pci_spec.specs.Decoded.{bridge_of, decoded_bar, decoded_bars}
 use Rattle.model_spec.specs.Bytes.{as_bare_device, cleared, without_list, without_registers}
-use Rattle.model_spec.specs.Taken.{without_socket}
 use Rattle.model_spec.specs.WordsLaws.{IsBare, SocketIsBare, SocketShowsNoState}
 use Rattle.model_spec.proofs.Changes.{bare_is_device, length_cleared, no_pointer}
 

@@ -5,12 +5,11 @@ use Rattle.std.proofs.lemmas.Bool.{cond_both}
 use Rattle.std.proofs.lemmas.List.{get_or-set_other, length-set}
 use Rattle.pci_spec.specs.Number.{byte_at}
 use Rattle.pci_spec.specs.Registers.{IO_BASE, IO_LIMIT, IO_BASE_UPPER, IO_LIMIT_UPPER, MEMORY_BASE, MEMORY_LIMIT, PREFETCHABLE_BASE, PREFETCHABLE_LIMIT, PREFETCHABLE_BASE_UPPER, PREFETCHABLE_LIMIT_UPPER}
-use Rattle.pci_spec.specs.Slot.{Slot}
 use Rattle.pci_spec.specs.Window.{WindowKind, IoWindow, MemoryWindow, PrefetchWindow, Bounds, bounds_at, breaks_window_rule, closed_bounds, is_zero}
 use Rattle.pci_spec.specs.Derived.{bounds_of_nibble}
 use Rattle.pci_spec.specs.System.{Function, is_bridge}
 use Rattle.model_spec.specs.Words.{Words}
-use Rattle.model_spec.specs.Windows.{with_number, with_bounds, shown_nibble, image_with_window, with_nibble, window_as_shown, windows_as_shown}
+use Rattle.model_spec.specs.Windows.{with_number, with_bounds, shown_nibble, with_nibble, window_as_shown, windows_as_shown}
 use Rattle.model_spec.specs.Taken.{windows_aside}
 
 -- ---- a number

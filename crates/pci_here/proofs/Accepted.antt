@@ -13,7 +13,7 @@ use Rattle.pciplan_lists.specs.PoolWords.{IsAddressWord, IsPoolWord}
 use Rattle.pciplan_lists.specs.ListWords.{IsRangeWord}
 use Rattle.pciplan_lists.specs.Joined.{AreJoined}
 use Rattle.pci_here.specs.Place.{hex_text}
-use Rattle.pci_here.specs.Words.{option_text, range_word, IsSmallRange, IsReadAs, WrittenListIsRead}
+use Rattle.pci_here.specs.Words.{option_text, range_word, IsSmallRange, WrittenListIsRead}
 
 few_digits : (n : ℕ) → n < 2 ^ 64 → length (hex_text n) ≤ 16
 few_digits n small =

@@ -1,5 +1,5 @@
 //! One function of a machine.
-ghost use Rattle.std.specs.Prelude.{◌≡◌, IfSome, MatchResult};
+ghost use Rattle.std.specs.Prelude.{IfSome, MatchResult};
 ghost use Rattle.pci_here.specs.Functions.{IsRead, HasTrouble};
 
 use crate::link::host_bus_of;

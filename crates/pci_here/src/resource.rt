@@ -1,5 +1,5 @@
 //! The first seven lines of a function's file `resource`.
-ghost use Rattle.std.specs.Prelude.{◌≡◌, List, MatchOption};
+ghost use Rattle.std.specs.Prelude.{List, MatchOption};
 ghost use Rattle.pci_spec.specs.Resource.{ResourceLine as LineValue};
 ghost use Rattle.pci_here.specs.Resource.{AreFirstLines};
 

@@ -1,5 +1,5 @@
 -- An answer that says why nothing is settled.
-use Rattle.std.proofs.Common.{◌≡◌, ℕ, List, Bool, Result, inr}
+use Rattle.std.proofs.Common.{◌≡◌, List, Bool, Result, inr}
 use Rattle.std.specs.Result.{IfOk}
 use Rattle.std.proofs.lemmas.Result.{IfOk-weaker}
 use Rattle.pci_spec.specs.Slot.{Slot}

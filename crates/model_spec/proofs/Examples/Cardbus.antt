@@ -1,5 +1,5 @@
 -- CardBus bridges, and functions that are none.
-use Rattle.std.proofs.Common.{◌≡◌, ℕ, List, [], ◌∷◌, refl, true, false, map, set}
+use Rattle.std.proofs.Common.{◌≡◌, ℕ, [], ◌∷◌, refl, true, false, map, set}
 use Rattle.std.specs.List.{list_any, range_with_len}
 use Rattle.pci_spec.specs.Number.{byte_at, number_at}
 use Rattle.pci_spec.specs.Header.{layout, status}

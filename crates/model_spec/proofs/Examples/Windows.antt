@@ -1,6 +1,6 @@
 -- Windows that are taken as those that they show.
-use Rattle.std.proofs.Common.{◌≡◌, ℕ, List, [], ◌∷◌, refl, true, false, None, Some, map, replicate}
-use Rattle.pci_spec.specs.Window.{WindowKind, IoWindow, MemoryWindow, PrefetchWindow, Bounds, bounds_at, breaks_window_rule, is_closed}
+use Rattle.std.proofs.Common.{◌≡◌, ℕ, List, [], ◌∷◌, refl, true, false, None, Some, map}
+use Rattle.pci_spec.specs.Window.{IoWindow, MemoryWindow, PrefetchWindow, Bounds, breaks_window_rule, is_closed}
 use Rattle.pci_spec.specs.System.{Function}
 use Rattle.pci_spec.specs.Decoded.{decoded_windows}
 use Rattle.pci_spec.proofs.Examples.Samples.{bridge, device, on_bridge, range, read_backs, slot}

@@ -1,4 +1,4 @@
-use Rattle.std.proofs.Common.{◌≡◌, ◌+◌, ℕ, List, map, subst, inl, inr}
+use Rattle.std.proofs.Common.{◌≡◌, ◌+◌, ℕ, map, subst, inl, inr}
 use Rattle.std.specs.String.{string_bytes}
 use Rattle.pciplan_cli.specs.CarriedOut.{texts}
 use Rattle.pciplan_tasks.specs.Tasks.{HasFailed}
@@ -6,7 +6,7 @@ use Rattle.pciplan_front.specs.FirstWords.{AreOfTexts, IsFirst, behind}
 use Rattle.pciplan_front.specs.HereTold.{IsHere}
 use Rattle.pciplan_front.specs.JsonAsked.{IsJson}
 use Rattle.pciplan_front.specs.TextAsked.{IsTold}
-use Rattle.pciplan_front.specs.Went.{Went, went}
+use Rattle.pciplan_front.specs.Went.{went}
 use Rattle.pciplan_front.proofs.FirstWords.{not_texts, of_explain, of_here, of_json, of_version}
 use Rattle.pciplan_front.proofs.front.front.Goals as goal
 

@@ -1,4 +1,3 @@
-use Rattle.std.proofs.Common.{◌≡◌}
 use Rattle.pci_settle.specs.Lists.{lists_value}
 use Rattle.pci_place.specs.Above.{system_in}
 use Rattle.pci_settle_writes.specs.Requests.{request}
