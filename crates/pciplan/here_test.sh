@@ -248,6 +248,80 @@ refused 'no function of that domain' 4 '1 Io' --domain 0001
 tree sh -c 'for f in *; do mkdir "$f/physfn"; done'
 refused 'virtual functions alone' 4 '1 Io'
 
+# What the kernel's log tells of BARs that Linux couldn't place: by each log of capture_test.sh the probe is that of the sizes
+# which capture.sh takes from it. Linux has cleared all lines of 02:02.0 in `failed`.
+cp -R old failed
+yes '0x0000000000000000 0x0000000000000000 0x0000000000000000' | head -n 7 \
+    >failed/sys/bus/pci/devices/0000:02:02.0/resource
+mkdir logs
+awk '/<<.END.$/ { file = sprintf("logs/%02d", ++n); next }
+    /^END$/ { file = "" }
+    file { print >file }' "$here/capture_test.sh"
+
+# by_log NAME LOG: the probe of `failed` by a log.
+by_log() {
+    LOG=$2 SYSFS=failed/sys "$machines/capture.sh" >out 2>err
+    "$program" probe --least dump.txt sizes.txt >probe 2>remarks
+    says "$1" $? probe "$(cat remarks)" here probe --from failed --log "$2"
+}
+
+for log in logs/*; do
+    by_log "a log of capture_test.sh: $log" "$log"
+done
+[ "$(ls logs | wc -l)" -ge 8 ]
+told 'the logs of capture_test.sh' $?
+by_log 'an empty log' nothing
+cat logs/* >all.log
+by_log 'several logs behind one another' all.log
+sed 's/$/\r/' logs/01 >carriage.log
+by_log 'a log with carriage returns' carriage.log
+printf '%s' "$(cat logs/01)" >cut.log
+by_log 'a log without an end of its last line' cut.log
+sed 's/0000:02:02/0001:02:02/' logs/01 >other.log
+by_log 'a log of another domain' other.log
+
+# the log from standard input, which is read once for all domains
+LOG=logs/01 SYSFS=failed/sys "$machines/capture.sh" >out 2>err
+"$program" probe --least dump.txt sizes.txt >probe 2>remarks
+status=$?
+"$program" here probe --log /dev/stdin --from failed <logs/01 >out 2>err
+[ $? -eq $status ] && cmp -s out probe && cmp -s err remarks
+told 'a log from standard input' $?
+cat logs/01 | "$program" here probe --log /dev/stdin --from failed >out 2>err
+[ $? -eq $status ] && cmp -s out probe && cmp -s err remarks
+told 'a log from a pipe' $?
+cp -R failed both
+fake both/sys 0001 'platform/host/' desk 00
+"$program" here probe --from both --domain 0001 >second 2>remarks.second
+{
+    echo 'domain 0000'
+    cat probe
+    echo 'domain 0001'
+    cat second
+} >wanted
+"$program" here probe --from both --log /dev/stdin <logs/01 >out 2>err
+cmp -s out wanted && [ "$(cat err)" = "$(cat remarks remarks.second)" ]
+told 'a log from standard input: two domains' $?
+
+# where sysfs has a size the log isn't asked, nor for the dump
+sed 's/02:02.0/02:03.0/' logs/01 >placed.log
+as_commands 'a log of BARs that have a place' old old "$no_ranges" --log placed.log
+says 'a log: dump' 0 "$machines/old.dump" '' here dump --from failed --log logs/01
+
+# a log that can't be read
+rm -rf tree
+cp -R old tree
+refused 'a log that is missing' 4 '1 Io' --log missing.log
+refused 'a folder as log' 4 '1 Io' --log logs
+cp logs/01 tree/inside.log
+refused 'a log in the folder of the machine' 4 '1 Io' --log inside.log
+printf '\377\n' >bytes.log
+refused 'a log that is no UTF-8' 4 '1 Io' --log bytes.log
+for words in '--log' '--log logs/01 --log logs/01' '--log=logs/01 --log logs/02' 'map words --log logs/01'; do
+    # shellcheck disable=SC2086
+    says "the words $words" 2 nothing 'pciplan: usage' here --from old $words
+done
+
 # more lines and bytes than are read, and names that are no function's
 cp -R old longer
 for function in longer/sys/bus/pci/devices/*; do

@@ -343,7 +343,7 @@ for command in $commands; do
         --model) word=power ;;
         --fixed) word=00:02.0 ;;
         --domain) word=0000 ;;
-        --from) word=home ;;
+        --from | --log) word=home ;;
         --pref) word=f0000000-ffffffff ;;
         *) word=1000-ffff ;;
         esac
@@ -491,13 +491,14 @@ if command -v bash >/dev/null; then
     offers "faults --model power dump.txt ''" FILES
     offers "judge ''" ''
     offers "here ''" 'faults map dump probe words'
-    offers 'here -' '--domain --from'
-    offers 'here map -' '--domain --from'
-    offers "here map ''" '--domain --from'
+    offers 'here -' '--domain --from --log'
+    offers 'here map -' '--domain --from --log'
+    offers "here map ''" '--domain --from --log'
     offers "here --domain ''" ''
     offers "here --from ''" ''
+    offers "here --log ''" FILES
     offers 'here --domain = 0000 m' 'map'
-    offers "here --domain 0000 dump ''" '--from'
+    offers "here --domain 0000 dump ''" '--from --log'
     offers "explain ''" 'here show check faults map size plan settle probe json explain version'
     offers "explain check ''" ''
     offers "version ''" ''

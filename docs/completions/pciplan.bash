@@ -28,7 +28,7 @@ _pciplan() {
     fi
     [[ " $commands " == *" ${line[1]} "* ]] || return
     case ${line[1]} in
-    here) options='--domain --from' most=1 words='faults map dump probe words' ;;
+    here) options='--domain --from --log' most=1 words='faults map dump probe words' ;;
     show | size) options='' ;;
     check) options='--root' ;;
     faults) options='--host-io --host-mem --model --root --why' ;;
@@ -44,7 +44,7 @@ _pciplan() {
     for ((at = 2; at < place; at++)); do
         case $ended${line[at]} in
         --) ended=. ;;
-        --root | --model | --host-io | --host-mem | --io | --mem | --pref | --fixed | --domain | --from)
+        --root | --model | --host-io | --host-mem | --io | --mem | --pref | --fixed | --domain | --from | --log)
             said+="${line[at]} "
             [ "${line[at + 1]}" != = ] || at=$((at + 1))
             at=$((at + 1))
@@ -57,10 +57,11 @@ _pciplan() {
         *) count=$((count + 1)) ;;
         esac
     done
-    # For an option's own word nothing is offered, but for those of --model and --from, and for the forms of settle.
+    # For an option's own word nothing is offered, but for those of --model, --from and --log, and for the forms of settle.
     if [ "$at" -ne "$place" ]; then
         [[ $said != *' --model ' || $word == = ]] || _pciplan_model "$word"
         [[ $said != *' --from ' || $word == = ]] || compopt -o dirnames
+        [[ $said != *' --log ' || $word == = ]] || compopt -o default
         [[ $said != *' --writes ' || $word == = || ${line[1]} != settle ]] ||
             mapfile -t COMPREPLY < <(compgen -W 'grub setpci' -- "$word")
         return

@@ -10,6 +10,9 @@ mod Outer
 mod Options
 mod Texts
 mod Accepted
+mod LogForms
+mod LogWords
+mod Logs
 mod Told
 mod Takes
 mod Roots

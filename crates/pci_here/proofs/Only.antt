@@ -12,6 +12,7 @@ use Rattle.pci_here.specs.Place.{Place}
 use Rattle.pci_here.specs.declared.bus.Bus.{Bus}
 use Rattle.pci_here.specs.Bus.{IsBusName}
 use Rattle.pci_here.specs.Link.{IsHostFolder, IsNoHostFolder, IsHostBus}
+use Rattle.pci_here.specs.Log.{completed}
 use Rattle.pci_here.specs.Resource.{AreFirstLines}
 use Rattle.pci_here.specs.Shown.{Shown}
 use Rattle.pci_here.specs.Functions.{IsBlockAt, IsSizesAt, IsRootAt}
@@ -65,7 +66,8 @@ pub sizes_only : (m : Shown) (p : Place) (s : SizesBlock) → IsSizesAt m p s �
 sizes_only m p s is_s t is_t =
     let told : Some is_s.text ≡ Some is_t.text = sym is_s.resource ∙ is_t.resource in
     let text : is_s.text ≡ is_t.text = cc told in
-    let lines : s.lines ≡ t.lines = lines_same is_t.text s.lines t.lines (subst (λ w. AreFirstLines w s.lines) text is_s.lines) is_t.lines in
+    let first : is_s.first ≡ is_t.first = lines_same is_t.text is_s.first is_t.first (subst (λ w. AreFirstLines w is_s.first) text is_s.are_first) is_t.are_first in
+    let lines : s.lines ≡ t.lines = is_s.lines ∙ ap (λ l. completed l (m.log p)) first ∙ sym is_t.lines in
     let slot : s.slot ≡ t.slot = is_s.slot ∙ sym is_t.slot in
     λ i. record { slot = slot i; lines = lines i }
 

@@ -6,6 +6,7 @@ use Rattle.std.specs.List.{All}
 use Rattle.pci_spec.specs.Resource.{ResourceLine}
 use Rattle.pci_here.specs.Place.{Place}
 use Rattle.pci_here.specs.Link.{IsHostBus, IsNoHostFolder, folders}
+use Rattle.pci_here.specs.Log.{completed}
 use Rattle.pci_here.specs.Resource.{AreFirstLines}
 use Rattle.pci_here.specs.Shown.{Shown, IsFront, IsNoFront}
 use Rattle.pci_here.specs.declared.function.Function.{Function}
@@ -19,13 +20,15 @@ pub record IsBlockAt (m : Shown) (p : Place) (b : Block) : Type 0 where
   pub title : b.title ≡ None
   pub image : IsFront (m.config p) b.image
 
--- what is told of its address registers
+-- what is told of its address registers: the first lines of its file `resource`, and the log's in the place of zeros
 pub record IsSizesAt (m : Shown) (p : Place) (s : SizesBlock) : Type 0 where
   pub own : m.is_virtual p ≡ Some false
   pub slot : s.slot ≡ p.slot
   pub text : List ℕ
   pub resource : m.resource p ≡ Some text
-  pub lines : AreFirstLines text s.lines
+  pub first : List ResourceLine
+  pub are_first : AreFirstLines text first
+  pub lines : s.lines ≡ completed first (m.log p)
 
 -- the host bus that it is below
 pub record IsRootAt (m : Shown) (p : Place) (bus : ℕ) : Type 0 where

@@ -4,6 +4,8 @@ pub mod Link
 pub mod BusLine
 pub mod HostRanges
 pub mod Resource
+pub mod LogLine
+pub mod Log
 pub mod Shown
 pub mod Functions
 pub mod Parts

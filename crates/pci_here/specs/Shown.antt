@@ -1,6 +1,7 @@
 -- What Linux tells of the PCI functions of a machine.
 use Rattle.std.specs.Prelude.{◌≡◌, ℕ, ◌<◌, ◌≤◌, Bool, List, Option, None, Some, String, length, take, string_bytes}
 use Rattle.std.specs.Global.{Global}
+use Rattle.pci_here.specs.Log.{Registers}
 use Rattle.pci_here.specs.Place.{Place}
 use Rattle.pci_here.specs.declared.trouble.Trouble.{Trouble}
 use Rattle.pci_here.specs.declared.trouble.Trouble.TheVariants.{Memory, Unread, Short, NoRoot, TooMany}
@@ -15,6 +16,22 @@ pub record Shown : Type 0 where
   pub is_virtual : Place → Option Bool
   pub ioports : Option (List ℕ)
   pub iomem : Option (List ℕ)
+  -- what the kernel's log tells of a function's registers
+  pub log : Place → Registers
+
+-- the machine, and what a log tells of its functions' registers
+abbrev pub with_log : Option Shown → (Place → Registers) → Option Shown
+with_log None log = None
+with_log (Some m) log = Some record {
+  names = m.names;
+  config = m.config;
+  resource = m.resource;
+  link = m.link;
+  is_virtual = m.is_virtual;
+  ioports = m.ioports;
+  iomem = m.iomem;
+  log = log;
+}
 
 -- why something isn't had: it can't be read, or memory is refused
 abbrev pub IsNotHad : {X : Type 0} → Option X → Trouble → Type 0

@@ -1,6 +1,7 @@
 //! A machine whose `sys` and `proc` are folders.
 ghost use Rattle.std.specs.Prelude.{None};
 
+use crate::log::{NOTHING, Registers};
 use crate::machine::Machine;
 use crate::place::Place;
 use crate::trouble::Trouble;
@@ -103,5 +104,10 @@ impl<R: Files + AllocGlobal + Clone + Drop> Machine for FileMachine<'_, R> {
 
     fn iomem(&self, _alloc: Global) -> Result<Option<String>, OutOfMemory> {
         self.proc_text("iomem")
+    }
+
+    // No file of these folders has the log.
+    fn in_log(&self, _place: Place) -> Registers {
+        NOTHING
     }
 }

@@ -3,6 +3,7 @@ ghost use Rattle.std.specs.Prelude.{IfSome, MatchResult};
 ghost use Rattle.pci_here.specs.Functions.{IsRead, HasTrouble};
 
 use crate::link::host_bus_of;
+use crate::log::completed;
 use crate::machine::Machine;
 use crate::place::Place;
 use crate::resource::lines_of;
@@ -19,7 +20,7 @@ pub struct Function {
     pub root: u8,
 }
 
-/// Reads a function; None of a virtual one.
+/// Reads a function; None of a virtual one. A BAR whose line is zeros has that of the kernel's log, where it has one.
 ///
 /// Errors: `Unread` where one of its files, or its link, can't be read; `Short` where there are less than 256 bytes or
 /// seven lines; `NoRoot` where no host bus is in its path; `Memory` where a growth was refused.
@@ -49,7 +50,10 @@ pub fn read_function<M: Machine>(
             title: None,
             image,
         },
-        sizes: SizesBlock { slot, lines },
+        sizes: SizesBlock {
+            slot,
+            lines: completed(lines, machine.in_log(place)),
+        },
         root,
     }))
 }

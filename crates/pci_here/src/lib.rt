@@ -3,8 +3,9 @@
 //!
 //! [`domain::domain_of`] reads a domain from a [`Machine`]: each function's 256 bytes and the first
 //! seven lines of its file `resource` from `sys/bus/pci/devices`, its root bus from the link there, and
-//! the host's ranges from `proc/ioports` and `proc/iomem`. Nothing is written. A [`FileMachine`] is a
-//! machine whose `sys` and `proc` are folders.
+//! the host's ranges from `proc/ioports` and `proc/iomem`. A BAR that Linux couldn't place has a line of
+//! zeros in `resource`: a [`Log`] tells its size. Nothing is written. A [`FileMachine`] is a machine whose
+//! `sys` and `proc` are folders.
 //!
 //! ```text
 //! let machine = FileMachine::under(&rt, "");
@@ -23,6 +24,8 @@ pub mod function;
 pub mod functions;
 pub mod host_ranges;
 pub mod link;
+pub mod log;
+pub mod log_line;
 pub mod machine;
 mod part;
 pub mod place;
@@ -35,6 +38,7 @@ pub mod words;
 
 pub use domain::{Domain, domain_of, domains_of};
 pub use files::FileMachine;
+pub use log::Log;
 pub use machine::Machine;
 pub use place::Place;
 pub use trouble::{Trouble, TroubleAt};

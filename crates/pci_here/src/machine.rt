@@ -2,6 +2,7 @@
 ghost use Rattle.std.specs.Prelude.{◌≡◌, Option, Some, IfSome, IfOk, MatchResult, map, string_bytes};
 ghost use Rattle.pci_here.specs.Shown.{Shown, IsFront, IsText, IsNotHad, IsNoFront};
 
+use crate::log::Registers;
 use crate::place::Place;
 use crate::trouble::Trouble;
 use pci_base::image::Image;
@@ -45,4 +46,8 @@ pub trait Machine {
     /// The text of `/proc/iomem`, None where it can't be read.
     fn iomem(&self, alloc: Global) -> Result<Option<String>, OutOfMemory>
         ensures { IfSome (shown self.now) (λ m. IfOk result (λ text. IsText m.iomem text)) };
+
+    /// What the kernel's log tells of a function's registers.
+    fn in_log(&self, place: Place) -> Registers
+        ensures { IfSome (shown self.now) (λ m. result ≡ m.log place) };
 }

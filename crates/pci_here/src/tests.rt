@@ -2,6 +2,7 @@
 ghost use Rattle.std.specs.Prelude.{None};
 
 use crate::domain::{domain_of, domains_of};
+use crate::log::{NOTHING, Registers};
 use crate::machine::Machine;
 use crate::place::Place;
 use crate::trouble::Trouble;
@@ -107,6 +108,10 @@ impl Machine for Fake<'_> {
             None => Ok(None),
             Some(text) => Ok(Some(String::from_str(alloc, text)?)),
         }
+    }
+
+    fn in_log(&self, _place: Place) -> Registers {
+        NOTHING
     }
 }
 

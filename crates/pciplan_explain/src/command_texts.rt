@@ -2,6 +2,7 @@
 
 pub const HERE: &str = "\
 pciplan here [faults | map | dump | probe | words] [--domain D] [--from FOLDER]
+    [--log FILE]
   Reads the Linux machine that it runs on and judges it; root has to run it.
   faults prints what the command faults prints of its texts, with --why and the
   words that words prints; this is what is printed if no word is said. map
@@ -19,6 +20,10 @@ pciplan here [faults | map | dump | probe | words] [--domain D] [--from FOLDER]
   --from FOLDER
     here reads the folders sys and proc of this folder, as a copy of another
     machine has them. / if it isn't said.
+  --log FILE
+    here takes the sizes of BARs that Linux couldn't place from this file, which
+    has the kernel's log: their lines in resource are zeros. /dev/stdin reads
+    what dmesg prints.
 ";
 
 pub const SHOW: &str = "\

@@ -1,6 +1,7 @@
 -- What the words of `here` ask for.
-use Rattle.std.specs.Prelude.{◌≡◌, ◌⊎◌, ℕ, List, Option, None, Some, codes, string_bytes}
+use Rattle.std.specs.Prelude.{◌≡◌, ◌⊎◌, ℕ, List, Option, None, Some, String, codes, string_bytes}
 use Rattle.std.specs.Borrow.{Bor}
+use Rattle.std.specs.Global.{Global}
 use Rattle.pci_here.specs.Place.{IsDomainWord}
 use Rattle.pciplan_words.specs.FurtherWords.{IsFurther, IsNoFurther}
 use Rattle.pciplan_words.specs.declared.further.Further.{Further}
@@ -34,11 +35,18 @@ abbrev pub folder_of : Option (Bor (List ℕ)) → List ℕ
 folder_of None = codes "/"
 folder_of (Some word) = word.now
 
+-- the path of a file, where there is a word
+abbrev pub IsPathOf : Option (Bor (List ℕ)) → Option (String Global) → Type 0
+IsPathOf None path = path ≡ None
+IsPathOf (Some word) None = ⊥
+IsPathOf (Some word) (Some path) = string_bytes path ≡ word.now
+
 -- what these words of `here` say
 pub record IsSaidBy (words : HereWords) (asked : HereAsked) : Type 0 where
   pub what : IsWhatOf words.what asked.what
   pub domain : IsDomainOf words.domain asked.domain
   pub folder : string_bytes asked.folder ≡ folder_of words.from
+  pub log : IsPathOf words.log asked.log
 
 pub record IsHereAsked (words : List (List ℕ)) (asked : HereAsked) : Type 0 where
   pub said : HereWords

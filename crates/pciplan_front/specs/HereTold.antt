@@ -1,12 +1,15 @@
 -- What `here` writes of the domains of a machine.
-use Rattle.std.specs.Prelude.{◌≡◌, ◌⊎◌, ℕ, List, [], ◌∷◌, ◌++◌, Bool, true, false, Option, None, Some, IfSome, codes, fold, length, map, nat_lt, string_bytes, if◌then◌else◌}
+use Rattle.std.specs.Prelude.{◌≡◌, ◌⊎◌, ℕ, List, [], ◌∷◌, ◌++◌, Bool, true, false, Option, None, Some, String, IfSome, codes, fold, length, map, nat_lt, string_bytes, if◌then◌else◌}
 use Rattle.std.specs.List.{All, flat_map}
+use Rattle.std.specs.Global.{Global}
 use Rattle.std.specs.Io.KnownBytes.{Appends}
 use Rattle.pci_dump.specs.Begun.{AppendsBeginning}
 use Rattle.pci_spec.specs.Line.{hex_number}
 use Rattle.pci_here.specs.Domain.{IsDomain, IsNoDomain}
 use Rattle.pci_here.specs.Places.{AreDomainsOf, HasNoDomains}
-use Rattle.pci_here.specs.Shown.{Shown}
+use Rattle.pci_here.specs.Log.{IsLogOf, Registers, nothing}
+use Rattle.pci_here.specs.Place.{Place}
+use Rattle.pci_here.specs.Shown.{IsNotHad, Shown, with_log}
 use Rattle.pci_here.specs.Trouble.{trouble_status}
 use Rattle.pci_here.specs.declared.domain.Domain.{Domain}
 use Rattle.pci_here.specs.declared.trouble.Trouble.{Trouble}
@@ -126,15 +129,41 @@ abbrev pub AreAsked : Option Shown → Option ℕ → List ℕ → Type 0
 AreAsked shown (Some domain) domains = domains ≡ domain ∷ []
 AreAsked shown None domains = IfSome shown (λ m. AreDomainsOf m domains)
 
--- what is told of the domains that the words ask for, of the machine in the folder that they name; each has a heading
--- where there are several
-pub record IsOfDomains (words : List (List ℕ)) (shown_in : List ℕ → Option Shown)
+-- What is told of the machine in a folder, and what a file holds: where that is known. There is nothing of a file that
+-- can't be read.
+pub record Files : Type 0 where
+  pub shown_in : List ℕ → Option Shown
+  pub text_at : List ℕ → Option (Option (List ℕ))
+
+abbrev pub files : (List ℕ → Option Shown) → (List ℕ → Option (Option (List ℕ))) → Files
+files shown_in text_at = record { shown_in = shown_in; text_at = text_at }
+
+-- what the log of the file tells that is asked for; nothing where none is
+abbrev pub IsAskedLog : (List ℕ → Option (Option (List ℕ))) → Option (String Global) → (Place → Registers) → Type 0
+IsAskedLog text_at None log = (p : Place) → log p ≡ nothing
+IsAskedLog text_at (Some path) log =
+    (text : List ℕ) × IfSome (text_at (string_bytes path)) (λ told. told ≡ Some text) × IsLogOf text log
+
+-- why it can't be had: the file can't be read, or memory was refused
+abbrev pub HasNoLog : (List ℕ → Option (Option (List ℕ))) → Option (String Global) → Trouble → Type 0
+HasNoLog text_at None trouble = trouble ≡ Memory
+HasNoLog text_at (Some path) trouble = IfSome (text_at (string_bytes path)) (λ told. IsNotHad told trouble)
+
+-- the machine in the folder that is asked for, with what the log tells of it
+abbrev pub shown_of : Files → HereAsked → (Place → Registers) → Option Shown
+shown_of f asked log = with_log (f.shown_in (string_bytes asked.folder)) log
+
+-- what is told of the domains that the words ask for, of the machine in the folder and by the log that they name; each has
+-- a heading where there are several
+pub record IsOfDomains (words : List (List ℕ)) (f : Files)
     (Tells : Option Shown → What → Bool → List ℕ → Type 0) : Type 0 where
   pub asked : HereAsked
   pub of_words : IsHereAsked words asked
+  pub log : Place → Registers
+  pub is_log : IsAskedLog f.text_at asked.log log
   pub domains : List ℕ
-  pub are : AreAsked (shown_in (string_bytes asked.folder)) asked.domain domains
-  pub tells : Tells (shown_in (string_bytes asked.folder)) asked.what (nat_lt 1 (length domains)) domains
+  pub are : AreAsked (shown_of f asked log) asked.domain domains
+  pub tells : Tells (shown_of f asked log) asked.what (nat_lt 1 (length domains)) domains
 
 -- nothing is asked for by the words, or memory was refused
 abbrev pub IsUnasked : List (List ℕ) → ℕ → Type 0
@@ -145,23 +174,32 @@ abbrev pub AreNotHad : Option Shown → Option ℕ → Trouble → Type 0
 AreNotHad shown (Some domain) trouble = trouble ≡ Memory
 AreNotHad shown None trouble = IfSome shown (λ m. HasNoDomains m trouble)
 
-pub record IsWithoutDomains (words : List (List ℕ)) (shown_in : List ℕ → Option Shown)
-    (status : ℕ) : Type 0 where
+pub record IsWithoutDomains (words : List (List ℕ)) (f : Files) (status : ℕ) : Type 0 where
+  pub asked : HereAsked
+  pub of_words : IsHereAsked words asked
+  pub log : Place → Registers
+  pub is_log : IsAskedLog f.text_at asked.log log
+  pub trouble : Trouble
+  pub are_not : AreNotHad (shown_of f asked log) asked.domain trouble
+  pub status_is : status ≡ trouble_status trouble
+
+-- the log that is asked for can't be had
+pub record IsWithoutLog (words : List (List ℕ)) (f : Files) (status : ℕ) : Type 0 where
   pub asked : HereAsked
   pub of_words : IsHereAsked words asked
   pub trouble : Trouble
-  pub are_not : AreNotHad (shown_in (string_bytes asked.folder)) asked.domain trouble
+  pub is_not : HasNoLog f.text_at asked.log trouble
   pub status_is : status ≡ trouble_status trouble
 
 -- each domain is told or unread, and the status is the greatest of theirs; or a write failed
-abbrev pub IsDone : List (List ℕ) → (List ℕ → Option Shown) → ℕ → Went → Type 0
-IsDone words shown_in status out =
-    IsOfDomains words shown_in
+abbrev pub IsDone : List (List ℕ) → Files → ℕ → Went → Type 0
+IsDone words f status out =
+    IsOfDomains words f
     (λ shown what headed domains. AreTold shown what headed domains status
     (Appends out.before out.after) ⊎ IsCutOff shown what headed domains status out)
 
--- nothing is written in the first two cases
-abbrev pub IsHere : List (List ℕ) → (List ℕ → Option Shown) → ℕ → Went → Type 0
-IsHere words shown_in status out =
-    (IsUnasked words status × out.same) ⊎ (IsWithoutDomains words shown_in status × out.same)
-    ⊎ IsDone words shown_in status out
+-- nothing is written where the words ask for nothing, or the log or the domains can't be had
+abbrev pub IsHere : List (List ℕ) → Files → ℕ → Went → Type 0
+IsHere words f status out =
+    ((IsUnasked words status ⊎ IsWithoutLog words f status ⊎ IsWithoutDomains words f status) × out.same)
+    ⊎ IsDone words f status out

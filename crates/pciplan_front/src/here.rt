@@ -2,20 +2,22 @@
 ghost use Rattle.std.specs.Prelude.{◌≡◌, ◌⊎◌, ◌≤◌, ◌+◌, ◌++◌, ℕ, true, IfErr, IfOk, MatchResult, OnErr, OnOk, map, string_bytes};
 ghost use Rattle.std.specs.Io.KnownBytes.{Appends};
 ghost use Rattle.pci_dump.specs.Begun.{AppendsBeginning};
+ghost use Rattle.pci_here.specs.Log.{log_of};
 ghost use Rattle.pci_here.specs.Trouble.{trouble_status};
 ghost use Rattle.pciplan_tasks.specs.Answers.{answer_of};
-ghost use Rattle.pciplan_front.specs.HereTold.{AreAsked, AreNotHad, AreTold, IsCutOff, IsHere, IsPieceOut, IsPrint, IsTrouble, domain_digits, greater, heading};
+ghost use Rattle.pciplan_front.specs.HereTold.{AreAsked, AreNotHad, AreTold, HasNoLog, IsAskedLog, IsCutOff, IsHere, IsPieceOut, IsPrint, IsTrouble, domain_digits, files, greater, heading};
 ghost use Rattle.pciplan_front.specs.Went.{went};
 
 use crate::domain_reply::domain_reply;
 use crate::folder::Foldered;
-use crate::here_asked::{What, here_asked};
+use crate::here_asked::{HereAsked, What, here_asked};
 use crate::messages::Messages;
 use crate::outside::Outside;
 use pci_base::memory::OutOfMemory;
 use pci_dump::streams::{Failed, Sink};
 use pci_dump::write::write_all;
 use pci_here::domain::{domain_of, domains_of};
+use pci_here::log::Log;
 use pci_here::machine::Machine;
 use pci_here::trouble::{Trouble, TroubleAt};
 use pci_listing::hex_text::push_hex;
@@ -197,6 +199,18 @@ fn asked_domains<M: Machine>(
     }
 }
 
+/// What the kernel's log tells in the file that is asked for, or nothing where none is.
+fn asked_log<M: Foldered>(alloc: Global, machine: &M, asked: &HereAsked) -> Result<Log, Trouble>
+    ensures { MatchResult result (λ log. IsAskedLog (M.text_at machine.now) asked.now.log (log_of log))
+        (HasNoLog (M.text_at machine.now) asked.now.log) }
+{
+    let Some(path) = &asked.log else {
+        return Ok(Log::none(alloc));
+    };
+    let text = machine.text(alloc, path.as_str())?;
+    Ok(Log::of(alloc, text.as_str())?)
+}
+
 /// Reads the machine that the words ask for, and writes what they ask for of each domain to `out`, messages and remarks to
 /// `err`. It answers the greatest status of a domain: 0 or 1 where it was written; 2 where the words, or a file of the
 /// domain, are refused; 3 at want of memory; 4 where there is no such function, or a read or a write failed.
@@ -205,7 +219,8 @@ pub fn here<D, P, M: Foldered, O: Sink, E: Sink>(
     words: &[&str],
     outside: &mut Outside<D, P, M, O, E>,
 ) -> u8
-    ensures done { IsHere (map (λ w. w.now) words.now) (M.shown_in outside.old.machine) result
+    ensures done { IsHere (map (λ w. w.now) words.now)
+        (files (M.shown_in outside.old.machine) (M.text_at outside.old.machine)) result
         (went (O.taken outside.old.out) (O.taken outside.new.out) (outside.new.out ≡ outside.old.out)
         ((before : ℕ) × (O.failures outside.new.out ≡ before + 1))) }
     ensures known { result ≤ 4 }
@@ -216,16 +231,14 @@ pub fn here<D, P, M: Foldered, O: Sink, E: Sink>(
     };
     let what = asked.what;
     let domain = asked.domain;
-    outside.machine.look_in(asked.folder);
+    let log = match asked_log(alloc, &outside.machine, &asked) {
+        Ok(log) => log,
+        Err(trouble) => return tell_trouble(&mut outside.err, TroubleAt::of_all(trouble)),
+    };
+    outside.machine.look_in(asked.folder, log);
     let domains = match asked_domains(alloc, &outside.machine, domain) {
         Ok(domains) => domains,
-        Err(trouble) => {
-            let found = TroubleAt {
-                trouble,
-                place: None,
-            };
-            return tell_trouble(&mut outside.err, found);
-        }
+        Err(trouble) => return tell_trouble(&mut outside.err, TroubleAt::of_all(trouble)),
     };
     let each = Each {
         machine: &outside.machine,

@@ -1,7 +1,7 @@
 //! What `here` is asked for.
 ghost use Rattle.std.specs.Prelude.{◌≡◌, ◌⊎◌, ℕ, Option, map, MatchOption, MatchResult};
 ghost use Rattle.pciplan_tasks.specs.declared.failure.Failure.{Failure};
-ghost use Rattle.pciplan_front.specs.HereAsked.{AskForNothing, IsDomainOf, IsHereAsked, IsSaidBy, IsWhatOf, SayNothing, folder_of};
+ghost use Rattle.pciplan_front.specs.HereAsked.{AskForNothing, IsDomainOf, IsHereAsked, IsPathOf, IsSaidBy, IsWhatOf, SayNothing, folder_of};
 ghost use Rattle.pciplan_front.specs.declared.here_asked.What.{What};
 
 use pci_here::place::domain_of_word;
@@ -33,6 +33,8 @@ pub struct HereAsked {
     pub domain: Option<u32>,
     /// The folder in which `sys` and `proc` are.
     pub folder: String,
+    /// The file with the kernel's log, where there is one.
+    pub log: Option<String>,
 }
 
 /// What a word asks for: all faults where there is none.
@@ -75,6 +77,16 @@ fn folder_of<'a>(word: Option<&'a str>) -> &'a str
     }
 }
 
+/// A word of its own; None where there is none.
+fn owned(alloc: Global, word: Option<&str>) -> Result<Option<String>, Failure>
+    ensures { MatchResult result (IsPathOf word.entry) (λ failure. failure ≡ Failure.Memory) }
+{
+    match word {
+        None => Ok(None),
+        Some(word) => Ok(Some(String::from_str(alloc, word)?)),
+    }
+}
+
 /// What the words of `here` say.
 fn asked_by(alloc: Global, words: &HereWords<'_>) -> Result<HereAsked, Failure>
     ensures { MatchResult result (IsSaidBy words.now)
@@ -84,10 +96,12 @@ fn asked_by(alloc: Global, words: &HereWords<'_>) -> Result<HereAsked, Failure>
     let what = what_of(words.what).ok_or(Failure::Usage)?;
     let domain = domain_of(words.domain).ok_or(Failure::Usage)?;
     let folder = String::from_str(alloc, folder_of(words.from))?;
+    let log = owned(alloc, words.log)?;
     Ok(HereAsked {
         what,
         domain,
         folder,
+        log,
     })
 }
 

@@ -7,11 +7,12 @@ use Rattle.pciplan_words.specs.declared.further.Further.{Further}
 use Rattle.pciplan_words.specs.declared.further.Further.TheVariants.{Here, Explain, Version}
 use Rattle.pciplan_words.specs.declared.further.HereWords.{HereWords}
 
--- `here [WHAT] [--domain D] [--from FOLDER]`
+-- `here [WHAT] [--domain D] [--from FOLDER] [--log FILE]`
 abbrev pub looking : App
 looking =
-    with_rule (with_rule (with_rule (new_app (codes "here")) (new_rule (codes "WHAT")))
-    (option_rule (codes "domain"))) (option_rule (codes "from"))
+    with_rule (with_rule (with_rule (with_rule (new_app (codes "here"))
+    (new_rule (codes "WHAT"))) (option_rule (codes "domain"))) (option_rule (codes "from")))
+    (option_rule (codes "log"))
 
 -- `explain [WORD]`
 abbrev pub explaining : App
@@ -28,6 +29,7 @@ pub record HasHereWords (rows : List Row) (words : HereWords) : Type 0 where
   pub what : first_of (codes "WHAT") rows ≡ word_of words.what
   pub domain : first_of (codes "domain") rows ≡ word_of words.domain
   pub from : first_of (codes "from") rows ≡ word_of words.from
+  pub log : first_of (codes "log") rows ≡ word_of words.log
 
 -- what the words of a command of this name say
 abbrev pub IsFurtherSaid : Text → List Row → Further → Type 0

@@ -76,6 +76,9 @@ pub const DOMAIN: &str = "domain";
 /// The name of the option that names the folder of a machine's `sys` and `proc`.
 pub const FROM: &str = "from";
 
+/// The name of the option that names a file with the kernel's log.
+pub const LOG: &str = "log";
+
 /// A subcommand by its name, and what it takes beside the two texts.
 #[derive(Clone, Copy)]
 pub struct Subcommand<'a> {
@@ -87,10 +90,11 @@ pub struct Subcommand<'a> {
 const TEXTS: [Argument<'static>; 2] = [Argument::Path(DUMP), Argument::Path(PROBE)];
 
 /// What `here` takes.
-const LOOKING: [Argument<'static>; 3] = [
+const LOOKING: [Argument<'static>; 4] = [
     Argument::Optional(WHAT),
     Argument::Word(DOMAIN),
     Argument::Word(FROM),
+    Argument::Word(LOG),
 ];
 
 /// What `explain` takes.
@@ -235,7 +239,7 @@ pub fn command<'a>(alloc: Global) -> Result<Command<'a>, AllocError>
 pub fn further_commands<'a>(alloc: Global) -> Result<Command<'a>, AllocError>
     ensures { IfOk result (λ command. app_of command ≡ further_commands) }
 {
-    let looking: [Argument<'static>; 3] = LOOKING;
+    let looking: [Argument<'static>; 4] = LOOKING;
     let explaining: [Argument<'static>; 1] = EXPLAINING;
     let here = with_arguments(alloc, Command::new(alloc, "here"), looking.as_slice())?;
     let explain = with_arguments(alloc, Command::new(alloc, "explain"), explaining.as_slice())?;

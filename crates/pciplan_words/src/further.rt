@@ -6,7 +6,7 @@ ghost use Rattle.pciplan_words.specs.declared.asked.WordsFault.{WordsFault};
 ghost use Rattle.pciplan_words.specs.declared.further.Further.{Further};
 
 use crate::asked::WordsFault;
-use crate::commands::{DOMAIN, FROM, WHAT, WORD, further_commands};
+use crate::commands::{DOMAIN, FROM, LOG, WHAT, WORD, further_commands};
 use clap::ArgMatches;
 use std::alloc::Global;
 
@@ -19,6 +19,8 @@ pub struct HereWords<'a> {
     pub domain: Option<&'a str>,
     /// The folder in which the machine's `sys` and `proc` are, where it is said.
     pub from: Option<&'a str>,
+    /// The file with the kernel's log, where it is said.
+    pub log: Option<&'a str>,
 }
 
 /// The command that is asked for, with its words.
@@ -41,6 +43,7 @@ fn here_words<'a>(found: &ArgMatches<'a>) -> HereWords<'a>
         what: found.get_str(WHAT),
         domain: found.get_str(DOMAIN),
         from: found.get_str(FROM),
+        log: found.get_str(LOG),
     }
 }
 
