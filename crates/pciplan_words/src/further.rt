@@ -35,7 +35,6 @@ pub enum Further<'a> {
 }
 
 /// The words of `here`.
-#[tactic(auto, using(crate::proofs::CommandWords::word_there))]
 fn here_words<'a>(found: &ArgMatches<'a>) -> HereWords<'a>
     ensures { HasHereWords (rows_of (found_of found.now)) result }
 {
