@@ -306,7 +306,7 @@ awk '
         count = split(parts[2], words, " ")
         split(parts[3], option, " ")
         for (at = 3; at <= count; at++)
-            print words[at] " --" (words[2] == option[2] ? option[2] : "?") (option[3] == "-x" ? "=" : "")
+            print words[at] " --" (words[2] == option[2] ? option[2] : "?") (option[3] ~ /^-[rx]$/ ? "=" : "")
     }' $names/pciplan.fish | sort >got
 same 'fish has the commands and options of the page'
 

@@ -67,7 +67,7 @@ complete -c pciplan -n '__pciplan_is_behind json' -a 'show check faults map plan
 complete -c pciplan -n '__pciplan_is_behind explain' -a 'here show check faults map size plan settle probe json explain version'
 complete -c pciplan -n '__pciplan_takes domain here' -l domain -x -d 'Judge this domain alone'
 complete -c pciplan -n '__pciplan_takes from here' -l from -x -a '(__fish_complete_directories)' -d 'Folder that has sys and proc'
-complete -c pciplan -n '__pciplan_takes log here' -l log -r -F -d "File that has the kernel's log"
+complete -c pciplan -n '__pciplan_takes log here' -l log -r -F -d 'File that has the kernel log'
 complete -c pciplan -n '__pciplan_takes root check faults map plan settle' -l root -x -d 'Buses on which accesses of the host start'
 complete -c pciplan -n '__pciplan_takes model faults map' -l model -x -a '(__fish_append , all cardbus ide power reset subtractive unnumbered vga vga16 windows)' -d 'Words by which functions are taken'
 complete -c pciplan -n '__pciplan_takes host-io faults map' -l host-io -x -d 'I/O addresses that the host sends'
