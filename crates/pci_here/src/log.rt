@@ -1,7 +1,7 @@
 //! Sizes of BARs that the kernel's log tells.
-ghost use Rattle.std.specs.Prelude.{◌≡◌, ◌∷◌, [], ℕ, List, Option, OnOk, IfOk};
+ghost use Rattle.std.specs.Prelude.{◌≡◌, ◌∷◌, ℕ, List, OnOk, IfOk};
 ghost use Rattle.pci_here.specs.HostRanges.{lines_of};
-ghost use Rattle.pci_here.specs.Log.{Registers, IsLogOf, chosen, completed, log_of, nothing, registers_at, size_line, told_of, with_line, with_told};
+ghost use Rattle.pci_here.specs.Log.{Registers, IsLogOf, chosen, completed, log_of, nothing, size_line, told_of, with_line, with_told};
 ghost use Rattle.pci_here.specs.LogLine.{AreLogLines, HasTold};
 ghost use Rattle.pci_here.specs.Place.{Place as PlaceValue};
 

@@ -96,12 +96,15 @@ fn said_of(line: &str) -> Option<Said<'_>>
 }
 
 /// What stands behind a device that was found, as in `[8086:10d3] type 00 class 0x020000`.
-#[tactic(auto, using(crate::proofs::LogForms::device_or_none, crate::proofs::LogForms::no_bracket, crate::proofs::LogForms::no_end))]
+#[tactic(auto, using(crate::proofs::LogForms::no_bracket))]
 fn behind_device(text: &str) -> Option<&str>
     ensures { MatchOption result (IsDevice text.now → ⊥) (λ _. IsDevice text.now) }
 {
-    let (_, more) = text.strip_prefix("[")?.split_once(']')?;
-    more.strip_prefix(" type ")
+    let rest = text.strip_prefix("[")?;
+    match rest.split_once(']') {
+        Some((_, more)) => more.strip_prefix(" type "),
+        None => None,
+    }
 }
 
 /// The size of a text of hex digits.
@@ -127,7 +130,7 @@ fn flags_of(words: &str) -> Option<u64>
 }
 
 /// The size of a BAR of memory space, of the text behind `mem size 0x`.
-#[tactic(auto, using(crate::proofs::LogForms::memory_kind, crate::proofs::LogForms::memory_whole, crate::proofs::LogForms::no_kind))]
+#[tactic(auto, using(crate::proofs::LogForms::memory_whole))]
 fn memory_size(text: &str) -> Option<SizeTold>
     ensures { MatchOption result
         ((told : SizeTold) → IsPlainSize 512 text.now told ⊎ IsKindSize text.now told → ⊥)
@@ -157,7 +160,7 @@ fn io_size(text: &str) -> Option<SizeTold>
 }
 
 /// The size of a BAR, of the text between the brackets.
-#[tactic(auto, using(crate::proofs::LogForms::text_of_io, crate::proofs::LogForms::text_of_memory))]
+#[tactic(auto, using(crate::proofs::LogForms::text_of_io))]
 fn size_told(text: &str) -> Option<SizeTold>
     ensures { MatchOption result ((told : SizeTold) → IsSizeText text.now told → ⊥)
         (IsSizeText text.now) }
@@ -195,7 +198,6 @@ fn bar_of(text: &str) -> Option<usize>
 }
 
 /// The size of a BAR, of the text behind a function's name.
-#[tactic(auto, using(crate::proofs::LogForms::no_close, crate::proofs::LogForms::no_number, crate::proofs::LogForms::no_open, crate::proofs::LogForms::no_size, crate::proofs::LogForms::size_there))]
 fn size_of(text: &str) -> Option<BarSize>
     ensures { MatchOption result ((size : BarSize) → IsBarSize text.now size → ⊥) (IsBarSize text.now) }
 {
@@ -221,7 +223,6 @@ fn told_of(text: &str) -> Option<Told>
 }
 
 /// What a line of the kernel's log tells of a function's BARs. There is nothing of any other line.
-#[tactic(auto, using(crate::proofs::LogForms::no_function, crate::proofs::LogForms::nothing_of_it))]
 pub fn log_line_of(line: &str) -> Option<LogLine>
     ensures { MatchOption result (IsNoLogLine line.now) (IsLogLine line.now) }
 {

@@ -1,6 +1,6 @@
-use Rattle.std.proofs.Common.{◌≡◌, ◌≤◌, ◌∙◌, length, take, sym, ap, arith}
+use Rattle.std.proofs.Common.{◌≤◌, ◌∙◌, length, take, sym, ap, arith}
 use Rattle.std.proofs.lemmas.List.{take_all}
-use Rattle.pci_here.specs.Log.{log_of, told_of, with_line}
+use Rattle.pci_here.specs.Log.{told_of, with_line}
 use Rattle.pci_here.proofs.Logs.{line_more}
 use Rattle.pci_here.proofs.log.Log.of_lines.Goals as goal
 
