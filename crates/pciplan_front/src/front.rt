@@ -8,7 +8,7 @@ ghost use Rattle.pciplan_cli.specs.declared.invocation.Invocation.{Invocation};
 ghost use Rattle.pciplan_tasks.specs.Answers.{AreRemarked};
 ghost use Rattle.pciplan_tasks.specs.Tasks.{HasFailed, IsTaskRefused};
 ghost use Rattle.pciplan_front.specs.FirstWords.{AreOfTexts, BeginsWith, behind};
-ghost use Rattle.pciplan_front.specs.HereTold.{IsHere};
+ghost use Rattle.pciplan_front.specs.HereTold.{IsHere, files};
 ghost use Rattle.pciplan_front.specs.JsonAsked.{IsJson};
 ghost use Rattle.pciplan_front.specs.TextAsked.{IsTold};
 ghost use Rattle.pciplan_front.specs.Went.{went};
@@ -71,7 +71,7 @@ fn beside<D: Opening, P: Opening, M: Foldered, O: Sink, E: Sink>(
         (P.failures outside.old.second) (P.failures outside.new.second)
         (O.failures outside.old.out) (O.failures outside.new.out)) }
     ensures here { first ≡ First.Here → IsHere (map string_bytes words.now)
-        (M.shown_in outside.old.machine) result
+        (files (M.shown_in outside.old.machine) (M.text_at outside.old.machine)) result
         (went (O.taken outside.old.out) (O.taken outside.new.out) (outside.new.out ≡ outside.old.out)
         ((before : ℕ) × (O.failures outside.new.out ≡ before + 1))) }
     ensures known { result ≤ 4 }
@@ -152,7 +152,8 @@ pub fn front<D: Opening, P: Opening, M: Foldered, O: Sink, E: Sink>(
         (P.failures outside.old.second) (P.failures outside.new.second)
         (O.failures outside.old.out) (O.failures outside.new.out))) }
     ensures here { IfOk words (λ words. BeginsWith (map string_bytes words.items) (codes "here")
-        → IsHere (map string_bytes words.items) (M.shown_in outside.old.machine) result
+        → IsHere (map string_bytes words.items)
+        (files (M.shown_in outside.old.machine) (M.text_at outside.old.machine)) result
         (went (O.taken outside.old.out) (O.taken outside.new.out) (outside.new.out ≡ outside.old.out)
         ((before : ℕ) × (O.failures outside.new.out ≡ before + 1)))) }
     ensures known { result ≤ 4 }

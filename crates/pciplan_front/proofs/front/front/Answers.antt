@@ -3,7 +3,7 @@ use Rattle.std.specs.String.{string_bytes}
 use Rattle.pciplan_cli.specs.CarriedOut.{texts}
 use Rattle.pciplan_tasks.specs.Tasks.{HasFailed}
 use Rattle.pciplan_front.specs.FirstWords.{AreOfTexts, IsFirst, behind}
-use Rattle.pciplan_front.specs.HereTold.{IsHere}
+use Rattle.pciplan_front.specs.HereTold.{IsHere, files}
 use Rattle.pciplan_front.specs.JsonAsked.{IsJson}
 use Rattle.pciplan_front.specs.TextAsked.{IsTold}
 use Rattle.pciplan_front.specs.Went.{went}
@@ -49,7 +49,7 @@ returns-in_default g c =
           (g.O.Sink.failures c.args.outside.now.out) (g.O.Sink.failures c.beside.new.outside.out)))
           again (c.beside.ensures.json (of_json (map string_bytes c.in-Ok.words.items) c.first_of.result is begins));
       here = λ begins. subst
-          (λ v. IsHere (map string_bytes v) (g.M.Foldered.shown_in c.args.outside.now.machine) c.beside.result
+          (λ v. IsHere (map string_bytes v) (files (g.M.Foldered.shown_in c.args.outside.now.machine) (g.M.Foldered.text_at c.args.outside.now.machine)) c.beside.result
           (went (g.O.Sink.taken c.args.outside.now.out) (g.O.Sink.taken c.beside.new.outside.out) (c.beside.new.outside.out ≡ c.args.outside.now.out)
           ((x : ℕ) × (g.O.Sink.failures c.beside.new.outside.out ≡ x + 1))))
           again (c.beside.ensures.here (of_here (map string_bytes c.in-Ok.words.items) c.first_of.result is begins));
