@@ -4,7 +4,6 @@ use Rattle.std.specs.List.{All}
 use Rattle.std.proofs.lemmas.Fmt.{digits_is_IsNumeral}
 use Rattle.std.proofs.lemmas.Int.Digits.{digits_value-lt}
 use Rattle.std.proofs.lemmas.List.{length-append, length-replicate}
-use Rattle.pci_spec.specs.Line.{hex_number}
 use Rattle.pci_spec.proofs.HexTexts.{padded_hex}
 use Rattle.pci_spec.proofs.HexNumbers.{length-hex_number}
 use Rattle.pci_base.specs.declared.range.Range.{Range}

@@ -14,6 +14,7 @@ mod LogForms
 mod LogWords
 mod Logs
 mod Told
+mod Crowded
 mod Takes
 mod Roots
 mod Named

@@ -1,6 +1,6 @@
 -- The first word of a line that names a function.
 use Rattle.std.proofs.Common.{◌≡◌, ℕ, ◌==◌, List, [], ◌∷◌, ◌++◌, length, get_or, drop, Option, None, Some, IfSome, Bor, refl, sym, ◌∙◌, ap, subst, arith}
-use Rattle.std.specs.List.{All, Contains, slice_split}
+use Rattle.std.specs.List.{All, Contains}
 use Rattle.std.specs.Str.Pattern.{FindsCharSuffix, StripsSuffix}
 use Rattle.std.proofs.lemmas.List.{append_assoc, append-nil, length-append}
 use Rattle.std.proofs.lemmas.List.Elements.{All-contains, All-head, All-nil, All-push, All-tail, Contains-append_right}

@@ -1,19 +1,23 @@
 -- What is taken at one place more.
-use Rattle.std.proofs.Common.{◌≡◌, ℕ, ◌+◌, ◌<◌, ◌↔◌, Bool, true, false, List, [], ◌∷◌, ◌++◌, length, get_or, set, Some, cond, sym, ◌∙◌, ap, subst, arith, true≢false}
+use Rattle.std.proofs.Common.{◌≡◌, ℕ, ◌+◌, ◌<◌, ◌↔◌, Bool, true, false, not, List, [], ◌∷◌, ◌++◌, length, get_or, set, Some, cond, sym, ◌∙◌, ap, subst, arith, true≢false}
 use Rattle.std.specs.List.{Contains, count_by}
 use Rattle.std.proofs.lemmas.Bool.{both_ways}
-use Rattle.std.proofs.lemmas.List.{get_or-replicate}
+use Rattle.std.proofs.lemmas.List.{get_or-replicate, length-append}
 use Rattle.std.proofs.lemmas.List.Sums.{sum_by_push}
-use Rattle.pci_spec.specs.Text.{Block}
-use Rattle.pci_spec.specs.SizesText.{SizesBlock}
+use Rattle.pci_spec.specs.Slot.{IsRising}
+use Rattle.pci_spec.specs.Stops.{IsAboveLast, last_slot}
+use Rattle.pci_spec.specs.Text.{Block, slots_of}
+use Rattle.pci_spec.specs.SizesText.{SizesBlock, sized_slots}
+use Rattle.pci_spec.proofs.Fronts.{rising_more}
 use Rattle.pci_spec.proofs.Members.{in_nil}
 use Rattle.pci_here.specs.Place.{Place}
 use Rattle.pci_here.specs.Shown.{Shown}
-use Rattle.pci_here.specs.Functions.{IsBlockAt, IsSizesAt, IsRootAt, IsTaken}
+use Rattle.pci_here.specs.Functions.{IsBlockAt, IsSizesAt, IsRootAt, IsTaken, is_no, is_own}
 use Rattle.pci_here.specs.Taken.{Among, AreTaken, IsNoneTaken, is_left_out, is_yes}
 use Rattle.pci_here.specs.declared.functions.Functions.{Functions}
 use Rattle.pci_here.specs.declared.function.Function.{Function}
 use Rattle.pci_here.proofs.Among.{among_none, list_same, list_more, flags_same, flags_more}
+use Rattle.pci_here.proofs.Crowded.{slots_more}
 use Rattle.pci_here.proofs.Only.{block_only, sizes_only, root_only}
 
 pub none_taken : (m : Shown) (f : Functions) → IsNoneTaken f → AreTaken m [] f
@@ -25,6 +29,9 @@ none_taken m f none = record {
     λ a. absurd (among_none (IsRootAt m) n a),
   );
   left_out = none.left_out;
+  count = ap length none.dump;
+  same_slots = ap sized_slots none.sizes ∙ sym (ap slots_of none.dump);
+  rising = subst (λ l. IsRising (slots_of l)) (sym none.dump) (λ k few. absurd (omega (arith, few)));
 }
 
 not_own : (m : Shown) (p : Place) → m.is_virtual p ≡ Some true → m.is_virtual p ≡ Some false → ⊥
@@ -33,6 +40,10 @@ not_own m p virtual own = true≢false (ap is_yes (sym virtual ∙ own))
 counted : (m : Shown) (p : Place) (b : Bool) (places : List Place) → m.is_virtual p ≡ Some b
     → count_by (is_left_out m) (places ++ p ∷ []) ≡ count_by (is_left_out m) places + cond b 1 0
 counted m p b places is = sum_by_push (λ q. cond (is_left_out m q) 1 0) places p ∙ ap (λ o. count_by (is_left_out m) places + cond (is_yes o) 1 0) is
+
+own_counted : (m : Shown) (p : Place) (b : Bool) (places : List Place) → m.is_virtual p ≡ Some b
+    → count_by (is_own m) (places ++ p ∷ []) ≡ count_by (is_own m) places + cond (not b) 1 0
+own_counted m p b places is = sum_by_push (λ q. cond (is_own m q) 1 0) places p ∙ ap (λ o. count_by (is_own m) places + cond (is_no o) 1 0) is
 
 -- a virtual function: nothing but the count changes
 pub record IsCounted (f g : Functions) : Type 0 where
@@ -51,6 +62,9 @@ virtual_taken m p places f g virtual is was = record {
   roots = subst (λ l. (n : ℕ) → n < 256 → (get_or l n false ≡ true) ↔ Among (IsRootAt m) (places ++ p ∷ []) n) (sym is.roots)
       (flags_same (IsRootAt m) places p f.is_root was.roots (λ n at. not_own m p virtual at.own));
   left_out = is.left_out ∙ ap (λ n. n + 1) was.left_out ∙ sym (counted m p true places virtual);
+  count = ap length is.dump ∙ was.count ∙ omega (arith, own_counted m p true places virtual);
+  same_slots = ap sized_slots is.sizes ∙ was.same_slots ∙ sym (ap slots_of is.dump);
+  rising = subst (λ l. IsRising (slots_of l)) (sym is.dump) was.rising;
 }
 
 -- a function of its own
@@ -61,6 +75,7 @@ pub record IsPut (f g : Functions) (x : Function) : Type 0 where
   pub left_out : g.left_out ≡ f.left_out
   pub flags : length f.is_root ≡ 256
   pub small : x.root < 256
+  pub above : IsAboveLast (last_slot f.dump) x.block.slot
 
 pub function_taken : (m : Shown) (p : Place) (places : List Place) (f g : Functions) (x : Function) → IsTaken m p x → IsPut f g x
     → AreTaken m places f → AreTaken m (places ++ p ∷ []) g
@@ -72,4 +87,7 @@ function_taken m p places f g x at is was = record {
   roots = subst (λ l. (n : ℕ) → n < 256 → (get_or l n false ≡ true) ↔ Among (IsRootAt m) (places ++ p ∷ []) n) (sym is.roots)
       (flags_more (IsRootAt m) places p f.is_root x.root is.flags is.small was.roots at.root (root_only m p x.root at.root));
   left_out = is.left_out ∙ was.left_out ∙ omega (arith, counted m p false places at.block.own);
+  count = omega (arith, ap length is.dump, length-append f.dump (x.block ∷ []), was.count, own_counted m p false places at.block.own);
+  same_slots = ap sized_slots is.sizes ∙ slots_more f.dump f.sizes x.block x.sizes was.same_slots (at.sizes.slot ∙ sym at.block.slot) ∙ sym (ap slots_of is.dump);
+  rising = subst (λ l. IsRising (slots_of l)) (sym is.dump) (rising_more f.dump x.block was.rising is.above);
 }

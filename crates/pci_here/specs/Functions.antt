@@ -1,8 +1,10 @@
 -- The functions of a domain as a machine shows them.
-use Rattle.std.specs.Prelude.{◌≡◌, ◌⊎◌, ℕ, true, false, List, Option, None, Some}
+use Rattle.std.specs.Prelude.{◌≡◌, ◌⊎◌, ℕ, ◌≤◌, Bool, true, false, not, List, [], ◌∷◌, ◌++◌, length, Option, None, Some}
 use Rattle.pci_spec.specs.Text.{Block}
-use Rattle.pci_spec.specs.SizesText.{SizesBlock}
-use Rattle.std.specs.List.{All}
+use Rattle.pci_spec.specs.SizesText.{SizesBlock, sized_slots}
+use Rattle.pci_spec.specs.Slot.{Slot, slot_number, IsRising}
+use Rattle.pci_spec.specs.Stops.{IsAboveLast, last_slot}
+use Rattle.std.specs.List.{All, Contains, count_by}
 use Rattle.pci_spec.specs.Resource.{ResourceLine}
 use Rattle.pci_here.specs.Place.{Place}
 use Rattle.pci_here.specs.Link.{IsHostBus, IsNoHostFolder, folders}
@@ -64,14 +66,50 @@ HasTrouble m p NoRoot =
     (path : List ℕ) × (m.link p ≡ Some path) × All IsNoHostFolder (folders path)
 HasTrouble m p TooMany = ⊥
 
--- why a list takes no function more: it is full, or the function doesn't stand behind the others; or memory is refused
-abbrev pub IsOfList : Trouble → Type 0
-IsOfList Memory = Unit {0}
-IsOfList Unread = ⊥
-IsOfList Short = ⊥
-IsOfList NoRoot = ⊥
-IsOfList TooMany = Unit {0}
+-- whether it is said, and no
+abbrev pub is_no : Option Bool → Bool
+is_no None = false
+is_no (Some b) = not b
 
--- why a function can't be taken: it can't be read, or the lists take none more
-abbrev pub IsNotTaken : Shown → Place → Trouble → Type 0
-IsNotTaken m p t = HasTrouble m p t ⊎ IsOfList t
+-- whether a function isn't virtual
+abbrev pub is_own : Shown → Place → Bool
+is_own m p = is_no (m.is_virtual p)
+
+-- a place before it, of a function that isn't virtual, has its slot or a higher one
+pub record HasOneAt (m : Shown) (before : List Place) (p : Place) : Type 0 where
+  pub other : Place
+  pub there : Contains before other
+  pub own : m.is_virtual other ≡ Some false
+  pub slot : slot_number p.slot ≤ slot_number other.slot
+
+-- a function that can be read, and isn't virtual, is one too many: 4,096 such functions are before it, or one at its slot
+pub record IsTooMany (m : Shown) (before : List Place) (p : Place) : Type 0 where
+  pub function : Function
+  pub read : IsTaken m p function
+  pub crowded : (count_by (is_own m) before ≡ 4096) ⊎ HasOneAt m before p
+
+-- why a function behind others can't be taken: it can't be read, or it is one too many
+abbrev pub IsNotTaken : Shown → List Place → Place → Trouble → Type 0
+IsNotTaken m before p Memory = HasTrouble m p Memory
+IsNotTaken m before p Unread = HasTrouble m p Unread
+IsNotTaken m before p Short = HasTrouble m p Short
+IsNotTaken m before p NoRoot = HasTrouble m p NoRoot
+IsNotTaken m before p TooMany = IsTooMany m before p
+
+-- ---- two lists by slot that take a function more
+
+-- 4,096 blocks are there, or the slot isn't above the last one
+abbrev pub HasNoRoom : List Block → Slot → Type 0
+HasNoRoom dump slot = (IsAboveLast (last_slot dump) slot → ⊥) ⊎ (length dump ≡ 4096)
+
+-- the same of sizes
+abbrev pub HasNoRoomFor : List SizesBlock → SizesBlock → Type 0
+HasNoRoomFor sizes s = (IsRising (sized_slots (sizes ++ s ∷ [])) → ⊥) ⊎ (length sizes ≡ 4096)
+
+-- why they take no function more
+abbrev pub IsNotPut : List Block → List SizesBlock → Function → Trouble → Type 0
+IsNotPut dump sizes f Memory = Unit {0}
+IsNotPut dump sizes f Unread = ⊥
+IsNotPut dump sizes f Short = ⊥
+IsNotPut dump sizes f NoRoot = ⊥
+IsNotPut dump sizes f TooMany = HasNoRoom dump f.block.slot ⊎ HasNoRoomFor sizes f.sizes

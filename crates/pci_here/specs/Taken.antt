@@ -1,11 +1,12 @@
 -- What was taken of the functions at some places.
-use Rattle.std.specs.Prelude.{◌≡◌, ◌↔◌, ℕ, ◌<◌, Bool, true, false, List, [], ◌∷◌, ◌++◌, Option, None, Some, replicate, slice_index_or}
+use Rattle.std.specs.Prelude.{◌≡◌, ◌↔◌, ℕ, ◌<◌, Bool, true, false, List, [], ◌∷◌, ◌++◌, length, Option, None, Some, replicate, slice_index_or}
 use Rattle.std.specs.List.{All, Contains, count_by}
-use Rattle.pci_spec.specs.Text.{Block}
-use Rattle.pci_spec.specs.SizesText.{SizesBlock}
+use Rattle.pci_spec.specs.Slot.{IsRising}
+use Rattle.pci_spec.specs.Text.{Block, slots_of}
+use Rattle.pci_spec.specs.SizesText.{SizesBlock, sized_slots}
 use Rattle.pci_here.specs.Place.{Place}
 use Rattle.pci_here.specs.Shown.{Shown}
-use Rattle.pci_here.specs.Functions.{IsBlockAt, IsSizesAt, IsRootAt, IsReadable, IsNotTaken}
+use Rattle.pci_here.specs.Functions.{IsBlockAt, IsSizesAt, IsRootAt, IsReadable, IsNotTaken, is_own}
 use Rattle.pci_here.specs.declared.trouble.TroubleAt.{TroubleAt}
 use Rattle.pci_here.specs.declared.functions.Functions.{Functions}
 
@@ -22,12 +23,15 @@ is_yes (Some b) = b
 abbrev pub is_left_out : Shown → Place → Bool
 is_left_out m p = is_yes (m.is_virtual p)
 
--- exactly the blocks and the sizes of those that aren't virtual, their host buses, and the count of the others
+-- exactly the blocks and the sizes of those that aren't virtual, by slot; their host buses, and the count of the others
 pub record AreTaken (m : Shown) (places : List Place) (f : Functions) : Type 0 where
   pub blocks : (b : Block) → Contains f.dump b ↔ Among (IsBlockAt m) places b
   pub sizes : (s : SizesBlock) → Contains f.sizes s ↔ Among (IsSizesAt m) places s
   pub roots : (bus : ℕ) → bus < 256 → (slice_index_or f.is_root bus false ≡ true) ↔ Among (IsRootAt m) places bus
   pub left_out : f.left_out ≡ count_by (is_left_out m) places
+  pub count : length f.dump ≡ count_by (is_own m) places
+  pub same_slots : sized_slots f.sizes ≡ slots_of f.dump
+  pub rising : IsRising (slots_of f.dump)
 
 -- nothing was taken
 pub record IsNoneTaken (f : Functions) : Type 0 where
@@ -43,5 +47,5 @@ pub record IsFirstTrouble (m : Shown) (places : List Place) (at : TroubleAt) : T
   pub behind : List Place
   pub parts : places ≡ before ++ place ∷ behind
   pub is_place : at.place ≡ Some place
-  pub not_taken : IsNotTaken m place at.trouble
+  pub not_taken : IsNotTaken m before place at.trouble
   pub others : All (IsReadable m) before

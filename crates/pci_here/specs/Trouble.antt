@@ -1,5 +1,8 @@
 -- The troubles in reading a machine.
 use Rattle.std.specs.Prelude.{ℕ, List, [], ◌∷◌, ◌++◌, Option, None, Some, codes}
+use Rattle.pci_base.specs.declared.memory.Refused.{Refused}
+use Rattle.pci_base.specs.declared.memory.Refused.TheVariants as refusals
+use Rattle.pci_dump.specs.declared.dump.PushFault.{PushFault}
 use Rattle.pci_here.specs.Place.{Place, place_text}
 use Rattle.pci_here.specs.declared.trouble.TroubleAt.{TroubleAt}
 use Rattle.pci_here.specs.declared.trouble.Trouble.{Trouble}
@@ -12,6 +15,11 @@ trouble_status Unread = 4
 trouble_status Short = 2
 trouble_status NoRoot = 2
 trouble_status TooMany = 2
+
+-- why a list of functions takes no more
+abbrev pub full_trouble : Refused PushFault → Trouble
+full_trouble (refusals.Fault fault) = TooMany
+full_trouble refusals.Memory = Memory
 
 -- how it is printed
 abbrev pub trouble_text : Trouble → List ℕ

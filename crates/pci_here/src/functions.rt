@@ -1,9 +1,10 @@
 //! The functions of a domain, taken one after the other.
 ghost use Rattle.std.specs.Prelude.{◌≡◌, ◌+◌, ◌^◌, ◌<◌, ◌≤◌, ◌++◌, ◌∷◌, [], List, true, cond, length, OnOk, IfErr, IfSome, MatchOption, slice_set};
 ghost use Rattle.arrayvec.specs.ArrayVec.{array_vec_len};
+ghost use Rattle.pci_spec.specs.Stops.{IsAboveLast, last_slot};
 ghost use Rattle.pci_tree.specs.Roots.{buses_of, set_in};
 ghost use Rattle.pci_here.specs.Place.{Place as PlaceValue};
-ghost use Rattle.pci_here.specs.Functions.{IsReadable, IsOfList, IsNotTaken};
+ghost use Rattle.pci_here.specs.Functions.{IsReadable, IsNotPut, IsNotTaken};
 ghost use Rattle.pci_here.specs.Taken.{AreTaken, IsNoneTaken};
 
 use crate::function::{Function, read_function};
@@ -11,9 +12,8 @@ use crate::machine::Machine;
 use crate::place::Place;
 use crate::trouble::Trouble;
 use arrayvec::ArrayVec;
-use pci_base::memory::Refused;
 use pci_base::slot::BUSES;
-use pci_dump::dump::{Dump, PushFault};
+use pci_dump::dump::Dump;
 use pci_probe::sizes::Sizes;
 use pci_tree::roots::Roots;
 use std::alloc::Global;
@@ -27,16 +27,6 @@ pub(crate) struct Functions {
     is_root: [bool; BUSES],
     /// How many virtual functions there were.
     pub(crate) left_out: usize,
-}
-
-/// Why a function more can't stand in a list.
-fn full(refused: Refused<PushFault>) -> Trouble
-    ensures { IsOfList result }
-{
-    match refused {
-        Refused::Fault(_) => Trouble::TooMany,
-        Refused::Memory => Trouble::Memory,
-    }
 }
 
 /// Puts a bus behind all that are there, where it is a root bus.
@@ -69,17 +59,14 @@ impl Functions {
         ensures sizes { OnOk result (self.new.sizes ≡ self.old.sizes ++ function.sizes ∷ []) }
         ensures root { OnOk result (self.new.is_root ≡ slice_set self.old.is_root function.root true) }
         ensures left_out { OnOk result (self.new.left_out ≡ self.old.left_out) }
-        ensures err { IfErr result IsOfList }
+        ensures above { OnOk result (IsAboveLast (last_slot self.old.dump) function.block.slot) }
+        ensures err { IfErr result (IsNotPut self.old.dump self.old.sizes function) }
         // each bus has a flag
         ensures flags { length self.old.is_root ≡ BUSES }
         ensures bus { function.root < BUSES }
     {
-        if let Err(refused) = self.dump.push(function.block) {
-            return Err(full(refused));
-        }
-        if let Err(refused) = self.sizes.push(function.sizes) {
-            return Err(full(refused));
-        }
+        self.dump.push(function.block)?;
+        self.sizes.push(function.sizes)?;
         self.is_root[usize::from(function.root)] = true;
         Ok(())
     }
@@ -95,7 +82,8 @@ impl Functions {
         requires { self.old.left_out < 2 ^ 63 }
         ensures few { OnOk result (self.new.left_out ≤ self.old.left_out + 1) }
         ensures read { OnOk result (IfSome (M.shown machine.now) (λ m. IsReadable m place)) }
-        ensures err { IfErr result (λ t. IfSome (M.shown machine.now) (λ m. IsNotTaken m place t)) }
+        ensures err { IfErr result (λ t. IfSome (M.shown machine.now) (λ m. (places : List PlaceValue)
+            → AreTaken m places self.old → IsNotTaken m places place t)) }
         ensures taken { OnOk result (IfSome (M.shown machine.now) (λ m. (places : List PlaceValue)
             → AreTaken m places self.old → AreTaken m (places ++ place ∷ []) self.new)) }
     {

@@ -193,16 +193,15 @@ fn domains_are_told_apart(rt: HostRuntime) -> Result<(), Fail> {
     judge(&rt, &machine, 0x10000, &second)
 }
 
-/// Asserts why a machine of two functions can't be read, of which the second is this one.
-fn refused(
+/// Asserts why domain 1 of some folders can't be read.
+fn refused_of(
     rt: &(impl Abort + AllocGlobal),
-    second: Folder,
+    folders: &[Folder],
     trouble: Trouble,
     name: &str,
 ) -> Result<(), Fail> {
-    let folders = [whole("0000:00:00.0", "pci0000:00/0000:00:00.0"), second];
     let machine = Fake {
-        folders: &folders,
+        folders,
         ioports: None,
         iomem: None,
     };
@@ -214,6 +213,24 @@ fn refused(
     let text = format!(in rt.alloc(); "{found}")?;
     assert!(rt; text.as_str() == name);
     Ok(())
+}
+
+/// Asserts why a machine of two functions can't be read, of which the second is this one.
+fn refused(
+    rt: &(impl Abort + AllocGlobal),
+    second: Folder,
+    trouble: Trouble,
+    name: &str,
+) -> Result<(), Fail> {
+    let folders = [whole("0000:00:00.0", "pci0000:00/0000:00:00.0"), second];
+    refused_of(rt, &folders, trouble, name)
+}
+
+#[test]
+fn a_place_of_two_names_is_one_too_many(rt: HostRuntime) -> Result<(), Fail> {
+    let link = "../pci0001:1f/0001:1f:1e.7";
+    let folders = [whole("0001:1f:1e.7", link), whole("00001:1f:1e.7", link)];
+    refused_of(&rt, &folders, Trouble::TooMany, "8 TooMany 0001:1f:1e.7")
 }
 
 #[test]

@@ -2,7 +2,8 @@
 ghost use Rattle.std.specs.Prelude.{◌≡◌, None};
 
 use crate::place::Place;
-use pci_base::memory::OutOfMemory;
+use pci_base::memory::{OutOfMemory, Refused};
+use pci_dump::dump::PushFault;
 use std::alloc::{AllocError, AllocFailed};
 use std::fmt;
 use thiserror::Error;
@@ -82,6 +83,20 @@ impl From<OutOfMemory> for Trouble {
 
     fn from(_refused: OutOfMemory) -> Trouble {
         Trouble::Memory
+    }
+}
+
+/// A list of functions that takes no more is full, or the function doesn't stand behind those that are there.
+impl From<Refused<PushFault>> for Trouble {
+    ghost use Rattle.pci_here.specs.Trouble.{full_trouble};
+
+    ghost from_gives = { λ refused t. t ≡ full_trouble refused };
+
+    fn from(refused: Refused<PushFault>) -> Trouble {
+        match refused {
+            Refused::Fault(_) => Trouble::TooMany,
+            Refused::Memory => Trouble::Memory,
+        }
     }
 }
 

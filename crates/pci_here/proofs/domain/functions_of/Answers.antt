@@ -4,7 +4,7 @@ use Rattle.std.proofs.lemmas.List.{take_more, take_all}
 use Rattle.std.proofs.lemmas.List.Elements.{All-nil}
 use Rattle.pci_here.specs.Functions.{IsReadable}
 use Rattle.pci_here.specs.Taken.{AreTaken}
-use Rattle.pci_here.proofs.Read.{shown_all, shown_then, parts_at, readable_more}
+use Rattle.pci_here.proofs.Read.{shown_all, shown_then, shown_three, parts_at, readable_more}
 use Rattle.pci_here.proofs.Takes.{none_taken}
 use Rattle.pci_here.proofs.Wholes.{shown_both}
 use Rattle.pci_here.proofs.domain.functions_of.Goals as goal
@@ -37,12 +37,12 @@ returns-clause-read g c =
 
 pub returns-in-Err-clause-err : goal.returns-in-Err-clause-err
 returns-in-Err-clause-err g c =
-    shown_both (g.M.Machine.shown c.args.machine.now) _ _ _ (λ m read why. record {
+    shown_three (g.M.Machine.shown c.args.machine.now) _ _ _ _ (λ m taken read why. record {
       before = take c.loop-place.place-index c.args.places.now;
       place = c.place-item.result;
       behind = drop (c.loop-place.place-index + 1) c.args.places.now;
       parts = parts_at c.args.places.now c.loop-place.place-index c.place-item.result c.loop-place-test.true (sym c.place-item.is);
       is_place = refl;
-      not_taken = why;
+      not_taken = why (take c.loop-place.place-index c.args.places.now) taken;
       others = read;
-    }) c.loop-place.invariant.read c.in-Err.ensures.err
+    }) c.loop-place.invariant.taken c.loop-place.invariant.read c.in-Err.ensures.err

@@ -1,4 +1,6 @@
 use Rattle.std.proofs.Common.{None, Some, refl}
+use Rattle.std.proofs.lemmas.Result.{err_from_is_err_and}
+use Rattle.pci_here.proofs.Crowded.{not_put}
 use Rattle.pci_here.proofs.Read.{shown_then}
 use Rattle.pci_here.proofs.Takes.{virtual_taken, function_taken}
 use Rattle.pci_here.proofs.functions.Functions.take.Goals as goal
@@ -20,6 +22,7 @@ returns-in_ok-push-in-Some-clause-taken g c =
       left_out = c.in_ok-push-in-Some.ensures.left_out;
       flags = c.push.ensures.flags;
       small = c.push.ensures.bus;
+      above = c.in_ok-push-in-Some.ensures.above;
     } was)
     (rw c.in-Some.is at c.in_ok-function.ensures)
 
@@ -30,3 +33,11 @@ returns-in-None-clause-read g c =
 pub returns-in_ok-push-in-Some-clause-read : goal.returns-in_ok-push-in-Some-clause-read
 returns-in_ok-push-in-Some-clause-read g c =
     shown_then (g.M.Machine.shown c.args.machine.now) _ _ (λ m taken. (Some c.in-Some.function, taken)) (rw c.in-Some.is at c.in_ok-function.ensures)
+
+pub returns-in_err-push-in-Some-clause-err : goal.returns-in_err-push-in-Some-clause-err
+returns-in_err-push-in-Some-clause-err g c =
+    let p = err_from_is_err_and c.from_residual-in_err-push-in-Some.result c.from_residual-in_err-push-in-Some.ensures.1 in
+    rw (p.1, p.2)
+    (shown_then (g.M.Machine.shown c.args.machine.now) _ _
+    (λ m taken places was. not_put m places c.args.place c.args.self.now c.in-Some.function _ taken c.in_err-push-in-Some.ensures.err was)
+    (rw c.in-Some.is at c.in_ok-function.ensures))
