@@ -8,7 +8,7 @@ mod Among
 mod Only
 mod Outer
 mod Options
-mod Texts
+pub mod Texts
 mod Accepted
 mod LogForms
 mod LogWords

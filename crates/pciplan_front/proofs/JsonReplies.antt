@@ -58,7 +58,7 @@ unread_fails (task.Faults beside why) = refl
 unread_fails (task.Map beside) = refl
 unread_fails task.Size = refl
 unread_fails (task.Plan pools writes why roots) = refl
-unread_fails (task.Settle request writes) = refl
+unread_fails (task.Settle request printed) = refl
 unread_fails (task.Probe assuming) = refl
 
 two_and_four : (status : ℕ) → status ≡ 2 → status ≡ 4 → ⊥

@@ -4,11 +4,10 @@ use Rattle.std.specs.List.{All, flat_map}
 use Rattle.std.specs.Global.{Global}
 use Rattle.std.specs.Io.KnownBytes.{Appends}
 use Rattle.pci_dump.specs.Begun.{AppendsBeginning}
-use Rattle.pci_spec.specs.Line.{hex_number}
 use Rattle.pci_here.specs.Domain.{IsDomain, IsNoDomain}
 use Rattle.pci_here.specs.Places.{AreDomainsOf, HasNoDomains}
 use Rattle.pci_here.specs.Log.{IsLogOf, Registers, nothing}
-use Rattle.pci_here.specs.Place.{Place}
+use Rattle.pci_here.specs.Place.{Place, domain_text}
 use Rattle.pci_here.specs.Shown.{IsNotHad, Shown, with_log}
 use Rattle.pci_here.specs.Trouble.{trouble_status}
 use Rattle.pci_here.specs.declared.domain.Domain.{Domain}
@@ -22,17 +21,9 @@ use Rattle.pciplan_front.specs.Went.{Went}
 use Rattle.pciplan_front.specs.declared.here_asked.HereAsked.{HereAsked}
 use Rattle.pciplan_front.specs.declared.here_asked.What.{What}
 
--- how many hex digits a domain is printed in: four, or as many as it has
-abbrev pub domain_digits : ℕ → ℕ
-domain_digits domain =
-    if nat_lt domain 65536 then 4
-    else if nat_lt domain 1048576 then 5
-    else if nat_lt domain 16777216 then 6
-    else if nat_lt domain 268435456 then 7 else 8
-
 -- the line before what is printed of a domain, where there is one
 abbrev pub heading : Bool → ℕ → List ℕ
-heading true domain = codes "domain " ++ hex_number (domain_digits domain) domain ++ 10 ∷ []
+heading true domain = codes "domain " ++ domain_text domain ++ 10 ∷ []
 heading false domain = []
 
 -- ---- one domain

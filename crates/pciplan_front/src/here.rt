@@ -5,7 +5,7 @@ ghost use Rattle.pci_dump.specs.Begun.{AppendsBeginning};
 ghost use Rattle.pci_here.specs.Log.{log_of};
 ghost use Rattle.pci_here.specs.Trouble.{trouble_status};
 ghost use Rattle.pciplan_tasks.specs.Answers.{answer_of};
-ghost use Rattle.pciplan_front.specs.HereTold.{AreAsked, AreNotHad, AreTold, HasNoLog, IsAskedLog, IsCutOff, IsHere, IsPieceOut, IsPrint, IsTrouble, domain_digits, files, greater, heading};
+ghost use Rattle.pciplan_front.specs.HereTold.{AreAsked, AreNotHad, AreTold, HasNoLog, IsAskedLog, IsCutOff, IsHere, IsPieceOut, IsPrint, IsTrouble, files, greater, heading};
 ghost use Rattle.pciplan_front.specs.Went.{went};
 
 use crate::domain_reply::domain_reply;
@@ -20,10 +20,9 @@ use pci_here::domain::{domain_of, domains_of};
 use pci_here::log::Log;
 use pci_here::machine::Machine;
 use pci_here::trouble::{Trouble, TroubleAt};
-use pci_listing::hex_text::push_hex;
 use pciplan_tasks::failure::{Failure, report};
 use pciplan_tasks::reply::{Reply, send};
-use std::alloc::{AllocError, Global};
+use std::alloc::Global;
 use std::fmt::Write;
 
 /// What is asked for of each domain of a machine.
@@ -46,30 +45,12 @@ fn tell_trouble<E: Sink>(err: &mut E, found: TroubleAt) -> u8
     found.trouble.status()
 }
 
-/// How many hex digits a domain is printed in.
-fn digits_of(domain: u32) -> u32
-    ensures { result ≡ domain_digits domain }
-{
-    if domain < 0x1_0000 {
-        4
-    } else if domain < 0x10_0000 {
-        5
-    } else if domain < 0x100_0000 {
-        6
-    } else if domain < 0x1000_0000 {
-        7
-    } else {
-        8
-    }
-}
-
 /// Appends the heading of a domain.
-fn push_heading(text: &mut String, domain: u32) -> Result<(), AllocError>
+fn push_heading(text: &mut String, domain: u32) -> Result<(), OutOfMemory>
     ensures { OnOk result (string_bytes text.new ≡ string_bytes text.old ++ heading true domain) }
 {
-    text.push_str("domain ")?;
-    push_hex(text, u64::from(domain), digits_of(domain))?;
-    text.push('\n')
+    writeln!(text, "domain {domain:04x}")?;
+    Ok(())
 }
 
 /// The line before what is printed of a domain, where there is one.
