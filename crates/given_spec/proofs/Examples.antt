@@ -6,3 +6,4 @@ pub mod Reasons
 pub mod Moved
 pub mod CutBodies
 pub mod Fits
+pub mod Isa

@@ -12,3 +12,4 @@ pub mod LeastFaults
 pub mod PlainLists
 pub mod Moving
 pub mod Writing
+mod Isa

@@ -1,5 +1,5 @@
 -- A region that is moved to where it fits has no fault of its own.
-use Rattle.std.proofs.Common.{◌≡◌, ℕ, ◌+◌, ◌*◌, ◌/◌, inl, inr, List, [], ◌∷◌, Bool, true, false, ◌&&◌, ◌||◌, refl, sym, ◌∙◌, ap, subst, arith}
+use Rattle.std.proofs.Common.{◌≡◌, ℕ, ◌+◌, ◌*◌, ◌/◌, inl, inr, List, [], ◌∷◌, Bool, true, false, ◌&&◌, ◌||◌, not, refl, sym, ◌∙◌, ap, subst, arith}
 use Rattle.std.specs.Prelude.{IsTrue, ◌==◌, nat_le}
 use Rattle.std.specs.List.{Contains, list_all, list_any}
 use Rattle.std.proofs.lemmas.Bool.{both_ways, cases_Bool}
@@ -18,8 +18,8 @@ use Rattle.pci_spec.specs.Why.{Region}
 use Rattle.pci_spec.proofs.BusRanges.{all_gives, all_from}
 use Rattle.pci_spec.proofs.Firsts.{same_region}
 use Rattle.pci_spec.proofs.Members.{in_nil, in_cons_cases, in_head, in_tail, in_map_to, in_map_from}
-use Rattle.given_spec.specs.Given.{Given, nothing_given, legacy_claims, legacy_holds, starts}
-use Rattle.given_spec.specs.Claims.{Part, Own, Legacy, Claims, IsPassedTo, Gets, ClaimsOnBus, passes, forwards, register_of, may_share}
+use Rattle.given_spec.specs.Given.{Given, nothing_given, legacy_claims, legacy_holds, is_cut, starts}
+use Rattle.given_spec.specs.Claims.{Part, Own, Legacy, Claims, is_cut_of, IsPassedTo, Gets, ClaimsOnBus, passes, forwards, register_of, may_share}
 use Rattle.given_spec.specs.Fault.{Fault, Known, Outside, IsIn, IsOutside, IsUnreached, IsClash, IsSplit}
 use Rattle.given_spec.specs.FaultsText.{is_of_judging}
 use Rattle.given_spec.specs.Why.{IsTakenBeside, IsPlaceFor}
@@ -61,7 +61,10 @@ module _ (q : Region) (f g : Function) (slot : f.slot ≡ g.slot) (same : IsSame
     register_same Legacy = refl
 
     claimed : (part : Part) (space : Space) (a : ℕ) → ((f.slot ≡ q.slot) × (register_of f part ≡ q.register) → ⊥) → Claims given g part space a → Claims given f part space a
-    claimed (Own part) space a other claims = (same.others part space a other).1 claims
+    claimed (Own part) space a other own = record {
+      claims = (same.others part space a other).1 own.claims;
+      kept = ap (λ x. is_cut_of given part space a x) slot ∙ own.kept;
+    }
     claimed Legacy space a other claims = record { address = claims.address; claims = legacy_same space a ∙ claims.claims }
 
   -- of a bridge what it passes
@@ -84,11 +87,15 @@ module _ (q : Region) (f g : Function) (slot : f.slot ≡ g.slot) (same : IsSame
 
     forwards_same : (given : Given) (space : Space) (a : ℕ) → forwards given space a f ≡ forwards given space a g
     forwards_same given space a =
-        ap (λ b. b || legacy_claims given space a f) (own_forwards_same space a) ∙ ap (λ b. system.forwards space a g || b) (legacy_same given space a)
+        ap (λ b. (b && not (is_cut given space a f.slot)) || legacy_claims given space a f) (own_forwards_same space a)
+        ∙ ap (λ x. (system.forwards space a g && not (is_cut given space a x)) || legacy_claims given space a f) slot
+        ∙ ap (λ b. (system.forwards space a g && not (is_cut given space a g.slot)) || b) (legacy_same given space a)
 
     passes_same : (given : Given) (space : Space) (pf : Bool) (a : ℕ) → passes given space pf a f ≡ passes given space pf a g
     passes_same given space pf a =
-        ap (λ b. b || legacy_claims given space a f) (own_passes_same space pf a) ∙ ap (λ b. system.passes space pf a g || b) (legacy_same given space a)
+        ap (λ b. (b && not (is_cut given space a f.slot)) || legacy_claims given space a f) (own_passes_same space pf a)
+        ∙ ap (λ x. (system.passes space pf a g && not (is_cut given space a x)) || legacy_claims given space a f) slot
+        ∙ ap (λ b. (system.passes space pf a g && not (is_cut given space a g.slot)) || b) (legacy_same given space a)
 
 -- two regions may not share an address, by other words for their names
 apart_by : (x y u v : Slot) (m n k l : ℕ) → x ≡ u → m ≡ k → y ≡ v → n ≡ l → may_share x m y n ≡ false → may_share u k v l ≡ false
@@ -262,7 +269,7 @@ module _ (given : Given) (roots : List ℕ) (s t : System) (q : Region) (r : Ran
         )
 
     claim_is : (g : Function) (part : Part) (space : Space) (a : ℕ) → Contains t g → g.slot ≡ q.slot → register_of g part ≡ q.register → Claims given g part space a → (q.space ≡ space) × InRange r a
-    claim_is g (Own part) space a has slot register claims = (let is = own_is g part space a has slot register claims in (is.0, is.1))
+    claim_is g (Own part) space a has slot register own = (let is = own_is g part space a has slot register own.claims in (is.0, is.1))
     claim_is g Legacy space a has slot register claims = absurd (not_at_control moved.moved.f q.part (moved.moved.register ∙ sym register))
 
     -- each of its addresses is passed on all the way, as before

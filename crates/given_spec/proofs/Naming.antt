@@ -37,7 +37,7 @@ named_slot : (given : Given) (s : System) → IsSystem s → (bus : ℕ) (space 
 named_slot given s system bus space a slot register (f, part, listed, at, on, named, claims) = subst IsSlot at (slot_of s system f listed)
 
 pub named_register : (given : Given) (s : System) (bus : ℕ) (space : Space) (a : ℕ) (slot : Slot) (register : ℕ) → ClaimsOnBus given s bus (address_in space a) (named_region slot register) → register < 256
-named_register given s bus space a slot register (f, Own part, listed, at, on, named, claims) = let less = register_of-lt f part claims.there in omega (arith, less, named)
+named_register given s bus space a slot register (f, Own part, listed, at, on, named, own) = let less = register_of-lt f part own.claims.there in omega (arith, less, named)
 named_register given s bus space a slot register (f, Legacy, listed, at, on, named, claims) = omega (arith, named)
 
 abbrev Named : Type 0

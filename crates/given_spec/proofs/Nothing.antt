@@ -1,9 +1,9 @@
 -- With nothing given each word is the one without it.
-use Rattle.std.proofs.Common.{◌≡◌, ◌<◌, ℕ, List, [], ◌∷◌, Bool, false, ◌&&◌, ◌||◌, refl, sym, ◌∙◌, ap, arith}
+use Rattle.std.proofs.Common.{◌≡◌, ◌<◌, ℕ, List, [], ◌∷◌, Bool, false, ◌&&◌, ◌||◌, not, refl, sym, ◌∙◌, ap, arith}
 use Rattle.std.specs.List.{list_all}
 use Rattle.std.specs.Bool.{◌==◌}
 use Rattle.std.proofs.lemmas.Bool.{both_ways, cond_both, ne_eqb}
-use Rattle.std.proofs.Math.Bool.{and-false, or-false}
+use Rattle.std.proofs.Math.Bool.{and-false, and-true, or-false}
 use Rattle.pci_spec.specs.Slot.{Slot, same_slot}
 use Rattle.pci_spec.specs.Header.{layout, rom_register}
 use Rattle.pci_spec.specs.Window.{WindowKind, IoWindow, MemoryWindow, PrefetchWindow, window_register}
@@ -11,8 +11,8 @@ use Rattle.pci_spec.specs.System.{System, Function, Space, Io, Memory, Bar, Rom,
 use Rattle.pci_spec.specs.System as system
 use Rattle.pci_spec.specs.Fault.{Unreached, Clash, Split, address_in, named_region, named_regions}
 use Rattle.pci_spec.specs.Fault as plain
-use Rattle.given_spec.specs.Given.{nothing_given, legacy_claims}
-use Rattle.given_spec.specs.Claims.{Own, Legacy, Gets, IsPassedTo, ClaimsOnBus, may_share, are_window_and_legacy, is_window_register}
+use Rattle.given_spec.specs.Given.{nothing_given, legacy_claims, is_cut}
+use Rattle.given_spec.specs.Claims.{Own, Legacy, is_cut_of, Gets, IsPassedTo, ClaimsOnBus, may_share, are_window_and_legacy, is_window_register}
 use Rattle.given_spec.specs.Fault.{Known, IsIn, IsUnreached, IsClash, IsSplit}
 use Rattle.given_spec.specs.Laws.{StartsAnywhere, SameClaims, NoLegacyClaims, SameForwards, SamePasses, SameGets, SamePassedTo, NoneOutside, SameFaults}
 
@@ -23,17 +23,28 @@ starts_anywhere Memory root a = refl
 pub no_legacy : (space : Space) (a : ℕ) (b : Function) → legacy_claims nothing_given space a b ≡ false
 no_legacy space a b = and-false (system.is_bridge b && system.is_space_on b space)
 
+pub none_cut : (space : Space) (a : ℕ) (slot : Slot) → is_cut nothing_given space a slot ≡ false
+none_cut Io a slot = refl
+none_cut Memory a slot = refl
+
+pub none_cut_of : (part : system.Part) (space : Space) (a : ℕ) (slot : Slot) → is_cut_of nothing_given part space a slot ≡ false
+none_cut_of part space a slot = ap (λ x. system.is_window part && x) (none_cut space a slot) ∙ and-false (system.is_window part)
+
+-- what a window claims and ISA Enable doesn't take
+none_taken : (b : Bool) (space : Space) (a : ℕ) (slot : Slot) → (b && not (is_cut nothing_given space a slot)) ≡ b
+none_taken b space a slot = ap (λ x. b && not x) (none_cut space a slot) ∙ and-true b
+
 pub same_claims : SameClaims
-same_claims f part space a = (λ h. h, λ h. h)
+same_claims f part space a = (λ h. h.claims, λ h. record { claims = h; kept = none_cut_of part space a f.slot })
 
 pub no_legacy_claims : NoLegacyClaims
 no_legacy_claims f space a claims = both_ways _ (no_legacy space a f) claims.claims
 
 pub same_forwards : SameForwards
-same_forwards space a b = ap (λ x. system.forwards space a b || x) (no_legacy space a b) ∙ or-false (system.forwards space a b)
+same_forwards space a b = ap (λ x. (system.forwards space a b && not (is_cut nothing_given space a b.slot)) || x) (no_legacy space a b) ∙ or-false _ ∙ none_taken (system.forwards space a b) space a b.slot
 
 pub same_passes : SamePasses
-same_passes space prefetchable a b = ap (λ x. system.passes space prefetchable a b || x) (no_legacy space a b) ∙ or-false (system.passes space prefetchable a b)
+same_passes space prefetchable a b = ap (λ x. (system.passes space prefetchable a b && not (is_cut nothing_given space a b.slot)) || x) (no_legacy space a b) ∙ or-false _ ∙ none_taken (system.passes space prefetchable a b) space a b.slot
 
 all_same : (f g : Function → Bool) (bs : List Function) → ((b : Function) → f b ≡ g b) → list_all f bs ≡ list_all g bs
 all_same f g [] h = refl
@@ -71,11 +82,11 @@ not_at_control f Rom e = rom_not (layout f.image) e
 not_at_control f (Window kind) e = let less = window_register-lt kind in omega (arith, less, e)
 
 claims_own : (s : System) (bus : ℕ) (space : Space) (a : ℕ) (slot : Slot) (register : ℕ) → ClaimsOnBus nothing_given s bus (address_in space a) (named_region slot register) → plain.ClaimsOnBus s bus (address_in space a) (named_region slot register)
-claims_own s bus space a slot register (f, Own part, listed, at, on, named, claims) = (f, part, listed, at, on, named, claims)
+claims_own s bus space a slot register (f, Own part, listed, at, on, named, own) = (f, part, listed, at, on, named, own.claims)
 claims_own s bus space a slot register (f, Legacy, listed, at, on, named, claims) = absurd (no_legacy_claims f space a claims)
 
 own_claims : (s : System) (bus : ℕ) (space : Space) (a : ℕ) (slot : Slot) (register : ℕ) → plain.ClaimsOnBus s bus (address_in space a) (named_region slot register) → ClaimsOnBus nothing_given s bus (address_in space a) (named_region slot register)
-own_claims s bus space a slot register (f, part, listed, at, on, named, claims) = (f, Own part, listed, at, on, named, claims)
+own_claims s bus space a slot register (f, part, listed, at, on, named, claims) = (f, Own part, listed, at, on, named, (same_claims f part space a).1 claims)
 
 -- registers that aren't that of Bridge Control
 pub not_shared : (s t : Slot) (r q : ℕ) → (r ≡ 0x3e → ⊥) → (q ≡ 0x3e → ⊥) → may_share s r t q ≡ false

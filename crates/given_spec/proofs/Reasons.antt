@@ -6,14 +6,16 @@ use Rattle.std.proofs.lemmas.List.Elements.{All-nil, All-cons}
 use Rattle.std.proofs.lemmas.Bool.{both_ways}
 use Rattle.std.proofs.Math.Bool.{and-true}
 use Rattle.pci_spec.specs.Slot.{Slot}
-use Rattle.pci_spec.specs.System.{System, Function, Space, Io, Memory, is_window}
+use Rattle.pci_spec.specs.System.{System, Function, Space, Io, Memory, Bar, Rom, Window, is_window}
 use Rattle.pci_spec.specs.System as system
 use Rattle.pci_spec.specs.Bus.{is_root}
 use Rattle.pci_spec.specs.Fault.{Unreached, Clash, Split, named_region, named_regions}
 use Rattle.pci_spec.specs.Fault as faults
-use Rattle.pci_spec.specs.Decoded.{Range, InRange}
+use Rattle.pci_spec.specs.Decoded.{Range, InRange, decoded_windows}
+use Rattle.pci_spec.specs.Listing.{inner_line, on_text}
+use Rattle.pci_spec.specs.Text.{slot_text}
 use Rattle.pci_spec.specs.Mark.{AssumedRegister, is_size_assumed}
-use Rattle.pci_spec.specs.Why.{IsRun, AreRuns, range_line, is_wide_part}
+use Rattle.pci_spec.specs.Why.{IsRun, AreRuns, place_words, part_text, windows_text, range_line, is_wide_part}
 use Rattle.pci_spec.specs.Why as plain
 use Rattle.pci_spec.specs.FaultsText as plain_text
 use Rattle.pci_spec.proofs.BusRanges.{root_means}
@@ -22,8 +24,8 @@ use Rattle.given_spec.specs.Claims.{Own as OwnPart, Legacy as LegacyPart, Part, 
 use Rattle.given_spec.specs.Fault.{Known}
 use Rattle.given_spec.specs.Laws.{SameWhy, SameText}
 use Rattle.given_spec.specs.FaultsText.{AreReasoned, yes_line, off_behind}
-use Rattle.given_spec.specs.Why.{Own, Legacy, Misses, IsBehindUnreached, IsBehindTwo, AreNamedTwo, IsEvidence, IsKnownEvidence, IsBeside, IsTakenBeside, IsPlaceFor, IsLeastPlace, IsFit, IsFitBehind, IsAdviceFor, IsAdvice, IsKnownAdvice, is_said}
-use Rattle.given_spec.proofs.Nothing.{same_passes, same_passed_to, no_legacy_claims, not_at_control, not_shared}
+use Rattle.given_spec.specs.Why.{Own, Legacy, Holds, isa_words, isa_words_of, region_line, bridge_line, Misses, IsBehindUnreached, IsBehindTwo, AreNamedTwo, IsEvidence, IsKnownEvidence, IsBeside, IsTakenBeside, IsPlaceFor, IsLeastPlace, IsFit, IsFitBehind, IsAdviceFor, IsAdvice, IsKnownAdvice, is_said}
+use Rattle.given_spec.proofs.Nothing.{none_cut_of, same_claims, same_passes, same_passed_to, no_legacy_claims, not_at_control, not_shared}
 
 -- ---- runs
 
@@ -73,6 +75,26 @@ module _ (P : ℕ → Type 0) (r : Range) (some : r.first ≤ r.last) (exact : (
     rising = λ i j d lt within. absurd (let no : ⊥ = omega (arith, lt, within) in no);
   }
 
+-- ---- no word of ISA Enable
+
+no_isa_words : (space : Space) (slot : Slot) → isa_words nothing_given space slot ≡ []
+no_isa_words Io slot = refl
+no_isa_words Memory slot = refl
+
+no_isa_words_of : (part : system.Part) (space : Space) (slot : Slot) → isa_words_of nothing_given part space slot ≡ []
+no_isa_words_of (Bar n) space slot = refl
+no_isa_words_of Rom space slot = refl
+no_isa_words_of (Window kind) space slot = no_isa_words space slot
+
+same_region_line : (word : List ℕ) (q : plain.Region) → region_line nothing_given word (Own q) ≡ plain.region_line word q
+same_region_line word q =
+    ap (λ more. inner_line (word ∷ place_words q.slot q.register (part_text q.part q.space q.prefetchable) q.space q.range ++ more)) (no_isa_words_of q.part q.space q.slot)
+
+same_bridge_line : (b : Function) (space : Space) (prefetchable : Bool) → bridge_line nothing_given b space prefetchable ≡ plain.bridge_line b space prefetchable
+same_bridge_line b space prefetchable =
+    ap (λ more. inner_line (codes "bridge" ∷ slot_text b.slot ∷ on_text (system.is_space_on b space) ∷ windows_text space prefetchable (decoded_windows b.image b.probe) ∷ more ++ []))
+    (no_isa_words space b.slot)
+
 -- ---- what a bridge misses
 
 misses_same : (q : plain.Region) (b : Function) (a : ℕ) → Misses nothing_given q b a ↔ plain.Misses q b a
@@ -89,7 +111,7 @@ unreached_plain s q bridge lines h = record {
   named = h.named;
   missed = h.missed;
   runs = runs_same (Misses nothing_given q h.b) (plain.Misses q h.b) (misses_same q h.b) h.missed h.runs;
-  text = h.text;
+  text = h.text ∙ ap (λ t. plain.region_line (codes "needs") q ++ (t ++ flat_map (range_line (codes "missed") q.space) h.missed)) (same_bridge_line h.b q.space q.prefetchable);
 }
 
 plain_unreached : (s : System) (q : plain.Region) (bridge : Slot) (lines : List ℕ) → plain.IsBehindUnreached s q bridge lines → IsBehindUnreached nothing_given s q bridge lines
@@ -100,13 +122,29 @@ plain_unreached s q bridge lines h = record {
   named = h.named;
   missed = h.missed;
   runs = runs_same (plain.Misses q h.b) (Misses nothing_given q h.b) (λ a. ((misses_same q h.b a).1, (misses_same q h.b a).0)) h.missed h.runs;
-  text = h.text;
+  text = h.text ∙ ap (λ t. plain.region_line (codes "needs") q ++ (t ++ flat_map (range_line (codes "missed") q.space) h.missed)) (sym (same_bridge_line h.b q.space q.prefetchable));
 }
 
 -- ---- two regions
 
 abbrev InTwo : plain.Region → plain.Region → ℕ → Type 0
 InTwo p q a = InRange p.range a × InRange q.range a
+
+abbrev HoldsTwo : plain.Region → plain.Region → ℕ → Type 0
+HoldsTwo p q a = Holds nothing_given (Own p) a × Holds nothing_given (Own q) a
+
+holds_two : (p q : plain.Region) (a : ℕ) → HoldsTwo p q a ↔ InTwo p q a
+holds_two p q a = (
+  λ h. (h.0.0, h.1.0),
+  λ h. ((h.0, none_cut_of p.part p.space a p.slot), (h.1, none_cut_of q.part q.space a q.slot)),
+)
+
+-- the lines of both
+both_lines : (p q : plain.Region) (told : List ℕ) → region_line nothing_given (codes "first") (Own p) ++ (region_line nothing_given (codes "second") (Own q) ++ told)
+    ≡ plain.region_line (codes "first") p ++ (plain.region_line (codes "second") q ++ told)
+both_lines p q told =
+    ap (λ x. x ++ (region_line nothing_given (codes "second") (Own q) ++ told)) (same_region_line (codes "first") p)
+    ∙ ap (λ x. plain.region_line (codes "first") p ++ (x ++ told)) (same_region_line (codes "second") q)
 
 two_convex : (p q : plain.Region) → IsConvex (InTwo p q)
 two_convex p q a b c le up one two = (
@@ -122,8 +160,9 @@ only r a (k, x, within, is, held) = (let zero_k : k ≡ 0 = omega (arith, within
 
 two_plain : (s : System) (space : Space) (p q : plain.Region) (lines : List ℕ) → q.space ≡ space → IsBehindTwo nothing_given s space (Own p) (Own q) lines → plain.IsBehindTwo s p q lines
 two_plain s space p q lines at h =
-    let one = one_run (InTwo p q) (two_convex p q) h.shared h.runs h.some in
-    let runs : AreRuns (InTwo p q) (one.0 ∷ []) = subst (AreRuns (InTwo p q)) one.1 h.runs in
+    let all : AreRuns (InTwo p q) h.shared = runs_same (HoldsTwo p q) (InTwo p q) (holds_two p q) h.shared h.runs in
+    let one = one_run (InTwo p q) (two_convex p q) h.shared all h.some in
+    let runs : AreRuns (InTwo p q) (one.0 ∷ []) = subst (AreRuns (InTwo p q)) one.1 all in
     let run : IsRun (InTwo p q) one.0 = runs.each 0 one.0 (omega arith) in
     let told : flat_map (range_line (codes "shared") space) h.shared ≡ range_line (codes "shared") q.space one.0 =
     ap (λ rs. flat_map (range_line (codes "shared") space) rs) one.1 ∙ append-nil (range_line (codes "shared") space one.0) ∙ ap (λ sp. range_line (codes "shared") sp one.0) (sym at) in
@@ -136,7 +175,7 @@ two_plain s space p q lines at h =
         λ held. run.each a held,
         λ both. (let there = runs.complete a both in only one.0 a there),
       );
-      text = h.text ∙ ap (λ t. plain.region_line (codes "first") p ++ (plain.region_line (codes "second") q ++ t)) told;
+      text = h.text ∙ both_lines p q (flat_map (range_line (codes "shared") space) h.shared) ∙ ap (λ t. plain.region_line (codes "first") p ++ (plain.region_line (codes "second") q ++ t)) told;
     }
 
 plain_two : (s : System) (space : Space) (p q : plain.Region) (lines : List ℕ) → q.space ≡ space → plain.IsBehindTwo s p q lines → IsBehindTwo nothing_given s space (Own p) (Own q) lines
@@ -148,8 +187,8 @@ plain_two s space p q lines at h =
       second = h.second;
       shared = h.shared ∷ [];
       some = λ e. cc;
-      runs = just_one (InTwo p q) h.shared h.some h.exact;
-      text = h.text ∙ ap (λ t. plain.region_line (codes "first") p ++ (plain.region_line (codes "second") q ++ t)) told;
+      runs = runs_same (InTwo p q) (HoldsTwo p q) (λ a. ((holds_two p q a).1, (holds_two p q a).0)) (h.shared ∷ []) (just_one (InTwo p q) h.shared h.some h.exact);
+      text = h.text ∙ ap (λ t. plain.region_line (codes "first") p ++ (plain.region_line (codes "second") q ++ t)) told ∙ sym (both_lines p q (flat_map (range_line (codes "shared") space) (h.shared ∷ [])));
     }
 
 abbrev PlainTwo : System → Space → Slot → ℕ → Slot → ℕ → List ℕ → Type 0
@@ -179,7 +218,7 @@ evidence_same roots s fault lines = elim fault as (λ fault. IsKnownEvidence not
 
 pub taken_plain : (roots : List ℕ) (s : System) (q : plain.Region) (a : ℕ) (f : Function) (part : Part) → (Contains roots q.slot.bus → ⊥) → Contains s f → IsBeside nothing_given roots q a f
     → ((f.slot ≡ q.slot) × (register_of f part ≡ q.register) → ⊥) → Claims nothing_given f part q.space a → plain.IsTaken s q a
-taken_plain roots s q a f (OwnPart part) below listed (inl on) other claims = record { f = f; part = part; listed = listed; on_bus = on; other = other; claims = claims }
+taken_plain roots s q a f (OwnPart part) below listed (inl on) other own = record { f = f; part = part; listed = listed; on_bus = on; other = other; claims = own.claims }
 taken_plain roots s q a f (OwnPart part) below listed (inr roots_both) other claims = absurd (below roots_both.0)
 taken_plain roots s q a f LegacyPart below listed beside other claims = absurd (no_legacy_claims f q.space a claims)
 
@@ -195,7 +234,7 @@ plain_taken roots s q a is t = record {
   beside = inl t.on_bus;
   other = t.other;
   apart = not_shared q.slot t.f.slot q.register (system.register_of t.f t.part) (off_control s q is) (not_at_control t.f t.part);
-  claims = t.claims;
+  claims = (same_claims t.f t.part q.space a).1 t.claims;
 }
 
 module _ (roots : List ℕ) (s : System) (q : plain.Region) (is : plain.IsRegionIn s q) (below : Contains roots q.slot.bus → ⊥) (wide : Bool) where

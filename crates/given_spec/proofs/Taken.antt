@@ -1,5 +1,5 @@
--- Functions without VGA Enable.
-use Rattle.std.proofs.Common.{◌≡◌, ℕ, zero, suc, [], ◌∷◌, ◌+◌, ◌*◌, ◌/◌, ◌%◌, List, set, false, refl, subst, arith}
+-- Functions without VGA Enable, and without ISA Enable.
+use Rattle.std.proofs.Common.{◌≡◌, ℕ, zero, suc, [], ◌∷◌, ◌+◌, ◌*◌, ◌/◌, ◌%◌, List, map, set, false, refl, subst, arith}
 use Rattle.std.specs.Int.{bit_at}
 use Rattle.std.specs.List.{Contains}
 use Rattle.std.proofs.lemmas.Bool.{both_ways, cond_both, ne_eqb}
@@ -7,12 +7,12 @@ use Rattle.std.proofs.Math.Bool.{and-false}
 use Rattle.std.proofs.lemmas.List.{get_or-set_same}
 use Rattle.std.proofs.lemmas.List.Elements.{All-contains}
 use Rattle.pci_spec.specs.Number.{byte_at, has_bit, IsImage}
-use Rattle.pci_spec.specs.Registers.{BRIDGE_CONTROL, VGA_ENABLE}
+use Rattle.pci_spec.specs.Registers.{BRIDGE_CONTROL, ISA_ENABLE, VGA_ENABLE}
 use Rattle.pci_spec.specs.Header.{bridge_control}
 use Rattle.pci_spec.specs.System.{System, Function, IsFunction}
 use Rattle.pci_spec.specs.Fault.{controls_bridge}
-use Rattle.given_spec.specs.Words.{without_vga, vga_aside, taken_by_vga}
-use Rattle.given_spec.specs.Laws.{NoVgaEnable}
+use Rattle.given_spec.specs.Words.{without_isa, without_vga, isa_aside, vga_aside}
+use Rattle.given_spec.specs.Laws.{NoIsaEnable, NoVgaEnable}
 
 -- the image has no VGA Enable
 cleared : (image : List ℕ) → IsImage image → controls_bridge (set image BRIDGE_CONTROL (byte_at image BRIDGE_CONTROL / 16 * 16 + byte_at image BRIDGE_CONTROL % 8)) VGA_ENABLE ≡ false
@@ -29,13 +29,35 @@ without_vga_is : (image : List ℕ) → IsImage image → controls_bridge (witho
 without_vga_is image is = cond_both (controls_bridge image VGA_ENABLE) _ image (λ x. controls_bridge x VGA_ENABLE ≡ false) (λ on. cleared image is) (λ off. off)
 
 -- a mapped element comes from one
-from_mapped : (s : System) (g : Function) → Contains (taken_by_vga s) g → (f : Function) × Contains s f × (vga_aside f ≡ g)
-from_mapped [] g (k, less, is) = absurd (let no : ⊥ = omega (arith, less) in no)
-from_mapped (f ∷ s) g (zero, less, is) = (f, (0, omega arith, refl), is)
-from_mapped (f ∷ s) g (suc k, less, is) = let found = from_mapped s g (k, omega (arith, less), is) in (found.0, (suc found.1.0, omega (arith, found.1.1), found.1.2), found.2)
+from_mapped : (aside : Function → Function) (s : System) (g : Function) → Contains (map aside s) g → (f : Function) × Contains s f × (aside f ≡ g)
+from_mapped aside [] g (k, less, is) = absurd (let no : ⊥ = omega (arith, less) in no)
+from_mapped aside (f ∷ s) g (zero, less, is) = (f, (0, omega arith, refl), is)
+from_mapped aside (f ∷ s) g (suc k, less, is) =
+    let found = from_mapped aside s g (k, omega (arith, less), is) in (found.0, (suc found.1.0, omega (arith, found.1.1), found.1.2), found.2)
 
 pub no_vga_enable : NoVgaEnable
 no_vga_enable roots s slot system (f, listed, at, vga) =
-    let found = from_mapped s f listed in
+    let found = from_mapped vga_aside s f listed in
     let image = (All-contains IsFunction s found.0 system.each found.1).image in
     both_ways _ (subst (λ (g : Function). controls_bridge g.image VGA_ENABLE ≡ false) found.2 (without_vga_is found.0.image image)) vga
+
+-- ---- ISA Enable
+
+isa_cleared : (image : List ℕ) → IsImage image → controls_bridge (set image BRIDGE_CONTROL (byte_at image BRIDGE_CONTROL / 8 * 8 + byte_at image BRIDGE_CONTROL % 4)) ISA_ENABLE ≡ false
+isa_cleared image is =
+    let full = is.full in
+    let new = set image BRIDGE_CONTROL (byte_at image BRIDGE_CONTROL / 8 * 8 + byte_at image BRIDGE_CONTROL % 4) in
+    let low : byte_at new BRIDGE_CONTROL ≡ byte_at image BRIDGE_CONTROL / 8 * 8 + byte_at image BRIDGE_CONTROL % 4 =
+    get_or-set_same image BRIDGE_CONTROL _ 0 (omega (arith, full)) in
+    let none : has_bit (bridge_control new) ISA_ENABLE ≡ false =
+    ne_eqb (bit_at (bridge_control new) 2) 1 (λ one. omega (arith, one, low)) in
+    rw none (and-false _)
+
+without_isa_is : (image : List ℕ) → IsImage image → controls_bridge (without_isa image) ISA_ENABLE ≡ false
+without_isa_is image is = cond_both (controls_bridge image ISA_ENABLE) _ image (λ x. controls_bridge x ISA_ENABLE ≡ false) (λ on. isa_cleared image is) (λ off. off)
+
+pub no_isa_enable : NoIsaEnable
+no_isa_enable roots s slot system (f, listed, at, isa) =
+    let found = from_mapped isa_aside s f listed in
+    let image = (All-contains IsFunction s found.0 system.each found.1).image in
+    both_ways _ (subst (λ (g : Function). controls_bridge g.image ISA_ENABLE ≡ false) found.2 (without_isa_is found.0.image image)) isa

@@ -1,6 +1,6 @@
--- What is given beside a system: which addresses the host sends to which root bus, and which bridges answer for a VGA
--- adapter behind them.
-use Rattle.std.specs.Prelude.{ℕ, ◌%◌, ◌^◌, ◌==◌, nat_lt, nat_le, Bool, true, ◌&&◌, ◌||◌, if◌then◌else◌, List, [], Option, None, Some}
+-- What is given beside a system: which addresses the host sends to which root bus, which bridges answer for a VGA adapter
+-- behind them, and which have ISA Enable.
+use Rattle.std.specs.Prelude.{ℕ, ◌%◌, ◌^◌, ◌==◌, nat_lt, nat_le, Bool, true, false, ◌&&◌, ◌||◌, if◌then◌else◌, List, [], Option, None, Some}
 use Rattle.std.specs.List.{list_any}
 use Rattle.pci_spec.specs.Slot.{Slot, same_slot}
 use Rattle.pci_spec.specs.System.{Space, Io, Memory, Function, is_bridge, is_space_on}
@@ -21,9 +21,11 @@ pub record Given : Type 0 where
   pub io : Option (List HostRange)
   pub memory : Option (List HostRange)
   pub legacy : List LegacyBridge
+  -- the bridges with ISA Enable
+  pub isa : List Slot
 
 abbrev pub nothing_given : Given
-nothing_given = record { io = None; memory = None; legacy = [] }
+nothing_given = record { io = None; memory = None; legacy = []; isa = [] }
 
 -- ---- where accesses start
 
@@ -71,3 +73,17 @@ is_legacy_at b space a entry = same_slot entry.slot b.slot && legacy_holds entry
 abbrev pub legacy_claims : Given → Space → ℕ → Function → Bool
 legacy_claims given space a b =
     is_bridge b && is_space_on b space && list_any (is_legacy_at b space a) given.legacy
+
+-- ---- what ISA Enable takes from windows (Bridge 1.2, 3.2.5.18)
+
+-- whether an I/O address is below 64 KB, and behind the first 256 of its KB
+abbrev pub is_isa_port : ℕ → Bool
+is_isa_port a = nat_lt a (2 ^ 16) && nat_le 0x100 (a % 0x400)
+
+abbrev pub has_isa : Given → Slot → Bool
+has_isa given slot = list_any (λ other. same_slot other slot) given.isa
+
+-- whether no window of the bridge at a slot claims an address of a space, as ISA Enable takes it
+abbrev pub is_cut : Given → Space → ℕ → Slot → Bool
+is_cut given Io a slot = has_isa given slot && is_isa_port a
+is_cut given Memory a slot = false

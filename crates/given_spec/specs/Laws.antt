@@ -16,7 +16,7 @@ use Rattle.given_spec.specs.Claims.{Own, Legacy, Claims, forwards, passes, Gets,
 use Rattle.given_spec.specs.Fault.{Fault, Known, IsIn, IsOutside}
 use Rattle.given_spec.specs.Sound.{IsSingle, IsHome, IsSound}
 use Rattle.given_spec.specs.AllFaults.{IsOutsideOf, AreAllOfJudging}
-use Rattle.given_spec.specs.Words.{taken_by_vga}
+use Rattle.given_spec.specs.Words.{taken_by_vga, taken_by_isa}
 use Rattle.given_spec.specs.Why.{IsWhy}
 use Rattle.given_spec.specs.FaultsText.{IsReasonedText}
 
@@ -130,3 +130,9 @@ abbrev pub NoVgaEnable : Type 0
 NoVgaEnable =
     (roots : List ℕ) (s : System) (slot : Slot) → IsSystem s
     → plain.IsIn roots (taken_by_vga s) (plain.VgaEnable slot) → ⊥
+
+-- Functions that are taken by the other word have no 53.
+abbrev pub NoIsaEnable : Type 0
+NoIsaEnable =
+    (roots : List ℕ) (s : System) (slot : Slot) → IsSystem s
+    → plain.IsIn roots (taken_by_isa s) (plain.IsaEnable slot) → ⊥

@@ -13,3 +13,4 @@ pub mod Moved
 pub mod Laws
 pub mod DeterminedLaws
 pub mod ListLaws
+pub mod IsaLaws

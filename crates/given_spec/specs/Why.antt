@@ -1,12 +1,13 @@
 -- What stands behind a fault of judging, with what is given: the lines that pci_spec defines, where a bridge passes what
 -- its legacy part claims, too, and where accesses start as the host sends them.
-use Rattle.std.specs.Prelude.{◌≡◌, ◌⊎◌, ℕ, ◌+◌, ◌<◌, ◌≤◌, ◌%◌, Bool, false, ◌&&◌, ◌||◌, not, IsTrue, if◌then◌else◌, List, [], ◌∷◌, ◌++◌, map, codes, Option, Some, MatchOption, MatchBool}
+use Rattle.std.specs.Prelude.{◌≡◌, ◌⊎◌, ℕ, ◌+◌, ◌<◌, ◌≤◌, ◌%◌, Bool, false, ◌&&◌, ◌||◌, not, IsTrue, IsFalse, if◌then◌else◌, List, [], ◌∷◌, ◌++◌, map, codes, Option, Some, MatchOption, MatchBool}
 use Rattle.std.specs.Option.{is_some}
 use Rattle.std.specs.List.{Contains, filter, flat_map, list_any}
 use Rattle.pci_spec.specs.Slot.{Slot, same_slot}
 use Rattle.pci_spec.specs.Registers.{BRIDGE_CONTROL}
 use Rattle.pci_spec.specs.Text.{hex_byte, slot_text}
 use Rattle.pci_spec.specs.System.{System, Function, Space, Io, Memory, Leads, is_space_on, is_window}
+use Rattle.pci_spec.specs.System as system
 use Rattle.pci_spec.specs.Bus.{is_root}
 use Rattle.pci_spec.specs.Fault.{Unreached, Clash, Split, RegionName, TwoRegions, address_in, named_region, named_regions}
 use Rattle.pci_spec.specs.Fault as faults
@@ -14,10 +15,10 @@ use Rattle.pci_spec.specs.Decoded.{Range, InRange, decoded_windows}
 use Rattle.pci_spec.specs.Line.{space_text}
 use Rattle.pci_spec.specs.Listing.{inner_line, range_text, on_text}
 use Rattle.pci_spec.specs.Mark.{AssumedRegister, is_size_assumed}
-use Rattle.pci_spec.specs.Why.{AreRuns, range_line, windows_text, fits_line, unknown_line, address_count, place_end, is_wide_part}
+use Rattle.pci_spec.specs.Why.{AreRuns, place_words, part_text, range_line, windows_text, fits_line, unknown_line, address_count, place_end, is_wide_part}
 use Rattle.pci_spec.specs.Why as plain
-use Rattle.given_spec.specs.Given.{Given, HostRange, ranges_said, is_for, starts}
-use Rattle.given_spec.specs.Claims.{Part, Claims, LegacyClaims, passes, IsPassedTo, register_of, may_share}
+use Rattle.given_spec.specs.Given.{Given, HostRange, ranges_said, is_for, starts, has_isa}
+use Rattle.given_spec.specs.Claims.{Part, Claims, LegacyClaims, is_cut_of, passes, IsPassedTo, register_of, may_share}
 use Rattle.given_spec.specs.Fault.{Fault, Known, Outside}
 
 -- ---- legacy parts
@@ -43,6 +44,17 @@ legacy_text is_narrow Io =
     if is_narrow then codes "vga io 000003b0-000003bb,000003c0-000003df of each 1K"
     else codes "vga16 io 000003b0-000003bb,000003c0-000003df"
 
+-- ---- ISA Enable
+
+-- what the line of a window of a space tells of it
+abbrev pub isa_words : Given → Space → Slot → List (List ℕ)
+isa_words given Io slot = if has_isa given slot then codes "isa" ∷ [] else []
+isa_words given Memory slot = []
+
+-- the same of any part
+abbrev pub isa_words_of : Given → system.Part → Space → Slot → List (List ℕ)
+isa_words_of given part space slot = if is_window part then isa_words given space slot else []
+
 -- ---- regions
 
 -- a region as a line tells it: one that address registers show, or the legacy part of a bridge in a space
@@ -52,7 +64,7 @@ pub data AnyRegion : Type 0 where
 
 -- it claims the address
 abbrev pub Holds : Given → AnyRegion → ℕ → Type 0
-Holds given (Own q) a = InRange q.range a
+Holds given (Own q) a = InRange q.range a × IsFalse (is_cut_of given q.part q.space a q.slot)
 Holds given (Legacy b space) a = LegacyClaims given b space a
 
 -- it is one of the system's, and claims an address
@@ -67,7 +79,9 @@ IsNamed (Legacy b of_space) slot register space =
     (b.slot ≡ slot) × (BRIDGE_CONTROL ≡ register) × (of_space ≡ space)
 
 abbrev pub region_line : Given → List ℕ → AnyRegion → List ℕ
-region_line given word (Own q) = plain.region_line word q
+region_line given word (Own q) =
+    inner_line (word ∷ place_words q.slot q.register (part_text q.part q.space q.prefetchable)
+    q.space q.range ++ isa_words_of given q.part q.space q.slot)
 region_line given word (Legacy b space) =
     inner_line (word ∷ slot_text b.slot ∷ hex_byte BRIDGE_CONTROL
     ∷ legacy_text (is_narrow given b.slot) space ∷ [])
@@ -103,12 +117,12 @@ pub record IsBehindOutside (given : Given) (roots : List ℕ) (s : System) (q : 
 
 -- ---- what a bridge misses
 
--- whether its Command enables the space, its windows, and its legacy part
+-- whether its Command enables the space, its windows, ISA Enable, and its legacy part
 abbrev pub bridge_line : Given → Function → Space → Bool → List ℕ
 bridge_line given b space prefetchable =
     inner_line (codes "bridge" ∷ slot_text b.slot ∷ on_text (is_space_on b space)
     ∷ windows_text space prefetchable (decoded_windows b.image b.probe)
-    ∷ legacy_words given b.slot)
+    ∷ isa_words given space b.slot ++ legacy_words given b.slot)
 
 -- an address of the region doesn't pass the bridge
 abbrev pub Misses : Given → plain.Region → Function → ℕ → Type 0

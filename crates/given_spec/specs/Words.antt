@@ -1,9 +1,11 @@
--- Which bridges have legacy parts, by Bridge Control and a user's word (Bridge 1.2, 3.2.5.18).
+-- Which bridges have legacy parts, and which have ISA Enable, by Bridge Control and a user's words (Bridge 1.2,
+-- 3.2.5.18).
 use Rattle.std.specs.Prelude.{ℕ, ◌+◌, ◌*◌, ◌/◌, ◌%◌, Bool, true, if◌then◌else◌, List, map, set}
 use Rattle.std.specs.List.{filter}
 use Rattle.pci_spec.specs.Number.{byte_at, has_bit}
-use Rattle.pci_spec.specs.Registers.{BRIDGE_CONTROL, VGA_ENABLE}
+use Rattle.pci_spec.specs.Registers.{BRIDGE_CONTROL, ISA_ENABLE, VGA_ENABLE}
 use Rattle.pci_spec.specs.Header.{bridge_control}
+use Rattle.pci_spec.specs.Slot.{Slot}
 use Rattle.pci_spec.specs.System.{System, Function}
 use Rattle.pci_spec.specs.Fault.{controls_bridge}
 use Rattle.given_spec.specs.Given.{LegacyBridge}
@@ -36,6 +38,14 @@ has_legacy f = controls_bridge f.image VGA_ENABLE
 abbrev pub legacy_bridges : VgaWord → System → List LegacyBridge
 legacy_bridges word s = map (legacy_bridge word) (filter has_legacy s)
 
+-- whether ISA Enable of a bridge is set
+abbrev pub has_isa_enable : Function → Bool
+has_isa_enable f = controls_bridge f.image ISA_ENABLE
+
+-- the bridges with ISA Enable, by slot
+abbrev pub isa_bridges : System → List Slot
+isa_bridges s = map (λ f. f.slot) (filter has_isa_enable s)
+
 -- ---- the system beside which they are given
 
 -- an image with VGA Enable cleared, where it is a bridge's
@@ -52,3 +62,18 @@ vga_aside f = record { slot = f.slot; image = without_vga f.image; probe = f.pro
 -- the functions without 52: what it stands for is given
 abbrev pub taken_by_vga : System → System
 taken_by_vga s = map vga_aside s
+
+-- an image with ISA Enable cleared, where it is a bridge's
+abbrev pub without_isa : List ℕ → List ℕ
+without_isa image =
+    if controls_bridge image ISA_ENABLE
+    then set image BRIDGE_CONTROL
+    (byte_at image BRIDGE_CONTROL / 8 * 8 + byte_at image BRIDGE_CONTROL % 4)
+    else image
+
+abbrev pub isa_aside : Function → Function
+isa_aside f = record { slot = f.slot; image = without_isa f.image; probe = f.probe }
+
+-- the functions without 53: what it stands for is given
+abbrev pub taken_by_isa : System → System
+taken_by_isa s = map isa_aside s

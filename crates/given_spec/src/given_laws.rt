@@ -1,6 +1,7 @@
 //! Laws of what is given. These functions do nothing: each contract is a law.
 
-ghost use Rattle.given_spec.specs.Laws.{StartsAnywhere, SameClaims, NoLegacyClaims, SameForwards, SamePasses, SameGets, SamePassedTo, NoneOutside, SameFaults, SameSound, SameWhy, SameText, SoundWithoutFaults, EmptyWhereNoneFails, LineWhereOutside, NoVgaEnable};
+ghost use Rattle.given_spec.specs.Laws.{StartsAnywhere, SameClaims, NoLegacyClaims, SameForwards, SamePasses, SameGets, SamePassedTo, NoneOutside, SameFaults, SameSound, SameWhy, SameText, SoundWithoutFaults, EmptyWhereNoneFails, LineWhereOutside, NoIsaEnable, NoVgaEnable};
+ghost use Rattle.given_spec.specs.IsaLaws.{IsaLeavesClaims, IsaLeavesForwards, IsaLeavesPasses, IsaTakesWhole};
 
 /// With nothing given each word is the one without it.
 pub fn nothing_given_changes_nothing()
@@ -32,4 +33,18 @@ pub fn faults_are_what_fails()
 /// Functions that are taken by a word have no VGA Enable.
 pub fn taken_functions_have_no_vga_enable()
     ensures none { NoVgaEnable }
+{}
+
+/// Functions that are taken by the other word have no ISA Enable.
+pub fn taken_functions_have_no_isa_enable()
+    ensures none { NoIsaEnable }
+{}
+
+/// A function without ISA Enable claims, forwards and passes what it does where nobody has it. What ISA Enable takes it
+/// takes in blocks of 256 addresses.
+pub fn isa_leaves_others_alone()
+    ensures claims { IsaLeavesClaims }
+    ensures forwards { IsaLeavesForwards }
+    ensures passes { IsaLeavesPasses }
+    ensures whole { IsaTakesWhole }
 {}

@@ -1,25 +1,30 @@
 -- What `cardbus` and `windows` leave alone, and what other words leave alone of a CardBus bridge.
-use Rattle.std.proofs.Common.{◌≡◌, ℕ, suc, ◌==◌, List, [], ◌∷◌, Bool, true, false, ◌&&◌, ◌||◌, not, inl, inr, refl, sym, ◌∙◌, ap, subst, arith, lit<, is_some}
+use Rattle.std.proofs.Common.{◌≡◌, ℕ, suc, ◌+◌, ◌*◌, ◌/◌, ◌%◌, ◌==◌, List, [], ◌∷◌, length, set, Bool, true, false, ◌&&◌, ◌||◌, not, inl, inr, refl, sym, ◌∙◌, ap, subst, arith, lit<, is_some}
 use Rattle.std.specs.Prelude.{◌↔◌}
 use Rattle.std.specs.Bool.{IsTrue, IsFalse, if◌then◌else◌}
+use Rattle.std.specs.Int.{bit_at}
 use Rattle.std.specs.List.{Contains}
-use Rattle.std.proofs.lemmas.Bool.{and_left, and_parts, and_right, cases_Bool, cond_both, eqb-true, ne_eqb}
-use Rattle.pci_spec.specs.Registers.{SECONDARY_BUS_RESET, VGA_ENABLE}
-use Rattle.pci_spec.specs.Header.{layout}
+use Rattle.std.proofs.lemmas.Bool.{and_left, and_parts, and_right, both_ways, cases_Bool, cond_both, eqb-true, ne_eqb}
+use Rattle.std.proofs.Math.Bool.{and-false}
+use Rattle.std.proofs.lemmas.List.{get_or-set_same, get_or-set_other}
+use Rattle.pci_spec.specs.Registers.{HEADER_TYPE, BRIDGE_CONTROL, ISA_ENABLE, SECONDARY_BUS_RESET, VGA_ENABLE}
+use Rattle.pci_spec.specs.Header.{bridge_control, class_code, layout}
+use Rattle.pci_spec.specs.Number.{byte_at, has_bit, IsImage}
 use Rattle.pci_spec.specs.Slot.{Slot}
 use Rattle.pci_spec.specs.System.{Function, System, is_bridge}
 use Rattle.pci_spec.specs.Window.{WindowKind, IoWindow, MemoryWindow, PrefetchWindow, breaks_window_rule}
 use Rattle.pci_spec.specs.Fault.{HeaderKind, IsIn, controls_bridge, is_subtractive_bridge}
 use Rattle.pci_spec.specs.Order.{Place}
-use Rattle.given_spec.specs.Words.{vga_aside}
+use Rattle.given_spec.specs.Words.{isa_aside, vga_aside, without_vga}
 use Rattle.model_spec.specs.Words.{Words}
 use Rattle.model_spec.specs.Bytes.{switched_off}
 use Rattle.model_spec.specs.Windows.{window_as_shown, windows_as_shown}
-use Rattle.model_spec.specs.Taken.{AreFunctionsTakenAs, HasNoOwnFaultBefore, IsAsleep, IsTakenAs, IsWhere, bridge_aside, cardbus_aside, compatible_bars, first_aside, function_with_image, has_legacy_by, is_anyone_behind, is_cardbus, is_ide, is_unnumbered, may_have_parts_by, parts_aside, vga_aside_by, windows_aside, without_socket}
-use Rattle.model_spec.specs.WordsLaws.{BothLeaveOthers, CardbusLeavesOthers, OthersLeaveCardbus, WindowsLeaveOthers, has_bad_window}
+use Rattle.model_spec.specs.Taken.{AreFunctionsTakenAs, HasNoOwnFaultBefore, IsAsleep, IsTakenAs, IsWhere, bridge_aside, cardbus_aside, compatible_bars, first_aside, function_with_image, has_legacy_by, is_anyone_behind, is_cardbus, is_ide, is_unnumbered, isa_aside_by, may_have_parts_by, parts_aside, reset_aside, vga_aside_by, windows_aside, without_channels, without_socket}
+use Rattle.model_spec.specs.WordsLaws.{BothLeaveOthers, CardbusLeavesOthers, IsaLeavesOthers, OthersLeaveCardbus, WindowsLeaveOthers, has_bad_window}
 use Rattle.model_spec.proofs.Changes.{device_is_device}
-use Rattle.model_spec.proofs.NoVga.{bars_stay, is_controller, where_either}
+use Rattle.model_spec.proofs.NoEnables.{bars_stay, is_controller, where_either}
 use Rattle.model_spec.proofs.Others.{before_alike, layout_same}
+use Rattle.model_spec.proofs.WindowBytes.{aside_differs}
 
 -- ---- cardbus
 
@@ -73,8 +78,54 @@ PowerFrom w g x = IsWhere (IsTrue w.power × IsAsleep x) x (function_with_image 
 pub windows_leave_others : WindowsLeaveOthers
 windows_leave_others w slots f h none =
     let same = windows_same w f none in (
-      λ t. record { g = t.g; k = t.k; power = subst (λ (x : Function). PowerFrom w t.g (vga_aside_by w x)) same t.power; parts = t.parts; header = t.header },
-      λ t. record { g = t.g; k = t.k; power = subst (λ (x : Function). PowerFrom w t.g (vga_aside_by w x)) (sym same) t.power; parts = t.parts; header = t.header },
+      λ t. record { g = t.g; k = t.k; power = subst (λ (x : Function). PowerFrom w t.g (isa_aside_by w (vga_aside_by w x))) same t.power; parts = t.parts; header = t.header },
+      λ t. record { g = t.g; k = t.k; power = subst (λ (x : Function). PowerFrom w t.g (isa_aside_by w (vga_aside_by w x))) (sym same) t.power; parts = t.parts; header = t.header },
+    )
+
+-- ---- isa
+
+module _ (w : Words) (f : Function) (is : IsImage f.image) where
+  abbrev first : Function
+  first = windows_aside w f
+
+  -- windows aside leave the header and Bridge Control as they are
+  windows_leave : controls_bridge first.image ISA_ENABLE ≡ controls_bridge f.image ISA_ENABLE
+  windows_leave =
+      let shown = aside_differs w f in
+      let kind = shown.same HEADER_TYPE (inl (omega arith)) in
+      let low = shown.same BRIDGE_CONTROL (inr (omega arith)) in
+      let high = shown.same (BRIDGE_CONTROL + 1) (inr (omega arith)) in
+      let control : bridge_control first.image ≡ bridge_control f.image = omega (arith, low, high) in
+      λ i. kind i % 128 == 1 && has_bit (control i) ISA_ENABLE
+
+  -- and so is ISA Enable where VGA Enable is cleared
+  vga_leaves : controls_bridge (without_vga first.image) ISA_ENABLE ≡ controls_bridge first.image ISA_ENABLE
+  vga_leaves = cond_both (controls_bridge first.image VGA_ENABLE) _ first.image (λ x. controls_bridge x ISA_ENABLE ≡ controls_bridge first.image ISA_ENABLE)
+      (λ on.
+      let shown = aside_differs w f in
+      let full = shown.full ∙ is.full in
+      let c = byte_at first.image BRIDGE_CONTROL in
+      let changed = set first.image BRIDGE_CONTROL (c / 16 * 16 + c % 8) in
+      let kind : byte_at changed HEADER_TYPE ≡ byte_at first.image HEADER_TYPE = get_or-set_other first.image BRIDGE_CONTROL HEADER_TYPE _ 0 (λ e. cc e) in
+      let high : byte_at changed (BRIDGE_CONTROL + 1) ≡ byte_at first.image (BRIDGE_CONTROL + 1) = get_or-set_other first.image BRIDGE_CONTROL (BRIDGE_CONTROL + 1) _ 0 (λ e. omega (arith, e)) in
+      let low : byte_at changed BRIDGE_CONTROL ≡ c / 16 * 16 + c % 8 = get_or-set_same first.image BRIDGE_CONTROL _ 0 (omega (arith, full)) in
+      let bit : bit_at (bridge_control changed) 2 ≡ bit_at (bridge_control first.image) 2 = omega (arith, low, high) in
+      λ i. kind i % 128 == 1 && bit i == 1)
+      (λ off. refl)
+
+  both_leave_it : controls_bridge (vga_aside_by w first).image ISA_ENABLE ≡ controls_bridge f.image ISA_ENABLE
+  both_leave_it =
+      cond_both (is_some w.vga) (vga_aside first) first (λ x. controls_bridge x.image ISA_ENABLE ≡ controls_bridge first.image ISA_ENABLE) (λ counts. vga_leaves) (λ other. refl) ∙ windows_leave
+
+  isa_same : controls_bridge f.image ISA_ENABLE ≡ false → first_aside w f ≡ vga_aside_by w first
+  isa_same none =
+      cond_both w.isa (isa_aside (vga_aside_by w first)) (vga_aside_by w first) (λ g. g ≡ vga_aside_by w first) (λ counts. rw (both_leave_it ∙ none) refl) (λ other. refl)
+
+pub isa_leaves_others : IsaLeavesOthers
+isa_leaves_others w slots f h is none =
+    let same = isa_same w f is none in (
+      λ t. record { g = t.g; k = t.k; power = subst (λ (x : Function). PowerFrom w t.g x) same t.power; parts = t.parts; header = t.header },
+      λ t. record { g = t.g; k = t.k; power = subst (λ (x : Function). PowerFrom w t.g x) (sym same) t.power; parts = t.parts; header = t.header },
     )
 
 -- ---- both
@@ -133,8 +184,11 @@ module _ (w : Words) (slots : List Slot) (f : Function) (socket : is_cardbus f �
   controls_nothing i = and_left _ _ no_bridge
 
   first_same : first_aside w f ≡ f
-  first_same = ap (vga_aside_by w) (ap (λ b. if b then windows_as_shown f else f) (and_right w.windows (is_bridge f) no_bridge)) ∙ vga_same
+  first_same = ap (λ x. isa_aside_by w (vga_aside_by w x)) (ap (λ b. if b then windows_as_shown f else f) (and_right w.windows (is_bridge f) no_bridge)) ∙ ap (isa_aside_by w) vga_same ∙ isa_same
     where
+      isa_same : isa_aside_by w f ≡ f
+      isa_same = cond_both w.isa (isa_aside f) f (λ g. g ≡ f) (λ counts. rw (controls_nothing ISA_ENABLE) refl) (λ other. refl)
+
       vga_same : vga_aside_by w f ≡ f
       vga_same = cond_both (is_some w.vga) (vga_aside f) f (λ g. g ≡ f) (λ counts. rw (controls_nothing VGA_ENABLE) refl) (λ other. refl)
 

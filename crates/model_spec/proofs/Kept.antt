@@ -6,7 +6,7 @@ use Rattle.pci_spec.specs.Slot.{Slot}
 use Rattle.pci_spec.specs.System.{Function, System, is_bridge}
 use Rattle.pci_spec.specs.Decoded.{bridge_of, record_of}
 use Rattle.model_spec.specs.Words.{Words, no_words}
-use Rattle.model_spec.specs.Taken.{IsTakenAs, IsWhere, AreFunctionsTakenAs, is_cardbus, is_ide, is_unnumbered, function_with_image, bridge_aside, cardbus_aside, first_aside, reset_aside, parts_aside, vga_aside_by, windows_aside, has_legacy_by, is_unnumbered_bridge, without_socket}
+use Rattle.model_spec.specs.Taken.{IsTakenAs, IsWhere, AreFunctionsTakenAs, is_cardbus, is_ide, is_unnumbered, function_with_image, bridge_aside, cardbus_aside, first_aside, isa_aside_by, reset_aside, parts_aside, vga_aside_by, windows_aside, has_legacy_by, is_unnumbered_bridge, without_socket}
 use Rattle.model_spec.specs.WordsLaws.{NoPartsChangeNothing}
 use Rattle.model_spec.proofs.WindowBytes.{aside_differs}
 
@@ -52,8 +52,11 @@ bridge_slot w slots f = at_slot (reset_aside w slots f) _ _ ∙ at_slot f _ _
 vga_slot : (w : Words) (f : Function) → (vga_aside_by w f).slot ≡ f.slot
 vga_slot w f = elim (cases_Bool (is_some w.vga)) [ inl counts ↦ rw counts refl | inr other ↦ rw other refl ]
 
+isa_slot : (w : Words) (f : Function) → (isa_aside_by w f).slot ≡ f.slot
+isa_slot w f = elim (cases_Bool w.isa) [ inl counts ↦ rw counts refl | inr other ↦ rw other refl ]
+
 first_slot : (w : Words) (f : Function) → (first_aside w f).slot ≡ f.slot
-first_slot w f = let shown = aside_differs w f in vga_slot w (windows_aside w f) ∙ shown.slot
+first_slot w f = let shown = aside_differs w f in isa_slot w (vga_aside_by w (windows_aside w f)) ∙ vga_slot w (windows_aside w f) ∙ shown.slot
 
 cardbus_slot : (w : Words) (f : Function) → (cardbus_aside w f).slot ≡ f.slot
 cardbus_slot w f = cond_both (w.cardbus && is_cardbus f) (without_socket f) f (λ g. g.slot ≡ f.slot) (λ counts. refl) (λ other. refl)

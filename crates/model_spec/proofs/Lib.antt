@@ -1,7 +1,7 @@
 pub mod Changes
 pub mod Examples
 pub mod Kept
-pub mod NoVga
+pub mod NoEnables
 mod HeaderLaws
 mod Others
 mod ShownWindows

@@ -4,21 +4,21 @@ use Rattle.std.specs.Bool.{IsTrue, if◌then◌else◌}
 use Rattle.std.proofs.lemmas.Bool.{and_left, and_parts, and_right, both_ways, cases_Bool, cases_lt, cond_both, eqb-true, ne_eqb, or_cases, or_left}
 use Rattle.std.proofs.lemmas.List.{get_or-set_same, get_or-set_other, get_or_past, length-set}
 use Rattle.pci_spec.specs.Number.{byte_at, IsImage}
-use Rattle.pci_spec.specs.Registers.{COMMAND, STATUS, INTERFACE, HEADER_TYPE, PRIMARY_BUS, SECONDARY_BUS, SUBORDINATE_BUS, BRIDGE_CONTROL, SECONDARY_BUS_RESET, VGA_ENABLE}
+use Rattle.pci_spec.specs.Registers.{COMMAND, STATUS, INTERFACE, HEADER_TYPE, PRIMARY_BUS, SECONDARY_BUS, SUBORDINATE_BUS, BRIDGE_CONTROL, SECONDARY_BUS_RESET, ISA_ENABLE, VGA_ENABLE}
 use Rattle.pci_spec.specs.Header.{class_code, layout}
 use Rattle.pci_spec.specs.Slot.{Slot}
 use Rattle.pci_spec.specs.System.{Function, is_bridge}
 use Rattle.pci_spec.specs.Decoded.{bridge_of, record_of}
 use Rattle.pci_spec.specs.Fault.{controls_bridge, is_subtractive_bridge}
 use Rattle.pci_spec.specs.Order.{Place}
-use Rattle.given_spec.specs.Words.{without_vga, vga_aside}
+use Rattle.given_spec.specs.Words.{without_isa, without_vga, isa_aside, vga_aside}
 use Rattle.model_spec.specs.Words.{Words, no_words}
 use Rattle.model_spec.specs.Bytes.{out_of_reset, positive, switched_off}
-use Rattle.model_spec.specs.Taken.{HasNoOwnFaultBefore, IsTakenAs, IsWhere, bridge_aside, cardbus_aside, first_aside, has_legacy_by, is_cardbus, has_numbers, is_anyone_behind, is_ide, is_unnumbered, is_unnumbered_bridge, may_have_parts_by, parts_aside, reset_aside, windows_aside, function_with_image, without_buses, without_channels, without_socket}
+use Rattle.model_spec.specs.Taken.{HasNoOwnFaultBefore, IsTakenAs, IsWhere, bridge_aside, cardbus_aside, first_aside, has_legacy_by, is_cardbus, has_numbers, is_anyone_behind, is_ide, is_unnumbered, is_unnumbered_bridge, may_have_parts_by, parts_aside, reset_aside, vga_aside_by, windows_aside, function_with_image, without_buses, without_channels, without_socket}
 use Rattle.model_spec.specs.WordsLaws.{IdeLeavesOthers, UnnumberedLeavesOthers, UnnumberedLeavesNumbers, IdeAloneLeavesOthers, UnnumberedAloneLeavesOthers}
 use Rattle.model_spec.proofs.Kept.{taken_same, unnumbered_is_bridge}
 use Rattle.model_spec.proofs.WindowBytes.{IsOutside, aside_differs}
-use Rattle.model_spec.proofs.NoVga.{off_at}
+use Rattle.model_spec.proofs.NoEnables.{off_at}
 
 -- ---- which bytes words change
 
@@ -48,6 +48,9 @@ control_alike image n = record {
 
 vga_alike : (image : List ℕ) → IsAlike image (without_vga image)
 vga_alike image = cond_both (controls_bridge image VGA_ENABLE) _ image (λ x. IsAlike image x) (λ on. control_alike image _) (λ off. alike_itself image)
+
+isa_alike : (image : List ℕ) → IsAlike image (without_isa image)
+isa_alike image = cond_both (controls_bridge image ISA_ENABLE) _ image (λ x. IsAlike image x) (λ on. control_alike image _) (λ off. alike_itself image)
 
 off_alike : (image : List ℕ) → IsAlike image (switched_off image)
 off_alike image = record {
@@ -84,8 +87,10 @@ windows_alike w f =
 start_alike : (w : Words) (f : Function) → IsAlike f.image (first_aside w f).image
 start_alike w f =
     let g = windows_aside w f in
-    let second : IsAlike g.image (first_aside w f).image = cond_both (is_some w.vga) (vga_aside g) g (λ x. IsAlike g.image x.image) (λ on. vga_alike g.image) (λ off. alike_itself g.image) in
-    alike_through f.image g.image (first_aside w f).image (windows_alike w f) second
+    let k = vga_aside_by w g in
+    let second : IsAlike g.image k.image = cond_both (is_some w.vga) (vga_aside g) g (λ x. IsAlike g.image x.image) (λ on. vga_alike g.image) (λ off. alike_itself g.image) in
+    let third : IsAlike k.image (first_aside w f).image = cond_both w.isa (isa_aside k) k (λ x. IsAlike k.image x.image) (λ on. isa_alike k.image) (λ off. alike_itself k.image) in
+    alike_through f.image k.image (first_aside w f).image (alike_through f.image g.image k.image (windows_alike w f) second) third
 
 -- a function before its parts are looked at
 pub before_alike : (w : Words) (slots : List Slot) (f h : Function) (t : IsTakenAs w slots f h) → IsAlike f.image (bridge_aside w slots t.g).image

@@ -11,7 +11,7 @@ use Rattle.pci_spec.specs.Bus.{is_behind}
 use Rattle.pci_spec.specs.Decoded.{Bridge, DecodedBar, DecodedRom, DecodedWindow, DecodedWindows, Record, record_of}
 use Rattle.pci_spec.specs.Fault.{Fault, IsIn, IsNotInD0, controls_bridge, is_subtractive_bridge}
 use Rattle.pci_spec.specs.Order.{Phase, Profile, Place, phase_key, phase_of}
-use Rattle.given_spec.specs.Words.{has_legacy, vga_aside}
+use Rattle.given_spec.specs.Words.{has_legacy, isa_aside, vga_aside}
 use Rattle.model_spec.specs.Words.{Words}
 use Rattle.model_spec.specs.Bytes.{as_bare_device, as_device, device_read_backs, out_of_reset, positive, switched_off, without_bars, without_registers}
 use Rattle.model_spec.specs.Windows.{windows_as_shown}
@@ -35,15 +35,19 @@ function_with_image f image = record { slot = f.slot; image = image; probe = f.p
 abbrev pub windows_aside : Words → Function → Function
 windows_aside w f = if w.windows && is_bridge f then windows_as_shown f else f
 
--- ---- vga
+-- ---- vga, isa
 
 -- a bridge without VGA Enable, where its legacy part is given beside the system (Bridge 1.2, 3.2.5.18)
 abbrev pub vga_aside_by : Words → Function → Function
 vga_aside_by w f = if is_some w.vga then vga_aside f else f
 
--- what is left aside before anything is asked of a function: the read backs of windows, and VGA Enable
+-- one without ISA Enable, where the bridges that have it are given beside the system (Bridge 1.2, 3.2.5.18)
+abbrev pub isa_aside_by : Words → Function → Function
+isa_aside_by w f = if w.isa then isa_aside f else f
+
+-- what is left aside before anything is asked of a function: the read backs of windows, VGA Enable and ISA Enable
 abbrev pub first_aside : Words → Function → Function
-first_aside w f = vga_aside_by w (windows_aside w f)
+first_aside w f = isa_aside_by w (vga_aside_by w (windows_aside w f))
 
 -- whether a function has a legacy part that is given
 abbrev pub has_legacy_by : Words → Function → Bool
@@ -169,8 +173,8 @@ abbrev pub IsWhere : Type 0 → Function → Function → Function → Type 0
 IsWhere Condition f changed g = (Condition × (g ≡ changed)) ⊎ ((Condition → ⊥) × (g ≡ f))
 
 -- The function h is how f is taken. What is wrong with it by itself is told before all else: `power` leaves a function be
--- whose registers or list don't decode, `ide` and `unnumbered` one that has any fault by itself. Read backs of windows and
--- VGA Enable are left aside first, so that they are no such faults where words for them count. A CardBus bridge is left as
+-- whose registers or list don't decode, `ide` and `unnumbered` one that has any fault by itself. Read backs of
+-- windows, VGA Enable and ISA Enable are left aside first, so that they are no such faults where words for them count. A CardBus bridge is left as
 -- it is by all other words, as its header is such a fault.
 pub record IsTakenAs (w : Words) (slots : List Slot) (f h : Function) : Type 0 where
   pub g : Function

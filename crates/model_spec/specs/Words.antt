@@ -9,6 +9,8 @@ pub record Words : Type 0 where
   pub cardbus : Bool
   -- IDE channels in compatibility mode answer fixed ports, and not their BARs
   pub ide : Bool
+  -- a bridge may have ISA Enable set: which bridges do is given beside the system
+  pub isa : Bool
   -- what isn't in D0 decodes nothing
   pub power : Bool
   -- a bridge may hold its secondary bus in reset where nothing is listed behind it
@@ -27,6 +29,7 @@ no_words =
     record {
       cardbus = false;
       ide = false;
+      isa = false;
       power = false;
       reset = false;
       subtractive = false;
@@ -40,6 +43,7 @@ all_words =
     record {
       cardbus = true;
       ide = true;
+      isa = true;
       power = true;
       reset = true;
       subtractive = true;
@@ -52,6 +56,7 @@ all_words =
 pub data Name : Type 0 where
   Cardbus : Name
   Ide : Name
+  Isa : Name
   Power : Name
   Reset : Name
   Subtractive : Name
@@ -62,6 +67,7 @@ pub data Name : Type 0 where
 abbrev pub name_text : Name → List ℕ
 name_text Cardbus = codes "cardbus"
 name_text Ide = codes "ide"
+name_text Isa = codes "isa"
 name_text Power = codes "power"
 name_text Reset = codes "reset"
 name_text Subtractive = codes "subtractive"
@@ -74,6 +80,7 @@ name_text Windows = codes "windows"
 abbrev pub IsCounted : Words → Name → Type 0
 IsCounted w Cardbus = IsTrue w.cardbus
 IsCounted w Ide = IsTrue w.ide
+IsCounted w Isa = IsTrue w.isa
 IsCounted w Power = IsTrue w.power
 IsCounted w Reset = IsTrue w.reset
 IsCounted w Subtractive = IsTrue w.subtractive

@@ -3,7 +3,7 @@ use Rattle.std.specs.Prelude.{◌≡◌, ◌↔◌, ℕ, Bool, true, false, ◌&
 use Rattle.std.specs.List.{Contains}
 use Rattle.pci_spec.specs.Slot.{Slot}
 use Rattle.pci_spec.specs.Number.{IsImage}
-use Rattle.pci_spec.specs.Registers.{SECONDARY_BUS_RESET, VGA_ENABLE}
+use Rattle.pci_spec.specs.Registers.{ISA_ENABLE, SECONDARY_BUS_RESET, VGA_ENABLE}
 use Rattle.pci_spec.specs.System.{System, Function, Space, Part, Claims, is_bridge}
 use Rattle.pci_spec.specs.Window.{WindowKind, bounds_at, breaks_window_rule, is_zero}
 use Rattle.pci_spec.specs.Decoded.{IsDecodable, bridge_of, record_of}
@@ -56,6 +56,12 @@ TakenHasNoVgaEnable =
     (w : Words) (slots : List Slot) (f h : Function) → IsImage f.image → IsTrue (is_some w.vga)
     → IsTakenAs w slots f h → IsFalse (controls_bridge h.image VGA_ENABLE)
 
+-- What is taken with `isa` has no ISA Enable.
+abbrev pub TakenHasNoIsaEnable : Type 0
+TakenHasNoIsaEnable =
+    (w : Words) (slots : List Slot) (f h : Function) → IsImage f.image → IsTrue w.isa
+    → IsTakenAs w slots f h → IsFalse (controls_bridge h.image ISA_ENABLE)
+
 -- A function that can have no part for which a word counts is left as it is.
 abbrev pub NoPartsChangeNothing : Type 0
 NoPartsChangeNothing =
@@ -100,6 +106,13 @@ abbrev pub IdeLeavesOthers : Type 0
 IdeLeavesOthers =
     (w : Words) (slots : List Slot) (f h : Function) → IsImage f.image → IsFalse (is_ide f.image)
     → IsTakenAs w slots f h ↔ IsTakenAs (record w { ide = false }) slots f h
+
+-- What is no bridge with ISA Enable is taken with `isa` as without it.
+abbrev pub IsaLeavesOthers : Type 0
+IsaLeavesOthers =
+    (w : Words) (slots : List Slot) (f h : Function) → IsImage f.image
+    → IsFalse (controls_bridge f.image ISA_ENABLE)
+    → IsTakenAs w slots f h ↔ IsTakenAs (record w { isa = false }) slots f h
 
 -- What is taken with `unnumbered` is taken so without it, unless it is an unnumbered bridge as the other words take it.
 abbrev pub UnnumberedLeavesOthers : Type 0

@@ -1,6 +1,6 @@
 //! Laws of words. These functions do nothing: each contract is a law.
 
-ghost use Rattle.model_spec.specs.WordsLaws.{NoWordsChangeNothing, SlotsAreKept, OffByWordsClaimsNothing, OffShowsNoState, OutOfResetIs, PositiveIs, DeviceLeadsNowhere, SocketIsBare, SocketShowsNoState, ShownWindowsAreLawful, ShownWindowsKeepPages, TakenHasNoVgaEnable, NoPartsChangeNothing, IdeLeavesOthers, UnnumberedLeavesOthers, UnnumberedLeavesNumbers, CardbusLeavesOthers, OthersLeaveCardbus, WindowsLeaveOthers, BothLeaveOthers, IdeAloneLeavesOthers, UnnumberedAloneLeavesOthers};
+ghost use Rattle.model_spec.specs.WordsLaws.{NoWordsChangeNothing, SlotsAreKept, OffByWordsClaimsNothing, OffShowsNoState, OutOfResetIs, PositiveIs, DeviceLeadsNowhere, SocketIsBare, SocketShowsNoState, ShownWindowsAreLawful, ShownWindowsKeepPages, TakenHasNoIsaEnable, TakenHasNoVgaEnable, NoPartsChangeNothing, IdeLeavesOthers, UnnumberedLeavesOthers, UnnumberedLeavesNumbers, CardbusLeavesOthers, OthersLeaveCardbus, IsaLeavesOthers, WindowsLeaveOthers, BothLeaveOthers, IdeAloneLeavesOthers, UnnumberedAloneLeavesOthers};
 
 /// Without words a system is taken as it is.
 pub fn no_words_change_nothing()
@@ -39,6 +39,11 @@ pub fn taken_functions_have_no_vga_enable()
     ensures none { TakenHasNoVgaEnable }
 {}
 
+/// What is taken with `isa` is no bridge with ISA Enable.
+pub fn taken_functions_have_no_isa_enable()
+    ensures none { TakenHasNoIsaEnable }
+{}
+
 /// A function that can have no part for which a word counts is left as it is, whatever is wrong with it.
 pub fn functions_without_parts_are_kept()
     ensures kept { NoPartsChangeNothing }
@@ -54,10 +59,11 @@ pub fn words_leave_others_alone()
     ensures unnumbered_alone { UnnumberedAloneLeavesOthers }
 {}
 
-/// The words `cardbus` and `windows` leave each function alone that is no CardBus bridge, or that has no window with a 26,
-/// whatever other words count. All other words leave a CardBus bridge alone.
+/// The words `cardbus`, `isa` and `windows` leave each function alone that is no CardBus bridge, that has no ISA Enable, or
+/// that has no window with a 26, whatever other words count. All other words leave a CardBus bridge alone.
 pub fn words_leave_other_headers_alone()
     ensures cardbus { CardbusLeavesOthers }
+    ensures isa { IsaLeavesOthers }
     ensures windows { WindowsLeaveOthers }
     ensures both { BothLeaveOthers }
     ensures others { OthersLeaveCardbus }

@@ -62,7 +62,7 @@ ten_bits_clash : IsIn (legacy_at (legacy_bridges Vga (beside 8))) host (beside 8
 ten_bits_clash = record {
   gets = (0, (0, lit< tt, refl), refl, [], refl, refl);
   claims_first = (vga_bridge 1 1 0x010100 8, Legacy, (0, lit< tt, refl), refl, refl, refl, record { address = lit< tt; claims = refl });
-  claims_second = (ports, Own (Bar 0), (1, lit< tt, refl), refl, refl, refl, ports_claim);
+  claims_second = (ports, Own (Bar 0), (1, lit< tt, refl), refl, refl, refl, record { claims = ports_claim; kept = refl });
   differ = λ same. other_device 1 2 (λ e. omega (arith, e)) same.0;
   apart = refl;
 }

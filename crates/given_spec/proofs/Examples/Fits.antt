@@ -132,11 +132,11 @@ not_beside a (inr roots) = elim (in_cons_cases 0 [] 1 roots.0) [
 ]
 
 taken_by_small : (a : ℕ) (part : claims.Part) → claims.Claims nothing_given small part Memory a → a ≤ 0xe0000fff
-taken_by_small a (Own part) c = small_parts part a c
+taken_by_small a (Own part) own = small_parts part a own.claims
 taken_by_small a Legacy c = no c.claims
 
 not_by_itself : (a : ℕ) (part : claims.Part) → ((large.slot ≡ of_large.slot) × (claims.register_of large part ≡ 0x10) → ⊥) → claims.Claims nothing_given large part Memory a → ⊥
-not_by_itself a (Own part) other c = other (refl, ap (λ p. system.register_of large p) (large_parts part a c))
+not_by_itself a (Own part) other own = other (refl, ap (λ p. system.register_of large p) (large_parts part a own.claims))
 not_by_itself a Legacy other c = no c.claims
 
 taken_below : (a : ℕ) → Taken a → a ≤ 0xe0000fff
@@ -157,7 +157,7 @@ first_is_taken = record {
   beside = inl refl;
   other = λ same. let device = ap (λ (x : Slot). x.device) same.0 in omega (arith, device);
   apart = refl;
-  claims = small_claims;
+  claims = record { claims = small_claims; kept = refl };
 }
 
 -- ---- what the bridge passes
@@ -178,12 +178,12 @@ is_passed a low high = (
   refl,
   above ∷ [],
   ((0, lit< tt, refl), refl, refl, refl),
-  ap (λ held. ((held || false) || false) && true) ((held_range a).0 (low, high)),
+  ap (λ held. (((held || false) && true) || false) && true) ((held_range a).0 (low, high)),
 )
 
 passes_from : (a : ℕ) → passes nothing_given Memory false a above ≡ true → 0xe0000000 ≤ a
-passes_from a is = elim (or_cases (is_held a || false) false is) [
-  | inl some ↦ elim (or_cases (is_held a) false some) [
+passes_from a is = elim (or_cases ((is_held a || false) && true) false is) [
+  | inl some ↦ elim (or_cases (is_held a) false (and_parts (is_held a || false) true some).0) [
     | inl held ↦ ((held_range a).1 held).0
     | inr none ↦ no none
   ]

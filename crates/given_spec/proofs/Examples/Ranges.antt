@@ -17,7 +17,7 @@ abbrev pub to_root : ℕ → ℕ → ℕ → HostRange
 to_root root first last = record { root = Some root; first = first; last = last }
 
 abbrev pub sent_memory : List HostRange → Given
-sent_memory ranges = record { io = None; memory = Some ranges; legacy = [] }
+sent_memory ranges = record { io = None; memory = Some ranges; legacy = []; isa = [] }
 
 -- ---- where accesses start: both ends of a range are sent, by the space and by the root
 
@@ -75,8 +75,8 @@ are_split = record {
   buses = λ e. omega (arith, e);
   sent_first = refl;
   sent_second = refl;
-  claims_first = (half 0, Own (Bar 0), (0, lit< tt, refl), refl, refl, refl, half_claims 0);
-  claims_second = (half 0x40, Own (Bar 0), (1, lit< tt, refl), refl, refl, refl, half_claims 0x40);
+  claims_first = (half 0, Own (Bar 0), (0, lit< tt, refl), refl, refl, refl, record { claims = half_claims 0; kept = refl });
+  claims_second = (half 0x40, Own (Bar 0), (1, lit< tt, refl), refl, refl, refl, record { claims = half_claims 0x40; kept = refl });
 }
 
 abbrev each_its_own : Given

@@ -12,7 +12,7 @@ use Rattle.given_spec.specs.Why.{Own, Legacy, IsFit, IsFitBehind, legacy_words, 
 use Rattle.given_spec.proofs.Examples.Ranges.{to_each, to_root, sent_memory}
 use Rattle.given_spec.proofs.Examples.Legacy.{legacy_at}
 
-abbrev line : List ℕ → List ℕ
+abbrev pub line : List ℕ → List ℕ
 line text = text ++ 10 ∷ []
 
 -- ---- legacy parts: the word is that of the bridge, and 10 bits count where an entry has them
