@@ -1,14 +1,13 @@
 -- What `cardbus` and `windows` leave alone, and what other words leave alone of a CardBus bridge.
-use Rattle.std.proofs.Common.{◌≡◌, ℕ, suc, ◌+◌, ◌*◌, ◌/◌, ◌%◌, ◌==◌, List, [], ◌∷◌, length, set, Bool, true, false, ◌&&◌, ◌||◌, not, inl, inr, refl, sym, ◌∙◌, ap, subst, arith, lit<, is_some}
+use Rattle.std.proofs.Common.{◌≡◌, ℕ, suc, ◌+◌, ◌*◌, ◌/◌, ◌%◌, ◌==◌, List, [], ◌∷◌, set, Bool, true, false, ◌&&◌, ◌||◌, not, inl, inr, refl, sym, ◌∙◌, ap, subst, arith, lit<, is_some}
 use Rattle.std.specs.Prelude.{◌↔◌}
 use Rattle.std.specs.Bool.{IsTrue, IsFalse, if◌then◌else◌}
 use Rattle.std.specs.Int.{bit_at}
 use Rattle.std.specs.List.{Contains}
-use Rattle.std.proofs.lemmas.Bool.{and_left, and_parts, and_right, both_ways, cases_Bool, cond_both, eqb-true, ne_eqb}
-use Rattle.std.proofs.Math.Bool.{and-false}
+use Rattle.std.proofs.lemmas.Bool.{and_left, and_parts, and_right, cases_Bool, cond_both, eqb-true, ne_eqb}
 use Rattle.std.proofs.lemmas.List.{get_or-set_same, get_or-set_other}
 use Rattle.pci_spec.specs.Registers.{HEADER_TYPE, BRIDGE_CONTROL, ISA_ENABLE, SECONDARY_BUS_RESET, VGA_ENABLE}
-use Rattle.pci_spec.specs.Header.{bridge_control, class_code, layout}
+use Rattle.pci_spec.specs.Header.{bridge_control, layout}
 use Rattle.pci_spec.specs.Number.{byte_at, has_bit, IsImage}
 use Rattle.pci_spec.specs.Slot.{Slot}
 use Rattle.pci_spec.specs.System.{Function, System, is_bridge}
@@ -19,7 +18,7 @@ use Rattle.given_spec.specs.Words.{isa_aside, vga_aside, without_vga}
 use Rattle.model_spec.specs.Words.{Words}
 use Rattle.model_spec.specs.Bytes.{switched_off}
 use Rattle.model_spec.specs.Windows.{window_as_shown, windows_as_shown}
-use Rattle.model_spec.specs.Taken.{AreFunctionsTakenAs, HasNoOwnFaultBefore, IsAsleep, IsTakenAs, IsWhere, bridge_aside, cardbus_aside, compatible_bars, first_aside, function_with_image, has_legacy_by, is_anyone_behind, is_cardbus, is_ide, is_unnumbered, isa_aside_by, may_have_parts_by, parts_aside, reset_aside, vga_aside_by, windows_aside, without_channels, without_socket}
+use Rattle.model_spec.specs.Taken.{AreFunctionsTakenAs, HasNoOwnFaultBefore, IsAsleep, IsTakenAs, IsWhere, bridge_aside, cardbus_aside, compatible_bars, first_aside, function_with_image, has_legacy_by, is_anyone_behind, is_cardbus, is_ide, is_unnumbered, isa_aside_by, may_have_parts_by, parts_aside, vga_aside_by, windows_aside, without_socket}
 use Rattle.model_spec.specs.WordsLaws.{BothLeaveOthers, CardbusLeavesOthers, IsaLeavesOthers, OthersLeaveCardbus, WindowsLeaveOthers, has_bad_window}
 use Rattle.model_spec.proofs.Changes.{device_is_device}
 use Rattle.model_spec.proofs.NoEnables.{bars_stay, is_controller, where_either}

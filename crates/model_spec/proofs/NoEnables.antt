@@ -5,7 +5,7 @@ use Rattle.std.specs.Int.{bit_at}
 use Rattle.std.proofs.lemmas.Bool.{and_left, both_ways, cases_Bool, cases_eq, cases_lt, cond_both, ne_eqb, true_from_ne_false}
 use Rattle.std.proofs.Math.Bool.{and-false}
 use Rattle.std.proofs.lemmas.List.{get_or-set_same, get_or-set_other, get_or_past, length-set}
-use Rattle.pci_spec.specs.Number.{byte_at, has_bit, IsImage}
+use Rattle.pci_spec.specs.Number.{byte_at, has_bit}
 use Rattle.pci_spec.specs.Registers.{COMMAND, STATUS, INTERFACE, HEADER_TYPE, BRIDGE_CONTROL, SECONDARY_BUS_RESET, ISA_ENABLE, VGA_ENABLE}
 use Rattle.pci_spec.specs.Header.{bridge_control, layout}
 use Rattle.pci_spec.specs.Slot.{Slot}
@@ -15,7 +15,7 @@ use Rattle.pci_spec.specs.Fault.{controls_bridge, is_subtractive_bridge}
 use Rattle.given_spec.specs.Words.{isa_aside, vga_aside, without_isa, without_vga}
 use Rattle.model_spec.specs.Words.{Words}
 use Rattle.model_spec.specs.Bytes.{as_bare_device, cleared, out_of_reset, positive, switched_off, width_of, without_bars}
-use Rattle.model_spec.specs.Taken.{IsWhere, bridge_aside, cardbus_aside, compatible_bars, first_aside, has_legacy_by, is_anyone_behind, is_cardbus, is_ide, is_unnumbered, parts_aside, reset_aside, vga_aside_by, windows_aside, function_with_image, without_channels, without_socket}
+use Rattle.model_spec.specs.Taken.{IsTakenAs, IsWhere, bridge_aside, cardbus_aside, compatible_bars, first_aside, has_legacy_by, is_anyone_behind, is_cardbus, is_ide, is_unnumbered, parts_aside, reset_aside, vga_aside_by, windows_aside, function_with_image, without_channels, without_socket}
 use Rattle.model_spec.specs.WordsLaws.{TakenHasNoIsaEnable, TakenHasNoVgaEnable}
 use Rattle.model_spec.proofs.Changes.{bare_is_device, device_is_none}
 use Rattle.model_spec.proofs.WindowBytes.{aside_differs}
@@ -105,7 +105,8 @@ kept_by_reset bit (inr vga) control high =
 reset_stays_off : (bit : ℕ) → IsEnable bit → (image : List ℕ) → IsOff bit image → IsOff bit (out_of_reset image)
 reset_stays_off bit which image is =
     let control = byte_at image BRIDGE_CONTROL in
-    written_off bit image (control / 128 * 128 + control % 64) (kept_by_reset bit which control (byte_at image (BRIDGE_CONTROL + 1))) is
+    let whole : control + 256 * byte_at image (BRIDGE_CONTROL + 1) ≡ bridge_control image = omega arith in
+    written_off bit image (control / 128 * 128 + control % 64) (kept_by_reset bit which control (byte_at image (BRIDGE_CONTROL + 1)) ∙ ap (λ n. bit_at n bit) whole) is
 
 positive_stays_off : (bit : ℕ) (image : List ℕ) → IsOff bit image → IsOff bit (positive image)
 positive_stays_off bit image is =

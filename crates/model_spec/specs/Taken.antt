@@ -173,9 +173,9 @@ abbrev pub IsWhere : Type 0 → Function → Function → Function → Type 0
 IsWhere Condition f changed g = (Condition × (g ≡ changed)) ⊎ ((Condition → ⊥) × (g ≡ f))
 
 -- The function h is how f is taken. What is wrong with it by itself is told before all else: `power` leaves a function be
--- whose registers or list don't decode, `ide` and `unnumbered` one that has any fault by itself. Read backs of
--- windows, VGA Enable and ISA Enable are left aside first, so that they are no such faults where words for them count. A CardBus bridge is left as
--- it is by all other words, as its header is such a fault.
+-- whose registers or list don't decode, `ide` and `unnumbered` one that has any fault by itself. Read backs of windows,
+-- VGA Enable and ISA Enable are left aside first, so that they are no such faults where words for them count. A CardBus
+-- bridge is left as it is by all other words, as its header is such a fault.
 pub record IsTakenAs (w : Words) (slots : List Slot) (f h : Function) : Type 0 where
   pub g : Function
   pub k : Function
