@@ -203,4 +203,4 @@ pub map_is_determined : MapIsDetermined
 map_is_determined given roots s m n is also = same_map given roots s m n is also
 
 pub text_is_determined : MapTextIsDetermined
-text_is_determined given roots s text other h k = h.says ∙ ap (λ (m : Map). map_text_of m s) (same_map given roots s h.m k.m h.is k.is) ∙ sym k.says
+text_is_determined given roots s text other h k = h.says ∙ ap (λ (m : Map). map_text_of given m s) (same_map given roots s h.m k.m h.is k.is) ∙ sym k.says

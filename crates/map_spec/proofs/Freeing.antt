@@ -16,8 +16,8 @@ runs_have P rs a are = (
 )
 
 module _ (given : Given) (roots : List ℕ) (s : System) (space : Space) (lines : Lines) (a : ℕ) where
-  pub run_is_free : (w : Region) → AreLinesAt given roots s space (Inside w) lines → Any (λ r. InRange r a) (runs_at lines) ↔ IsFreeIn s w a
-  run_is_free w are = runs_have (IsFreeIn s w) (runs_at lines) a are.free
+  pub run_is_free : (w : Region) → AreLinesAt given roots s space (Inside w) lines → Any (λ r. InRange r a) (runs_at lines) ↔ IsFreeIn given s w a
+  run_is_free w are = runs_have (IsFreeIn given s w) (runs_at lines) a are.free
 
   pub run_on_root : (bus : ℕ) → AreLinesAt given roots s space (OnRoot bus) lines → Any (λ r. InRange r a) (runs_at lines) ↔ IsFreeOn given s bus space a
   run_on_root bus are = runs_have (IsFreeOn given s bus space) (runs_at lines) a are.free

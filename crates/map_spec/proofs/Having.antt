@@ -15,7 +15,7 @@ use Rattle.pci_spec.proofs.BusRanges.{root_means}
 use Rattle.pci_spec.proofs.Firsts.{slot_of}
 use Rattle.pci_spec.proofs.Nesting.{one_function}
 use Rattle.pci_spec.proofs.Regions.{part_same}
-use Rattle.given_spec.specs.Given.{Given}
+use Rattle.given_spec.specs.Given.{Given, is_cut}
 use Rattle.map_spec.specs.Lines.{is_first_window, BelongsUnder, IsOutOfPlace, MapPlace, OnRoot, Inside, Lines, End, Free, Sits, regions_at, all_regions, AreLinesAt, AreInside, AreAllInside, AreLinesOfPlace}
 use Rattle.map_spec.specs.Map.{MapRoot, Map, HasWay, IsMap, regions_on, regions_in}
 use Rattle.map_spec.specs.MapLaws.{WindowsAreInPlace}
@@ -57,13 +57,13 @@ module _ (given : Given) (roots : List ℕ) (s : System) (space : Space) where
 
   -- what belongs under a window that has a line has one
   pub below_window : (lines : Lines) (w q : Region) (kind : WindowKind) → w.part ≡ Window kind → AreAllInside given roots s space lines → Contains (all_regions lines) w
-      → IsOf q → BelongsUnder s w q → Contains (all_regions lines) q
+      → IsOf q → BelongsUnder given s w q → Contains (all_regions lines) q
   below_window End w q kind window inside has of under = absurd (in_nil w has)
   below_window (Free r rest) w q kind window inside has of under = below_window rest w q kind window inside has of under
   below_window (Sits p below rest) w q kind window inside has of under = elim (in_cons_cases p (all_regions below ++ all_regions rest) w has) [
     | inl first ↦ (
         let here : AreLinesAt given roots s space (Inside p) below = subst (λ part. AreInside part below (AreLinesAt given roots s space (Inside p) below)) (ap (λ (z : Region). z.part) first ∙ window) inside.0 in
-        let there : Contains (regions_at below) q = here.complete q of.0 of.1 (subst (λ z. BelongsUnder s z q) (sym first) under) of.2 in
+        let there : Contains (regions_at below) q = here.complete q of.0 of.1 (subst (λ z. BelongsUnder given s z q) (sym first) under) of.2 in
         in_tail p (all_regions below ++ all_regions rest) q (Contains-append_left (all_regions below) (all_regions rest) q (stands_there below q there)))
     | inr later ↦ in_tail p (all_regions below ++ all_regions rest) q (elim (Contains-append_cases (all_regions below) (all_regions rest) w later) [
       | inl within ↦ Contains-append_left (all_regions below) (all_regions rest) q (below_window below w q kind window inside.1 within of under)
@@ -74,40 +74,40 @@ module _ (given : Given) (roots : List ℕ) (s : System) (space : Space) where
 -- ---- windows
 
 -- a window that claims an address forwards its own space
-pub first_space : (space : Space) (kind : WindowKind) (a : ℕ) (b : Function) → IsTrue (is_first_window space kind a b) → window_space kind ≡ space
-first_space Io IoWindow a b is = refl
-first_space Io MemoryWindow a b is = absurd (false≢true is)
-first_space Io PrefetchWindow a b is = absurd (false≢true is)
-first_space Memory IoWindow a b is = absurd (false≢true is)
-first_space Memory MemoryWindow a b is = refl
-first_space Memory PrefetchWindow a b is = refl
+pub first_space : (given : Given) (space : Space) (kind : WindowKind) (a : ℕ) (b : Function) → IsTrue (is_first_window given space kind a b) → window_space kind ≡ space
+first_space given Io IoWindow a b is = refl
+first_space given Io MemoryWindow a b is = absurd (false≢true is)
+first_space given Io PrefetchWindow a b is = absurd (false≢true is)
+first_space given Memory IoWindow a b is = absurd (false≢true is)
+first_space given Memory MemoryWindow a b is = refl
+first_space given Memory PrefetchWindow a b is = refl
 
-pub first_claims : (space : Space) (kind : WindowKind) (a : ℕ) (b : Function) → IsTrue (is_first_window space kind a b) → IsTrue (window_claims b kind a)
-first_claims Io IoWindow a b is = is
-first_claims Io MemoryWindow a b is = absurd (false≢true is)
-first_claims Io PrefetchWindow a b is = absurd (false≢true is)
-first_claims Memory IoWindow a b is = absurd (false≢true is)
-first_claims Memory MemoryWindow a b is = is
-first_claims Memory PrefetchWindow a b is = (and_parts (window_claims b PrefetchWindow a) (not (window_claims b MemoryWindow a)) is).0
+pub first_claims : (given : Given) (space : Space) (kind : WindowKind) (a : ℕ) (b : Function) → IsTrue (is_first_window given space kind a b) → IsTrue (window_claims b kind a)
+first_claims given Io IoWindow a b is = (and_parts (window_claims b IoWindow a) (not (is_cut given Io a b.slot)) is).0
+first_claims given Io MemoryWindow a b is = absurd (false≢true is)
+first_claims given Io PrefetchWindow a b is = absurd (false≢true is)
+first_claims given Memory IoWindow a b is = absurd (false≢true is)
+first_claims given Memory MemoryWindow a b is = is
+first_claims given Memory PrefetchWindow a b is = (and_parts (window_claims b PrefetchWindow a) (not (window_claims b MemoryWindow a)) is).0
 
 -- a region's first address is one that it claims
 pub first_claimed : (s : System) (q : Region) (is : IsRegionIn s q) → Claims is.f q.part q.space q.range.first
 first_claimed s q is = (is.claims q.range.first).0 (omega arith, is.some)
 
 -- a window has the space of what belongs under it
-pub window_has_space : (s : System) (w q : Region) → IsRegionIn s w → BelongsUnder s w q → w.space ≡ q.space
-window_has_space s w q is under =
+pub window_has_space : (given : Given) (s : System) (w q : Region) → IsRegionIn s w → BelongsUnder given s w q → w.space ≡ q.space
+window_has_space given s w q is under =
     let maps : window_space under.kind ≡ w.space = ap (λ part. space_of is.f part) (sym under.window) ∙ (first_claimed s w is).maps in
-    sym maps ∙ first_space q.space under.kind q.range.first under.b under.first
+    sym maps ∙ first_space given q.space under.kind q.range.first under.b under.first
 
 -- and its first address
-pub window_holds : (s : System) (w q : Region) → IsSystem s → IsRegionIn s w → IsRegionIn s q → BelongsUnder s w q → InRange w.range q.range.first
-window_holds s w q system is of under =
+pub window_holds : (given : Given) (s : System) (w q : Region) → IsSystem s → IsRegionIn s w → IsRegionIn s q → BelongsUnder given s w q → InRange w.range q.range.first
+window_holds given s w q system is of under =
     let same : under.b ≡ is.f = one_function s system under.b is.f under.listed is.listed (ap slot_number (under.slot ∙ sym is.slot)) in
     let first = first_claimed s w is in
-    let claims : IsTrue (window_claims is.f under.kind q.range.first) = subst (λ (b : Function). IsTrue (window_claims b under.kind q.range.first)) same (first_claims q.space under.kind q.range.first under.b under.first) in
+    let claims : IsTrue (window_claims is.f under.kind q.range.first) = subst (λ (b : Function). IsTrue (window_claims b under.kind q.range.first)) same (first_claims given q.space under.kind q.range.first under.b under.first) in
     let both = and_parts (is_space_on is.f (window_space under.kind)) (holds under.kind is.f.image is.f.probe q.range.first) claims in
-    let space = window_has_space s w q is under in
+    let space = window_has_space given s w q is under in
     (is.claims q.range.first).1 record {
       there = first.there;
       enabled = first.enabled;
@@ -131,11 +131,11 @@ module _ (given : Given) (roots : List ℕ) (s : System) where
   abbrev pub IsInPlace : Region → Type 0
   IsInPlace q = IsOutOfPlace given roots s q → ⊥
 
-  on_side : (space : Space) (place : MapPlace) (lines : Lines) (w q : Region) → AreLinesOfPlace given roots s space place lines → IsRegionIn s w → IsRegionIn s q → IsInPlace q → BelongsUnder s w q
+  on_side : (space : Space) (place : MapPlace) (lines : Lines) (w q : Region) → AreLinesOfPlace given roots s space place lines → IsRegionIn s w → IsRegionIn s q → IsInPlace q → BelongsUnder given s w q
       → Contains (all_regions lines) w → Contains (all_regions lines) q
   on_side space place lines w q are is of in_place under has =
       let here = line_in_place given roots s space place lines w are has in
-      below_window given roots s space lines w q under.kind under.window are.1 has (of, sym (window_has_space s w q is under) ∙ here.1, in_place) under
+      below_window given roots s space lines w q under.kind under.window are.1 has (of, sym (window_has_space given s w q is under) ∙ here.1, in_place) under
 
   module _ (m : Map) (is : IsMap given roots s m) where
     -- what has a line on or below a root bus
@@ -180,7 +180,7 @@ module _ (given : Given) (roots : List ℕ) (s : System) where
         (stands_there given roots s Memory made.from.memory q ((is.each made.from made.has).memory.0.complete q of at (sym made.is) in_place)))
 
     -- what windows lead to from a root has a line below one
-    pub with_way : (windows : List Region) (q : Region) → IsSystem s → IsRegionIn s q → IsInPlace q → HasWay roots s q windows → Contains (flat_map regions_on m.roots) q
+    pub with_way : (windows : List Region) (q : Region) → IsSystem s → IsRegionIn s q → IsInPlace q → HasWay given roots s q windows → Contains (flat_map regions_on m.roots) q
     with_way [] q system of in_place way = on_root q q.space system of in_place refl way
     with_way (w ∷ windows) q system of in_place way =
         let window : is_window w.part ≡ true = ap is_window way.1.window in

@@ -1,32 +1,33 @@
 -- The lines of a map: which regions stand in which place, and what of a place is free (Bridge 1.2, chapter 4).
-use Rattle.std.specs.Prelude.{◌≡◌, ◌⊎◌, ℕ, ◌+◌, ◌*◌, ◌<◌, Bool, false, ◌&&◌, not, IsTrue, List, [], ◌∷◌, ◌++◌}
+use Rattle.std.specs.Prelude.{◌≡◌, ◌⊎◌, ℕ, ◌+◌, ◌*◌, ◌<◌, Bool, false, ◌&&◌, not, IsTrue, IsFalse, List, [], ◌∷◌, ◌++◌}
 use Rattle.std.specs.Option.{is_some}
 use Rattle.std.specs.List.{AllPairs, Contains}
 use Rattle.pci_spec.specs.Slot.{slot_number}
 use Rattle.pci_spec.specs.Window.{WindowKind, IoWindow, MemoryWindow, PrefetchWindow}
-use Rattle.pci_spec.specs.System.{System, Function, Space, Io, Memory, Part, Bar, Rom, Window, IsAddress, Claims, is_bridge, window_claims}
+use Rattle.pci_spec.specs.System.{System, Function, Space, Io, Memory, Part, Bar, Rom, Window, IsAddress, is_bridge, window_claims}
 use Rattle.pci_spec.specs.Bus.{secondary}
 use Rattle.pci_spec.specs.Decoded.{Range, InRange}
 use Rattle.pci_spec.specs.Why.{Region, IsRegionIn, AreRuns}
 use Rattle.pci_spec.specs.Fault.{address_in, named_region}
-use Rattle.given_spec.specs.Given.{Given, ranges_said, starts}
+use Rattle.given_spec.specs.Given.{Given, ranges_said, starts, is_cut}
+use Rattle.given_spec.specs.Claims.{OwnClaims, is_cut_of}
 use Rattle.given_spec.specs.Fault.{IsOutside}
 
 -- ---- places
 
 -- whether a window of a bridge is the first one, by register, that claims an address of a space
-abbrev pub is_first_window : Space → WindowKind → ℕ → Function → Bool
-is_first_window Io IoWindow a b = window_claims b IoWindow a
-is_first_window Io MemoryWindow a b = false
-is_first_window Io PrefetchWindow a b = false
-is_first_window Memory IoWindow a b = false
-is_first_window Memory MemoryWindow a b = window_claims b MemoryWindow a
-is_first_window Memory PrefetchWindow a b =
+abbrev pub is_first_window : Given → Space → WindowKind → ℕ → Function → Bool
+is_first_window given Io IoWindow a b = window_claims b IoWindow a && not (is_cut given Io a b.slot)
+is_first_window given Io MemoryWindow a b = false
+is_first_window given Io PrefetchWindow a b = false
+is_first_window given Memory IoWindow a b = false
+is_first_window given Memory MemoryWindow a b = window_claims b MemoryWindow a
+is_first_window given Memory PrefetchWindow a b =
     window_claims b PrefetchWindow a && not (window_claims b MemoryWindow a)
 
 -- A region belongs under a window: this is of a bridge to the region's bus, and of that bridge's windows the first that
--- holds the region's first address.
-pub record BelongsUnder (s : System) (w q : Region) : Type 0 where
+-- claims the region's first address.
+pub record BelongsUnder (given : Given) (s : System) (w q : Region) : Type 0 where
   pub b : Function
   pub listed : Contains s b
   pub bridge : IsTrue (is_bridge b)
@@ -34,16 +35,16 @@ pub record BelongsUnder (s : System) (w q : Region) : Type 0 where
   pub leads : secondary b ≡ q.slot.bus
   pub kind : WindowKind
   pub window : w.part ≡ Window kind
-  pub first : IsTrue (is_first_window q.space kind q.range.first b)
+  pub first : IsTrue (is_first_window given q.space kind q.range.first b)
 
 -- where regions stand: on a root bus, or inside a window
 pub data MapPlace : Type 0 where
   OnRoot : ℕ → MapPlace
   Inside : Region → MapPlace
 
-abbrev pub StandsInPlace : System → MapPlace → Region → Type 0
-StandsInPlace s (OnRoot bus) q = q.slot.bus ≡ bus
-StandsInPlace s (Inside w) q = BelongsUnder s w q
+abbrev pub StandsInPlace : Given → System → MapPlace → Region → Type 0
+StandsInPlace given s (OnRoot bus) q = q.slot.bus ≡ bus
+StandsInPlace given s (Inside w) q = BelongsUnder given s w q
 
 -- A BAR or a ROM has an address to which no access of the host starts on the root above it: its line is at no place.
 pub record IsOutOfPlace (given : Given) (roots : List ℕ) (s : System) (q : Region) : Type 0 where
@@ -51,18 +52,19 @@ pub record IsOutOfPlace (given : Given) (roots : List ℕ) (s : System) (q : Reg
   pub outside : IsOutside given roots s (named_region q.slot q.register) (address_in q.space address)
 
 -- an enabled region of a bus claims an address
-pub record IsClaimedOn (s : System) (bus : ℕ) (space : Space) (a : ℕ) : Type 0 where
+pub record IsClaimedOn (given : Given) (s : System) (bus : ℕ) (space : Space) (a : ℕ) : Type 0 where
   pub f : Function
   pub part : Part
   pub listed : Contains s f
   pub on_bus : f.slot.bus ≡ bus
-  pub claims : Claims f part space a
+  pub claims : OwnClaims given f part space a
 
--- an address of a window that no enabled region of its bridge's secondary bus claims
-pub record IsFreeIn (s : System) (w : Region) (a : ℕ) : Type 0 where
+-- an address that a window claims, and no enabled region of its bridge's secondary bus
+pub record IsFreeIn (given : Given) (s : System) (w : Region) (a : ℕ) : Type 0 where
   pub held : InRange w.range a
+  pub kept : IsFalse (is_cut_of given w.part w.space a w.slot)
   pub unclaimed : (b : Function) → Contains s b → b.slot ≡ w.slot
-      → IsClaimedOn s (secondary b) w.space a → ⊥
+      → IsClaimedOn given s (secondary b) w.space a → ⊥
 
 -- an address that the host sends to a root bus, by the list that is said of its space, and that no enabled region of the
 -- bus claims
@@ -70,12 +72,12 @@ pub record IsFreeOn (given : Given) (s : System) (bus : ℕ) (space : Space) (a 
   pub said : IsTrue (is_some (ranges_said given space))
   pub address : IsAddress space a
   pub sent : IsTrue (starts given space bus a)
-  pub unclaimed : IsClaimedOn s bus space a → ⊥
+  pub unclaimed : IsClaimedOn given s bus space a → ⊥
 
 -- what of a place is free
 abbrev pub IsFreeInPlace : Given → System → Space → MapPlace → ℕ → Type 0
 IsFreeInPlace given s space (OnRoot bus) a = IsFreeOn given s bus space a
-IsFreeInPlace given s space (Inside w) a = IsFreeIn s w a
+IsFreeInPlace given s space (Inside w) a = IsFreeIn given s w a
 
 -- ---- lines
 
@@ -133,9 +135,9 @@ pub record AreLinesAt (given : Given) (roots : List ℕ) (s : System) (space : S
     (place : MapPlace) (lines : Lines) : Type 0 where
   pub regions : (q : Region) → Contains (regions_at lines) q → IsRegionIn s q
   pub of_space : (q : Region) → Contains (regions_at lines) q → q.space ≡ space
-  pub stand : (q : Region) → Contains (regions_at lines) q → StandsInPlace s place q
+  pub stand : (q : Region) → Contains (regions_at lines) q → StandsInPlace given s place q
   pub within : (q : Region) → Contains (regions_at lines) q → IsOutOfPlace given roots s q → ⊥
-  pub complete : (q : Region) → IsRegionIn s q → q.space ≡ space → StandsInPlace s place q
+  pub complete : (q : Region) → IsRegionIn s q → q.space ≡ space → StandsInPlace given s place q
       → (IsOutOfPlace given roots s q → ⊥) → Contains (regions_at lines) q
   pub free : AreRuns (IsFreeInPlace given s space place) (runs_at lines)
   pub rising : AllPairs MarkIsBefore (marks lines)

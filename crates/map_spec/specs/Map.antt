@@ -21,13 +21,14 @@ pub record Map : Type 0 where
 
 -- A region has a place on a root bus, or below: windows lead to it from a root, each belonging under the next one of
 -- the list, and the last standing on a root bus.
-abbrev pub HasWay : List ℕ → System → Region → List Region → Type 0
-HasWay roots s q [] = Contains roots q.slot.bus
-HasWay roots s q (w ∷ windows) = IsRegionIn s w × BelongsUnder s w q × HasWay roots s w windows
+abbrev pub HasWay : Given → List ℕ → System → Region → List Region → Type 0
+HasWay given roots s q [] = Contains roots q.slot.bus
+HasWay given roots s q (w ∷ windows) =
+    IsRegionIn s w × BelongsUnder given s w q × HasWay given roots s w windows
 
--- no window holds its first address, or it belongs under one that is itself left
-abbrev pub IsOutsideWindows : List ℕ → System → Region → Type 0
-IsOutsideWindows roots s q = (windows : List Region) → HasWay roots s q windows → ⊥
+-- no window claims its first address, or it belongs under one that is itself left
+abbrev pub IsOutsideWindows : Given → List ℕ → System → Region → Type 0
+IsOutsideWindows given roots s q = (windows : List Region) → HasWay given roots s q windows → ⊥
 
 -- the root buses, rising
 abbrev pub root_buses : List ℕ → List ℕ
@@ -39,7 +40,7 @@ pub record IsRootOfMap (given : Given) (roots : List ℕ) (s : System) (root : M
 
 -- a region that is left, and isn't out of place
 pub record IsOnlyLeft (given : Given) (roots : List ℕ) (s : System) (q : Region) : Type 0 where
-  pub left : IsOutsideWindows roots s q
+  pub left : IsOutsideWindows given roots s q
   pub within : IsOutOfPlace given roots s q → ⊥
 
 -- just the regions of which P holds, by slot and register

@@ -40,13 +40,13 @@ WindowsHoldWhatIsInside =
     → IsSystem s → IsRegionIn s w → AreLinesAt given roots s space (Inside w) lines
     → Contains (regions_at lines) q → InRange w.range q.range.first
 
--- An address has a line `free` under a window exactly where the window holds it and no enabled region of the bridge's
--- secondary bus claims it.
+-- An address has a line `free` under a window exactly where the window claims it and no enabled region of the bridge's
+-- secondary bus does.
 abbrev pub FreeLinesAreExact : Type 0
 FreeLinesAreExact =
     (given : Given) (roots : List ℕ) (s : System) (space : Space) (w : Region) (lines : Lines)
     (a : ℕ) → AreLinesAt given roots s space (Inside w) lines
-    → (Any (λ r. InRange r a) (runs_at lines) ↔ IsFreeIn s w a)
+    → (Any (λ r. InRange r a) (runs_at lines) ↔ IsFreeIn given s w a)
 
 -- An address has a line `free` on a root bus exactly where a list is said of its space, the host sends it there by that,
 -- and no enabled region of the bus claims it.
@@ -70,7 +70,7 @@ NothingIsOutside =
 abbrev pub AllLeftAreUnreached : Type 0
 AllLeftAreUnreached =
     (roots : List ℕ) (s : System) (q : Region)
-    → IsOnlyLeft nothing_given roots s q ↔ IsOutsideWindows roots s q
+    → IsOnlyLeft nothing_given roots s q ↔ IsOutsideWindows nothing_given roots s q
 
 -- A root bus has no line `free`.
 abbrev pub NothingIsFreeOnRoots : Type 0

@@ -9,6 +9,7 @@ use Rattle.pci_spec.specs.Decoded.{Range, DecodedBar}
 use Rattle.pci_spec.specs.Listing.{words, range_text, kind_space}
 use Rattle.pci_spec.specs.Why.{Region, amount_text, address_count, off_bars}
 use Rattle.given_spec.specs.Given.{Given}
+use Rattle.given_spec.specs.Why.{isa_words_of}
 use Rattle.map_spec.specs.Lines.{Lines, End, Free, Sits}
 use Rattle.map_spec.specs.Map.{MapRoot, Map, IsMap}
 
@@ -28,20 +29,23 @@ abbrev pub extent_line : ℕ → Space → Range → List (List ℕ) → List �
 extent_line depth space r what =
     indent depth ++ (range_text space r ++ words (amount_text (address_count r) ∷ what))
 
-abbrev pub map_region_line : ℕ → Region → List ℕ
-map_region_line depth q =
+abbrev pub map_region_line : Given → ℕ → Region → List ℕ
+map_region_line given depth q =
     extent_line depth q.space q.range
-    (part_name q.part q.prefetchable ∷ slot_text q.slot ∷ hex_byte q.register ∷ [])
+    (part_name q.part q.prefetchable ∷ slot_text q.slot ∷ hex_byte q.register
+    ∷ isa_words_of given q.part q.space q.slot)
 
 abbrev pub free_line : ℕ → Space → Range → List ℕ
 free_line depth space r = extent_line depth space r (codes "free" ∷ [])
 
 -- what is inside a region stands behind its line, two spaces deeper
-unfoldable pub lines_text : ℕ → Space → Lines → List ℕ
-lines_text depth space End = []
-lines_text depth space (Free r rest) = free_line depth space r ++ lines_text depth space rest
-lines_text depth space (Sits q inside rest) =
-    map_region_line depth q ++ (lines_text (suc depth) space inside ++ lines_text depth space rest)
+unfoldable pub lines_text : Given → ℕ → Space → Lines → List ℕ
+lines_text given depth space End = []
+lines_text given depth space (Free r rest) =
+    free_line depth space r ++ lines_text given depth space rest
+lines_text given depth space (Sits q inside rest) =
+    map_region_line given depth q
+    ++ (lines_text given (suc depth) space inside ++ lines_text given depth space rest)
 
 -- ---- root buses
 
@@ -49,15 +53,16 @@ abbrev pub bus_heading : ℕ → Space → List ℕ
 bus_heading bus space = codes "bus" ++ (byte_field bus ++ (field (space_text space) ++ 10 ∷ []))
 
 -- where there are lines they stand below a heading
-abbrev pub space_lines : ℕ → Space → Lines → List ℕ
-space_lines bus space End = []
-space_lines bus space (Free r rest) =
-    bus_heading bus space ++ lines_text 1 space (Free r rest)
-space_lines bus space (Sits q inside rest) =
-    bus_heading bus space ++ lines_text 1 space (Sits q inside rest)
+abbrev pub space_lines : Given → ℕ → Space → Lines → List ℕ
+space_lines given bus space End = []
+space_lines given bus space (Free r rest) =
+    bus_heading bus space ++ lines_text given 1 space (Free r rest)
+space_lines given bus space (Sits q inside rest) =
+    bus_heading bus space ++ lines_text given 1 space (Sits q inside rest)
 
-abbrev pub root_text : MapRoot → List ℕ
-root_text root = space_lines root.bus Io root.io ++ space_lines root.bus Memory root.memory
+abbrev pub root_text : Given → MapRoot → List ℕ
+root_text given root =
+    space_lines given root.bus Io root.io ++ space_lines given root.bus Memory root.memory
 
 -- ---- what is out of place, what isn't reached, and what is off
 
@@ -66,11 +71,11 @@ abbrev pub under_heading : List ℕ → List (List ℕ) → List ℕ
 under_heading heading [] = []
 under_heading heading (line ∷ lines) = heading ++ (10 ∷ flat_map (λ text. text) (line ∷ lines))
 
-abbrev pub outside_text : List Region → List ℕ
-outside_text qs = under_heading (codes "outside") (map (map_region_line 1) qs)
+abbrev pub outside_text : Given → List Region → List ℕ
+outside_text given qs = under_heading (codes "outside") (map (map_region_line given 1) qs)
 
-abbrev pub unreached_text : List Region → List ℕ
-unreached_text qs = under_heading (codes "unreached") (map (map_region_line 1) qs)
+abbrev pub unreached_text : Given → List Region → List ℕ
+unreached_text given qs = under_heading (codes "unreached") (map (map_region_line given 1) qs)
 
 -- the line of an implemented BAR
 abbrev pub map_off_line : Slot → DecodedBar → List ℕ
@@ -87,12 +92,12 @@ map_off_text s = under_heading (codes "off") (flat_map map_off_lines_of s)
 
 -- ---- the whole text
 
-abbrev pub map_text_of : Map → System → List ℕ
-map_text_of m s =
-    flat_map root_text m.roots
-    ++ (outside_text m.outside ++ (unreached_text m.unreached ++ map_off_text s))
+abbrev pub map_text_of : Given → Map → System → List ℕ
+map_text_of given m s =
+    flat_map (root_text given) m.roots
+    ++ (outside_text given m.outside ++ (unreached_text given m.unreached ++ map_off_text s))
 
 pub record IsMapText (given : Given) (roots : List ℕ) (s : System) (text : List ℕ) : Type 0 where
   pub m : Map
   pub is : IsMap given roots s m
-  pub says : text ≡ map_text_of m s
+  pub says : text ≡ map_text_of given m s

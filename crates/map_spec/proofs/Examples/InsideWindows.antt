@@ -117,7 +117,7 @@ upper_is = record {
 }
 
 -- each belongs under the window
-lower_belongs : BelongsUnder s window lower
+lower_belongs : BelongsUnder nothing_given s window lower
 lower_belongs = record {
   b = above;
   listed = (0, lit< tt, refl);
@@ -129,7 +129,7 @@ lower_belongs = record {
   first = refl;
 }
 
-upper_belongs : BelongsUnder s window upper
+upper_belongs : BelongsUnder nothing_given s window upper
 upper_belongs = record {
   b = above;
   listed = (0, lit< tt, refl);
@@ -184,7 +184,7 @@ on_bus_one f listed at = elim (in_pair above behind f listed) [
 abbrev bars : List Region
 bars = lower ∷ upper ∷ []
 
-bars_alone : (q : Region) → IsRegionIn s q → q.space ≡ Memory → BelongsUnder s window q → Contains bars q
+bars_alone : (q : Region) → IsRegionIn s q → q.space ≡ Memory → BelongsUnder nothing_given s window q → Contains bars q
 unfolding lower_is upper_is
 bars_alone q is space under =
     let bus : q.slot.bus ≡ 1 = sym under.leads ∙ bus_below under.b under.listed under.slot in
@@ -198,11 +198,11 @@ bars_alone q is space under =
 -- ---- what is free
 
 abbrev IsFree : ℕ → Type 0
-IsFree a = IsFreeIn s window a
+IsFree a = IsFreeIn nothing_given s window a
 
-claimed_is_held : (a : ℕ) → IsClaimedOn s 1 Memory a → InRange lower.range a ⊎ InRange upper.range a
+claimed_is_held : (a : ℕ) → IsClaimedOn nothing_given s 1 Memory a → InRange lower.range a ⊎ InRange upper.range a
 claimed_is_held a c =
-    let claims = subst (λ (x : Function). Claims x c.part Memory a) (sym (on_bus_one c.f c.listed c.on_bus)) c.claims in
+    let claims = subst (λ (x : Function). Claims x c.part Memory a) (sym (on_bus_one c.f c.listed c.on_bus)) c.claims.claims in
     elim (two_alone c.part a claims) [
       | inl part ↦ inl (lower_holds a (subst (λ p. Claims behind p Memory a) part claims))
       | inr part ↦ inr (upper_holds a (subst (λ p. Claims behind p Memory a) part claims))
@@ -211,17 +211,18 @@ claimed_is_held a c =
 is_free : (a : ℕ) → InRange window.range a → (InRange lower.range a → ⊥) → (InRange upper.range a → ⊥) → IsFree a
 is_free a held not_lower not_upper = record {
   held = held;
-  unclaimed = λ b listed at claimed. elim (claimed_is_held a (subst (λ bus. IsClaimedOn s bus Memory a) (bus_below b listed at) claimed)) [
+  kept = refl;
+  unclaimed = λ b listed at claimed. elim (claimed_is_held a (subst (λ bus. IsClaimedOn nothing_given s bus Memory a) (bus_below b listed at) claimed)) [
     | inl inside ↦ not_lower inside
     | inr inside ↦ not_upper inside
   ];
 }
 
 lower_is_taken : (a : ℕ) → InRange lower.range a → IsFree a → ⊥
-lower_is_taken a held free = free.unclaimed above (0, lit< tt, refl) refl record { f = behind; part = Bar 0; listed = (1, lit< tt, refl); on_bus = refl; claims = lower_claims a held }
+lower_is_taken a held free = free.unclaimed above (0, lit< tt, refl) refl record { f = behind; part = Bar 0; listed = (1, lit< tt, refl); on_bus = refl; claims = record { claims = lower_claims a held; kept = refl } }
 
 upper_is_taken : (a : ℕ) → InRange upper.range a → IsFree a → ⊥
-upper_is_taken a held free = free.unclaimed above (0, lit< tt, refl) refl record { f = behind; part = Bar 1; listed = (1, lit< tt, refl); on_bus = refl; claims = upper_claims a held }
+upper_is_taken a held free = free.unclaimed above (0, lit< tt, refl) refl record { f = behind; part = Bar 1; listed = (1, lit< tt, refl); on_bus = refl; claims = record { claims = upper_claims a held; kept = refl } }
 
 abbrev before : Range
 before = range 0xe0000000 0xe003ffff
@@ -320,7 +321,7 @@ free_before_between_and_behind : AreLinesAt nothing_given host s Memory (Inside 
 free_before_between_and_behind = record {
   regions = both_have (λ q. IsRegionIn s q) lower_is upper_is;
   of_space = both_have (λ q. q.space ≡ Memory) refl refl;
-  stand = both_have (λ q. BelongsUnder s window q) lower_belongs upper_belongs;
+  stand = both_have (λ q. BelongsUnder nothing_given s window q) lower_belongs upper_belongs;
   within = λ q has. all_in_place host s q;
   complete = λ q is space under within. bars_alone q is space under;
   free = record {

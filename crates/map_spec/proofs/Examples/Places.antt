@@ -13,11 +13,11 @@ use Rattle.map_spec.proofs.Examples.Samples.{region}
 
 -- a list of memory alone, with one range
 abbrev memory_to : Option ℕ → ℕ → ℕ → Given
-memory_to root first last = record { io = None; memory = Some (record { root = root; first = first; last = last } ∷ []); legacy = [] }
+memory_to root first last = record { io = None; memory = Some (record { root = root; first = first; last = last } ∷ []); legacy = []; isa = [] }
 
 -- a list of I/O alone
 abbrev ports_to : Option ℕ → ℕ → ℕ → Given
-ports_to root first last = record { io = Some (record { root = root; first = first; last = last } ∷ []); memory = None; legacy = [] }
+ports_to root first last = record { io = Some (record { root = root; first = first; last = last } ∷ []); memory = None; legacy = []; isa = [] }
 
 -- 4 KB at E0001000
 abbrev memory_device : ℕ → Function
@@ -81,19 +81,19 @@ ports_anywhere out = false≢true (sym out.outside.none)
 
 -- ---- free on a root bus
 
-none_claims : (a : ℕ) → IsClaimedOn (memory_device 1 ∷ []) 0 Memory a → ⊥
-none_claims a c = elim (in_cons_cases (memory_device 1) [] c.f c.listed) [
+none_claims : (given : Given) (a : ℕ) → IsClaimedOn given (memory_device 1 ∷ []) 0 Memory a → ⊥
+none_claims given a c = elim (in_cons_cases (memory_device 1) [] c.f c.listed) [
   | inl one ↦ (let e : 1 ≡ 0 = ap (λ (f : Function). f.slot.bus) one ∙ c.on_bus in omega (arith, e))
   | inr none ↦ in_nil c.f none
 ]
 
 -- what is sent there and claimed on another bus
 sent_alone : IsFreeOn (memory_to (Some 0) 0xe0000000 0xe0001fff) (memory_device 1 ∷ []) 0 Memory 0xe0001fff
-sent_alone = record { said = refl; address = lit< tt; sent = refl; unclaimed = none_claims 0xe0001fff }
+sent_alone = record { said = refl; address = lit< tt; sent = refl; unclaimed = none_claims (memory_to (Some 0) 0xe0000000 0xe0001fff) 0xe0001fff }
 
 -- what is claimed there isn't, nor what isn't sent, or to another root bus
 claimed : IsFreeOn (memory_to None 0xe0000000 0xe0001fff) (memory_device 0 ∷ []) 0 Memory 0xe0001fff → ⊥
-claimed free = free.unclaimed record { f = memory_device 0; part = Bar 0; listed = (0, lit< tt, refl); on_bus = refl; claims = memory_claims }
+claimed free = free.unclaimed record { f = memory_device 0; part = Bar 0; listed = (0, lit< tt, refl); on_bus = refl; claims = record { claims = memory_claims; kept = refl } }
 
 not_sent : IsFreeOn (memory_to None 0xe0000000 0xe0001ffe) (memory_device 1 ∷ []) 0 Memory 0xe0001fff → ⊥
 not_sent free = both_ways false refl free.sent

@@ -5,6 +5,7 @@ use Rattle.pci_spec.specs.Window.{IoWindow, MemoryWindow}
 use Rattle.pci_spec.specs.System.{Io, Memory, Bar, Rom, Window}
 use Rattle.pci_spec.specs.Why.{scaled_text}
 use Rattle.pci_spec.proofs.Examples.Samples.{slot, range, device}
+use Rattle.given_spec.specs.Given.{nothing_given}
 use Rattle.map_spec.specs.Lines.{Lines, End, Free, Sits}
 use Rattle.map_spec.specs.MapText.{indent, lines_text, map_region_line, root_text, map_text_of}
 use Rattle.map_spec.proofs.Examples.Samples.{line, region}
@@ -29,7 +30,7 @@ memory_lines =
     End)
     (Sits (region (slot 0x40 0 0) 0x10 (Bar 0) Memory false 0xfe401000 0xfe401fff) End End)
 
-server : root_text (record { bus = 0x40; io = io_lines; memory = memory_lines })
+server : root_text nothing_given (record { bus = 0x40; io = io_lines; memory = memory_lines })
     ≡ line (codes "bus 40 io")
     ++ line (codes "  0000c000-0000cfff 4K window 40:03.0 1c")
     ++ line (codes "    0000c000-0000c01f 32 bar 45:00.0 18")
@@ -46,28 +47,48 @@ unfolding indent lines_text scaled_text digits
 server = refl
 
 -- a space without regions has no heading
-empty_bus : root_text (record { bus = 0; io = End; memory = End }) ≡ []
+empty_bus : root_text nothing_given (record { bus = 0; io = End; memory = End }) ≡ []
 empty_bus = refl
 
 -- what each part is called
-prefetchable_bar : map_region_line 1 (region (slot 0x44 0 0) 0x20 (Bar 4) Memory true 0xfe600000 0xfe603fff)
+prefetchable_bar : map_region_line nothing_given 1 (region (slot 0x44 0 0) 0x20 (Bar 4) Memory true 0xfe600000 0xfe603fff)
     ≡ line (codes "  00000000fe600000-00000000fe603fff 16K bar pref 44:00.0 20")
 unfolding indent scaled_text digits
 prefetchable_bar = refl
 
-rom : map_region_line 2 (region (slot 0 2 0) 0x30 Rom Memory false 0xfe9e0000 0xfe9effff)
+rom : map_region_line nothing_given 2 (region (slot 0 2 0) 0x30 Rom Memory false 0xfe9e0000 0xfe9effff)
     ≡ line (codes "    00000000fe9e0000-00000000fe9effff 64K rom 00:02.0 30")
 unfolding indent scaled_text digits
 rom = refl
 
+-- an I/O window of a bridge with ISA Enable, and what of it is free
+cut_window : root_text (record nothing_given { isa = slot 0 1 0 ∷ [] }) (record {
+  bus = 0;
+  io =
+      Sits (region (slot 0 1 0) 0x1c (Window IoWindow) Io false 0x1000 0x1fff)
+      (Sits (region (slot 1 0 0) 0x10 (Bar 0) Io false 0x1000 0x101f) End
+      (Free (range 0x1020 0x10ff) (Free (range 0x1400 0x14ff) (Free (range 0x1800 0x18ff) (Free (range 0x1c00 0x1cff) End)))))
+      End;
+  memory = End;
+})
+    ≡ line (codes "bus 00 io")
+    ++ line (codes "  00001000-00001fff 4K window 00:01.0 1c isa")
+    ++ line (codes "    00001000-0000101f 32 bar 01:00.0 10")
+    ++ line (codes "    00001020-000010ff 224 free")
+    ++ line (codes "    00001400-000014ff 256 free")
+    ++ line (codes "    00001800-000018ff 256 free")
+    ++ line (codes "    00001c00-00001cff 256 free")
+unfolding indent lines_text scaled_text digits
+cut_window = refl
+
 -- a root bus on which nothing stands has a heading where something is free
-all_free : root_text (record { bus = 0x40; io = Free (range 0x1000 0x1fff) End; memory = End })
+all_free : root_text nothing_given (record { bus = 0x40; io = Free (range 0x1000 0x1fff) End; memory = End })
     ≡ line (codes "bus 40 io") ++ line (codes "  00001000-00001fff 4K free")
 unfolding indent lines_text scaled_text digits
 all_free = refl
 
 -- what is out of place, regions that are left, and BARs that are off: the second function's Command enables memory alone
-aside_and_off : map_text_of (record {
+aside_and_off : map_text_of nothing_given (record {
   roots = [];
   outside =
       region (slot 0 1 0) 0x30 Rom Memory false 0xd0000000 0xd00fffff
