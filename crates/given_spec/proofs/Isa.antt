@@ -3,7 +3,7 @@ use Rattle.std.proofs.Common.{◌≡◌, ℕ, ◌/◌, ◌%◌, ◌^◌, ◌<◌
 use Rattle.std.specs.Prelude.{nat_lt, nat_le}
 use Rattle.std.proofs.lemmas.Bool.{and_from, and_parts, leb-true, le-leb, ltb-true, lt-ltb}
 use Rattle.pci_spec.specs.Slot.{Slot}
-use Rattle.pci_spec.specs.System.{Function, Space, Io, Memory, is_window}
+use Rattle.pci_spec.specs.System.{Space, Io, Memory, is_window}
 use Rattle.pci_spec.specs.System as system
 use Rattle.given_spec.specs.Given.{Given, has_isa, is_isa_port, is_cut, legacy_claims}
 use Rattle.given_spec.specs.Claims.{Own, Legacy}

@@ -12,4 +12,4 @@ pub mod LeastFaults
 pub mod PlainLists
 pub mod Moving
 pub mod Writing
-mod Isa
+pub mod Isa
