@@ -14,6 +14,7 @@ abbrev pub words_value : Words → model.Words
 words_value w = record {
   cardbus = w.cardbus;
   ide = w.ide;
+  isa = w.isa;
   power = w.power;
   reset = w.reset;
   subtractive = w.subtractive;

@@ -12,7 +12,8 @@ ghost use Rattle.model_spec.specs.Taken as taken;
 ghost use Rattle.pci_model.specs.WordsValue.{words_value};
 
 use super::bytes::{
-    clear, make_device, make_device_read_backs, make_positive, set_vga_aside, take_out_of_reset,
+    clear, make_device, make_device_read_backs, make_positive, set_isa_aside, set_vga_aside,
+    take_out_of_reset,
 };
 use super::listed_behind::is_anyone_behind;
 use super::words::Words;
@@ -56,6 +57,18 @@ pub fn vga_aside(image: &mut Image, words: Words)
 {
     if words.vga.is_some() {
         set_vga_aside(image);
+    }
+}
+
+/// Leaves ISA Enable aside, where the word for it counts.
+pub fn isa_aside(image: &mut Image, words: Words)
+    ensures { (slot : SlotValue) (probe : List ℕ)
+        → record { slot = slot; image = image.new.0; probe = probe }
+        ≡ taken.isa_aside_by (words_value words) record
+        { slot = slot; image = image.old.0; probe = probe } }
+{
+    if words.isa {
+        set_isa_aside(image);
     }
 }
 

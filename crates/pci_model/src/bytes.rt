@@ -1,6 +1,6 @@
 //! Images with some of their bytes changed.
 ghost use Rattle.std.specs.Prelude.{◌≡◌, ◌+◌, ◌≤◌};
-ghost use Rattle.given_spec.specs.Words.{without_vga};
+ghost use Rattle.given_spec.specs.Words.{without_isa, without_vga};
 ghost use Rattle.model_spec.specs.Bytes as bytes;
 
 use pci_base::image::Image;
@@ -8,7 +8,7 @@ use pci_base::offset::{
     BASE_ADDRESS, BRIDGE_CONTROL, BRIDGE_EXPANSION_ROM, COMMAND, EXPANSION_ROM, HEADER_TYPE,
     INTERFACE, PRIMARY_BUS, STATUS,
 };
-use pci_function::profile::{VGA_ENABLE, controls_bridge};
+use pci_function::profile::{ISA_ENABLE, VGA_ENABLE, controls_bridge};
 
 /// The bytes of a bridge's numbers and windows, 18h to 33h (Bridge 1.2, 3.2.5).
 const BRIDGE_REGISTERS: u8 = 28;
@@ -47,6 +47,16 @@ pub fn set_vga_aside(image: &mut Image)
     if controls_bridge(image, VGA_ENABLE) {
         let control = image.u8(BRIDGE_CONTROL);
         image.0[usize::from(BRIDGE_CONTROL)] = control / 16 * 16 + control % 8;
+    }
+}
+
+/// Clears ISA Enable of a bridge.
+pub fn set_isa_aside(image: &mut Image)
+    ensures { image.new.0 ≡ without_isa image.old.0 }
+{
+    if controls_bridge(image, ISA_ENABLE) {
+        let control = image.u8(BRIDGE_CONTROL);
+        image.0[usize::from(BRIDGE_CONTROL)] = control / 8 * 8 + control % 4;
     }
 }
 

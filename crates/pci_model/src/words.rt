@@ -16,6 +16,8 @@ pub struct Words {
     pub cardbus: bool,
     /// IDE channels in compatibility mode answer fixed ports, and not their BARs (PCI IDE Controller 1.0, 2.1).
     pub ide: bool,
+    /// A bridge may have ISA Enable set: which bridges do is given beside the system (Bridge 1.2, 3.2.5.18).
+    pub isa: bool,
     /// What isn't in D0 decodes nothing (Power Management 1.2, 5.4).
     pub power: bool,
     /// A bridge may hold its secondary bus in reset where nothing is listed behind it (Bridge 1.2, 3.2.5.18).

@@ -3,7 +3,7 @@ use Rattle.pci_spec.specs.Text.{slots_of}
 use Rattle.pci_spec.specs.System.{Function}
 use Rattle.pci_spec.specs.Order.{Place}
 use Rattle.model_spec.specs.Bytes.{switched_off}
-use Rattle.model_spec.specs.Taken.{HasNoOwnFaultBefore, IsAsleep, IsWhere, bridge_aside, cardbus_aside, first_aside, has_legacy_by, may_have_parts_by, parts_aside, vga_aside_by, windows_aside, function_with_image}
+use Rattle.model_spec.specs.Taken.{HasNoOwnFaultBefore, IsAsleep, IsWhere, bridge_aside, cardbus_aside, first_aside, has_legacy_by, isa_aside_by, may_have_parts_by, parts_aside, vga_aside_by, windows_aside, function_with_image}
 use Rattle.pci_model.specs.WordsValue.{words_value}
 use Rattle.pci_model.proofs.take.take.Goals as goal
 
@@ -20,7 +20,9 @@ returns c =
     let b : Function = record { slot = slot; image = c.bridge_aside.new.image.0; probe = probe } in
     let k : Function = record { slot = slot; image = c.parts_aside.new.image.0; probe = c.parts_aside.new.probe.0 } in
     let s_is : s ≡ windows_aside w f = c.windows_aside.ensures slot in
-    let v_is : v ≡ first_aside w f = c.vga_aside.ensures slot probe ∙ ap (vga_aside_by w) s_is in
+    let a : Function = record { slot = slot; image = c.isa_aside.new.image.0; probe = probe } in
+    let v_is : v ≡ vga_aside_by w (windows_aside w f) = c.vga_aside.ensures slot probe ∙ ap (vga_aside_by w) s_is in
+    let a_is : a ≡ first_aside w f = c.isa_aside.ensures slot probe ∙ ap (isa_aside_by w) v_is in
     let b_is : b ≡ bridge_aside w slots g = c.bridge_aside.ensures slot probe in
     let legacy_is : c.has_legacy-legacy.result ≡ has_legacy_by w f = c.has_legacy-legacy.ensures slot c.args.probe.now.0 in
     let by_own : IsWhere (IsTrue (may_have_parts_by w b) × HasNoOwnFaultBefore Place b) b (parts_aside w (has_legacy_by w f) b) k =
@@ -28,7 +30,7 @@ returns c =
     record {
       g = g;
       k = k;
-      power = subst (λ (x : Function). IsWhere (IsTrue w.power × IsAsleep x) x (function_with_image x (switched_off x.image)) g) v_is c.take_asleep.ensures;
+      power = subst (λ (x : Function). IsWhere (IsTrue w.power × IsAsleep x) x (function_with_image x (switched_off x.image)) g) a_is c.take_asleep.ensures;
       parts = subst (λ (x : Function). IsWhere (IsTrue (may_have_parts_by w x) × HasNoOwnFaultBefore Place x) x (parts_aside w (has_legacy_by w f) x) k) b_is by_own;
       header = c.cardbus_aside.ensures slot;
     }
