@@ -12,15 +12,13 @@ use Rattle.pci_spec.specs.System.{Space, window_space}
 use Rattle.pci_base.specs.declared.range.Range.{Range}
 use Rattle.pci_base.specs.Space.{is_on}
 use Rattle.pci_function.specs.declared.record.Record.{Record}
-use Rattle.pci_function.specs.Values.{record_value}
-use Rattle.pci_tree.specs.Passes.{record_passes}
 use Rattle.pci_tree.specs.Ranges.{Holds, Covers, IsCanonical}
 use Rattle.given_spec.specs.Given.{Given, legacy_holds}
 use Rattle.pci_claims.specs.declared.given.LegacyBridge.{LegacyBridge}
 use Rattle.pci_claims.specs.Values.{legacy_value}
 use Rattle.pci_claims.specs.Gathered.{IsGathered, IsCommon}
 use Rattle.pci_claims.specs.Legacy.{ArePieces}
-use Rattle.pci_claims.specs.Passed.{is_piece_at, ArePiecesOf, legacy_passes, ArePassed, passes_with, IsPassedOnWith}
+use Rattle.pci_claims.specs.Passed.{is_piece_at, ArePiecesOf, legacy_passes, window_passes, ArePassed, passes_with, IsPassedOnWith}
 use Rattle.pci_claims.proofs.Gathering.{none_covered}
 use Rattle.pci_claims.proofs.Parts.{any_more}
 
@@ -99,7 +97,7 @@ pieces_less legacy i e slot space out is within at other = record {
 -- ---- windows and legacy parts together
 
 module _ (given : Given) (kind : WindowKind) (r : Record) (windows : List Range) (canonical : IsCanonical windows)
-    (exact : (a : ℕ) → Covers windows a ↔ IsTrue (record_passes kind a (record_value r))) where
+    (exact : (a : ℕ) → Covers windows a ↔ IsTrue (window_passes given kind a r)) where
   pub lawful_both : (pieces both : List Range) (legacy : List LegacyBridge) (space : Space) → ArePiecesOf legacy r.slot space pieces → both ≡ windows ++ pieces → All (λ r. r.first ≤ r.last) both
   lawful_both pieces both legacy space are e = subst (λ xs. All (λ r. r.first ≤ r.last) xs) (sym e) (All-append (λ r. r.first ≤ r.last) windows pieces canonical.each are.lawful)
 
@@ -110,11 +108,11 @@ module _ (given : Given) (kind : WindowKind) (r : Record) (windows : List Range)
     exact = λ a. (
       λ (h : Covers out a). elim (append_to windows pieces a (subst (λ xs. Covers xs a) e ((is.exact a).0 h))) [
         | inl window ↦ ap (λ b. b || legacy_passes given (window_space kind) a r) ((exact a).0 window)
-        | inr piece ↦ ap (λ b. record_passes kind a (record_value r) || b)
+        | inr piece ↦ ap (λ b. window_passes given kind a r || b)
             (and_from (is_some r.bridge && is_on r.command (window_space kind)) _ on (subst (λ xs. IsTrue (list_any (is_piece_at r.slot (window_space kind) a) xs)) (sym said) ((are.exact a).0 piece))) ∙ or-true _
       ],
-      λ (h : IsTrue (record_passes kind a (record_value r) || legacy_passes given (window_space kind) a r)). (is.exact a).1 (subst (λ xs. Covers xs a) (sym e)
-          (append_from windows pieces a (elim (or_cases (record_passes kind a (record_value r)) (legacy_passes given (window_space kind) a r) h) [
+      λ (h : IsTrue (window_passes given kind a r || legacy_passes given (window_space kind) a r)). (is.exact a).1 (subst (λ xs. Covers xs a) (sym e)
+          (append_from windows pieces a (elim (or_cases (window_passes given kind a r) (legacy_passes given (window_space kind) a r) h) [
             | inl window ↦ inl ((exact a).1 window)
             | inr piece ↦ inr ((are.exact a).1 (subst (λ xs. IsTrue (list_any (is_piece_at r.slot (window_space kind) a) xs)) said (and_parts (is_some r.bridge && is_on r.command (window_space kind)) _ piece).1))
           ]))),
@@ -127,8 +125,8 @@ module _ (given : Given) (kind : WindowKind) (r : Record) (windows : List Range)
     canonical = is.canonical;
     exact = λ a. (
       λ (h : Covers out a). ap (λ b. b || legacy_passes given (window_space kind) a r) ((exact a).0 (subst (λ xs. Covers xs a) e ((is.exact a).0 h))),
-      λ (h : IsTrue (record_passes kind a (record_value r) || legacy_passes given (window_space kind) a r)). (is.exact a).1 (subst (λ xs. Covers xs a) (sym e)
-          (elim (or_cases (record_passes kind a (record_value r)) (legacy_passes given (window_space kind) a r) h) [
+      λ (h : IsTrue (window_passes given kind a r || legacy_passes given (window_space kind) a r)). (is.exact a).1 (subst (λ xs. Covers xs a) (sym e)
+          (elim (or_cases (window_passes given kind a r) (legacy_passes given (window_space kind) a r) h) [
             | inl window ↦ (exact a).1 window
             | inr piece ↦ absurd (both_ways _ off (and_parts (is_some r.bridge && is_on r.command (window_space kind)) _ piece).0)
           ])),

@@ -37,16 +37,16 @@ use Rattle.pci_claims.proofs.Making.{made_none, made_more, made_less, rise_in_or
 
 -- ---- claims that are made one by one
 
-region_numbered : (reach : List Range) (r : Region) (c : Claimed) → IsClaimOfRegion r reach c → claim_number c ≡ number_of_region r
-region_numbered reach r c is = number_same c.slot r.slot c.register r.reg is.slot is.register
+region_numbered : (given : Given) (space : Space) (reach : List Range) (r : Region) (c : Claimed) → IsClaimOfRegion given space r reach c → claim_number c ≡ number_of_region r
+region_numbered given space reach r c is = number_same c.slot r.slot c.register r.reg is.slot is.register
 
-pub no_region : (reach : List Range) → AreRegionClaims [] reach []
-no_region reach = made_none (λ (r : Region) c. IsClaimOfRegion r reach c) (λ r. Unit {0}) number_of_region claim_number (region_numbered reach)
+pub no_region : (given : Given) (space : Space) (reach : List Range) → AreRegionClaims given space [] reach []
+no_region given space reach = made_none (λ (r : Region) c. IsClaimOfRegion given space r reach c) (λ r. Unit {0}) number_of_region claim_number (region_numbered given space reach)
 
-pub one_region_more : (reach : List Range) (regions : List Region) (i : ℕ) (r : Region) (claims : List Claimed) (c : Claimed) → i < length regions → r ≡ get_or regions i r
-    → AreRegionClaims (take i regions) reach claims → IsClaimOfRegion r reach c → AreRegionClaims (take (i + 1) regions) reach (claims ++ c ∷ [])
-one_region_more reach regions i r claims c within at made is =
-    made_more (λ (r : Region) c. IsClaimOfRegion r reach c) (λ r. Unit {0}) number_of_region claim_number (region_numbered reach) regions i r claims within at made c is
+pub one_region_more : (given : Given) (space : Space) (reach : List Range) (regions : List Region) (i : ℕ) (r : Region) (claims : List Claimed) (c : Claimed) → i < length regions → r ≡ get_or regions i r
+    → AreRegionClaims given space (take i regions) reach claims → IsClaimOfRegion given space r reach c → AreRegionClaims given space (take (i + 1) regions) reach (claims ++ c ∷ [])
+one_region_more given space reach regions i r claims c within at made is =
+    made_more (λ (r : Region) c. IsClaimOfRegion given space r reach c) (λ r. Unit {0}) number_of_region claim_number (region_numbered given space reach) regions i r claims within at made c is
 
 module _ (given : Given) (space : Space) (records : List Record) (reach : List Range) where
   abbrev IsHere : Slot → Type 0
@@ -146,8 +146,8 @@ module _ (given : Given) (t : Tree) (s : System) (tree : HasTree t s) (bus : ℕ
     register_is : register ≡ 0x3e
 
   claimant : (slot : Slot) (register a : ℕ) → ClaimsOnBus given s bus (address_in space a) (named_region slot register) → IsRegionNamed slot register ⊎ IsLegacyNamed a slot register
-  claimant slot register a (f, Own part, listed, at, on_bus, named, claims) =
-      let found = are.complete f part a listed (ap (λ (x : Slot). x.bus) at ∙ on_bus) claims in
+  claimant slot register a (f, Own part, listed, at, on_bus, named, own) =
+      let found = are.complete f part a listed (ap (λ (x : Slot). x.bus) at ∙ on_bus) own.claims in
       inl record { q = found.q; has = found.has; slot_is = found.is.slot ∙ at; register_is = found.is.register ∙ named }
   claimant slot register a (f, Legacy, listed, at, on_bus, named, claims) =
       let bridge = (and_parts (is_bridge f) (is_space_on f space) (and_parts (is_bridge f && is_space_on f space) _ claims.claims).0).0 in
@@ -167,12 +167,12 @@ module _ (given : Given) (t : Tree) (s : System) (tree : HasTree t s) (bus : ℕ
   }
 
   module _ (records : List Record) (has : Has s records) (rise : RiseBySlot records) (reach : List Range) (gets : IsAccessReach given t.roots s space bus reach)
-      (own more claims : List Claimed) (regional : AreRegionClaims regions reach own) (legacy : AreLegacyClaims given space records reach here more)
+      (own more claims : List Claimed) (regional : AreRegionClaims given space regions reach own) (legacy : AreLegacyClaims given space records reach here more)
       (moved : IsPermutation (own ++ more) claims) (sorted : IsNonDecreasingBy claim_number claims) (nested : IsNested t.roots s) where
     region_claims : (c : Claimed) → Contains own c → IsClaimOn given t.roots s bus space c
     region_claims c in_own =
         let (r, there, of) = regional.each c in_own in
-        of.exact given t.roots s bus space tree.system (are.each r there) gets
+        of.exact t.roots s bus tree.system (are.each r there) gets
 
     legacy_claim : (c : Claimed) → Contains more c → IsClaimOn given t.roots s bus space c
     legacy_claim c in_more =

@@ -52,7 +52,7 @@ common_here rs ss i a z can within none is low = record {
 
 -- ---- one list below another
 
-up_to_the_last : (rs : List Range) (m j : ℕ) (z : Range) → IsCanonical rs → m + 1 ≡ length rs → j < length rs → (get_or rs j z).last ≤ (get_or rs m z).last
+pub up_to_the_last : (rs : List Range) (m j : ℕ) (z : Range) → IsCanonical rs → m + 1 ≡ length rs → j < length rs → (get_or rs j z).last ≤ (get_or rs m z).last
 up_to_the_last rs m j z can end inside = elim (cases_order j m) [
   | inl e ↦ (let same : (get_or rs j z).last ≡ (get_or rs m z).last = ap (λ n. (get_or rs n z).last) e in omega (arith, same))
   | inr n ↦ elim n [

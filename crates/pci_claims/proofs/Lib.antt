@@ -4,6 +4,7 @@ pub mod Parts
 pub mod Claiming
 pub mod Outsides
 pub mod Bridging
+pub mod Cutting
 pub mod Linking
 pub mod Walking
 pub mod Reaching

@@ -1,5 +1,5 @@
 -- What a bridge's record passes is what the bridge passes.
-use Rattle.std.proofs.Common.{◌≡◌, ℕ, List, true, ◌&&◌, ◌||◌, sym, ◌∙◌, ap}
+use Rattle.std.proofs.Common.{◌≡◌, ℕ, List, true, ◌&&◌, ◌||◌, not, sym, ◌∙◌, ap}
 use Rattle.std.specs.Prelude.{IsTrue}
 use Rattle.std.specs.Option.{is_some}
 use Rattle.std.specs.List.{list_any}
@@ -17,9 +17,9 @@ use Rattle.pci_tree.specs.Ranges.{Covers}
 use Rattle.pci_tree.proofs.Recorded.{passes-record}
 use Rattle.pci_tree.proofs.Regions.{on_same}
 use Rattle.pci_tree.proofs.Lifting.{same_bridge, same_slot_of}
-use Rattle.given_spec.specs.Given.{Given, legacy_claims}
+use Rattle.given_spec.specs.Given.{Given, legacy_claims, is_cut}
 use Rattle.given_spec.specs.Claims.{passes}
-use Rattle.pci_claims.specs.Passed.{is_piece_at, legacy_passes, passes_with, ArePassed, IsPassedBy}
+use Rattle.pci_claims.specs.Passed.{is_piece_at, legacy_passes, window_passes, passes_with, ArePassed, IsPassedBy}
 
 on_record : (r : Record) (f : Function) (space : Space) → record_value r ≡ record_of f → is_space_on f space ≡ is_on r.command space
 on_record r f space e = on_same f space ∙ ap (λ (x : decoded.Record). is_on x.command space) (sym e)
@@ -34,8 +34,9 @@ legacy_same given space a r f e =
 pub passes_same : (given : Given) (kind : WindowKind) (a : ℕ) (r : Record) (f : Function) → IsDecodable f → is_bridge f ≡ true → record_value r ≡ record_of f
     → passes given (window_space kind) (is_prefetch kind) a f ≡ passes_with given kind a r
 passes_same given kind a r f is bridge e =
-    ap (λ b. b || legacy_claims given (window_space kind) a f) (passes-record kind a f is bridge ∙ ap (record_passes kind a) (sym e))
-    ∙ ap (λ b. record_passes kind a (record_value r) || b) (legacy_same given (window_space kind) a r f e)
+    ap (λ b. (b && not (is_cut given (window_space kind) a f.slot)) || legacy_claims given (window_space kind) a f) (passes-record kind a f is bridge ∙ ap (record_passes kind a) (sym e))
+    ∙ ap (λ s. (record_passes kind a (record_value r) && not (is_cut given (window_space kind) a s)) || legacy_claims given (window_space kind) a f) (sym (same_slot_of r f e))
+    ∙ ap (λ b. window_passes given kind a r || b) (legacy_same given (window_space kind) a r f e)
 
 pub passed_by_bridge : (given : Given) (kind : WindowKind) (r : Record) (out : List Range) → ArePassed given kind r out → IsPassedBy given kind r out
 passed_by_bridge given kind r out is f decodable bridge e a = (

@@ -1,6 +1,6 @@
 -- What a BAR, a ROM or a window claims of a bus.
-use Rattle.std.proofs.Common.{◌≡◌, ℕ, ◌≤◌, ◌↔◌, List, Bool, true, false, arith, subst, sym, ◌∙◌, ap, refl}
-use Rattle.std.specs.Prelude.{◌==◌}
+use Rattle.std.proofs.Common.{◌≡◌, ℕ, ◌≤◌, List, Bool, true, false, arith, subst, sym, ◌∙◌, ap, refl}
+use Rattle.std.specs.Prelude.{◌==◌, ◌&&◌, IsFalse}
 use Rattle.pci_spec.specs.Slot.{Slot}
 use Rattle.pci_spec.specs.Header.{layout, rom_place}
 use Rattle.pci_spec.specs.Window.{IoWindow, MemoryWindow, PrefetchWindow}
@@ -11,11 +11,12 @@ use Rattle.pci_spec.proofs.Firsts.{same_region}
 use Rattle.pci_base.specs.declared.range.Range.{Range}
 use Rattle.pci_tree.specs.declared.region.Region.{Region}
 use Rattle.pci_tree.specs.Ranges.{Covers}
-use Rattle.pci_tree.specs.Regions.{IsRegionOn}
-use Rattle.given_spec.specs.Given.{Given}
-use Rattle.given_spec.specs.Claims.{Own, Legacy, Gets, ClaimsOnBus}
+use Rattle.pci_tree.specs.Regions.{IsRegionOn, is_of_window}
+use Rattle.pci_tree.proofs.RegionParts.{window_named}
+use Rattle.given_spec.specs.Given.{Given, is_cut}
+use Rattle.given_spec.specs.Claims.{Own, Legacy, is_cut_of, Gets, ClaimsOnBus}
 use Rattle.pci_claims.specs.Gathered.{IsCommon}
-use Rattle.pci_claims.specs.Claim.{IsClaimOfRegion}
+use Rattle.pci_claims.specs.Claim.{AreAddressesOf, IsClaimOfRegion, is_cut_from}
 
 -- ---- names of regions
 
@@ -31,22 +32,30 @@ not_legacy f (Window IoWindow) e = omega (arith, e)
 not_legacy f (Window MemoryWindow) e = omega (arith, e)
 not_legacy f (Window PrefetchWindow) e = omega (arith, e)
 
+-- what ISA Enable takes from a region it takes from its part
+cut_same : (given : Given) (bus : ℕ) (s : System) (space : Space) (r : Region) (on : IsRegionOn s bus space r) (a : ℕ) → is_cut_from given space r a ≡ is_cut_of given on.part space a on.f.slot
+cut_same given bus s space r on a =
+    ap (λ p. is_of_window p && is_cut given space a r.slot) on.is.named ∙ ap (λ b. b && is_cut given space a r.slot) (sym (window_named on.part))
+    ∙ ap (λ x. system.is_window on.part && is_cut given space a x) on.is.slot
+
 -- what a region claims by its name is the region's
-claimed_is : (given : Given) (s : System) → IsSystem s → (bus : ℕ) (space : Space) (r : Region) → IsRegionOn s bus space r → (a : ℕ) → ClaimsOnBus given s bus (address_in space a) (named_region r.slot r.reg)
-    → ((r.first ≤ a) × (a ≤ r.last)) × system.IsAddress space a
-claimed_is given s sound bus space r on a (f, Own part, listed, at, there, named, claims) =
+pub claimed_is : (given : Given) (s : System) → IsSystem s → (bus : ℕ) (space : Space) (r : Region) → IsRegionOn s bus space r → (a : ℕ) → ClaimsOnBus given s bus (address_in space a) (named_region r.slot r.reg)
+    → (((r.first ≤ a) × (a ≤ r.last)) × IsFalse (is_cut_from given space r a)) × system.IsAddress space a
+claimed_is given s sound bus space r on a (f, Own part, listed, at, there, named, it) =
     let first : system.Claims on.f on.part space r.first = (on.is.claims r.first).0 (omega arith, on.is.some) in
-    let one = same_region s sound f on.f part on.part space space a r.first listed on.listed (at ∙ on.is.slot) (named ∙ on.is.register) claims first in
-    let own : system.Claims on.f on.part space a = subst (λ p. system.Claims on.f p space a) one.1 (subst (λ g. system.Claims g part space a) one.0 claims) in
-    ((on.is.claims a).1 own, own.address)
+    let one = same_region s sound f on.f part on.part space space a r.first listed on.listed (at ∙ on.is.slot) (named ∙ on.is.register) it.claims first in
+    let own : system.Claims on.f on.part space a = subst (λ p. system.Claims on.f p space a) one.1 (subst (λ g. system.Claims g part space a) one.0 it.claims) in
+    let kept : is_cut_of given on.part space a on.f.slot ≡ false =
+    ap (λ p. is_cut_of given p space a on.f.slot) (sym one.1) ∙ ap (λ (g : Function). is_cut_of given part space a g.slot) (sym one.0) ∙ it.kept in
+    (((on.is.claims a).1 own, cut_same given bus s space r on a ∙ kept), own.address)
 claimed_is given s sound bus space r on a (f, Legacy, listed, at, there, named, claims) = absurd (not_legacy on.f on.part (sym on.is.register ∙ sym named))
 
-pub region_claim : (r : Region) (reach own pieces : List Range) → ((a : ℕ) → Covers own a ↔ ((r.first ≤ a) × (a ≤ r.last))) → IsCommon own reach pieces
-    → IsClaimOfRegion r reach record { slot = r.slot; register = r.reg; pieces = pieces }
-region_claim r reach own pieces held is = record {
+pub region_claim : (given : Given) (space : Space) (r : Region) (reach own pieces : List Range) → AreAddressesOf given space r own → IsCommon own reach pieces
+    → IsClaimOfRegion given space r reach record { slot = r.slot; register = r.reg; pieces = pieces }
+region_claim given space r reach own pieces held is = record {
   slot = refl;
   register = refl;
-  exact = λ given roots s bus space sound on gets a. (
+  exact = λ roots s bus sound on gets a. (
     λ (h : Covers pieces a). (
         let both = (is.exact a).0 h in (
           ((gets.exact a).0 both.1).1,
@@ -57,11 +66,13 @@ region_claim r reach own pieces held is = record {
             sym on.is.slot,
             ap (λ (x : Slot). x.bus) on.is.slot ∙ on.on_bus,
             sym on.is.register,
-            (on.is.claims a).0 ((held a).0 both.0),
+            (
+                let own_it = (held.exact a).0 both.0 in
+                record { claims = (on.is.claims a).0 own_it.0; kept = sym (cut_same given bus s space r on a) ∙ own_it.1 }),
           ),
         )),
     λ (h : Gets given roots s space a bus × ClaimsOnBus given s bus (address_in space a) (named_region r.slot r.reg)). (
         let claimed = claimed_is given s sound bus space r on a h.1 in
-        (is.exact a).1 ((held a).1 claimed.0, (gets.exact a).1 (claimed.1, h.0))),
+        (is.exact a).1 ((held.exact a).1 claimed.0, (gets.exact a).1 (claimed.1, h.0))),
   );
 }

@@ -3,13 +3,14 @@ use Rattle.std.proofs.Common.{◌≡◌, List, [], ◌∷◌, ◌++◌, length, 
 use Rattle.std.specs.List.{filter}
 use Rattle.std.proofs.lemmas.List.{map-append}
 use Rattle.std.proofs.lemmas.List.Elements.{filter-append}
+use Rattle.pci_spec.specs.Slot.{Slot}
 use Rattle.pci_spec.specs.Text.{Block, slots_of}
-use Rattle.pci_spec.specs.System.{function_of, system_of}
+use Rattle.pci_spec.specs.System.{Function, function_of, system_of}
 use Rattle.pci_spec.proofs.Pairing.{same_length}
 use Rattle.given_spec.specs.Words as words
-use Rattle.given_spec.specs.Words.{has_legacy, legacy_bridge, legacy_bridges}
+use Rattle.given_spec.specs.Words.{has_isa_enable, has_legacy, isa_bridges, legacy_bridge, legacy_bridges}
 use Rattle.given_spec.specs.Given as spec
-use Rattle.pci_claims.specs.Vga.{function_without_probe, legacy_bridges_shown}
+use Rattle.pci_claims.specs.Vga.{function_without_probe, isa_bridges_shown, legacy_bridges_shown}
 
 map_cond : {X Y : Type 0} (f : X → Y) (t : Bool) (x : X) → map f (cond t (x ∷ []) []) ≡ cond t (f x ∷ []) []
 map_cond f true x = refl
@@ -31,3 +32,14 @@ by_length word (b ∷ dump) (p ∷ probe) h =
 
 pub by_any_probe : (word : words.VgaWord) (dump probe : List Block) → slots_of dump ≡ slots_of probe → legacy_bridges_shown word dump ≡ legacy_bridges word (system_of dump probe)
 by_any_probe word dump probe same = by_length word dump probe (same_length dump probe same)
+
+isa_by_length : (dump probe : List Block) → length dump ≡ length probe → isa_bridges_shown dump ≡ isa_bridges (system_of dump probe)
+isa_by_length [] probe h = refl
+isa_by_length (b ∷ dump) [] h = absurd (let no : ⊥ = omega (arith, h) in no)
+isa_by_length (b ∷ dump) (p ∷ probe) h =
+    first_found (λ c. has_isa_enable (function_without_probe c)) (λ (c : Block). c.slot) b dump
+    ∙ ap (λ (xs : List Slot). cond (has_isa_enable (function_without_probe b)) (b.slot ∷ []) [] ++ xs) (isa_by_length dump probe (omega (arith, h)))
+    ∙ sym (first_found has_isa_enable (λ (f : Function). f.slot) (function_of b p) (system_of dump probe))
+
+pub isa_by_any_probe : (dump probe : List Block) → slots_of dump ≡ slots_of probe → isa_bridges_shown dump ≡ isa_bridges (system_of dump probe)
+isa_by_any_probe dump probe same = isa_by_length dump probe (same_length dump probe same)

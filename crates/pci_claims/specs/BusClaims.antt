@@ -55,10 +55,10 @@ AreClaimsInEach given t bus space claims =
 -- ---- how they are made
 
 -- each region has one
-abbrev pub AreRegionClaims : List Region → List Range → List Claimed → Type 0
-AreRegionClaims regions reach claims =
-    AreOneEach (λ r c. IsClaimOfRegion r reach c) (λ r. Unit {0}) number_of_region claim_number regions
-    claims
+abbrev pub AreRegionClaims : Given → Space → List Region → List Range → List Claimed → Type 0
+AreRegionClaims given space regions reach claims =
+    AreOneEach (λ r c. IsClaimOfRegion given space r reach c) (λ r. Unit {0}) number_of_region
+    claim_number regions claims
 
 -- the record is of a bridge at the slot that answers accesses of the space
 abbrev pub IsAnsweringBridge : List Record → Space → Slot → Record → Type 0

@@ -1,5 +1,5 @@
 -- Claims of a bus, and what two lists of ranges have in common.
-use Rattle.std.specs.Prelude.{◌≡◌, ℕ, ◌<◌, ◌≤◌, ◌↔◌, false, IsTrue, List}
+use Rattle.std.specs.Prelude.{◌≡◌, ℕ, ◌<◌, ◌≤◌, ◌↔◌, Bool, ◌&&◌, false, IsTrue, IsFalse, List}
 use Rattle.std.specs.List.{Contains}
 use Rattle.pci_spec.specs.Slot.{Slot}
 use Rattle.pci_spec.specs.Registers.{BRIDGE_CONTROL}
@@ -11,8 +11,8 @@ use Rattle.pci_function.specs.declared.record.Record.{Record}
 use Rattle.pci_function.specs.Values.{record_value}
 use Rattle.pci_tree.specs.declared.region.Region.{Region}
 use Rattle.pci_tree.specs.Ranges.{Covers, IsCanonical}
-use Rattle.pci_tree.specs.Regions.{IsRegionOn}
-use Rattle.given_spec.specs.Given.{Given}
+use Rattle.pci_tree.specs.Regions.{IsRegionOn, is_of_window}
+use Rattle.given_spec.specs.Given.{Given, is_cut}
 use Rattle.given_spec.specs.Claims.{Gets, ClaimsOnBus, may_share}
 use Rattle.pci_claims.specs.Passed.{legacy_passes}
 use Rattle.pci_claims.specs.Reached.{IsAccessReach}
@@ -51,18 +51,23 @@ pub record IsLeastAtOdds (c d : Claimed) (a : ℕ) : Type 0 where
   pub there : AreAtOdds c d a
   pub least : (b : ℕ) → AreAtOdds c d b → a ≤ b
 
--- the addresses of a region
-abbrev pub AreAddressesOf : Region → List Range → Type 0
-AreAddressesOf r out =
-    IsCanonical out × ((a : ℕ) → Covers out a ↔ ((r.first ≤ a) × (a ≤ r.last)))
+-- whether ISA Enable takes an address of a space from the region
+abbrev pub is_cut_from : Given → Space → Region → ℕ → Bool
+is_cut_from given space r a = is_of_window r.part && is_cut given space a r.slot
+
+-- the addresses of a region that ISA Enable doesn't take
+pub record AreAddressesOf (given : Given) (space : Space) (r : Region) (out : List Range) : Type 0 where
+  pub canonical : IsCanonical out
+  pub exact : (a : ℕ) → Covers out a
+      ↔ (((r.first ≤ a) × (a ≤ r.last)) × IsFalse (is_cut_from given space r a))
 
 -- the claim of a region on each bus to which those addresses get
-pub record IsClaimOfRegion (r : Region) (reach : List Range) (c : Claimed) : Type 0 where
+pub record IsClaimOfRegion (given : Given) (space : Space) (r : Region) (reach : List Range)
+    (c : Claimed) : Type 0 where
   pub slot : c.slot ≡ r.slot
   pub register : c.register ≡ r.reg
-  pub exact : (given : Given) (roots : List ℕ) (s : System) (bus : ℕ) (space : Space) → IsSystem s
-      → IsRegionOn s bus space r → IsAccessReach given roots s space bus reach
-      → IsClaimOn given roots s bus space c
+  pub exact : (roots : List ℕ) (s : System) (bus : ℕ) → IsSystem s → IsRegionOn s bus space r
+      → IsAccessReach given roots s space bus reach → IsClaimOn given roots s bus space c
 
 -- the addresses of a space that the legacy parts of the bridge with the record answer
 pub record IsLegacyOf (given : Given) (space : Space) (r : Record) (out : List Range) : Type 0 where

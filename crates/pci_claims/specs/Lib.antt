@@ -11,3 +11,4 @@ pub mod Reached
 pub mod Vga
 pub mod RootClaims
 pub mod Found
+pub mod Isa

@@ -1,5 +1,5 @@
 -- What a bridge passes, with what is given.
-use Rattle.std.specs.Prelude.{◌≡◌, ℕ, ◌≤◌, ◌↔◌, Bool, ◌&&◌, ◌||◌, true, IsTrue, List, map}
+use Rattle.std.specs.Prelude.{◌≡◌, ℕ, ◌≤◌, ◌↔◌, Bool, ◌&&◌, ◌||◌, not, true, IsTrue, List, map}
 use Rattle.std.specs.Option.{is_some}
 use Rattle.std.specs.List.{All, list_any}
 use Rattle.pci_spec.specs.Slot.{Slot, same_slot}
@@ -12,7 +12,7 @@ use Rattle.pci_function.specs.declared.record.Record.{Record}
 use Rattle.pci_function.specs.Values.{record_value}
 use Rattle.pci_tree.specs.Passes.{record_passes}
 use Rattle.pci_tree.specs.Ranges.{Covers, IsCanonical}
-use Rattle.given_spec.specs.Given.{Given, legacy_holds}
+use Rattle.given_spec.specs.Given.{Given, legacy_holds, is_cut}
 use Rattle.given_spec.specs.Given as spec
 use Rattle.given_spec.specs.Claims.{passes}
 use Rattle.pci_claims.specs.declared.given.LegacyBridge.{LegacyBridge}
@@ -35,10 +35,21 @@ legacy_passes given space a r =
     (is_some r.bridge && is_on r.command space)
     && list_any (is_piece_at r.slot space a) given.legacy
 
+-- whether the record is of a bridge of which a window passes an address of a kind of access, and ISA Enable doesn't take it
+abbrev pub window_passes : Given → WindowKind → ℕ → Record → Bool
+window_passes given kind a r =
+    record_passes kind a (record_value r) && not (is_cut given (window_space kind) a r.slot)
+
+-- the addresses of a kind of access that a window of a bridge passes
+pub record ArePassedByWindows (given : Given) (kind : WindowKind) (r : Record)
+    (out : List Range) : Type 0 where
+  pub canonical : IsCanonical out
+  pub exact : (a : ℕ) → Covers out a ↔ IsTrue (window_passes given kind a r)
+
 -- whether the record is of a bridge that passes an address of a kind of access, by a window or its legacy part
 abbrev pub passes_with : Given → WindowKind → ℕ → Record → Bool
 passes_with given kind a r =
-    record_passes kind a (record_value r) || legacy_passes given (window_space kind) a r
+    window_passes given kind a r || legacy_passes given (window_space kind) a r
 
 -- the addresses of a kind of access that a bridge passes
 pub record ArePassed (given : Given) (kind : WindowKind) (r : Record) (out : List Range) : Type 0 where

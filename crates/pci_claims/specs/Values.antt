@@ -17,4 +17,5 @@ given_value g = record {
   io = option_map (λ rs. map host_value rs.now) g.io;
   memory = option_map (λ rs. map host_value rs.now) g.memory;
   legacy = map legacy_value g.legacy.now;
+  isa = g.isa.now;
 }

@@ -39,15 +39,19 @@ struct Arriving<'a> {
 /// What some regions answer of the addresses that get to their bus.
 fn region_claims<A: Allocator + Copy>(
     alloc: A,
+    given: &Given<'_>,
     regions: &[Region],
-    reach: &[Range],
+    arriving: &Arriving,
 ) -> Result<Vec<Claim<A>, A>, OutOfMemory>
-    requires { IsCanonical reach.now }
-    ensures { IfOk result (λ v. AreRegionClaims regions.now reach.now v.items) }
+    requires { IsCanonical arriving.now.reach.now }
+    ensures { IfOk result (λ v. AreRegionClaims (given_value given.now)
+        (space_of arriving.now.space) regions.now arriving.now.reach.now v.items) }
 {
+    let space = arriving.space;
+    let reach = arriving.reach;
     let mut claims = Vec::new(alloc);
     for region in regions {
-        let claim = claim_of(alloc, region, reach)?;
+        let claim = claim_of(alloc, given, region, space, reach)?;
         claims.push(claim)?;
     }
     Ok(claims)
@@ -138,15 +142,15 @@ pub fn claims_among<A: Allocator + Copy>(
     let Some(reach) = access_reach(alloc, given, outline, slot, space)? else {
         return Ok(Vec::new(alloc));
     };
-    let mut claims = region_claims(alloc, &regions, &reach)?;
+    let arriving = Arriving {
+        space,
+        reach: &reach,
+    };
+    let mut claims = region_claims(alloc, given, &regions, &arriving)?;
     let records = outline.records();
     let bridges_here = Bridges {
         slots: &bridges,
         records,
-    };
-    let arriving = Arriving {
-        space,
-        reach: &reach,
     };
     add_legacy_claims(alloc, &mut claims, given, &bridges_here, &arriving)?;
     sort(&mut claims)?;

@@ -1,5 +1,5 @@
 //! Claims of a bus: what one region answers, and the least address that two of them answer.
-ghost use Rattle.std.specs.Prelude.{◌≡◌, ◌↔◌, ℕ, IsTrue, MatchOption, IfOk};
+ghost use Rattle.std.specs.Prelude.{◌≡◌, ◌≤◌, ◌↔◌, ℕ, IsTrue, MatchOption, IfOk};
 ghost use Rattle.pci_spec.specs.JudgingLaws.{region_number};
 ghost use Rattle.pci_base.specs.Space.{space_of};
 ghost use Rattle.pci_tree.specs.Ranges.{Covers, IsCanonical};
@@ -10,6 +10,7 @@ ghost use Rattle.pci_claims.specs.Claim.{ShareNoAddress, AreAtOdds, IsLeastAtOdd
 
 use super::gather::{common, gathered};
 use super::given::Given;
+use super::isa::{is_cut, kept};
 use super::passed::{is_bridge_on, pieces_of};
 use pci_base::memory::OutOfMemory;
 use pci_base::offset::{BRIDGE_CONTROL, IO_BASE, MEMORY_BASE, PREFETCHABLE_BASE};
@@ -82,8 +83,10 @@ pub fn place(slot: Slot, reg: u8) -> u32
 }
 
 /// The addresses of a region, as a list.
-pub fn own<A: Allocator>(alloc: A, region: &Region) -> Result<Vec<Range, A>, OutOfMemory>
-    ensures { IfOk result (λ v. AreAddressesOf region.now v.items) }
+fn whole<A: Allocator>(alloc: A, region: &Region) -> Result<Vec<Range, A>, OutOfMemory>
+    ensures canonical { IfOk result (λ v. IsCanonical v.items) }
+    ensures exact { IfOk result (λ v. (a : ℕ) → Covers v.items a
+        ↔ ((region.now.first ≤ a) × (a ≤ region.now.last))) }
 {
     let mut out = Vec::new(alloc);
     if region.first <= region.last {
@@ -95,17 +98,37 @@ pub fn own<A: Allocator>(alloc: A, region: &Region) -> Result<Vec<Range, A>, Out
     Ok(out)
 }
 
-/// What a BAR, a ROM or a window answers of the addresses that get to its bus.
+/// The addresses of a region of a space that ISA Enable doesn't take, as a list.
+pub fn own<A: Allocator + Copy>(
+    alloc: A,
+    given: &Given<'_>,
+    region: &Region,
+    space: Space,
+) -> Result<Vec<Range, A>, OutOfMemory>
+    ensures { IfOk result (λ v. AreAddressesOf (given_value given.now) (space_of space) region.now v.items) }
+{
+    let whole = whole(alloc, region)?;
+    if is_cut(given, space, region) {
+        kept(alloc, &whole)
+    } else {
+        Ok(whole)
+    }
+}
+
+/// What a BAR, a ROM or a window of a space answers of the addresses that get to its bus.
 pub fn claim_of<A: Allocator + Copy>(
     alloc: A,
+    given: &Given<'_>,
     region: &Region,
+    space: Space,
     reach: &[Range],
 ) -> Result<Claim<A>, OutOfMemory>
     // two rising lists have in common what one walk along both meets
     requires { IsCanonical reach.now }
-    ensures { IfOk result (λ c. IsClaimOfRegion region.now reach.now c) }
+    ensures { IfOk result (λ c. IsClaimOfRegion (given_value given.now) (space_of space) region.now
+        reach.now c) }
 {
-    let own = own(alloc, region)?;
+    let own = own(alloc, given, region, space)?;
     let pieces = common(alloc, &own, reach)?;
     Ok(Claim {
         slot: region.slot,

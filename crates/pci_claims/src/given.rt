@@ -10,11 +10,13 @@ pub struct LegacyBridge {
     pub is_wide: bool,
 }
 
-/// What is given beside a system: the ranges of each space that the host sends to its root buses, and the bridges with
-/// legacy parts. Where no ranges are said of a space, the host sends all of it to each root bus.
+/// What is given beside a system: the ranges of each space that the host sends to its root buses, the bridges with legacy
+/// parts, and those with ISA Enable. Where no ranges are said of a space, the host sends all of it to each root bus.
 #[derive(Clone, Copy, Debug)]
 pub struct Given<'a> {
     pub io: Option<&'a [RootRange]>,
     pub memory: Option<&'a [RootRange]>,
     pub legacy: &'a [LegacyBridge],
+    /// The bridges with ISA Enable (Bridge 1.2, 3.2.5.18).
+    pub isa: &'a [Slot],
 }

@@ -1,5 +1,5 @@
 //! What regions claim of what gets to their bus, with what is given: the addresses that the host sends to its root buses,
-//! and the legacy parts of bridges.
+//! the legacy parts of bridges, and the bridges with ISA Enable.
 #![tactic(auto)]
 
 pub mod bus_claims;
@@ -7,6 +7,7 @@ pub mod claim;
 pub mod find;
 pub mod gather;
 pub mod given;
+pub mod isa;
 pub mod legacy;
 pub mod outside;
 pub mod passed;

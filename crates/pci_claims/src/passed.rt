@@ -1,4 +1,4 @@
-//! What a bridge passes, by its windows and its legacy parts.
+//! What a bridge passes, by its windows and its legacy parts. ISA Enable takes addresses from the I/O window.
 ghost use Rattle.std.specs.Prelude.{◌≡◌, ◌&&◌, IfOk};
 ghost use Rattle.std.specs.Option.{is_some};
 ghost use Rattle.pci_base.specs.Space.{space_of, is_on};
@@ -6,10 +6,11 @@ ghost use Rattle.pci_base.specs.WindowKinds.{kind_value};
 ghost use Rattle.pci_tree.specs.Ranges.{IsCanonical};
 ghost use Rattle.pci_tree.specs.Reaches.{HasSpans};
 ghost use Rattle.pci_claims.specs.Values.{given_value};
-ghost use Rattle.pci_claims.specs.Passed.{ArePiecesOf, ArePassed, IsPassedBy, IsPassedOnWith};
+ghost use Rattle.pci_claims.specs.Passed.{ArePiecesOf, ArePassedByWindows, ArePassed, IsPassedBy, IsPassedOnWith};
 
 use super::gather::{common, gathered};
 use super::given::{Given, LegacyBridge};
+use super::isa::{cuts, kept};
 use super::legacy::pieces;
 use pci_base::memory::OutOfMemory;
 use pci_base::range::Range;
@@ -46,6 +47,26 @@ pub fn is_bridge_on(function: &Record, space: Space) -> bool
     function.bridge.is_some() && space.is_on(function.command)
 }
 
+/// The addresses that one bridge passes of accesses of a kind by its windows: ranges that rise, with an address between
+/// each two.
+fn passed_by_windows<A: Allocator + Copy>(
+    alloc: A,
+    given: &Given<'_>,
+    function: &Record,
+    kind: WindowKind,
+) -> Result<Vec<Range, A>, OutOfMemory>
+    requires { HasSpans function.now }
+    ensures { IfOk result
+        (λ v. ArePassedByWindows (given_value given.now) (kind_value kind) function.now v.items) }
+{
+    let windows = passed_by(alloc, function, kind)?;
+    if cuts(given, Space::of(kind), function.slot) {
+        kept(alloc, &windows)
+    } else {
+        Ok(windows)
+    }
+}
+
 /// The addresses that one bridge passes of accesses of a kind, by its windows or its legacy part: ranges that rise, with
 /// an address between each two.
 pub fn passed_with<A: Allocator + Copy>(
@@ -61,7 +82,7 @@ pub fn passed_with<A: Allocator + Copy>(
     ensures bridge { IfOk result
         (λ v. IsPassedBy (given_value given.now) (kind_value kind) function.now v.items) }
 {
-    let mut ranges = passed_by(alloc, function, kind)?;
+    let mut ranges = passed_by_windows(alloc, given, function, kind)?;
     let space = Space::of(kind);
     if is_bridge_on(function, space) {
         let legacy = pieces_of(alloc, given.legacy, function.slot, space)?;

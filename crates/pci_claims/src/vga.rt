@@ -1,11 +1,11 @@
-//! The bridges with legacy parts, by Bridge Control and a user's word (Bridge 1.2, 3.2.5.18).
+//! The bridges with legacy parts, and those with ISA Enable, by Bridge Control and a user's words (Bridge 1.2, 3.2.5.18).
 ghost use Rattle.std.specs.Prelude.{◌≡◌, List, map, Some, None, if◌then◌else◌, IfOk};
 ghost use Rattle.std.specs.Option.{option_map};
 ghost use Rattle.pci_spec.specs.Number.{has_bit};
 ghost use Rattle.pci_spec.specs.Header.{bridge_control};
 ghost use Rattle.pci_spec.specs.Text.{Block as BlockValue, slots_of};
 ghost use Rattle.pci_spec.specs.System.{system_of};
-ghost use Rattle.given_spec.specs.Words.{is_wide_by, has_legacy, legacy_bridge, legacy_bridges};
+ghost use Rattle.given_spec.specs.Words.{is_wide_by, has_isa_enable, has_legacy, isa_bridges, legacy_bridge, legacy_bridges};
 ghost use Rattle.pci_model.specs.WordsValue.{vga_value};
 ghost use Rattle.pci_claims.specs.Values.{legacy_value};
 ghost use Rattle.pci_claims.specs.Vga.{function_without_probe};
@@ -14,9 +14,10 @@ use super::given::LegacyBridge;
 use pci_base::image::Image;
 use pci_base::memory::OutOfMemory;
 use pci_base::offset::BRIDGE_CONTROL;
+use pci_base::slot::Slot;
 use pci_dump::block::Block;
 use pci_dump::dump::Dump;
-use pci_function::profile::{VGA_ENABLE, controls_bridge};
+use pci_function::profile::{ISA_ENABLE, VGA_ENABLE, controls_bridge};
 use pci_model::words::VgaWord;
 use std::alloc::Allocator;
 
@@ -62,6 +63,31 @@ pub fn legacy_bridges<A: Allocator, B: Allocator>(
     for block in dump.blocks() {
         if let Some(bridge) = legacy_part(block, word) {
             out.push(bridge)?;
+        }
+    }
+    Ok(out)
+}
+
+/// Whether a function is a bridge with ISA Enable.
+fn has_isa_enable(block: &Block) -> bool
+    ensures { result ≡ has_isa_enable (function_without_probe block.now) }
+{
+    controls_bridge(&block.image, ISA_ENABLE)
+}
+
+/// The bridges of a dump with ISA Enable, by slot.
+pub fn isa_bridges<A: Allocator, B: Allocator>(
+    alloc: A,
+    dump: &Dump<B>,
+) -> Result<Vec<Slot, A>, OutOfMemory>
+    // of any read backs
+    ensures { IfOk result (λ v. (probe : List BlockValue) → slots_of dump.now ≡ slots_of probe
+        → v.items ≡ isa_bridges (system_of dump.now probe)) }
+{
+    let mut out = Vec::new(alloc);
+    for block in dump.blocks() {
+        if has_isa_enable(block) {
+            out.push(block.slot)?;
         }
     }
     Ok(out)

@@ -33,18 +33,18 @@ returns g c s tree =
     claims_are given t s tree c.args.bus space regions are c.args.bridges.now here c.requires c.in_ok-bridges.ensures c.records-records.result.now
     (subst (λ (rs : List decoded.Record). HasRecords s rs) (sym c.records-records.ensures.value) tree.records) c.records-records.ensures.rising c.in-Some-2.reach.items gets
     c.in_ok-claims.claims.items added.more c.sort.new.claims.items
-    (subst (λ (l : List Region). AreRegionClaims l c.in-Some-2.reach.items c.in_ok-claims.claims.items) c.deref-3.ensures.value
-    (subst (λ (l : List Range). AreRegionClaims c.deref-3.result.now l c.in_ok-claims.claims.items) c.deref-4.ensures.value c.in_ok-claims.ensures))
+    (subst (λ (l : List Region). AreRegionClaims given space l c.in-Some-2.reach.items c.in_ok-claims.claims.items) c.deref-4.ensures.value
+    (subst (λ (l : List Range). AreRegionClaims given space c.deref-4.result.now l c.in_ok-claims.claims.items) c.deref-3.ensures.value c.in_ok-claims.ensures))
     (subst (λ (l : List Slot). AreLegacyClaims given space c.records-records.result.now c.in-Some-2.reach.items l added.more) c.deref-5.ensures.value
-    (subst (λ (l : List Range). AreLegacyClaims given space c.records-records.result.now l c.deref-5.result.now added.more) c.deref-6.ensures.value added.made))
+    (subst (λ (l : List Range). AreLegacyClaims given space c.records-records.result.now l c.deref-5.result.now added.more) c.deref-3.ensures.value added.made))
     (subst (λ (l : List Claimed). IsPermutation l c.sort.new.claims.items) added.appended c.in_ok-sort.ensures.permutation) c.in_ok-sort.ensures.sorted
     (c.records-records.ensures.nested s tree.records)
 
 pub region_claims-requires : goal.region_claims-requires
-region_claims-requires g c = subst (λ (l : List Range). IsCanonical l) (sym c.deref-4.ensures.value) (rw c.in-Some-2.is at c.in_ok-reach.ensures.canonical)
+region_claims-requires g c = subst (λ (l : List Range). IsCanonical l) (sym c.deref-3.ensures.value) (rw c.in-Some-2.is at c.in_ok-reach.ensures.canonical)
 
 pub add_legacy_claims-requires-clause-canonical : goal.add_legacy_claims-requires-clause-canonical
-add_legacy_claims-requires-clause-canonical g c = subst (λ (l : List Range). IsCanonical l) (sym c.deref-6.ensures.value) (rw c.in-Some-2.is at c.in_ok-reach.ensures.canonical)
+add_legacy_claims-requires-clause-canonical g c = subst (λ (l : List Range). IsCanonical l) (sym c.deref-3.ensures.value) (rw c.in-Some-2.is at c.in_ok-reach.ensures.canonical)
 
 pub returns-in_default : goal.returns-in_default
 returns-in_default g c s tree =
