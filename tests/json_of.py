@@ -14,7 +14,7 @@ SPAN = r'(?P<span>[0-9a-f]+-[0-9a-f]+)'
 PLACE = r'(?P<slot>\S+) (?P<register>\S\S)'
 ADDRESS = r'(?P<space>io|mem) (?P<address>[0-9a-f]+)'
 PAIR = r'(?P<slot1>\S+) (?P<register1>\S\S) (?P<slot2>\S+) (?P<register2>\S\S)'
-REGION = PLACE + r' (?P<part>bar|rom|window) (?P<space>io|mem)(?P<pref> pref)? ' + SPAN + r' \w+'
+REGION = PLACE + r' (?P<part>bar|rom|window) (?P<space>io|mem)(?P<pref> pref)? ' + SPAN + r' \w+(?P<isa> isa)?'
 LEGACY = PLACE + r' (?P<part>vga|vga16) (?P<space>io|mem) (?P<spans>[0-9a-f,-]+)(?P<each> of each 1K)?( \w+)?'
 
 
@@ -80,7 +80,7 @@ def fault(line):
 def region(text):
     found = whole(REGION, text)
     return {**place(found), 'part': found['part'], 'space': found['space'], 'prefetchable': bool(found['pref']),
-            **span(found['span'])}
+            **span(found['span']), **({'isa': True} if found['isa'] else {})}
 
 
 def claim(text):
@@ -99,11 +99,13 @@ def opening(word):
 
 
 def bridge(text):
-    found = whole(r'(?P<slot>\S+) (?P<on>on|off) (?P<space>io|mem) (?P<window>\S+)( pref (?P<pref>\S+))?( (?P<legacy>vga\S*))?',
+    found = whole(r'(?P<slot>\S+) (?P<on>on|off) (?P<space>io|mem) (?P<window>\S+)( pref (?P<pref>\S+))?(?P<isa> isa)?( (?P<legacy>vga\S*))?',
                   text)
     made = {'slot': found['slot'], 'on': found['on'] == 'on', 'windows': {found['space']: opening(found['window'])}}
     if found['pref']:
         made['windows']['pref'] = opening(found['pref'])
+    if found['isa']:
+        made['isa'] = True
     if found['legacy']:
         made['legacy'] = found['legacy']
     return made
@@ -153,11 +155,13 @@ def faults(lines):
 def places(lines):
     made = []
     for line, inner in groups(lines):
-        found = whole(SPAN + r' \w+ (?P<part>bar|rom|window|free)(?P<pref> pref)?( ' + PLACE + ')?', line)
+        found = whole(SPAN + r' \w+ (?P<part>bar|rom|window|free)(?P<pref> pref)?( ' + PLACE + '(?P<isa> isa)?)?', line)
         at = {'part': found['part'], **({'prefetchable': True} if found['pref'] else {})}
         if found['part'] != 'free':
             at.update(place(found))
         at.update(span(found['span']))
+        if found['isa']:
+            at['isa'] = True
         if found['part'] == 'window':
             at['inside'] = places(inner)
         elif inner:

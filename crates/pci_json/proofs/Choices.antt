@@ -2,9 +2,10 @@
 use Rattle.std.proofs.Common.{arith, ◌≡◌, ℕ, List, [], ◌∷◌, Bool, true, false, refl, sym, ap, ◌∙◌, codes, if◌then◌else◌}
 use Rattle.std.proofs.lemmas.Bool.{false≢true}
 use Rattle.json.specs.Json.{string}
-use Rattle.pci_json.specs.Lines.{parts_of, lines_of, content_of, is_inner}
+use Rattle.pci_json.specs.Lines.{parts_of, lines_of, content_of, is_inner, is_word}
 use Rattle.pci_json.specs.Members.{object_of}
-use Rattle.pci_json.specs.Groups.{inner_of, has_any, why_member, why_members}
+use Rattle.pci_json.specs.Listings.{rom_members}
+use Rattle.pci_json.specs.Groups.{inner_of, has_any, why_member, why_members, is_claim, single_members}
 use Rattle.pci_json.specs.Documents.{room_member, first_line, behind_line}
 use Rattle.pci_json.proofs.Cuts.{parts_cut}
 
@@ -32,3 +33,12 @@ room_one [] any = absurd (false≢true any)
 room_one (b ∷ text) any =
     let cut = ap inner_of (parts_cut 10 (b ∷ text) (omega arith)) in
     ap room_member cut ∙ room_if (is_inner (first_line (b ∷ text))) (content_of (first_line (b ∷ text))) (inner_of (lines_of (behind_line (b ∷ text)))) (sym (ap has_any cut) ∙ any)
+
+pub no_claim : (line : List ℕ) → is_word 0 (codes "needs") line ≡ false → is_word 0 (codes "first") line ≡ false → is_word 0 (codes "second") line ≡ false
+    → is_claim line ≡ false
+no_claim line needs first second = rw needs (rw first (rw second refl))
+
+-- a line whose first word is `rom` is that member
+pub single_rom : (line : List ℕ) → is_claim line ≡ false → is_word 0 (codes "bridge") line ≡ false → is_word 0 (codes "host") line ≡ false
+    → is_word 0 (codes "fits") line ≡ false → is_word 0 (codes "rom") line ≡ true → single_members line ≡ (codes "rom", object_of (rom_members line)) ∷ []
+single_rom line claim bridge host fits rom = rw claim (rw bridge (rw host (rw fits (rw rom refl))))

@@ -1,10 +1,10 @@
 -- The members of objects, and those that several kinds of lines share.
-use Rattle.std.specs.Prelude.{ℕ, ◌+◌, ◌-◌, ◌==◌, Bool, List, [], ◌∷◌, ◌++◌, codes, decimal, fold, map, length, if◌then◌else◌}
+use Rattle.std.specs.Prelude.{ℕ, ◌+◌, ◌-◌, ◌==◌, Bool, true, List, [], ◌∷◌, ◌++◌, codes, decimal, fold, map, length, if◌then◌else◌}
 use Rattle.std.specs.List.{before_first, after_first}
-use Rattle.json.specs.Json.{Json, string, number, array, object, Items, no_items, item, Members, no_members, member}
+use Rattle.json.specs.Json.{Json, string, number, boolean, array, object, Items, no_items, item, Members, no_members, member}
 use Rattle.json.specs.Token.{Token}
 use Rattle.json.specs.Tree.{json_tokens}
-use Rattle.pci_json.specs.Lines.{word, value_of, parts_of}
+use Rattle.pci_json.specs.Lines.{word, is_word, value_of, parts_of}
 
 -- a member: its name and its value
 abbrev pub Member : Type 0
@@ -53,6 +53,10 @@ count n = number (decimal n)
 
 abbrev pub slot_and_register : ℕ → List ℕ → List (List ℕ × Json)
 slot_and_register n content = (codes "slot", string (word n content)) ∷ (codes "register", hex (word (n + 1) content)) ∷ []
+
+-- where a line has `isa` behind so many words
+abbrev pub isa_member : ℕ → List ℕ → List (List ℕ × Json)
+isa_member n line = if is_word n (codes "isa") line then (codes "isa", boolean true) ∷ [] else []
 
 -- ---- a range F-L: its first and last address, and how many they are
 

@@ -2,9 +2,9 @@
 use Rattle.std.specs.Prelude.{ℕ, ◌+◌, ◌||◌, List, [], ◌∷◌, ◌++◌, codes, if◌then◌else◌}
 use Rattle.json.specs.Json.{Json, string, boolean, null}
 use Rattle.pci_json.specs.Lines.{word, is_word, behind}
-use Rattle.pci_json.specs.Members.{object_of, array_of, count, slot_and_register, range_members, opening, ranges_of}
+use Rattle.pci_json.specs.Members.{object_of, array_of, count, slot_and_register, isa_member, range_members, opening, ranges_of}
 
--- S r PART F-L N behind so many words; PART is two words, and may be followed by `pref`
+-- S r PART F-L N behind so many words; PART is two words, and may be followed by `pref`, and N by `isa`
 abbrev pub range_place : ℕ → List ℕ → ℕ
 range_place n line = if is_word (n + 4) (codes "pref") line then n + 5 else n + 4
 
@@ -16,7 +16,7 @@ part_members n line =
 abbrev pub region_members : ℕ → List ℕ → List (List ℕ × Json)
 region_members n line =
     part_members n line ++ (codes "prefetchable", boolean (is_word (n + 4) (codes "pref") line))
-    ∷ range_members (word (range_place n line) line)
+    ∷ (range_members (word (range_place n line) line) ++ isa_member (range_place n line + 2) line)
 
 -- S 3e vga SPACE F-L,F-L of each 1K: the last three words where each KB has these ports
 abbrev pub each_members : List ℕ → List (List ℕ × Json)
@@ -31,12 +31,13 @@ abbrev pub claim_members : List ℕ → List (List ℕ × Json)
 claim_members line =
     if is_word 3 (codes "vga") line || is_word 3 (codes "vga16") line then legacy_members line else region_members 1 line
 
--- bridge S on SPACE W, or behind SPACE W pref W; and vga or vga16 at the end
+-- bridge S on SPACE W, or behind SPACE W pref W; then isa, and vga or vga16 at the end
 abbrev pub prefetchable_window : List ℕ → List (List ℕ × Json)
 prefetchable_window line = if is_word 5 (codes "pref") line then (codes "pref", opening (word 6 line)) ∷ [] else []
 
 abbrev pub legacy_place : List ℕ → ℕ
-legacy_place line = if is_word 5 (codes "pref") line then 7 else 5
+legacy_place line =
+    if is_word 5 (codes "pref") line then 7 else if is_word 5 (codes "isa") line then 6 else 5
 
 abbrev pub legacy_word : List ℕ → List (List ℕ × Json)
 legacy_word line =
@@ -49,7 +50,7 @@ abbrev pub bridge_members : List ℕ → List (List ℕ × Json)
 bridge_members line =
     (codes "slot", string (word 1 line)) ∷ (codes "on", boolean (is_word 2 (codes "on") line))
     ∷ (codes "windows", object_of (way_members line))
-    ∷ legacy_word line
+    ∷ (isa_member 5 line ++ legacy_word line)
 
 -- host SPACE F-L .., or host SPACE none
 abbrev pub host_ranges : List ℕ → List Json

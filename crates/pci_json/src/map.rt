@@ -7,7 +7,7 @@ ghost use Rattle.pci_json.specs.Documents.{place_of, places_of, root_of, buses_o
 
 use crate::lines::{behind, content, cut, depth_of, is_inner, is_word, word};
 use crate::listing::push_kind;
-use crate::members::push_range;
+use crate::members::{push_isa, push_range};
 use crate::output::Output;
 use std::alloc::{AllocError, Allocator};
 
@@ -25,7 +25,8 @@ fn push_sits<A: Allocator>(out: &mut Output<A>, line: &str, part: &str) -> Resul
 {
     out.text("part", word(part, 0))?;
     push_kind(out, behind(part, 1))?;
-    push_range(out, word(line, 0))
+    push_range(out, word(line, 0))?;
+    push_isa(out, line, 5)
 }
 
 /// The members of a line of a map, but what is inside it.

@@ -1,9 +1,9 @@
 //! Members that several kinds of lines have.
 ghost use Rattle.std.specs.Prelude.{◌≡◌, ◌<◌, ◌++◌, OnOk};
 ghost use Rattle.json.specs.Tree.{json_tokens};
-ghost use Rattle.pci_json.specs.Members.{with_members, with_items, first_of, last_of, slot_and_register, range_members, range_object, opening, ranges_of};
+ghost use Rattle.pci_json.specs.Members.{with_members, with_items, first_of, last_of, slot_and_register, isa_member, range_members, range_object, opening, ranges_of};
 
-use crate::lines::{behind, cut, value, word};
+use crate::lines::{behind, cut, is_word, value, word};
 use crate::output::Output;
 use std::alloc::{AllocError, Allocator};
 
@@ -19,6 +19,17 @@ pub fn push_slot_and_register<A: Allocator>(
     let slot = behind(line, n);
     out.text("slot", word(slot, 0))?;
     out.hex("register", word(slot, 1))
+}
+
+/// That ISA Enable cuts a window, where this word of its line says so.
+pub fn push_isa<A: Allocator>(out: &mut Output<A>, line: &str, n: usize) -> Result<(), AllocError>
+    requires { n < 1000 }
+    ensures { OnOk result (out.new ≡ with_members out.old (isa_member n line.now)) }
+{
+    if is_word(line, n, "isa") {
+        return out.boolean("isa", true);
+    }
+    Ok(())
 }
 
 /// What stands before and behind the dash of a range.

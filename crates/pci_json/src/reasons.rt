@@ -6,7 +6,7 @@ ghost use Rattle.pci_json.specs.Members.{with_members, with_items, object_of, ar
 ghost use Rattle.pci_json.specs.Reasons.{range_place, part_members, region_members, each_members, legacy_members, claim_members, prefetchable_window, legacy_place, legacy_word, way_members, bridge_members, host_ranges, fits_value};
 
 use crate::lines::{behind, is_word, word};
-use crate::members::{push_opening, push_range, push_ranges, push_slot_and_register};
+use crate::members::{push_isa, push_opening, push_range, push_ranges, push_slot_and_register};
 use crate::output::Output;
 use std::alloc::{AllocError, Allocator};
 
@@ -44,7 +44,9 @@ pub fn push_region<A: Allocator>(
 {
     push_part(out, line, n)?;
     out.boolean("prefetchable", is_word(line, n + 4, "pref"))?;
-    push_range(out, word(line, range_place(line, n)))
+    let place = range_place(line, n);
+    push_range(out, word(line, place))?;
+    push_isa(out, line, place + 2)
 }
 
 /// That each KB has these ports.
@@ -103,7 +105,13 @@ fn push_prefetchable<A: Allocator>(out: &mut Output<A>, line: &str) -> Result<()
 fn legacy_place(line: &str) -> usize
     ensures { result ≡ legacy_place line.now }
 {
-    if is_word(line, 5, "pref") { 7 } else { 5 }
+    if is_word(line, 5, "pref") {
+        7
+    } else if is_word(line, 5, "isa") {
+        6
+    } else {
+        5
+    }
 }
 
 /// The word of a legacy part, where the line has one.
@@ -143,6 +151,7 @@ pub fn push_bridge<A: Allocator>(out: &mut Output<A>, line: &str) -> Result<(), 
     out.boolean("on", is_word(line, 2, "on"))?;
     out.key("windows")?;
     push_windows(out, line)?;
+    push_isa(out, line, 5)?;
     push_legacy_word(out, line)
 }
 
