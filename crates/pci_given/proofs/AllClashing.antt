@@ -126,7 +126,7 @@ address_small Memory a h = h
 
 module _ (given : Given) (roots : List ℕ) (s : System) (system : IsSystem s) where
   pub address_of : (bus : ℕ) (space : Space) (a : ℕ) (slot : Slot) (register : ℕ) → ClaimsOnBus given s bus (address_in space a) (named_region slot register) → a < 2 ^ 64
-  address_of bus space a slot register (f, Own part, listed, at, on, named, claims) = address_small space a claims.address
+  address_of bus space a slot register (f, Own part, listed, at, on, named, own) = address_small space a own.claims.address
   address_of bus space a slot register (f, Legacy, listed, at, on, named, claims) = address_small space a claims.address
 
   pub region_of : (bus : ℕ) (space : Space) (a : ℕ) (slot : Slot) (register : ℕ) → ClaimsOnBus given s bus (address_in space a) (named_region slot register) → IsRegion slot register

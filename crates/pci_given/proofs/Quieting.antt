@@ -154,9 +154,9 @@ module _ (given : Given) (s : System) (IsOne : ℕ → Type 0) (space : Space) (
     holds : legacy_holds bridge.is_wide space a ≡ true
 
   claimant : (b : ℕ) (slot : Slot) (register a : ℕ) → IsOne b → ClaimsOnBus given s b (address_in space a) (named_region slot register) → IsRegionAt slot register a ⊎ IsLegacyAt slot register a
-  claimant b slot register a one (f, Own part, listed, at, on_bus, named, claims) =
-      let found = are.complete b one f part a listed (ap (λ (x : Slot). x.bus) at ∙ on_bus) claims in
-      let held = (found.is.claims a).1 claims in
+  claimant b slot register a one (f, Own part, listed, at, on_bus, named, own) =
+      let found = are.complete b one f part a listed (ap (λ (x : Slot). x.bus) at ∙ on_bus) own.claims in
+      let held = (found.is.claims a).1 own.claims in
       inl record { q = found.q; has = found.has; slot_is = found.is.slot ∙ at; register_is = found.is.register ∙ named; first = held.0; last = held.1 }
   claimant b slot register a one (f, Legacy, listed, at, on_bus, named, claims) =
       let (e, has, is) = any_gives (is_legacy_at f space a) given.legacy (and_parts (is_bridge f && is_space_on f space) (list_any (is_legacy_at f space a) given.legacy) claims.claims).1 in

@@ -1,7 +1,7 @@
 -- The list of judging with nothing given is the one without it.
 use Rattle.std.proofs.Common.{◌≡◌, true, false, ◌||◌, List, [], ◌∷◌, Option, None, Some, length, map, option_map, refl, sym, ◌∙◌, ap, subst, arith}
 use Rattle.std.specs.Prelude.{◌==◌, is_some, not}
-use Rattle.std.proofs.lemmas.Bool.{both_ways}
+use Rattle.std.proofs.lemmas.Bool.{both_ways, or_parts}
 use Rattle.pci_function.specs.declared.fault.Fault.{Fault}
 use Rattle.pci_function.specs.Fault.{fault_of}
 use Rattle.pci_tree.specs.Outline.{Tree}
@@ -25,17 +25,24 @@ plain_lines t known list is listed s tree =
     subst (λ (l : List spec.Fault). AreAllOfJudging nothing_given t.roots s l) (sym (ap (map judged_of) is ∙ known_values known))
     (plain_judging t.roots s (map fault_of known) (listed s tree))
 
-nothing_said : {X Y : Type 0} (io memory : Option X) (legacy : List Y) → (is_some io || is_some memory || not (length legacy == 0)) ≡ false → (io ≡ None) × (memory ≡ None) × (legacy ≡ [])
-nothing_said (Some x) memory legacy e = absurd (both_ways true e refl)
-nothing_said None (Some x) legacy e = absurd (both_ways true e refl)
-nothing_said None None [] e = (refl, refl, refl)
-nothing_said None None (b ∷ rest) e = absurd (let some : (length (b ∷ rest) == 0) ≡ false = search (arith) in both_ways (not (length (b ∷ rest) == 0)) e (ap not some))
+none_there : {X : Type 0} (xs : List X) → not (length xs == 0) ≡ false → xs ≡ []
+none_there [] e = refl
+none_there (x ∷ xs) e = absurd (let some : (length (x ∷ xs) == 0) ≡ false = search (arith) in both_ways (not (length (x ∷ xs) == 0)) e (ap not some))
+
+nothing_said : {X Y Z : Type 0} (io memory : Option X) (legacy : List Y) (isa : List Z) → (is_some io || is_some memory || not (length legacy == 0) || not (length isa == 0)) ≡ false
+    → (io ≡ None) × (memory ≡ None) × (legacy ≡ []) × (isa ≡ [])
+nothing_said (Some x) memory legacy isa e = absurd (both_ways true e refl)
+nothing_said None (Some x) legacy isa e = absurd (both_ways true e refl)
+nothing_said None None legacy isa e =
+    let parts = or_parts (not (length legacy == 0)) (not (length isa == 0)) e in
+    (refl, refl, none_there legacy parts.0, none_there isa parts.1)
 
 pub nothing_is : (given : claims.Given) → is_given given ≡ false → given_value given ≡ nothing_given
 nothing_is given none =
-    let said = nothing_said given.io given.memory given.legacy.now none in
+    let said = nothing_said given.io given.memory given.legacy.now given.isa.now none in
     λ i. record {
       io = option_map (λ ranges. map host_value ranges.now) (said.0 i);
       memory = option_map (λ ranges. map host_value ranges.now) (said.1 i);
       legacy = map legacy_value (said.2 i);
+      isa = said.3 i;
     }

@@ -22,6 +22,8 @@ abbrev pub AreAllLines : Given → Tree → List AnyFault → Type 0
 AreAllLines given t list =
     (s : System) → HasTree t s → AreAllOfJudging given t.roots s (map judged_of list)
 
--- whether something is given: ranges of a space, or a bridge with legacy parts
+-- whether something is given: ranges of a space, or a bridge with legacy parts or ISA Enable
 abbrev pub is_given : claims.Given → Bool
-is_given given = is_some given.io || is_some given.memory || not (length given.legacy.now == 0)
+is_given given =
+    is_some given.io || is_some given.memory || not (length given.legacy.now == 0)
+    || not (length given.isa.now == 0)

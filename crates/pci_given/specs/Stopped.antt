@@ -1,5 +1,5 @@
 -- The first bridge on the way to a region that doesn't pass all that is sent of it.
-use Rattle.std.specs.Prelude.{◌≡◌, ℕ, ◌<◌, false, List, length, take}
+use Rattle.std.specs.Prelude.{◌≡◌, ℕ, ◌<◌, false, IsFalse, List, length, take}
 use Rattle.std.specs.List.{All, HoldsAt}
 use Rattle.pci_spec.specs.Slot.{Slot}
 use Rattle.pci_spec.specs.Window.{WindowKind}
@@ -12,11 +12,15 @@ use Rattle.pci_tree.specs.Outline.{Tree}
 use Rattle.pci_tree.specs.Ranges.{Holds}
 use Rattle.pci_tree.specs.Regions.{IsRegionOn, is_of_window}
 use Rattle.pci_tree.specs.Trees.{HasTree}
-use Rattle.given_spec.specs.Given.{Given}
+use Rattle.given_spec.specs.Given.{Given, is_cut}
 use Rattle.given_spec.specs.Fault.{IsUnreached}
 use Rattle.given_spec.specs.AllFaults.{IsUnreachedOf}
 use Rattle.pci_claims.specs.Outside.{IsSent}
 use Rattle.pci_claims.specs.Reached.{PassesAt}
+
+-- ISA Enable takes no address of a space from any window
+abbrev pub NeverCut : Given → Space → Type 0
+NeverCut given space = (a : ℕ) (slot : Slot) → IsFalse (is_cut given space a slot)
 
 -- the bridge at a slot passes each address of a range that is sent there
 abbrev pub PassesEach : (ℕ → Type 0) → (ℕ → Slot → Type 0) → Range → Slot → Type 0

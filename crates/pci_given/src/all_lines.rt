@@ -68,7 +68,10 @@ fn all_by_number<A: Allocator + Copy>(
 fn is_given(given: &Given<'_>) -> bool
     ensures { result ≡ is_given given.now }
 {
-    given.io.is_some() || given.memory.is_some() || !given.legacy.is_empty()
+    given.io.is_some()
+        || given.memory.is_some()
+        || !given.legacy.is_empty()
+        || !given.isa.is_empty()
 }
 
 /// All faults of judging without what is given.

@@ -1,6 +1,6 @@
 //! Unreached regions: a BAR or a ROM that is enabled, and has an address that the host sends to the root above it and
 //! that a bridge on the way from there doesn't pass.
-ghost use Rattle.std.specs.Prelude.{MatchOption, IfOk};
+ghost use Rattle.std.specs.Prelude.{IsFalse, MatchOption, IfOk};
 ghost use Rattle.std.specs.List.{All};
 ghost use Rattle.pci_spec.specs.System.{window_space};
 ghost use Rattle.pci_base.specs.Space.{space_of};
@@ -11,7 +11,7 @@ ghost use Rattle.pci_check.specs.Stops.{AreReachesOf, AlwaysNested};
 ghost use Rattle.pci_claims.specs.Values.{given_value};
 ghost use Rattle.pci_claims.specs.Outside.{IsSent};
 ghost use Rattle.pci_claims.specs.Reached.{PassesAt};
-ghost use Rattle.pci_given.specs.Stopped.{PassesSent, IsFirstBridgeThatStops, IsNeverUnreached, IsUnreachedLine};
+ghost use Rattle.pci_given.specs.Stopped.{NeverCut, PassesSent, IsFirstBridgeThatStops, IsNeverUnreached, IsUnreachedLine};
 
 use super::bars_and_roms::BarOrRom;
 use super::missed::least_missed;
@@ -115,6 +115,16 @@ pub fn first_stop_of<A: Allocator + Copy>(
     }
 }
 
+/// Whether ISA Enable takes addresses of a space from some window.
+pub fn are_any_cut(given: &Given<'_>, space: Space) -> bool
+    ensures { IsFalse result → NeverCut (given_value given.now) (space_of space) }
+{
+    match space {
+        Space::Io => !given.isa.is_empty(),
+        Space::Mem => false,
+    }
+}
+
 /// The same, `reached` being what windows alone let to each bus.
 pub fn stop_of_lost<A: Allocator + Copy>(
     alloc: A,
@@ -132,6 +142,10 @@ pub fn stop_of_lost<A: Allocator + Copy>(
         (λ stop. IsUnreachedLine (given_value given.now) outline.now (space_of one.now.space)
         one.now.region stop.address stop.bridge)) }
 {
+    // a window may not pass what it holds
+    if are_any_cut(given, one.space) {
+        return first_stop_of(alloc, given, outline, one);
+    }
     // what the windows on the way pass isn't stopped, so that few ways are walked
     if is_lost(&one.region, reached, one.space, one.region.slot.bus()) {
         first_stop_of(alloc, given, outline, one)

@@ -1,13 +1,15 @@
 //! All unreached regions: one fault for each BAR or ROM with an address that the host sends to the root above it and
 //! that a bridge on the way from there doesn't pass.
 ghost use Rattle.std.specs.Prelude.{IfOk, IsTrue};
+ghost use Rattle.pci_spec.specs.System.{Io};
 ghost use Rattle.pci_check.specs.Judgement.{AreHome};
 ghost use Rattle.pci_check.specs.Stops.{AreReachesOf, AlwaysNested};
 ghost use Rattle.pci_claims.specs.Values.{given_value};
+ghost use Rattle.pci_given.specs.Stopped.{NeverCut};
 ghost use Rattle.pci_given.specs.UnreachedLines.{AreUnreachedLines, AreAllUnreached};
 
 use super::bars_and_roms::{BarOrRom, bars_and_roms};
-use super::unreached::stop_of_lost;
+use super::unreached::{are_any_cut, stop_of_lost};
 use pci_base::memory::OutOfMemory;
 use pci_base::slot::BUSES;
 use pci_base::space::Space;
@@ -65,6 +67,24 @@ fn are_home<A: Allocator + Copy>(
     Ok(true)
 }
 
+/// The same, where ISA Enable takes nothing from a window.
+fn are_all_home<A: Allocator + Copy>(
+    given: &Given<'_>,
+    outline: &Outline<A>,
+    reached: &Reached<A>,
+) -> Result<bool, OutOfMemory>
+    requires reached { AreReachesOf outline.now reached.now }
+    requires nested { AlwaysNested outline.now }
+    ensures { IfOk result (λ home. IsTrue home
+        → AreHome outline.now × NeverCut (given_value given.now) Io) }
+{
+    if are_any_cut(given, Space::Io) {
+        Ok(false)
+    } else {
+        are_home(outline, reached)
+    }
+}
+
 /// All unreached regions of the systems with these records and root buses, with what is given: 60 of each BAR or ROM
 /// that is enabled, and has an address that the host sends to the root above it and that a bridge on the way from there
 /// doesn't pass, with the first such bridge and the least address that this one doesn't pass. They stand in the order
@@ -77,8 +97,8 @@ pub fn all_unreached<A: Allocator + Copy>(
     ensures { IfOk result (λ v. AreAllUnreached (given_value given.now) outline.now v.items) }
 {
     let reached = Reached::of(outline)?;
-    // so it is on most boards, and what is given only adds to what windows pass
-    if are_home(outline, &reached)? {
+    // so it is on most boards, and what else is given only adds to what windows pass
+    if are_all_home(given, outline, &reached)? {
         return Ok(Vec::new(alloc));
     }
     let list = bars_and_roms(alloc, outline)?;

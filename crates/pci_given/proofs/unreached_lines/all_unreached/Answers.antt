@@ -16,4 +16,4 @@ returns g c = IfOk-weaker c.unreached_among.result _ _
 pub returns-then-branch : goal.returns-then-branch
 returns-then-branch g c =
     subst (λ (l : List Fault). AreAllUnreached (given_value c.args.given.now) c.args.outline.now l) (sym c.new.ensures.items)
-    (none_unreached (given_value c.args.given.now) c.args.outline.now c.in_ok-reached.ensures.nested (c.in_ok-are_home.ensures c.if-branch.true))
+    (none_unreached (given_value c.args.given.now) c.args.outline.now c.in_ok-reached.ensures.nested (c.in_ok-are_all_home.ensures c.if-branch.true).0 (c.in_ok-are_all_home.ensures c.if-branch.true).1)
