@@ -35,7 +35,7 @@ use Rattle.pci_why.proofs.Texts.{three_appended}
 use Rattle.given_spec.specs.Given.{Given}
 use Rattle.given_spec.specs.Claims.{passes}
 use Rattle.given_spec.specs.Fault.{IsUnreached}
-use Rattle.given_spec.specs.Why.{legacy_words, bridge_line, IsBehindUnreached, Misses}
+use Rattle.given_spec.specs.Why.{isa_words, legacy_words, bridge_line, IsBehindUnreached, Misses}
 use Rattle.pci_claims.specs.Passed.{ArePassed, passes_with}
 use Rattle.pci_claims.proofs.Linking.{passes_same}
 use Rattle.pci_why.specs.Bridges.{bridge_text, line_of_bridge, IsMissed, IsBehindOneBridge}
@@ -45,7 +45,7 @@ use Rattle.pci_why.proofs.Recorded.{stands_for, has_record}
 
 bridge_text_by : Given → Function → Space → Bool → Bool → List ℕ
 bridge_text_by given b space prefetch on =
-    inner_line (codes "bridge" ∷ slot_text b.slot ∷ on_text on ∷ windows_text space prefetch (decoded_windows b.image b.probe) ∷ legacy_words given b.slot)
+    inner_line (codes "bridge" ∷ slot_text b.slot ∷ on_text on ∷ windows_text space prefetch (decoded_windows b.image b.probe) ∷ isa_words given space b.slot ++ legacy_words given b.slot)
 
 bridge_same : (given : Given) (r : Record) (b : Function) (space : Space) (prefetch : Bool) → record_value r ≡ record_of b → is_bridge b ≡ true
     → line_of_bridge given (record_value r) space prefetch ≡ bridge_line given b space prefetch

@@ -1,5 +1,6 @@
 -- The line of a region is what the definitions say; the bridges on a way.
-use Rattle.std.proofs.Common.{◌≡◌, ℕ, List, [], ◌∷◌, refl, sym, ◌∙◌, ap, subst, arith, inl, inr, Bool, true, Some}
+use Rattle.std.proofs.Common.{◌≡◌, ℕ, List, [], ◌∷◌, ◌++◌, refl, sym, ◌∙◌, ap, subst, arith, inl, inr, Bool, true, Some}
+use Rattle.std.specs.Prelude.{◌&&◌, if◌then◌else◌}
 use Rattle.std.specs.List.{Contains}
 use Rattle.pci_spec.specs.Header.{secondary_bus}
 use Rattle.pci_spec.specs.Window.{WindowKind, IoWindow, MemoryWindow, PrefetchWindow}
@@ -11,8 +12,14 @@ use Rattle.pci_spec.specs.Why.{part_text, place_words, region_line}
 use Rattle.pci_spec.proofs.Members.{in_nil, in_cons_cases}
 use Rattle.pci_tree.specs.declared.region.Region.{Region}
 use Rattle.pci_tree.specs.declared.region.Part.{Part}
-use Rattle.pci_tree.specs.Regions.{IsRegionOf, name_of}
-use Rattle.pci_why.specs.RegionLines.{words_of, window_at, line_of}
+use Rattle.pci_tree.specs.Regions.{IsRegionOf, is_of_window, name_of}
+use Rattle.pci_tree.proofs.RegionParts.{window_named}
+use Rattle.given_spec.specs.Given.{Given, is_cut}
+use Rattle.given_spec.specs.Claims.{is_cut_of}
+use Rattle.given_spec.specs.Why.{Own, isa_words, isa_words_of}
+use Rattle.given_spec.specs.Why.{region_line as given_region_line}
+use Rattle.pci_claims.specs.Claim.{is_cut_from}
+use Rattle.pci_why.specs.RegionLines.{words_of, window_at, line_of, given_line_of, isa_words_at}
 use Rattle.pci_claims.specs.Found.{bounds_range, region_of_found}
 
 -- ---- a region
@@ -39,6 +46,20 @@ pub line_same : (word : List ℕ) (f : Function) (part : system.Part) (space : S
 line_same word f part space q is =
     ap (λ words. inner_line (word ∷ place_words q.slot q.reg words space (bounds_range q)))
     (named_words f part space q.part q.reg q.prefetch is.named is.register is.prefetch (maps_of f part space q is))
+
+-- ISA Enable takes from it what it takes from its part
+pub cut_of_part : (given : Given) (space : Space) (f : Function) (part : system.Part) (q : Region) → IsRegionOf f part space q → (a : ℕ) → is_cut_from given space q a ≡ is_cut_of given part space a q.slot
+cut_of_part given space f part q is a = ap (λ p. is_of_window p && is_cut given space a q.slot) is.named ∙ ap (λ b. b && is_cut given space a q.slot) (sym (window_named part))
+
+isa_words_same : (given : Given) (space : Space) (f : Function) (part : system.Part) (q : Region) → IsRegionOf f part space q → isa_words_at given space q ≡ isa_words_of given part space q.slot
+isa_words_same given space f part q is =
+    ap (λ p. if is_of_window p then isa_words given space q.slot else []) is.named ∙ ap (λ b. if b then isa_words given space q.slot else []) (sym (window_named part))
+
+pub given_line_same : (given : Given) (word : List ℕ) (f : Function) (part : system.Part) (space : Space) (q : Region) → IsRegionOf f part space q → given_line_of given word space q ≡ given_region_line given word (Own (region_of_found q part space))
+given_line_same given word f part space q is =
+    ap (λ words. inner_line (word ∷ place_words q.slot q.reg words space (bounds_range q) ++ isa_words_at given space q))
+    (named_words f part space q.part q.reg q.prefetch is.named is.register is.prefetch (maps_of f part space q is))
+    ∙ ap (λ ws. inner_line (word ∷ place_words q.slot q.reg (part_text part space q.prefetch) space (bounds_range q) ++ ws)) (isa_words_same given space f part q is)
 
 -- ---- a bridge
 

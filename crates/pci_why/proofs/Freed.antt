@@ -33,12 +33,12 @@ forwards_of given Memory prefetch a b h =
     let by_memory = window_claims b MemoryWindow a in
     let by_prefetch = window_claims b PrefetchWindow a in
     let legacy = legacy_claims given Memory a b in
-    elim (or_cases (by_memory || (prefetch && by_prefetch)) legacy h) [
-      | inl window ↦ elim (or_cases by_memory (prefetch && by_prefetch) window) [
-        | inl memory ↦ ap (λ x. (x || by_prefetch) || legacy) memory
-        | inr both ↦ ap (λ x. (by_memory || x) || legacy) (and_parts prefetch by_prefetch both).1 ∙ ap (λ x. x || legacy) (or-true by_memory)
+    elim (or_cases ((by_memory || (prefetch && by_prefetch)) && true) legacy h) [
+      | inl window ↦ elim (or_cases by_memory (prefetch && by_prefetch) (and_parts (by_memory || (prefetch && by_prefetch)) true window).0) [
+        | inl memory ↦ ap (λ x. ((x || by_prefetch) && true) || legacy) memory
+        | inr both ↦ ap (λ x. ((by_memory || x) && true) || legacy) (and_parts prefetch by_prefetch both).1 ∙ ap (λ x. (x && true) || legacy) (or-true by_memory)
       ]
-      | inr part ↦ ap (λ x. (by_memory || by_prefetch) || x) part ∙ or-true (by_memory || by_prefetch)
+      | inr part ↦ ap (λ x. ((by_memory || by_prefetch) && true) || x) part ∙ or-true ((by_memory || by_prefetch) && true)
     ]
 
 all_forward : (given : Given) (space : Space) (prefetch : Bool) (a : ℕ) (bridges : List Function) → IsTrue (list_all (passes given space prefetch a) bridges) → IsTrue (list_all (forwards given space a) bridges)

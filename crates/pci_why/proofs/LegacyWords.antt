@@ -39,6 +39,15 @@ pub words_spaced : (ws : List (List ℕ)) → words ws ≡ spaced ws ++ 10 ∷ [
 words_spaced [] = refl
 words_spaced (w ∷ ws) = ap (λ t. (32 ∷ w) ++ t) (words_spaced ws) ∙ sym (append_assoc (32 ∷ w) (spaced ws) (10 ∷ []))
 
+-- words behind others
+spaced_both : (xs ys : List (List ℕ)) → spaced (xs ++ ys) ≡ spaced xs ++ spaced ys
+spaced_both [] ys = refl
+spaced_both (x ∷ xs) ys = ap (λ t. (32 ∷ x) ++ t) (spaced_both xs ys) ∙ sym (append_assoc (32 ∷ x) (spaced xs) (spaced ys))
+
+pub two_words : (told mid worded : List ℕ) (xs ys : List (List ℕ)) → mid ≡ told ++ spaced xs → worded ≡ mid ++ spaced ys → worded ≡ told ++ spaced (xs ++ ys)
+two_words told mid worded xs ys first second =
+    second ∙ ap (λ t. t ++ spaced ys) first ∙ append_assoc told (spaced xs) (spaced ys) ∙ ap (λ t. told ++ t) (sym (spaced_both xs ys))
+
 -- the line of a bridge, by what was appended for it
 pub line_ended : (start told worded last : List ℕ) (slot : Slot) (on : Bool) (space : Space) (prefetch : Bool) (windows : DecodedWindows) (ws : List (List ℕ))
     → told ≡ start ++ bridge_start slot on space prefetch windows → worded ≡ told ++ spaced ws → last ≡ worded ++ 10 ∷ []

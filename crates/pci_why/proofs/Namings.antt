@@ -6,7 +6,7 @@ use Rattle.std.specs.List.{Contains}
 use Rattle.std.proofs.lemmas.Bool.{and_parts, both_ways, eqb-true, ltb-true, leb-true}
 use Rattle.std.proofs.lemmas.List.Folds.{Any-from_list_any}
 use Rattle.pci_spec.specs.Slot.{Slot, same_slot}
-use Rattle.pci_spec.specs.System.{System, Function, Space, Io, Memory, IsAddress}
+use Rattle.pci_spec.specs.System.{System, Function, Space, Io, Memory, IsAddress, IsSystem}
 use Rattle.pci_spec.specs.Decoded.{record_of}
 use Rattle.pci_spec.specs.Fault.{address_in, named_region}
 use Rattle.pci_base.specs.declared.range.Range.{Range}
@@ -15,12 +15,13 @@ use Rattle.pci_function.specs.declared.record.Record.{Record}
 use Rattle.pci_function.specs.Values.{record_value}
 use Rattle.pci_tree.specs.declared.region.Region.{Region}
 use Rattle.pci_tree.specs.Ranges.{Covers, IsCanonical}
+use Rattle.pci_tree.specs.Regions.{IsRegionOn}
 use Rattle.pci_tree.specs.Ways.{slots_of}
 use Rattle.pci_tree.specs.Outline.{RiseBySlot}
 use Rattle.pci_tree.proofs.Lifting.{Has, function_for, same_slot_of}
 use Rattle.pci_claims.specs.Found.{region_of_found, IsFoundIn}
 use Rattle.pci_claims.specs.Found as found
-use Rattle.pci_why.proofs.Evidences.{line_same}
+use Rattle.pci_why.proofs.Evidences.{cut_of_part, given_line_same}
 use Rattle.pci_claims.proofs.Founds.{region_in}
 use Rattle.given_spec.specs.Given.{Given, legacy_holds}
 use Rattle.given_spec.specs.Claims.{Own as OwnPart, Legacy as LegacyPart, LegacyClaims, ClaimsOnBus}
@@ -29,7 +30,7 @@ use Rattle.pci_claims.specs.Passed.{is_piece_at, legacy_passes}
 use Rattle.pci_claims.specs.Claim.{AreAddressesOf, IsLegacyOf}
 use Rattle.pci_claims.proofs.Gathering.{none_covered}
 use Rattle.pci_claims.proofs.Linking.{legacy_same}
-use Rattle.pci_claims.proofs.RegionClaims.{not_legacy}
+use Rattle.pci_claims.proofs.RegionClaims.{claimed_is, not_legacy}
 use Rattle.pci_why.specs.declared.named.Shown.TheVariants as shown
 use Rattle.pci_why.specs.Lines.{legacy_line}
 use Rattle.pci_why.specs.Named.{IsNamedIn}
@@ -102,20 +103,32 @@ module _ (given : Given) (s : System) (rs : List Record) (r : Record) (slot : Sl
 -- ---- a BAR, a ROM or a window
 
 pub none_of_own : (given : Given) (s : System) (slot : Slot) (reg : ℕ) (space : Space) → (reg ≡ 0x3e → ⊥) → found.NoneClaims s slot reg space → IsNone given s slot reg space
-none_of_own given s slot reg space other none a bus (f, OwnPart part, listed, at, there, named, claims) = none f part a listed at named claims
+none_of_own given s slot reg space other none a bus (f, OwnPart part, listed, at, there, named, own) = none f part a listed at named own.claims
 none_of_own given s slot reg space other none a bus (f, LegacyPart, listed, at, there, named, claims) = other (sym named)
 
-module _ (given : Given) (s : System) (slot : Slot) (reg : ℕ) (space : Space) (q : Region) (out : List Range) (other : reg ≡ 0x3e → ⊥) (is : IsFoundIn s slot reg space q) (own : AreAddressesOf q out) where
+module _ (given : Given) (s : System) (slot : Slot) (reg : ℕ) (space : Space) (q : Region) (out : List Range) (other : reg ≡ 0x3e → ⊥) (is : IsFoundIn s slot reg space q)
+    (sound : IsSystem s) (own : AreAddressesOf given space q out) where
   own_covers : (a bus : ℕ) → ClaimsOnBus given s bus (address_in space a) (named_region slot reg) → Covers out a
-  own_covers a bus (f, OwnPart part, listed, at, there, named, claims) = (own.1 a).1 (is.all f part a listed at named claims)
-  own_covers a bus (f, LegacyPart, listed, at, there, named, claims) = absurd (other (sym named))
+  own_covers a bus claims =
+      let on : IsRegionOn s bus space q = record {
+        f = is.f;
+        part = is.part;
+        listed = is.listed;
+        on_bus = ap (λ (x : Slot). x.bus) (sym is.is.slot ∙ is.slot_is) ∙ claims.4;
+        is = is.is;
+      } in
+      (own.exact a).1 (claimed_is given s sound bus space q on a
+      (subst (λ (x : Slot). ClaimsOnBus given s bus (address_in space a) (named_region x q.reg)) (sym is.slot_is) (subst (λ n. ClaimsOnBus given s bus (address_in space a) (named_region slot n)) (sym is.register) claims))).0
 
   pub own_is_named : IsNamedIn given s (named_region slot reg) space (shown.Own q) out
   own_is_named = record {
     region = Own (region_of_found q is.part space);
     is = region_in s is.f is.part space q is.listed is.is;
     named = (is.slot_is, is.register, refl);
-    line = λ word. line_same word is.f is.part space q is.is;
-    exact = own.1;
+    line = λ word. given_line_same given word is.f is.part space q is.is;
+    exact = λ a. (
+      λ h. (let both = (own.exact a).0 h in (both.0, sym (cut_of_part given space is.f is.part q is.is a) ∙ both.1)),
+      λ h. (own.exact a).1 (h.0, cut_of_part given space is.f is.part q is.is a ∙ h.1),
+    );
     all = own_covers;
   }

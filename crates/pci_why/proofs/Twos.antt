@@ -26,7 +26,7 @@ not_none (r ∷ rs) a covered none = cc
 
 pub two_told : (given : Given) (s : System) (space : Space) (first second : Slot) (first_reg second_reg : ℕ) (a bus other : ℕ) (p q : Shown) (ps qs shared : List Range) (old one two new : List ℕ)
     → IsNamedIn given s (named_region first first_reg) space p ps → IsNamedIn given s (named_region second second_reg) space q qs → ClaimsOnBus given s bus (address_in space a) (named_region first first_reg) → ClaimsOnBus given s other (address_in space a) (named_region second second_reg)
-    → IsCommon ps qs shared → one ≡ old ++ shown_line (codes "first") space p → two ≡ one ++ shown_line (codes "second") space q
+    → IsCommon ps qs shared → one ≡ old ++ shown_line given (codes "first") space p → two ≡ one ++ shown_line given (codes "second") space q
     → new ≡ two ++ flat_map (range_line (codes "shared") space) (map decoded_range_of shared) → Appends (AreNamedTwo given s space (named_regions first first_reg second second_reg)) old new
 two_told given s space first second first_reg second_reg a bus other p q ps qs shared old one two new at_p at_q claims_p claims_q common one_is two_is new_is =
     let v = at_p.region in

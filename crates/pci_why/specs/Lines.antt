@@ -18,6 +18,11 @@ pub record Appends (P : List ℕ → Type 0) (old new : List ℕ) : Type 0 where
 abbrev pub spaced : List (List ℕ) → List ℕ
 spaced words = flat_map (λ word. 32 ∷ word) words
 
+-- words, each behind a space, and what ends their line
+abbrev pub ended : List (List ℕ) → List ℕ → List ℕ
+ended [] end = end
+ended (word ∷ words) end = (32 ∷ word) ++ ended words end
+
 -- the line of a legacy part
 abbrev pub legacy_line : List ℕ → Slot → Bool → Space → List ℕ
 legacy_line word slot is_narrow space =

@@ -7,7 +7,7 @@ use Rattle.pci_base.specs.declared.range.Range.{Range}
 use Rattle.pci_tree.specs.Ranges.{Covers}
 use Rattle.pci_tree.specs.Outline.{Tree}
 use Rattle.pci_tree.specs.Trees.{HasTree}
-use Rattle.pci_why.specs.RegionLines.{line_of}
+use Rattle.pci_why.specs.RegionLines.{given_line_of}
 use Rattle.given_spec.specs.Given.{Given}
 use Rattle.given_spec.specs.Claims.{ClaimsOnBus}
 use Rattle.given_spec.specs.Why.{AnyRegion, Holds, IsRegionIn, IsNamed, region_line}
@@ -16,9 +16,9 @@ use Rattle.pci_why.specs.declared.named.Shown.{Shown}
 use Rattle.pci_why.specs.declared.named.Shown.TheVariants.{Own, Legacy}
 
 -- the line of a region
-abbrev pub shown_line : List ℕ → Space → Shown → List ℕ
-shown_line word space (Own q) = line_of word space q
-shown_line word space (Legacy slot is_narrow) = legacy_line word slot is_narrow space
+abbrev pub shown_line : Given → List ℕ → Space → Shown → List ℕ
+shown_line given word space (Own q) = given_line_of given word space q
+shown_line given word space (Legacy slot is_narrow) = legacy_line word slot is_narrow space
 
 -- the addresses that its line tells are some
 abbrev pub HasOwnAddress : Shown → Type 0
@@ -31,7 +31,8 @@ pub record IsNamedIn (given : Given) (s : System) (name : RegionName) (space : S
   pub region : AnyRegion
   pub is : IsRegionIn given s region
   pub named : IsNamed region name.slot name.register space
-  pub line : (word : List ℕ) → shown_line word space one ≡ region_line given word region
+  pub line : (word : List ℕ) → shown_line given word space one
+      ≡ region_line given word region
   pub exact : (a : ℕ) → Covers addresses a ↔ Holds given region a
   -- no other region that they name claims an address
   pub all : (a bus : ℕ) → ClaimsOnBus given s bus (address_in space a) name → Covers addresses a

@@ -1,5 +1,5 @@
 -- The line of a region, by the fields of its value.
-use Rattle.std.specs.Prelude.{ℕ, ◌==◌, Bool, false, if◌then◌else◌, List, ◌∷◌}
+use Rattle.std.specs.Prelude.{ℕ, ◌==◌, Bool, false, if◌then◌else◌, List, [], ◌∷◌, ◌++◌}
 use Rattle.pci_spec.specs.Registers.{IO_BASE, MEMORY_BASE}
 use Rattle.pci_spec.specs.System.{Space}
 use Rattle.pci_spec.specs.System as system
@@ -9,6 +9,10 @@ use Rattle.pci_spec.specs.Why.{part_text, place_words}
 use Rattle.pci_tree.specs.declared.region.Part.{Part}
 use Rattle.pci_tree.specs.declared.region.Part.TheVariants.{Bar, Rom, Window}
 use Rattle.pci_tree.specs.declared.region.Region.{Region}
+use Rattle.pci_tree.specs.Regions.{is_of_window}
+use Rattle.given_spec.specs.Given.{Given}
+use Rattle.pci_why.specs.Lines.{ended}
+use Rattle.given_spec.specs.Why.{isa_words}
 use Rattle.pci_claims.specs.Found.{bounds_range}
 
 abbrev pub bar_words : Space → Bool → List ℕ
@@ -30,6 +34,21 @@ words_of Window reg space prefetch = window_at reg
 abbrev pub part_words : Region → Space → List ℕ
 part_words q space = words_of q.part q.reg space q.prefetch
 
+-- its line, with what ends it
+abbrev pub line_ended : List ℕ → Space → Region → List ℕ → List ℕ
+line_ended word space q end =
+    32 ∷ ended (word ∷ place_words q.slot q.reg (part_words q space) space (bounds_range q)) end
+
 abbrev pub line_of : List ℕ → Space → Region → List ℕ
 line_of word space q =
     inner_line (word ∷ place_words q.slot q.reg (part_words q space) space (bounds_range q))
+
+-- what the line of a region tells of ISA Enable
+abbrev pub isa_words_at : Given → Space → Region → List (List ℕ)
+isa_words_at given space q = if is_of_window q.part then isa_words given space q.slot else []
+
+-- the line of a region, with what is given
+abbrev pub given_line_of : Given → List ℕ → Space → Region → List ℕ
+given_line_of given word space q =
+    inner_line (word ∷ place_words q.slot q.reg (part_words q space) space (bounds_range q)
+    ++ isa_words_at given space q)

@@ -9,6 +9,7 @@ ghost use Rattle.pci_claims.specs.Values.{given_value};
 ghost use Rattle.pci_why.specs.Bridges.{line_of_bridge, IsMissed, IsUnreachedTold};
 
 use super::bridge_line::{push_bridge, push_ranges};
+use super::isa::push_isa_word;
 use super::judged::{Judged, RegionName};
 use super::legacy::push_legacy_word;
 use super::missed::outside;
@@ -43,6 +44,7 @@ fn push_bridge_line<A: Allocator>(
         return Ok(());
     };
     push_bridge(text, function, &bridge.windows, space, prefetch)?;
+    push_isa_word(text, given, space, function.slot)?;
     push_legacy_word(text, given, function.slot)?;
     end_line(text)
 }

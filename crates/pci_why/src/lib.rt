@@ -13,6 +13,7 @@ pub mod bridge_line;
 pub mod fits;
 pub mod free;
 pub mod host;
+pub mod isa;
 pub mod judged;
 pub mod legacy;
 pub mod list;

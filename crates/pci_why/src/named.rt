@@ -9,7 +9,7 @@ ghost use Rattle.pci_why.specs.Named.{shown_line, HasOwnAddress, IsNamedInEach, 
 
 use super::judged::{Judged, RegionName};
 use super::legacy::{is_narrow, push_legacy_line};
-use super::region_line::push_region_line;
+use super::region_line::push_given_line;
 use pci_base::memory::OutOfMemory;
 use pci_base::offset::BRIDGE_CONTROL;
 use pci_base::range::Range;
@@ -17,6 +17,7 @@ use pci_base::slot::Slot;
 use pci_base::space::Space;
 use pci_claims::claim::{legacy_of, own};
 use pci_claims::find::region_at;
+use pci_claims::given::Given;
 use pci_tree::bus::record_at;
 use pci_tree::region::Region;
 use std::alloc::{AllocError, Allocator, Global};
@@ -90,7 +91,7 @@ fn own_named<A: Allocator + Copy>(
     let Some(region) = region_at(alloc, judged.outline, name.slot, name.reg, name.space)? else {
         return Ok(None);
     };
-    let addresses = own(alloc, &region)?;
+    let addresses = own(alloc, judged.given, &region, name.space)?;
     Ok(Some(Named {
         shown: Shown::Own(region),
         addresses,
@@ -124,6 +125,7 @@ pub fn region_named<A: Allocator + Copy>(
 /// Appends the line of a region, behind a word.
 pub fn push_shown<A: Allocator>(
     text: &mut String<A>,
+    given: &Given<'_>,
     word: &'static str,
     space: Space,
     shown: &Shown,
@@ -131,10 +133,11 @@ pub fn push_shown<A: Allocator>(
     // the line tells how many addresses the region has
     requires { HasOwnAddress shown.now }
     ensures { OnOk result (string_bytes text.new
-        ≡ string_bytes text.old ++ shown_line word.now (space_of space) shown.now) }
+        ≡ string_bytes text.old
+        ++ shown_line (given_value given.now) word.now (space_of space) shown.now) }
 {
     match shown {
-        Shown::Own(region) => push_region_line(text, word, space, region),
+        Shown::Own(region) => push_given_line(text, given, word, space, region),
         Shown::Legacy { slot, is_narrow } => push_legacy_line(text, word, *slot, *is_narrow, space),
     }
 }

@@ -37,7 +37,7 @@ fn push_line<A: Allocator>(text: &mut String<A>, slot: Slot, bar: Bar) -> Result
         space,
     };
     text.push_str("off")?;
-    push_place(text, name, bar_name(space, bar.prefetch), range)
+    push_place(text, name, bar_name(space, bar.prefetch), range, "\n")
 }
 
 /// Appends the line of a BAR, where Command doesn't enable its space.

@@ -1,18 +1,22 @@
 //! The lines of a region, and of ranges in it.
 ghost use Rattle.std.specs.Prelude.{◌≡◌, ◌≤◌, ◌++◌, OnOk};
 ghost use Rattle.std.specs.String.{string_bytes};
-ghost use Rattle.pci_spec.specs.Listing.{words};
 ghost use Rattle.pci_spec.specs.Why.{extent_words, place_words, range_line};
 ghost use Rattle.pci_base.specs.Ranges.{decoded_range_of};
 ghost use Rattle.pci_base.specs.Space.{space_of};
-ghost use Rattle.pci_why.specs.RegionLines.{bar_words, window_at, part_words, line_of};
+ghost use Rattle.pci_why.specs.RegionLines.{bar_words, window_at, part_words, line_of, line_ended, isa_words_at, given_line_of};
+ghost use Rattle.pci_spec.specs.Listing.{words};
+ghost use Rattle.pci_claims.specs.Values.{given_value};
+ghost use Rattle.pci_why.specs.Lines.{ended};
 
+use super::isa::window_end;
 use super::judged::RegionName;
 use pci_base::offset::{IO_BASE, MEMORY_BASE};
 use pci_base::range::Range;
 use pci_base::space::Space;
+use pci_claims::given::Given;
 use pci_listing::amount::push_amount;
-use pci_listing::hex_text::{end_line, push_byte, push_slot};
+use pci_listing::hex_text::{push_byte, push_slot};
 use pci_listing::listing::span::Span;
 use pci_tree::region::{Part, Region};
 use std::alloc::{AllocError, Allocator};
@@ -50,36 +54,40 @@ fn part_name(region: &Region, space: Space) -> &'static str
     }
 }
 
-/// Appends a range with its number of addresses, and ends the line.
+/// Appends a range with its number of addresses, and what ends the line.
 pub fn push_extent<A: Allocator>(
     text: &mut String<A>,
     space: Space,
     range: Range,
+    end: &'static str,
 ) -> Result<(), AllocError>
     // else it has no number of addresses to tell
     requires { range.first ≤ range.last }
     ensures { OnOk result (string_bytes text.new
-        ≡ string_bytes text.old ++ words (extent_words (space_of space) (decoded_range_of range))) }
+        ≡ string_bytes text.old
+        ++ ended (extent_words (space_of space) (decoded_range_of range)) end.now) }
 {
     text.push_str(" ")?;
     let span = Span { space, range };
     span.push_to(text)?;
     text.push_str(" ")?;
     push_amount(text, range)?;
-    end_line(text)
+    text.push_str(end)
 }
 
-/// Appends a region by its slot, its register and what it is, with its addresses, and ends the line.
+/// Appends a region by its slot, its register and what it is, with its addresses, and what ends the line.
 pub fn push_place<A: Allocator>(
     text: &mut String<A>,
     name: RegionName,
     part: &'static str,
     range: Range,
+    end: &'static str,
 ) -> Result<(), AllocError>
     // the line tells how many addresses the range has
     requires { range.first ≤ range.last }
     ensures { OnOk result (string_bytes text.new ≡ string_bytes text.old
-        ++ words (place_words name.slot name.reg part.now (space_of name.space) (decoded_range_of range))) }
+        ++ ended (place_words name.slot name.reg part.now (space_of name.space) (decoded_range_of range))
+        end.now) }
 {
     text.push_str(" ")?;
     push_slot(text, name.slot)?;
@@ -87,7 +95,7 @@ pub fn push_place<A: Allocator>(
     push_byte(text, name.reg)?;
     text.push_str(" ")?;
     text.push_str(part)?;
-    push_extent(text, name.space, range)
+    push_extent(text, name.space, range, end)
 }
 
 /// Appends the line of a range, as `missed 00000000e0100000-00000000e01fffff 1M`.
@@ -104,7 +112,35 @@ pub fn push_range_line<A: Allocator>(
 {
     text.push_str("  ")?;
     text.push_str(word)?;
-    push_extent(text, space, range)
+    push_extent(text, space, range, "\n")
+}
+
+/// Appends the line of a region, and what ends it.
+fn push_region_ended<A: Allocator>(
+    text: &mut String<A>,
+    word: &'static str,
+    space: Space,
+    region: &Region,
+    end: &'static str,
+) -> Result<(), AllocError>
+    // the line tells how many addresses the region has
+    requires { region.now.first ≤ region.now.last }
+    ensures { OnOk result (string_bytes text.new ≡ string_bytes text.old
+        ++ line_ended word.now (space_of space) region.now end.now) }
+{
+    let range = Range {
+        first: region.first,
+        last: region.last,
+    };
+    let name = RegionName {
+        slot: region.slot,
+        reg: region.reg,
+        space,
+    };
+    text.push_str("  ")?;
+    text.push_str(word)?;
+    let part = part_name(region, space);
+    push_place(text, name, part, range, end)
 }
 
 /// Appends the line of a region, as `needs 01:00.0 10 bar mem 00000000e0000000-00000000e0000fff 4K`.
@@ -119,17 +155,32 @@ pub fn push_region_line<A: Allocator>(
     ensures { OnOk result (string_bytes text.new
         ≡ string_bytes text.old ++ line_of word.now (space_of space) region.now) }
 {
-    let range = Range {
-        first: region.first,
-        last: region.last,
-    };
-    let name = RegionName {
-        slot: region.slot,
-        reg: region.reg,
-        space,
-    };
-    text.push_str("  ")?;
-    text.push_str(word)?;
-    let part = part_name(region, space);
-    push_place(text, name, part, range)
+    push_region_ended(text, word, space, region, "\n")
+}
+
+/// What ends the line of a region: ` isa` stands behind the I/O window of a bridge with ISA Enable.
+fn region_end(given: &Given<'_>, space: Space, region: &Region) -> &'static str
+    ensures { result.now ≡ words (isa_words_at (given_value given.now) (space_of space) region.now) }
+{
+    match region.part {
+        Part::Bar | Part::Rom => "\n",
+        Part::Window => window_end(given, space, region.slot),
+    }
+}
+
+/// Appends the line of a region, as `second 00:04.0 1c window io 00001000-00001fff 4K isa`.
+pub fn push_given_line<A: Allocator>(
+    text: &mut String<A>,
+    given: &Given<'_>,
+    word: &'static str,
+    space: Space,
+    region: &Region,
+) -> Result<(), AllocError>
+    // the line tells how many addresses the region has
+    requires { region.now.first ≤ region.now.last }
+    ensures { OnOk result (string_bytes text.new ≡ string_bytes text.old
+        ++ given_line_of (given_value given.now) word.now (space_of space) region.now) }
+{
+    let end = region_end(given, space, region);
+    push_region_ended(text, word, space, region, end)
 }

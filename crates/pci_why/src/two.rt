@@ -32,8 +32,8 @@ pub fn push_two<A: Allocator + Copy, B: Allocator>(
         return Ok(());
     };
     let shared = common(alloc, &p.addresses, &q.addresses)?;
-    push_shown(text, "first", two.space, &p.shown)?;
-    push_shown(text, "second", two.space, &q.shown)?;
+    push_shown(text, judged.given, "first", two.space, &p.shown)?;
+    push_shown(text, judged.given, "second", two.space, &q.shown)?;
     push_ranges(text, "shared", two.space, &shared)?;
     Ok(())
 }

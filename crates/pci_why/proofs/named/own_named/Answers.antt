@@ -12,4 +12,4 @@ returns-clause-exact g c = λ s tree.
     own_is_named (given_value c.args.judged.now.given.now) s c.args.name.slot c.args.name.reg (space_of c.args.name.space) c.in-Some.region c.in_ok-addresses.addresses.items c.requires
     (subst (λ (o : Option Region). MatchOption o (NoneClaims s c.args.name.slot c.args.name.reg (space_of c.args.name.space)) (λ q. IsFoundIn s c.args.name.slot c.args.name.reg (space_of c.args.name.space) q)) c.in-Some.is
     (c.in_ok-region.ensures.found s tree.records))
-    c.in_ok-addresses.ensures
+    tree.system c.in_ok-addresses.ensures

@@ -1,7 +1,7 @@
 use Rattle.std.proofs.Common.{◌∙◌}
 use Rattle.std.proofs.lemmas.List.{append_assoc}
 use Rattle.std.proofs.lemmas.Result.{on_ok_weaker}
-use Rattle.pci_why.proofs.region_line.push_region_line.Goals as goal
+use Rattle.pci_why.proofs.region_line.push_region_ended.Goals as goal
 
 pub returns : goal.returns
 returns g c =
