@@ -10,6 +10,7 @@ use Rattle.pci_spec.specs.System.{Space, Io, Memory, Part, Bar, Rom, Window}
 use Rattle.pci_spec.specs.Decoded.{Range}
 use Rattle.pci_spec.specs.Listing.{range_text}
 use Rattle.map_spec.specs.MapText.{indent, part_name}
+use Rattle.pci_map.specs.Lines.{isa_ending}
 use Rattle.pci_listing.proofs.HexPushes.{digit_ascii}
 use Rattle.pci_listing.specs.Amounts.{unit_text}
 
@@ -77,6 +78,10 @@ name_ascii (Bar n) true = tested (codes "bar pref") refl
 name_ascii (Bar n) false = tested (codes "bar") refl
 name_ascii Rom prefetchable = tested (codes "rom") refl
 name_ascii (Window kind) prefetchable = tested (codes "window") refl
+
+pub isa_ascii : (cut : Bool) → IsAscii (isa_ending cut)
+isa_ascii true = tested (codes " isa") refl
+isa_ascii false = none_ascii
 
 pub unit_ascii : (unit : ℕ) → IsAscii (unit_text unit)
 unit_ascii zero = none_ascii

@@ -30,35 +30,35 @@ texts outside unreached = record { outside = outside; unreached = unreached }
 module _ (given : Given) (roots : List ℕ) (s : System) (unique : AreOne s) (slot : Slot) (reg : ℕ) (space : Space) where
   pub none_aside : (out left : List ℕ) → NoneClaims s slot reg space → AreAsides given roots s (IsNamedAt slot reg space) (texts out left) (texts out left)
   none_aside out left none = record {
-    out = none_found (IsOutOfPlace given roots s) s unique slot reg space out none;
-    left = none_found (IsOnlyLeft given roots s) s unique slot reg space left none;
+    out = none_found given (IsOutOfPlace given roots s) s unique slot reg space out none;
+    left = none_found given (IsOnlyLeft given roots s) s unique slot reg space left none;
   }
 
   module _ (q : outline.Region) (found : IsFoundIn s slot reg space q) where
-    pub told_outside : (out new left : List ℕ) → IsOutOfPlace given roots s (value_of space q) → new ≡ out ++ map_region_line 1 (value_of space q) → AreAsides given roots s (IsNamedAt slot reg space) (texts out left) (texts new left)
+    pub told_outside : (out new left : List ℕ) → IsOutOfPlace given roots s (value_of space q) → new ≡ out ++ map_region_line given 1 (value_of space q) → AreAsides given roots s (IsNamedAt slot reg space) (texts out left) (texts new left)
     told_outside out new left is_out text = record {
-      out = found_one (IsOutOfPlace given roots s) s unique slot reg space q found out new is_out text;
-      left = found_not (IsOnlyLeft given roots s) s unique slot reg space q found left (λ only. only.within is_out);
+      out = found_one given (IsOutOfPlace given roots s) s unique slot reg space q found out new is_out text;
+      left = found_not given (IsOnlyLeft given roots s) s unique slot reg space q found left (λ only. only.within is_out);
     }
 
-    pub told_reached : (out left : List ℕ) → (IsOutOfPlace given roots s (value_of space q) → ⊥) → (windows : List Region) × HasWay roots s (value_of space q) windows
+    pub told_reached : (out left : List ℕ) → (IsOutOfPlace given roots s (value_of space q) → ⊥) → (windows : List Region) × HasWay given roots s (value_of space q) windows
         → AreAsides given roots s (IsNamedAt slot reg space) (texts out left) (texts out left)
     told_reached out left within way = record {
-      out = found_not (IsOutOfPlace given roots s) s unique slot reg space q found out within;
-      left = found_not (IsOnlyLeft given roots s) s unique slot reg space q found left (λ only. only.left way.0 way.1);
+      out = found_not given (IsOutOfPlace given roots s) s unique slot reg space q found out within;
+      left = found_not given (IsOnlyLeft given roots s) s unique slot reg space q found left (λ only. only.left way.0 way.1);
     }
 
-    pub told_left : (out left new : List ℕ) → (IsOutOfPlace given roots s (value_of space q) → ⊥) → IsOutsideWindows roots s (value_of space q) → new ≡ left ++ map_region_line 1 (value_of space q)
+    pub told_left : (out left new : List ℕ) → (IsOutOfPlace given roots s (value_of space q) → ⊥) → IsOutsideWindows given roots s (value_of space q) → new ≡ left ++ map_region_line given 1 (value_of space q)
         → AreAsides given roots s (IsNamedAt slot reg space) (texts out left) (texts out new)
     told_left out left new within is_left text = record {
-      out = found_not (IsOutOfPlace given roots s) s unique slot reg space q found out within;
-      left = found_one (IsOnlyLeft given roots s) s unique slot reg space q found left new record { left = is_left; within = within } text;
+      out = found_not given (IsOutOfPlace given roots s) s unique slot reg space q found out within;
+      left = found_one given (IsOnlyLeft given roots s) s unique slot reg space q found left new record { left = is_left; within = within } text;
     }
 
 -- ---- whether there are any
 
 module _ (given : Given) (roots : List ℕ) (s : System) where
-  pub aside_if : (q : Region) (left : Bool) → (IsOutOfPlace given roots s q → ⊥) → IsLeftIf roots s q left → MatchBool left (IsRegionAside given roots s q) (IsRegionAside given roots s q → ⊥)
+  pub aside_if : (q : Region) (left : Bool) → (IsOutOfPlace given roots s q → ⊥) → IsLeftIf given roots s q left → MatchBool left (IsRegionAside given roots s q) (IsRegionAside given roots s q → ⊥)
   aside_if q true within is_left = inr is_left
   aside_if q false within way = λ aside. elim aside [ inl out ↦ within out | inr left ↦ left way.0 way.1 ]
 
@@ -80,8 +80,8 @@ module _ (given : Given) (roots : List ℕ) (s : System) where
   pub no_asides : (unique : AreOne s) (slot : Slot) (io memory : List outline.Region) (out left : List ℕ) → AreFoundBy s slot Io io → AreFoundBy s slot Memory memory
       → HasNoAside given roots s Io io → HasNoAside given roots s Memory memory → AreAsides given roots s (IsOfSlot slot) (texts out left) (texts out left)
   no_asides unique slot io memory out left found_io found_memory none_io none_memory = record {
-    out = none_of (IsOutOfPlace given roots s) s unique slot io memory out found_io found_memory (λ q has is_out. none_io q has (inl is_out)) (λ q has is_out. none_memory q has (inl is_out));
-    left = none_of (IsOnlyLeft given roots s) s unique slot io memory left found_io found_memory (λ q has only. none_io q has (inr only.left)) (λ q has only. none_memory q has (inr only.left));
+    out = none_of given (IsOutOfPlace given roots s) s unique slot io memory out found_io found_memory (λ q has is_out. none_io q has (inl is_out)) (λ q has is_out. none_memory q has (inl is_out));
+    left = none_of given (IsOnlyLeft given roots s) s unique slot io memory left found_io found_memory (λ q has only. none_io q has (inr only.left)) (λ q has only. none_memory q has (inr only.left));
   }
 
 -- ---- those of more
@@ -90,40 +90,40 @@ module _ (given : Given) (roots : List ℕ) (s : System) where
   pub both_spaces_aside : (unique : AreOne s) (slot : Slot) (reg : ℕ) (out mid_out new_out left mid_left new_left : List ℕ) → AreAsides given roots s (IsNamedAt slot reg Io) (texts out left) (texts mid_out mid_left)
       → AreAsides given roots s (IsNamedAt slot reg Memory) (texts mid_out mid_left) (texts new_out new_left) → AreAsides given roots s (IsNamedAtRegister slot reg) (texts out left) (texts new_out new_left)
   both_spaces_aside unique slot reg out mid_out new_out left mid_left new_left io memory = record {
-    out = both_spaces (IsOutOfPlace given roots s) s unique slot reg out mid_out new_out io.out memory.out;
-    left = both_spaces (IsOnlyLeft given roots s) s unique slot reg left mid_left new_left io.left memory.left;
+    out = both_spaces given (IsOutOfPlace given roots s) s unique slot reg out mid_out new_out io.out memory.out;
+    left = both_spaces given (IsOnlyLeft given roots s) s unique slot reg left mid_left new_left io.left memory.left;
   }
 
   pub none_below : (slot : Slot) (out left : List ℕ) → AreAsides given roots s (IsNamedBelow slot 0) (texts out left) (texts out left)
-  none_below slot out left = record { out = below_none (IsOutOfPlace given roots s) s slot out; left = below_none (IsOnlyLeft given roots s) s slot left }
+  none_below slot out left = record { out = below_none given (IsOutOfPlace given roots s) s slot out; left = below_none given (IsOnlyLeft given roots s) s slot left }
 
   pub one_register_aside : (slot : Slot) (k : ℕ) (out mid_out new_out left mid_left new_left : List ℕ) → AreAsides given roots s (IsNamedBelow slot (4 * k)) (texts out left) (texts mid_out mid_left)
       → AreAsides given roots s (IsNamedAtRegister slot (4 * k)) (texts mid_out mid_left) (texts new_out new_left) → AreAsides given roots s (IsNamedBelow slot (4 * (k + 1))) (texts out left) (texts new_out new_left)
   one_register_aside slot k out mid_out new_out left mid_left new_left first second = record {
-    out = one_register (IsOutOfPlace given roots s) s slot k out mid_out new_out first.out second.out;
-    left = one_register (IsOnlyLeft given roots s) s slot k left mid_left new_left first.left second.left;
+    out = one_register given (IsOutOfPlace given roots s) s slot k out mid_out new_out first.out second.out;
+    left = one_register given (IsOnlyLeft given roots s) s slot k left mid_left new_left first.left second.left;
   }
 
   pub all_registers_aside : (slot : Slot) (out new_out left new_left : List ℕ) → AreAsides given roots s (IsNamedBelow slot 64) (texts out left) (texts new_out new_left) → AreAsides given roots s (IsOfSlot slot) (texts out left) (texts new_out new_left)
   all_registers_aside slot out new_out left new_left told = record {
-    out = all_registers (IsOutOfPlace given roots s) s slot out new_out told.out;
-    left = all_registers (IsOnlyLeft given roots s) s slot left new_left told.left;
+    out = all_registers given (IsOutOfPlace given roots s) s slot out new_out told.out;
+    left = all_registers given (IsOnlyLeft given roots s) s slot left new_left told.left;
   }
 
   pub none_among : (out left : List ℕ) → AreAsides given roots s (IsAmongSlots []) (texts out left) (texts out left)
-  none_among out left = record { out = among_none (IsOutOfPlace given roots s) s out; left = among_none (IsOnlyLeft given roots s) s left }
+  none_among out left = record { out = among_none given (IsOutOfPlace given roots s) s out; left = among_none given (IsOnlyLeft given roots s) s left }
 
   pub next_function_aside : (rs : List Record) (k : ℕ) (r : Record) (out mid_out new_out left mid_left new_left : List ℕ) → RiseBySlot rs → k < length rs → get_or rs k r ≡ r
       → AreAsides given roots s (IsAmongSlots (slots_of (take k rs))) (texts out left) (texts mid_out mid_left) → AreAsides given roots s (IsOfSlot r.slot) (texts mid_out mid_left) (texts new_out new_left)
       → AreAsides given roots s (IsAmongSlots (slots_of (take (k + 1) rs))) (texts out left) (texts new_out new_left)
   next_function_aside rs k r out mid_out new_out left mid_left new_left rise within at first second = record {
-    out = next_function (IsOutOfPlace given roots s) s rs k r out mid_out new_out rise within at first.out second.out;
-    left = next_function (IsOnlyLeft given roots s) s rs k r left mid_left new_left rise within at first.left second.left;
+    out = next_function given (IsOutOfPlace given roots s) s rs k r out mid_out new_out rise within at first.out second.out;
+    left = next_function given (IsOnlyLeft given roots s) s rs k r left mid_left new_left rise within at first.left second.left;
   }
 
   pub all_functions_aside : (rs : List Record) (k : ℕ) (out new_out left new_left : List ℕ) → Has s rs → length rs ≤ k → AreAsides given roots s (IsAmongSlots (slots_of (take k rs))) (texts out left) (texts new_out new_left)
       → AreAsides given roots s (IsRegionIn s) (texts out left) (texts new_out new_left)
   all_functions_aside rs k out new_out left new_left has past told = record {
-    out = all_functions (IsOutOfPlace given roots s) s rs k out new_out has past told.out;
-    left = all_functions (IsOnlyLeft given roots s) s rs k left new_left has past told.left;
+    out = all_functions given (IsOutOfPlace given roots s) s rs k out new_out has past told.out;
+    left = all_functions given (IsOnlyLeft given roots s) s rs k left new_left has past told.left;
   }

@@ -1,5 +1,5 @@
--- What is free on a root bus.
-use Rattle.std.proofs.Common.{◌≡◌, ℕ, ◌+◌, ◌-◌, ◌<◌, ◌≤◌, List, [], ◌∷◌, map, max, min, sym, subst, inl, inr, arith, true, false, if◌then◌else◌}
+-- What is free on a root bus, and of a window.
+use Rattle.std.proofs.Common.{◌≡◌, ℕ, ◌+◌, ◌-◌, ◌<◌, ◌≤◌, List, [], ◌∷◌, map, max, min, sym, ◌∙◌, subst, inl, inr, arith, true, false, if◌then◌else◌}
 use Rattle.std.specs.Prelude.{nat_lt, ◌↔◌}
 use Rattle.std.specs.Option.{is_some}
 use Rattle.std.specs.List.{All}
@@ -10,18 +10,19 @@ use Rattle.pci_spec.specs.Decoded as decoded
 use Rattle.pci_spec.specs.Why.{AreRuns}
 use Rattle.pci_spec.proofs.Members.{pairs_nil}
 use Rattle.given_spec.specs.Given.{Given, ranges_said}
-use Rattle.map_spec.specs.Lines.{IsFreeOn}
+use Rattle.map_spec.specs.Lines.{IsClaimedOn, IsFreeOn}
 use Rattle.pci_base.specs.declared.range.Range.{Range}
 use Rattle.pci_base.specs.Ranges.{decoded_range_of}
 use Rattle.pci_tree.specs.declared.region.Region.{Region}
-use Rattle.pci_tree.specs.Outline.{AreSortedRegionsOf}
+use Rattle.pci_tree.specs.Ranges.{Holds, Covers}
 use Rattle.pci_claims.specs.Gathered.{IsGathered, IsCommon}
 use Rattle.pci_claims.specs.Sent.{IsSentTo}
 use Rattle.pci_claims.specs.Found.{range_at}
 use Rattle.pci_claims.proofs.Runs.{runs_of}
-use Rattle.pci_map.specs.Gaps.{piece, between, gaps}
-use Rattle.pci_map.proofs.Covering.{by_first, some_each, covered_claims, claimed_covers}
-use Rattle.pci_map.proofs.GapRanges.{gaps_to, gaps_from}
+use Rattle.pci_claims.specs.Isa.{is_cut_region, AreKept}
+use Rattle.pci_claims.proofs.Cutting.{cut_from_where, never_cut_from}
+use Rattle.pci_map.specs.Gaps.{piece, between, gaps, AreClaimed, AreFreeInside}
+use Rattle.pci_map.proofs.GapRanges.{gaps_to, gaps_from, gaps_canonical}
 
 -- ---- no gap is empty
 
@@ -55,22 +56,55 @@ no_runs P rs none not = subst (λ (xs : List Range). AreRuns P (map decoded_rang
 pub none_said : (given : Given) (s : System) (bus : ℕ) (space : Space) (a : ℕ) → is_some (ranges_said given space) ≡ false → IsFreeOn given s bus space a → ⊥
 none_said given s bus space a not free = both_ways (is_some (ranges_said given space)) not free.said
 
-module _ (given : Given) (s : System) (bus : ℕ) (space : Space) (whole : Range) (qs : List Region) (sent unclaimed out : List Range)
-    (exact : (a : ℕ) → ((whole.first ≤ a) × (a ≤ whole.last)) ↔ IsAddress space a) (said : is_some (ranges_said given space) ≡ true) (are : IsSentTo given space bus sent)
-    (gathered : IsGathered (gaps whole 0 (map range_at qs)) unclaimed) (common : IsCommon sent unclaimed out) (sorted : AreSortedRegionsOf s bus space qs) where
-  pub free_on : AreRuns (IsFreeOn given s bus space) (map decoded_range_of out)
-  free_on = runs_of (IsFreeOn given s bus space) out common.canonical (λ a. (
+-- what none of the claimed ranges has
+module _ (given : Given) (s : System) (bus : ℕ) (space : Space) (claimed : List Range) (are : AreClaimed given s bus space claimed) (whole : Range) where
+  gap_unclaimed : (a : ℕ) → Covers (gaps whole 0 claimed) a → Holds whole a × (IsClaimedOn given s bus space a → ⊥)
+  gap_unclaimed a covered = (
+      let gap = gaps_to whole 0 claimed a are.sorted are.some covered in
+      (gap.0, λ (h : IsClaimedOn given s bus space a). gap.2 ((are.exact a).1 h)))
+
+  unclaimed_gap : (a : ℕ) → Holds whole a → (IsClaimedOn given s bus space a → ⊥) → Covers (gaps whole 0 claimed) a
+  unclaimed_gap a held free = gaps_from whole 0 claimed a held (omega arith) (λ covered. free ((are.exact a).0 covered))
+
+  pub free_on : (sent unclaimed out : List Range) → ((a : ℕ) → ((whole.first ≤ a) × (a ≤ whole.last)) ↔ IsAddress space a) → is_some (ranges_said given space) ≡ true → IsSentTo given space bus sent
+      → IsGathered (gaps whole 0 claimed) unclaimed → IsCommon sent unclaimed out → AreRuns (IsFreeOn given s bus space) (map decoded_range_of out)
+  free_on sent unclaimed out exact said to gathered common = runs_of (IsFreeOn given s bus space) out common.canonical (λ a. (
     λ covered. (
         let both = (common.exact a).0 covered in
-        let starting = (are.exact a).0 both.0 in
-        let gap = gaps_to whole 0 (map range_at qs) a (by_first s space bus qs sorted) (some_each s space bus qs sorted) ((gathered.exact a).0 both.1) in record {
+        let starting = (to.exact a).0 both.0 in record {
           said = said;
           address = starting.0;
           sent = starting.1;
-          unclaimed = λ claimed. gap.2 (claimed_covers s space bus qs sorted a claimed);
+          unclaimed = (gap_unclaimed a ((gathered.exact a).0 both.1)).1;
         }),
-    λ free. (common.exact a).1 (
-      (are.exact a).1 (free.address, free.sent),
-      (gathered.exact a).1 (gaps_from whole 0 (map range_at qs) a ((exact a).1 free.address) (omega arith) (λ covered. free.unclaimed (covered_claims s space bus qs sorted a covered))),
-    ),
+    λ free. (common.exact a).1 ((to.exact a).1 (free.address, free.sent), (gathered.exact a).1 (unclaimed_gap a ((exact a).1 free.address) free.unclaimed)),
   ))
+
+-- what of a window is free
+module _ (given : Given) (s : System) (bus : ℕ) (space : Space) (w : Region) (claimed : List Range) (are : AreClaimed given s bus space claimed) where
+  abbrev left : List Range
+  left = gaps (range_at w) 0 claimed
+
+  pub free_of_whole : (out : List Range) → is_cut_region given space w ≡ false → out ≡ left → AreFreeInside given s bus space w out
+  free_of_whole out off is = subst (AreFreeInside given s bus space w) (sym is) record {
+    canonical = gaps_canonical (range_at w) 0 claimed are.sorted are.some;
+    exact = λ a. (
+      λ covered. (let gap = gap_unclaimed given s bus space claimed are (range_at w) a covered in (record { held = gap.0; kept = never_cut_from given space w a off }, gap.1)),
+      λ free. unclaimed_gap given s bus space claimed are (range_at w) a free.0.held free.1,
+    );
+  }
+
+  pub free_of_cut : (gathered out : List Range) → is_cut_region given space w ≡ true → IsGathered left gathered → AreKept gathered out → AreFreeInside given s bus space w out
+  free_of_cut gathered out on is kept = record {
+    canonical = kept.canonical;
+    exact = λ a. (
+      λ covered. (
+          let both = (kept.exact a).0 covered in
+          let gap = gap_unclaimed given s bus space claimed are (range_at w) a ((is.exact a).0 both.0) in
+          (record { held = gap.0; kept = cut_from_where given space w a on ∙ both.1 }, gap.1)),
+      λ free. (kept.exact a).1 (
+        (is.exact a).1 (unclaimed_gap given s bus space claimed are (range_at w) a free.0.held free.1),
+        sym (cut_from_where given space w a on) ∙ free.0.kept,
+      ),
+    );
+  }

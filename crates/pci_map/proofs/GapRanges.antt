@@ -17,7 +17,7 @@ covers_has rs a h = (h.1, (h.0, h.2, h.3), h.4)
 pub covers_from : (rs : List Range) (a : ℕ) (r : Range) → Contains rs r → Holds r a → Covers rs a
 covers_from rs a r has held = (has.0, r, has.1, has.2, held)
 
-covers_nil : (a : ℕ) → Covers [] a → ⊥
+pub covers_nil : (a : ℕ) → Covers [] a → ⊥
 covers_nil a h = in_nil h.1 (h.0, h.2, h.3)
 
 covers_cons : (r : Range) (rs : List Range) (a : ℕ) → Covers (r ∷ rs) a → Holds r a ⊎ Covers rs a
@@ -26,16 +26,16 @@ covers_cons r rs a h = let c = covers_has (r ∷ rs) a h in elim (in_cons_cases 
   | inr later ↦ inr (covers_from rs a c.0 later c.2)
 ]
 
-covers_append : (rs ts : List Range) (a : ℕ) → Covers (rs ++ ts) a → Covers rs a ⊎ Covers ts a
+pub covers_append : (rs ts : List Range) (a : ℕ) → Covers (rs ++ ts) a → Covers rs a ⊎ Covers ts a
 covers_append rs ts a h = let c = covers_has (rs ++ ts) a h in elim (Contains-append_cases rs ts c.0 c.1) [
   | inl left ↦ inl (covers_from rs a c.0 left c.2)
   | inr right ↦ inr (covers_from ts a c.0 right c.2)
 ]
 
-covers_left : (rs ts : List Range) (a : ℕ) → Covers rs a → Covers (rs ++ ts) a
+pub covers_left : (rs ts : List Range) (a : ℕ) → Covers rs a → Covers (rs ++ ts) a
 covers_left rs ts a h = let c = covers_has rs a h in covers_from (rs ++ ts) a c.0 (Contains-append_left rs ts c.0 c.1) c.2
 
-covers_right : (rs ts : List Range) (a : ℕ) → Covers ts a → Covers (rs ++ ts) a
+pub covers_right : (rs ts : List Range) (a : ℕ) → Covers ts a → Covers (rs ++ ts) a
 covers_right rs ts a h = let c = covers_has ts a h in covers_from (rs ++ ts) a c.0 (Contains-append_right rs ts c.0 c.1) c.2
 
 -- ---- pieces

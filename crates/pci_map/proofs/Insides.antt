@@ -1,37 +1,39 @@
 -- What is inside a window.
-use Rattle.std.proofs.Common.{◌≡◌, ℕ, ◌<◌, ◌≤◌, List, map, refl, sym, ap, ◌∙◌, subst, inl, inr, arith, true, not, Bool, Option, None, Some}
+use Rattle.std.proofs.Common.{◌≡◌, ℕ, ◌<◌, ◌≤◌, List, map, refl, sym, ap, ◌∙◌, subst, inl, inr, arith, true, false, not, Bool, Option, None, Some}
 use Rattle.std.specs.Prelude.{◌==◌, ◌&&◌, nat_le, IsTrue, MatchOption, MatchBool}
 use Rattle.std.specs.List.{Contains, filter}
-use Rattle.std.proofs.lemmas.Bool.{cases_Bool, and_parts, and_from, both_ways, leb-true, le-leb}
+use Rattle.std.proofs.lemmas.Bool.{cases_Bool, and_parts, and_from, both_ways, false≢true, leb-true, le-leb}
 use Rattle.std.proofs.lemmas.Option.{none-some}
 use Rattle.pci_spec.specs.Slot.{Slot}
 use Rattle.pci_spec.specs.Registers.{MEMORY_BASE, PREFETCHABLE_BASE}
 use Rattle.pci_spec.specs.Window.{WindowKind, IoWindow, MemoryWindow, PrefetchWindow, window_register, holds}
-use Rattle.pci_spec.specs.System.{System, Function, Space, Claims, IsAddress, window_claims, window_space, is_space_on, is_bridge, register_of}
+use Rattle.pci_spec.specs.System.{System, Function, Space, Io, Memory, Claims, IsAddress, window_claims, window_space, is_space_on, is_bridge, is_window, register_of}
 use Rattle.pci_spec.specs.System as system
 use Rattle.pci_spec.specs.Bus.{secondary}
 use Rattle.pci_spec.specs.Why.{IsRegionIn, AreRuns}
 use Rattle.pci_spec.proofs.Members.{in_map_from, in_filter_to, in_filter_from, pairs_filter}
 use Rattle.pci_spec.proofs.Regions.{part_same}
-use Rattle.given_spec.specs.Given.{Given}
+use Rattle.given_spec.specs.Given.{Given, is_cut}
+use Rattle.given_spec.specs.Claims.{is_cut_of}
 use Rattle.map_spec.specs.Lines.{is_first_window, BelongsUnder, IsClaimedOn, IsFreeIn, IsOutOfPlace}
 use Rattle.map_spec.proofs.Having.{first_claims}
 use Rattle.pci_base.specs.declared.range.Range.{Range}
 use Rattle.pci_base.specs.Ranges.{decoded_range_of}
 use Rattle.pci_tree.specs.declared.region.Part.TheVariants.{Window}
 use Rattle.pci_tree.specs.declared.region.Region.{Region}
-use Rattle.pci_tree.specs.Regions.{IsRegionOn}
+use Rattle.pci_tree.specs.Regions.{IsRegionOn, is_of_window}
 use Rattle.pci_tree.specs.Outline.{IsBefore, AreSortedRegionsOf}
-use Rattle.pci_claims.specs.Found.{range_at, NoneClaims, IsFoundIn}
+use Rattle.pci_claims.specs.Claim.{is_cut_from}
+use Rattle.pci_claims.specs.Found.{NoneClaims, IsFoundIn}
+use Rattle.pci_claims.specs.Isa.{is_cut_region}
+use Rattle.pci_claims.proofs.Cutting.{cut_from_by}
 use Rattle.pci_claims.proofs.Runs.{runs_of}
 use Rattle.pci_map.specs.Values.{kind_at, part_at, part_of, value_of}
-use Rattle.pci_map.specs.Gaps.{gaps}
+use Rattle.pci_map.specs.Gaps.{AreFreeInside}
 use Rattle.pci_map.specs.Above.{AreInPlace}
-use Rattle.pci_map.specs.Inside.{region_has, is_held_first, IsEarlierWindow, AreInsideWindow}
+use Rattle.pci_map.specs.Inside.{region_has, is_taken, is_in_window, is_held_first, IsEarlierWindow, AreInsideWindow}
 use Rattle.pci_map.specs.Walk.{AreRegionsOnBus}
 use Rattle.pci_map.proofs.Values.{given_region}
-use Rattle.pci_map.proofs.Covering.{by_first, some_each, covered_claims, claimed_covers}
-use Rattle.pci_map.proofs.GapRanges.{gaps_to, gaps_from, gaps_canonical}
 
 -- ---- windows and what they claim
 
@@ -54,11 +56,22 @@ in_true q a low high = and_from (nat_le q.first a) (nat_le a q.last) (le-leb q.f
 true_in : (q : Region) (a : ℕ) → region_has q a ≡ true → (q.first ≤ a) × (a ≤ q.last)
 true_in q a is = let parts = and_parts (nat_le q.first a) (nat_le a q.last) is in (leb-true q.first a parts.0, leb-true a q.last parts.1)
 
-pub held_in : (w : Region) (o : Option Region) (q : Region) → is_held_first w o q ≡ true → (w.first ≤ q.first) × (q.first ≤ w.last)
-held_in w None q held = true_in w q.first held
-held_in w (Some other) q held = true_in w q.first (and_parts (region_has w q.first) (not (region_has other q.first)) held).0
+held_in : (w : Region) (o : Option Region) (a : ℕ) → is_in_window w o a ≡ true → (w.first ≤ a) × (a ≤ w.last)
+held_in w None a held = true_in w a held
+held_in w (Some other) a held = true_in w a (and_parts (region_has w a) (not (region_has other a)) held).0
 
-module _ (s : System) (space : Space) (w : Region) (iw : IsRegionIn s (value_of space w)) (window : w.part ≡ Window)
+not_true : (b : Bool) → not b ≡ true → b ≡ false
+not_true true h = sym h
+not_true false h = refl
+
+-- ISA Enable doesn't take an address from the first window that claims it
+pub kept_first : (given : Given) (space : Space) (k : WindowKind) (a : ℕ) (b : Function) → IsTrue (is_first_window given space k a b) → is_cut given space a b.slot ≡ false
+kept_first given Io IoWindow a b first = not_true (is_cut given Io a b.slot) (and_parts (window_claims b IoWindow a) (not (is_cut given Io a b.slot)) first).1
+kept_first given Io MemoryWindow a b first = absurd (false≢true first)
+kept_first given Io PrefetchWindow a b first = absurd (false≢true first)
+kept_first given Memory k a b first = refl
+
+module _ (given : Given) (s : System) (space : Space) (w : Region) (iw : IsRegionIn s (value_of space w)) (window : w.part ≡ Window)
     (unique : (f g : Function) → Contains s f → Contains s g → f.slot ≡ g.slot → f ≡ g) where
   abbrev kind : WindowKind
   kind = kind_at w.reg
@@ -75,6 +88,17 @@ module _ (s : System) (space : Space) (w : Region) (iw : IsRegionIn s (value_of 
   claims_back : (a : ℕ) → Claims b (system.Window kind) space a → (w.first ≤ a) × (a ≤ w.last)
   claims_back a c = (iw.claims a).1 (subst (λ p. Claims b p space a) (sym part_kind) c)
 
+  -- what ISA Enable takes from the bridge's windows of the space
+  cut_here : (a : ℕ) → is_cut_from given space w a ≡ is_cut given space a b.slot
+  cut_here a = ap (λ p. is_of_window p && is_cut given space a w.slot) window ∙ ap (is_cut given space a) (sym iw.slot)
+
+  taken_here : (cut : Bool) → cut ≡ is_cut_region given space w → (a : ℕ) → is_taken cut a ≡ is_cut given space a b.slot
+  taken_here cut is a = ap (λ c. is_taken c a) is ∙ sym (cut_from_by given space w a) ∙ cut_here a
+
+  -- the same, of the window as the definitions have it
+  part_cut : (a : ℕ) → is_cut_of given (part_of w) space a w.slot ≡ is_cut_from given space w a
+  part_cut a = ap (λ p. is_window p && is_cut given space a w.slot) part_kind ∙ sym (ap (λ p. is_of_window p && is_cut given space a w.slot) window)
+
   first_one : Claims b (system.Window kind) space w.first
   first_one = claims_at w.first (omega arith) iw.some
 
@@ -85,30 +109,32 @@ module _ (s : System) (space : Space) (w : Region) (iw : IsRegionIn s (value_of 
   registered = ap (λ p. register_of b p) (sym part_kind) ∙ iw.register
 
   -- the memory window doesn't claim what the prefetchable one is left
-  not_earlier : (o : Option Region) → MatchOption o (NoneClaims s w.slot MEMORY_BASE space) (λ q. IsFoundIn s w.slot MEMORY_BASE space q) → (q : Region) → is_held_first w o q ≡ true
-      → Claims b (system.Window MemoryWindow) space q.first → ⊥
-  not_earlier None none q held claims = none b (system.Window MemoryWindow) q.first iw.listed iw.slot refl claims
-  not_earlier (Some other) found q held claims =
-      let at = found.all b (system.Window MemoryWindow) q.first iw.listed iw.slot refl claims in
-      let parts = and_parts (region_has w q.first) (not (region_has other q.first)) held in
-      both_ways (not (region_has other q.first)) (ap not (in_true other q.first at.0 at.1)) parts.1
+  not_earlier : (o : Option Region) → MatchOption o (NoneClaims s w.slot MEMORY_BASE space) (λ q. IsFoundIn s w.slot MEMORY_BASE space q) → (a : ℕ) → is_in_window w o a ≡ true
+      → Claims b (system.Window MemoryWindow) space a → ⊥
+  not_earlier None none a held claims = none b (system.Window MemoryWindow) a iw.listed iw.slot refl claims
+  not_earlier (Some other) found a held claims =
+      let at = found.all b (system.Window MemoryWindow) a iw.listed iw.slot refl claims in
+      let parts = and_parts (region_has w a) (not (region_has other a)) held in
+      both_ways (not (region_has other a)) (ap not (in_true other a at.0 at.1)) parts.1
 
-  first_from : (k : WindowKind) → window_register k ≡ w.reg → window_space k ≡ space → (o : Option Region) → IsEarlierWindow s space w o → (q : Region) → is_held_first w o q ≡ true
-      → IsTrue (window_claims b k q.first) → IsAddress space q.first → IsTrue (is_first_window space k q.first b)
-  first_from IoWindow register maps o early q held claims address = subst (λ x. IsTrue (is_first_window x IoWindow q.first b)) maps claims
-  first_from MemoryWindow register maps o early q held claims address = subst (λ x. IsTrue (is_first_window x MemoryWindow q.first b)) maps claims
-  first_from PrefetchWindow register maps o early q held claims address =
+  first_from : (k : WindowKind) → window_register k ≡ w.reg → window_space k ≡ space → (o : Option Region) → IsEarlierWindow s space w o → (a : ℕ) → is_in_window w o a ≡ true → is_cut given space a b.slot ≡ false
+      → IsTrue (window_claims b k a) → IsAddress space a → IsTrue (is_first_window given space k a b)
+  first_from IoWindow register maps o early a held kept claims address =
+      subst (λ x. IsTrue (is_first_window given x IoWindow a b)) maps (and_from (window_claims b IoWindow a) (not (is_cut given Io a b.slot)) claims (ap not (subst (λ x. is_cut given x a b.slot ≡ false) (sym maps) kept)))
+  first_from MemoryWindow register maps o early a held kept claims address = subst (λ x. IsTrue (is_first_window given x MemoryWindow a b)) maps claims
+  first_from PrefetchWindow register maps o early a held kept claims address =
       let found : MatchOption o (NoneClaims s w.slot MEMORY_BASE space) (λ p. IsFoundIn s w.slot MEMORY_BASE space p) =
       subst (λ r. MatchBool (r == PREFETCHABLE_BASE) (MatchOption o (NoneClaims s w.slot MEMORY_BASE space) (λ p. IsFoundIn s w.slot MEMORY_BASE space p)) (o ≡ None)) (sym register) early in
-      subst (λ x. IsTrue (is_first_window x PrefetchWindow q.first b)) maps (elim (cases_Bool (window_claims b MemoryWindow q.first)) [
-        | inl memory ↦ absurd (not_earlier o found q held (claims_of b MemoryWindow space q.first is_a_bridge maps address memory))
-        | inr none ↦ and_from (window_claims b PrefetchWindow q.first) (not (window_claims b MemoryWindow q.first)) claims (ap not none)
+      subst (λ x. IsTrue (is_first_window given x PrefetchWindow a b)) maps (elim (cases_Bool (window_claims b MemoryWindow a)) [
+        | inl memory ↦ absurd (not_earlier o found a held (claims_of b MemoryWindow space a is_a_bridge maps address memory))
+        | inr none ↦ and_from (window_claims b PrefetchWindow a) (not (window_claims b MemoryWindow a)) claims (ap not none)
       ])
 
-  pub belongs : (bus : ℕ) (o : Option Region) → secondary b ≡ bus → IsEarlierWindow s space w o → (q : Region) → IsRegionOn s bus space q → is_held_first w o q ≡ true
-      → BelongsUnder s (value_of space w) (value_of space q)
-  belongs bus o leads early q on held =
-      let at = held_in w o q held in
+  pub belongs : (bus : ℕ) (o : Option Region) (cut : Bool) → cut ≡ is_cut_region given space w → secondary b ≡ bus → IsEarlierWindow s space w o → (q : Region) → IsRegionOn s bus space q
+      → is_held_first w o cut q ≡ true → BelongsUnder given s (value_of space w) (value_of space q)
+  belongs bus o cut is leads early q on held =
+      let parts = and_parts (not (is_taken cut q.first)) (is_in_window w o q.first) held in
+      let at = held_in w o q.first parts.1 in
       let claims = claims_at q.first at.0 at.1 in record {
         b = b;
         listed = iw.listed;
@@ -117,7 +143,7 @@ module _ (s : System) (space : Space) (w : Region) (iw : IsRegionIn s (value_of 
         leads = leads ∙ sym on.on_bus ∙ sym (ap (λ (x : Slot). x.bus) on.is.slot);
         kind = kind;
         window = part_kind;
-        first = first_from kind registered first_one.maps o early q held (window_claims_of b kind space q.first claims) claims.address;
+        first = first_from kind registered first_one.maps o early q.first parts.1 (sym (taken_here cut is q.first) ∙ not_true (is_taken cut q.first) parts.0) (window_claims_of b kind space q.first claims) claims.address;
       }
 
   -- where an earlier window is looked for, this is the prefetchable one
@@ -139,64 +165,63 @@ module _ (s : System) (space : Space) (w : Region) (iw : IsRegionIn s (value_of 
       let part : found.part ≡ system.Window MemoryWindow = part_same b found.part (system.Window MemoryWindow) claims.there is_a_bridge register in
       window_claims_of b MemoryWindow space a (subst (λ p. Claims b p space a) part claims)
 
-  held_by : (o : Option Region) → IsEarlierWindow s space w o → (a : ℕ) (q : Region) → q.first ≡ a → IsTrue (is_first_window space kind a b) → region_has w a ≡ true → is_held_first w o q ≡ true
-  held_by None early a q at first inside = ap (region_has w) at ∙ inside
-  held_by (Some other) early a q at first inside =
+  held_by : (o : Option Region) → IsEarlierWindow s space w o → (a : ℕ) → IsTrue (is_first_window given space kind a b) → region_has w a ≡ true → is_in_window w o a ≡ true
+  held_by None early a first inside = inside
+  held_by (Some other) early a first inside =
       let prefetch : kind ≡ PrefetchWindow = is_prefetch kind registered (Some other) other refl early in
       let register : w.reg ≡ PREFETCHABLE_BASE = sym registered ∙ ap window_register prefetch in
       let found : IsFoundIn s w.slot MEMORY_BASE space other =
       subst (λ r. MatchBool (r == PREFETCHABLE_BASE) (MatchOption (Some other) (NoneClaims s w.slot MEMORY_BASE space) (λ p. IsFoundIn s w.slot MEMORY_BASE space p)) (Some other ≡ None)) register early in
       let maps : system.Memory ≡ space = ap window_space (sym prefetch) ∙ first_one.maps in
       let left : IsTrue (window_claims b PrefetchWindow a && not (window_claims b MemoryWindow a)) =
-      subst (λ x. IsTrue (is_first_window x PrefetchWindow a b)) (sym maps) (subst (λ k. IsTrue (is_first_window space k a b)) prefetch first) in
+      subst (λ x. IsTrue (is_first_window given x PrefetchWindow a b)) (sym maps) (subst (λ k. IsTrue (is_first_window given space k a b)) prefetch first) in
       let not_memory = (and_parts (window_claims b PrefetchWindow a) (not (window_claims b MemoryWindow a)) left).1 in
-      ap (λ n. region_has w n && not (region_has other n)) at
-      ∙ and_from (region_has w a) (not (region_has other a)) inside (elim (cases_Bool (region_has other a)) [
+      and_from (region_has w a) (not (region_has other a)) inside (elim (cases_Bool (region_has other a)) [
         | inl has ↦ (let at_other = true_in other a has in
             absurd (both_ways (not (window_claims b MemoryWindow a)) (ap not (earlier_claims other a found at_other.0 at_other.1)) not_memory))
         | inr hasnt ↦ ap not hasnt
       ])
 
-  pub held_from : (bus : ℕ) (o : Option Region) → IsEarlierWindow s space w o → (q : Region) → IsRegionOn s bus space q → BelongsUnder s (value_of space w) (value_of space q) → is_held_first w o q ≡ true
-  held_from bus o early q on u =
+  pub held_from : (bus : ℕ) (o : Option Region) (cut : Bool) → cut ≡ is_cut_region given space w → IsEarlierWindow s space w o → (q : Region) → IsRegionOn s bus space q
+      → BelongsUnder given s (value_of space w) (value_of space q) → is_held_first w o cut q ≡ true
+  held_from bus o cut is early q on u =
       let same : u.b ≡ b = unique u.b b u.listed iw.listed (u.slot ∙ sym iw.slot) in
       let kinds : u.kind ≡ kind = sym (ap kind_in (sym part_kind ∙ u.window)) in
-      let first : IsTrue (is_first_window space kind q.first b) =
-      subst (λ f. IsTrue (is_first_window space kind q.first f)) same (subst (λ k. IsTrue (is_first_window space k q.first u.b)) kinds u.first) in
+      let first : IsTrue (is_first_window given space kind q.first b) =
+      subst (λ f. IsTrue (is_first_window given space kind q.first f)) same (subst (λ k. IsTrue (is_first_window given space k q.first u.b)) kinds u.first) in
       let address : IsAddress space q.first = ((on.is.claims q.first).0 (omega arith, on.is.some)).address in
-      let at = claims_back q.first (claims_of b kind space q.first is_a_bridge first_one.maps address (first_claims space kind q.first b first)) in
-      held_by o early q.first q refl first (in_true w q.first at.0 at.1)
+      let at = claims_back q.first (claims_of b kind space q.first is_a_bridge first_one.maps address (first_claims given space kind q.first b first)) in
+      and_from (not (is_taken cut q.first)) (is_in_window w o q.first) (ap not (taken_here cut is q.first ∙ kept_first given space kind q.first b first))
+      (held_by o early q.first first (in_true w q.first at.0 at.1))
 
   -- ---- what is free
 
   module _ (bus : ℕ) (leads : secondary b ≡ bus) (qs : List Region) (sorted : AreSortedRegionsOf s bus space qs) where
-    abbrev runs : List Range
-    runs = gaps (range_at w) 0 (map range_at qs)
-
-    pub free_runs_are : AreRuns (IsFreeIn s (value_of space w)) (map decoded_range_of runs)
-    free_runs_are = runs_of (IsFreeIn s (value_of space w)) runs (gaps_canonical (range_at w) 0 (map range_at qs) (by_first s space bus qs sorted) (some_each s space bus qs sorted)) (λ a. (
-      λ covered. (let at = gaps_to (range_at w) 0 (map range_at qs) a (by_first s space bus qs sorted) (some_each s space bus qs sorted) covered in record {
-        held = at.0;
-        unclaimed = λ c listed slot claimed. at.2 (claimed_covers s space bus qs sorted a (subst (λ n. IsClaimedOn s n space a) (ap secondary (unique c b listed iw.listed (slot ∙ sym iw.slot)) ∙ leads) claimed));
+    free_runs_are : (runs : List Range) → AreFreeInside given s bus space w runs → AreRuns (IsFreeIn given s (value_of space w)) (map decoded_range_of runs)
+    free_runs_are runs are = runs_of (IsFreeIn given s (value_of space w)) runs are.canonical (λ a. (
+      λ covered. (let free = (are.exact a).0 covered in record {
+        held = free.0.held;
+        kept = part_cut a ∙ free.0.kept;
+        unclaimed = λ c listed slot claimed. free.1 (subst (λ n. IsClaimedOn given s n space a) (ap secondary (unique c b listed iw.listed (slot ∙ sym iw.slot)) ∙ leads) claimed);
       }),
-      λ free. gaps_from (range_at w) 0 (map range_at qs) a free.held (omega arith) (λ covered. free.unclaimed b iw.listed iw.slot (subst (λ n. IsClaimedOn s n space a) (sym leads) (covered_claims s space bus qs sorted a covered))),
+      λ free. (are.exact a).1 (record { held = free.held; kept = sym (part_cut a) ∙ free.kept }, λ claimed. free.unclaimed b iw.listed iw.slot (subst (λ n. IsClaimedOn given s n space a) (sym leads) claimed)),
     ))
 
-    pub inside_is : (given : Given) (roots : List ℕ) (o : Option Region) (out : List Region) → IsEarlierWindow s space w o → w.slot.bus < bus → AreInPlace given roots s space (filter (is_held_first w o) qs) out
-        → AreInsideWindow record { given = given; roots = roots; system = s; space = space } w bus out runs
-    inside_is given roots o out early rises placed = record {
+    pub inside_is : (roots : List ℕ) (o : Option Region) (cut : Bool) (out : List Region) (runs : List Range) → cut ≡ is_cut_region given space w → IsEarlierWindow s space w o → w.slot.bus < bus
+        → AreInPlace given roots s space (filter (is_held_first w o cut) qs) out → AreFreeInside given s bus space w runs → AreInsideWindow record { given = given; roots = roots; system = s; space = space } w bus out runs
+    inside_is roots o cut out runs is early rises placed free = record {
       rises = rises;
-      each = λ q has. sorted.each q (in_filter_to (is_held_first w o) qs q (placed.each q has)).0;
-      belong = λ q has. (let kept = in_filter_to (is_held_first w o) qs q (placed.each q has) in belongs bus o leads early q (sorted.each q kept.0) kept.1);
+      each = λ q has. sorted.each q (in_filter_to (is_held_first w o cut) qs q (placed.each q has)).0;
+      belong = λ q has. (let kept = in_filter_to (is_held_first w o cut) qs q (placed.each q has) in belongs bus o cut is leads early q (sorted.each q kept.0) kept.1);
       within = placed.within;
-      complete = λ v is same under in_place. (
+      complete = λ v is_in same under in_place. (
           let on : v.slot.bus ≡ bus = sym under.leads ∙ ap secondary (unique under.b b under.listed iw.listed (under.slot ∙ sym iw.slot)) ∙ leads in
-          let found = given_region s bus space qs v sorted.complete is on same in
-          let kept = held_from bus o early found.0 (sorted.each found.0 found.1) (subst (λ x. BelongsUnder s (value_of space w) x) (sym found.2) under) in
-          let has = placed.complete found.0 (in_filter_from (is_held_first w o) qs found.0 found.1 kept) (λ out_of. in_place (subst (λ x. IsOutOfPlace given roots s x) found.2 out_of)) in
+          let found = given_region s bus space qs v sorted.complete is_in on same in
+          let kept = held_from bus o cut is early found.0 (sorted.each found.0 found.1) (subst (λ x. BelongsUnder given s (value_of space w) x) (sym found.2) under) in
+          let has = placed.complete found.0 (in_filter_from (is_held_first w o cut) qs found.0 found.1 kept) (λ out_of. in_place (subst (λ x. IsOutOfPlace given roots s x) found.2 out_of)) in
           subst (λ x. Contains (map (value_of space) out) x) found.2 (in_map_from (value_of space) out found.0 has));
-      sorted = placed.sorted (pairs_filter IsBefore (is_held_first w o) qs sorted.sorted);
-      free = free_runs_are;
+      sorted = placed.sorted (pairs_filter IsBefore (is_held_first w o cut) qs sorted.sorted);
+      free = free_runs_are runs free;
     }
 
 -- what is held of a bus is of the bus

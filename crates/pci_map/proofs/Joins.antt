@@ -41,25 +41,25 @@ inside_free : (given : Given) (roots : List ℕ) (s : System) (space : Space) (r
 inside_free given roots s space [] = tt
 inside_free given roots s space (r ∷ rs) = inside_free given roots s space rs
 
-text_joined : (depth : ℕ) (space : Space) (ls more : Lines) → lines_text depth space (joined ls more) ≡ lines_text depth space ls ++ lines_text depth space more
+text_joined : (given : Given) (depth : ℕ) (space : Space) (ls more : Lines) → lines_text given depth space (joined ls more) ≡ lines_text given depth space ls ++ lines_text given depth space more
 unfolding lines_text
-text_joined depth space End more = refl
-text_joined depth space (Free r rest) more =
-    ap (λ t. free_line depth space r ++ t) (text_joined depth space rest more)
-    ∙ sym (append_assoc (free_line depth space r) (lines_text depth space rest) (lines_text depth space more))
-text_joined depth space (Sits q inside rest) more =
-    ap (λ t. map_region_line depth q ++ (lines_text (suc depth) space inside ++ t)) (text_joined depth space rest more)
-    ∙ ap (λ t. map_region_line depth q ++ t) (sym (append_assoc (lines_text (suc depth) space inside) (lines_text depth space rest) (lines_text depth space more)))
-    ∙ sym (append_assoc (map_region_line depth q) (lines_text (suc depth) space inside ++ lines_text depth space rest) (lines_text depth space more))
+text_joined given depth space End more = refl
+text_joined given depth space (Free r rest) more =
+    ap (λ t. free_line depth space r ++ t) (text_joined given depth space rest more)
+    ∙ sym (append_assoc (free_line depth space r) (lines_text given depth space rest) (lines_text given depth space more))
+text_joined given depth space (Sits q inside rest) more =
+    ap (λ t. map_region_line given depth q ++ (lines_text given (suc depth) space inside ++ t)) (text_joined given depth space rest more)
+    ∙ ap (λ t. map_region_line given depth q ++ t) (sym (append_assoc (lines_text given (suc depth) space inside) (lines_text given depth space rest) (lines_text given depth space more)))
+    ∙ sym (append_assoc (map_region_line given depth q) (lines_text given (suc depth) space inside ++ lines_text given depth space rest) (lines_text given depth space more))
 
-text_free : (depth : ℕ) (space : Space) (rs : List decoded.Range) → lines_text depth space (free_lines rs) ≡ flat_map (free_line depth space) rs
+text_free : (given : Given) (depth : ℕ) (space : Space) (rs : List decoded.Range) → lines_text given depth space (free_lines rs) ≡ flat_map (free_line depth space) rs
 unfolding lines_text
-text_free depth space [] = refl
-text_free depth space (r ∷ rs) = ap (λ t. free_line depth space r ++ t) (text_free depth space rs)
+text_free given depth space [] = refl
+text_free given depth space (r ∷ rs) = ap (λ t. free_line depth space r ++ t) (text_free given depth space rs)
 
-text_seat : (depth : ℕ) (space : Space) (q : why.Region) (inside : Lines) → lines_text depth space (Sits q inside End) ≡ map_region_line depth q ++ lines_text (suc depth) space inside
+text_seat : (given : Given) (depth : ℕ) (space : Space) (q : why.Region) (inside : Lines) → lines_text given depth space (Sits q inside End) ≡ map_region_line given depth q ++ lines_text given (suc depth) space inside
 unfolding lines_text
-text_seat depth space q inside = ap (λ t. map_region_line depth q ++ t) (append-nil (lines_text (suc depth) space inside))
+text_seat given depth space q inside = ap (λ t. map_region_line given depth q ++ t) (append-nil (lines_text given (suc depth) space inside))
 
 -- ---- some lines, and those that come
 
@@ -68,7 +68,7 @@ pub record IsPartly (m : Mapped) (depth : ℕ) (all coming : List Entry) (old ne
   pub lines : Lines
   pub so : entries lines ++ coming ≡ all
   pub inside : AreAllInside m.given m.roots m.system m.space lines
-  pub text : new ≡ old ++ lines_text depth m.space lines
+  pub text : new ≡ old ++ lines_text m.given depth m.space lines
 
 module _ (given : Given) (roots : List ℕ) (s : System) (space : Space) (depth : ℕ) (all : List Entry) (old : List ℕ) where
   abbrev the_space : Mapped
@@ -79,13 +79,13 @@ module _ (given : Given) (roots : List ℕ) (s : System) (space : Space) (depth 
   none_yet = record { lines = End; so = refl; inside = tt; text = sym (append-nil old) }
 
   more_lines : (now new : List ℕ) (more : Lines) (coming : List Entry) → IsPartly the_space depth all (entries more ++ coming) old now → AreAllInside given roots s space more
-      → new ≡ now ++ lines_text depth space more → IsPartly the_space depth all coming old new
+      → new ≡ now ++ lines_text given depth space more → IsPartly the_space depth all coming old new
   more_lines now new more coming is inside text = record {
     lines = joined is.lines more;
     so = ap (λ es. es ++ coming) (entries_joined is.lines more) ∙ append_assoc (entries is.lines) (entries more) coming ∙ is.so;
     inside = inside_joined given roots s space is.lines more is.inside inside;
-    text = text ∙ ap (λ t. t ++ lines_text depth space more) is.text ∙ append_assoc old (lines_text depth space is.lines) (lines_text depth space more)
-        ∙ ap (λ t. old ++ t) (sym (text_joined depth space is.lines more));
+    text = text ∙ ap (λ t. t ++ lines_text given depth space more) is.text ∙ append_assoc old (lines_text given depth space is.lines) (lines_text given depth space more)
+        ∙ ap (λ t. old ++ t) (sym (text_joined given depth space is.lines more));
   }
 
   more_runs : (now new : List ℕ) (rs : List Range) (coming : List Entry) → IsPartly the_space depth all (run_entries rs ++ coming) old now
@@ -93,13 +93,13 @@ module _ (given : Given) (roots : List ℕ) (s : System) (space : Space) (depth 
   more_runs now new rs coming is text =
       more_lines now new (free_lines (map decoded_range_of rs)) coming
       (subst (λ es. IsPartly the_space depth all (es ++ coming) old now) (sym (entries_free (map decoded_range_of rs))) is)
-      (inside_free given roots s space (map decoded_range_of rs)) (text ∙ ap (λ t. now ++ t) (sym (text_free depth space (map decoded_range_of rs))))
+      (inside_free given roots s space (map decoded_range_of rs)) (text ∙ ap (λ t. now ++ t) (sym (text_free given depth space (map decoded_range_of rs))))
 
   one_seat : (now new : List ℕ) (q : Region) (coming : List Entry) → IsPartly the_space depth all (At (value_of space q) ∷ coming) old now → IsSeated the_space depth q now new
       → IsPartly the_space depth all coming old new
   one_seat now new q coming is seat =
       more_lines now new (Sits (value_of space q) seat.inside End) coming is (seat.is, seat.deeper, tt)
-      (seat.text ∙ ap (λ t. now ++ t) (sym (text_seat depth space (value_of space q) seat.inside)))
+      (seat.text ∙ ap (λ t. now ++ t) (sym (text_seat given depth space (value_of space q) seat.inside)))
 
   -- one more region, with the runs before it
   pub next_seat : (now mid new : List ℕ) (q : Region) (qs here : List Region) (left before behind : List Range) (count : ℕ) → here ≡ q ∷ qs → count ≡ ahead q.first left

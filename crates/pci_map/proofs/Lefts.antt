@@ -12,6 +12,7 @@ use Rattle.pci_spec.specs.System as system
 use Rattle.pci_spec.specs.Decoded.{InRange}
 use Rattle.pci_spec.specs.Why as why
 use Rattle.pci_spec.specs.Why.{IsRegionIn}
+use Rattle.given_spec.specs.Given.{Given}
 use Rattle.map_spec.specs.Lines.{is_first_window, BelongsUnder}
 use Rattle.map_spec.specs.Map.{HasWay, IsOutsideWindows}
 use Rattle.map_spec.proofs.Having.{window_has_space}
@@ -56,64 +57,64 @@ first_address s space q of = ((of.claims q.first).0 (omega arith, of.some)).addr
 
 -- ---- first windows
 
-kinds : (space : Space) (k l : WindowKind) (a : ℕ) (b : Function) → IsTrue (is_first_window space k a b) → IsTrue (is_first_window space l a b) → k ≡ l
-kinds Io IoWindow IoWindow a b x y = refl
-kinds Io IoWindow MemoryWindow a b x y = absurd (false≢true y)
-kinds Io IoWindow PrefetchWindow a b x y = absurd (false≢true y)
-kinds Io MemoryWindow l a b x y = absurd (false≢true x)
-kinds Io PrefetchWindow l a b x y = absurd (false≢true x)
-kinds Memory IoWindow l a b x y = absurd (false≢true x)
-kinds Memory MemoryWindow IoWindow a b x y = absurd (false≢true y)
-kinds Memory MemoryWindow MemoryWindow a b x y = refl
-kinds Memory MemoryWindow PrefetchWindow a b x y =
+kinds : (given : Given) (space : Space) (k l : WindowKind) (a : ℕ) (b : Function) → IsTrue (is_first_window given space k a b) → IsTrue (is_first_window given space l a b) → k ≡ l
+kinds given Io IoWindow IoWindow a b x y = refl
+kinds given Io IoWindow MemoryWindow a b x y = absurd (false≢true y)
+kinds given Io IoWindow PrefetchWindow a b x y = absurd (false≢true y)
+kinds given Io MemoryWindow l a b x y = absurd (false≢true x)
+kinds given Io PrefetchWindow l a b x y = absurd (false≢true x)
+kinds given Memory IoWindow l a b x y = absurd (false≢true x)
+kinds given Memory MemoryWindow IoWindow a b x y = absurd (false≢true y)
+kinds given Memory MemoryWindow MemoryWindow a b x y = refl
+kinds given Memory MemoryWindow PrefetchWindow a b x y =
     absurd (both_ways (not (window_claims b MemoryWindow a)) (ap not x) (and_parts (window_claims b PrefetchWindow a) (not (window_claims b MemoryWindow a)) y).1)
-kinds Memory PrefetchWindow IoWindow a b x y = absurd (false≢true y)
-kinds Memory PrefetchWindow MemoryWindow a b x y =
+kinds given Memory PrefetchWindow IoWindow a b x y = absurd (false≢true y)
+kinds given Memory PrefetchWindow MemoryWindow a b x y =
     absurd (both_ways (not (window_claims b MemoryWindow a)) (ap not y) (and_parts (window_claims b PrefetchWindow a) (not (window_claims b MemoryWindow a)) x).1)
-kinds Memory PrefetchWindow PrefetchWindow a b x y = refl
+kinds given Memory PrefetchWindow PrefetchWindow a b x y = refl
 
 -- what stands in the table for a bus
-pub way_here : (roots : List ℕ) (s : System) (ways : List (Option Windows)) (bus : ℕ) (x o : Option Windows) → bus < length ways → x ≡ get_or ways bus x → x ≡ o → AreWays roots s ways → IsWayTo roots s bus o
-way_here roots s ways bus x o lt at is so = subst (IsWayTo roots s bus) (sym (get_or_read ways bus x lt at None) ∙ is) (so bus lt)
+pub way_here : (given : Given) (roots : List ℕ) (s : System) (ways : List (Option Windows)) (bus : ℕ) (x o : Option Windows) → bus < length ways → x ≡ get_or ways bus x → x ≡ o → AreWays given roots s ways → IsWayTo given roots s bus o
+way_here given roots s ways bus x o lt at is so = subst (IsWayTo given roots s bus) (sym (get_or_read ways bus x lt at None) ∙ is) (so bus lt)
 
-module _ (roots : List ℕ) (s : System) (space : Space) (q : Region) where
+module _ (given : Given) (roots : List ℕ) (s : System) (space : Space) (q : Region) where
   abbrev v : why.Region
   v = value_of space q
 
   on_bus : (bus : ℕ) (is : IsRegionIn s v) → q.slot.bus ≡ bus → is.f.slot.bus ≡ bus
   on_bus bus is on = ap (λ (y : Slot). y.bus) is.slot ∙ on
 
-  pub root_way : (bus : ℕ) → IsWayTo roots s bus None → IsRegionIn s v → q.slot.bus ≡ bus → IsLeftIf roots s v false
+  pub root_way : (bus : ℕ) → IsWayTo given roots s bus None → IsRegionIn s v → q.slot.bus ≡ bus → IsLeftIf given roots s v false
   root_way bus way is on = ([], subst (Contains roots) (sym on) (way is.f is.listed (on_bus bus is on)))
 
-  pub windows_above : (bus : ℕ) (ws : Windows) → IsWayTo roots s bus (Some ws) → IsRegionIn s v → q.slot.bus ≡ bus → AreAbove roots s bus ws
+  pub windows_above : (bus : ℕ) (ws : Windows) → IsWayTo given roots s bus (Some ws) → IsRegionIn s v → q.slot.bus ≡ bus → AreAbove given roots s bus ws
   windows_above bus ws way is on = way is.f is.listed (on_bus bus is on)
 
   module _ (bus a : ℕ) (on : q.slot.bus ≡ bus) (at : q.first ≡ a) (x : Slot) (above : IsSlotAbove roots s bus x) where
     -- the bridge that a region belongs under
-    the_bridge : AreOne s → (p : why.Region) (under : BelongsUnder s p v) → under.b ≡ above.b
+    the_bridge : AreOne s → (p : why.Region) (under : BelongsUnder given s p v) → under.b ≡ above.b
     the_bridge unique p under = unique under.b above.b under.listed above.leads.0 (above.only under.b (under.listed, under.bridge, under.leads ∙ on) ∙ sym above.named)
 
-    first_there : AreOne s → (p : why.Region) (under : BelongsUnder s p v) → IsTrue (is_first_window space under.kind a above.b)
+    first_there : AreOne s → (p : why.Region) (under : BelongsUnder given s p v) → IsTrue (is_first_window given space under.kind a above.b)
     first_there unique p under =
-        subst (λ n. IsTrue (is_first_window space under.kind n above.b)) at (subst (λ f. IsTrue (is_first_window space under.kind q.first f)) (the_bridge unique p under) under.first)
+        subst (λ n. IsTrue (is_first_window given space under.kind n above.b)) at (subst (λ f. IsTrue (is_first_window given space under.kind q.first f)) (the_bridge unique p under) under.first)
 
-    pub left_none : AreOne s → ((kind : WindowKind) → IsTrue (is_first_window space kind a above.b) → ⊥) → IsOutsideWindows roots s v
+    pub left_none : AreOne s → ((kind : WindowKind) → IsTrue (is_first_window given space kind a above.b) → ⊥) → IsOutsideWindows given roots s v
     left_none unique none [] way = above.off_root (subst (Contains roots) on way)
     left_none unique none (p ∷ windows) (is, under, way) = none under.kind (first_there unique p under)
 
-    module _ (w : Region) (first : IsFirstHoldingWindow s space above.b a w) where
-      the_window : AreOne s → (p : why.Region) → IsRegionIn s p → IsRegionIn s v → BelongsUnder s p v → p ≡ value_of space w
+    module _ (w : Region) (first : IsFirstHoldingWindow given s space above.b a w) where
+      the_window : AreOne s → (p : why.Region) → IsRegionIn s p → IsRegionIn s v → BelongsUnder given s p v → p ≡ value_of space w
       the_window unique p is of under =
-          let kind : under.kind ≡ first.kind = kinds space under.kind first.kind a above.b (first_there unique p under) first.first in
+          let kind : under.kind ≡ first.kind = kinds given space under.kind first.kind a above.b (first_there unique p under) first.first in
           region_same s unique p (value_of space w) is first.is (sym under.slot ∙ ap (λ (f : Function). f.slot) (the_bridge unique p under) ∙ first.slot)
-          (under.window ∙ ap system.Window kind ∙ sym first.window) (window_has_space s p v is under)
+          (under.window ∙ ap system.Window kind ∙ sym first.window) (window_has_space given s p v is under)
 
-      left_below : AreOne s → IsRegionIn s v → IsOutsideWindows roots s (value_of space w) → IsOutsideWindows roots s v
+      left_below : AreOne s → IsRegionIn s v → IsOutsideWindows given roots s (value_of space w) → IsOutsideWindows given roots s v
       left_below unique of left [] way = above.off_root (subst (Contains roots) on way)
-      left_below unique of left (p ∷ windows) (is, under, way) = left windows (subst (λ z. HasWay roots s z windows) (the_window unique p is of under) way)
+      left_below unique of left (p ∷ windows) (is, under, way) = left windows (subst (λ z. HasWay given roots s z windows) (the_window unique p is of under) way)
 
-      under_it : BelongsUnder s (value_of space w) v
+      under_it : BelongsUnder given s (value_of space w) v
       under_it = record {
         b = above.b;
         listed = above.leads.0;
@@ -122,13 +123,13 @@ module _ (roots : List ℕ) (s : System) (space : Space) (q : Region) where
         leads = above.leads.2 ∙ sym on;
         kind = first.kind;
         window = first.window;
-        first = subst (λ n. IsTrue (is_first_window space first.kind n above.b)) (sym at) first.first;
+        first = subst (λ n. IsTrue (is_first_window given space first.kind n above.b)) (sym at) first.first;
       }
 
-      pub as_window : AreOne s → IsRegionIn s v → (left : Bool) → IsLeftIf roots s (value_of space w) left → IsLeftIf roots s v left
+      pub as_window : AreOne s → IsRegionIn s v → (left : Bool) → IsLeftIf given roots s (value_of space w) left → IsLeftIf given roots s v left
       as_window unique of true left = left_below unique of left
       as_window unique of false (windows, way) = (value_of space w ∷ windows, (first.is, under_it, way))
 
     -- a region is left as the window that it belongs under is
-    pub as_judged : AreOne s → IsRegionIn s v → (w : Judged) → IsFirstJudged roots s space above.b a w → IsLeftIf roots s v w.left
+    pub as_judged : AreOne s → IsRegionIn s v → (w : Judged) → IsFirstJudged given roots s space above.b a w → IsLeftIf given roots s v w.left
     as_judged unique of w is = as_window w.window is.first unique of w.left is.judged

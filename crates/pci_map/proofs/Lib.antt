@@ -4,6 +4,7 @@ pub mod LineTexts
 pub mod Values
 pub mod GapRanges
 pub mod HexBytes
+pub mod Cuts
 pub mod Covering
 pub mod Insides
 pub mod Openings

@@ -13,9 +13,9 @@ pub map_of : (given : Given) (roots : List ℕ) (s : System) (empty first second
     → AreAsidesTold given roots s first second → text ≡ second ++ map_off_text s → IsMapText given roots s text
 map_of given roots s empty first second text none told asides off =
     let m : Map = record { roots = told.told; outside = asides.outside; unreached = asides.unreached } in
-    let on_roots = flat_map root_text told.told in
-    let outside = outside_text asides.outside in
-    let left = unreached_text asides.unreached in record {
+    let on_roots = flat_map (root_text given) told.told in
+    let outside = outside_text given asides.outside in
+    let left = unreached_text given asides.unreached in record {
       m = m;
       is = record { buses = told.buses; each = told.each; outside = asides.are_outside; left = asides.are_left };
       says = off

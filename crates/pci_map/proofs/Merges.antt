@@ -231,9 +231,9 @@ module _ (P : ℕ → Type 0) (rs : List Range) (free : AreRuns P (map decoded_r
       omega (arith, some, past))
 
 pub lines_are : (given : Given) (roots : List ℕ) (s : System) (space : Space) (place : MapPlace) (lines : Lines) (qs : List Region) (rs : List Range) → entries lines ≡ merged space qs rs
-    → ((q : Region) → Contains qs q → IsRegionIn s (value_of space q)) → ((q : Region) → Contains qs q → StandsInPlace s place (value_of space q))
+    → ((q : Region) → Contains qs q → IsRegionIn s (value_of space q)) → ((q : Region) → Contains qs q → StandsInPlace given s place (value_of space q))
     → ((q : Region) → Contains qs q → IsOutOfPlace given roots s (value_of space q) → ⊥)
-    → ((v : why.Region) → IsRegionIn s v → v.space ≡ space → StandsInPlace s place v → (IsOutOfPlace given roots s v → ⊥) → Contains (map (value_of space) qs) v)
+    → ((v : why.Region) → IsRegionIn s v → v.space ≡ space → StandsInPlace given s place v → (IsOutOfPlace given roots s v → ⊥) → Contains (map (value_of space) qs) v)
     → AreRuns (IsFreeInPlace given s space place) (map decoded_range_of rs) → AllPairs tree.IsBefore qs
     → ((q : Region) (a : ℕ) → Contains qs q → a ≡ q.first → IsFreeInPlace given s space place a → ⊥) → AreLinesAt given roots s space place lines
 lines_are given roots s space place lines qs rs is each stand within complete free sorted apart =
@@ -244,7 +244,7 @@ lines_are given roots s space place lines qs rs is each stand within complete fr
     record {
       regions = λ v has. (let made = from v has in subst (IsRegionIn s) made.is (each made.from made.has));
       of_space = λ v has. (let made = from v has in sym (ap (λ (x : why.Region). x.space) made.is));
-      stand = λ v has. (let made = from v has in subst (StandsInPlace s place) made.is (stand made.from made.has));
+      stand = λ v has. (let made = from v has in subst (StandsInPlace given s place) made.is (stand made.from made.has));
       within = λ v has. (let made = from v has in subst (λ (x : why.Region). IsOutOfPlace given roots s x → ⊥) made.is (within made.from made.has));
       complete = λ v is_in same at in_place. subst (λ vs. Contains vs v) (sym here) (complete v is_in same at in_place);
       free = subst (AreRuns (IsFreeInPlace given s space place)) (sym runs_here) free;

@@ -1,5 +1,5 @@
 -- The record of a window's bridge.
-use Rattle.std.proofs.Common.{◌≡◌, ℕ, ◌<◌, List, map, sym, ap, ◌∙◌, arith, true, Option, None, Some}
+use Rattle.std.proofs.Common.{◌≡◌, ℕ, ◌<◌, List, sym, ap, ◌∙◌, arith, true, Option, None, Some, Bool}
 use Rattle.std.specs.Option.{is_some}
 use Rattle.std.specs.List.{Contains, filter}
 use Rattle.std.proofs.lemmas.Bool.{false≢true}
@@ -13,15 +13,16 @@ use Rattle.given_spec.specs.Given.{Given}
 use Rattle.pci_function.specs.declared.record.Bridge.{Bridge}
 use Rattle.pci_function.specs.declared.record.Record.{Record}
 use Rattle.pci_function.specs.Values.{record_value}
+use Rattle.pci_base.specs.declared.range.Range.{Range}
 use Rattle.pci_tree.specs.declared.region.Part.TheVariants.{Window}
 use Rattle.pci_tree.specs.declared.region.Region.{Region}
 use Rattle.pci_tree.specs.Ways.{slots_of, secondary_in}
 use Rattle.pci_tree.specs.Outline.{RiseBySlot, AreSortedRegionsOf}
 use Rattle.pci_tree.proofs.Lifting.{Has, record_for, same_bridge, same_secondary, same_slot_of, one_by_number, one_function}
-use Rattle.pci_claims.specs.Found.{range_at}
+use Rattle.pci_claims.specs.Isa.{is_cut_region}
 use Rattle.pci_claims.proofs.Founds.{none_without_record}
 use Rattle.pci_map.specs.Values.{part_of, value_of}
-use Rattle.pci_map.specs.Gaps.{gaps}
+use Rattle.pci_map.specs.Gaps.{AreFreeInside}
 use Rattle.pci_map.specs.Above.{AreInPlace}
 use Rattle.pci_map.specs.Inside.{is_held_first, IsEarlierWindow, AreInsideWindow}
 use Rattle.pci_map.proofs.Insides.{is_a_bridge, inside_is}
@@ -41,16 +42,17 @@ module _ (s : System) (rs : List Record) (space : Space) (w : Region) (has : Has
     one : (f g : Function) → Contains s f → Contains s g → f.slot ≡ g.slot → f ≡ g
     one f g in_f in_g e = one_function s rs f g has rise in_f in_g e
 
-    bridge_is : is_bridge iw.f ≡ true
-    bridge_is = is_a_bridge s space w iw window one
+    bridge_is : (given : Given) → is_bridge iw.f ≡ true
+    bridge_is given = is_a_bridge given s space w iw window one
 
-    pub no_bridge : r.bridge ≡ None → ⊥
-    no_bridge none = false≢true (sym (ap is_some none) ∙ same_bridge r iw.f stands_for ∙ bridge_is)
+    pub no_bridge : Given → r.bridge ≡ None → ⊥
+    no_bridge given none = false≢true (sym (ap is_some none) ∙ same_bridge r iw.f stands_for ∙ bridge_is given)
 
-    pub opened : (given : Given) (roots : List ℕ) (b : Bridge) (o : Option Region) (qs out : List Region) → IsNested roots s → r.bridge ≡ Some b → IsEarlierWindow s space w o → AreSortedRegionsOf s b.secondary space qs
-        → AreInPlace given roots s space (filter (is_held_first w o) qs) out → AreInsideWindow record { given = given; roots = roots; system = s; space = space } w b.secondary out (gaps (range_at w) 0 (map range_at qs))
-    opened given roots b o qs out nested is early sorted placed =
-        let leads : secondary iw.f ≡ b.secondary = sym (same_secondary r iw.f stands_for bridge_is) ∙ ap secondary_in is in
-        let rises : iw.f.slot.bus < secondary iw.f = ((bus_order_means iw.f).0 (nested.order iw.f iw.listed bridge_is)).1 in
+    pub opened : (given : Given) (roots : List ℕ) (b : Bridge) (o : Option Region) (cut : Bool) (qs out : List Region) (runs : List Range) → IsNested roots s → r.bridge ≡ Some b → cut ≡ is_cut_region given space w
+        → IsEarlierWindow s space w o → AreSortedRegionsOf s b.secondary space qs → AreInPlace given roots s space (filter (is_held_first w o cut) qs) out → AreFreeInside given s b.secondary space w runs
+        → AreInsideWindow record { given = given; roots = roots; system = s; space = space } w b.secondary out runs
+    opened given roots b o cut qs out runs nested is cut_is early sorted placed free =
+        let leads : secondary iw.f ≡ b.secondary = sym (same_secondary r iw.f stands_for (bridge_is given)) ∙ ap secondary_in is in
+        let rises : iw.f.slot.bus < secondary iw.f = ((bus_order_means iw.f).0 (nested.order iw.f iw.listed (bridge_is given))).1 in
         let bus : iw.f.slot.bus ≡ w.slot.bus = ap (λ (x : Slot). x.bus) iw.slot in
-        inside_is s space w iw window one b.secondary leads qs sorted given roots o out early (omega (arith, rises, bus, leads)) placed
+        inside_is given s space w iw window one b.secondary leads qs sorted roots o cut out runs cut_is early (omega (arith, rises, bus, leads)) placed free

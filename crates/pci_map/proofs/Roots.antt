@@ -38,9 +38,9 @@ module _ (given : Given) (roots : List ℕ) (s : System) where
           | inl here ↦ subst (IsRootOfMap given roots s) here (record { io = io.are; memory = memory.are })
           | inr none ↦ absurd (in_nil r none)
         ];
-        text = memory.text ∙ ap (λ t. t ++ space_lines bus Memory memory.lines) io.text
-            ∙ append_assoc old (space_lines bus Io io.lines) (space_lines bus Memory memory.lines)
-            ∙ ap (λ t. old ++ t) (sym (append-nil (root_text one)));
+        text = memory.text ∙ ap (λ t. t ++ space_lines given bus Memory memory.lines) io.text
+            ∙ append_assoc old (space_lines given bus Io io.lines) (space_lines given bus Memory memory.lines)
+            ∙ ap (λ t. old ++ t) (sym (append-nil (root_text given one)));
       }
 
   pub told_both : (buses more : List ℕ) (old mid new : List ℕ) → AreRootsTold given roots s buses old mid → AreRootsTold given roots s more mid new → AreRootsTold given roots s (buses ++ more) old new
@@ -54,9 +54,9 @@ module _ (given : Given) (roots : List ℕ) (s : System) where
       | inl early ↦ first.each root early
       | inr late ↦ second.each root late
     ];
-    text = second.text ∙ ap (λ t. t ++ flat_map root_text second.told) first.text
-        ∙ append_assoc old (flat_map root_text first.told) (flat_map root_text second.told)
-        ∙ ap (λ t. old ++ t) (sym (flat_map-append root_text first.told second.told));
+    text = second.text ∙ ap (λ t. t ++ flat_map (root_text given) second.told) first.text
+        ∙ append_assoc old (flat_map (root_text given) first.told) (flat_map (root_text given) second.told)
+        ∙ ap (λ t. old ++ t) (sym (flat_map-append (root_text given) first.told second.told));
   }
 
 one_longer : (low n : ℕ) → range_with_len low (suc n) ≡ range_with_len low n ++ (low + n) ∷ []

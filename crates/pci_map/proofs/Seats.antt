@@ -21,6 +21,7 @@ use Rattle.pci_map.specs.Values.{Mapped, part_at, part_of, value_of}
 use Rattle.pci_map.specs.Inside.{AreInsideWindow}
 use Rattle.pci_map.specs.Above.{AreInPlace}
 use Rattle.pci_map.specs.Walk.{ahead, Entry, Run, At, entries, run_entries, merged, ArePlacesWritten, IsSeated, IsSpaceTold}
+use Rattle.pci_map.proofs.Cuts.{first_own}
 use Rattle.pci_map.proofs.Values.{told_region, given_region}
 use Rattle.pci_map.proofs.Merges.{lines_are}
 
@@ -29,13 +30,13 @@ module _ (given : Given) (roots : List ℕ) (s : System) (space : Space) where
   the_space = record { given = given; roots = roots; system = s; space = space }
 
   -- an enabled region of the bus claims its first address
-  claims_first : (bus : ℕ) (q : Region) → IsRegionOn s bus space q → IsClaimedOn s bus space q.first
+  claims_first : (bus : ℕ) (q : Region) → IsRegionOn s bus space q → IsClaimedOn given s bus space q.first
   claims_first bus q on = record {
     f = on.f;
     part = on.part;
     listed = on.listed;
     on_bus = on.on_bus;
-    claims = (on.is.claims q.first).0 (omega arith, on.is.some);
+    claims = first_own given s bus space q on;
   }
 
   pub lines_inside : (w : Region) (bus : ℕ) (qs : List Region) (rs : List Range) (lines : Lines) → AreInsideWindow the_space w bus qs rs → entries lines ≡ merged space qs rs
@@ -53,7 +54,7 @@ module _ (given : Given) (roots : List ℕ) (s : System) (space : Space) where
       let on = inside.each q has in
       let q_bus : q.slot.bus ≡ bus = ap (λ (x : Slot). x.bus) on.is.slot ∙ on.on_bus in
       free.unclaimed under.b under.listed under.slot
-      (subst (λ n. IsClaimedOn s n space a) (sym (under.leads ∙ q_bus)) (subst (λ n. IsClaimedOn s bus space n) (sym at) (claims_first bus q on)))))
+      (subst (λ n. IsClaimedOn given s n space a) (sym (under.leads ∙ q_bus)) (subst (λ n. IsClaimedOn given s bus space n) (sym at) (claims_first bus q on)))))
 
   module _ (bus : ℕ) (all qs : List Region) (rs : List Range) (sorted : AreSortedRegionsOf s bus space all) (placed : AreInPlace given roots s space all qs)
       (free : AreRuns (IsFreeOn given s bus space) (map decoded_range_of rs)) where
@@ -69,7 +70,7 @@ module _ (given : Given) (roots : List ℕ) (s : System) (space : Space) where
         subst (λ x. Contains (map (value_of space) qs) x) found.2 (in_map_from (value_of space) qs found.0 has)))
         free
         (placed.sorted sorted.sorted)
-        (λ q a has at is_free. is_free.unclaimed (subst (λ n. IsClaimedOn s bus space n) (sym at) (claims_first bus q (sorted.each q (placed.each q has)))))
+        (λ q a has at is_free. is_free.unclaimed (subst (λ n. IsClaimedOn given s bus space n) (sym at) (claims_first bus q (sorted.each q (placed.each q has)))))
 
   -- ---- a region, and what is inside it
 
@@ -78,13 +79,13 @@ module _ (given : Given) (roots : List ℕ) (s : System) (space : Space) where
   none_inside parts.Rom reg v not_window = refl
   none_inside parts.Window reg v not_window = absurd (not_window refl)
 
-  pub seat_alone : (depth : ℕ) (q : Region) (old new : List ℕ) → (q.part ≡ parts.Window → ⊥) → new ≡ old ++ map_region_line depth (value_of space q) → IsSeated the_space depth q old new
+  pub seat_alone : (depth : ℕ) (q : Region) (old new : List ℕ) → (q.part ≡ parts.Window → ⊥) → new ≡ old ++ map_region_line given depth (value_of space q) → IsSeated the_space depth q old new
   unfolding lines_text
   seat_alone depth q old new not_window text = record {
     inside = End;
     is = none_inside q.part q.reg (value_of space q) not_window;
     deeper = tt;
-    text = text ∙ ap (λ t. old ++ t) (sym (append-nil (map_region_line depth (value_of space q))));
+    text = text ∙ ap (λ t. old ++ t) (sym (append-nil (map_region_line given depth (value_of space q))));
   }
 
   window_inside : (q : Region) (bus : ℕ) (qs : List Region) (rs : List Range) (lines : Lines) → q.part ≡ parts.Window → AreInsideWindow the_space q bus qs rs → entries lines ≡ merged space qs rs
@@ -93,20 +94,20 @@ module _ (given : Given) (roots : List ℕ) (s : System) (space : Space) where
       subst (λ p. AreInside (part_at p q.reg) lines (AreLinesAt given roots s space (Inside (value_of space q)) lines)) (sym window) (lines_inside q bus qs rs lines inside is)
 
   pub seat_of_window : (depth deeper : ℕ) (q : Region) (bus : ℕ) (qs : List Region) (rs : List Range) (old mid new : List ℕ) → deeper ≡ depth + 1 → q.part ≡ parts.Window → AreInsideWindow the_space q bus qs rs
-      → mid ≡ old ++ map_region_line depth (value_of space q) → ArePlacesWritten the_space deeper (merged space qs rs) mid new → IsSeated the_space depth q old new
+      → mid ≡ old ++ map_region_line given depth (value_of space q) → ArePlacesWritten the_space deeper (merged space qs rs) mid new → IsSeated the_space depth q old new
   seat_of_window depth deeper q bus qs rs old mid new one window inside line placed = record {
     inside = placed.lines;
     is = window_inside q bus qs rs placed.lines window inside placed.entries;
     deeper = placed.inside;
     text = placed.text
-        ∙ ap (λ t. t ++ lines_text deeper space placed.lines) line
-        ∙ append_assoc old (map_region_line depth (value_of space q)) (lines_text deeper space placed.lines)
-        ∙ ap (λ d. old ++ (map_region_line depth (value_of space q) ++ lines_text d space placed.lines)) (one ∙ (let e : depth + 1 ≡ suc depth = omega arith in e));
+        ∙ ap (λ t. t ++ lines_text given deeper space placed.lines) line
+        ∙ append_assoc old (map_region_line given depth (value_of space q)) (lines_text given deeper space placed.lines)
+        ∙ ap (λ d. old ++ (map_region_line given depth (value_of space q) ++ lines_text given d space placed.lines)) (one ∙ (let e : depth + 1 ≡ suc depth = omega arith in e));
   }
 
   -- ---- a root bus
 
-  headed : (bus : ℕ) (lines : Lines) → (entries lines ≡ [] → ⊥) → space_lines bus space lines ≡ bus_heading bus space ++ lines_text 1 space lines
+  headed : (bus : ℕ) (lines : Lines) → (entries lines ≡ [] → ⊥) → space_lines given bus space lines ≡ bus_heading bus space ++ lines_text given 1 space lines
   headed bus End some = absurd (some refl)
   headed bus (Free r rest) some = refl
   headed bus (Sits q inside rest) some = refl
@@ -137,7 +138,7 @@ module _ (given : Given) (roots : List ℕ) (s : System) (space : Space) where
       lines = is.lines;
       are = (lines_on_root bus all qs rs sorted placed free is.lines is.entries, is.inside);
       text = is.text
-          ∙ ap (λ t. t ++ lines_text 1 space is.lines) line
-          ∙ append_assoc old (bus_heading bus space) (lines_text 1 space is.lines)
+          ∙ ap (λ t. t ++ lines_text given 1 space is.lines) line
+          ∙ append_assoc old (bus_heading bus space) (lines_text given 1 space is.lines)
           ∙ ap (λ t. old ++ t) (sym (headed bus is.lines (λ none. some_entries qs rs some (sym is.entries ∙ none))));
     }

@@ -19,6 +19,7 @@ use Rattle.pci_spec.specs.Why.{Region, IsRegionIn}
 use Rattle.pci_spec.proofs.Members.{in_nil, in_head, in_cons_cases, IsMade, in_map_to, in_map_from, pairs_nil, pairs_cons, pairs_append, pairs_head, pairs_tail}
 use Rattle.pci_spec.proofs.Regions.{part_same, register_of-lt}
 use Rattle.given_spec.specs.Given.{Given}
+use Rattle.given_spec.specs.Why.{isa_words_of}
 use Rattle.map_spec.specs.Lines.{IsOutOfPlace, region_rank}
 use Rattle.map_spec.specs.Map.{IsOnlyLeft, AreRegionsBySlot}
 use Rattle.map_spec.specs.MapText.{part_name, map_region_line, outside_text, under_heading}
@@ -126,8 +127,8 @@ found_on s slot reg space q found bus is = record {
 abbrev IsLess : Region → Region → Type 0
 IsLess p q = region_rank p < region_rank q
 
-module _ (Q : Region → Type 0) (s : System) where
-  pub told_none : (P : Region → Type 0) (text : List ℕ) → ((q : Region) → IsRegionIn s q → Q q → P q → ⊥) → AreAsidesWritten Q s P text text
+module _ (given : Given) (Q : Region → Type 0) (s : System) where
+  pub told_none : (P : Region → Type 0) (text : List ℕ) → ((q : Region) → IsRegionIn s q → Q q → P q → ⊥) → AreAsidesWritten given Q s P text text
   told_none P text none = record {
     told = [];
     regions = λ q has. absurd (in_nil q has);
@@ -144,8 +145,8 @@ module _ (Q : Region → Type 0) (s : System) where
     | inr none ↦ absurd (in_nil p none)
   ]
 
-  told_one : (P : Region → Type 0) (q : Region) (old new : List ℕ) → IsRegionIn s q → Q q → P q → ((p : Region) → IsRegionIn s p → P p → p ≡ q) → new ≡ old ++ map_region_line 1 q
-      → AreAsidesWritten Q s P old new
+  told_one : (P : Region → Type 0) (q : Region) (old new : List ℕ) → IsRegionIn s q → Q q → P q → ((p : Region) → IsRegionIn s p → P p → p ≡ q) → new ≡ old ++ map_region_line given 1 q
+      → AreAsidesWritten given Q s P old new
   told_one P q old new is left holds only text = record {
     told = q ∷ [];
     regions = λ p has. in_one (IsRegionIn s) q p is has;
@@ -153,13 +154,13 @@ module _ (Q : Region → Type 0) (s : System) where
     among = λ p has. in_one P q p holds has;
     complete = λ p of left_p holds_p. subst (λ z. Contains (q ∷ []) z) (sym (only p of holds_p)) (in_head q []);
     rising = pairs_cons IsLess q [] (λ p has. absurd (in_nil p has)) (pairs_nil IsLess);
-    text = text ∙ ap (λ t. old ++ t) (sym (append-nil (map_region_line 1 q)));
+    text = text ∙ ap (λ t. old ++ t) (sym (append-nil (map_region_line given 1 q)));
   }
 
   -- lines of some, and behind them those of others
-  pub told_join : (P S R : Region → Type 0) (old mid new : List ℕ) → AreAsidesWritten Q s P old mid → AreAsidesWritten Q s S mid new
+  pub told_join : (P S R : Region → Type 0) (old mid new : List ℕ) → AreAsidesWritten given Q s P old mid → AreAsidesWritten given Q s S mid new
       → ((p q : Region) → IsRegionIn s p → IsRegionIn s q → P p → S q → region_rank p < region_rank q)
-      → ((q : Region) → P q → R q) → ((q : Region) → S q → R q) → ((q : Region) → IsRegionIn s q → R q → P q ⊎ S q) → AreAsidesWritten Q s R old new
+      → ((q : Region) → P q → R q) → ((q : Region) → S q → R q) → ((q : Region) → IsRegionIn s q → R q → P q ⊎ S q) → AreAsidesWritten given Q s R old new
   told_join P S R old mid new first second order from_p from_s parts = record {
     told = first.told ++ second.told;
     regions = λ q has. elim (Contains-append_cases first.told second.told q has) [
@@ -180,13 +181,13 @@ module _ (Q : Region → Type 0) (s : System) where
     ];
     rising = pairs_append IsLess first.told second.told first.rising second.rising
         (λ p q in_p in_q. order p q (first.regions p in_p) (second.regions q in_q) (first.among p in_p) (second.among q in_q));
-    text = second.text ∙ ap (λ t. t ++ flat_map (map_region_line 1) second.told) first.text
-        ∙ append_assoc old (flat_map (map_region_line 1) first.told) (flat_map (map_region_line 1) second.told)
-        ∙ ap (λ t. old ++ t) (sym (flat_map-append (map_region_line 1) first.told second.told));
+    text = second.text ∙ ap (λ t. t ++ flat_map (map_region_line given 1) second.told) first.text
+        ∙ append_assoc old (flat_map (map_region_line given 1) first.told) (flat_map (map_region_line given 1) second.told)
+        ∙ ap (λ t. old ++ t) (sym (flat_map-append (map_region_line given 1) first.told second.told));
   }
 
-  pub told_same : (P S : Region → Type 0) (old new : List ℕ) → AreAsidesWritten Q s P old new → ((q : Region) → IsRegionIn s q → P q → S q) → ((q : Region) → IsRegionIn s q → S q → P q)
-      → AreAsidesWritten Q s S old new
+  pub told_same : (P S : Region → Type 0) (old new : List ℕ) → AreAsidesWritten given Q s P old new → ((q : Region) → IsRegionIn s q → P q → S q) → ((q : Region) → IsRegionIn s q → S q → P q)
+      → AreAsidesWritten given Q s S old new
   told_same P S old new told to from = record {
     told = told.told;
     regions = told.regions;
@@ -200,7 +201,7 @@ module _ (Q : Region → Type 0) (s : System) where
   -- ---- at a slot and a register
 
   module _ (unique : AreOne s) (slot : Slot) (reg : ℕ) where
-    pub none_found : (space : Space) (text : List ℕ) → NoneClaims s slot reg space → AreAsidesWritten Q s (IsNamedAt slot reg space) text text
+    pub none_found : (space : Space) (text : List ℕ) → NoneClaims s slot reg space → AreAsidesWritten given Q s (IsNamedAt slot reg space) text text
     none_found space text none = told_none (IsNamedAt slot reg space) text
         (λ q is left at. none is.f q.part q.range.first is.listed (is.slot ∙ at.0) (is.register ∙ at.1) (subst (λ sp. system.Claims is.f q.part sp q.range.first) at.2 (there_is s q is)))
 
@@ -211,10 +212,10 @@ module _ (Q : Region → Type 0) (s : System) where
       same_found : (p : Region) → IsRegionIn s p → IsNamedAt slot reg space p → p ≡ v
       same_found p is at = one_at s unique p v is (is_region s slot reg space q found) (at.0 ∙ sym found.slot_is) (at.1 ∙ sym found.register)
 
-      pub found_not : (text : List ℕ) → (Q v → ⊥) → AreAsidesWritten Q s (IsNamedAt slot reg space) text text
+      pub found_not : (text : List ℕ) → (Q v → ⊥) → AreAsidesWritten given Q s (IsNamedAt slot reg space) text text
       found_not text not = told_none (IsNamedAt slot reg space) text (λ p is holds at. not (subst Q (same_found p is at) holds))
 
-      pub found_one : (old new : List ℕ) → Q v → new ≡ old ++ map_region_line 1 v → AreAsidesWritten Q s (IsNamedAt slot reg space) old new
+      pub found_one : (old new : List ℕ) → Q v → new ≡ old ++ map_region_line given 1 v → AreAsidesWritten given Q s (IsNamedAt slot reg space) old new
       found_one old new left text = told_one (IsNamedAt slot reg space) v old new (is_region s slot reg space q found) left (found.slot_is, found.register, refl) same_found text
 
     cases_space : (space : Space) → (space ≡ Io) ⊎ (space ≡ Memory)
@@ -226,7 +227,7 @@ module _ (Q : Region → Type 0) (s : System) where
     is_io Memory = false
 
     -- no register has regions of both spaces
-    pub both_spaces : (old mid new : List ℕ) → AreAsidesWritten Q s (IsNamedAt slot reg Io) old mid → AreAsidesWritten Q s (IsNamedAt slot reg Memory) mid new → AreAsidesWritten Q s (IsNamedAtRegister slot reg) old new
+    pub both_spaces : (old mid new : List ℕ) → AreAsidesWritten given Q s (IsNamedAt slot reg Io) old mid → AreAsidesWritten given Q s (IsNamedAt slot reg Memory) mid new → AreAsidesWritten given Q s (IsNamedAtRegister slot reg) old new
     both_spaces old mid new io memory =
         told_join (IsNamedAt slot reg Io) (IsNamedAt slot reg Memory) (IsNamedAtRegister slot reg) old mid new io memory
         (λ p q ip iq at_p at_q. (
@@ -249,7 +250,7 @@ module _ (Q : Region → Type 0) (s : System) where
 
   -- no region that its lists have is such a one
   pub none_of : (unique : AreOne s) (slot : Slot) (io memory : List outline.Region) (text : List ℕ) → AreFoundBy s slot Io io → AreFoundBy s slot Memory memory
-      → ((q : outline.Region) → Contains io q → Q (value_of Io q) → ⊥) → ((q : outline.Region) → Contains memory q → Q (value_of Memory q) → ⊥) → AreAsidesWritten Q s (IsOfSlot slot) text text
+      → ((q : outline.Region) → Contains io q → Q (value_of Io q) → ⊥) → ((q : outline.Region) → Contains memory q → Q (value_of Memory q) → ⊥) → AreAsidesWritten given Q s (IsOfSlot slot) text text
   none_of unique slot io memory text found_io found_memory none_io none_memory =
       told_none (IsOfSlot slot) text (λ q is holds at. elim (cases_space unique slot 0 q.space) [
         | inl same ↦ none_of_space unique slot Io io found_io none_io q is at same holds
@@ -258,7 +259,7 @@ module _ (Q : Region → Type 0) (s : System) where
 
   -- ---- at the registers of a function
 
-  pub below_none : (slot : Slot) (text : List ℕ) → AreAsidesWritten Q s (IsNamedBelow slot 0) text text
+  pub below_none : (slot : Slot) (text : List ℕ) → AreAsidesWritten given Q s (IsNamedBelow slot 0) text text
   below_none slot text = told_none (IsNamedBelow slot 0) text (λ q is left at. (let low = at.1 in omega (arith, low)))
 
   below_cases : (q : Region) (slot : Slot) (k : ℕ) → IsRegionIn s q → q.slot ≡ slot → q.register < 4 * (k + 1) → IsNamedBelow slot (4 * k) q ⊎ IsNamedAtRegister slot (4 * k) q
@@ -271,8 +272,8 @@ module _ (Q : Region → Type 0) (s : System) where
       ]
 
   -- the next register of four bytes
-  pub one_register : (slot : Slot) (k : ℕ) (old mid new : List ℕ) → AreAsidesWritten Q s (IsNamedBelow slot (4 * k)) old mid → AreAsidesWritten Q s (IsNamedAtRegister slot (4 * k)) mid new
-      → AreAsidesWritten Q s (IsNamedBelow slot (4 * (k + 1))) old new
+  pub one_register : (slot : Slot) (k : ℕ) (old mid new : List ℕ) → AreAsidesWritten given Q s (IsNamedBelow slot (4 * k)) old mid → AreAsidesWritten given Q s (IsNamedAtRegister slot (4 * k)) mid new
+      → AreAsidesWritten given Q s (IsNamedBelow slot (4 * (k + 1))) old new
   one_register slot k old mid new first second =
       told_join (IsNamedBelow slot (4 * k)) (IsNamedAtRegister slot (4 * k)) (IsNamedBelow slot (4 * (k + 1))) old mid new first second
       (λ p q ip iq at_p at_q. (
@@ -282,16 +283,16 @@ module _ (Q : Region → Type 0) (s : System) where
       (λ q at. (at.0, let low = at.1 in omega (arith, low))) (λ q at. (at.0, let here = at.1 in omega (arith, here)))
       (λ q is at. below_cases q slot k is at.0 at.1)
 
-  pub all_registers : (slot : Slot) (old new : List ℕ) → AreAsidesWritten Q s (IsNamedBelow slot 64) old new → AreAsidesWritten Q s (IsOfSlot slot) old new
+  pub all_registers : (slot : Slot) (old new : List ℕ) → AreAsidesWritten given Q s (IsNamedBelow slot 64) old new → AreAsidesWritten given Q s (IsOfSlot slot) old new
   all_registers slot old new told = told_same (IsNamedBelow slot 64) (IsOfSlot slot) old new told (λ q is at. at.0) (λ q is at. (at, register_low s q is))
 
   -- ---- of some functions
 
-  pub among_none : (text : List ℕ) → AreAsidesWritten Q s (IsAmongSlots []) text text
+  pub among_none : (text : List ℕ) → AreAsidesWritten given Q s (IsAmongSlots []) text text
   among_none text = told_none (IsAmongSlots []) text (λ q is left at. in_nil q.slot at)
 
-  one_function_more : (slots : List Slot) (slot : Slot) (old mid new : List ℕ) → ((x : Slot) → Contains slots x → slot_number x < slot_number slot) → AreAsidesWritten Q s (IsAmongSlots slots) old mid
-      → AreAsidesWritten Q s (IsOfSlot slot) mid new → AreAsidesWritten Q s (IsAmongSlots (slots ++ slot ∷ [])) old new
+  one_function_more : (slots : List Slot) (slot : Slot) (old mid new : List ℕ) → ((x : Slot) → Contains slots x → slot_number x < slot_number slot) → AreAsidesWritten given Q s (IsAmongSlots slots) old mid
+      → AreAsidesWritten given Q s (IsOfSlot slot) mid new → AreAsidesWritten given Q s (IsAmongSlots (slots ++ slot ∷ [])) old new
   one_function_more slots slot old mid new above first second =
       told_join (IsAmongSlots slots) (IsOfSlot slot) (IsAmongSlots (slots ++ slot ∷ [])) old mid new first second
       (λ p q ip iq at_p at_q. (
@@ -313,14 +314,14 @@ module _ (Q : Region → Type 0) (s : System) where
       let made : IsMade (λ (z : Record). z.slot) (take k rs) x = in_map_to (λ (z : Record). z.slot) (take k rs) x has in
       subst (λ y. slot_number y < slot_number r.slot) made.is (before rs k r made.from rise lt at made.has)
 
-  pub next_function : (rs : List Record) (k : ℕ) (r : Record) (old mid new : List ℕ) → RiseBySlot rs → k < length rs → get_or rs k r ≡ r → AreAsidesWritten Q s (IsAmongSlots (slots_of (take k rs))) old mid
-      → AreAsidesWritten Q s (IsOfSlot r.slot) mid new → AreAsidesWritten Q s (IsAmongSlots (slots_of (take (k + 1) rs))) old new
+  pub next_function : (rs : List Record) (k : ℕ) (r : Record) (old mid new : List ℕ) → RiseBySlot rs → k < length rs → get_or rs k r ≡ r → AreAsidesWritten given Q s (IsAmongSlots (slots_of (take k rs))) old mid
+      → AreAsidesWritten given Q s (IsOfSlot r.slot) mid new → AreAsidesWritten given Q s (IsAmongSlots (slots_of (take (k + 1) rs))) old new
   next_function rs k r old mid new rise lt at first second =
-      subst (λ xs. AreAsidesWritten Q s (IsAmongSlots xs) old new)
+      subst (λ xs. AreAsidesWritten given Q s (IsAmongSlots xs) old new)
       (ap (λ (z : Record). slots_of (take k rs) ++ z.slot ∷ []) (sym at) ∙ sym (map_more (λ (z : Record). z.slot) rs k r lt))
       (one_function_more (slots_of (take k rs)) r.slot old mid new (λ x has. earlier_slots rs k r x rise lt at has) first second)
 
-  pub all_functions : (rs : List Record) (k : ℕ) (old new : List ℕ) → Has s rs → length rs ≤ k → AreAsidesWritten Q s (IsAmongSlots (slots_of (take k rs))) old new → AreAsidesWritten Q s (IsRegionIn s) old new
+  pub all_functions : (rs : List Record) (k : ℕ) (old new : List ℕ) → Has s rs → length rs ≤ k → AreAsidesWritten given Q s (IsAmongSlots (slots_of (take k rs))) old new → AreAsidesWritten given Q s (IsRegionIn s) old new
   all_functions rs k old new has past told =
       told_same (IsAmongSlots (slots_of (take k rs))) (IsRegionIn s) old new told (λ q is at. is) (λ q is of. (
       let own = record_for s rs is.f has is.listed in
@@ -332,34 +333,34 @@ module _ (Q : Region → Type 0) (s : System) where
 abbrev whole : List (List ℕ) → List ℕ
 whole lines = flat_map (λ text. text) lines
 
-lines_of : (qs : List Region) → flat_map (map_region_line 1) qs ≡ whole (map (map_region_line 1) qs)
-lines_of [] = refl
-lines_of (q ∷ qs) = ap (λ t. map_region_line 1 q ++ t) (lines_of qs)
+lines_of : (given : Given) (qs : List Region) → flat_map (map_region_line given 1) qs ≡ whole (map (map_region_line given 1) qs)
+lines_of given [] = refl
+lines_of given (q ∷ qs) = ap (λ t. map_region_line given 1 q ++ t) (lines_of given qs)
 
-line_set : (qs : List Region) (line : List ℕ) → Contains (map (map_region_line 1) qs) line → IsSet line
-line_set qs line has =
-    let made : IsMade (map_region_line 1) qs line = in_map_to (map_region_line 1) qs line has in
-    subst IsSet made.is (extent_set made.from.space made.from.range (part_name made.from.part made.from.prefetchable ∷ slot_text made.from.slot ∷ hex_byte made.from.register ∷ []))
+line_set : (given : Given) (qs : List Region) (line : List ℕ) → Contains (map (map_region_line given 1) qs) line → IsSet line
+line_set given qs line has =
+    let made : IsMade (map_region_line given 1) qs line = in_map_to (map_region_line given 1) qs line has in
+    subst IsSet made.is (extent_set made.from.space made.from.range (part_name made.from.part made.from.prefetchable ∷ slot_text made.from.slot ∷ hex_byte made.from.register ∷ isa_words_of given made.from.part made.from.space made.from.slot))
 
-section_told : (heading : List ℕ) (qs : List Region) → section heading (flat_map (map_region_line 1) qs) ≡ under_heading heading (map (map_region_line 1) qs)
-section_told heading qs = ap (section heading) (lines_of qs) ∙ section_of heading (map (map_region_line 1) qs) (line_set qs)
+section_told : (given : Given) (heading : List ℕ) (qs : List Region) → section heading (flat_map (map_region_line given 1) qs) ≡ under_heading heading (map (map_region_line given 1) qs)
+section_told given heading qs = ap (section heading) (lines_of given qs) ∙ section_of heading (map (map_region_line given 1) qs) (line_set given qs)
 
-pub listed : (Q : Region → Type 0) (s : System) (old new : List ℕ) (told : AreAsidesWritten Q s (IsRegionIn s) old new) → AreRegionsBySlot Q s told.told
-listed Q s old new told = record { regions = told.regions; hold = told.hold; complete = λ q is holds. told.complete q is holds is; rising = told.rising }
+pub listed : (given : Given) (Q : Region → Type 0) (s : System) (old new : List ℕ) (told : AreAsidesWritten given Q s (IsRegionIn s) old new) → AreRegionsBySlot Q s told.told
+listed given Q s old new told = record { regions = told.regions; hold = told.hold; complete = λ q is holds. told.complete q is holds is; rising = told.rising }
 
-below : (Q : Region → Type 0) (s : System) (empty text : List ℕ) (heading : List ℕ) (told : AreAsidesWritten Q s (IsRegionIn s) empty text) → empty ≡ []
-    → section heading text ≡ under_heading heading (map (map_region_line 1) told.told)
-below Q s empty text heading told none = ap (section heading) (told.text ∙ ap (λ t. t ++ flat_map (map_region_line 1) told.told) none) ∙ section_told heading told.told
+below : (given : Given) (Q : Region → Type 0) (s : System) (empty text : List ℕ) (heading : List ℕ) (told : AreAsidesWritten given Q s (IsRegionIn s) empty text) → empty ≡ []
+    → section heading text ≡ under_heading heading (map (map_region_line given 1) told.told)
+below given Q s empty text heading told none = ap (section heading) (told.text ∙ ap (λ t. t ++ flat_map (map_region_line given 1) told.told) none) ∙ section_told given heading told.told
 
 pub asides_below : (given : Given) (roots : List ℕ) (s : System) (no_out out said no_left left left_said old mid new : List ℕ) → no_out ≡ [] → no_left ≡ [] → AreAsides given roots s (IsRegionIn s) record { outside = no_out; unreached = no_left } record { outside = out; unreached = left }
     → said ≡ out → left_said ≡ left → mid ≡ old ++ section (codes "outside") said → new ≡ mid ++ section (codes "unreached") left_said → AreAsidesTold given roots s old new
 asides_below given roots s no_out out said no_left left left_said old mid new none nothing told is_out is_left first second = record {
   outside = told.out.told;
-  are_outside = listed (IsOutOfPlace given roots s) s no_out out told.out;
+  are_outside = listed given (IsOutOfPlace given roots s) s no_out out told.out;
   unreached = told.left.told;
-  are_left = listed (IsOnlyLeft given roots s) s no_left left told.left;
+  are_left = listed given (IsOnlyLeft given roots s) s no_left left told.left;
   text = second ∙ ap (λ t. mid ++ section (codes "unreached") t) is_left ∙ ap (λ t. t ++ section (codes "unreached") left) (first ∙ ap (λ t. old ++ section (codes "outside") t) is_out)
       ∙ append_assoc old (section (codes "outside") out) (section (codes "unreached") left)
-      ∙ ap (λ t. old ++ (t ++ section (codes "unreached") left)) (below (IsOutOfPlace given roots s) s no_out out (codes "outside") told.out none)
-      ∙ ap (λ t. old ++ (outside_text told.out.told ++ t)) (below (IsOnlyLeft given roots s) s no_left left (codes "unreached") told.left nothing);
+      ∙ ap (λ t. old ++ (t ++ section (codes "unreached") left)) (below given (IsOutOfPlace given roots s) s no_out out (codes "outside") told.out none)
+      ∙ ap (λ t. old ++ (outside_text given told.out.told ++ t)) (below given (IsOnlyLeft given roots s) s no_left left (codes "unreached") told.left nothing);
 }

@@ -7,6 +7,7 @@ use Rattle.pci_spec.specs.Slot.{Slot}
 use Rattle.pci_spec.specs.System.{System, Function}
 use Rattle.pci_spec.specs.Bus.{IsNested, LeadsTo, is_root, secondary}
 use Rattle.pci_spec.proofs.BusRanges.{root_means, bus_order_means}
+use Rattle.given_spec.specs.Given.{Given}
 use Rattle.pci_function.specs.declared.record.Record.{Record}
 use Rattle.pci_tree.specs.Ways.{bus_behind, IsBridgeIn, LeadsAt}
 use Rattle.pci_tree.proofs.Lifting.{Has, record_for, function_for, same_bridge, same_secondary, same_slot_of}
@@ -52,23 +53,23 @@ module _ (roots : List ℕ) (s : System) (rs : List Record) (has : Has s rs) (bu
 
 -- ---- the windows above a bus
 
-module _ (roots : List ℕ) (s : System) where
+module _ (given : Given) (roots : List ℕ) (s : System) where
   -- a bridge stands on a lower bus than the one that it leads to
-  pub low_way : (bus : ℕ) (b : Slot) → IsNested roots s → HasAbove roots s bus (Some b) → bus ≤ b.bus → IsWayTo roots s bus None
+  pub low_way : (bus : ℕ) (b : Slot) → IsNested roots s → HasAbove roots s bus (Some b) → bus ≤ b.bus → IsWayTo given roots s bus None
   low_way bus b nested has low f listed on =
       let above = has f listed on in
       let rises : above.b.slot.bus < secondary above.b = ((bus_order_means above.b).0 (nested.order above.b above.leads.0 above.leads.1)).1 in
       let same : above.b.slot.bus ≡ b.bus = ap (λ (y : Slot). y.bus) above.named in
       let leads = above.leads.2 in absurd (omega (arith, rises, same, leads, low))
 
-  pub this_way : (bus : ℕ) (b : Slot) (ws : Windows) → HasAbove roots s bus (Some b) → AreWindowsOf roots s b ws → IsWayTo roots s bus (Some ws)
+  pub this_way : (bus : ℕ) (b : Slot) (ws : Windows) → HasAbove roots s bus (Some b) → AreWindowsOf given roots s b ws → IsWayTo given roots s bus (Some ws)
   this_way bus b ws has are f listed on = record { slot = b; bridge = has f listed on; windows = are }
 
-  pub one_way_more : (ways new : List (Option Windows)) (way : Option Windows) → new ≡ ways ++ way ∷ [] → AreWays roots s ways → IsWayTo roots s (length ways) way → AreWays roots s new
+  pub one_way_more : (ways new : List (Option Windows)) (way : Option Windows) → new ≡ ways ++ way ∷ [] → AreWays given roots s ways → IsWayTo given roots s (length ways) way → AreWays given roots s new
   one_way_more ways new way is so here bus within = (
       let lt : bus < length ways + 1 = subst (λ n. bus < n) (ap length is ∙ length_push ways way) within in elim (cases_lt bus (length ways)) [
-        | inl low ↦ subst (IsWayTo roots s bus) (sym (ap (λ xs. get_or xs bus None) is ∙ get_or_append_left ways (way ∷ []) None bus low)) (so bus low)
+        | inl low ↦ subst (IsWayTo given roots s bus) (sym (ap (λ xs. get_or xs bus None) is ∙ get_or_append_left ways (way ∷ []) None bus low)) (so bus low)
         | inr ge ↦ (let same : length ways ≡ bus = omega (arith, ge, lt) in
-            subst (λ m. IsWayTo roots s m (get_or new m None)) same
-            (subst (IsWayTo roots s (length ways)) (sym (ap (λ xs. get_or xs (length ways) None) is ∙ get_or_push ways way None (length ways) refl)) here))
+            subst (λ m. IsWayTo given roots s m (get_or new m None)) same
+            (subst (IsWayTo given roots s (length ways)) (sym (ap (λ xs. get_or xs (length ways) None) is ∙ get_or_push ways way None (length ways) refl)) here))
       ])

@@ -38,7 +38,7 @@ pub record IsRecordIn (s : System) (r : Record) : Type 0 where
 
 -- a region is out of place, or left
 abbrev pub IsRegionAside : Given → List ℕ → System → Region → Type 0
-IsRegionAside given roots s q = IsOutOfPlace given roots s q ⊎ IsOutsideWindows roots s q
+IsRegionAside given roots s q = IsOutOfPlace given roots s q ⊎ IsOutsideWindows given roots s q
 
 -- one of the regions of a space is
 abbrev pub HasAside : Given → List ℕ → System → Space → List outline.Region → Type 0
@@ -67,15 +67,15 @@ abbrev pub IsAmongSlots : List Slot → Region → Type 0
 IsAmongSlots slots q = Contains slots q.slot
 
 -- a text got the lines of just those regions of which P and Q hold, by slot and register
-pub record AreAsidesWritten (Q : Region → Type 0) (s : System) (P : Region → Type 0)
-    (old new : List ℕ) : Type 0 where
+pub record AreAsidesWritten (given : Given) (Q : Region → Type 0) (s : System)
+    (P : Region → Type 0) (old new : List ℕ) : Type 0 where
   pub told : List Region
   pub regions : (q : Region) → Contains told q → IsRegionIn s q
   pub hold : (q : Region) → Contains told q → Q q
   pub among : (q : Region) → Contains told q → P q
   pub complete : (q : Region) → IsRegionIn s q → Q q → P q → Contains told q
   pub rising : AllPairs (λ p q. region_rank p < region_rank q) told
-  pub text : new ≡ old ++ flat_map (map_region_line 1) told
+  pub text : new ≡ old ++ flat_map (map_region_line given 1) told
 
 -- the lines of those that are out of place, and of those that are only left
 pub record AsideTexts : Type 0 where
@@ -85,8 +85,8 @@ pub record AsideTexts : Type 0 where
 -- both texts got the lines of those of which P holds
 pub record AreAsides (given : Given) (roots : List ℕ) (s : System) (P : Region → Type 0)
     (old new : AsideTexts) : Type 0 where
-  pub out : AreAsidesWritten (IsOutOfPlace given roots s) s P old.outside new.outside
-  pub left : AreAsidesWritten (IsOnlyLeft given roots s) s P old.unreached new.unreached
+  pub out : AreAsidesWritten given (IsOutOfPlace given roots s) s P old.outside new.outside
+  pub left : AreAsidesWritten given (IsOnlyLeft given roots s) s P old.unreached new.unreached
 
 -- a text got the lines of all of both, each below their heading
 pub record AreAsidesTold (given : Given) (roots : List ℕ) (s : System) (old new : List ℕ) : Type 0 where
@@ -94,4 +94,4 @@ pub record AreAsidesTold (given : Given) (roots : List ℕ) (s : System) (old ne
   pub are_outside : AreRegionsBySlot (IsOutOfPlace given roots s) s outside
   pub unreached : List Region
   pub are_left : AreRegionsBySlot (IsOnlyLeft given roots s) s unreached
-  pub text : new ≡ old ++ (outside_text outside ++ unreached_text unreached)
+  pub text : new ≡ old ++ (outside_text given outside ++ unreached_text given unreached)

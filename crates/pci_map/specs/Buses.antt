@@ -13,4 +13,4 @@ pub record AreRootsTold (given : Given) (roots : List ℕ) (s : System) (among :
   pub told : List MapRoot
   pub buses : map (λ root. root.bus) told ≡ filter (is_root roots) among
   pub each : (root : MapRoot) → Contains told root → IsRootOfMap given roots s root
-  pub text : new ≡ old ++ flat_map root_text told
+  pub text : new ≡ old ++ flat_map (root_text given) told

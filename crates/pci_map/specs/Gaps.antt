@@ -1,6 +1,13 @@
--- The pieces of a range that lie between others.
-use Rattle.std.specs.Prelude.{ℕ, ◌+◌, ◌-◌, nat_lt, if◌then◌else◌, List, [], ◌∷◌, ◌++◌, max, min}
+-- What some regions claim, and the pieces of a range that lie between such ranges.
+use Rattle.std.specs.Prelude.{ℕ, ◌+◌, ◌-◌, ◌≤◌, ◌↔◌, nat_lt, if◌then◌else◌, IsFalse, List, [], ◌∷◌, ◌++◌, max, min}
+use Rattle.std.specs.List.{All, AllPairs, Contains}
+use Rattle.pci_spec.specs.System.{System, Space}
+use Rattle.given_spec.specs.Given.{Given}
+use Rattle.map_spec.specs.Lines.{IsClaimedOn}
 use Rattle.pci_base.specs.declared.range.Range.{Range}
+use Rattle.pci_tree.specs.declared.region.Region.{Region}
+use Rattle.pci_tree.specs.Ranges.{Covers, IsCanonical}
+use Rattle.pci_claims.specs.Claim.{is_cut_from}
 
 -- from one number up to another, if there is an address between
 abbrev pub piece : ℕ → ℕ → List Range
@@ -14,3 +21,28 @@ between range from end = piece (max from range.first) (min end (range.last + 1))
 unfoldable pub gaps : Range → ℕ → List Range → List Range
 gaps range from [] = between range from (range.last + 1)
 gaps range from (r ∷ rs) = between range from r.first ++ gaps range (max from (r.last + 1)) rs
+
+-- a region has an address, and ISA Enable doesn't take it from it
+pub record IsKeptIn (given : Given) (space : Space) (q : Region) (a : ℕ) : Type 0 where
+  pub held : (q.first ≤ a) × (a ≤ q.last)
+  pub kept : IsFalse (is_cut_from given space q a)
+
+-- just what some regions claim of a space
+pub record AreClaimedBy (given : Given) (space : Space) (qs : List Region)
+    (out : List Range) : Type 0 where
+  pub some : All (λ r. r.first ≤ r.last) out
+  pub exact : (a : ℕ) → Covers out a ↔ ((q : Region) × Contains qs q × IsKeptIn given space q a)
+
+-- just what the regions of a bus claim of a space, by first address
+pub record AreClaimed (given : Given) (s : System) (bus : ℕ) (space : Space)
+    (out : List Range) : Type 0 where
+  pub some : All (λ r. r.first ≤ r.last) out
+  pub sorted : AllPairs (λ r t. r.first ≤ t.first) out
+  pub exact : (a : ℕ) → Covers out a ↔ IsClaimedOn given s bus space a
+
+-- just what a window claims and no region of a bus does, by ranges that rise with a gap between two
+pub record AreFreeInside (given : Given) (s : System) (bus : ℕ) (space : Space) (w : Region)
+    (out : List Range) : Type 0 where
+  pub canonical : IsCanonical out
+  pub exact : (a : ℕ) → Covers out a
+      ↔ (IsKeptIn given space w a × (IsClaimedOn given s bus space a → ⊥))

@@ -3,11 +3,13 @@ use Rattle.std.specs.Prelude.{◌≡◌, ℕ, Bool, IsTrue, List, Option, MatchO
 use Rattle.std.specs.List.{Contains}
 use Rattle.pci_spec.specs.Slot.{Slot}
 use Rattle.pci_spec.specs.Window.{WindowKind}
-use Rattle.pci_spec.specs.System.{System, Function, Space, Claims, register_of}
+use Rattle.pci_spec.specs.System.{System, Function, Space, register_of}
 use Rattle.pci_spec.specs.System as system
 use Rattle.pci_spec.specs.Bus.{IsNested, LeadsTo}
 use Rattle.pci_spec.specs.Decoded.{HasRecords}
 use Rattle.pci_spec.specs.Why.{Region, IsRegionIn}
+use Rattle.given_spec.specs.Given.{Given}
+use Rattle.given_spec.specs.Claims.{OwnClaims}
 use Rattle.map_spec.specs.Lines.{is_first_window}
 use Rattle.map_spec.specs.Map.{HasWay, IsOutsideWindows}
 use Rattle.pci_tree.specs.declared.region.Region as outline
@@ -35,20 +37,22 @@ HasAbove roots s bus o =
     → MatchOption o (Contains roots bus) (λ b. IsSlotAbove roots s bus b)
 
 -- no part that this register names claims the address
-abbrev pub NoneHas : System → Slot → ℕ → Space → ℕ → Type 0
-NoneHas s slot reg space a =
+abbrev pub NoneHas : Given → System → Slot → ℕ → Space → ℕ → Type 0
+NoneHas given s slot reg space a =
     (f : Function) (part : system.Part) → Contains s f → f.slot ≡ slot
-    → register_of f part ≡ reg → Claims f part space a → ⊥
+    → register_of f part ≡ reg → OwnClaims given f part space a → ⊥
 
--- the first window of a bridge that has an address
-pub record IsFirstHoldingWindow (s : System) (space : Space) (b : Function) (a : ℕ) (w : outline.Region) : Type 0 where
+-- the first window of a bridge that claims an address
+pub record IsFirstHoldingWindow (given : Given) (s : System) (space : Space) (b : Function) (a : ℕ)
+    (w : outline.Region) : Type 0 where
   pub is : IsRegionIn s (value_of space w)
   pub slot : b.slot ≡ w.slot
   pub kind : WindowKind
   pub window : part_of w ≡ system.Window kind
-  pub first : IsTrue (is_first_window space kind a b)
+  pub first : IsTrue (is_first_window given space kind a b)
 
 -- the region is left, or windows lead to it
-abbrev pub IsLeftIf : List ℕ → System → Region → Bool → Type 0
-IsLeftIf roots s q left =
-    MatchBool left (IsOutsideWindows roots s q) ((windows : List Region) × HasWay roots s q windows)
+abbrev pub IsLeftIf : Given → List ℕ → System → Region → Bool → Type 0
+IsLeftIf given roots s q left =
+    MatchBool left (IsOutsideWindows given roots s q)
+    ((windows : List Region) × HasWay given roots s q windows)

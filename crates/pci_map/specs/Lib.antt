@@ -1,4 +1,5 @@
 pub mod Values
+pub mod Lines
 pub mod Gaps
 pub mod Inside
 pub mod Walk

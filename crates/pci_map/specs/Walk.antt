@@ -42,7 +42,7 @@ pub record ArePlacesWritten (m : Mapped) (depth : ℕ) (all : List Entry) (old n
   pub lines : Lines
   pub entries : entries lines ≡ all
   pub inside : AreAllInside m.given m.roots m.system m.space lines
-  pub text : new ≡ old ++ lines_text depth m.space lines
+  pub text : new ≡ old ++ lines_text m.given depth m.space lines
 
 -- a text got the line of a region, and what is inside it
 pub record IsSeated (m : Mapped) (depth : ℕ) (q : Region) (old new : List ℕ) : Type 0 where
@@ -51,7 +51,8 @@ pub record IsSeated (m : Mapped) (depth : ℕ) (q : Region) (old new : List ℕ)
       (value_of m.space q)) inside)
   pub deeper : AreAllInside m.given m.roots m.system m.space inside
   pub text : new
-      ≡ old ++ (map_region_line depth (value_of m.space q) ++ lines_text (suc depth) m.space inside)
+      ≡ old ++ (map_region_line m.given depth (value_of m.space q)
+      ++ lines_text m.given (suc depth) m.space inside)
 
 abbrev pub AreRegionsOnBus : System → ℕ → Space → List Region → Type 0
 AreRegionsOnBus s bus space qs = (q : Region) → Contains qs q → IsRegionOn s bus space q
@@ -60,4 +61,4 @@ AreRegionsOnBus s bus space qs = (q : Region) → Contains qs q → IsRegionOn s
 pub record IsSpaceTold (m : Mapped) (bus : ℕ) (old new : List ℕ) : Type 0 where
   pub lines : Lines
   pub are : AreLinesOfPlace m.given m.roots m.system m.space (OnRoot bus) lines
-  pub text : new ≡ old ++ space_lines bus m.space lines
+  pub text : new ≡ old ++ space_lines m.given bus m.space lines

@@ -1,14 +1,16 @@
 -- The windows above each bus, with whether they are left.
-use Rattle.std.specs.Prelude.{ℕ, ◌<◌, ◌≡◌, IsTrue, List, length, slice_index_or, Option, None, MatchOption}
+use Rattle.std.specs.Prelude.{ℕ, ◌<◌, ◌≡◌, IsTrue, IsFalse, List, length, slice_index_or, Option, None, MatchOption}
 use Rattle.std.specs.List.{Contains}
 use Rattle.pci_spec.specs.Registers.{IO_BASE, MEMORY_BASE, PREFETCHABLE_BASE}
 use Rattle.pci_spec.specs.Slot.{Slot}
 use Rattle.pci_spec.specs.Window.{WindowKind}
 use Rattle.pci_spec.specs.System.{System, Function, Space, Io, Memory}
+use Rattle.given_spec.specs.Given.{Given}
 use Rattle.map_spec.specs.Lines.{is_first_window}
 use Rattle.pci_claims.specs.Found.{IsFoundIn, NoneClaims}
+use Rattle.pci_claims.specs.Isa.{is_cut_region}
 use Rattle.pci_map.specs.Values.{value_of}
-use Rattle.pci_map.specs.Inside.{region_has}
+use Rattle.pci_map.specs.Inside.{region_has, is_taken}
 use Rattle.pci_map.specs.Left.{IsSlotAbove, NoneHas, IsFirstHoldingWindow, IsLeftIf}
 use Rattle.pci_map.specs.declared.left.Judged.{Judged}
 use Rattle.pci_map.specs.declared.left.Windows.{Windows}
@@ -28,57 +30,63 @@ memory_spot slot = record { slot = slot; register = MEMORY_BASE; space = Memory 
 abbrev pub prefetchable_spot : Slot → Spot
 prefetchable_spot slot = record { slot = slot; register = PREFETCHABLE_BASE; space = Memory }
 
--- the window at a spot, with whether it is left
-pub record IsJudged (roots : List ℕ) (s : System) (spot : Spot) (w : Judged) : Type 0 where
+-- the window at a spot, with whether ISA Enable cuts it, and whether it is left
+pub record IsJudged (given : Given) (roots : List ℕ) (s : System) (spot : Spot)
+    (w : Judged) : Type 0 where
   pub found : IsFoundIn s spot.slot spot.register spot.space w.window
-  pub judged : IsLeftIf roots s (value_of spot.space w.window) w.left
+  pub cut : w.cut ≡ is_cut_region given spot.space w.window
+  pub judged : IsLeftIf given roots s (value_of spot.space w.window) w.left
 
 -- that window, where one there claims an address
-abbrev pub IsJudgedAt : List ℕ → System → Spot → Option Judged → Type 0
-IsJudgedAt roots s spot o =
-    MatchOption o (NoneClaims s spot.slot spot.register spot.space) (λ w. IsJudged roots s spot w)
+abbrev pub IsJudgedAt : Given → List ℕ → System → Spot → Option Judged → Type 0
+IsJudgedAt given roots s spot o =
+    MatchOption o (NoneClaims s spot.slot spot.register spot.space)
+    (λ w. IsJudged given roots s spot w)
 
--- that window, which has an address
-pub record IsHoldingWindow (roots : List ℕ) (s : System) (spot : Spot) (a : ℕ) (w : Judged) : Type 0 where
-  pub is : IsJudged roots s spot w
-  pub has : IsTrue (region_has w.window a)
-
--- that window, where it has an address
-abbrev pub IsHoldingAt : List ℕ → System → Spot → ℕ → Option Judged → Type 0
-IsHoldingAt roots s spot a o =
-    MatchOption o (NoneHas s spot.slot spot.register spot.space a) (λ w. IsHoldingWindow roots s spot a w)
-
--- the first window of a bridge that has an address, with whether it is left
-pub record IsFirstJudged (roots : List ℕ) (s : System) (space : Space) (b : Function) (a : ℕ)
+-- that window, which claims an address
+pub record IsHoldingWindow (given : Given) (roots : List ℕ) (s : System) (spot : Spot) (a : ℕ)
     (w : Judged) : Type 0 where
-  pub first : IsFirstHoldingWindow s space b a w.window
-  pub judged : IsLeftIf roots s (value_of space w.window) w.left
+  pub is : IsJudged given roots s spot w
+  pub has : IsTrue (region_has w.window a)
+  pub kept : IsFalse (is_taken w.cut a)
 
--- that window, where one has the address
-abbrev pub IsFirstAt : List ℕ → System → Space → Function → ℕ → Option Judged → Type 0
-IsFirstAt roots s space b a o =
-    MatchOption o ((kind : WindowKind) → IsTrue (is_first_window space kind a b) → ⊥)
-    (λ w. IsFirstJudged roots s space b a w)
+-- that window, where it claims an address
+abbrev pub IsHoldingAt : Given → List ℕ → System → Spot → ℕ → Option Judged → Type 0
+IsHoldingAt given roots s spot a o =
+    MatchOption o (NoneHas given s spot.slot spot.register spot.space a)
+    (λ w. IsHoldingWindow given roots s spot a w)
+
+-- the first window of a bridge that claims an address, with whether it is left
+pub record IsFirstJudged (given : Given) (roots : List ℕ) (s : System) (space : Space)
+    (b : Function) (a : ℕ) (w : Judged) : Type 0 where
+  pub first : IsFirstHoldingWindow given s space b a w.window
+  pub judged : IsLeftIf given roots s (value_of space w.window) w.left
+
+-- that window, where one claims the address
+abbrev pub IsFirstAt : Given → List ℕ → System → Space → Function → ℕ → Option Judged → Type 0
+IsFirstAt given roots s space b a o =
+    MatchOption o ((kind : WindowKind) → IsTrue (is_first_window given space kind a b) → ⊥)
+    (λ w. IsFirstJudged given roots s space b a w)
 
 -- the windows of the bridge at a slot
-pub record AreWindowsOf (roots : List ℕ) (s : System) (slot : Slot) (ws : Windows) : Type 0 where
-  pub io : IsJudgedAt roots s (io_spot slot) ws.io
-  pub memory : IsJudgedAt roots s (memory_spot slot) ws.memory
-  pub prefetchable : IsJudgedAt roots s (prefetchable_spot slot) ws.prefetchable
+pub record AreWindowsOf (given : Given) (roots : List ℕ) (s : System) (slot : Slot) (ws : Windows) : Type 0 where
+  pub io : IsJudgedAt given roots s (io_spot slot) ws.io
+  pub memory : IsJudgedAt given roots s (memory_spot slot) ws.memory
+  pub prefetchable : IsJudgedAt given roots s (prefetchable_spot slot) ws.prefetchable
 
 -- the windows of the bridge that leads to a bus, which is no root
-pub record AreAbove (roots : List ℕ) (s : System) (bus : ℕ) (ws : Windows) : Type 0 where
+pub record AreAbove (given : Given) (roots : List ℕ) (s : System) (bus : ℕ) (ws : Windows) : Type 0 where
   pub slot : Slot
   pub bridge : IsSlotAbove roots s bus slot
-  pub windows : AreWindowsOf roots s slot ws
+  pub windows : AreWindowsOf given roots s slot ws
 
 -- those windows, where the bus has functions and isn't a root
-abbrev pub IsWayTo : List ℕ → System → ℕ → Option Windows → Type 0
-IsWayTo roots s bus o =
+abbrev pub IsWayTo : Given → List ℕ → System → ℕ → Option Windows → Type 0
+IsWayTo given roots s bus o =
     (f : Function) → Contains s f → f.slot.bus ≡ bus
-    → MatchOption o (Contains roots bus) (λ ws. AreAbove roots s bus ws)
+    → MatchOption o (Contains roots bus) (λ ws. AreAbove given roots s bus ws)
 
 -- those above each bus before an end
-abbrev pub AreWays : List ℕ → System → List (Option Windows) → Type 0
-AreWays roots s ways =
-    (bus : ℕ) → bus < length ways → IsWayTo roots s bus (slice_index_or ways bus None)
+abbrev pub AreWays : Given → List ℕ → System → List (Option Windows) → Type 0
+AreWays given roots s ways =
+    (bus : ℕ) → bus < length ways → IsWayTo given roots s bus (slice_index_or ways bus None)

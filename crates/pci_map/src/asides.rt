@@ -8,6 +8,7 @@ ghost use Rattle.pci_base.specs.Space.{space_of};
 ghost use Rattle.pci_tree.specs.Outline.{Tree};
 ghost use Rattle.pci_tree.specs.declared.region.Region.{Region as RegionValue};
 ghost use Rattle.pci_claims.specs.Found.{IsFoundIn};
+ghost use Rattle.pci_claims.specs.Values.{given_value};
 ghost use Rattle.pci_map.specs.Values.{value_of};
 ghost use Rattle.pci_map.specs.Above.{AreSentAbove};
 ghost use Rattle.pci_map.specs.Ways.{AreWays};
@@ -22,6 +23,7 @@ use super::ways::{Spot, find_ways};
 use pci_base::memory::OutOfMemory;
 use pci_base::slot::Slot;
 use pci_base::space::Space;
+use pci_claims::given::Given;
 use pci_function::record::Record;
 use pci_tree::outline::Outline;
 use pci_tree::region::{Region, add_regions};
@@ -49,9 +51,10 @@ impl<A: Allocator> Model for Asides<A> {
     ghost view = { λ a. record { outside = string_bytes a.outside; unreached = string_bytes a.unreached } };
 }
 
-/// What leads to each bus.
+/// What leads to each bus, with what is given.
 #[derive(Drop)]
 struct Routes<'a, A: Allocator> {
+    given: Given<'a>,
     /// The windows above it.
     ways: &'a [Option<Windows>],
     /// What is sent to the root above it.
@@ -98,7 +101,7 @@ fn is_aside<A: Allocator>(routes: &Routes<'_, A>, space: Space, slot: Slot, regi
     // bus numbers index it
     requires { length routes.now.ways.now ≡ 256 }
     ensures { (given : GivenValue) (t : Tree) (s : System)
-        → AreSentAbove given t s routes.now.above.now → AreWays t.roots s routes.now.ways.now
+        → AreSentAbove given t s routes.now.above.now → AreWays given t.roots s routes.now.ways.now
         → IsFoundIn s slot region.now.reg (space_of space) region.now
         → MatchBool result (IsRegionAside given t.roots s (value_of (space_of space) region.now))
         (IsRegionAside given t.roots s (value_of (space_of space) region.now) → ⊥) }
@@ -118,7 +121,7 @@ fn has_aside<A: Allocator>(
 ) -> bool
     requires { length routes.now.ways.now ≡ 256 }
     ensures { (given : GivenValue) (t : Tree) (s : System)
-        → AreSentAbove given t s routes.now.above.now → AreWays t.roots s routes.now.ways.now
+        → AreSentAbove given t s routes.now.above.now → AreWays given t.roots s routes.now.ways.now
         → AreFoundBy s slot (space_of space) regions.now
         → MatchBool result (HasAside given t.roots s (space_of space) regions.now)
         (HasNoAside given t.roots s (space_of space) regions.now) }
@@ -152,22 +155,22 @@ fn push_aside_in<A: Allocator, B: Allocator>(
     spot: Spot,
 ) -> Result<(), OutOfMemory>
     requires { length routes.now.ways.now ≡ 256 }
-    ensures { OnOk result ((given : GivenValue) (t : Tree) (s : System)
-        → AreSentAbove given t s routes.now.above.now → AreWays t.roots s routes.now.ways.now
+    ensures { OnOk result ((t : Tree) (s : System)
+        → AreSentAbove (given_value routes.now.given) t s routes.now.above.now → AreWays (given_value routes.now.given) t.roots s routes.now.ways.now
         → AreFoundBy s spot.slot (space_of spot.space) regions.now
-        → AreAsides given t.roots s (IsNamedAt spot.slot spot.register (space_of spot.space)) asides.old asides.new) }
+        → AreAsides (given_value routes.now.given) t.roots s (IsNamedAt spot.slot spot.register (space_of spot.space)) asides.old asides.new) }
 {
     let Some(region) = at_register(regions, spot.register) else {
         return Ok(());
     };
     if is_out_of_place(routes.above, spot.space, spot.slot.bus(), region) {
-        push_region(&mut asides.outside, 1, spot.space, region)?;
+        push_region(&mut asides.outside, &routes.given, 1, spot.space, region)?;
         return Ok(());
     }
     if !is_left(routes.ways, spot.slot.bus(), spot.space, region.first) {
         return Ok(());
     }
-    push_region(&mut asides.unreached, 1, spot.space, region)?;
+    push_region(&mut asides.unreached, &routes.given, 1, spot.space, region)?;
     Ok(())
 }
 
@@ -180,11 +183,11 @@ fn push_aside_at<A: Allocator, B: Allocator>(
     register: u8,
 ) -> Result<(), OutOfMemory>
     requires { length routes.now.ways.now ≡ 256 }
-    ensures { OnOk result ((given : GivenValue) (t : Tree) (s : System)
-        → AreSentAbove given t s routes.now.above.now → AreWays t.roots s routes.now.ways.now
+    ensures { OnOk result ((t : Tree) (s : System)
+        → AreSentAbove (given_value routes.now.given) t s routes.now.above.now → AreWays (given_value routes.now.given) t.roots s routes.now.ways.now
         → AreFoundBy s function.now.slot Io function.now.io.now
         → AreFoundBy s function.now.slot Memory function.now.memory.now
-        → AreAsides given t.roots s (IsNamedAtRegister function.now.slot register) asides.old asides.new) }
+        → AreAsides (given_value routes.now.given) t.roots s (IsNamedAtRegister function.now.slot register) asides.old asides.new) }
 {
     let slot = function.slot;
     let io_spot = Spot {
@@ -208,11 +211,11 @@ fn push_by_register<A: Allocator, B: Allocator>(
     function: &FunctionRegions<'_>,
 ) -> Result<(), OutOfMemory>
     requires { length routes.now.ways.now ≡ 256 }
-    ensures { OnOk result ((given : GivenValue) (t : Tree) (s : System)
-        → AreSentAbove given t s routes.now.above.now → AreWays t.roots s routes.now.ways.now
+    ensures { OnOk result ((t : Tree) (s : System)
+        → AreSentAbove (given_value routes.now.given) t s routes.now.above.now → AreWays (given_value routes.now.given) t.roots s routes.now.ways.now
         → AreFoundBy s function.now.slot Io function.now.io.now
         → AreFoundBy s function.now.slot Memory function.now.memory.now
-        → AreAsides given t.roots s (IsOfSlot function.now.slot) asides.old asides.new) }
+        → AreAsides (given_value routes.now.given) t.roots s (IsOfSlot function.now.slot) asides.old asides.new) }
 {
     for register in 0..REGISTERS {
         push_aside_at(asides, routes, function, 4 * register)?;
@@ -227,11 +230,11 @@ fn push_asides_of<A: Allocator, B: Allocator>(
     function: &FunctionRegions<'_>,
 ) -> Result<(), OutOfMemory>
     requires { length routes.now.ways.now ≡ 256 }
-    ensures { OnOk result ((given : GivenValue) (t : Tree) (s : System)
-        → AreSentAbove given t s routes.now.above.now → AreWays t.roots s routes.now.ways.now
+    ensures { OnOk result ((t : Tree) (s : System)
+        → AreSentAbove (given_value routes.now.given) t s routes.now.above.now → AreWays (given_value routes.now.given) t.roots s routes.now.ways.now
         → AreFoundBy s function.now.slot Io function.now.io.now
         → AreFoundBy s function.now.slot Memory function.now.memory.now
-        → AreAsides given t.roots s (IsOfSlot function.now.slot) asides.old asides.new) }
+        → AreAsides (given_value routes.now.given) t.roots s (IsOfSlot function.now.slot) asides.old asides.new) }
 {
     if has_aside(routes, function.io, Space::Io, function.slot)
         || has_aside(routes, function.memory, Space::Mem, function.slot)
@@ -245,14 +248,17 @@ fn push_asides_of<A: Allocator, B: Allocator>(
 fn push_all<A: Allocator + Copy, B: Allocator>(
     alloc: A,
     asides: &mut Asides<B>,
+    given: &Given<'_>,
     outline: &Outline<A>,
     above: &[Sent<A>],
 ) -> Result<(), OutOfMemory>
-    ensures { OnOk result ((given : GivenValue) (s : System) → AreSentAbove given outline.now s above.now
-        → AreAsides given outline.now.roots s (IsRegionIn s) asides.old asides.new) }
+    ensures { OnOk result ((s : System)
+        → AreSentAbove (given_value given.now) outline.now s above.now
+        → AreAsides (given_value given.now) outline.now.roots s (IsRegionIn s) asides.old asides.new) }
 {
-    let ways = find_ways(alloc, outline)?;
+    let ways = find_ways(alloc, given, outline)?;
     let routes = Routes {
+        given: *given,
         ways: ways.as_slice(),
         above,
     };
@@ -275,17 +281,19 @@ fn push_all<A: Allocator + Copy, B: Allocator>(
 pub fn push_asides<A: Allocator + Copy, B: Allocator>(
     alloc: A,
     text: &mut String<B>,
+    given: &Given<'_>,
     outline: &Outline<A>,
     above: &[Sent<A>],
 ) -> Result<(), OutOfMemory>
-    ensures { OnOk result ((given : GivenValue) (s : System) → AreSentAbove given outline.now s above.now
-        → AreAsidesTold given outline.now.roots s (string_bytes text.old) (string_bytes text.new)) }
+    ensures { OnOk result ((s : System)
+        → AreSentAbove (given_value given.now) outline.now s above.now
+        → AreAsidesTold (given_value given.now) outline.now.roots s (string_bytes text.old) (string_bytes text.new)) }
 {
     let mut asides = Asides {
         outside: String::new(alloc),
         unreached: String::new(alloc),
     };
-    push_all(alloc, &mut asides, outline, above)?;
+    push_all(alloc, &mut asides, given, outline, above)?;
     push_section(text, "outside", asides.outside.as_str())?;
     push_section(text, "unreached", asides.unreached.as_str())?;
     Ok(())

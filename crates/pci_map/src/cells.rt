@@ -10,8 +10,8 @@ use pci_base::digit::digit_of;
 use pci_base::slot::Slot;
 use std::alloc::{AllocError, Allocator};
 
-/// The most characters of a line: 62 of an indent, 33 of two addresses, 39 and a letter of an amount, and 25 others.
-pub const CELLS_MAX: usize = 160;
+/// The most characters of a line: 62 of an indent, 33 of two addresses, 39 and a letter of an amount, and 29 others.
+pub const CELLS_MAX: usize = 164;
 
 /// Room for the characters of a line.
 pub type Cells = ArrayVec<u8, CELLS_MAX>;

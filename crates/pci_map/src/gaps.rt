@@ -1,5 +1,6 @@
 //! The addresses of a range that no region of a bus claims, and what is free on a root bus.
-ghost use Rattle.std.specs.Prelude.{◌≡◌, ◌++◌, map, IfOk, OnOk};
+ghost use Rattle.std.specs.Prelude.{◌≡◌, ℕ, ◌++◌, map, IsFalse, IfOk, OnOk};
+ghost use Rattle.std.specs.List.{All};
 ghost use Rattle.std.specs.Option.{is_some};
 ghost use Rattle.pci_spec.specs.System.{System};
 ghost use Rattle.pci_spec.specs.Why.{AreRuns};
@@ -9,14 +10,17 @@ ghost use Rattle.pci_base.specs.Ranges.{decoded_range_of};
 ghost use Rattle.pci_base.specs.Space.{space_of};
 ghost use Rattle.pci_tree.specs.Outline.{AreSortedRegionsOf};
 ghost use Rattle.pci_claims.specs.Values.{given_value};
-ghost use Rattle.pci_map.specs.Gaps.{between, gaps};
+ghost use Rattle.pci_map.specs.Gaps.{between, gaps, AreClaimedBy, AreClaimed, AreFreeInside};
 ghost use Rattle.pci_claims.specs.Found.{range_at};
+ghost use Rattle.pci_claims.specs.Isa.{is_cut_region};
 
 use pci_base::memory::OutOfMemory;
 use pci_base::range::Range;
 use pci_base::space::Space;
+use pci_claims::claim::own;
 use pci_claims::gather::{common, gathered};
 use pci_claims::given::Given;
+use pci_claims::isa::{is_cut, kept};
 use pci_claims::sent::sent_to;
 use pci_tree::region::Region;
 use std::alloc::Allocator;
@@ -41,22 +45,113 @@ fn add_between<A: Allocator>(
     Ok(())
 }
 
-/// The addresses of a range that no region has, as ranges: the regions stand by first address.
-pub fn free_runs<A: Allocator>(
+/// The addresses of a range that no claimed range has, as ranges: the claimed ones stand by first address.
+fn free_runs<A: Allocator>(
     alloc: A,
     range: Range,
-    regions: &[Region],
+    claimed: &[Range],
 ) -> Result<Vec<Range, A>, OutOfMemory>
-    ensures { IfOk result (λ v. v.items ≡ gaps range 0 (map range_at regions.now)) }
+    ensures { IfOk result (λ v. v.items ≡ gaps range 0 claimed.now) }
 {
     let mut out = Vec::new(alloc);
     let mut from = 0;
-    for region in regions {
-        add_between(&mut out, range, from, u128::from(region.first))?;
-        from = from.max(u128::from(region.last) + 1);
+    for claim in claimed {
+        add_between(&mut out, range, from, u128::from(claim.first))?;
+        from = from.max(u128::from(claim.last) + 1);
     }
     add_between(&mut out, range, from, u128::from(range.last) + 1)?;
     Ok(out)
+}
+
+/// Whether ISA Enable takes addresses of a space from one of some regions.
+fn any_cut(given: &Given<'_>, space: Space, regions: &[Region]) -> bool
+    ensures { IsFalse result
+        → All (λ q. IsFalse (is_cut_region (given_value given.now) (space_of space) q)) regions.now }
+{
+    for region in regions {
+        if is_cut(given, space, region) {
+            return true;
+        }
+    }
+    false
+}
+
+/// The addresses of regions, in their order.
+fn ranges_of<A: Allocator>(alloc: A, regions: &[Region]) -> Result<Vec<Range, A>, OutOfMemory>
+    ensures { IfOk result (λ v. v.items ≡ map range_at regions.now) }
+{
+    let Ok(mut out) = Vec::with_capacity(alloc, regions.len()) else {
+        return Err(OutOfMemory);
+    };
+    for region in regions {
+        out.push(Range {
+            first: region.first,
+            last: region.last,
+        })?;
+    }
+    Ok(out)
+}
+
+/// What regions claim of a space, region by region.
+fn claims_of<A: Allocator + Copy>(
+    alloc: A,
+    given: &Given<'_>,
+    space: Space,
+    regions: &[Region],
+) -> Result<Vec<Range, A>, OutOfMemory>
+    ensures { IfOk result
+        (λ v. AreClaimedBy (given_value given.now) (space_of space) regions.now v.items) }
+{
+    let mut out = Vec::new(alloc);
+    for region in regions {
+        let more = own(alloc, given, region, space)?;
+        out.extend_from_slice(&more)?;
+    }
+    Ok(out)
+}
+
+/// The addresses of a space that the regions of a bus claim, as ranges by first address: the regions stand so, too.
+fn claimed<A: Allocator + Copy>(
+    alloc: A,
+    given: &Given<'_>,
+    space: Space,
+    regions: &[Region],
+) -> Result<Vec<Range, A>, OutOfMemory>
+    ensures { IfOk result (λ v. (s : System) (bus : ℕ)
+        → AreSortedRegionsOf s bus (space_of space) regions.now
+        → AreClaimed (given_value given.now) s bus (space_of space) v.items) }
+{
+    if any_cut(given, space, regions) {
+        gathered(claims_of(alloc, given, space, regions)?)
+    } else {
+        ranges_of(alloc, regions)
+    }
+}
+
+/// What a window claims and no region of the bus behind its bridge, as ranges: the regions stand by first address.
+pub fn free_inside<A: Allocator + Copy>(
+    alloc: A,
+    given: &Given<'_>,
+    space: Space,
+    window: &Region,
+    regions: &[Region],
+) -> Result<Vec<Range, A>, OutOfMemory>
+    ensures { IfOk result (λ v. (s : System) (bus : ℕ)
+        → AreSortedRegionsOf s bus (space_of space) regions.now
+        → AreFreeInside (given_value given.now) s bus (space_of space) window.now v.items) }
+{
+    let range = Range {
+        first: window.first,
+        last: window.last,
+    };
+    let claimed = claimed(alloc, given, space, regions)?;
+    let runs = free_runs(alloc, range, &claimed)?;
+    if is_cut(given, space, window) {
+        let joined = gathered(runs)?;
+        kept(alloc, &joined)
+    } else {
+        Ok(runs)
+    }
 }
 
 /// Whether a list is said of a space.
@@ -84,6 +179,7 @@ pub fn free_on_root<A: Allocator + Copy>(
         return Ok(Vec::new(alloc));
     }
     let sent = sent_to(alloc, given, space, root)?;
-    let unclaimed = gathered(free_runs(alloc, space.whole(), regions)?)?;
+    let claimed = claimed(alloc, given, space, regions)?;
+    let unclaimed = gathered(free_runs(alloc, space.whole(), &claimed)?)?;
     common(alloc, &sent, &unclaimed)
 }

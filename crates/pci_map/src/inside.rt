@@ -3,22 +3,24 @@ ghost use Rattle.std.specs.Prelude.{◌≡◌, IfOk, MatchOption};
 ghost use Rattle.std.specs.List.{filter};
 ghost use Rattle.pci_spec.specs.System.{System};
 ghost use Rattle.pci_spec.specs.Decoded.{HasRecords};
-ghost use Rattle.given_spec.specs.Given.{Given as GivenValue};
+ghost use Rattle.pci_claims.specs.Values.{given_value};
 ghost use Rattle.pci_base.specs.Space.{space_of};
 ghost use Rattle.pci_spec.specs.Why.{IsRegionIn};
 ghost use Rattle.pci_tree.specs.declared.region.Part.TheVariants.{Window};
 ghost use Rattle.pci_map.specs.Values.{value_of, mapped_of};
 ghost use Rattle.pci_map.specs.Above.{AreSentAbove};
-ghost use Rattle.pci_map.specs.Inside.{region_has, is_held_first, IsEarlierWindow, AreInsideWindow};
+ghost use Rattle.pci_map.specs.Inside.{region_has, is_taken, is_held_first, IsEarlierWindow, AreInsideWindow};
 
 use super::above::in_place;
-use super::gaps::free_runs;
+use super::gaps::free_inside;
 use super::sent::Sent;
 use pci_base::memory::OutOfMemory;
 use pci_base::offset::{MEMORY_BASE, PREFETCHABLE_BASE};
 use pci_base::range::Range;
 use pci_base::space::Space;
 use pci_claims::find::region_at;
+use pci_claims::given::Given;
+use pci_claims::isa::{is_cut, is_isa_port};
 use pci_tree::bus::record_at;
 use pci_tree::outline::Outline;
 use pci_tree::region::Region;
@@ -42,31 +44,51 @@ pub fn has(region: &Region, address: u64) -> bool
     region.first <= address && address <= region.last
 }
 
-/// Whether a window has the first address of a region, and an earlier window of the bridge, where there is one, hasn't.
-fn holds(window: &Region, earlier: &Option<Region>, region: &Region) -> bool
-    ensures { result ≡ is_held_first window.now earlier.now region.now }
+/// Whether ISA Enable takes an address from a window, by whether it cuts the window.
+pub fn takes(cut: bool, address: u64) -> bool
+    ensures { result ≡ is_taken cut address }
+{
+    cut && is_isa_port(address)
+}
+
+/// A window, and what of its addresses it doesn't claim first.
+#[derive(Drop)]
+struct Opening<'a> {
+    window: &'a Region,
+    /// The earlier window of the bridge, where there is one.
+    earlier: Option<Region>,
+    /// Whether ISA Enable cuts the window.
+    cut: bool,
+}
+
+/// Whether a window claims the first address of a region, and the earlier window of the bridge doesn't hold it.
+fn holds(opening: &Opening<'_>, region: &Region) -> bool
+    ensures { result ≡ is_held_first opening.now.window.now opening.now.earlier opening.now.cut region.now }
 {
     let address = region.first;
-    match earlier {
-        None => has(window, address),
-        Some(other) => has(window, address) && !has(other, address),
+    if takes(opening.cut, address) {
+        return false;
+    }
+    match &opening.earlier {
+        None => has(opening.window, address),
+        Some(other) => has(opening.window, address) && !has(other, address),
     }
 }
 
 /// The regions that a window holds, in their order.
 fn held<A: Allocator>(
     alloc: A,
-    window: &Region,
-    earlier: &Option<Region>,
+    opening: &Opening<'_>,
     regions: &[Region],
 ) -> Result<Vec<Region, A>, OutOfMemory>
-    ensures { IfOk result (λ v. v.items ≡ filter (is_held_first window.now earlier.now) regions.now) }
+    ensures { IfOk result (λ v. v.items
+        ≡ filter (is_held_first opening.now.window.now opening.now.earlier opening.now.cut) regions.now) }
 {
     let Ok(mut out) = Vec::with_capacity(alloc, regions.len()) else {
         return Err(OutOfMemory);
     };
     for region in regions {
-        if holds(window, earlier, region) {
+        if holds(opening, region) {
             out.push(*region)?;
         }
     }
@@ -93,16 +115,18 @@ fn earlier<A: Allocator, B: Allocator>(
 /// What is inside a window of an outline.
 pub fn look_inside<A: Allocator + Copy>(
     alloc: A,
+    given: &Given<'_>,
     outline: &Outline<A>,
     above: &[Sent<A>],
     space: Space,
     window: &Region,
 ) -> Result<Option<Inside<A>>, OutOfMemory>
     // an outline has no image, so this is said of every system with its records
-    ensures { IfOk result (λ o. (given : GivenValue) (s : System)
-        → AreSentAbove given outline.now s above.now
+    ensures { IfOk result (λ o. (s : System)
+        → AreSentAbove (given_value given.now) outline.now s above.now
         → IsRegionIn s (value_of (space_of space) window.now) → window.now.part ≡ Window
-        → MatchOption o ⊥ (λ i. AreInsideWindow (mapped_of given outline.now s (space_of space)) window.now
+        → MatchOption o ⊥ (λ i. AreInsideWindow
+        (mapped_of (given_value given.now) outline.now s (space_of space)) window.now
         i.bus i.regions.items i.runs.items)) }
 {
     let Some(function) = record_at(outline.records(), window.slot) else {
@@ -114,12 +138,14 @@ pub fn look_inside<A: Allocator + Copy>(
     let bus = bridge.secondary;
     let earlier = earlier(alloc, outline, space, window)?;
     let all = outline.sorted(bus, space)?;
-    let range = Range {
-        first: window.first,
-        last: window.last,
+    let cut = is_cut(given, space, window);
+    let runs = free_inside(alloc, given, space, window, all.as_slice())?;
+    let opening = Opening {
+        window,
+        earlier,
+        cut,
     };
-    let runs = free_runs(alloc, range, all.as_slice())?;
-    let held = held(alloc, window, &earlier, all.as_slice())?;
+    let held = held(alloc, &opening, all.as_slice())?;
     let regions = in_place(alloc, above, space, bus, held)?;
     Ok(Some(Inside { bus, regions, runs }))
 }

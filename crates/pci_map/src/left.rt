@@ -1,7 +1,8 @@
 //! Whether a region is left: no windows lead to it from a root bus.
-ghost use Rattle.std.specs.Prelude.{◌≡◌, ℕ, ◌<◌, length, List};
+ghost use Rattle.std.specs.Prelude.{◌≡◌, ℕ, ◌<◌, length};
 ghost use Rattle.pci_spec.specs.System.{System, IsAddress};
 ghost use Rattle.pci_spec.specs.Why.{IsRegionIn};
+ghost use Rattle.given_spec.specs.Given.{Given};
 ghost use Rattle.pci_base.specs.Space.{space_of};
 ghost use Rattle.pci_tree.specs.Outline.{Tree};
 ghost use Rattle.pci_tree.specs.declared.region.Region.{Region as RegionValue};
@@ -9,14 +10,15 @@ ghost use Rattle.pci_map.specs.Values.{value_of};
 ghost use Rattle.pci_map.specs.Left.{IsTreeOf, IsLeftIf};
 ghost use Rattle.pci_map.specs.Ways.{Spot, IsJudgedAt, IsHoldingAt, AreAbove, IsFirstAt, AreWays};
 
-use super::inside::has;
+use super::inside::{has, takes};
 use pci_base::space::Space;
 use pci_tree::region::Region;
 
-/// A window of a bridge, and whether it is left.
+/// A window of a bridge, whether ISA Enable cuts it, and whether it is left.
 #[derive(Clone, Copy)]
 pub struct Judged {
     pub window: Region,
+    pub cut: bool,
     pub left: bool,
 }
 
@@ -28,10 +30,10 @@ pub struct Windows {
     pub prefetchable: Option<Judged>,
 }
 
-/// A window, where it has an address.
+/// A window, where it claims an address.
 fn holding(judged: Option<Judged>, address: u64) -> Option<Judged>
-    ensures { (roots : List ℕ) (s : System) (spot : Spot)
-        → IsJudgedAt roots s spot judged → IsHoldingAt roots s spot address result }
+    ensures { (given : Given) (t : Tree) (s : System) (spot : Spot) → IsTreeOf t s
+        → IsJudgedAt given t.roots s spot judged → IsHoldingAt given t.roots s spot address result }
 {
     let Some(judged) = judged else {
         return None;
@@ -39,14 +41,17 @@ fn holding(judged: Option<Judged>, address: u64) -> Option<Judged>
     if !has(&judged.window, address) {
         return None;
     }
+    if takes(judged.cut, address) {
+        return None;
+    }
     Some(judged)
 }
 
-/// The first window of a bridge, by register, that has an address.
+/// The first window of a bridge, by register, that claims an address.
 fn first_window(windows: &Windows, space: Space, address: u64) -> Option<Judged>
-    ensures { (t : Tree) (s : System) (bus : ℕ) → IsTreeOf t s
-        → (above : AreAbove t.roots s bus windows.now) → IsAddress (space_of space) address
-        → IsFirstAt t.roots s (space_of space) above.bridge.b address result }
+    ensures { (given : Given) (t : Tree) (s : System) (bus : ℕ) → IsTreeOf t s
+        → (above : AreAbove given t.roots s bus windows.now) → IsAddress (space_of space) address
+        → IsFirstAt given t.roots s (space_of space) above.bridge.b address result }
 {
     match space {
         Space::Io => holding(windows.io, address),
@@ -60,14 +65,15 @@ fn first_window(windows: &Windows, space: Space, address: u64) -> Option<Judged>
     }
 }
 
-/// Whether a region of a bus with this first address is left: the bus is no root, and no window of the bridge there holds
+/// Whether a region of a bus with this first address is left: the bus is no root, and no window of the bridge there claims
 /// the address, or the first that does is left itself. Of each bus that is no root the windows above it are given.
 pub fn is_left(ways: &[Option<Windows>], bus: u8, space: Space, address: u64) -> bool
     // bus numbers index it
     requires { bus < length ways.now }
-    ensures { (t : Tree) (s : System) (q : RegionValue) → IsTreeOf t s → AreWays t.roots s ways.now
+    ensures { (given : Given) (t : Tree) (s : System) (q : RegionValue) → IsTreeOf t s
+        → AreWays given t.roots s ways.now
         → IsRegionIn s (value_of (space_of space) q) → q.slot.bus ≡ bus → q.first ≡ address
-        → IsLeftIf t.roots s (value_of (space_of space) q) result }
+        → IsLeftIf given t.roots s (value_of (space_of space) q) result }
 {
     let way = &ways[bus as usize];
     match way {

@@ -6,14 +6,18 @@ ghost use Rattle.std.specs.Prelude.{map};
 ghost use Rattle.pci_spec.specs.Listing.{range_text};
 ghost use Rattle.pci_spec.specs.Why.{amount_text, address_count};
 ghost use Rattle.map_spec.specs.MapText.{indent, part_name, map_region_line, free_line, bus_heading};
+ghost use Rattle.pci_claims.specs.Values.{given_value};
 ghost use Rattle.arrayvec.specs.ArrayVec.{array_vec_len};
 ghost use Rattle.pci_base.specs.Ranges.{decoded_range_of};
 ghost use Rattle.pci_base.specs.Space.{space_of};
 ghost use Rattle.pci_map.specs.Values.{part_of, value_of};
+ghost use Rattle.pci_map.specs.Lines.{isa_ending, region_line_by};
 
 use super::cells::{CELLS_MAX, Cells, push_cells, put, put_byte, put_bytes, put_slot};
 use pci_base::range::Range;
 use pci_base::space::Space;
+use pci_claims::given::Given;
+use pci_claims::isa::is_cut;
 use pci_listing::amount::{amount_of, unit_name};
 use pci_listing::hex_text::push_byte;
 use pci_tree::region::{Part, Region};
@@ -59,6 +63,18 @@ fn put_name(cells: &mut Cells, region: &Region)
         (Part::Bar, false) => put(cells, b"bar"),
         (Part::Rom, _) => put(cells, b"rom"),
         (Part::Window, _) => put(cells, b"window"),
+    }
+}
+
+/// Puts what the line of a window that ISA Enable cuts ends with there.
+#[inline(always)]
+fn put_isa(cells: &mut Cells, cut: bool)
+    requires { array_vec_len cells.old + 4 ≤ CELLS_MAX }
+    ensures text { cells.new.items ≡ cells.old.items ++ isa_ending cut }
+    ensures len { array_vec_len cells.new ≤ array_vec_len cells.old + 4 }
+{
+    if cut {
+        put(cells, b" isa");
     }
 }
 
@@ -116,15 +132,16 @@ fn put_extent(cells: &mut Cells, depth: u32, space: Space, range: Range)
     put_count(cells, count);
 }
 
-/// Appends the line of a region.
-pub fn push_region<A: Allocator>(
+/// Appends the line of a region, by whether ISA Enable cuts it.
+pub fn push_region_line<A: Allocator>(
     text: &mut String<A>,
     depth: u32,
     space: Space,
     region: &Region,
+    cut: bool,
 ) -> Result<(), AllocError>
     ensures { OnOk result (string_bytes text.new ≡ string_bytes text.old
-        ++ map_region_line depth (value_of (space_of space) region.now)) }
+        ++ region_line_by depth (value_of (space_of space) region.now) cut) }
 {
     let range = Range {
         first: region.first,
@@ -138,9 +155,24 @@ pub fn push_region<A: Allocator>(
     put_slot(&mut cells, region.slot);
     cells.push(b' ');
     put_byte(&mut cells, region.reg);
+    put_isa(&mut cells, cut);
     cells.push(b'\n');
     push_steps(text, depth / STEPS)?;
     push_cells(text, &cells)
+}
+
+/// Appends the line of a region, with what is given.
+pub fn push_region<A: Allocator>(
+    text: &mut String<A>,
+    given: &Given<'_>,
+    depth: u32,
+    space: Space,
+    region: &Region,
+) -> Result<(), AllocError>
+    ensures { OnOk result (string_bytes text.new ≡ string_bytes text.old
+        ++ map_region_line (given_value given.now) depth (value_of (space_of space) region.now)) }
+{
+    push_region_line(text, depth, space, region, is_cut(given, space, region))
 }
 
 /// Appends the line of a free run.

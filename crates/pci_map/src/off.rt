@@ -9,7 +9,7 @@ ghost use Rattle.pci_image.specs.Bars.{decoded_bar_of};
 ghost use Rattle.pci_function.specs.Values.{record_value};
 ghost use Rattle.pci_map.specs.Off.{section, off_bar, off_bars_text, off_record};
 
-use super::line::push_region;
+use super::line::push_region_line;
 use pci_base::memory::OutOfMemory;
 use pci_base::slot::Slot;
 use pci_function::record::Record;
@@ -31,7 +31,7 @@ fn push_bar_line<A: Allocator>(text: &mut String<A>, slot: Slot, bar: Bar) -> Re
         first: bar.first,
         last: bar.last,
     };
-    push_region(text, 1, bar.kind.space(), &region)
+    push_region_line(text, 1, bar.kind.space(), &region, false)
 }
 
 /// Appends the line of a BAR, where Command doesn't enable its space.

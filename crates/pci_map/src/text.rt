@@ -35,7 +35,7 @@ pub fn map_text<A: Allocator + Copy>(
         above: above.as_slice(),
     };
     push_roots(alloc, &mut text, &mapped)?;
-    push_asides(alloc, &mut text, outline, above.as_slice())?;
+    push_asides(alloc, &mut text, given, outline, above.as_slice())?;
     push_off(alloc, &mut text, outline)?;
     Ok(text)
 }

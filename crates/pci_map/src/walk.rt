@@ -3,7 +3,6 @@ ghost use Rattle.std.specs.Prelude.{◌≡◌, ◌≤◌, ◌<◌, ◌+◌, ◌+
 ghost use Rattle.std.specs.List.{flat_map};
 ghost use Rattle.std.specs.String.{string_bytes};
 ghost use Rattle.pci_spec.specs.System.{System};
-ghost use Rattle.given_spec.specs.Given.{Given as GivenValue};
 ghost use Rattle.map_spec.specs.MapText.{free_line};
 ghost use Rattle.pci_base.specs.Ranges.{decoded_range_of};
 ghost use Rattle.pci_base.specs.Space.{space_of};
@@ -41,6 +40,7 @@ pub struct Mapped<'a, 'g, A: Allocator> {
 #[derive(Drop)]
 struct Walk<'a, A: Allocator> {
     alloc: A,
+    given: Given<'a>,
     outline: &'a Outline<A>,
     /// At each bus what is sent to the root above it.
     above: &'a [Sent<A>],
@@ -88,17 +88,24 @@ fn inside_of<A: Allocator + Copy>(
 ) -> Result<Option<Inside<A>>, OutOfMemory>
     // so the walk ends
     ensures deeper { IfOk result (λ o. IfSome o (λ i. bus < i.bus)) }
-    ensures inside { IfOk result (λ o. (given : GivenValue) (s : System)
-        → AreSentAbove given walk.now.outline.now s walk.now.above.now
+    ensures inside { IfOk result (λ o. (s : System)
+        → AreSentAbove (given_value walk.now.given) walk.now.outline.now s walk.now.above.now
         → IsRegionOn s bus (space_of walk.now.space) region.now
         → MatchOption o (region.now.part ≡ Window → ⊥)
-        (λ i. AreInsideWindow (mapped_of given walk.now.outline.now s (space_of walk.now.space))
+        (λ i. AreInsideWindow (mapped_of (given_value walk.now.given) walk.now.outline.now s (space_of walk.now.space))
         region.now i.bus i.regions.items i.runs.items × (region.now.part ≡ Window))) }
 {
     if region.part != Part::Window {
         return Ok(None);
     }
-    let found = look_inside(walk.alloc, walk.outline, walk.above, walk.space, region)?;
+    let found = look_inside(
+        walk.alloc,
+        &walk.given,
+        walk.outline,
+        walk.above,
+        walk.space,
+        region,
+    )?;
     let Some(inside) = found else {
         return Ok(None);
     };
@@ -120,13 +127,13 @@ fn push_seat<A: Allocator + Copy, B: Allocator>(
 ) -> Result<(), OutOfMemory>
     // each window leads to a higher bus, so the depth can be counted
     requires { depth ≤ bus + 1 }
-    ensures { OnOk result ((given : GivenValue) (s : System)
-        → AreSentAbove given walk.now.outline.now s walk.now.above.now
+    ensures { OnOk result ((s : System)
+        → AreSentAbove (given_value walk.now.given) walk.now.outline.now s walk.now.above.now
         → IsRegionOn s bus (space_of walk.now.space) region.now
-        → IsSeated (mapped_of given walk.now.outline.now s (space_of walk.now.space)) depth region.now
+        → IsSeated (mapped_of (given_value walk.now.given) walk.now.outline.now s (space_of walk.now.space)) depth region.now
         (string_bytes text.old) (string_bytes text.new)) }
 {
-    push_region(text, depth, walk.space, region)?;
+    push_region(text, &walk.given, depth, walk.space, region)?;
     let Some(inside) = inside_of(walk, bus, region)? else {
         return Ok(());
     };
@@ -142,10 +149,10 @@ fn push_place<A: Allocator + Copy, B: Allocator>(
     place: &Inside<A>,
 ) -> Result<(), OutOfMemory>
     requires { depth ≤ place.now.bus + 1 }
-    ensures { OnOk result ((given : GivenValue) (s : System)
-        → AreSentAbove given walk.now.outline.now s walk.now.above.now
+    ensures { OnOk result ((s : System)
+        → AreSentAbove (given_value walk.now.given) walk.now.outline.now s walk.now.above.now
         → AreRegionsOnBus s place.now.bus (space_of walk.now.space) place.now.regions.items
-        → ArePlacesWritten (mapped_of given walk.now.outline.now s (space_of walk.now.space)) depth
+        → ArePlacesWritten (mapped_of (given_value walk.now.given) walk.now.outline.now s (space_of walk.now.space)) depth
         (merged (space_of walk.now.space) place.now.regions.items place.now.runs.items)
         (string_bytes text.old) (string_bytes text.new)) }
 {
@@ -184,6 +191,7 @@ pub fn push_space<A: Allocator + Copy, B: Allocator>(
     let place = Inside { bus, regions, runs };
     let walk = Walk {
         alloc,
+        given: mapped.given,
         outline,
         above,
         space,

@@ -7,6 +7,7 @@ ghost use Rattle.pci_base.specs.Space.{space_of};
 ghost use Rattle.pci_function.specs.Values.{record_value};
 ghost use Rattle.pci_tree.specs.Roots.{buses_of};
 ghost use Rattle.pci_tree.specs.Ways.{IsBridgeToBus};
+ghost use Rattle.pci_claims.specs.Values.{given_value};
 ghost use Rattle.pci_map.specs.Left.{IsTreeOf, HasAbove};
 ghost use Rattle.pci_map.specs.Ways.{IsJudgedAt, AreWindowsOf, IsWayTo, AreWays};
 
@@ -16,6 +17,8 @@ use pci_base::offset::{IO_BASE, MEMORY_BASE, PREFETCHABLE_BASE};
 use pci_base::slot::{BUSES, Slot};
 use pci_base::space::Space;
 use pci_claims::find::region_at;
+use pci_claims::given::Given;
+use pci_claims::isa::is_cut;
 use pci_function::record::Record;
 use pci_tree::outline::Outline;
 use pci_tree::path::bridge_to_bus;
@@ -53,14 +56,15 @@ fn bridge_above(
 /// The window at a spot, where it claims an address, by the windows above lower buses.
 fn judge<A: Allocator + Copy>(
     alloc: A,
+    given: &Given<'_>,
     outline: &Outline<A>,
     ways: &[Option<Windows>],
     spot: Spot,
 ) -> Result<Option<Judged>, OutOfMemory>
     requires { spot.slot.bus < length ways.now }
     ensures { IfOk result (λ o. (s : System) → IsTreeOf outline.now s
-        → AreWays outline.now.roots s ways.now
-        → IsJudgedAt outline.now.roots s record { slot = spot.slot; register = spot.register; space = space_of spot.space } o) }
+        → AreWays (given_value given.now) outline.now.roots s ways.now
+        → IsJudgedAt (given_value given.now) outline.now.roots s record { slot = spot.slot; register = spot.register; space = space_of spot.space } o) }
 {
     let Spot {
         slot,
@@ -70,20 +74,23 @@ fn judge<A: Allocator + Copy>(
     let Some(window) = region_at(alloc, outline, slot, register, space)? else {
         return Ok(None);
     };
+    let cut = is_cut(given, space, &window);
     let left = is_left(ways, slot.bus(), space, window.first);
-    Ok(Some(Judged { window, left }))
+    Ok(Some(Judged { window, cut, left }))
 }
 
 /// The windows of a bridge, by those above lower buses.
 fn windows_of<A: Allocator + Copy>(
     alloc: A,
+    given: &Given<'_>,
     outline: &Outline<A>,
     ways: &[Option<Windows>],
     bridge: Slot,
 ) -> Result<Windows, OutOfMemory>
     requires { bridge.bus < length ways.now }
     ensures { IfOk result (λ w. (s : System) → IsTreeOf outline.now s
-        → AreWays outline.now.roots s ways.now → AreWindowsOf outline.now.roots s bridge w) }
+        → AreWays (given_value given.now) outline.now.roots s ways.now
+        → AreWindowsOf (given_value given.now) outline.now.roots s bridge w) }
 {
     let io_spot = Spot {
         slot: bridge,
@@ -100,9 +107,9 @@ fn windows_of<A: Allocator + Copy>(
         register: PREFETCHABLE_BASE,
         space: Space::Mem,
     };
-    let io = judge(alloc, outline, ways, io_spot)?;
-    let memory = judge(alloc, outline, ways, memory_spot)?;
-    let prefetchable = judge(alloc, outline, ways, prefetchable_spot)?;
+    let io = judge(alloc, given, outline, ways, io_spot)?;
+    let memory = judge(alloc, given, outline, ways, memory_spot)?;
+    let prefetchable = judge(alloc, given, outline, ways, prefetchable_spot)?;
     Ok(Windows {
         io,
         memory,
@@ -113,14 +120,15 @@ fn windows_of<A: Allocator + Copy>(
 /// The windows above the next bus, by those above lower ones.
 fn next_way<A: Allocator + Copy>(
     alloc: A,
+    given: &Given<'_>,
     outline: &Outline<A>,
     ways: &[Option<Windows>],
     above: Option<Slot>,
 ) -> Result<Option<Windows>, OutOfMemory>
     ensures { IfOk result (λ o. (s : System) → IsTreeOf outline.now s
-        → AreWays outline.now.roots s ways.now
+        → AreWays (given_value given.now) outline.now.roots s ways.now
         → HasAbove outline.now.roots s (length ways.now) above
-        → IsWayTo outline.now.roots s (length ways.now) o) }
+        → IsWayTo (given_value given.now) outline.now.roots s (length ways.now) o) }
 {
     let Some(bridge) = above else {
         return Ok(None);
@@ -129,19 +137,20 @@ fn next_way<A: Allocator + Copy>(
     if ways.len() <= bridge.bus() as usize {
         return Ok(None);
     }
-    let windows = windows_of(alloc, outline, ways, bridge)?;
+    let windows = windows_of(alloc, given, outline, ways, bridge)?;
     Ok(Some(windows))
 }
 
 /// At each bus that is no root the windows of the bridge that leads there.
 pub fn find_ways<A: Allocator + Copy>(
     alloc: A,
+    given: &Given<'_>,
     outline: &Outline<A>,
 ) -> Result<Vec<Option<Windows>, A>, OutOfMemory>
     // bus numbers index it
     ensures size { IfOk result (λ v. length v.items ≡ 256) }
     ensures ways { IfOk result (λ v. (s : System) → IsTreeOf outline.now s
-        → AreWays outline.now.roots s v.items) }
+        → AreWays (given_value given.now) outline.now.roots s v.items) }
 {
     let records = outline.records();
     let roots = outline.roots();
@@ -151,7 +160,7 @@ pub fn find_ways<A: Allocator + Copy>(
     };
     for bus in 0..BUSES {
         let above = bridge_above(records, &bridge_to_bus, &roots, bus as u8);
-        let way = next_way(alloc, outline, ways.as_slice(), above)?;
+        let way = next_way(alloc, given, outline, ways.as_slice(), above)?;
         ways.push(way)?;
     }
     Ok(ways)

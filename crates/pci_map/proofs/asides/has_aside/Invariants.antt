@@ -10,5 +10,5 @@ use Rattle.pci_map.proofs.asides.has_aside.Given as goal
 
 abbrev pub invariant-loop-region : goal.invariant-loop-region
 invariant-loop-region g l =
-    (given : Given) (t : Tree) (s : System) → AreSentAbove given t s l.routes.above.now → AreWays t.roots s l.routes.ways.now → AreFoundBy s l.slot (space_of l.space) l.regions
+    (given : Given) (t : Tree) (s : System) → AreSentAbove given t s l.routes.above.now → AreWays given t.roots s l.routes.ways.now → AreFoundBy s l.slot (space_of l.space) l.regions
     → HasNoAside given t.roots s (space_of l.space) (take l.region-index l.regions)

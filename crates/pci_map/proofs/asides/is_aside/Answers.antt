@@ -23,4 +23,4 @@ returns g c = λ given t s above ways found.
     let within = subst (λ b. MatchBool b (IsOutOfPlace given t.roots s (value_of space q)) (IsOutOfPlace given t.roots s (value_of space q) → ⊥)) c.if-is_out_of_place.false
     (c.is_out_of_place.ensures given t s above (found_on s c.args.slot q.reg space q found _ c.bus.ensures)) in
     aside_if given t.roots s (value_of space q) c.is_left.result within
-    (c.is_left.ensures t s q above.tree ways (is_region s c.args.slot q.reg space q found) (ap (λ (x : Slot). x.bus) found.slot_is ∙ sym c.bus-2.ensures) refl)
+    (c.is_left.ensures given t s q above.tree ways (is_region s c.args.slot q.reg space q found) (ap (λ (x : Slot). x.bus) found.slot_is ∙ sym c.bus-2.ensures) refl)

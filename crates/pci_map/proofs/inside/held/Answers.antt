@@ -22,7 +22,7 @@ module _ (keeps : Region → Bool) (xs : List Region) (k : ℕ) (q : Region) (wi
 pub loop-region-preserved : goal.loop-region-preserved
 loop-region-preserved g c =
     let q : Region = c.region-item.result in
-    let keeps = is_held_first c.args.window.now c.args.earlier.now in elim c.if-holds.branch [
+    let keeps = is_held_first c.args.opening.now.window.now c.args.opening.now.earlier c.args.opening.now.cut in elim c.if-holds.branch [
       | then-holds+in_ok-push w ↦
           one_kept keeps c.args.regions.now c.loop-region.region-index q c.loop-region-test.true c.region-item.is c.loop-region.out.items c.if-holds.out.items c.loop-region.invariant
           (sym c.holds.ensures ∙ w.if-holds.true) (ap (λ v. v.items) w.out-is ∙ w.in_ok-push.ensures.items)

@@ -12,5 +12,5 @@ returns g c = λ s has.
     map_of given c.args.outline.now.roots s (string_bytes c.new-text.result) (string_bytes c.push_roots.new.text) (string_bytes c.push_asides.new.text) (string_bytes c.push_off.new.text)
     c.new-text.ensures.bytes
     (c.in_ok-push_roots.ensures s (subst (AreSentAbove given c.args.outline.now s) (sym c.as_slice.ensures.value) above))
-    (c.in_ok-push_asides.ensures given s (subst (AreSentAbove given c.args.outline.now s) (sym c.as_slice-2.ensures.value) above))
+    (c.in_ok-push_asides.ensures s (subst (AreSentAbove given c.args.outline.now s) (sym c.as_slice-2.ensures.value) above))
     (c.in_ok-push_off.ensures s has)

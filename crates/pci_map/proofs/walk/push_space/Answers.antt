@@ -39,5 +39,5 @@ returns g c =
     told_some given c.args.mapped.now.outline.now.roots s space c.args.bus all qs rs sorted placed
     (c.in_ok-runs.ensures s (subst (AreSortedRegionsOf s c.args.bus space) (sym c.as_slice.ensures.value) sorted))
     (string_bytes c.args.text.now) (string_bytes c.push_heading.new.text) (string_bytes c.push_place.new.text) some c.in_ok-push_heading.ensures
-    (last given s above (λ q has. sorted.each q (placed.each q has)))))
+    (last s above (λ q has. sorted.each q (placed.each q has)))))
     c.push_place.ensures

@@ -4,6 +4,7 @@ use Rattle.pci_spec.specs.Slot.{Slot}
 use Rattle.pci_base.specs.Space.{space_of}
 use Rattle.pci_tree.specs.declared.region.Region.{Region}
 use Rattle.pci_claims.specs.Found.{NoneClaims, IsFoundIn}
+use Rattle.pci_claims.specs.Values.{given_value}
 use Rattle.pci_map.proofs.Firsts.{found_region}
 use Rattle.pci_map.proofs.ways.judge.Goals as goal
 
@@ -19,5 +20,6 @@ returns g c = λ s tree ways.
     let found = subst (λ (o : Option Region). MatchOption o (NoneClaims s c.args.spot.slot c.args.spot.register space) (λ q. IsFoundIn s c.args.spot.slot c.args.spot.register space q)) c.in-Some.is
     (c.in_ok-window.ensures.found s tree.records) in record {
       found = found;
-      judged = c.is_left-left.ensures c.args.outline.now s q tree ways (found_region s c.args.spot.slot c.args.spot.register space q found) (ap (λ (x : Slot). x.bus) found.slot_is ∙ sym c.bus.ensures) refl;
+      cut = c.is_cut-cut.ensures;
+      judged = c.is_left-left.ensures (given_value c.args.given.now) c.args.outline.now s q tree ways (found_region s c.args.spot.slot c.args.spot.register space q found) (ap (λ (x : Slot). x.bus) found.slot_is ∙ sym c.bus.ensures) refl;
     }
