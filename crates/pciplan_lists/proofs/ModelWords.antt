@@ -7,7 +7,7 @@ use Rattle.std.proofs.lemmas.List.{append_assoc, length-append, get_or_append_le
 use Rattle.std.proofs.lemmas.List.Elements.{Contains-append_left, Contains-append_right, Contains-append_cases}
 use Rattle.std.proofs.lemmas.List.Quantifiers.{all_pairs_push}
 use Rattle.given_spec.specs.Words.{VgaWord, Vga, Vga16}
-use Rattle.model_spec.specs.Words.{Words, Name, Cardbus, Ide, Power, Reset, Subtractive, Unnumbered, Legacy, Windows, name_text, IsCounted, AreNames, no_words}
+use Rattle.model_spec.specs.Words.{Words, Name, Cardbus, Ide, Isa, Power, Reset, Subtractive, Unnumbered, Legacy, Windows, name_text, IsCounted, AreNames, no_words}
 use Rattle.pci_model.specs.WordsValue.{vga_value, words_value}
 use Rattle.pci_model.specs.declared.words.VgaWord.{VgaWord as DeclaredVga}
 use Rattle.pci_model.specs.declared.words.Words as declared
@@ -28,6 +28,7 @@ no_comma (x ∷ text) all =
 all_above : (n : Name) → list_all (λ b. nat_lt 44 b) (name_text n) ≡ true
 all_above Cardbus = refl
 all_above Ide = refl
+all_above Isa = refl
 all_above Power = refl
 all_above Reset = refl
 all_above Subtractive = refl
@@ -56,6 +57,7 @@ pub same_words : (w v : Words) → ((n : Name) → IsCounted w n ↔ IsCounted v
 same_words w v h = λ i. record {
   cardbus = same_flag w.cardbus v.cardbus (h Cardbus) i;
   ide = same_flag w.ide v.ide (h Ide) i;
+  isa = same_flag w.isa v.isa (h Isa) i;
   power = same_flag w.power v.power (h Power) i;
   reset = same_flag w.reset v.reset (h Reset) i;
   subtractive = same_flag w.subtractive v.subtractive (h Subtractive) i;
@@ -95,6 +97,7 @@ code_too_much w y some = legacy_too_much (words_value w) (option_map vga_value w
 nothing_counts : (n : Name) → IsCounted no_words n → ⊥
 nothing_counts Cardbus is = false≢true is
 nothing_counts Ide is = false≢true is
+nothing_counts Isa is = false≢true is
 nothing_counts Power is = false≢true is
 nothing_counts Reset is = false≢true is
 nothing_counts Subtractive is = false≢true is
@@ -223,6 +226,7 @@ words_only word w taken v list =
 first_letter : (n : Name) → get_or (name_text n) 0 0 ≢ 97
 first_letter Cardbus = omega arith
 first_letter Ide = omega arith
+first_letter Isa = omega arith
 first_letter Power = omega arith
 first_letter Reset = omega arith
 first_letter Subtractive = omega arith
@@ -234,6 +238,7 @@ first_letter Windows = omega arith
 some_letter : (n : Name) (rest : List ℕ) → get_or (name_text n ++ rest) 0 0 ≡ get_or (name_text n) 0 0
 some_letter Cardbus rest = refl
 some_letter Ide rest = refl
+some_letter Isa rest = refl
 some_letter Power rest = refl
 some_letter Reset rest = refl
 some_letter Subtractive rest = refl

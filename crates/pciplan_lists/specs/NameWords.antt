@@ -8,6 +8,7 @@ use Rattle.pciplan_lists.specs.declared.model_words.Name.TheVariants as names
 abbrev pub name_value : Name → model.Name
 name_value names.Cardbus = model.Cardbus
 name_value names.Ide = model.Ide
+name_value names.Isa = model.Isa
 name_value names.Power = model.Power
 name_value names.Reset = model.Reset
 name_value names.Subtractive = model.Subtractive

@@ -16,6 +16,7 @@ const ALL: &str = "all";
 enum Name {
     Cardbus,
     Ide,
+    Isa,
     Power,
     Reset,
     Subtractive,
@@ -33,6 +34,8 @@ fn name_of(word: &str) -> Option<Name>
         Some(Name::Cardbus)
     } else if word == "ide" {
         Some(Name::Ide)
+    } else if word == "isa" {
+        Some(Name::Isa)
     } else if word == "power" {
         Some(Name::Power)
     } else if word == "reset" {
@@ -72,6 +75,7 @@ fn adds(words: &mut Words, name: Name) -> bool
     match name {
         Name::Cardbus => sets(&mut words.cardbus),
         Name::Ide => sets(&mut words.ide),
+        Name::Isa => sets(&mut words.isa),
         Name::Power => sets(&mut words.power),
         Name::Reset => sets(&mut words.reset),
         Name::Subtractive => sets(&mut words.subtractive),
@@ -98,6 +102,7 @@ fn listed_words(list: &str) -> Option<Words>
     let mut words = Words {
         cardbus: false,
         ide: false,
+        isa: false,
         power: false,
         reset: false,
         subtractive: false,
@@ -132,6 +137,7 @@ pub fn words_of_list(list: &str) -> Option<Words>
         return Some(Words {
             cardbus: true,
             ide: true,
+            isa: true,
             power: true,
             reset: true,
             subtractive: true,

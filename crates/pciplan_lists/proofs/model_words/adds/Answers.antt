@@ -1,6 +1,6 @@
 use Rattle.std.proofs.Common.{sym, ◌∙◌, ap, subst}
 use Rattle.std.specs.Prelude.{not}
-use Rattle.model_spec.specs.Words.{Cardbus, Ide, Power, Reset, Subtractive, Unnumbered, Windows}
+use Rattle.model_spec.specs.Words.{Cardbus, Ide, Isa, Power, Reset, Subtractive, Unnumbered, Windows}
 use Rattle.pci_model.specs.WordsValue.{words_value, vga_value}
 use Rattle.pciplan_lists.specs.NameWords.{name_value, IsTooMuch}
 use Rattle.pciplan_lists.proofs.ModelWords.{code_too_much, counts_already}
@@ -20,6 +20,11 @@ pub returns-in-Ide-clause-much : goal.returns-in-Ide-clause-much
 returns-in-Ide-clause-much c = λ off.
     subst (λ n. IsTooMuch (words_value c.args.words.now) (name_value n)) (sym c.in-Ide.is)
     (counts_already (words_value c.args.words.now) Ide (c.sets-in-Ide.ensures.not off))
+
+pub returns-in-Isa-clause-much : goal.returns-in-Isa-clause-much
+returns-in-Isa-clause-much c = λ off.
+    subst (λ n. IsTooMuch (words_value c.args.words.now) (name_value n)) (sym c.in-Isa.is)
+    (counts_already (words_value c.args.words.now) Isa (c.sets-in-Isa.ensures.not off))
 
 pub returns-in-Power-clause-much : goal.returns-in-Power-clause-much
 returns-in-Power-clause-much c = λ off.
