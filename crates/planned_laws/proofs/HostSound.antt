@@ -1,9 +1,10 @@
 -- What is sound with a host that sends what the lists have, and in its place, is sound whatever the host sends.
 use Rattle.std.proofs.Common.{◌≡◌, ◌&&◌, ◌||◌, ℕ, inl, inr, List, [], ◌∷◌, Bool, true, false, not, refl, sym, ◌∙◌, ap, subst}
 use Rattle.std.specs.List.{Contains, list_all}
-use Rattle.std.proofs.lemmas.Bool.{and_parts, both_ways, cases_Bool, not-true, or_left, true_from_ne_false}
+use Rattle.std.proofs.lemmas.Bool.{and_parts, both_ways, cases_Bool, not-true, true_from_ne_false}
 use Rattle.std.proofs.lemmas.List.Elements.{All-contains}
-use Rattle.std.proofs.Math.Bool.{and-false, or-false}
+use Rattle.std.proofs.Math.Bool.{and-false, and-true, or-false}
+use Rattle.pci_spec.specs.Slot.{Slot}
 use Rattle.pci_spec.specs.Decoded.{InRange, IsDecodable}
 use Rattle.pci_spec.specs.Window.{holds}
 use Rattle.pci_spec.specs.System.{System, Function, IsSystem, Space, Io, Memory, Part, Window, Claims, Leads, forwards, is_bridge, is_prefetchable_part, is_space_on, is_window, passes, register_of, window_space}
@@ -13,10 +14,11 @@ use Rattle.pci_spec.specs.Sound as plain
 use Rattle.pci_spec.proofs.BusRanges.{all_from, all_gives, root_means}
 use Rattle.plan_spec.proofs.PlanningLaws.{profile_decodes}
 use Rattle.plan_spec.proofs.Planning.Kept.{images_of}
-use Rattle.given_spec.specs.Given.{legacy_claims, starts}
+use Rattle.given_spec.specs.Given.{is_cut, legacy_claims, starts}
 use Rattle.given_spec.specs.Claims.{Legacy, Own, may_share}
 use Rattle.given_spec.specs.Claims as host
 use Rattle.given_spec.specs.Sound as given
+use Rattle.given_spec.proofs.Isa.{not_cut}
 use Rattle.given_spec.proofs.Judging.{home_without}
 use Rattle.given_spec.proofs.Nothing.{not_at_control, not_shared}
 use Rattle.settle_spec.specs.Lists.{Request}
@@ -40,11 +42,18 @@ forwards_passes Memory a b = refl
 no_legacy : (q : Request) (space : Space) (a : ℕ) (b : Function) → legacy_claims (host_by q) space a b ≡ false
 no_legacy q space a b = and-false (is_bridge b && is_space_on b space)
 
+-- and none has ISA Enable
+none_taken : (q : Request) (b : Bool) (space : Space) (a : ℕ) (slot : Slot) → (b && not (is_cut (host_by q) space a slot)) ≡ b
+none_taken q b space a slot = ap (λ x. b && not x) (not_cut (host_by q) slot refl space a) ∙ and-true b
+
+own_claims : (q : Request) (f : Function) (p : Part) (space : Space) (a : ℕ) → Claims f p space a → host.Claims (host_by q) f (Own p) space a
+own_claims q f p space a claims = record { claims = claims; kept = ap (λ x. is_window p && x) (not_cut (host_by q) f.slot refl space a) ∙ and-false (is_window p) }
+
 passes_same : (q : Request) (space : Space) (prefetchable : Bool) (a : ℕ) (b : Function) → host.passes (host_by q) space prefetchable a b ≡ passes space prefetchable a b
-passes_same q space prefetchable a b = ap (λ x. passes space prefetchable a b || x) (no_legacy q space a b) ∙ or-false (passes space prefetchable a b)
+passes_same q space prefetchable a b = ap (λ x. (passes space prefetchable a b && not (is_cut (host_by q) space a b.slot)) || x) (no_legacy q space a b) ∙ or-false _ ∙ none_taken q (passes space prefetchable a b) space a b.slot
 
 forwards_same : (q : Request) (space : Space) (a : ℕ) (b : Function) → host.forwards (host_by q) space a b ≡ forwards space a b
-forwards_same q space a b = ap (λ x. forwards space a b || x) (no_legacy q space a b) ∙ or-false (forwards space a b)
+forwards_same q space a b = ap (λ x. (forwards space a b && not (is_cut (host_by q) space a b.slot)) || x) (no_legacy q space a b) ∙ or-false _ ∙ none_taken q (forwards space a b) space a b.slot
 
 -- no region is that of a legacy part
 one_region : (f g : Function) (p r : Part) → given.MayBoth f (Own p) g (Own r) → IsSameRegion f p g r
@@ -120,14 +129,14 @@ module _ (q : Request) (s : System) (system : IsSystem s) (place : LieInPlace q 
             way_sent q s system sound.nested sound.profile place left space a root bridges f p is_one (subst (Leads s root bridges) (sym at_f) leads) all in_f claim_f,
             bridges,
             leads,
-            all_from (host.forwards (host_by q) space a) bridges (λ b has. or_left (forwards space a b) (legacy_claims (host_by q) space a b) (all_gives (forwards space a) bridges all b has)),
+            all_from (host.forwards (host_by q) space a) bridges (λ b has. forwards_same q space a b ∙ all_gives (forwards space a) bridges all b has),
           )
-          f g (Own p) (Own r) in_f in_g at_f at_g claim_f claim_g);
+          f g (Own p) (Own r) in_f in_g at_f at_g (own_claims q f p space a claim_f) (own_claims q g r space a claim_g));
       over_roots = λ space a f g p r in_f in_g root_f root_g claim_f claim_g.
           one_region f g p r
           (sound.single.over_roots space a f g (Own p) (Own r) in_f in_g root_f root_g
           (claim_sent q s system sound.nested sound.profile place left f p space a in_f ((root_means q.roots f.slot.bus).1 root_f) claim_f)
-          (claim_sent q s system sound.nested sound.profile place left g r space a in_g ((root_means q.roots g.slot.bus).1 root_g) claim_g) claim_f claim_g);
+          (claim_sent q s system sound.nested sound.profile place left g r space a in_g ((root_means q.roots g.slot.bus).1 root_g) claim_g) (own_claims q f p space a claim_f) (own_claims q g r space a claim_g));
     }
 
     home : plain.IsHome q.roots s
@@ -142,7 +151,7 @@ module _ (q : Request) (s : System) (system : IsSystem s) (place : LieInPlace q 
   module _ (sound : plain.IsSound q.roots s) where
     same_part : (space : Space) (a : ℕ) (f g : Function) (p r : host.Part) → host.Claims (host_by q) f p space a → host.Claims (host_by q) g r space a
         → ((x y : Part) → Claims f x space a → Claims g y space a → IsSameRegion f x g y) → given.MayBoth f p g r
-    same_part space a f g (Own p) (Own r) claim_f claim_g one = inl (one p r claim_f claim_g)
+    same_part space a f g (Own p) (Own r) claim_f claim_g one = inl (one p r claim_f.claims claim_g.claims)
     same_part space a f g Legacy r claim_f claim_g one = absurd (both_ways (legacy_claims (host_by q) space a f) (no_legacy q space a f) claim_f.claims)
     same_part space a f g (Own p) Legacy claim_f claim_g one = absurd (both_ways (legacy_claims (host_by q) space a g) (no_legacy q space a g) claim_g.claims)
 

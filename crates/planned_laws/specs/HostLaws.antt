@@ -30,6 +30,7 @@ host_by q = record {
   io = Some (map host_range (list_in q Io));
   memory = Some (map host_range (list_in q Memory));
   legacy = [];
+  isa = [];
 }
 
 -- Two ranges of a space that one root has are the same, or an address lies between them that neither has.
