@@ -51,6 +51,17 @@ fn nothing() -> Given<'static> {
         io: None,
         memory: None,
         legacy: &[],
+        isa: &[],
+    }
+}
+
+/// Bridges with legacy parts, and nothing else.
+fn beside(legacy: &[LegacyBridge]) -> Given<'_> {
+    Given {
+        io: None,
+        memory: None,
+        legacy,
+        isa: &[],
     }
 }
 
@@ -172,10 +183,7 @@ fn a_bar_fits_in_what_a_legacy_part_passes(rt: HostRuntime) -> Result<(), Fail> 
         device("01:01.0", 2, &[(0x10, 0x000a_0000, 0xffff_f000)]),
     ];
     let legacy = [vga(0, 1)?];
-    let given = Given {
-        legacy: &legacy,
-        ..nothing()
-    };
+    let given = beside(&legacy);
     fits(&rt, &board, &nothing(), memory_bar(1, 0)?, "  fits none\n")?;
     let line = "  fits 00000000000b0000-00000000000bffff 64K\n";
     fits(&rt, &board, &given, memory_bar(1, 0)?, line)
@@ -191,8 +199,7 @@ fn a_legacy_part_is_in_the_way_and_has_no_place_of_its_own(rt: HostRuntime) -> R
     let memory = [to_each(0xa_0000, 0xf_ffff)];
     let given = Given {
         memory: Some(&memory),
-        legacy: &legacy,
-        ..nothing()
+        ..beside(&legacy)
     };
     let line = "  fits 00000000000c0000-00000000000cffff 64K\n";
     fits(&rt, &board, &given, memory_bar(0, 2)?, line)?;
@@ -247,8 +254,7 @@ fn ports_of_each_1k_are_in_the_way_where_10_bits_are_decoded(rt: HostRuntime) ->
     let io = [to_each(0x7b0, 0x7ff)];
     let given = Given {
         io: Some(&io),
-        legacy: &narrow,
-        ..nothing()
+        ..beside(&narrow)
     };
     let ports = RegionName {
         slot: slot(0, 2)?,

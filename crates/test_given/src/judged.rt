@@ -60,6 +60,7 @@ fn faults_of(
         io: said.io,
         memory: said.memory,
         legacy: &legacy,
+        isa: &[],
     };
     all_of_judging(alloc, &given, admitted.outline()).ok()
 }

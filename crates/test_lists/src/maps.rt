@@ -14,6 +14,7 @@ fn are_lines(alloc: Global, board: &Admitted, wanted: &str) -> bool {
         io: None,
         memory: None,
         legacy: &[],
+        isa: &[],
     };
     match map_text(alloc, board.outline(), &given) {
         Ok(lines) => lines.as_str() == wanted,

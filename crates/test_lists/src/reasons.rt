@@ -64,6 +64,7 @@ fn told(alloc: Global, outline: &Outline, probe: &Dump, faults: &[Named]) -> Opt
         io: None,
         memory: None,
         legacy: &[],
+        isa: &[],
     };
     let judged = Judged {
         given: &nothing,

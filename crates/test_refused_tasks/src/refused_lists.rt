@@ -60,6 +60,7 @@ fn task_given(alloc: Global, why: bool) -> Made {
 const ALL_WORDS: Words = Words {
     cardbus: true,
     ide: true,
+    isa: true,
     power: true,
     reset: true,
     subtractive: true,

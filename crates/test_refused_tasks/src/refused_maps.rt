@@ -85,6 +85,7 @@ off
 const WORDS: Words = Words {
     cardbus: true,
     ide: true,
+    isa: true,
     power: true,
     reset: true,
     subtractive: true,
