@@ -10,7 +10,7 @@ use Rattle.pci_spec.specs.Slot.{Slot}
 use Rattle.pci_spec.specs.Text.{hex_byte, hex_digit}
 use Rattle.pci_spec.specs.Line.{hex_number}
 use Rattle.given_spec.specs.Words.{Vga, Vga16}
-use Rattle.model_spec.specs.Words.{Words, Name, Cardbus, Ide, Power, Reset, Subtractive, Unnumbered, Legacy, Windows, name_text}
+use Rattle.model_spec.specs.Words.{Words, Name, Cardbus, Ide, Isa, Power, Reset, Subtractive, Unnumbered, Legacy, Windows, name_text}
 use Rattle.pci_base.specs.declared.range.Range.{Range}
 use Rattle.pci_base.specs.declared.range.RootRange.{RootRange}
 use Rattle.pciplan_lists.specs.Joined.{AreJoined}
@@ -106,6 +106,7 @@ plain_utf8 (x ∷ text) all =
 all_plain : (n : Name) → list_all (λ b. nat_lt b 128) (name_text n) ≡ true
 all_plain Cardbus = refl
 all_plain Ide = refl
+all_plain Isa = refl
 all_plain Power = refl
 all_plain Reset = refl
 all_plain Subtractive = refl

@@ -15,7 +15,7 @@ use Rattle.given_spec.specs.FaultsText.{IsFaultsText}
 use Rattle.given_spec.proofs.Judging.{same_sound}
 use Rattle.given_spec.proofs.PlainLists.{same_list, same_text_with, first_of_list_is_first}
 use Rattle.pci_claims.specs.Values.{host_value}
-use Rattle.pciplan_tasks.specs.FaultsAnswers.{legacy_by, list_answer}
+use Rattle.pciplan_tasks.specs.FaultsAnswers.{isa_by, legacy_by, list_answer}
 use Rattle.pciplan_tasks.specs.FaultsLaws.{FirstLineIsVerdict, PlainWithNothingGiven, NothingSaidGivesNothing}
 
 none_known : (ps : List plain.Fault) → (ps ≡ []) ↔ (map Known ps ≡ [])
@@ -57,8 +57,9 @@ plain_with_nothing_given roots why dump probe answer is_dump is_probe told =
     }
 
 pub nothing_said_gives_nothing : NothingSaidGivesNothing
-nothing_said_gives_nothing beside dump io memory vga = λ i. record {
+nothing_said_gives_nothing beside dump io memory vga isa = λ i. record {
   io = option_map (λ list. map host_value list.items) (io i);
   memory = option_map (λ list. map host_value list.items) (memory i);
   legacy = legacy_by (vga i) (system_of dump dump);
+  isa = isa_by (isa i) (system_of dump dump);
 }

@@ -1,5 +1,6 @@
 -- What the program answers where all faults of two texts are to be listed, with what is given beside them.
-use Rattle.std.specs.Prelude.{◌≡◌, ◌↔◌, ℕ, Bool, true, List, [], ◌∷◌, Option, None, Some, option_map, map}
+use Rattle.std.specs.Prelude.{◌≡◌, ◌↔◌, ℕ, Bool, true, false, if◌then◌else◌, List, [], ◌∷◌, Option, None, Some, option_map, map}
+use Rattle.pci_spec.specs.Slot.{Slot}
 use Rattle.pci_spec.specs.Text.{Block}
 use Rattle.pci_spec.specs.System.{System, system_of}
 use Rattle.pci_spec.specs.Mark.{AssumedRegister, all_named}
@@ -8,7 +9,7 @@ use Rattle.given_spec.specs.Fault.{Fault}
 use Rattle.given_spec.specs.FaultLines.{AreAllFaults, AreSound}
 use Rattle.given_spec.specs.FaultsText.{IsFaultsText}
 use Rattle.given_spec.specs.Line.{list_text}
-use Rattle.given_spec.specs.Words.{VgaWord, legacy_bridges}
+use Rattle.given_spec.specs.Words.{VgaWord, isa_bridges, legacy_bridges}
 use Rattle.pci_claims.specs.Values.{host_value}
 use Rattle.pci_tree.specs.Outline.{Tree}
 use Rattle.pci_tree.specs.Roots.{buses_of}
@@ -29,13 +30,22 @@ abbrev pub vga_of : Option Words → Option VgaWord
 vga_of None = None
 vga_of (Some words) = (words_value words).vga
 
--- What is given beside a dump: what the host sends, and its bridges with legacy parts. What reads back tells nothing of
--- these, so the dump stands for the probe too.
+-- the bridges with ISA Enable, where the word for it counts
+abbrev pub isa_by : Bool → System → List Slot
+isa_by counts s = if counts then isa_bridges s else []
+
+abbrev pub isa_of : Option Words → Bool
+isa_of None = false
+isa_of (Some words) = (words_value words).isa
+
+-- What is given beside a dump: what the host sends, and its bridges with legacy parts or ISA Enable. What reads back tells
+-- nothing of these, so the dump stands for the probe too.
 abbrev pub given_of : HostLists → Option Words → List Block → Given
 given_of host words dump = record {
   io = option_map (λ list. map host_value list.items) host.io;
   memory = option_map (λ list. map host_value list.items) host.mem;
   legacy = legacy_by (vga_of words) (system_of dump dump);
+  isa = isa_by (isa_of words) (system_of dump dump);
 }
 
 -- the text of a list, where it is of what was judged with reasons

@@ -1,5 +1,5 @@
 -- Laws of `faults` where nothing is given beside the two texts.
-use Rattle.std.specs.Prelude.{◌≡◌, ◌↔◌, ℕ, Bool, List, [], ◌∷◌, None}
+use Rattle.std.specs.Prelude.{◌≡◌, ◌↔◌, ℕ, Bool, false, List, [], ◌∷◌, None}
 use Rattle.pci_spec.specs.Text.{Block, IsDump}
 use Rattle.pci_spec.specs.System.{system_of}
 use Rattle.pci_spec.specs.Fault.{Fault}
@@ -10,7 +10,7 @@ use Rattle.pci_spec.specs.Mark.{all_named}
 use Rattle.pci_check.specs.Audits.{AreSound}
 use Rattle.given_spec.specs.Given.{nothing_given}
 use Rattle.pciplan_tasks.specs.Answers.{Answer}
-use Rattle.pciplan_tasks.specs.FaultsAnswers.{AreTold, given_of, list_answer, vga_of}
+use Rattle.pciplan_tasks.specs.FaultsAnswers.{AreTold, given_of, isa_of, list_answer, vga_of}
 use Rattle.pciplan_tasks.specs.declared.task.Beside.{Beside}
 
 -- where there is a line, the first one is of the fault that is looked for first of those that are there
@@ -36,8 +36,9 @@ PlainWithNothingGiven =
     → IsDump probe → AreTold nothing_given roots why dump probe answer
     → ArePlainTold roots why dump probe answer
 
--- Nothing is given where no list is said of what the host sends, and no word takes VGA Enable.
+-- Nothing is given where no list is said of what the host sends, and no word takes VGA Enable or ISA
+-- Enable.
 abbrev pub NothingSaidGivesNothing : Type 0
 NothingSaidGivesNothing =
     (beside : Beside) (dump : List Block) → beside.host.io ≡ None → beside.host.mem ≡ None
-    → vga_of beside.words ≡ None → given_of beside.host beside.words dump ≡ nothing_given
+    → vga_of beside.words ≡ None → isa_of beside.words ≡ false → given_of beside.host beside.words dump ≡ nothing_given

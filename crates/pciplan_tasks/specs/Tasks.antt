@@ -13,12 +13,11 @@ use Rattle.pci_place.specs.Pools.{pools_value}
 use Rattle.pci_check.specs.Audits.{IsDumpOf}
 use Rattle.pciplan_tasks.specs.Answers.{Answer, IsShowAnswer, IsChecked, IsSizeAnswer}
 use Rattle.pciplan_tasks.specs.FaultsAnswers.{IsFaultsAnswer}
-use Rattle.pciplan_tasks.specs.MapAnswers.{IsMapped, sent_by}
+use Rattle.pciplan_tasks.specs.MapAnswers.{IsMapAnswerBy}
 use Rattle.pciplan_tasks.specs.PlanAnswers.{IsPlanAnswer}
 use Rattle.pciplan_tasks.specs.SettleAnswers.{IsSettlingTold, request_said}
 use Rattle.pciplan_tasks.specs.ProbeAnswers.{probe_answer}
 use Rattle.pciplan_tasks.specs.Statuses.{status_of}
-use Rattle.pciplan_tasks.specs.TakenAnswers.{IsAnswerBy}
 use Rattle.pciplan_tasks.specs.declared.task.Task.{Task}
 use Rattle.pciplan_tasks.specs.declared.task.Task.TheVariants as task
 use Rattle.pciplan_tasks.specs.declared.failure.Failure.{Failure}
@@ -43,8 +42,7 @@ abbrev pub IsPairAnswer : Task → List Block → List Block → Answer → Type
 IsPairAnswer task.Show = IsShowAnswer
 IsPairAnswer (task.Check roots) = IsChecked (buses_of roots)
 IsPairAnswer (task.Faults beside why) = IsFaultsAnswer beside why
-IsPairAnswer (task.Map beside) =
-    IsAnswerBy beside.words (IsMapped (sent_by beside.host) (buses_of beside.roots))
+IsPairAnswer (task.Map beside) = IsMapAnswerBy beside
 IsPairAnswer task.Size = IsSizeAnswer
 IsPairAnswer (task.Plan pools writes why roots) =
     IsPlanAnswer record {

@@ -8,15 +8,16 @@ ghost use Rattle.pci_tree.specs.Roots.{buses_of};
 ghost use Rattle.pci_claims.specs.Values.{given_value, host_value, legacy_value};
 ghost use Rattle.pci_given.specs.AllLines.{judged_of};
 ghost use Rattle.pciplan_tasks.specs.Answers.{AreLines, answer_of};
-ghost use Rattle.pciplan_tasks.specs.FaultsAnswers.{AreTold, IsFaultsAnswer, IsListText, legacy_by, vga_of};
+ghost use Rattle.pciplan_tasks.specs.FaultsAnswers.{AreTold, IsFaultsAnswer, IsListText, isa_by, isa_of, legacy_by, vga_of};
 
 use crate::reply::{Reply, Text};
 use crate::taking::taken;
 use crate::task::Beside;
 use pci_base::memory::OutOfMemory;
 use pci_base::range::RootRange;
+use pci_base::slot::Slot;
 use pci_claims::given::{Given, LegacyBridge};
-use pci_claims::vga::legacy_bridges;
+use pci_claims::vga::{isa_bridges, legacy_bridges};
 use pci_dump::block::Block;
 use pci_dump::dump::Dump;
 use pci_given::any_fault::AnyFault;
@@ -52,6 +53,26 @@ fn legacy_by<A: Allocator, B: Allocator>(
             None => Ok(Vec::new(alloc)),
             Some(word) => legacy_bridges(alloc, dump, word),
         },
+    }
+}
+
+/// The bridges of a dump with ISA Enable, where the words take it.
+pub fn isa_by<A: Allocator, B: Allocator>(
+    alloc: A,
+    dump: &Dump<B>,
+    words: Option<Words>,
+) -> Result<Vec<Slot, A>, OutOfMemory>
+    ensures { IfOk result (λ isa. isa.items ≡ isa_by (isa_of words) (system_of dump.now dump.now)) }
+{
+    match words {
+        None => Ok(Vec::new(alloc)),
+        Some(words) => {
+            if words.isa {
+                isa_bridges(alloc, dump)
+            } else {
+                Ok(Vec::new(alloc))
+            }
+        }
     }
 }
 
@@ -114,7 +135,7 @@ fn faults_pair<A: Allocator + Copy>(
 }
 
 /// All faults of a dump and its probe with what is said beside them, with reasons or without: as words take them, where
-/// there are words, with what the host sends and the bridges with legacy parts.
+/// there are words, with what the host sends, and the bridges with legacy parts or ISA Enable.
 pub fn faults_by<A: Allocator + Copy>(
     alloc: A,
     dump: &Dump<A>,
@@ -128,12 +149,14 @@ pub fn faults_by<A: Allocator + Copy>(
     ensures lines { IfOk result (λ reply. AreLines reply.text) }
 {
     let legacy = legacy_by(alloc, dump, beside.words)?;
+    let isa = isa_by(alloc, dump, beside.words)?;
     let asked = Asked {
         roots: beside.roots,
         given: Given {
             io: ranges_of(&beside.host.io),
             memory: ranges_of(&beside.host.mem),
             legacy: &legacy,
+            isa: &isa,
         },
         why,
     };

@@ -3,10 +3,9 @@ ghost use Rattle.std.specs.Prelude.{IfOk};
 ghost use Rattle.pci_tree.specs.Roots.{buses_of};
 ghost use Rattle.pci_claims.specs.Values.{given_value};
 ghost use Rattle.pciplan_tasks.specs.Answers.{answer_of};
-ghost use Rattle.pciplan_tasks.specs.MapAnswers.{IsMapped, sent_by};
-ghost use Rattle.pciplan_tasks.specs.TakenAnswers.{IsAnswerBy};
+ghost use Rattle.pciplan_tasks.specs.MapAnswers.{IsMapped, IsMapAnswerBy};
 
-use crate::faulting::ranges_of;
+use crate::faulting::{isa_by, ranges_of};
 use crate::reply::{Reply, Text, done, refused};
 use crate::taking::taken;
 use crate::task::Beside;
@@ -38,21 +37,21 @@ fn map_pair<A: Allocator + Copy>(
 }
 
 /// The map of a dump and its probe with what is said beside them: as words take them, where there are words, with what the
-/// host sends to the root buses.
+/// host sends to the root buses, and the bridges with ISA Enable.
 pub fn map_by<A: Allocator + Copy>(
     alloc: A,
     dump: &Dump<A>,
     probe: &Dump<A>,
     beside: &Beside,
 ) -> Result<Reply<A>, OutOfMemory>
-    ensures { IfOk result (λ reply. IsAnswerBy beside.now.words
-        (IsMapped (sent_by beside.now.host) (buses_of beside.now.roots)) dump.now probe.now
-        (answer_of reply)) }
+    ensures { IfOk result (λ reply. IsMapAnswerBy beside.now dump.now probe.now (answer_of reply)) }
 {
+    let isa = isa_by(alloc, dump, beside.words)?;
     let given = Given {
         io: ranges_of(&beside.host.io),
         memory: ranges_of(&beside.host.mem),
         legacy: &[],
+        isa: &isa,
     };
     match taken(alloc, dump, probe, beside.words)? {
         None => map_pair(alloc, dump, probe, beside.roots, &given),
