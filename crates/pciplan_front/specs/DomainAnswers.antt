@@ -6,14 +6,12 @@ use Rattle.pci_spec.specs.ProbeOf.{ProbeFault, probe_fault, probe_fault_text, pr
 use Rattle.model_spec.specs.Words.{all_words}
 use Rattle.pci_model.specs.WordsValue.{words_value}
 use Rattle.pci_model.specs.declared.words.Words as model
-use Rattle.pci_tree.specs.Roots.{buses_of}
 use Rattle.pci_here.specs.Words.{domain_line}
 use Rattle.pci_here.specs.declared.domain.Domain.{Domain}
 use Rattle.pciplan_tasks.specs.Answers.{Answer, done, fault_answer_line, refused}
 use Rattle.pciplan_tasks.specs.FaultsAnswers.{IsFaultsAnswer}
-use Rattle.pciplan_tasks.specs.MapAnswers.{IsMapped, sent_by}
+use Rattle.pciplan_tasks.specs.MapAnswers.{IsMapAnswerBy}
 use Rattle.pciplan_tasks.specs.ProbeAnswers.{probe_answer}
-use Rattle.pciplan_tasks.specs.TakenAnswers.{IsAnswerBy}
 use Rattle.pciplan_tasks.specs.declared.task.Beside.{Beside}
 use Rattle.pciplan_front.specs.declared.domain_reply.Judging.{Judging}
 use Rattle.pciplan_front.specs.declared.domain_reply.Judging.TheVariants as judging
@@ -32,8 +30,7 @@ pub record IsBesideOf (d : Domain) (beside : Beside) : Type 0 where
 -- what `faults` with reasons, or `map`, answers to a dump and its probe with what is said beside them
 abbrev pub IsJudgedBy : Judging → Beside → List Block → List Block → Answer → Type 0
 IsJudgedBy judging.Faults beside dump probe answer = IsFaultsAnswer beside true dump probe answer
-IsJudgedBy judging.Map beside dump probe answer =
-    IsAnswerBy beside.words (IsMapped (sent_by beside.host) (buses_of beside.roots)) dump probe answer
+IsJudgedBy judging.Map beside dump probe answer = IsMapAnswerBy beside dump probe answer
 
 abbrev pub IsJudgedIn : Domain → Judging → List Block → List Block → Answer → Type 0
 IsJudgedIn d judging dump probe answer =

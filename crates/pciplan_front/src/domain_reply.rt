@@ -28,6 +28,7 @@ fn all_words() -> Words
     Words {
         cardbus: true,
         ide: true,
+        isa: true,
         power: true,
         reset: true,
         subtractive: true,
