@@ -13,7 +13,7 @@ def is_outside(system, region):
 
 
 def belongs_under(system, window, region):
-    """Whether a region belongs under a window: the first of its bridge's that holds the region's first address."""
+    """Whether a region belongs under a window: the first of its bridge's that claims the region's first address."""
     b = window.f
     if b.secondary != region.bus:
         return False
@@ -88,8 +88,9 @@ def headed(heading, lines):
 
 def region_words(region):
     """The line of a region."""
-    return '%s %s%s %s %02x' % (range_words(region.space, region.first, region.last), region.kind,
-                                ' pref' if region.prefetchable else '', slot_text(region.slot), region.register)
+    return '%s %s%s %s %02x%s' % (range_words(region.space, region.first, region.last), region.kind,
+                                  ' pref' if region.prefetchable else '', slot_text(region.slot), region.register,
+                                  ' isa' if region.is_cut else '')
 
 
 def off_words(f, bar):

@@ -24,10 +24,13 @@ HIGH_PLACES = (0x100000000, 0x1000FFFF0, 0x100100000, 0x1000A0000, (1 << 64) - 1
 VGA_PORTS = (0x3A8, 0x3B0, 0x3B8, 0x3BC, 0x3C0, 0x3DC, 0x3E0, 0x7B0, 0x13DC, 0xC3C0, 0xFBB8, 0xFFAC, 0xFFB0, 0xFFBC,
              0xFFC8, 0xFFDC, 0x103B0)
 VGA_PLACES = (0x9FFF0, 0xA0000, 0xA8000, 0xB0000, 0xBFFF0, 0xC0000)
+# of these alone on boards that are about ISA Enable
+ISA_PORTS = (0xF8, 0x100, 0x3FC, 0x400, 0x4F0, 0x500, 0x1000, 0x10F8, 0x1100, 0x1400, 0x1FF0, 0xFC00, 0xFCF8, 0xFD00, 0xFFF8,
+             0x10000, 0x10100, 0x10400)
 IO_PAGES = (0, 0, 1, 0xC, 0xF, 0x10, 0x11, 0xFFFFF)
 MEMORY_PAGES = (0, 0, 1, 2, 3, 0xFFF)
 HIGH_PAGES = (0, 1, 0x1000, 0x1001, 0xFFFFFFFFFFF)
-MODEL_WORDS = ('cardbus', 'ide', 'power', 'reset', 'subtractive', 'unnumbered', 'windows')
+MODEL_WORDS = ('cardbus', 'ide', 'isa', 'power', 'reset', 'subtractive', 'unnumbered', 'windows')
 
 
 class Board:
@@ -98,6 +101,7 @@ class Maker:
         self.most = self.draw.choice((3, 6, 10, 16, 24))
         self.spread = self.draw.choice((2, 3, 5))
         self.is_vga = self.one_in(5)
+        self.is_isa = not self.is_vga and self.one_in(5)
 
     def one_in(self, n):
         """Whether a draw of n is the first."""
@@ -112,7 +116,7 @@ class Maker:
             end = (board.roots + [256])[place + 1]
             self.fill(root, min(end - 1, root + 12), 0)
         board.functions.sort(key=lambda f: f.slot)
-        if self.is_vga or self.one_in(2):
+        if self.is_vga or self.is_isa or self.one_in(2):
             self.crowd()
         else:
             place_tidily(self.draw, board)
@@ -208,6 +212,8 @@ class Maker:
                 places = PORTS if part.space == IO else PLACES
                 if self.is_vga:
                     places = VGA_PORTS if part.space == IO else VGA_PLACES
+                if self.is_isa and part.space == IO:
+                    places = ISA_PORTS
                 if part.wide and self.one_in(3):
                     places = HIGH_PLACES
                 address = self.draw.choice(places) & ~(part.size - 1)
@@ -239,6 +245,8 @@ class Maker:
             self.give_list(f)
         if f.is_bridge and self.one_in(2 if self.is_vga else 8):
             f.image[BRIDGE_CONTROL] |= self.draw.choice((0x08, 0x18))
+        if f.is_bridge and self.one_in(2 if self.is_isa else 8):
+            f.image[BRIDGE_CONTROL] |= 0x04
         if self.one_in(10):
             f.titles = (self.draw.choice(('VGA compatible controller: X', ' ', '~')), '')
         if self.one_in(10):
@@ -258,11 +266,13 @@ class Maker:
     def say_beside(self):
         """Words of `--model`, and what the host sends."""
         board = self.board
-        if self.is_vga or self.one_in(2):
-            words = self.draw.sample(MODEL_WORDS, self.draw.randrange(0, 8))
+        if self.is_vga or self.is_isa or self.one_in(2):
+            words = self.draw.sample(MODEL_WORDS, self.draw.randrange(0, len(MODEL_WORDS) + 1))
             words += self.draw.choice(([], ['vga'], ['vga16'], ['vga']))
             if self.is_vga and not {'vga', 'vga16'} & set(words):
                 words.append('vga')
+            if self.is_isa and 'isa' not in words:
+                words.append('isa')
             self.draw.shuffle(words)
             board.words = 'all' if self.one_in(6) else ','.join(words) or None
         if self.one_in(3):

@@ -12,7 +12,7 @@ combination of ranges, so the least address with an answer is where a range begi
 from early import early_lines, slot_lines
 from model import IO, MEM, slot_text
 from regions import Given, System, may_share
-from words import legacy_parts, names_of, taken
+from words import isa_bridges, legacy_parts, names_of, taken
 
 
 def address_words(space, address):
@@ -152,9 +152,10 @@ def early_faults(functions, probe_slots, roots, words=None):
 
 
 def system_of(functions, given, words=None):
-    """The system as words take it, with its legacy parts."""
+    """The system as words take it, with its legacy parts and the bridges with ISA Enable."""
     names = names_of(words)
-    given = Given(given.roots, given.host[IO], given.host[MEM], legacy_parts(functions, names))
+    given = Given(given.roots, given.host[IO], given.host[MEM], legacy_parts(functions, names),
+                  isa_bridges(functions, names))
     return System(taken(functions, names), given)
 
 

@@ -8,19 +8,22 @@ from model import IO, MEM, WIDTH
 LEGACY = 0x3E
 VGA_PORTS = ((0x3B0, 0x3BB), (0x3C0, 0x3DF))
 FRAME_BUFFER = (0xA0000, 0xBFFFF)
+KILOBYTE = 0x400
+CUT_END = 0x10000
 
 
 class Given:
-    """What is said beside the functions: root buses, what the host sends, and bridges with legacy parts.
+    """What is said beside the functions: root buses, what the host sends, and bridges with legacy parts or ISA Enable.
 
     `host` has for each space None, where all is sent, or a list of (root or None, first, last). `legacy` has the slots
-    of bridges with legacy parts, and whether they decode 16 bits of a port.
+    of bridges with legacy parts, and whether they decode 16 bits of a port; `isa` those of bridges with ISA Enable.
     """
 
-    def __init__(self, roots, host_io=None, host_mem=None, legacy=None):
+    def __init__(self, roots, host_io=None, host_mem=None, legacy=None, isa=None):
         self.roots = list(roots)
         self.host = {IO: host_io, MEM: host_mem}
         self.legacy = legacy or {}
+        self.isa = isa or set()
 
     def starts(self, space, root, address):
         """Whether an access of the host to an address starts on a root bus."""
@@ -52,6 +55,12 @@ def legacy_ranges(is_wide, space):
     return [(base + first, base + last) for base in repeats for first, last in VGA_PORTS]
 
 
+def isa_ranges(first, last):
+    """What ISA Enable leaves of an I/O window: of each KB below 64 KB the first 256 ports, and all above."""
+    left = [(base, base + 0xFF) for base in range(0, CUT_END, KILOBYTE)] + [(CUT_END, 0xFFFFFFFF)]
+    return [(max(first, low), min(last, high)) for low, high in left if low <= last and first <= high]
+
+
 class Region:
     """A region: of a function, by its register, in a space."""
 
@@ -66,6 +75,7 @@ class Region:
         self.prefetchable = part is not None and part.prefetchable
         self.wide = kind == 'bar' and part.wide
         self.ranges = [(part.first, part.last)] if ranges is None else ranges
+        self.is_cut = part is not None and ranges is not None
         self.name = (f.slot, register)
 
     @property
@@ -76,29 +86,35 @@ class Region:
     @property
     def first(self):
         """Its first address."""
-        return self.ranges[0][0]
+        return self.part.first if self.part else self.ranges[0][0]
 
     @property
     def last(self):
         """Its last address."""
-        return self.ranges[-1][1]
+        return self.part.last if self.part else self.ranges[-1][1]
 
     def claims(self, address):
         """Whether it claims an address of its space."""
         return any(first <= address <= last for first, last in self.ranges)
 
 
-def own_regions(f):
+def own_region(f, part, given):
+    """The region of a part of a function."""
+    is_cut = part.window == 'io' and f.slot in given.isa
+    ranges = isa_ranges(part.first, part.last) if is_cut else None
+    return Region(f, part.register, part.space, part.kind, part, ranges)
+
+
+def own_regions(f, given):
     """The regions that a function's address registers show."""
-    return [Region(f, part.register, part.space, part.kind, part)
-            for part in f.parts() if part.enabled and not part.is_closed]
+    return [own_region(f, part, given) for part in f.parts() if part.enabled and not part.is_closed]
 
 
 def regions_of(functions, given):
     """All regions, by slot and register."""
     regions = []
     for f in functions:
-        regions += own_regions(f)
+        regions += own_regions(f, given)
         if f.slot in given.legacy and f.is_bridge:
             regions += [Region(f, LEGACY, space, 'legacy', None, legacy_ranges(given.legacy[f.slot], space))
                         for space in (IO, MEM) if f.is_on(space)]
@@ -117,7 +133,8 @@ class System:
         self.functions = functions
         self.given = given
         self.regions = regions_of(functions, given)
-        self.windows = {f.slot: [region for region in own_regions(f) if region.kind == 'window'] for f in functions}
+        self.windows = {f.slot: [region for region in own_regions(f, given) if region.kind == 'window']
+                        for f in functions}
         self.ways_to = {}
 
     def ways(self, bus):

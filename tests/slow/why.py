@@ -37,7 +37,8 @@ def region_line(word, region, system):
     """The line of a region."""
     name = '  %s %s %02x ' % (word, slot_text(region.slot), region.register)
     if region.kind != 'legacy':
-        return name + '%s %s' % (part_words(region), range_words(region.space, region.first, region.last))
+        extent = range_words(region.space, region.first, region.last)
+        return name + '%s %s%s' % (part_words(region), extent, ' isa' if region.is_cut else '')
     if region.space != IO:
         return name + 'vga mem 00000000000a0000-00000000000bffff 128K'
     ports = ' io 000003b0-000003bb,000003c0-000003df'
@@ -61,6 +62,8 @@ def bridge_line(system, b, region):
     words += [region.space, window_words(b, region.space)]
     if region.prefetchable:
         words += ['pref', window_words(b, 'pref')]
+    if region.space == IO and b.slot in system.given.isa:
+        words.append('isa')
     if b.slot in system.given.legacy:
         words.append('vga16' if system.given.legacy[b.slot] else 'vga')
     return ' '.join(words)

@@ -1,10 +1,10 @@
-"""The words of `--model`: how functions are taken by a user's words, and which bridges have legacy parts."""
+"""The words of `--model`: how functions are taken by a user's words, and which bridges have legacy parts or ISA Enable."""
 
 from early import decoding_lines, has_window_fault, identity_lines, is_asleep, profile_lines
 from model import (BRIDGE_CONTROL, CLASS, COMMAND, HEADER, STATUS, IO, WINDOWS, bit, number_at, put_bounds,
                    window_bounds)
 
-NAMES = ('cardbus', 'ide', 'power', 'reset', 'subtractive', 'unnumbered', 'vga', 'vga16', 'windows')
+NAMES = ('cardbus', 'ide', 'isa', 'power', 'reset', 'subtractive', 'unnumbered', 'vga', 'vga16', 'windows')
 
 
 def names_of(words):
@@ -24,6 +24,16 @@ def legacy_parts(functions, names):
     if not names & {'vga', 'vga16'}:
         return {}
     return {f.slot: 'vga16' in names or bit(f.bridge_control, 4) for f in functions if has_vga_enable(f)}
+
+
+def has_isa_enable(f):
+    """Whether it is a bridge with ISA Enable."""
+    return f.is_bridge and bit(f.bridge_control, 2)
+
+
+def isa_bridges(functions, names):
+    """The slots of bridges with ISA Enable, where the word for it counts."""
+    return {f.slot for f in functions if has_isa_enable(f)} if 'isa' in names else set()
 
 
 def is_anyone_behind(functions, b):
@@ -133,6 +143,8 @@ def taken(functions, names):
         has_legacy = bool(names & {'vga', 'vga16'}) and has_vga_enable(f)
         if has_legacy:
             f.image[BRIDGE_CONTROL] &= ~8 & 0xFF
+        if 'isa' in names and has_isa_enable(f):
+            f.image[BRIDGE_CONTROL] &= ~4 & 0xFF
         take_registers(f, names)
         take_sleeping(f, names)
         take_bridge(functions, f, names)

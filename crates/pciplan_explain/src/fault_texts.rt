@@ -231,8 +231,8 @@ pub const ISA_ENABLE: &str = "\
   Of the ports in its I/O window the bridge forwards the first 256 of each 1,024
   alone (Bridge 1.2, 3.2.5).
   Mostly: Bridge Control bit 2 is set: older firmware sets it.
-  Do: Clear it, if nothing behind the bridge needs it: what the bit changes
-    isn't judged.
+  Do: faults --model isa judges what the bridge then forwards. To take the bit
+    away, clear it, if nothing behind the bridge needs it.
 ";
 
 pub const SUBTRACTIVE: &str = "\
