@@ -1,0 +1,11 @@
+use Rattle.std.proofs.Common.{arith}
+use Rattle.std.specs.String.{string_bytes}
+use Rattle.pci_picture.specs.Elements.{gap_text}
+use Rattle.pci_picture.proofs.Drawn.{gap_content}
+use Rattle.pci_picture.proofs.Kept.{made}
+use Rattle.pci_picture.proofs.canvas.Canvas.add_gap.Goals as goal
+
+pub keep_box-requires : goal.keep_box-requires
+keep_box-requires g c =
+    made (string_bytes c.clear.new.self) (string_bytes c.push_gap.new.text) (gap_text c.args.x c.args.y c.args.to)
+    (gap_content c.args.x c.args.y c.args.to (omega arith) (omega arith) (omega arith)) c.clear.ensures.bytes c.in_ok-push_gap.ensures

@@ -1,0 +1,10 @@
+use Rattle.std.proofs.Common.{arith}
+use Rattle.std.specs.String.{string_bytes}
+use Rattle.pci_picture.proofs.Kept.{finished}
+use Rattle.pci_picture.proofs.canvas.Canvas.finish.Goals as goal
+
+pub returns : goal.returns
+returns g c = record {
+  closed = finished c.text.result (λ text. string_bytes text) (string_bytes c.args.self.now.boxes) (string_bytes c.args.self.now.words) c.args.width c.args.height
+      (omega arith) (omega arith) c.args.self.now.boxes_closed c.args.self.now.words_closed c.text.ensures;
+}

@@ -1,0 +1,9 @@
+use Rattle.std.specs.String.{string_bytes}
+use Rattle.pci_picture.proofs.Kept.{none_drawn}
+use Rattle.pci_picture.proofs.canvas.Canvas.new.Goals as goal
+
+pub invariant_of-result : goal.invariant_of-result
+invariant_of-result g c = record {
+  boxes_closed = none_drawn (string_bytes c.new.result) c.new.ensures.bytes;
+  words_closed = none_drawn (string_bytes c.new-2.result) c.new-2.ensures.bytes;
+}

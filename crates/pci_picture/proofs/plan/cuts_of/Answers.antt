@@ -1,0 +1,6 @@
+use Rattle.std.proofs.Common.{rules}
+use Rattle.std.proofs.lemmas.List.Sorted.{IsNonDecreasingBy-from_sort_by_key}
+use Rattle.pci_picture.proofs.plan.cuts_of.Goals as goal
+
+pub returns : goal.returns
+returns g c = IsNonDecreasingBy-from_sort_by_key (λ cut. cut.at) _ c.in_ok-sort_by_key.ensures.sorted (λ a r q k. search rules)

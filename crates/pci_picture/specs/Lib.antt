@@ -1,0 +1,4 @@
+pub mod Xml
+pub mod Elements
+pub mod Whole
+pub mod Stacked

@@ -1,0 +1,236 @@
+//! The elements of a picture, at the end of a text.
+ghost use Rattle.std.specs.Prelude.{◌≡◌, ◌++◌, OnOk};
+ghost use Rattle.std.specs.Fmt.{decimal};
+ghost use Rattle.std.specs.String.{string_bytes};
+ghost use Rattle.pci_picture.specs.Xml.{attribute};
+ghost use Rattle.pci_picture.specs.Elements.{escaped_byte, escaped, number_attribute, text_attribute, frame_attributes, rect_attributes, title_text, box_text, place_attributes, words_text, faint_text, axis_words, axis_text, tick_text, gap_text};
+
+use std::alloc::{AllocError, Allocator};
+
+/// Where a rectangle stands, in SVG's own units.
+#[derive(Clone, Copy)]
+pub struct Frame {
+    pub x: u64,
+    pub y: u64,
+    pub width: u64,
+    pub height: u64,
+}
+
+/// Appends a byte as a picture shows it.
+fn push_byte<A: Allocator>(text: &mut String<A>, byte: u8) -> Result<(), AllocError>
+    ensures { OnOk result (string_bytes text.new ≡ string_bytes text.old ++ escaped_byte byte) }
+{
+    if byte == b'&' {
+        text.push_str("&amp;")
+    } else if byte == b'<' {
+        text.push_str("&lt;")
+    } else if byte == b'>' {
+        text.push_str("&gt;")
+    } else if byte == b'"' {
+        text.push_str("&quot;")
+    } else if byte == b'\'' {
+        text.push_str("&#x27;")
+    } else if (b' ' <= byte && byte <= b'~') || byte == b'\n' {
+        text.push(char::from(byte))
+    } else {
+        text.push('?')
+    }
+}
+
+/// Appends bytes as a picture shows them.
+pub fn push_escaped<A: Allocator>(text: &mut String<A>, bytes: &[u8]) -> Result<(), AllocError>
+    ensures { OnOk result (string_bytes text.new ≡ string_bytes text.old ++ escaped bytes.now) }
+{
+    for byte in bytes {
+        push_byte(text, *byte)?;
+    }
+    Ok(())
+}
+
+/// Appends a number.
+pub fn push_decimal<A: Allocator>(text: &mut String<A>, number: u64) -> Result<(), AllocError>
+    ensures { OnOk result (string_bytes text.new ≡ string_bytes text.old ++ decimal number) }
+{
+    write!(text, "{number}")
+}
+
+/// Appends an attribute whose value is a number.
+#[tactic(auto, unfolding(crate::specs::Elements::number_attribute))]
+pub fn push_number<A: Allocator>(
+    text: &mut String<A>,
+    name: &str,
+    number: u64,
+) -> Result<(), AllocError>
+    ensures { OnOk result (string_bytes text.new ≡ string_bytes text.old ++ number_attribute name.now number) }
+{
+    text.push(' ')?;
+    text.push_str(name)?;
+    text.push_str("=\"")?;
+    push_decimal(text, number)?;
+    text.push('"')
+}
+
+/// Appends an attribute whose value is bytes, or nothing where there are none.
+#[tactic(auto, unfolding(crate::specs::Elements::text_attribute))]
+fn push_bytes<A: Allocator>(
+    text: &mut String<A>,
+    name: &str,
+    bytes: &[u8],
+) -> Result<(), AllocError>
+    ensures { OnOk result (string_bytes text.new ≡ string_bytes text.old ++ text_attribute name.now bytes.now) }
+{
+    if bytes.is_empty() {
+        return Ok(());
+    }
+    text.push(' ')?;
+    text.push_str(name)?;
+    text.push_str("=\"")?;
+    push_escaped(text, bytes)?;
+    text.push('"')
+}
+
+/// Appends the attributes of a rectangle.
+#[tactic(auto, unfolding(crate::specs::Elements::frame_attributes))]
+fn push_frame<A: Allocator>(text: &mut String<A>, at: Frame) -> Result<(), AllocError>
+    ensures { OnOk result (string_bytes text.new
+        ≡ string_bytes text.old ++ frame_attributes at.x at.y at.width at.height) }
+{
+    push_number(text, "x", at.x)?;
+    push_number(text, "y", at.y)?;
+    push_number(text, "width", at.width)?;
+    push_number(text, "height", at.height)
+}
+
+/// Appends the attributes of a rectangle, and of its look.
+#[tactic(auto, unfolding(crate::specs::Elements::rect_attributes))]
+fn push_look<A: Allocator>(
+    text: &mut String<A>,
+    at: Frame,
+    class: &[u8],
+    anchor: &[u8],
+) -> Result<(), AllocError>
+    ensures { OnOk result (string_bytes text.new ≡ string_bytes text.old
+        ++ rect_attributes at.x at.y at.width at.height class.now anchor.now) }
+{
+    push_frame(text, at)?;
+    push_bytes(text, "class", class)?;
+    push_bytes(text, "id", anchor)
+}
+
+/// Appends the title of a box.
+#[tactic(auto, unfolding(crate::specs::Elements::title_text))]
+fn push_title<A: Allocator>(text: &mut String<A>, title: &[u8]) -> Result<(), AllocError>
+    ensures { OnOk result (string_bytes text.new ≡ string_bytes text.old ++ title_text title.now) }
+{
+    text.push_str("<title>")?;
+    push_escaped(text, title)?;
+    text.push_str("</title>")
+}
+
+/// Appends a box with its title, and a line feed.
+pub fn push_box<A: Allocator>(
+    text: &mut String<A>,
+    at: Frame,
+    class: &[u8],
+    anchor: &[u8],
+    title: &[u8],
+) -> Result<(), AllocError>
+    ensures { OnOk result (string_bytes text.new ≡ string_bytes text.old
+        ++ box_text at.x at.y at.width at.height class.now anchor.now title.now) }
+{
+    text.push_str("<rect")?;
+    push_look(text, at, class, anchor)?;
+    text.push('>')?;
+    push_title(text, title)?;
+    text.push_str("</rect>\n")
+}
+
+/// Appends the start of a line of words.
+#[tactic(auto, unfolding(crate::specs::Elements::place_attributes))]
+fn push_place<A: Allocator>(text: &mut String<A>, x: u64, y: u64) -> Result<(), AllocError>
+    ensures { OnOk result (string_bytes text.new ≡ string_bytes text.old ++ place_attributes x y) }
+{
+    push_number(text, "x", x)?;
+    push_number(text, "y", y)
+}
+
+/// Appends a line of words, and a line feed.
+pub fn push_words<A: Allocator>(
+    text: &mut String<A>,
+    x: u64,
+    y: u64,
+    class: &[u8],
+    words: &[u8],
+) -> Result<(), AllocError>
+    ensures { OnOk result
+        (string_bytes text.new ≡ string_bytes text.old ++ words_text x y class.now words.now) }
+{
+    text.push_str("<text")?;
+    push_place(text, x, y)?;
+    push_bytes(text, "class", class)?;
+    text.push('>')?;
+    push_escaped(text, words)?;
+    text.push_str("</text>\n")
+}
+
+/// Appends words in grey.
+#[tactic(auto, unfolding(crate::specs::Elements::faint_text))]
+fn push_faint<A: Allocator>(text: &mut String<A>, words: &[u8]) -> Result<(), AllocError>
+    ensures { OnOk result (string_bytes text.new ≡ string_bytes text.old ++ faint_text words.now) }
+{
+    text.push_str("<tspan class=\"faint\">")?;
+    push_escaped(text, words)?;
+    text.push_str("</tspan>")
+}
+
+/// Appends the words at the axis, of which the first ones are grey.
+#[tactic(auto, unfolding(crate::specs::Elements::axis_words))]
+fn push_axis_words<A: Allocator>(
+    text: &mut String<A>,
+    faint: &[u8],
+    words: &[u8],
+) -> Result<(), AllocError>
+    ensures { OnOk result
+        (string_bytes text.new ≡ string_bytes text.old ++ axis_words faint.now words.now) }
+{
+    push_faint(text, faint)?;
+    push_escaped(text, words)
+}
+
+/// Appends a line of words at the axis, of which the first ones are grey, and a line feed.
+pub fn push_axis<A: Allocator>(
+    text: &mut String<A>,
+    x: u64,
+    y: u64,
+    faint: &[u8],
+    words: &[u8],
+) -> Result<(), AllocError>
+    ensures { OnOk result
+        (string_bytes text.new ≡ string_bytes text.old ++ axis_text x y faint.now words.now) }
+{
+    text.push_str("<text")?;
+    push_place(text, x, y)?;
+    push_bytes(text, "class", b"axis")?;
+    text.push('>')?;
+    push_axis_words(text, faint, words)?;
+    text.push_str("</text>\n")
+}
+
+/// Appends a short line at the axis, and a line feed.
+pub fn push_tick<A: Allocator>(text: &mut String<A>, x: u64, y: u64) -> Result<(), AllocError>
+    ensures { OnOk result (string_bytes text.new ≡ string_bytes text.old ++ tick_text x y) }
+{
+    write!(text, "<path d=\"M{x} {y}h4\" class=\"tick\"/>\n")
+}
+
+/// Appends a line over a gap up to `to`, and a line feed.
+pub fn push_gap<A: Allocator>(
+    text: &mut String<A>,
+    x: u64,
+    y: u64,
+    to: u64,
+) -> Result<(), AllocError>
+    ensures { OnOk result (string_bytes text.new ≡ string_bytes text.old ++ gap_text x y to) }
+{
+    write!(text, "<path d=\"M{x} {y}H{to}\" class=\"gap\"/>\n")
+}

@@ -1,0 +1,242 @@
+//! The text of `faults --why`.
+
+use super::memory::OutOfMemory;
+use super::reading::{key_at, slot_number, stripped, word, word_count};
+use std::alloc::Allocator;
+
+/// The regions that a fault is about.
+#[derive(Clone, Copy)]
+pub enum Keys {
+    None,
+    One(u32),
+    Two(u32, u32),
+}
+
+impl Keys {
+    /// The first of them.
+    pub fn first(self) -> Option<u32> {
+        match self {
+            Keys::None => None,
+            Keys::One(key) | Keys::Two(key, _) => Some(key),
+        }
+    }
+
+    /// The last of them, which a line `fits` is about.
+    pub fn last(self) -> Option<u32> {
+        match self {
+            Keys::None => None,
+            Keys::One(key) | Keys::Two(_, key) => Some(key),
+        }
+    }
+}
+
+/// A fault: its number, and which lines tell it.
+#[derive(Clone, Copy)]
+pub struct Fault {
+    pub number: u8,
+    pub keys: Keys,
+    /// The index of its first line.
+    pub begin: usize,
+    /// The index behind its last line.
+    pub end: usize,
+}
+
+impl Fault {
+    /// How many lines tell it.
+    pub fn lines(&self) -> usize {
+        self.end.saturating_sub(self.begin)
+    }
+}
+
+/// A region that a fault is about, and the index of the fault.
+#[derive(Clone, Copy)]
+pub struct Naming {
+    pub key: u32,
+    pub fault: usize,
+}
+
+/// What the tree shows of a fault beside a function.
+#[derive(Clone, Copy, PartialEq, Eq)]
+pub struct Badge {
+    /// The number of the function's slot.
+    pub slot: u32,
+    pub number: u8,
+    /// Whether the fault names it as the bridge.
+    pub is_bridge: bool,
+}
+
+/// All faults.
+#[derive(Drop)]
+pub struct Faults<'a, A: Allocator> {
+    pub lines: Vec<&'a [u8], A>,
+    pub faults: Vec<Fault, A>,
+    /// By rising key, those of a key by rising fault.
+    pub namings: Vec<Naming, A>,
+    /// By rising slot.
+    pub badges: Vec<Badge, A>,
+}
+
+/// The number of a line that tells a fault: two digits and a blank.
+fn fault_number(line: &[u8]) -> Option<u8> {
+    match line {
+        [tens @ b'0'..=b'9', ones @ b'0'..=b'9', b' ', ..] => {
+            Some((*tens - b'0') * 10 + (*ones - b'0'))
+        }
+        _ => None,
+    }
+}
+
+/// The regions that the first line of a fault names.
+fn keys_of(number: u8, line: &[u8]) -> Keys {
+    let count = word_count(line);
+    match number {
+        60 | 63 => match key_at(line, 2) {
+            Some(key) => Keys::One(key),
+            None => Keys::None,
+        },
+        61 | 62 => match (
+            key_at(line, count.saturating_sub(4)),
+            key_at(line, count.saturating_sub(2)),
+        ) {
+            (Some(one), Some(other)) => Keys::Two(one, other),
+            _ => Keys::None,
+        },
+        _ => Keys::None,
+    }
+}
+
+/// The first slot of a line.
+fn first_slot(line: &[u8]) -> Option<u32> {
+    for one in line.split(|byte| *byte == b' ') {
+        if let Some(slot) = slot_number(one) {
+            return Some(slot);
+        }
+    }
+    None
+}
+
+impl<'a, A: Allocator + Copy> Faults<'a, A> {
+    /// Takes the first line of a fault.
+    fn begin(&mut self, number: u8, line: &'a [u8]) -> Result<(), OutOfMemory> {
+        let keys = keys_of(number, line);
+        let fault = self.faults.len();
+        let begin = self.lines.len();
+        self.lines.push(line)?;
+        self.faults.push(Fault {
+            number,
+            keys,
+            begin,
+            end: self.lines.len(),
+        })?;
+        self.name(keys, fault)?;
+        self.mark(number, keys, line)
+    }
+
+    /// Takes the regions that a fault is about.
+    fn name(&mut self, keys: Keys, fault: usize) -> Result<(), OutOfMemory> {
+        match keys {
+            Keys::None => {}
+            Keys::One(key) => self.namings.push(Naming { key, fault })?,
+            Keys::Two(one, other) => {
+                self.namings.push(Naming { key: one, fault })?;
+                self.namings.push(Naming { key: other, fault })?;
+            }
+        }
+        Ok(())
+    }
+
+    /// Takes what the tree shows of a fault.
+    fn mark(&mut self, number: u8, keys: Keys, line: &[u8]) -> Result<(), OutOfMemory> {
+        if number == 60 {
+            let last = word(line, word_count(line).saturating_sub(1));
+            if let Some(slot) = slot_number(last) {
+                self.badge(slot, number, true)?;
+            }
+        }
+        match keys {
+            Keys::One(key) => self.badge(key >> 8, number, false),
+            Keys::Two(one, other) => {
+                self.badge(one >> 8, number, false)?;
+                self.badge(other >> 8, number, false)
+            }
+            Keys::None => match first_slot(line) {
+                Some(slot) => self.badge(slot, number, false),
+                None => Ok(()),
+            },
+        }
+    }
+
+    /// Takes one mark.
+    fn badge(&mut self, slot: u32, number: u8, is_bridge: bool) -> Result<(), OutOfMemory> {
+        self.badges.push(Badge {
+            slot,
+            number,
+            is_bridge,
+        })?;
+        Ok(())
+    }
+
+    /// Takes a line behind a fault.
+    fn reason(&mut self, line: &'a [u8]) -> Result<(), OutOfMemory> {
+        if let Some(fault) = self.faults.last_mut() {
+            self.lines.push(line)?;
+            fault.end = self.lines.len();
+        }
+        Ok(())
+    }
+
+    /// The faults of a list with reasons.
+    pub fn read(alloc: A, text: &'a str) -> Result<Faults<'a, A>, OutOfMemory> {
+        let mut faults = Faults {
+            lines: Vec::new(alloc),
+            faults: Vec::new(alloc),
+            namings: Vec::new(alloc),
+            badges: Vec::new(alloc),
+        };
+        for line in text.split('\n') {
+            let line = line.as_bytes();
+            if let Some(number) = fault_number(line) {
+                faults.begin(number, line)?;
+            } else if line.starts_with(b"  ") {
+                faults.reason(stripped(line))?;
+            }
+        }
+        faults
+            .namings
+            .sort_by_key(|naming| (naming.key, naming.fault))?;
+        faults
+            .badges
+            .sort_by_key(|badge| (badge.slot, badge.number, badge.is_bridge))?;
+        Ok(faults)
+    }
+
+    /// The line with an index, or nothing behind the last one.
+    pub fn line(&self, index: usize) -> &'a [u8] {
+        match self.lines.get(index) {
+            Some(line) => line,
+            None => &[],
+        }
+    }
+
+    /// The faults that are about a region.
+    pub fn of(&self, key: u32) -> &[Naming] {
+        let begin = self.namings.partition_point(|naming| naming.key < key);
+        let end = self.namings.partition_point(|naming| naming.key <= key);
+        self.namings.as_slice().get(begin..end).unwrap_or(&[])
+    }
+
+    /// What the tree shows beside a function.
+    pub fn beside(&self, slot: u32) -> &[Badge] {
+        let begin = self.badges.partition_point(|badge| badge.slot < slot);
+        let end = self.badges.partition_point(|badge| badge.slot <= slot);
+        self.badges.as_slice().get(begin..end).unwrap_or(&[])
+    }
+
+    /// Whether a fault about a region has one of two numbers.
+    pub fn has(&self, key: u32, one: u8, other: u8) -> bool {
+        self.of(key)
+            .iter()
+            .filter_map(|naming| self.faults.get(naming.fault))
+            .any(|fault| fault.number == one || fault.number == other)
+    }
+}

@@ -1,0 +1,105 @@
+//! Words, numbers and slots of a line.
+
+/// The word of a line at an index, or nothing where it has fewer.
+pub fn word(line: &[u8], index: usize) -> &[u8] {
+    line.split(|byte| *byte == b' ')
+        .filter(|word| !word.is_empty())
+        .nth(index)
+        .unwrap_or(&[])
+}
+
+/// How many words a line has.
+pub fn word_count(line: &[u8]) -> usize {
+    line.split(|byte| *byte == b' ')
+        .filter(|word| !word.is_empty())
+        .count()
+}
+
+/// A line without the blanks that it begins with.
+pub fn stripped(line: &[u8]) -> &[u8] {
+    let blanks = line
+        .iter()
+        .position(|byte| *byte != b' ')
+        .unwrap_or(line.len());
+    line.get(blanks..).unwrap_or(&[])
+}
+
+/// The value of a hex digit in lower case.
+fn nibble(digit: u8) -> Option<u8> {
+    match digit {
+        b'0'..=b'9' => Some(digit - b'0'),
+        b'a'..=b'f' => Some(digit - b'a' + 10),
+        _ => None,
+    }
+}
+
+/// The number of at most 16 hex digits.
+pub fn hex_number(digits: &[u8]) -> Option<u64> {
+    if digits.is_empty() || 16 < digits.len() {
+        return None;
+    }
+    let mut number = 0u64;
+    for digit in digits {
+        number = (number << 4) | u64::from(nibble(*digit)?);
+    }
+    Some(number)
+}
+
+/// The number of two hex digits.
+pub fn hex_byte(digits: &[u8]) -> Option<u8> {
+    match digits {
+        [high, low] => Some((nibble(*high)? << 4) | nibble(*low)?),
+        _ => None,
+    }
+}
+
+/// The number of a slot `bb:dd.f`, in hex `bbddf`.
+pub fn slot_number(text: &[u8]) -> Option<u32> {
+    if text.len() != 7 || text[2] != b':' || text[5] != b'.' {
+        return None;
+    }
+    let bus = hex_byte(&text[..2])?;
+    let device = hex_byte(&text[3..5])?;
+    let function = nibble(text[6])?;
+    Some((u32::from(bus) << 12) | (u32::from(device) << 4) | u32::from(function))
+}
+
+/// The bus of a slot's number.
+pub fn bus_of(slot: u32) -> u8 {
+    ((slot >> 12) % 256) as u8
+}
+
+/// The number by which a region is named: that of its slot, and its register.
+pub fn region_key(slot: u32, register: u8) -> u32 {
+    (slot << 8) | u32::from(register)
+}
+
+/// The region that two words of a line name: a slot and a register.
+pub fn key_at(line: &[u8], index: usize) -> Option<u32> {
+    let slot = slot_number(word(line, index))?;
+    let register = hex_byte(word(line, index.saturating_add(1)))?;
+    Some(region_key(slot, register))
+}
+
+/// First and last address, both inclusive, and how many digits each has.
+#[derive(Clone, Copy)]
+pub struct Extent {
+    pub first: u64,
+    pub last: u64,
+    pub digits: usize,
+}
+
+/// The range of a word `F-L`.
+pub fn extent_of(text: &[u8]) -> Option<Extent> {
+    let dash = text.iter().position(|byte| *byte == b'-')?;
+    let first = hex_number(text.get(..dash)?)?;
+    let last = hex_number(text.get(dash..)?.get(1..)?)?;
+    if last < first {
+        return None;
+    }
+    Some(Extent {
+        first,
+        last,
+        digits: dash,
+    })
+}

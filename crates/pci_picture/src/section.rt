@@ -1,0 +1,377 @@
+//! A section of a map: its axis, its boxes, and what its faults say of addresses.
+
+use super::board::Board;
+use super::canvas::{Canvas, Label, Shape};
+use super::elements::Frame;
+use super::faults::Faults;
+use super::heights::{Heights, LINE, Run};
+use super::lanes::Width;
+use super::memory::OutOfMemory;
+use super::plan::{AXIS, Placed, Plan, Site, Told, with_key};
+use super::region::{Part, Region};
+use super::words::Words;
+use std::alloc::Allocator;
+
+/// Draws one run at the axis.
+fn draw_run<A: Allocator + Copy>(
+    alloc: A,
+    canvas: &mut Canvas<A>,
+    site: &Site,
+    digits: usize,
+    run: &Run,
+) -> Result<(), OutOfMemory> {
+    let axis = site.x.saturating_add(AXIS);
+    let (x, y) = (axis.saturating_sub(6), run.y.saturating_add(11));
+    let mut words = Words::new(alloc);
+    if run.is_covered {
+        words.put_hex(low_bits(run.begin), digits)?;
+        let bytes = words.bytes.as_slice();
+        let zeros = bytes
+            .iter()
+            .position(|byte| *byte != b'0')
+            .unwrap_or(bytes.len());
+        let faint = bytes.get(..zeros).unwrap_or(&[]);
+        canvas.add_axis(x, y, faint, bytes.get(zeros..).unwrap_or(&[]))?;
+        canvas.add_tick(axis.saturating_sub(4), run.y)
+    } else {
+        words.put(b"to ")?;
+        words.put_hex(low_bits(run.begin.saturating_sub(1)), digits)?;
+        canvas.add_axis(x, y, words.bytes.as_slice(), b"")?;
+        let right = axis.saturating_add(site.width);
+        canvas.add_gap(axis, run.y.saturating_add(run.height / 2), right)
+    }
+}
+
+/// An address of 64 bits.
+fn low_bits(address: u128) -> u64 {
+    (address % (1 << 64)) as u64
+}
+
+/// Draws the axis of a section.
+fn draw_axis<A: Allocator + Copy>(
+    alloc: A,
+    canvas: &mut Canvas<A>,
+    site: &Site,
+    regions: &[Region<'_>],
+    heights: &Heights<A>,
+) -> Result<(), OutOfMemory> {
+    let mut digits = 0;
+    let mut last = 0;
+    for (index, region) in regions.iter().enumerate() {
+        if index == 0 {
+            digits = region.digits;
+        }
+        last = region.last.max(last);
+    }
+    for run in &heights.runs {
+        draw_run(alloc, canvas, site, digits, run)?;
+    }
+    let mut words = Words::of(alloc, b"to ")?;
+    words.put_hex(last, digits)?;
+    let label = Label {
+        x: site.x.saturating_add(AXIS - 6),
+        y: heights.bottom.saturating_add(11),
+        class: b"axis faint",
+    };
+    canvas.add_heading(label, words.bytes.as_slice())
+}
+
+/// The classes of a region's box.
+fn class_of<A: Allocator + Copy>(
+    words: &mut Words<A>,
+    faults: &Faults<'_, A>,
+    region: &Region<'_>,
+    is_lost: bool,
+) -> Result<(), OutOfMemory> {
+    words.put(match region.part {
+        Part::Bar => b"bar",
+        Part::Prefetchable => b"pref",
+        Part::Rom => b"rom",
+        Part::Window => b"window",
+        Part::Free => b"free",
+    })?;
+    if faults.has(region.key, 61, 62) {
+        words.put(b" clash")?;
+    }
+    if is_lost || faults.has(region.key, 60, 63) {
+        words.put(b" lost")?;
+    }
+    Ok(())
+}
+
+/// Puts the numbers of a region's faults there, each once, with a colon behind them. Says whether there is one.
+fn put_marks<A: Allocator + Copy>(
+    words: &mut Words<A>,
+    faults: &Faults<'_, A>,
+    region: &Region<'_>,
+) -> Result<bool, OutOfMemory> {
+    let mut is_marked = false;
+    for number in 60..64u8 {
+        if faults.has(region.key, number, number) {
+            if is_marked {
+                words.put(b" ")?;
+            }
+            words.put(&[b'0' + number / 10, b'0' + number % 10])?;
+            is_marked = true;
+        }
+    }
+    if is_marked {
+        words.put(b": ")?;
+    }
+    Ok(is_marked)
+}
+
+/// Draws the box of a region.
+fn draw_box<A: Allocator + Copy>(
+    alloc: A,
+    canvas: &mut Canvas<A>,
+    board: &Board<'_, A>,
+    placed: &Placed<'_>,
+    at: Frame,
+) -> Result<(), OutOfMemory> {
+    let region = &placed.region;
+    let mut class = Words::new(alloc);
+    class_of(&mut class, &board.faults, region, placed.is_lost)?;
+    let mut anchor = Words::new(alloc);
+    if region.part != Part::Free {
+        anchor.put(b"r")?;
+        anchor.put(region.slot)?;
+        anchor.put(b"-")?;
+        anchor.put(region.register)?;
+    }
+    let mut title = Words::new(alloc);
+    board.put_title(&mut title, region)?;
+    let shape = Shape {
+        at,
+        class: class.bytes.as_slice(),
+        anchor: anchor.bytes.as_slice(),
+    };
+    canvas.add_box(shape, title.bytes.as_slice())
+}
+
+/// Writes the words in the box of a region.
+fn write_region<A: Allocator + Copy>(
+    alloc: A,
+    canvas: &mut Canvas<A>,
+    board: &Board<'_, A>,
+    placed: &Placed<'_>,
+    at: Frame,
+) -> Result<(), OutOfMemory> {
+    let region = &placed.region;
+    let mut words = Words::new(alloc);
+    let width = placed.width;
+    let inner = if region.part == Part::Window {
+        width.inner
+    } else {
+        width.right
+    };
+    let room = inner.saturating_sub(width.left).saturating_sub(6);
+    let mut label = Label {
+        x: width.left.saturating_add(5),
+        y: at.y.saturating_add(11),
+        class: b"",
+    };
+    match region.part {
+        Part::Free => {
+            label.class = b"quiet";
+            words.put(b"free ")?;
+            words.put_size(region.size)?;
+        }
+        Part::Window => {
+            label.class = b"bold";
+            words.put_region(region)?;
+        }
+        _ => {
+            if put_marks(&mut words, &board.faults, region)? {
+                label.class = b"alarm";
+            }
+            words.put_region(region)?;
+            words.put(b", ")?;
+            words.put_name(board.function(region))?;
+        }
+    }
+    canvas.add_cut(label, &mut words, room)?;
+    if region.part == Part::Window && 2 * LINE <= at.height.saturating_add(1) {
+        write_buses(alloc, canvas, board, region, label, room)?;
+    }
+    Ok(())
+}
+
+/// Writes the buses behind a window below its first line.
+fn write_buses<A: Allocator + Copy>(
+    alloc: A,
+    canvas: &mut Canvas<A>,
+    board: &Board<'_, A>,
+    region: &Region<'_>,
+    above: Label<'_>,
+    room: u64,
+) -> Result<(), OutOfMemory> {
+    let mut words = Words::of(alloc, b"to ")?;
+    words.put_buses(board.buses(region))?;
+    let label = Label {
+        x: above.x,
+        y: above.y.saturating_add(12),
+        class: b"quiet",
+    };
+    canvas.add_cut(label, &mut words, room)
+}
+
+/// Where the box of a region stands.
+fn frame_of<A: Allocator + Copy>(heights: &Heights<A>, placed: &Placed<'_>) -> Frame {
+    let y = heights.y(u128::from(placed.region.first));
+    let end = heights.y(u128::from(placed.region.last) + 1);
+    let width = placed
+        .width
+        .right
+        .saturating_sub(placed.width.left)
+        .saturating_sub(2);
+    Frame {
+        x: placed.width.left,
+        y,
+        width: width.max(1),
+        height: end.saturating_sub(y).saturating_sub(1),
+    }
+}
+
+/// Draws the range that two regions share, over both.
+fn draw_shared<A: Allocator + Copy>(
+    alloc: A,
+    canvas: &mut Canvas<A>,
+    board: &Board<'_, A>,
+    plan: &Plan<'_, A>,
+    range: &Told,
+) -> Result<(), OutOfMemory> {
+    let Some(fault) = board.faults.faults.get(range.fault) else {
+        return Ok(());
+    };
+    let mut left = u64::MAX;
+    let mut right = 0;
+    for naming in [fault.keys.first(), fault.keys.last()] {
+        let Some(key) = naming else {
+            continue;
+        };
+        for one in with_key(plan.keys.as_slice(), key) {
+            if let Some(placed) = plan.placed.get(one.index) {
+                left = placed.width.left.min(left);
+                right = placed.width.right.saturating_sub(2).max(right);
+            }
+        }
+    }
+    if left == u64::MAX {
+        return Ok(());
+    }
+    let y = plan.heights.y(u128::from(range.first));
+    let end = plan.heights.y(u128::from(range.last) + 1);
+    let at = Frame {
+        x: left,
+        y,
+        width: right.saturating_sub(left).max(1),
+        height: end.saturating_sub(y).saturating_sub(1).max(3),
+    };
+    let mut title = Words::new(alloc);
+    board.put_fault(&mut title, fault)?;
+    let shape = Shape {
+        at,
+        class: b"shared",
+        anchor: b"",
+    };
+    canvas.add_box(shape, title.bytes.as_slice())
+}
+
+/// Draws where the region that a fault names would fit, over the first free line that has the range.
+fn draw_fits<A: Allocator + Copy>(
+    alloc: A,
+    canvas: &mut Canvas<A>,
+    board: &Board<'_, A>,
+    plan: &Plan<'_, A>,
+    range: &Told,
+) -> Result<(), OutOfMemory> {
+    let (Some(fault), Some(free)) = (board.faults.faults.get(range.fault), free_line(plan, range))
+    else {
+        return Ok(());
+    };
+    let y = plan.heights.y(u128::from(range.first));
+    let end = plan.heights.y(u128::from(range.last) + 1);
+    let width = free.right.saturating_sub(2).saturating_sub(free.left);
+    let at = Frame {
+        x: free.left.saturating_add(90),
+        y: y.saturating_add(1),
+        width: width.saturating_sub(92).max(1),
+        height: end.saturating_sub(y).saturating_sub(3),
+    };
+    let mut title = Words::new(alloc);
+    board.put_fault(&mut title, fault)?;
+    let shape = Shape {
+        at,
+        class: b"fits",
+        anchor: b"",
+    };
+    canvas.add_box(shape, title.bytes.as_slice())?;
+    let label = Label {
+        x: free.left.saturating_add(96),
+        y: y.saturating_add(11),
+        class: b"good",
+    };
+    let mut words = Words::new(alloc);
+    if let Some(one) = fault
+        .keys
+        .last()
+        .and_then(|key| with_key(plan.keys.as_slice(), key).first())
+    {
+        if let Some(placed) = plan.placed.get(one.index) {
+            words.put(placed.region.slot)?;
+            words.put(b" ")?;
+            words.put(placed.region.register)?;
+        }
+    }
+    words.put(b" would fit")?;
+    canvas.add_cut(label, &mut words, width.saturating_sub(100))
+}
+
+/// The width of the first free line that has a range.
+fn free_line<A: Allocator + Copy>(plan: &Plan<'_, A>, range: &Told) -> Option<Width> {
+    for placed in &plan.placed {
+        let region = &placed.region;
+        if region.part == Part::Free && region.first <= range.first && range.last <= region.last {
+            return Some(placed.width);
+        }
+    }
+    None
+}
+
+/// Draws a section. Its answer is where it ends.
+pub fn draw_section<A: Allocator + Copy>(
+    alloc: A,
+    canvas: &mut Canvas<A>,
+    board: &Board<'_, A>,
+    site: &Site,
+    (regions, lost): (&[Region<'_>], &[Region<'_>]),
+) -> Result<u64, OutOfMemory> {
+    let mut heading = Words::of(alloc, b"bus ")?;
+    heading.put_hex(u64::from(site.bus), 2)?;
+    heading.put(if site.is_io { b", I/O" } else { b", memory" })?;
+    let label = Label {
+        x: site.x,
+        y: site.y.saturating_add(13),
+        class: b"head",
+    };
+    canvas.add_heading(label, heading.bytes.as_slice())?;
+    let plan = Plan::of(alloc, &board.faults, site, regions, lost)?;
+    let mut every = Vec::new(alloc);
+    for placed in &plan.placed {
+        every.push(placed.region)?;
+    }
+    draw_axis(alloc, canvas, site, every.as_slice(), &plan.heights)?;
+    for placed in &plan.placed {
+        let at = frame_of(&plan.heights, placed);
+        draw_box(alloc, canvas, board, placed, at)?;
+        write_region(alloc, canvas, board, placed, at)?;
+    }
+    for range in &plan.tellings.shared {
+        draw_shared(alloc, canvas, board, &plan, range)?;
+    }
+    for range in &plan.tellings.fits {
+        draw_fits(alloc, canvas, board, &plan, range)?;
+    }
+    Ok(plan.heights.bottom.saturating_add(30))
+}

@@ -1,0 +1,200 @@
+//! The tree of buses.
+
+use super::board::Board;
+use super::canvas::{Canvas, Label, Shape};
+use super::elements::Frame;
+use super::function::Function;
+use super::heights::LINE;
+use super::memory::OutOfMemory;
+use super::reading::bus_of;
+use super::words::Words;
+use std::alloc::Allocator;
+
+/// The width of the tree.
+pub const TREE: u64 = 400;
+
+/// Where the tree begins from the left.
+pub const LEFT: u64 = 16;
+
+/// The step to the right for what is behind a bridge, and up to which depth there is one.
+const STEP: u64 = 14;
+
+const DEEPEST: u64 = 12;
+
+/// What of a bus is left to be drawn: functions from an index up to another, so deep.
+#[derive(Clone, Copy)]
+struct Rest {
+    next: usize,
+    end: usize,
+    depth: u64,
+}
+
+/// Which functions are on a bus.
+fn on_bus<A: Allocator + Copy>(board: &Board<'_, A>, bus: u8, depth: u64) -> Rest {
+    let functions = &board.functions;
+    Rest {
+        next: functions.partition_point(|function| bus_of(function.number) < bus),
+        end: functions.partition_point(|function| bus_of(function.number) <= bus),
+        depth,
+    }
+}
+
+/// Puts what the tree shows of the faults of a function there.
+fn put_badges<A: Allocator + Copy>(
+    words: &mut Words<A>,
+    board: &Board<'_, A>,
+    function: &Function<'_>,
+) -> Result<(), OutOfMemory> {
+    let mut before = None;
+    for badge in board.faults.beside(function.number) {
+        if before == Some(*badge) {
+            continue;
+        }
+        if before.is_some() {
+            words.put(b" ")?;
+        }
+        words.put(&[b'0' + badge.number / 10 % 10, b'0' + badge.number % 10])?;
+        if badge.is_bridge {
+            words.put(b" bridge")?;
+        }
+        before = Some(*badge);
+    }
+    Ok(())
+}
+
+/// Draws the row of a function.
+fn draw_row<A: Allocator + Copy>(
+    alloc: A,
+    canvas: &mut Canvas<A>,
+    board: &Board<'_, A>,
+    function: &Function<'_>,
+    (depth, y): (u64, u64),
+) -> Result<(), OutOfMemory> {
+    let x = LEFT + STEP * depth.min(DEEPEST);
+    let base = y.saturating_add(10);
+    let mut badges = Words::new(alloc);
+    put_badges(&mut badges, board, function)?;
+    let taken = (badges.bytes.len() as u64).saturating_mul(7);
+    let class: &[u8] = match function.buses {
+        Some(_) => b"window",
+        None if function.is_on => b"bar",
+        None => b"off",
+    };
+    let at = Frame {
+        x,
+        y: y.saturating_add(2),
+        width: 8,
+        height: 9,
+    };
+    let shape = Shape {
+        at,
+        class,
+        anchor: b"",
+    };
+    canvas.add_box(shape, function.slot)?;
+    let mut words = Words::of(alloc, function.slot)?;
+    words.put(b" ")?;
+    if function.buses.is_some() {
+        words.put(b"to ")?;
+        words.put_buses(function.buses)?;
+        words.put(b", ")?;
+    }
+    words.put_name(Some(*function))?;
+    let look: &[u8] = if !badges.bytes.is_empty() {
+        b"alarm"
+    } else if function.is_on {
+        b""
+    } else {
+        b"quiet"
+    };
+    let label = Label {
+        x: x + 14,
+        y: base,
+        class: look,
+    };
+    let room = (LEFT + TREE - 36).saturating_sub(x).saturating_sub(taken);
+    canvas.add_cut(label, &mut words, room)?;
+    let beside = Label {
+        x: (LEFT + TREE - 16).saturating_sub(taken),
+        y: base,
+        class: b"alarm bold",
+    };
+    canvas.add_words(beside, badges.bytes.as_slice())
+}
+
+/// Draws a root bus and what is behind its bridges. Each bus is drawn once. Its answer is where the next row stands.
+fn draw_bus<A: Allocator + Copy>(
+    alloc: A,
+    canvas: &mut Canvas<A>,
+    board: &Board<'_, A>,
+    drawn: &mut [bool; 256],
+    (root, top): (u8, u64),
+) -> Result<u64, OutOfMemory> {
+    let mut y = top;
+    let mut rests = Vec::new(alloc);
+    rests.push(on_bus(board, root, 0))?;
+    drawn[root as usize] = true;
+    // each function is drawn once, and each bus ends once
+    let steps = board.functions.len().saturating_add(256);
+    for _ in 0..steps {
+        let Some(rest) = rests.pop() else {
+            break;
+        };
+        if rest.end <= rest.next {
+            continue;
+        }
+        let Some(function) = board.functions.get(rest.next) else {
+            continue;
+        };
+        draw_row(alloc, canvas, board, function, (rest.depth, y))?;
+        y = y.saturating_add(LINE);
+        rests.push(Rest {
+            next: rest.next.saturating_add(1),
+            end: rest.end,
+            depth: rest.depth,
+        })?;
+        if let Some(buses) = function.buses {
+            let behind = buses.secondary as usize;
+            if !drawn[behind] {
+                drawn[behind] = true;
+                rests.push(on_bus(board, buses.secondary, rest.depth.saturating_add(1)))?;
+            }
+        }
+    }
+    Ok(y)
+}
+
+/// Draws the functions, each bridge with what is behind it below it. Its answer is where the tree ends.
+pub fn draw_tree<A: Allocator + Copy>(
+    alloc: A,
+    canvas: &mut Canvas<A>,
+    board: &Board<'_, A>,
+    top: u64,
+) -> Result<u64, OutOfMemory> {
+    let mut has_functions = [false; 256];
+    let mut is_behind = [false; 256];
+    for function in &board.functions {
+        has_functions[bus_of(function.number) as usize] = true;
+        if let Some(buses) = function.buses {
+            is_behind[buses.secondary as usize] = buses.secondary != 0;
+        }
+    }
+    let mut drawn = [false; 256];
+    let mut y = top;
+    for bus in 0..256u16 {
+        let index = bus as usize;
+        if has_functions[index] && !is_behind[index] && !drawn[index] {
+            let mut words = Words::of(alloc, b"bus ")?;
+            words.put_hex(u64::from(bus), 2)?;
+            let label = Label {
+                x: LEFT,
+                y: y.saturating_add(11),
+                class: b"bold",
+            };
+            canvas.add_heading(label, words.bytes.as_slice())?;
+            let below = y.saturating_add(LINE + 2);
+            y = draw_bus(alloc, canvas, board, &mut drawn, (bus as u8, below))?.saturating_add(8);
+        }
+    }
+    Ok(y)
+}

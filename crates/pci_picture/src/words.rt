@@ -1,0 +1,184 @@
+//! A line of words while it is put together.
+
+use super::function::{Buses, Function};
+use super::memory::OutOfMemory;
+use super::reading::hex_byte;
+use super::region::Region;
+use std::alloc::Allocator;
+
+/// The hex digit of a number below 16.
+fn digit(number: u8) -> u8 {
+    match number % 16 {
+        small @ 0..=9 => b'0' + small,
+        large => b'a' + (large - 10),
+    }
+}
+
+/// A line of words.
+#[derive(Drop)]
+pub struct Words<A: Allocator> {
+    pub bytes: Vec<u8, A>,
+}
+
+impl<A: Allocator + Copy> Words<A> {
+    /// No words.
+    pub fn new(alloc: A) -> Words<A> {
+        Words {
+            bytes: Vec::new(alloc),
+        }
+    }
+
+    /// Some words.
+    pub fn of(alloc: A, bytes: &[u8]) -> Result<Words<A>, OutOfMemory> {
+        let mut words = Words::new(alloc);
+        words.put(bytes)?;
+        Ok(words)
+    }
+
+    /// Appends bytes.
+    pub fn put(&mut self, bytes: &[u8]) -> Result<(), OutOfMemory> {
+        self.bytes.extend_from_slice(bytes)?;
+        Ok(())
+    }
+
+    /// Appends a number in so many hex digits, at most 16.
+    pub fn put_hex(&mut self, number: u64, digits: usize) -> Result<(), OutOfMemory> {
+        let digits = digits.min(16) as u32;
+        for done in 0..digits {
+            let shifted = number >> (4 * (digits - 1 - done));
+            self.bytes.push(digit((shifted % 16) as u8))?;
+        }
+        Ok(())
+    }
+
+    /// Appends a number in decimal digits.
+    pub fn put_number(&mut self, alloc: A, number: usize) -> Result<(), OutOfMemory> {
+        let digits = number.to_string(alloc)?;
+        self.put(digits.as_bytes())
+    }
+
+    /// Appends a number of addresses, as `4K`, or `32 B`.
+    pub fn put_size(&mut self, size: &[u8]) -> Result<(), OutOfMemory> {
+        self.put(size)?;
+        if size.iter().all(|byte| byte.is_ascii_digit()) {
+            self.put(b" B")?;
+        }
+        Ok(())
+    }
+
+    /// Appends the buses behind a bridge.
+    pub fn put_buses(&mut self, buses: Option<Buses>) -> Result<(), OutOfMemory> {
+        match buses {
+            Some(buses) if buses.subordinate != 0 => {
+                if buses.secondary == buses.subordinate {
+                    self.put(b"bus ")?;
+                    self.put_hex(u64::from(buses.secondary), 2)
+                } else {
+                    self.put(b"buses ")?;
+                    self.put_hex(u64::from(buses.secondary), 2)?;
+                    self.put(b"-")?;
+                    self.put_hex(u64::from(buses.subordinate), 2)
+                }
+            }
+            _ => self.put(b"no bus"),
+        }
+    }
+
+    /// Appends the title of a function, else what its class is and its two identifiers.
+    pub fn put_name(&mut self, function: Option<Function<'_>>) -> Result<(), OutOfMemory> {
+        let Some(function) = function else {
+            return Ok(());
+        };
+        if !function.title.is_empty() {
+            return self.put(function.title);
+        }
+        match class_name(function.class) {
+            Some(name) => self.put(name.as_bytes())?,
+            None => {
+                self.put(b"class ")?;
+                self.put(function.class)?;
+            }
+        }
+        self.put(b" ")?;
+        self.put(function.vendor)?;
+        self.put(b":")?;
+        self.put(function.device)
+    }
+
+    /// Appends slot, register and size of a region, as `00:1f.2 24, 2K`.
+    pub fn put_region(&mut self, region: &Region<'_>) -> Result<(), OutOfMemory> {
+        self.put(region.slot)?;
+        self.put(b" ")?;
+        self.put(region.register)?;
+        self.put(b", ")?;
+        self.put_size(region.size)
+    }
+
+    /// Cuts the words to what has room in a width. Words that are cut end in two dots.
+    pub fn cut(&mut self, width: u64) -> Result<(), OutOfMemory> {
+        let inside = width.saturating_sub(3);
+        let room = (inside / 6).saturating_sub(inside / 1000);
+        if (self.bytes.len() as u64) <= room {
+            return Ok(());
+        }
+        if room <= 3 {
+            self.bytes.clear();
+            return Ok(());
+        }
+        self.bytes.truncate((room - 2) as usize);
+        self.put(b"..")
+    }
+}
+
+/// What the functions of a base class are, or of a base class and a subclass.
+fn class_name(class: &[u8]) -> Option<&'static str> {
+    let base = hex_byte(class.get(..2)?)?;
+    let below = hex_byte(class.get(2..4)?)?;
+    match (base, below) {
+        (0x00, _) => Some("old device"),
+        (0x01, _) => Some(storage_name(below)),
+        (0x02, 0x00) => Some("Ethernet controller"),
+        (0x02, 0x07) => Some("InfiniBand controller"),
+        (0x02, _) => Some("network"),
+        (0x03, 0x00) => Some("VGA display"),
+        (0x03, _) => Some("display"),
+        (0x04, 0x03) => Some("audio device"),
+        (0x04, _) => Some("multimedia"),
+        (0x05, _) => Some("memory"),
+        (0x06, _) => Some(bridge_name(below)),
+        (0x07, 0x00) => Some("serial port"),
+        (0x07, _) => Some("communication"),
+        (0x08, _) => Some("system device"),
+        (0x09, _) => Some("input"),
+        (0x0b, 0x40) => Some("co-processor"),
+        (0x0b, _) => Some("processor"),
+        (0x0c, 0x03) => Some("USB controller"),
+        (0x0c, 0x05) => Some("SMBus"),
+        (0x0c, _) => Some("serial bus"),
+        (0x10, _) => Some("encryption"),
+        (0x11, _) => Some("signal processing"),
+        (0x12, _) => Some("accelerator"),
+        _ => None,
+    }
+}
+
+/// The same of mass storage.
+fn storage_name(below: u8) -> &'static str {
+    match below {
+        0x01 => "IDE controller",
+        0x04 => "RAID controller",
+        0x06 => "SATA controller",
+        0x07 => "SAS controller",
+        0x08 => "NVMe controller",
+        _ => "storage",
+    }
+}
+
+/// The same of bridges.
+fn bridge_name(below: u8) -> &'static str {
+    match below {
+        0x00 => "host bridge",
+        0x01 => "ISA bridge",
+        _ => "bridge",
+    }
+}
