@@ -1,5 +1,5 @@
 //! The program: `pciplan TASK DUMP PROBE`, where `probe` takes sizes in the place of a probe; `pciplan here`, which reads the
-//! machine that it runs on; `explain`, `version` and `json`.
+//! machine that it runs on; `explain`, `version`, `json` and `picture`.
 #![tactic(auto)]
 
 use pci_dump::std_streams::Outgoing;

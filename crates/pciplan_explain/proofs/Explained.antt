@@ -70,6 +70,7 @@ names_name commands.Plan = refl
 names_name commands.Settle = refl
 names_name commands.Probe = refl
 names_name commands.Json = refl
+names_name commands.Picture = refl
 names_name commands.Explain = refl
 names_name commands.Version = refl
 

@@ -1,8 +1,8 @@
 -- The commands that are explained.
 use Rattle.std.specs.Prelude.{ℕ, List, ◌++◌, codes}
 use Rattle.pciplan_explain.specs.declared.command.Command.{Command}
-use Rattle.pciplan_explain.specs.declared.command.Command.TheVariants.{Here, Show, Check, Faults, Map, Size, Plan, Settle, Probe, Json, Explain, Version}
-use Rattle.pciplan_explain.specs.declared.command_texts.TheConstants.{HERE, SHOW, CHECK, FAULTS, MAP, SIZE, PLAN, SETTLE, PROBE, JSON, EXPLAIN, VERSION}
+use Rattle.pciplan_explain.specs.declared.command.Command.TheVariants.{Here, Show, Check, Faults, Map, Size, Plan, Settle, Probe, Json, Picture, Explain, Version}
+use Rattle.pciplan_explain.specs.declared.command_texts.TheConstants.{HERE, SHOW, CHECK, FAULTS, MAP, SIZE, PLAN, SETTLE, PROBE, JSON, PICTURE, EXPLAIN, VERSION}
 
 abbrev pub command_name : Command → List ℕ
 command_name Here = codes "here"
@@ -15,6 +15,7 @@ command_name Plan = codes "plan"
 command_name Settle = codes "settle"
 command_name Probe = codes "probe"
 command_name Json = codes "json"
+command_name Picture = codes "picture"
 command_name Explain = codes "explain"
 command_name Version = codes "version"
 
@@ -34,5 +35,6 @@ command_text Plan = PLAN.now
 command_text Settle = SETTLE.now
 command_text Probe = PROBE.now
 command_text Json = JSON.now
+command_text Picture = PICTURE.now
 command_text Explain = EXPLAIN.now
 command_text Version = VERSION.now

@@ -18,12 +18,13 @@ pub enum Command {
     Settle,
     Probe,
     Json,
+    Picture,
     Explain,
     Version,
 }
 
 /// All commands in the order of the manual page.
-pub const COMMANDS: [Command; 12] = [
+pub const COMMANDS: [Command; 13] = [
     Command::Here,
     Command::Show,
     Command::Check,
@@ -34,6 +35,7 @@ pub const COMMANDS: [Command; 12] = [
     Command::Settle,
     Command::Probe,
     Command::Json,
+    Command::Picture,
     Command::Explain,
     Command::Version,
 ];
@@ -54,6 +56,7 @@ impl Command {
             Command::Settle => "settle",
             Command::Probe => "probe",
             Command::Json => "json",
+            Command::Picture => "picture",
             Command::Explain => "explain",
             Command::Version => "version",
         }
@@ -75,6 +78,7 @@ impl Command {
             Command::Settle => texts::SETTLE,
             Command::Probe => texts::PROBE,
             Command::Json => texts::JSON,
+            Command::Picture => texts::PICTURE,
             Command::Explain => texts::EXPLAIN,
             Command::Version => texts::VERSION,
         }

@@ -229,6 +229,44 @@ pciplan json COMMAND WORDS
   docs/answer.schema.json of the source tree is the schema of the documents.
 ";
 
+pub const PICTURE: &str = "\
+pciplan picture DUMP PROBE [--root LIST] [--model WORDS] [--host-io LIST]
+    [--host-mem LIST]
+  Prints the map as a picture (SVG), with the tree of buses and the faults with
+  their reasons. Each section of the map is drawn as nested boxes on an axis of
+  addresses. A box has its line of map and its faults as its title, which a
+  browser shows under the pointer. The options, the messages and the faults are
+  those of map.
+  --root LIST
+    The buses on which the host's accesses start: two lower-case hex digits
+    each, rising, with commas between them. 00 if it isn't said. On Linux they
+    are in the names of /sys/devices/pci0000:*: 00,40 for pci0000:00 and
+    pci0000:40.
+  --model WORDS
+    faults and map take functions otherwise than their registers say: one or
+    more of cardbus, ide, power, reset, subtractive, unnumbered, windows and one
+    of vga and vga16, in any order, with commas between them, none twice; or
+    all, which is all but vga16, so a bridge decodes ten bits of a port unless
+    its bit VGA 16-bit Decode is set. cardbus takes a CardBus bridge (header
+    layout 2) as a device that decodes no address; ide leaves out the BARs of
+    IDE channels in compatibility mode; power takes a function that isn't in D0
+    as one that decodes nothing; reset and subtractive take away the faults 55
+    and 54 of a bridge behind which no function is listed; unnumbered takes a
+    bridge whose bus numbers are 0 and whose windows claim nothing as one that
+    leads nowhere; vga judges what bridges with VGA Enable forward to a display,
+    and not what the display itself answers: the legacy addresses, which come
+    again in each KB of I/O space where the bridge decodes ten bits alone; vga16
+    takes each of them to decode 16 bits; windows takes a bridge's window whose
+    read back is of none (26) as the one that its registers show.
+  --host-io LIST
+  --host-mem LIST
+    faults judges beside what the host sends to its root buses, and map shows
+    what of that is free there and what isn't within it: none, or ranges with
+    commas between them, each A-B for all root buses or bb:A-B for the root bus
+    bb alone, from address A to address B, each of 1 to 16 lower-case hex
+    digits. Of a space without a list all is sent to each.
+";
+
 pub const EXPLAIN: &str = "\
 pciplan explain [WORD]
   Prints what a fault is, what it mostly comes from and what to do. WORD is the

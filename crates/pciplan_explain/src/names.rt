@@ -58,6 +58,7 @@ plan: Places all that has an address in three pools, and prints the planned dump
 settle: Leaves what works where it is, and places the rest in three lists of ranges.
 probe: Prints the probe that is derived of the dump and the sizes that Linux found.
 json: Prints the answer of a command as one JSON document on one line.
+picture: Prints the map as a picture (SVG), with the tree of buses and the faults with their reasons.
 explain: Prints what a fault is, what it mostly comes from and what to do.
 version: Prints pciplan 0.5.
 ";

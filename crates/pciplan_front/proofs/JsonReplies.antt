@@ -1,19 +1,14 @@
 -- From an answer with its document to a line that is carried out.
-use Rattle.std.proofs.Common.{◌≡◌, ◌⊎◌, ℕ, List, [], Option, Result, Ok, Err, IfOk, IfErr, inl, inr, refl, sym, ap, subst, ◌∙◌, arith}
-use Rattle.std.specs.String.{string_bytes}
+use Rattle.std.proofs.Common.{◌≡◌, ℕ, List, [], Option, Result, Ok, Err, IfOk, sym, ap, subst, ◌∙◌}
 use Rattle.std.specs.Io.KnownBytes.{Appends}
 use Rattle.pci_dump.specs.Begun.{AppendsBeginning}
-use Rattle.pci_dump.specs.declared.read_fault.ReadFault.TheVariants as faults
-use Rattle.pciplan_cli.specs.CarriedOut.{TextsByPath, IsSecondUnopened, second_unread, texts}
+use Rattle.pciplan_cli.specs.CarriedOut.{TextsByPath}
 use Rattle.pciplan_cli.specs.declared.invocation.Invocation.{Invocation}
 use Rattle.pciplan_tasks.specs.Answers.{Answer, AreRemarked, IsTextOut}
-use Rattle.pciplan_tasks.specs.Statuses.{status_of}
-use Rattle.pciplan_tasks.specs.Tasks.{IsAnswerOf, IsFailureOf}
+use Rattle.pciplan_tasks.specs.Tasks.{IsAnswerOf}
 use Rattle.pciplan_tasks.specs.declared.failure.Failure.{Failure}
-use Rattle.pciplan_tasks.specs.declared.failure.Failure.TheVariants.{Dump}
 use Rattle.pciplan_tasks.specs.declared.task.Task.{Task}
-use Rattle.pciplan_tasks.specs.declared.task.Task.TheVariants as task
-use Rattle.pciplan_front.specs.JsonAsked.{IsJsonReply, IsLineBegun, IsLineDone, IsReplyRefused, document_line}
+use Rattle.pciplan_front.specs.JsonAsked.{IsJsonReply, IsLineBegun, IsLineDone, document_line}
 
 pub done_of_reply : (line : Invocation) (dump second : TextsByPath) (reply : Answer) (status : ℕ) (o n eo en : Option (List ℕ)) (failed same : Type 0)
     → IsJsonReply line dump second reply → status ≡ reply.status → Appends o n reply.text → IsTextOut eo en failed reply.remarks
@@ -48,47 +43,7 @@ begun_of_reply line dump second reply o n r begun =
       begun = subst (λ (a : Answer). AppendsBeginning o n a.text) r.line_is begun;
     }
 
--- ---- the texts at the paths of a line
-
--- a second text that can't be opened is no fault of its text
-unread_fails : (t : Task) → status_of (second_unread t) ≡ 4
-unread_fails task.Show = refl
-unread_fails (task.Check roots) = refl
-unread_fails (task.Faults beside why) = refl
-unread_fails (task.Map beside) = refl
-unread_fails task.Size = refl
-unread_fails (task.Plan pools writes why roots) = refl
-unread_fails (task.Settle request printed) = refl
-unread_fails (task.Probe assuming) = refl
-
-two_and_four : (status : ℕ) → status ≡ 2 → status ≡ 4 → ⊥
-two_and_four status two four = omega arith
-
--- where the texts can't be opened and the status is 2, the dump's text has a fault
-pub unopened_refused : {X Y Z W : Type 0} (line : Invocation) (dump_stands second_stands : List ℕ → Type 0) (dump_at second_at : List ℕ → Option (List ℕ))
-    (failure : Failure) (before after : ℕ)
-    → ((failure ≡ Dump faults.Io) × X × Y) ⊎ (Z × W × IsSecondUnopened line.task (dump_at (string_bytes line.dump)) before after failure)
-    → status_of failure ≡ 2 → IsReplyRefused line (texts dump_stands dump_at) (texts second_stands second_at)
-unopened_refused line ds ss dump_at second_at failure before after (inl (is, x, y)) two = absurd (two_and_four (status_of failure) two (ap status_of is))
-unopened_refused line ds ss dump_at second_at failure before after (inr (stands, failed, inl (has, is))) two =
-    absurd (two_and_four (status_of failure) two (ap status_of is ∙ unread_fails line.task))
-unopened_refused line ds ss dump_at second_at failure before after (inr (stands, failed, inr (fault, unread, is))) two =
-    inr (failure, two, subst (λ f. IsFailureOf line.task (dump_at (string_bytes line.dump)) (second_at (string_bytes line.probe)) f) (sym is) unread.fault_of)
-
--- the texts that were opened are those at the paths
-pub opened_refused : {V : Type 0} (line : Invocation) (dump_stands second_stands : List ℕ → Type 0) (dump_at second_at : List ℕ → Option (List ℕ))
-    (dump_left second_left : Option (List ℕ)) (result : Result V Failure)
-    → dump_left ≡ dump_at (string_bytes line.dump) → second_left ≡ second_at (string_bytes line.probe)
-    → IfErr result (IsFailureOf line.task dump_left second_left)
-    → IfErr result (λ failure. status_of failure ≡ 2 → IsReplyRefused line (texts dump_stands dump_at) (texts second_stands second_at))
-opened_refused line ds ss dump_at second_at dl sl (Ok value) first second fact = tt
-opened_refused line ds ss dump_at second_at dl sl (Err failure) first second fact =
-    λ two. inr (
-      failure,
-      two,
-      subst (λ b. IsFailureOf line.task b (second_at (string_bytes line.probe)) failure) first
-          (subst (λ b. IsFailureOf line.task dl b failure) second fact),
-    )
+-- ---- the texts that were opened are those at the paths of a line
 
 pub opened_answered : {V A B : Type 0} (result : Result V Failure) (answer_of : V → Answer) (t : Task) (dump_left second_left dump second : Option (List ℕ))
     → A → B → dump_left ≡ dump → second_left ≡ second → IfOk result (λ reply. IsAnswerOf t dump_left second_left (answer_of reply))

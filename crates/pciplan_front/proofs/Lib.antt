@@ -3,4 +3,6 @@ mod DomainReplies
 mod HerePieces
 mod HereWords
 mod JsonReplies
+mod Opened
+mod PictureReplies
 mod Texts

@@ -11,6 +11,7 @@ pub enum First {
     Explain,
     Version,
     Json,
+    Picture,
 }
 
 /// Whose the words are, by the first one.
@@ -25,6 +26,7 @@ pub fn first_of(words: &[String]) -> First
         "explain" => First::Explain,
         "version" => First::Version,
         "json" => First::Json,
+        "picture" => First::Picture,
         _ => First::Texts,
     }
 }

@@ -10,10 +10,12 @@ ghost use Rattle.pciplan_tasks.specs.Tasks.{HasFailed, IsTaskRefused};
 ghost use Rattle.pciplan_front.specs.FirstWords.{AreOfTexts, BeginsWith, behind};
 ghost use Rattle.pciplan_front.specs.HereTold.{IsHere, files};
 ghost use Rattle.pciplan_front.specs.JsonAsked.{IsJson};
+ghost use Rattle.pciplan_front.specs.PictureAsked.{IsPicture};
 ghost use Rattle.pciplan_front.specs.TextAsked.{IsTold};
 ghost use Rattle.pciplan_front.specs.Went.{went};
 
 use crate::documents::json;
+use crate::drawn::picture;
 use crate::first::{First, first_of};
 use crate::folder::Foldered;
 use crate::here::here;
@@ -70,6 +72,17 @@ fn beside<D: Opening, P: Opening, M: Foldered, O: Sink, E: Sink>(
         (HasFailed (D.failures outside.old.dump) (D.failures outside.new.dump)
         (P.failures outside.old.second) (P.failures outside.new.second)
         (O.failures outside.old.out) (O.failures outside.new.out)) }
+    ensures picture { first ≡ First.Picture → IsPicture (behind (map string_bytes words.now))
+        (texts (D.stands outside.old.dump) (D.bytes_at outside.old.dump))
+        (texts (P.stands outside.old.second) (P.bytes_at outside.old.second))
+        result
+        (went (O.taken outside.old.out) (O.taken outside.new.out) (outside.new.out ≡ outside.old.out)
+        (O.failures outside.new.out ≡ O.failures outside.old.out + 1))
+        (went (E.taken outside.old.err) (E.taken outside.new.err) (outside.new.err ≡ outside.old.err)
+        (E.failures outside.new.err ≡ E.failures outside.old.err + 1))
+        (HasFailed (D.failures outside.old.dump) (D.failures outside.new.dump)
+        (P.failures outside.old.second) (P.failures outside.new.second)
+        (O.failures outside.old.out) (O.failures outside.new.out)) }
     ensures here { first ≡ First.Here → IsHere (map string_bytes words.now)
         (files (M.shown_in outside.old.machine) (M.text_at outside.old.machine)) result
         (went (O.taken outside.old.out) (O.taken outside.new.out) (outside.new.out ≡ outside.old.out)
@@ -83,6 +96,7 @@ fn beside<D: Opening, P: Opening, M: Foldered, O: Sink, E: Sink>(
     match first {
         First::Here => here(alloc, words, outside),
         First::Json => json(alloc, behind_first(words), outside),
+        First::Picture => picture(alloc, behind_first(words), outside),
         First::Explain | First::Version | First::Texts => {
             tell(alloc, words, &mut outside.out, &mut outside.err)
         }
@@ -141,6 +155,19 @@ pub fn front<D: Opening, P: Opening, M: Foldered, O: Sink, E: Sink>(
     // `json` and a command
     ensures json { IfOk words (λ words. BeginsWith (map string_bytes words.items) (codes "json")
         → IsJson (behind (map string_bytes words.items))
+        (texts (D.stands outside.old.dump) (D.bytes_at outside.old.dump))
+        (texts (P.stands outside.old.second) (P.bytes_at outside.old.second))
+        result
+        (went (O.taken outside.old.out) (O.taken outside.new.out) (outside.new.out ≡ outside.old.out)
+        (O.failures outside.new.out ≡ O.failures outside.old.out + 1))
+        (went (E.taken outside.old.err) (E.taken outside.new.err) (outside.new.err ≡ outside.old.err)
+        (E.failures outside.new.err ≡ E.failures outside.old.err + 1))
+        (HasFailed (D.failures outside.old.dump) (D.failures outside.new.dump)
+        (P.failures outside.old.second) (P.failures outside.new.second)
+        (O.failures outside.old.out) (O.failures outside.new.out))) }
+    // `picture` and the words of a map
+    ensures picture { IfOk words (λ words. BeginsWith (map string_bytes words.items) (codes "picture")
+        → IsPicture (behind (map string_bytes words.items))
         (texts (D.stands outside.old.dump) (D.bytes_at outside.old.dump))
         (texts (P.stands outside.old.second) (P.bytes_at outside.old.second))
         result

@@ -1,4 +1,4 @@
-//! The words of `pciplan`: the commands of two texts, and `here`, `explain`, `version` and `json` beside them.
+//! The words of `pciplan`: the commands of two texts, and `here`, `explain`, `version`, `json` and `picture` beside them.
 //!
 //! [`front::front`] looks at the first word and does what is asked for: it is all that `main` calls.
 //!
@@ -11,6 +11,7 @@
 
 pub mod documents;
 pub mod domain_reply;
+pub mod drawn;
 pub mod first;
 pub mod folder;
 pub mod front;

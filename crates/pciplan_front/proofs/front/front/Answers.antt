@@ -5,9 +5,10 @@ use Rattle.pciplan_tasks.specs.Tasks.{HasFailed}
 use Rattle.pciplan_front.specs.FirstWords.{AreOfTexts, IsFirst, behind}
 use Rattle.pciplan_front.specs.HereTold.{IsHere, files}
 use Rattle.pciplan_front.specs.JsonAsked.{IsJson}
+use Rattle.pciplan_front.specs.PictureAsked.{IsPicture}
 use Rattle.pciplan_front.specs.TextAsked.{IsTold}
 use Rattle.pciplan_front.specs.Went.{went}
-use Rattle.pciplan_front.proofs.FirstWords.{not_texts, of_explain, of_here, of_json, of_version}
+use Rattle.pciplan_front.proofs.FirstWords.{not_texts, of_explain, of_here, of_json, of_picture, of_version}
 use Rattle.pciplan_front.proofs.front.front.Goals as goal
 
 pub returns-in_default : goal.returns-in_default
@@ -48,6 +49,19 @@ returns-in_default g c =
           (g.P.Source.failures c.args.outside.now.second) (g.P.Source.failures c.beside.new.outside.second)
           (g.O.Sink.failures c.args.outside.now.out) (g.O.Sink.failures c.beside.new.outside.out)))
           again (c.beside.ensures.json (of_json (map string_bytes c.in-Ok.words.items) c.first_of.result is begins));
+      picture = λ begins. subst
+          (λ v. IsPicture (behind (map string_bytes v))
+          (texts (g.D.Opening.stands c.args.outside.now.dump) (g.D.Opening.bytes_at c.args.outside.now.dump))
+          (texts (g.P.Opening.stands c.args.outside.now.second) (g.P.Opening.bytes_at c.args.outside.now.second))
+          c.beside.result
+          (went (g.O.Sink.taken c.args.outside.now.out) (g.O.Sink.taken c.beside.new.outside.out) (c.beside.new.outside.out ≡ c.args.outside.now.out)
+          (g.O.Sink.failures c.beside.new.outside.out ≡ g.O.Sink.failures c.args.outside.now.out + 1))
+          (went (g.E.Sink.taken c.args.outside.now.err) (g.E.Sink.taken c.beside.new.outside.err) (c.beside.new.outside.err ≡ c.args.outside.now.err)
+          (g.E.Sink.failures c.beside.new.outside.err ≡ g.E.Sink.failures c.args.outside.now.err + 1))
+          (HasFailed (g.D.Source.failures c.args.outside.now.dump) (g.D.Source.failures c.beside.new.outside.dump)
+          (g.P.Source.failures c.args.outside.now.second) (g.P.Source.failures c.beside.new.outside.second)
+          (g.O.Sink.failures c.args.outside.now.out) (g.O.Sink.failures c.beside.new.outside.out)))
+          again (c.beside.ensures.picture (of_picture (map string_bytes c.in-Ok.words.items) c.first_of.result is begins));
       here = λ begins. subst
           (λ v. IsHere (map string_bytes v) (files (g.M.Foldered.shown_in c.args.outside.now.machine) (g.M.Foldered.text_at c.args.outside.now.machine)) c.beside.result
           (went (g.O.Sink.taken c.args.outside.now.out) (g.O.Sink.taken c.beside.new.outside.out) (c.beside.new.outside.out ≡ c.args.outside.now.out)
@@ -67,3 +81,9 @@ returns-in-Texts-clause-json g c =
     let items : c.as_slice.result.now ≡ c.in-Ok.words.items = cc (c.as_slice.ensures.value) in
     let of : AreOfTexts (map string_bytes c.in-Ok.words.items) = subst (λ v. AreOfTexts (map string_bytes v)) items c.in-Texts.ensures in
     rw c.in-Ok.is (λ begins. absurd (of.no_json begins))
+
+pub returns-in-Texts-clause-picture : goal.returns-in-Texts-clause-picture
+returns-in-Texts-clause-picture g c =
+    let items : c.as_slice.result.now ≡ c.in-Ok.words.items = cc (c.as_slice.ensures.value) in
+    let of : AreOfTexts (map string_bytes c.in-Ok.words.items) = subst (λ v. AreOfTexts (map string_bytes v)) items c.in-Texts.ensures in
+    rw c.in-Ok.is (λ begins. absurd (of.no_picture begins))
