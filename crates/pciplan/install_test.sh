@@ -458,8 +458,8 @@ offers() {
 
 quiet 'bash takes its completion' bash -n $names/pciplan.bash
 if command -v bash >/dev/null; then
-    offers "''" 'here show check faults map size plan settle probe json explain version'
-    for command in show check faults map size plan settle probe; do
+    offers "''" 'here show check faults map size plan settle probe json picture explain version'
+    for command in show check faults map size plan settle probe picture; do
         offers "$command ''" FILES
         offers "$command dump.txt probe.txt ''" \
             "$(sed -n "s/^$command \(--[a-z-]*\).*/\1/p" synopsis | tr '\n' ' ' | sed 's/ $//')"
@@ -499,7 +499,7 @@ if command -v bash >/dev/null; then
     offers "here --log ''" FILES
     offers 'here --domain = 0000 m' 'map'
     offers "here --domain 0000 dump ''" '--from --log'
-    offers "explain ''" 'here show check faults map size plan settle probe json explain version'
+    offers "explain ''" 'here show check faults map size plan settle probe json picture explain version'
     offers "explain check ''" ''
     offers "version ''" ''
     offers "json ''" 'show check faults map plan settle'

@@ -14,7 +14,7 @@ _pciplan_model() {
 # Fills COMPREPLY with what may stand at the cursor: a command, a text's file or another word, or an option that isn't
 # said yet.
 _pciplan() {
-    local commands='here show check faults map size plan settle probe json explain version'
+    local commands='here show check faults map size plan settle probe json picture explain version'
     local line=("${COMP_WORDS[@]}") place=$COMP_CWORD options said=' ' words='' most=2 count=0 ended='' word at
     COMPREPLY=()
     # What follows `json` is one of these commands with its words.
@@ -32,7 +32,7 @@ _pciplan() {
     show | size) options='' ;;
     check) options='--root' ;;
     faults) options='--host-io --host-mem --model --root --why' ;;
-    map) options='--host-io --host-mem --model --root' ;;
+    map | picture) options='--host-io --host-mem --model --root' ;;
     plan) options='--io --mem --pref --root --why --writes' ;;
     settle) options='--anew --fixed --io --mem --pref --root --writes' ;;
     probe) options='--exact --least' ;;

@@ -30,7 +30,7 @@ end
 # Whether one of the two texts is still wanted, and the cursor doesn't stand in an option's own word.
 function __pciplan_wants_text
     set -l words (__pciplan_words)
-    contains -- "$words[2]" show check faults map size plan settle probe; or return
+    contains -- "$words[2]" show check faults map size plan settle probe picture; or return
     set -e words[1..2]
     set -l valued --root --model --host-io --host-mem --io --mem --pref --fixed
     set -l texts 0
@@ -60,18 +60,19 @@ complete -c pciplan -n __pciplan_wants_command -a plan -d 'Plan the addresses of
 complete -c pciplan -n __pciplan_wants_command -a settle -d 'Move what is at fault, within lists of ranges'
 complete -c pciplan -n __pciplan_wants_command -a probe -d 'Derive the probe from what Linux sized'
 complete -c pciplan -n __pciplan_wants_command -a json -d 'Print the answer of a command as JSON'
+complete -c pciplan -n __pciplan_wants_command -a picture -d 'Draw the address map as SVG'
 complete -c pciplan -n __pciplan_wants_command -a explain -d 'Explain a fault or a command'
 complete -c pciplan -n __pciplan_wants_command -a version -d 'Print the version'
 complete -c pciplan -n '__pciplan_is_behind here' -a 'faults map dump probe words'
 complete -c pciplan -n '__pciplan_is_behind json' -a 'show check faults map plan settle'
-complete -c pciplan -n '__pciplan_is_behind explain' -a 'here show check faults map size plan settle probe json explain version'
+complete -c pciplan -n '__pciplan_is_behind explain' -a 'here show check faults map size plan settle probe json picture explain version'
 complete -c pciplan -n '__pciplan_takes domain here' -l domain -x -d 'Judge this domain alone'
 complete -c pciplan -n '__pciplan_takes from here' -l from -x -a '(__fish_complete_directories)' -d 'Folder that has sys and proc'
 complete -c pciplan -n '__pciplan_takes log here' -l log -r -F -d 'File that has the kernel log'
-complete -c pciplan -n '__pciplan_takes root check faults map plan settle' -l root -x -d 'Buses on which accesses of the host start'
-complete -c pciplan -n '__pciplan_takes model faults map' -l model -x -a '(__fish_append , all cardbus ide isa power reset subtractive unnumbered vga vga16 windows)' -d 'Words by which functions are taken'
-complete -c pciplan -n '__pciplan_takes host-io faults map' -l host-io -x -d 'I/O addresses that the host sends'
-complete -c pciplan -n '__pciplan_takes host-mem faults map' -l host-mem -x -d 'Memory addresses that the host sends'
+complete -c pciplan -n '__pciplan_takes root check faults map plan settle picture' -l root -x -d 'Buses on which accesses of the host start'
+complete -c pciplan -n '__pciplan_takes model faults map picture' -l model -x -a '(__fish_append , all cardbus ide isa power reset subtractive unnumbered vga vga16 windows)' -d 'Words by which functions are taken'
+complete -c pciplan -n '__pciplan_takes host-io faults map picture' -l host-io -x -d 'I/O addresses that the host sends'
+complete -c pciplan -n '__pciplan_takes host-mem faults map picture' -l host-mem -x -d 'Memory addresses that the host sends'
 complete -c pciplan -n '__pciplan_takes io plan settle' -l io -x -d 'Pool or ranges of I/O addresses'
 complete -c pciplan -n '__pciplan_takes mem plan settle' -l mem -x -d 'Pool or ranges of memory addresses'
 complete -c pciplan -n '__pciplan_takes pref plan settle' -l pref -x -d 'Pool or ranges of prefetchable memory addresses'
