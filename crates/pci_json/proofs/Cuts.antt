@@ -43,6 +43,10 @@ pub behind_here : (content : List ℕ) → behind 0 content ≡ content
 unfolding behind
 behind_here content = refl
 
+pub behind_one : (content : List ℕ) → behind 1 content ≡ after_first is_blank content
+unfolding behind
+behind_one content = refl
+
 -- what stands behind words that stand behind words
 pub behind_there : (n k : ℕ) (content : List ℕ) → behind k (behind n content) ≡ behind (n + k) content
 unfolding behind

@@ -1,5 +1,6 @@
 pub mod Cuts
 pub mod Indents
+pub mod Firsts
 pub mod Tokens
 pub mod Steps
 pub mod Largest

@@ -13,7 +13,7 @@ ghost use Rattle.pci_json.specs.Documents.{is_fault, fault_of, faults_of, off_of
 
 use crate::faults::push_fault;
 use crate::group::{begins_inner, push_fault_object, push_function};
-use crate::lines::{behind, content, cut, is_inner, is_word};
+use crate::lines::{behind, content, cut, is_inner, is_word, split_at_first};
 use crate::listing::push_write;
 use crate::map::{is_heading, push_aside, push_roots};
 use crate::output::Output;
@@ -76,7 +76,7 @@ fn push_faults<A: Allocator>(out: &mut Output<A>, text: &str) -> Result<(), Allo
 {
     let mut rest = text;
     while !rest.is_empty() {
-        let (line, more) = cut(rest, '\n');
+        let (line, more) = cut(rest, b'\n');
         push_fault_of(out, line, more)?;
         rest = more;
     }
@@ -89,7 +89,7 @@ fn has_off(text: &str) -> bool
 {
     let mut rest = text;
     while !rest.is_empty() {
-        let (line, more) = cut(rest, '\n');
+        let (line, more) = cut(rest, b'\n');
         if is_heading(line, "off") {
             return true;
         }
@@ -116,7 +116,7 @@ fn push_offs<A: Allocator>(out: &mut Output<A>, text: &str) -> Result<(), AllocE
 {
     let mut rest = text;
     while !rest.is_empty() {
-        let (line, more) = cut(rest, '\n');
+        let (line, more) = cut(rest, b'\n');
         push_off(out, line)?;
         rest = more;
     }
@@ -157,7 +157,7 @@ fn push_functions<A: Allocator>(out: &mut Output<A>, text: &str) -> Result<(), A
 {
     let mut rest = text;
     while !rest.is_empty() {
-        let (line, more) = cut(rest, '\n');
+        let (line, more) = cut(rest, b'\n');
         push_function_of(out, line, more)?;
         rest = more;
     }
@@ -179,7 +179,7 @@ fn push_writes<A: Allocator>(out: &mut Output<A>, text: &str) -> Result<(), Allo
 {
     let mut rest = text;
     while !rest.is_empty() {
-        let (line, more) = cut(rest, '\n');
+        let (line, more) = cut(rest, b'\n');
         push_write_object(out, line)?;
         rest = more;
     }
@@ -267,10 +267,7 @@ fn cut_first(text: &str) -> (&str, &str)
     ensures first { result.0.now ≡ first_line text.now }
     ensures behind { result.1.now ≡ behind_line text.now }
 {
-    match text.split_once('\n') {
-        Some(parts) => parts,
-        None => (text, ""),
-    }
+    split_at_first(text, b'\n')
 }
 
 /// The line behind a 72, where `plan --why` has one.

@@ -91,7 +91,7 @@ fn push_listed<A: Allocator>(out: &mut Output<A>, kind: Kind, text: &str) -> Res
 {
     let mut rest = text;
     while !rest.is_empty() {
-        let (line, more) = cut(rest, '\n');
+        let (line, more) = cut(rest, b'\n');
         if !is_inner(line) {
             return Ok(());
         }
@@ -107,7 +107,7 @@ fn has_listed(kind: Kind, text: &str) -> bool
 {
     let mut rest = text;
     while !rest.is_empty() {
-        let (line, more) = cut(rest, '\n');
+        let (line, more) = cut(rest, b'\n');
         if !is_inner(line) {
             return false;
         }
@@ -225,7 +225,7 @@ fn push_singles<A: Allocator>(out: &mut Output<A>, text: &str) -> Result<(), All
 {
     let mut rest = text;
     while !rest.is_empty() {
-        let (line, more) = cut(rest, '\n');
+        let (line, more) = cut(rest, b'\n');
         if !is_inner(line) {
             return Ok(());
         }
@@ -252,7 +252,7 @@ pub fn begins_inner(text: &str) -> bool
     if text.is_empty() {
         return false;
     }
-    is_inner(cut(text, '\n').0)
+    is_inner(cut(text, b'\n').0)
 }
 
 /// What is told of a fault, where lines stand behind it.

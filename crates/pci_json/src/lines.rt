@@ -1,11 +1,42 @@
 //! The lines of a text and the words of a line.
-ghost use Rattle.std.specs.Prelude.{◌≡◌, ◌<◌, ◌≤◌, ◌==◌, ◌^◌, ◌∷◌, length};
+ghost use Rattle.std.specs.Prelude.{◌≡◌, ◌<◌, ◌≤◌, ◌+◌, ◌==◌, ◌^◌, ◌∷◌, false, length, IsTrue};
 ghost use Rattle.std.specs.Str.{IsCharBoundary};
-ghost use Rattle.std.specs.List.{before_first, after_first};
+ghost use Rattle.std.specs.List.{before_first, after_first, position_or_len};
 ghost use Rattle.pci_json.specs.Lines.{parts_of, indent_of, content_of, depth_of, is_inner, is_blank, behind, word, is_word, digit_value, value_of};
 
+/// Where a byte first stands in a text, or the length of the text.
+fn place_of(text: &str, byte: u8) -> usize
+    requires ascii { byte < 128 }
+    ensures value { result ≡ position_or_len (λ b. b == byte) text.now }
+    ensures cut { IsCharBoundary text.now result }
+    ensures behind { result < length text.now → IsCharBoundary text.now (result + 1) }
+{
+    let mut place = 0;
+    for other in text.as_bytes() {
+        if *other == byte {
+            return place;
+        }
+        place += 1;
+    }
+    place
+}
+
+/// What stands before the first such byte of a text, and what stands behind it.
+pub fn split_at_first(text: &str, byte: u8) -> (&str, &str)
+    requires ascii { byte < 128 }
+    ensures before { result.0.now ≡ before_first (λ b. b == byte) text.now }
+    ensures after { result.1.now ≡ after_first (λ b. b == byte) text.now }
+{
+    let place = place_of(text, byte);
+    if place < text.len() {
+        (&text[..place], &text[place + 1..])
+    } else {
+        (text, "")
+    }
+}
+
 /// The first part of a text that ends with this byte, and what stands behind that byte.
-pub fn cut(text: &str, end: char) -> (&str, &str)
+pub fn cut(text: &str, end: u8) -> (&str, &str)
     requires ascii { end < 128 }
     requires some { 0 < length text.now }
     ensures before { result.0.now ≡ before_first (λ b. b == end) text.now }
@@ -13,10 +44,7 @@ pub fn cut(text: &str, end: char) -> (&str, &str)
     ensures parts { parts_of end text.now ≡ result.0.now ∷ parts_of end result.1.now }
     ensures shorter { length result.1.now < length text.now }
 {
-    match text.split_once(end) {
-        Some(parts) => parts,
-        None => (text, ""),
-    }
+    split_at_first(text, end)
 }
 
 /// How many blanks a line begins with.
@@ -56,14 +84,19 @@ pub fn is_inner(line: &str) -> bool
     depth_of(line) > 0
 }
 
+/// The first word, and what stands behind it.
+pub fn split_word(content: &str) -> (&str, &str)
+    ensures first { result.0.now ≡ word 0 content.now }
+    ensures rest { result.1.now ≡ behind 1 content.now }
+{
+    split_at_first(content, b' ')
+}
+
 /// What stands behind the first word.
 fn behind_first(content: &str) -> &str
     ensures { result.now ≡ after_first is_blank content.now }
 {
-    match content.split_once(' ') {
-        Some((_, more)) => more,
-        None => "",
-    }
+    split_at_first(content, b' ').1
 }
 
 /// What stands behind so many words.
@@ -81,18 +114,31 @@ pub fn behind(content: &str, words: usize) -> &str
 pub fn word(content: &str, n: usize) -> &str
     ensures { result.now ≡ word n content.now }
 {
-    let rest = behind(content, n);
-    match rest.split_once(' ') {
-        Some((first, _)) => first,
-        None => rest,
+    split_at_first(behind(content, n), b' ').0
+}
+
+/// Whether a text and a name begin with two different bytes. Then the name isn't the first word of the text.
+fn begin_apart(text: &str, name: &str) -> bool
+    ensures { IsTrue result → is_word 0 name.now text.now ≡ false }
+{
+    if text.is_empty() || name.is_empty() {
+        return false;
     }
+    text.as_bytes()[0] != name.as_bytes()[0]
+}
+
+/// Whether this is the first word.
+fn is_first_word(content: &str, name: &str) -> bool
+    ensures { result ≡ is_word 0 name.now content.now }
+{
+    !begin_apart(content, name) && split_word(content).0 == name
 }
 
 /// Whether this is the word behind so many words.
 pub fn is_word(content: &str, n: usize, name: &str) -> bool
     ensures { result ≡ is_word n name.now content.now }
 {
-    word(content, n) == name
+    is_first_word(behind(content, n), name)
 }
 
 /// What a digit counts.

@@ -4,7 +4,7 @@ ghost use Rattle.std.specs.List.{before_first, after_first};
 ghost use Rattle.pci_json.specs.Members.{with_members};
 ghost use Rattle.pci_json.specs.Listings.{is_point, header_members, bar_range_place, bar_range_members, bar_members, rom_members, bus_members, state_members, window_members, capability_members, kind_members, write_members};
 
-use crate::lines::{behind, is_word, value, word};
+use crate::lines::{behind, is_word, split_at_first, value, word};
 use crate::members::{ends_of, push_range, push_slot_and_register};
 use crate::output::Output;
 use std::alloc::{AllocError, Allocator};
@@ -118,10 +118,7 @@ fn offset_and_width(word: &str) -> (&str, &str)
     ensures offset { result.0.now ≡ before_first is_point word.now }
     ensures width { result.1.now ≡ after_first is_point word.now }
 {
-    match word.split_once('.') {
-        Some(parts) => parts,
-        None => (word, ""),
-    }
+    split_at_first(word, b'.')
 }
 
 /// The members of a write.

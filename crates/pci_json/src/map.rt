@@ -57,7 +57,7 @@ pub fn push_places<'a, A: Allocator>(
 {
     let mut rest = text;
     while !rest.is_empty() {
-        let (line, more) = cut(rest, '\n');
+        let (line, more) = cut(rest, b'\n');
         if depth_of(line) < depth {
             return Ok(rest);
         }
@@ -157,7 +157,7 @@ pub fn push_roots<A: Allocator>(out: &mut Output<A>, text: &str) -> Result<(), A
 {
     let mut rest = text;
     while !rest.is_empty() {
-        let (line, more) = cut(rest, '\n');
+        let (line, more) = cut(rest, b'\n');
         push_root(out, line, more)?;
         rest = more;
     }
@@ -170,7 +170,7 @@ fn behind_heading<'a>(text: &'a str, name: &str) -> &'a str
 {
     let mut rest = text;
     while !rest.is_empty() {
-        let (line, more) = cut(rest, '\n');
+        let (line, more) = cut(rest, b'\n');
         if is_heading(line, name) {
             return more;
         }

@@ -3,7 +3,7 @@ ghost use Rattle.std.specs.Prelude.{◌≡◌, ◌<◌, ◌++◌, OnOk};
 ghost use Rattle.json.specs.Tree.{json_tokens};
 ghost use Rattle.pci_json.specs.Members.{with_members, with_items, first_of, last_of, slot_and_register, isa_member, range_members, range_object, opening, ranges_of};
 
-use crate::lines::{behind, cut, is_word, value, word};
+use crate::lines::{behind, cut, is_word, split_at_first, value, word};
 use crate::output::Output;
 use std::alloc::{AllocError, Allocator};
 
@@ -37,10 +37,7 @@ pub fn ends_of(range: &str) -> (&str, &str)
     ensures first { result.0.now ≡ first_of range.now }
     ensures last { result.1.now ≡ last_of range.now }
 {
-    match range.split_once('-') {
-        Some(ends) => ends,
-        None => (range, ""),
-    }
+    split_at_first(range, b'-')
 }
 
 /// A range's first and last address, and how many they are.
@@ -74,12 +71,8 @@ pub fn push_opening<A: Allocator>(out: &mut Output<A>, range: &str) -> Result<()
     }
 }
 
-/// The ranges that stand in a text with this character between them.
-pub fn push_ranges<A: Allocator>(
-    out: &mut Output<A>,
-    text: &str,
-    end: char,
-) -> Result<(), AllocError>
+/// The ranges that stand in a text with this byte between them.
+pub fn push_ranges<A: Allocator>(out: &mut Output<A>, text: &str, end: u8) -> Result<(), AllocError>
     requires { end < 128 }
     ensures { OnOk result (out.new ≡ with_items out.old (ranges_of end text.now)) }
 {

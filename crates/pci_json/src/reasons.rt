@@ -65,7 +65,7 @@ fn push_legacy_ranges<A: Allocator>(out: &mut Output<A>, line: &str) -> Result<(
         (out.new ≡ out.old ++ json_tokens (array_of (ranges_of 44 (word 5 line.now)))) }
 {
     out.begin_array()?;
-    push_ranges(out, word(line, 5), ',')?;
+    push_ranges(out, word(line, 5), b',')?;
     out.end_array()
 }
 
@@ -162,7 +162,7 @@ fn push_host_ranges<A: Allocator>(out: &mut Output<A>, line: &str) -> Result<(),
     if is_word(line, 2, "none") {
         return Ok(());
     }
-    push_ranges(out, behind(line, 2), ' ')
+    push_ranges(out, behind(line, 2), b' ')
 }
 
 /// The ranges that the host sends to a root bus.
