@@ -1,8 +1,10 @@
 //! The lines of a text and the words of a line.
-ghost use Rattle.std.specs.Prelude.{◌≡◌, ◌<◌, ◌≤◌, ◌+◌, ◌==◌, ◌^◌, ◌∷◌, false, length, IsTrue};
+ghost use Rattle.std.specs.Prelude.{◌≡◌, ◌<◌, ◌≤◌, ◌+◌, ◌==◌, ◌^◌, ◌∷◌, false, length, take, drop, IsTrue};
 ghost use Rattle.std.specs.Str.{IsCharBoundary};
 ghost use Rattle.std.specs.List.{before_first, after_first, position_or_len};
 ghost use Rattle.pci_json.specs.Lines.{parts_of, indent_of, content_of, depth_of, is_inner, is_blank, behind, word, is_word, digit_value, value_of};
+
+use memchr::memchr;
 
 /// Where a byte first stands in a text, or the length of the text.
 fn place_of(text: &str, byte: u8) -> usize
@@ -21,18 +23,40 @@ fn place_of(text: &str, byte: u8) -> usize
     place
 }
 
+/// The same, by a search that is fast where the byte stands far behind.
+fn far_place_of(text: &str, byte: u8) -> usize
+    requires ascii { byte < 128 }
+    ensures value { result ≡ position_or_len (λ b. b == byte) text.now }
+    ensures cut { IsCharBoundary text.now result }
+    ensures behind { result < length text.now → IsCharBoundary text.now (result + 1) }
+{
+    match memchr(byte, text.as_bytes()) {
+        Some(place) => place,
+        None => text.len(),
+    }
+}
+
+/// What stands before a place of a text, and what stands behind the byte at that place.
+fn around(text: &str, place: usize) -> (&str, &str)
+    requires cut { IsCharBoundary text.now place }
+    requires behind { place < length text.now → IsCharBoundary text.now (place + 1) }
+    ensures before { result.0.now ≡ take place text.now }
+    ensures after { result.1.now ≡ drop (place + 1) text.now }
+{
+    if place < text.len() {
+        (&text[..place], &text[place + 1..])
+    } else {
+        (text, "")
+    }
+}
+
 /// What stands before the first such byte of a text, and what stands behind it.
 pub fn split_at_first(text: &str, byte: u8) -> (&str, &str)
     requires ascii { byte < 128 }
     ensures before { result.0.now ≡ before_first (λ b. b == byte) text.now }
     ensures after { result.1.now ≡ after_first (λ b. b == byte) text.now }
 {
-    let place = place_of(text, byte);
-    if place < text.len() {
-        (&text[..place], &text[place + 1..])
-    } else {
-        (text, "")
-    }
+    around(text, place_of(text, byte))
 }
 
 /// The first part of a text that ends with this byte, and what stands behind that byte.
@@ -44,7 +68,7 @@ pub fn cut(text: &str, end: u8) -> (&str, &str)
     ensures parts { parts_of end text.now ≡ result.0.now ∷ parts_of end result.1.now }
     ensures shorter { length result.1.now < length text.now }
 {
-    split_at_first(text, end)
+    around(text, far_place_of(text, end))
 }
 
 /// How many blanks a line begins with.
