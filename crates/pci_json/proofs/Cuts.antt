@@ -3,7 +3,7 @@ use Rattle.std.proofs.Common.{arith, ◌≡◌, ℕ, zero, suc, ◌+◌, ◌-◌
 use Rattle.std.proofs.Math.Seq.{take-length}
 use Rattle.std.proofs.lemmas.List.{drop_all}
 use Rattle.std.specs.List.{before_first, after_first, position_or_len}
-use Rattle.pci_json.specs.Lines.{parts_of, put_front, behind, is_blank}
+use Rattle.pci_json.specs.Lines.{parts_of, put_front, behind, word, is_blank}
 
 moved : (end b n : ℕ) (s : List ℕ) → (b ∷ take n s) ∷ parts_of end (drop (n + 1) s) ≡ take (1 + n) (b ∷ s) ∷ parts_of end (drop (1 + n + 1) (b ∷ s))
 moved end b n s =
@@ -56,6 +56,12 @@ behind_there zero k content =
 behind_there (suc n) k content =
     let one : suc n + k ≡ suc (n + k) = omega arith in
     behind_there n k (after_first is_blank content) ∙ sym (ap (λ m. behind m content) one)
+
+-- the second word of what stands behind words, and what stands behind it
+pub second_there : (n : ℕ) (line rest first more : List ℕ) → rest ≡ behind n line → first ≡ word 1 rest → more ≡ behind 2 rest
+    → (first ≡ word (n + 1) line) × (more ≡ behind (n + 2) line)
+second_there n line rest first more is there after =
+    (there ∙ ap (word 1) is ∙ ap (before_first is_blank) (behind_there n 1 line), after ∙ ap (behind 2) is ∙ behind_there n 2 line)
 
 pub behind_none : (n : ℕ) (rest : List ℕ) → behind (n - n) rest ≡ rest
 unfolding behind

@@ -4,7 +4,7 @@ use Rattle.std.proofs.lemmas.Grind.{fold-append}
 use Rattle.json.specs.Json.{Json}
 use Rattle.json.specs.Token.{Token}
 use Rattle.json.specs.Tree.{json_tokens, members_tokens, items_tokens}
-use Rattle.pci_json.specs.Members.{with_members, with_items, add_member, add_item, member_tokens, members_of, items_of, object_of, array_of}
+use Rattle.pci_json.specs.Members.{with_members, with_items, add_member, add_item, member_tokens, members_of, items_of, object_of, array_of, hex}
 
 members_written : (a : List Token) (ms : List (List ℕ × Json)) → with_members a ms ++ Token.end_object ∷ [] ≡ a ++ members_tokens (members_of ms)
 members_written a [] = refl
@@ -48,3 +48,9 @@ named_value a k d name j named value = value ∙ ap (λ t. t ++ json_tokens j) n
 
 pub two_members : (a b c : List Token) (ms ns : List (List ℕ × Json)) → b ≡ with_members a ms → c ≡ with_members b ns → c ≡ with_members a (ms ++ ns)
 two_members a b c ms ns first then = then ∙ ap (λ t. with_members t ns) first ∙ sym (more_members a ms ns)
+
+-- a member more, whose value is a number in hex digits
+pub hex_more : (a b c : List Token) (ms : List (List ℕ × Json)) (name written digits : List ℕ) → b ≡ with_members a ms
+    → c ≡ b ++ Token.key name ∷ Token.string (48 ∷ 120 ∷ written) ∷ [] → written ≡ digits → c ≡ with_members a (ms ++ (name, hex digits) ∷ [])
+hex_more a b c ms name written digits first wrote is =
+    two_members a b c ms ((name, hex digits) ∷ []) first (wrote ∙ ap (λ t. b ++ Token.key name ∷ Token.string (48 ∷ 120 ∷ t) ∷ []) is)

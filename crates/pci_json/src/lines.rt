@@ -123,6 +123,14 @@ fn behind_first(content: &str) -> &str
     split_at_first(content, b' ').1
 }
 
+/// The second word, and what stands behind it.
+pub fn split_second(content: &str) -> (&str, &str)
+    ensures first { result.0.now ≡ word 1 content.now }
+    ensures rest { result.1.now ≡ behind 2 content.now }
+{
+    split_word(behind_first(content))
+}
+
 /// What stands behind so many words.
 pub fn behind(content: &str, words: usize) -> &str
     ensures { result.now ≡ behind words content.now }

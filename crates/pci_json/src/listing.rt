@@ -4,7 +4,7 @@ ghost use Rattle.std.specs.List.{before_first, after_first};
 ghost use Rattle.pci_json.specs.Members.{with_members};
 ghost use Rattle.pci_json.specs.Listings.{is_point, header_members, bar_range_place, bar_range_members, bar_members, rom_members, bus_members, state_members, window_members, capability_members, kind_members, write_members};
 
-use crate::lines::{behind, is_word, split_at_first, value, word};
+use crate::lines::{is_word, split_at_first, split_second, split_word, value, word};
 use crate::members::{ends_of, push_range, push_slot_and_register};
 use crate::output::Output;
 use std::alloc::{AllocError, Allocator};
@@ -13,19 +13,20 @@ use std::alloc::{AllocError, Allocator};
 pub fn push_header<A: Allocator>(out: &mut Output<A>, line: &str) -> Result<(), AllocError>
     ensures { OnOk result (out.new ≡ with_members out.old (header_members line.now)) }
 {
-    let kind = behind(line, 2);
-    let vendor = behind(kind, 2);
-    let device = behind(vendor, 2);
-    let class = behind(device, 2);
-    let command = behind(class, 2);
-    let status = behind(command, 2);
-    out.text("slot", word(line, 0))?;
-    out.number("type", value(word(kind, 0), 10))?;
-    out.hex("vendor", word(vendor, 0))?;
-    out.hex("device", word(device, 0))?;
-    out.hex("class", word(class, 0))?;
-    out.hex("command", word(command, 0))?;
-    out.hex("status", word(status, 0))
+    let (slot, rest) = split_word(line);
+    let (kind, rest) = split_second(rest);
+    let (vendor, rest) = split_second(rest);
+    let (device, rest) = split_second(rest);
+    let (class, rest) = split_second(rest);
+    let (command, rest) = split_second(rest);
+    let (status, _) = split_second(rest);
+    out.text("slot", slot)?;
+    out.number("type", value(kind, 10))?;
+    out.hex("vendor", vendor)?;
+    out.hex("device", device)?;
+    out.hex("class", class)?;
+    out.hex("command", command)?;
+    out.hex("status", status)
 }
 
 /// Where the range of a BAR stands behind its kind.
@@ -47,27 +48,32 @@ fn push_bar_range<A: Allocator>(out: &mut Output<A>, rest: &str) -> Result<(), A
 pub fn push_bar<A: Allocator>(out: &mut Output<A>, line: &str) -> Result<(), AllocError>
     ensures { OnOk result (out.new ≡ with_members out.old (bar_members line.now)) }
 {
-    out.hex("register", word(line, 1))?;
-    out.text("kind", word(line, 2))?;
-    push_bar_range(out, behind(line, 3))
+    let (register, rest) = split_second(line);
+    let (kind, range) = split_word(rest);
+    out.hex("register", register)?;
+    out.text("kind", kind)?;
+    push_bar_range(out, range)
 }
 
 /// The members of an expansion ROM.
 pub fn push_rom<A: Allocator>(out: &mut Output<A>, line: &str) -> Result<(), AllocError>
     ensures { OnOk result (out.new ≡ with_members out.old (rom_members line.now)) }
 {
-    out.hex("register", word(line, 1))?;
-    out.boolean("on", is_word(line, 2, "on"))?;
-    push_range(out, word(line, 3))
+    let (register, rest) = split_second(line);
+    out.hex("register", register)?;
+    out.boolean("on", is_word(rest, 0, "on"))?;
+    push_range(out, word(rest, 1))
 }
 
 /// The numbers of a bridge's buses.
 pub fn push_buses<A: Allocator>(out: &mut Output<A>, line: &str) -> Result<(), AllocError>
     ensures { OnOk result (out.new ≡ with_members out.old (bus_members line.now)) }
 {
-    out.text("primary", word(line, 1))?;
-    out.text("secondary", word(line, 2))?;
-    out.text("subordinate", word(line, 3))
+    let (primary, rest) = split_second(line);
+    let (secondary, rest) = split_word(rest);
+    out.text("primary", primary)?;
+    out.text("secondary", secondary)?;
+    out.text("subordinate", word(rest, 0))
 }
 
 /// What a window of a bridge shows.
@@ -85,20 +91,22 @@ fn push_state<A: Allocator>(out: &mut Output<A>, window: &str) -> Result<(), All
 pub fn push_window<A: Allocator>(out: &mut Output<A>, line: &str) -> Result<(), AllocError>
     ensures { OnOk result (out.new ≡ with_members out.old (window_members line.now)) }
 {
-    out.hex("register", word(line, 1))?;
-    out.text("kind", word(line, 2))?;
-    push_state(out, word(line, 3))
+    let (register, rest) = split_second(line);
+    let (kind, rest) = split_word(rest);
+    out.hex("register", register)?;
+    out.text("kind", kind)?;
+    push_state(out, word(rest, 0))
 }
 
 /// The members of a capability.
 pub fn push_capability<A: Allocator>(out: &mut Output<A>, line: &str) -> Result<(), AllocError>
     ensures { OnOk result (out.new ≡ with_members out.old (capability_members line.now)) }
 {
-    let at = behind(line, 1);
-    let kind = behind(at, 1);
-    out.hex("at", word(at, 0))?;
-    out.text("kind", word(kind, 0))?;
-    out.text("text", behind(kind, 1))
+    let (at, rest) = split_second(line);
+    let (kind, text) = split_word(rest);
+    out.hex("at", at)?;
+    out.text("kind", kind)?;
+    out.text("text", text)
 }
 
 /// Whether a region of a map is prefetchable, and its slot and register, of what stands behind its part.

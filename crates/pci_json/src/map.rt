@@ -5,7 +5,7 @@ ghost use Rattle.pci_json.specs.Members.{with_members, with_items};
 ghost use Rattle.pci_json.specs.Listings.{free_members, sits_members, outer_members, inside_members, root_members};
 ghost use Rattle.pci_json.specs.Documents.{place_of, places_of, root_of, buses_of, behind_heading, aside_of, is_heading};
 
-use crate::lines::{behind, content, cut, depth_of, is_inner, is_word, word};
+use crate::lines::{behind, content, cut, depth_of, is_inner, is_word, split_word, word};
 use crate::listing::push_kind;
 use crate::members::{push_isa, push_range};
 use crate::output::Output;
@@ -23,8 +23,9 @@ fn push_free<A: Allocator>(out: &mut Output<A>, line: &str) -> Result<(), AllocE
 fn push_sits<A: Allocator>(out: &mut Output<A>, line: &str, part: &str) -> Result<(), AllocError>
     ensures { OnOk result (out.new ≡ with_members out.old (sits_members line.now part.now)) }
 {
-    out.text("part", word(part, 0))?;
-    push_kind(out, behind(part, 1))?;
+    let (name, rest) = split_word(part);
+    out.text("part", name)?;
+    push_kind(out, rest)?;
     push_range(out, word(line, 0))?;
     push_isa(out, line, 5)
 }

@@ -3,7 +3,7 @@ ghost use Rattle.std.specs.Prelude.{◌≡◌, ◌<◌, ◌++◌, OnOk};
 ghost use Rattle.json.specs.Tree.{json_tokens};
 ghost use Rattle.pci_json.specs.Members.{with_members, with_items, first_of, last_of, slot_and_register, isa_member, range_members, range_object, opening, ranges_of};
 
-use crate::lines::{behind, cut, is_word, split_at_first, value, word};
+use crate::lines::{behind, cut, is_word, split_at_first, split_word, value, word};
 use crate::output::Output;
 use std::alloc::{AllocError, Allocator};
 
@@ -16,9 +16,9 @@ pub fn push_slot_and_register<A: Allocator>(
     requires { n < 1000 }
     ensures { OnOk result (out.new ≡ with_members out.old (slot_and_register n line.now)) }
 {
-    let slot = behind(line, n);
-    out.text("slot", word(slot, 0))?;
-    out.hex("register", word(slot, 1))
+    let (slot, rest) = split_word(behind(line, n));
+    out.text("slot", slot)?;
+    out.hex("register", word(rest, 0))
 }
 
 /// That ISA Enable cuts a window, where this word of its line says so.

@@ -1,5 +1,21 @@
 use Rattle.std.proofs.lemmas.Result.{on_ok_weaker}
+use Rattle.pci_json.specs.Lines.{behind}
+use Rattle.pci_json.proofs.Cuts.{behind_there, behind_here}
 use Rattle.pci_json.proofs.listing.push_bar.Goals as goal
 
 pub returns : goal.returns
-returns g c = on_ok_weaker c.push_bar_range.result (λ e. cc (e, c.word.ensures, c.in_ok-hex.ensures, c.word-2.ensures, c.in_ok-text.ensures, c.behind.ensures)) c.push_bar_range.ensures
+returns g c =
+    let line = c.args.line.now in
+    on_ok_weaker c.push_bar_range.result
+    (λ e. cc (
+      e,
+      c.split_second.ensures.first,
+      c.split_second.ensures.rest,
+      c.split_word.ensures.first,
+      c.split_word.ensures.rest,
+      behind_here (behind 2 line),
+      behind_there 2 1 line,
+      c.in_ok-hex.ensures,
+      c.in_ok-text.ensures,
+    ))
+    c.push_bar_range.ensures

@@ -9,16 +9,13 @@ returns g c =
     on_ok_weaker c.text-2.result
     (λ e. cc (
       e,
-      c.behind-at.ensures,
-      c.behind-kind.ensures,
-      behind_there 1 1 line,
-      behind_there 2 1 line,
-      behind_here (behind 1 line),
+      c.split_second.ensures.first,
+      c.split_second.ensures.rest,
+      c.split_word.ensures.first,
+      c.split_word.ensures.rest,
       behind_here (behind 2 line),
-      c.word.ensures,
+      behind_there 2 1 line,
       c.in_ok-hex.ensures,
-      c.word-2.ensures,
       c.in_ok-text.ensures,
-      c.behind.ensures,
     ))
     c.text-2.ensures

@@ -1,5 +1,21 @@
 use Rattle.std.proofs.lemmas.Result.{on_ok_weaker}
+use Rattle.pci_json.specs.Lines.{behind}
+use Rattle.pci_json.proofs.Cuts.{behind_there, behind_here}
 use Rattle.pci_json.proofs.listing.push_rom.Goals as goal
 
 pub returns : goal.returns
-returns g c = on_ok_weaker c.push_range.result (λ e. cc (e, c.word.ensures, c.in_ok-hex.ensures, c.is_word.ensures, c.in_ok-boolean.ensures, c.word-2.ensures)) c.push_range.ensures
+returns g c =
+    let line = c.args.line.now in
+    on_ok_weaker c.push_range.result
+    (λ e. cc (
+      e,
+      c.split_second.ensures.first,
+      c.split_second.ensures.rest,
+      behind_here (behind 2 line),
+      behind_there 2 1 line,
+      c.in_ok-hex.ensures,
+      c.is_word.ensures,
+      c.in_ok-boolean.ensures,
+      c.word.ensures,
+    ))
+    c.push_range.ensures

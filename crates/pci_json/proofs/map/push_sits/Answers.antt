@@ -8,4 +8,4 @@ use Rattle.pci_json.specs.Listings.{kind_members}
 use Rattle.pci_json.proofs.map.push_sits.Goals as goal
 
 pub returns : goal.returns
-returns g c = on_ok_weaker c.push_isa.result (λ e. cc (e, c.word.ensures, c.in_ok-text.ensures, c.behind.ensures, c.in_ok-push_kind.ensures, c.word-2.ensures, c.in_ok-push_range.ensures, more_members (with_members c.args.out.now ((codes "part", string (word 0 c.args.part.now)) ∷ [])) (kind_members (behind 1 c.args.part.now)) (range_members (word 0 c.args.line.now) ++ isa_member 5 c.args.line.now))) c.push_isa.ensures
+returns g c = on_ok_weaker c.push_isa.result (λ e. cc (e, c.split_word.ensures.first, c.split_word.ensures.rest, c.in_ok-text.ensures, c.in_ok-push_kind.ensures, c.word.ensures, c.in_ok-push_range.ensures, more_members (with_members c.args.out.now ((codes "part", string (word 0 c.args.part.now)) ∷ [])) (kind_members (behind 1 c.args.part.now)) (range_members (word 0 c.args.line.now) ++ isa_member 5 c.args.line.now))) c.push_isa.ensures

@@ -1,3 +1,4 @@
+use Rattle.std.proofs.Common.{◌+◌}
 use Rattle.std.proofs.lemmas.Result.{on_ok_weaker}
 use Rattle.pci_json.specs.Lines.{behind}
 use Rattle.pci_json.proofs.Cuts.{behind_there, behind_here}
@@ -7,5 +8,15 @@ pub returns : goal.returns
 returns g c =
     let line = c.args.line.now in
     on_ok_weaker c.hex.result
-    (λ e. cc (e, c.behind-slot.ensures, behind_here (behind c.args.n line), behind_there c.args.n 1 line, c.word.ensures, c.in_ok-text.ensures, c.word-2.ensures))
+    (λ e. cc (
+      e,
+      c.behind.ensures,
+      c.split_word.ensures.first,
+      c.split_word.ensures.rest,
+      behind_here (behind c.args.n line),
+      behind_there c.args.n 1 line,
+      behind_here (behind (c.args.n + 1) line),
+      c.in_ok-text.ensures,
+      c.word.ensures,
+    ))
     c.hex.ensures
