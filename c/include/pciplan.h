@@ -12,7 +12,7 @@
      CMPXCHG16B). pciplan_supported says whether the processor has them. Firmware switches SSE on first (CR0.EM clear,
      CR0.MP set, CR4.OSFXSR set), or the first call is an invalid opcode.
      `rt lib --backend rattle --cpu x86-64` builds it for every x86-64 processor; then pciplan_supported needn't be asked.
-   - Stack: 32 KB for each call, but 64 KB for pciplan_faults (an estimate), and 224 KB for pciplan_settle, which keeps tables of all
+   - Stack: 32 KB for each call, but 64 KB for pciplan_faults, and 224 KB for pciplan_settle, which keeps tables of all
      buses there. 128 bytes below the stack pointer are in use: what interrupts on the same stack leaves them alone
      (firmware is built with -mno-red-zone for that; this library isn't). In a build with `--backend rattle` nothing was
      found that does so, and pciplan_plan needs 80 KB (docs/C.md).
