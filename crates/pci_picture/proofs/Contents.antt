@@ -1,5 +1,5 @@
 -- Which texts XML reads as content.
-use Rattle.std.proofs.Common.{ℕ, Bool, List, [], ◌++◌, sym, ap, subst}
+use Rattle.std.proofs.Common.{ℕ, Bool, List, [], ◌++◌, sym, subst}
 use Rattle.std.proofs.lemmas.List.{append_assoc, append-nil}
 use Rattle.pci_picture.specs.Xml.{is_plain, is_unquoted, AreCharacters, no_character, character, entity, AreAttributes, no_attribute, one_attribute, attribute, element, empty_element, IsName, IsContent, nothing, text, one_element, one_empty}
 

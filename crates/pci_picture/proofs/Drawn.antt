@@ -1,7 +1,7 @@
 -- What is drawn is content.
 use Rattle.std.proofs.Common.{ℕ, List, [], ◌∷◌, ◌<◌, ◌^◌, refl, subst, codes}
 use Rattle.std.specs.Fmt.{decimal}
-use Rattle.pci_picture.specs.Xml.{is_unquoted, AreCharacters, no_character, character, AreAttributes, no_attribute, attribute, element, empty_element, IsName, IsContent, one_empty, nothing}
+use Rattle.pci_picture.specs.Xml.{is_unquoted, AreCharacters, no_character, character, AreAttributes, no_attribute, attribute, empty_element, IsName, IsContent, one_empty, nothing}
 use Rattle.pci_picture.specs.Elements.{escaped, number_attribute, text_attribute, frame_attributes, rect_attributes, place_attributes, title_text, box_text, words_text, faint_text, axis_words, axis_text, path_value, tick_text, gap_text}
 use Rattle.std.proofs.lemmas.List.{append-nil}
 use Rattle.pci_picture.proofs.Contents.{characters_append, attributes_append, content_append, content_of, element_content, attribute_lawful}

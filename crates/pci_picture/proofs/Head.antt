@@ -3,7 +3,7 @@ use Rattle.std.proofs.Common.{◌≡◌, ℕ, Bool, IsTrue, List, [], ◌∷◌,
 use Rattle.std.proofs.lemmas.Bool.{and_parts}
 use Rattle.std.specs.Fmt.{decimal}
 use Rattle.std.specs.List.{list_all}
-use Rattle.pci_picture.specs.Xml.{is_plain, is_unquoted, IsName, AreCharacters, no_character, character, AreAttributes, no_attribute, attribute, element, IsContent, IsDocument}
+use Rattle.pci_picture.specs.Xml.{is_plain, is_unquoted, IsName, AreCharacters, no_character, character, AreAttributes, no_attribute, attribute, IsContent, IsDocument}
 use Rattle.pci_picture.specs.Whole.{hatch_text, pair_text, view_value, view_box, svg_attributes, ground_text, style_text, line_text, head_text, picture_text}
 use Rattle.pci_picture.specs.declared.style.TheConstants.{STYLE, HATCH}
 use Rattle.pci_picture.proofs.Contents.{characters_append, attributes_append, content_append, content_of, element_content, attribute_lawful}

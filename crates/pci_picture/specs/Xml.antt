@@ -1,5 +1,5 @@
 -- What XML reads as the content of an element (XML 1.0, 2.1, 2.4, 3.1), as far as a picture needs it.
-use Rattle.std.specs.Prelude.{◌≡◌, ℕ, Bool, ◌==◌, ◌<◌, ◌&&◌, ◌||◌, not, IsTrue, List, [], ◌∷◌, ◌++◌, codes, nat_le}
+use Rattle.std.specs.Prelude.{◌≡◌, ℕ, Bool, ◌==◌, ◌&&◌, ◌||◌, not, IsTrue, List, [], ◌∷◌, ◌++◌, codes, nat_le}
 use Rattle.std.specs.List.{list_all}
 
 -- a character that stands for itself: neither `<` nor `&` (2.4)

@@ -1,6 +1,6 @@
 use Rattle.std.proofs.Common.{rules, ltb, List, sym, subst}
 use Rattle.std.proofs.lemmas.List.Sorted.{IsPartitionPoint-from_clause, IsPartitionedBy-ltb}
-use Rattle.std.specs.List.Sorted.{IsNonDecreasingBy, IsPartitionPoint}
+use Rattle.std.specs.List.Sorted.{IsNonDecreasingBy}
 use Rattle.pci_picture.specs.declared.heights.Run.{Run}
 use Rattle.pci_picture.proofs.Stacked.{stands_at, stands_below}
 use Rattle.pci_picture.proofs.heights.Heights.y.Goals as goal
