@@ -4,3 +4,9 @@ pub mod Drawn
 pub mod Head
 pub mod Kept
 pub mod Stacked
+pub mod Boxes
+pub mod Positions
+pub mod Titles
+pub mod Taken
+pub mod Sections
+pub mod Ranges

@@ -2,3 +2,8 @@ pub mod Xml
 pub mod Elements
 pub mod Whole
 pub mod Stacked
+pub mod Lines
+pub mod Boxes
+pub mod Canvases
+pub mod Maps
+pub mod Drawings

@@ -1,4 +1,9 @@
 //! A board, as the three texts tell it, and how wide it is drawn.
+ghost use Rattle.std.specs.Prelude.{◌≡◌, [], ◌∷◌, IfOk};
+ghost use Rattle.std.specs.List.Sorted.{IsPermutation};
+ghost use Rattle.pci_picture.specs.Boxes.{titled_line};
+ghost use Rattle.pci_picture.specs.Lines.{region_lines};
+ghost use Rattle.pci_picture.specs.Maps.{lines_read};
 
 use super::faults::{Fault, Faults};
 use super::function::{Buses, Function, find, give_titles, read_functions};
@@ -32,7 +37,10 @@ pub struct Board<'a, A: Allocator> {
 
 impl<'a, A: Allocator + Copy> Board<'a, A> {
     /// The board of the three texts.
-    pub fn read(alloc: A, texts: &Texts<'a>) -> Result<Board<'a, A>, OutOfMemory> {
+    pub fn read(alloc: A, texts: &Texts<'a>) -> Result<Board<'a, A>, OutOfMemory>
+        ensures { IfOk result (λ board. IsPermutation
+            (region_lines texts.entry.now.map.now) (lines_read board.map)) }
+    {
         let mut functions = read_functions(alloc, texts.show)?;
         give_titles(&mut functions, texts.titles);
         let map = Map::read(alloc, texts.map)?;
@@ -61,7 +69,7 @@ impl<'a, A: Allocator + Copy> Board<'a, A> {
     }
 
     /// Puts the lines that tell a fault there, with a line feed between two.
-    pub fn put_fault(&self, words: &mut Words<A>, fault: &Fault) -> Result<(), OutOfMemory> {
+    fn put_fault(&self, words: &mut Words<A>, fault: &Fault) -> Result<(), OutOfMemory> {
         for index in fault.begin..fault.end {
             if index != fault.begin {
                 words.put(b"\n")?;
@@ -71,13 +79,21 @@ impl<'a, A: Allocator + Copy> Board<'a, A> {
         Ok(())
     }
 
-    /// Puts the title of a region's box there: its line of the map, its function, and its faults.
-    pub fn put_title(&self, words: &mut Words<A>, region: &Region<'_>) -> Result<(), OutOfMemory> {
-        words.put(region.line)?;
-        if region.part == Part::Free {
-            return Ok(());
-        }
-        words.put(b"\n")?;
+    /// The title of a box that is about a fault: the lines that tell it, the first of which begins with its number.
+    pub fn fault_title(&self, alloc: A, fault: &Fault) -> Result<Words<A>, OutOfMemory>
+        ensures { IfOk result (λ title. titled_line title.bytes.items ≡ []) }
+    {
+        let mut lines = Words::new(alloc);
+        self.put_fault(&mut lines, fault)?;
+        let tens = b'0' + fault.number / 10 % 10;
+        let ones = b'0' + fault.number % 10;
+        let mut title = Words::of(alloc, &[tens, ones, b' '])?;
+        title.put(lines.bytes.as_slice().get(3..).unwrap_or(&[]))?;
+        Ok(title)
+    }
+
+    /// Puts there what is known of a region of a function: its function, and its faults.
+    fn put_about(&self, words: &mut Words<A>, region: &Region<'_>) -> Result<(), OutOfMemory> {
         words.put_name(self.function(region))?;
         if region.part == Part::Window {
             words.put(b"\nto ")?;
@@ -90,6 +106,21 @@ impl<'a, A: Allocator + Copy> Board<'a, A> {
             }
         }
         Ok(())
+    }
+
+    /// The title of a region's box: its line of the map, and below it what is known of the region.
+    pub fn title(&self, alloc: A, region: &Region<'_>) -> Result<Words<A>, OutOfMemory>
+        ensures { IfOk result (λ title. titled_line title.bytes.items ≡ region.entry.now.line.now ∷ []) }
+    {
+        let mut title = Words::of(alloc, region.line)?;
+        if region.part == Part::Free {
+            return Ok(title);
+        }
+        let mut about = Words::new(alloc);
+        self.put_about(&mut about, region)?;
+        title.put(b"\n")?;
+        title.put(about.bytes.as_slice())?;
+        Ok(title)
     }
 
     /// For each bus the root bus above it.

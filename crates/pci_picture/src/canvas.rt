@@ -1,8 +1,9 @@
 //! The elements of a picture that were drawn so far.
 ghost use Rattle.std.specs.String.{string_bytes};
-ghost use Rattle.std.specs.Prelude.{◌≡◌, IfOk};
+ghost use Rattle.std.specs.Prelude.{◌≡◌, ◌++◌, ℕ, List, [], IfOk, OnOk};
 ghost use Rattle.pci_picture.specs.Xml.{IsContent};
 ghost use Rattle.pci_picture.specs.Whole.{IsPictureText, picture_text};
+ghost use Rattle.pci_picture.specs.Boxes.{titled_line, IsDrawnOf};
 
 use super::elements::{Frame, push_axis, push_box, push_gap, push_tick, push_words};
 use super::memory::OutOfMemory;
@@ -38,8 +39,12 @@ pub struct Canvas<A: Allocator> {
 }
 
 impl<A: Allocator + Copy> Canvas<A> {
+    ghost use Rattle.pci_picture.specs.Canvases.{HasDrawn, Adds};
+
     /// Nothing is drawn.
-    pub fn new(alloc: A) -> Canvas<A> {
+    pub fn new(alloc: A) -> Canvas<A>
+        ensures { HasDrawn [] result }
+    {
         Canvas {
             boxes: String::new(alloc),
             words: String::new(alloc),
@@ -51,6 +56,9 @@ impl<A: Allocator + Copy> Canvas<A> {
     fn keep_box(&mut self) -> Result<(), OutOfMemory>
         // nothing else is kept, so that no element is left open
         requires { ∥ IsContent (string_bytes self.old.element) ∥₁ }
+        ensures { OnOk result
+            ((string_bytes self.new.boxes ≡ string_bytes self.old.boxes ++ string_bytes self.old.element)
+            × (string_bytes self.new.words ≡ string_bytes self.old.words)) }
     {
         self.boxes.push_str(self.element.as_str())?;
         Ok(())
@@ -60,13 +68,18 @@ impl<A: Allocator + Copy> Canvas<A> {
     fn keep_words(&mut self) -> Result<(), OutOfMemory>
         // nothing else is kept, so that no element is left open
         requires { ∥ IsContent (string_bytes self.old.element) ∥₁ }
+        ensures { OnOk result
+            ((string_bytes self.new.words ≡ string_bytes self.old.words ++ string_bytes self.old.element)
+            × (string_bytes self.new.boxes ≡ string_bytes self.old.boxes)) }
     {
         self.words.push_str(self.element.as_str())?;
         Ok(())
     }
 
     /// Draws a box with its title.
-    pub fn add_box(&mut self, shape: Shape<'_>, title: &[u8]) -> Result<(), OutOfMemory> {
+    pub fn add_box(&mut self, shape: Shape<'_>, title: &[u8]) -> Result<(), OutOfMemory>
+        ensures { OnOk result (Adds (titled_line title.now) self.old self.new) }
+    {
         self.element.clear();
         push_box(
             &mut self.element,
@@ -79,7 +92,9 @@ impl<A: Allocator + Copy> Canvas<A> {
     }
 
     /// Writes a line of words among the boxes.
-    pub fn add_heading(&mut self, label: Label<'_>, words: &[u8]) -> Result<(), OutOfMemory> {
+    pub fn add_heading(&mut self, label: Label<'_>, words: &[u8]) -> Result<(), OutOfMemory>
+        ensures { OnOk result (Adds [] self.old self.new) }
+    {
         self.element.clear();
         push_words(&mut self.element, label.x, label.y, label.class, words)?;
         self.keep_box()
@@ -92,28 +107,36 @@ impl<A: Allocator + Copy> Canvas<A> {
         y: u64,
         faint: &[u8],
         words: &[u8],
-    ) -> Result<(), OutOfMemory> {
+    ) -> Result<(), OutOfMemory>
+        ensures { OnOk result (Adds [] self.old self.new) }
+    {
         self.element.clear();
         push_axis(&mut self.element, x, y, faint, words)?;
         self.keep_box()
     }
 
     /// Draws a short line at the axis.
-    pub fn add_tick(&mut self, x: u64, y: u64) -> Result<(), OutOfMemory> {
+    pub fn add_tick(&mut self, x: u64, y: u64) -> Result<(), OutOfMemory>
+        ensures { OnOk result (Adds [] self.old self.new) }
+    {
         self.element.clear();
         push_tick(&mut self.element, x, y)?;
         self.keep_box()
     }
 
     /// Draws a line over a gap, up to `to`.
-    pub fn add_gap(&mut self, x: u64, y: u64, to: u64) -> Result<(), OutOfMemory> {
+    pub fn add_gap(&mut self, x: u64, y: u64, to: u64) -> Result<(), OutOfMemory>
+        ensures { OnOk result (Adds [] self.old self.new) }
+    {
         self.element.clear();
         push_gap(&mut self.element, x, y, to)?;
         self.keep_box()
     }
 
     /// Writes a line of words, where there are any.
-    pub fn add_words(&mut self, label: Label<'_>, words: &[u8]) -> Result<(), OutOfMemory> {
+    pub fn add_words(&mut self, label: Label<'_>, words: &[u8]) -> Result<(), OutOfMemory>
+        ensures { OnOk result (Adds [] self.old self.new) }
+    {
         if words.is_empty() {
             return Ok(());
         }
@@ -128,7 +151,9 @@ impl<A: Allocator + Copy> Canvas<A> {
         label: Label<'_>,
         words: &mut Words<A>,
         width: u64,
-    ) -> Result<(), OutOfMemory> {
+    ) -> Result<(), OutOfMemory>
+        ensures { OnOk result (Adds [] self.old self.new) }
+    {
         words.cut(width)?;
         self.add_words(label, words.bytes.as_slice())
     }
@@ -150,6 +175,8 @@ impl<A: Allocator + Copy> Canvas<A> {
     /// The picture of what was drawn: one element of SVG, with every text in it escaped and every element in it closed.
     pub fn finish(&self, alloc: A, width: u64, height: u64) -> Result<String<A>, OutOfMemory>
         ensures closed { IfOk result (λ text. IsPictureText (string_bytes text)) }
+        ensures drawn { (lines : List (List ℕ)) → HasDrawn lines self.now
+            → IfOk result (λ text. IsDrawnOf lines (string_bytes text)) }
     {
         self.text(alloc, width, height)
     }

@@ -1,4 +1,6 @@
 //! Functions, as `show` lists them.
+ghost use Rattle.std.specs.Prelude.{IsTrue};
+ghost use Rattle.pci_picture.specs.Lines.{is_slot};
 
 use super::memory::OutOfMemory;
 use super::reading::{hex_byte, hex_number, slot_number, word};
@@ -26,6 +28,7 @@ pub struct Function<'a> {
     pub buses: Option<Buses>,
     /// Its title in the dump, or nothing.
     pub title: &'a [u8],
+    ghost is_slot: { IsTrue (is_slot slot.now) },
 }
 
 /// The function of a line `S type T vendor V device D class C command X status X`.

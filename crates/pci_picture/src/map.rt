@@ -1,114 +1,162 @@
 //! The text of a map.
+ghost use Rattle.std.specs.Prelude.{◌≡◌, ◌++◌, ◌<◌, [], ◌∷◌, IsTrue, IfOk, OnOk};
+ghost use Rattle.std.specs.List.Sorted.{IsPermutation};
+ghost use Rattle.pci_picture.specs.Lines.{is_one_line, region_lines, told_line};
+ghost use Rattle.pci_picture.specs.Maps.{lines_read};
 
 use super::memory::OutOfMemory;
-use super::reading::{hex_byte, word};
+use super::reading::{hex_byte, indent, stripped, word};
 use super::region::{Region, region_of};
 use std::alloc::Allocator;
 
-/// The lines below a heading `bus bb io` or `bus bb mem`.
-#[derive(Drop)]
-pub struct Section<'a, A: Allocator> {
-    pub bus: u8,
-    pub is_io: bool,
-    pub regions: Vec<Region<'a>, A>,
+/// A line of a section, or one that is out of place or not reached.
+#[derive(Clone, Copy)]
+pub struct Line<'a> {
+    /// The number of its section; none under `outside` and `unreached`.
+    pub section: Option<u16>,
+    pub region: Region<'a>,
 }
 
 /// The lines of a map.
 #[derive(Drop)]
 pub struct Map<'a, A: Allocator> {
-    pub sections: Vec<Section<'a, A>, A>,
-    /// Those under `outside` and `unreached`.
-    pub lost: Vec<Region<'a>, A>,
+    /// Those of all sections, and those under `outside` and `unreached`.
+    pub lines: Vec<Line<'a>, A>,
+    /// Those under `off` and under no heading of a map.
     pub off: Vec<Region<'a>, A>,
 }
 
 /// Under which heading a line stands.
 #[derive(Clone, Copy)]
 enum Heading {
-    None,
-    Bus,
+    /// `bus bb io` or `bus bb mem`, by the number of the section.
+    Section(u16),
+    /// `outside` or `unreached`.
     Lost,
+    /// `off`, or none of these.
     Off,
 }
 
-impl<'a, A: Allocator + Copy> Map<'a, A> {
-    /// Begins what stands below a heading.
-    fn begin(&mut self, alloc: A, line: &[u8]) -> Result<Heading, OutOfMemory> {
-        match word(line, 0) {
-            b"outside" | b"unreached" => Ok(Heading::Lost),
-            b"off" => Ok(Heading::Off),
-            b"bus" => {
-                let Some(bus) = hex_byte(word(line, 1)) else {
-                    return Ok(Heading::None);
-                };
-                self.sections.push(Section {
-                    bus,
-                    is_io: word(line, 2) == b"io".as_slice(),
-                    regions: Vec::new(alloc),
-                })?;
-                Ok(Heading::Bus)
-            }
-            _ => Ok(Heading::None),
-        }
+/// The number of a root bus and a space: the I/O space of a bus stands before its memory space.
+pub fn section_number(bus: u8, is_io: bool) -> u16 {
+    if is_io {
+        2 * u16::from(bus)
+    } else {
+        2 * u16::from(bus) + 1
     }
+}
 
-    /// Takes a region below a heading.
-    fn take(&mut self, heading: Heading, region: Region<'a>) -> Result<(), OutOfMemory> {
-        match heading {
-            Heading::None => {}
-            Heading::Bus => {
-                if let Some(section) = self.sections.last_mut() {
-                    section.regions.push(region)?;
-                }
+/// The heading that a line is.
+fn heading_of(line: &[u8]) -> Heading {
+    match word(line, 0) {
+        b"outside" | b"unreached" => Heading::Lost,
+        b"bus" => match hex_byte(word(line, 1)) {
+            Some(bus) => {
+                let is_io = word(line, 2) == b"io".as_slice();
+                Heading::Section(section_number(bus, is_io))
             }
-            Heading::Lost => self.lost.push(region)?,
-            Heading::Off => self.off.push(region)?,
+            None => Heading::Off,
+        },
+        _ => Heading::Off,
+    }
+}
+
+/// A map whose first lines were read, the heading of the next line, and how deep the one before stands.
+#[derive(Drop)]
+struct Reader<'a, A: Allocator> {
+    map: Map<'a, A>,
+    heading: Heading,
+    level: usize,
+}
+
+impl<'a, A: Allocator + Copy> Reader<'a, A> {
+    /// Takes a region.
+    fn put(&mut self, region: Region<'a>) -> Result<(), OutOfMemory>
+        ensures { OnOk result (IsPermutation
+            (lines_read self.old.map ++ region.entry.line.now ∷ []) (lines_read self.new.map)) }
+    {
+        match self.heading {
+            Heading::Section(number) => {
+                let section = Some(number);
+                self.map.lines.push(Line { section, region })?;
+            }
+            Heading::Lost => {
+                let section = None;
+                self.map.lines.push(Line { section, region })?;
+            }
+            Heading::Off => self.map.off.push(region)?,
         }
         Ok(())
     }
 
-    /// The lines of a map. A line that is more than one step deeper than the one before it counts as one step deeper.
-    pub fn read(alloc: A, text: &'a str) -> Result<Map<'a, A>, OutOfMemory> {
-        let mut map = Map {
-            sections: Vec::new(alloc),
-            lost: Vec::new(alloc),
-            off: Vec::new(alloc),
-        };
-        let mut heading = Heading::None;
-        let mut level = 0;
-        for line in text.split('\n') {
-            let line = line.as_bytes();
-            let blanks = line
-                .iter()
-                .position(|byte| *byte != b' ')
-                .unwrap_or(line.len());
-            if blanks < 2 {
-                heading = map.begin(alloc, line)?;
-                level = 0;
-            } else {
-                let depth = deeper(level, blanks / 2);
-                if let Some(region) = region_of(line, depth) {
-                    map.take(heading, region)?;
-                    level = depth;
-                }
-            }
+    /// Takes a line. One that is more than one step deeper than the one before counts as one step deeper.
+    fn take(&mut self, line: &'a [u8]) -> Result<(), OutOfMemory>
+        requires { IsTrue (is_one_line line.now) }
+        ensures { OnOk result (IsPermutation
+            (lines_read self.old.map ++ told_line line.entry.now) (lines_read self.new.map)) }
+    {
+        let blanks = indent(line);
+        if blanks < 2 {
+            self.heading = heading_of(line);
+            self.level = 0;
+            return Ok(());
         }
-        Ok(map)
+        let depth = deeper(self.level, blanks / 2);
+        match region_of(stripped(line), depth) {
+            Some(region) => {
+                self.level = depth;
+                self.put(region)
+            }
+            None => Ok(()),
+        }
+    }
+}
+
+impl<'a, A: Allocator + Copy> Map<'a, A> {
+    /// The lines of a map.
+    pub fn read(alloc: A, text: &'a str) -> Result<Map<'a, A>, OutOfMemory>
+        ensures { IfOk result (λ read. IsPermutation (region_lines text.entry.now) (lines_read read)) }
+    {
+        let mut reader = Reader {
+            map: Map {
+                lines: Vec::new(alloc),
+                off: Vec::new(alloc),
+            },
+            heading: Heading::Off,
+            level: 0,
+        };
+        for line in text.split('\n') {
+            reader.take(line.as_bytes())?;
+        }
+        Ok(reader.map)
     }
 
     /// How deep the deepest line of a section stands.
     pub fn depth(&self) -> usize {
         let mut depth = 1;
-        for section in &self.sections {
-            for region in &section.regions {
-                depth = region.depth.max(depth);
+        for line in &self.lines {
+            if line.section.is_some() {
+                depth = line.region.depth.max(depth);
             }
         }
         depth
     }
+
+    /// How many regions of functions the sections have.
+    pub fn region_count(&self) -> usize {
+        self.lines
+            .iter()
+            .filter(|line| line.section.is_some() && line.region.key != 0)
+            .count()
+    }
+
+    /// Whether a line is out of place or not reached.
+    pub fn has_lost(&self) -> bool {
+        self.lines.iter().any(|line| line.section.is_none())
+    }
 }
 
-/// At most one step deeper than the line before, and at most 255 steps deep.
+/// At most one step deeper than the line before.
 fn deeper(level: usize, depth: usize) -> usize {
     depth.min(level.saturating_add(1))
 }

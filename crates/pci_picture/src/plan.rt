@@ -1,7 +1,8 @@
 //! What of a section stands where: its heights, the widths of its lines, and what its faults say of addresses.
 
-ghost use Rattle.std.specs.Prelude.{IfOk};
+ghost use Rattle.std.specs.Prelude.{◌≡◌, ◌≤◌, ◌++◌, length, IfOk, OnOk};
 ghost use Rattle.std.specs.List.Sorted.{IsNonDecreasingBy};
+ghost use Rattle.pci_picture.specs.Maps.{regions_of, regions_at};
 
 use super::faults::Faults;
 use super::heights::{Cut, Heights};
@@ -20,14 +21,48 @@ pub const LOST: u64 = 240;
 /// Where a section stands.
 #[derive(Clone, Copy)]
 pub struct Site {
-    pub bus: u8,
-    pub is_io: bool,
+    /// The number of the section.
+    pub section: u16,
     pub x: u64,
     pub y: u64,
     /// The width of its boxes.
     pub width: u64,
     /// The width of a window's own text.
     pub column: u64,
+}
+
+impl Site {
+    /// The root bus of the section.
+    pub fn bus(&self) -> u8 {
+        (self.section / 2 % 256) as u8
+    }
+
+    /// Whether it is of I/O space.
+    pub fn is_io(&self) -> bool {
+        self.section % 2 == 0
+    }
+}
+
+/// A region, and the section in which it is drawn.
+#[derive(Clone, Copy)]
+pub struct Member<'a> {
+    /// The number of the section.
+    pub section: u16,
+    /// Whether it is out of place or not reached.
+    pub is_lost: bool,
+    pub region: Region<'a>,
+}
+
+impl Member<'_> {
+    /// By what the regions of a section stand in order. Those below its heading stand in the order of the map, and those
+    /// that are lost by address and name.
+    pub fn rank(&self) -> (u64, u32) {
+        if self.is_lost {
+            (self.region.first, self.region.key)
+        } else {
+            (0, 0)
+        }
+    }
 }
 
 /// A range that a fault tells.
@@ -204,45 +239,24 @@ pub struct Plan<'a, A: Allocator> {
 }
 
 impl<'a, A: Allocator + Copy> Plan<'a, A> {
-    /// Where everything of a section stands: of the lines below its heading, and of those of its root and space that are
-    /// out of place or not reached.
+    /// Where everything of a section stands: the lines below its heading, and behind them those of its root and space
+    /// that are out of place or not reached.
     pub fn of(
         alloc: A,
         faults: &Faults<'_, A>,
         site: &Site,
-        regions: &[Region<'a>],
-        lost: &[Region<'a>],
-    ) -> Result<Plan<'a, A>, OutOfMemory> {
-        let mut every = Vec::new(alloc);
-        every.extend_from_slice(regions)?;
-        every.extend_from_slice(lost)?;
-        let keys = keys_of(alloc, every.as_slice())?;
-        let tellings = tellings_of(alloc, faults, every.as_slice(), keys.as_slice())?;
-        let cuts = cuts_of(alloc, every.as_slice(), &tellings)?;
-        let base = if site.is_io { 4 } else { 12 };
+        members: &[Member<'a>],
+    ) -> Result<Plan<'a, A>, OutOfMemory>
+        ensures { IfOk result (λ plan. regions_at plan.placed.items ≡ regions_of members.entry.now) }
+    {
+        let regions = regions_of(alloc, members)?;
+        let every = regions.as_slice();
+        let keys = keys_of(alloc, every)?;
+        let tellings = tellings_of(alloc, faults, every, keys.as_slice())?;
+        let cuts = cuts_of(alloc, every, &tellings)?;
+        let base = if site.is_io() { 4 } else { 12 };
         let heights = Heights::of(alloc, cuts.as_slice(), base, site.y.saturating_add(22))?;
-        let mut placed = Vec::new(alloc);
-        let left = site.x.saturating_add(AXIS);
-        let edge = left.saturating_add(site.width);
-        let split = if lost.is_empty() {
-            edge
-        } else {
-            edge.saturating_sub(LOST)
-        };
-        place(
-            alloc,
-            &mut placed,
-            regions,
-            (left, split, site.column),
-            false,
-        )?;
-        place(
-            alloc,
-            &mut placed,
-            lost,
-            (split.saturating_add(8), edge, site.column),
-            true,
-        )?;
+        let placed = placed_of(alloc, site, every, lost_from(members))?;
         Ok(Plan {
             placed,
             keys,
@@ -252,19 +266,80 @@ impl<'a, A: Allocator + Copy> Plan<'a, A> {
     }
 }
 
-/// Gives regions their places between left and right, with so many units for the text of a window.
+/// The regions of some members.
+fn regions_of<'a, A: Allocator + Copy>(
+    alloc: A,
+    members: &[Member<'a>],
+) -> Result<Vec<Region<'a>, A>, OutOfMemory>
+    ensures { IfOk result (λ regions. regions.items ≡ regions_of members.entry.now) }
+{
+    let mut regions = Vec::new(alloc);
+    for member in members {
+        regions.push(member.region)?;
+    }
+    Ok(regions)
+}
+
+/// How many members stand before the first one that is lost.
+fn lost_from(members: &[Member<'_>]) -> usize {
+    members
+        .iter()
+        .position(|member| member.is_lost)
+        .unwrap_or(members.len())
+}
+
+/// The places of the regions of a section. Those from an index on are lost.
+fn placed_of<'a, A: Allocator + Copy>(
+    alloc: A,
+    site: &Site,
+    regions: &[Region<'a>],
+    index: usize,
+) -> Result<Vec<Placed<'a>, A>, OutOfMemory>
+    ensures { IfOk result (λ placed. regions_at placed.items ≡ regions.entry.now) }
+{
+    let left = site.x.saturating_add(AXIS);
+    let edge = left.saturating_add(site.width);
+    let (inside, lost) = regions.split_at(index.min(regions.len()));
+    let split = if lost.is_empty() {
+        edge
+    } else {
+        edge.saturating_sub(LOST)
+    };
+    let whole = Width {
+        left,
+        right: split,
+        inner: left,
+    };
+    let beside = split.saturating_add(8);
+    let outer = Width {
+        left: beside,
+        right: edge,
+        inner: beside,
+    };
+    let mut placed = Vec::new(alloc);
+    let column = site.column;
+    place(alloc, &mut placed, inside, whole, column, false)?;
+    place(alloc, &mut placed, lost, outer, column, true)?;
+    Ok(placed)
+}
+
+/// Gives regions their places in a width, with so many units for the text of a window.
 fn place<'a, A: Allocator + Copy>(
     alloc: A,
     placed: &mut Vec<Placed<'a>, A>,
     regions: &[Region<'a>],
-    (left, right, column): (u64, u64, u64),
+    whole: Width,
+    column: u64,
     is_lost: bool,
-) -> Result<(), OutOfMemory> {
-    let widths = widths(alloc, regions, left, right, column)?;
-    for (region, width) in regions.iter().zip(widths.iter()) {
+) -> Result<(), OutOfMemory>
+    ensures { OnOk result (regions_at placed.new.items ≡ regions_at placed.old.items ++ regions.entry.now) }
+{
+    let widths = widths(alloc, regions, whole.left, whole.right, column)?;
+    for (index, region) in regions.iter().enumerate() {
+        let width = widths.get(index).copied().unwrap_or(whole);
         placed.push(Placed {
             region: *region,
-            width: *width,
+            width,
             is_lost,
         })?;
     }

@@ -1,7 +1,12 @@
 //! Words, numbers and slots of a line.
+ghost use Rattle.std.specs.Prelude.{◌≡◌, ◌≤◌, ◌<◌, length, is_some};
+ghost use Rattle.pci_picture.specs.Lines.{indent_of, content_of, words_of, nth_word, digit_of, number_of, is_register, is_slot, is_range};
 
 /// The word of a line at an index, or nothing where it has fewer.
-pub fn word(line: &[u8], index: usize) -> &[u8] {
+#[tactic(auto, unfolding(crate::specs::Lines::words_of))]
+pub fn word(line: &[u8], index: usize) -> &[u8]
+    ensures { result.now ≡ nth_word (words_of line.now) index }
+{
     line.split(|byte| *byte == b' ')
         .filter(|word| !word.is_empty())
         .nth(index)
@@ -15,17 +20,27 @@ pub fn word_count(line: &[u8]) -> usize {
         .count()
 }
 
-/// A line without the blanks that it begins with.
-pub fn stripped(line: &[u8]) -> &[u8] {
-    let blanks = line
-        .iter()
+/// How many blanks a line begins with.
+pub fn indent(line: &[u8]) -> usize
+    ensures value { result ≡ indent_of line.now }
+    ensures within { result ≤ length line.now }
+{
+    line.iter()
         .position(|byte| *byte != b' ')
-        .unwrap_or(line.len());
-    line.get(blanks..).unwrap_or(&[])
+        .unwrap_or(line.len())
+}
+
+/// A line without the blanks that it begins with.
+pub fn stripped(line: &[u8]) -> &[u8]
+    ensures { result.now ≡ content_of line.now }
+{
+    &line[indent(line)..]
 }
 
 /// The value of a hex digit in lower case.
-fn nibble(digit: u8) -> Option<u8> {
+fn nibble(digit: u8) -> Option<u8>
+    ensures { result ≡ digit_of digit }
+{
     match digit {
         b'0'..=b'9' => Some(digit - b'0'),
         b'a'..=b'f' => Some(digit - b'a' + 10),
@@ -34,27 +49,38 @@ fn nibble(digit: u8) -> Option<u8> {
 }
 
 /// The number of at most 16 hex digits.
-pub fn hex_number(digits: &[u8]) -> Option<u64> {
+pub fn hex_number(digits: &[u8]) -> Option<u64>
+    ensures { result ≡ number_of digits.now }
+{
     if digits.is_empty() || 16 < digits.len() {
         return None;
     }
     let mut number = 0u64;
     for digit in digits {
-        number = (number << 4) | u64::from(nibble(*digit)?);
+        let value = nibble(*digit)?;
+        number = number.wrapping_mul(16).wrapping_add(u64::from(value));
     }
     Some(number)
 }
 
 /// The number of two hex digits.
-pub fn hex_byte(digits: &[u8]) -> Option<u8> {
-    match digits {
-        [high, low] => Some((nibble(*high)? << 4) | nibble(*low)?),
-        _ => None,
+#[tactic(auto, unfolding(crate::specs::Lines::is_register))]
+pub fn hex_byte(digits: &[u8]) -> Option<u8>
+    ensures { is_some result ≡ is_register digits.now }
+{
+    if digits.len() != 2 {
+        return None;
     }
+    let high = nibble(digits[0])?;
+    let low = nibble(digits[1])?;
+    Some((high << 4) | low)
 }
 
 /// The number of a slot `bb:dd.f`, in hex `bbddf`.
-pub fn slot_number(text: &[u8]) -> Option<u32> {
+#[tactic(auto, unfolding(crate::specs::Lines::is_slot))]
+pub fn slot_number(text: &[u8]) -> Option<u32>
+    ensures { is_some result ≡ is_slot text.now }
+{
     if text.len() != 7 || text[2] != b':' || text[5] != b'.' {
         return None;
     }
@@ -90,10 +116,13 @@ pub struct Extent {
 }
 
 /// The range of a word `F-L`.
-pub fn extent_of(text: &[u8]) -> Option<Extent> {
+#[tactic(auto, unfolding(crate::specs::Lines::is_range))]
+pub fn extent_of(text: &[u8]) -> Option<Extent>
+    ensures { is_some result ≡ is_range text.now }
+{
     let dash = text.iter().position(|byte| *byte == b'-')?;
-    let first = hex_number(text.get(..dash)?)?;
-    let last = hex_number(text.get(dash..)?.get(1..)?)?;
+    let first = hex_number(&text[..dash])?;
+    let last = hex_number(&text[dash + 1..])?;
     if last < first {
         return None;
     }

@@ -1,6 +1,8 @@
 //! Lines of a map.
+ghost use Rattle.std.specs.Prelude.{◌≡◌, ◌+◌, ◌<◌, [], ◌∷◌, ℕ, IsTrue, MatchOption, is_some};
+ghost use Rattle.pci_picture.specs.Lines.{is_one_line, is_part, is_region_line, names_register, region_line, words_of};
 
-use super::reading::{extent_of, hex_byte, region_key, slot_number, stripped, word};
+use super::reading::{extent_of, hex_byte, region_key, slot_number, word};
 
 /// What a line of a map is about.
 #[derive(Clone, Copy, PartialEq, Eq)]
@@ -30,47 +32,83 @@ pub struct Region<'a> {
     pub key: u32,
     /// How deep it stands, from 1 on.
     pub depth: usize,
+    ghost is_one_line: { IsTrue (is_one_line line.now) },
+    ghost is_told: { IsTrue (is_region_line line.now) },
 }
 
-/// The part that stands at the third word of a line, and the index of the slot behind it.
-fn part_of(line: &[u8]) -> Option<(Part, usize)> {
-    match word(line, 2) {
-        b"bar" => {
-            if word(line, 3) == b"pref".as_slice() {
-                Some((Part::Prefetchable, 4))
-            } else {
-                Some((Part::Bar, 3))
-            }
+/// What a line is about: its part, and the words and the number that name it.
+#[derive(Clone, Copy)]
+struct Named<'a> {
+    part: Part,
+    slot: &'a [u8],
+    register: &'a [u8],
+    key: u32,
+}
+
+/// The part whose slot and register are the words at an index and behind it.
+fn named_at(line: &[u8], part: Part, index: usize) -> Option<Named<'_>>
+    requires { index < 8 }
+    ensures { is_some result ≡ names_register (words_of line.now) index }
+{
+    let slot = word(line, index);
+    let register = word(line, index + 1);
+    let number = slot_number(slot)?;
+    let offset = hex_byte(register)?;
+    Some(Named {
+        part,
+        slot,
+        register,
+        key: region_key(number, offset),
+    })
+}
+
+/// The part that stands at the third word of a line, and what names it.
+#[tactic(auto, unfolding(crate::specs::Lines::is_part))]
+fn named_of(line: &[u8]) -> Option<Named<'_>>
+    ensures { is_some result ≡ is_part (words_of line.now) }
+{
+    let part = word(line, 2);
+    if part == b"bar".as_slice() {
+        if word(line, 3) == b"pref".as_slice() {
+            named_at(line, Part::Prefetchable, 4)
+        } else {
+            named_at(line, Part::Bar, 3)
         }
-        b"rom" => Some((Part::Rom, 3)),
-        b"window" => Some((Part::Window, 3)),
-        b"free" => Some((Part::Free, 3)),
-        _ => None,
+    } else if part == b"rom".as_slice() {
+        named_at(line, Part::Rom, 3)
+    } else if part == b"window".as_slice() {
+        named_at(line, Part::Window, 3)
+    } else if part == b"free".as_slice() {
+        Some(Named {
+            part: Part::Free,
+            slot: &[],
+            register: &[],
+            key: 0,
+        })
+    } else {
+        None
     }
 }
 
-/// The region of a line `F-L N PART S r`, or of a line `F-L N free`.
-pub fn region_of(line: &[u8], depth: usize) -> Option<Region<'_>> {
-    let line = stripped(line);
+/// The region of a line `F-L N PART S r`, or of a line `F-L N free`, without the blanks before it.
+#[tactic(auto, unfolding(crate::specs::Lines::is_region_line))]
+pub fn region_of(line: &[u8], depth: usize) -> Option<Region<'_>>
+    requires { IsTrue (is_one_line line.now) }
+    ensures { MatchOption result (region_line line.now ≡ [])
+        (λ region. region_line line.now ≡ region.line.now ∷ []) }
+{
     let range = extent_of(word(line, 0))?;
-    let (part, at) = part_of(line)?;
-    let slot = word(line, at);
-    let register = word(line, at.saturating_add(1));
-    let key = if part == Part::Free {
-        0
-    } else {
-        region_key(slot_number(slot)?, hex_byte(register)?)
-    };
+    let named = named_of(line)?;
     Some(Region {
         line,
         first: range.first,
         last: range.last,
         digits: range.digits,
         size: word(line, 1),
-        part,
-        slot,
-        register,
-        key,
+        part: named.part,
+        slot: named.slot,
+        register: named.register,
+        key: named.key,
         depth,
     })
 }

@@ -1,4 +1,7 @@
 //! A section of a map: its axis, its boxes, and what its faults say of addresses.
+ghost use Rattle.std.specs.Prelude.{[], ◌∷◌, IfOk, OnOk};
+ghost use Rattle.pci_picture.specs.Canvases.{Adds};
+ghost use Rattle.pci_picture.specs.Maps.{lines_of, regions_of, regions_at};
 
 use super::board::Board;
 use super::canvas::{Canvas, Label, Shape};
@@ -7,10 +10,53 @@ use super::faults::Faults;
 use super::heights::{Heights, LINE, Run};
 use super::lanes::Width;
 use super::memory::OutOfMemory;
-use super::plan::{AXIS, Placed, Plan, Site, Told, with_key};
+use super::plan::{AXIS, Member, Placed, Plan, Site, Told, with_key};
 use super::region::{Part, Region};
 use super::words::Words;
 use std::alloc::Allocator;
+
+/// Draws a run that a line covers at the axis: its first address.
+fn draw_covered<A: Allocator + Copy>(
+    alloc: A,
+    canvas: &mut Canvas<A>,
+    site: &Site,
+    digits: usize,
+    run: &Run,
+) -> Result<(), OutOfMemory>
+    ensures { OnOk result (Adds [] canvas.old canvas.new) }
+{
+    let axis = site.x.saturating_add(AXIS);
+    let mut words = Words::new(alloc);
+    words.put_hex(low_bits(run.begin), digits)?;
+    let bytes = words.bytes.as_slice();
+    let zeros = bytes
+        .iter()
+        .position(|byte| *byte != b'0')
+        .unwrap_or(bytes.len());
+    let faint = bytes.get(..zeros).unwrap_or(&[]);
+    let (x, y) = (axis.saturating_sub(6), run.y.saturating_add(11));
+    canvas.add_axis(x, y, faint, bytes.get(zeros..).unwrap_or(&[]))?;
+    canvas.add_tick(axis.saturating_sub(4), run.y)
+}
+
+/// Draws a run that no line covers at the axis: the last address before it.
+fn draw_gap<A: Allocator + Copy>(
+    alloc: A,
+    canvas: &mut Canvas<A>,
+    site: &Site,
+    digits: usize,
+    run: &Run,
+) -> Result<(), OutOfMemory>
+    ensures { OnOk result (Adds [] canvas.old canvas.new) }
+{
+    let axis = site.x.saturating_add(AXIS);
+    let mut words = Words::of(alloc, b"to ")?;
+    words.put_hex(low_bits(run.begin.saturating_sub(1)), digits)?;
+    let (x, y) = (axis.saturating_sub(6), run.y.saturating_add(11));
+    canvas.add_axis(x, y, words.bytes.as_slice(), b"")?;
+    let right = axis.saturating_add(site.width);
+    canvas.add_gap(axis, run.y.saturating_add(run.height / 2), right)
+}
 
 /// Draws one run at the axis.
 fn draw_run<A: Allocator + Copy>(
@@ -19,26 +65,13 @@ fn draw_run<A: Allocator + Copy>(
     site: &Site,
     digits: usize,
     run: &Run,
-) -> Result<(), OutOfMemory> {
-    let axis = site.x.saturating_add(AXIS);
-    let (x, y) = (axis.saturating_sub(6), run.y.saturating_add(11));
-    let mut words = Words::new(alloc);
+) -> Result<(), OutOfMemory>
+    ensures { OnOk result (Adds [] canvas.old canvas.new) }
+{
     if run.is_covered {
-        words.put_hex(low_bits(run.begin), digits)?;
-        let bytes = words.bytes.as_slice();
-        let zeros = bytes
-            .iter()
-            .position(|byte| *byte != b'0')
-            .unwrap_or(bytes.len());
-        let faint = bytes.get(..zeros).unwrap_or(&[]);
-        canvas.add_axis(x, y, faint, bytes.get(zeros..).unwrap_or(&[]))?;
-        canvas.add_tick(axis.saturating_sub(4), run.y)
+        draw_covered(alloc, canvas, site, digits, run)
     } else {
-        words.put(b"to ")?;
-        words.put_hex(low_bits(run.begin.saturating_sub(1)), digits)?;
-        canvas.add_axis(x, y, words.bytes.as_slice(), b"")?;
-        let right = axis.saturating_add(site.width);
-        canvas.add_gap(axis, run.y.saturating_add(run.height / 2), right)
+        draw_gap(alloc, canvas, site, digits, run)
     }
 }
 
@@ -54,7 +87,9 @@ fn draw_axis<A: Allocator + Copy>(
     site: &Site,
     regions: &[Region<'_>],
     heights: &Heights<A>,
-) -> Result<(), OutOfMemory> {
+) -> Result<(), OutOfMemory>
+    ensures { OnOk result (Adds [] canvas.old canvas.new) }
+{
     let mut digits = 0;
     let mut last = 0;
     for (index, region) in regions.iter().enumerate() {
@@ -128,7 +163,9 @@ fn draw_box<A: Allocator + Copy>(
     board: &Board<'_, A>,
     placed: &Placed<'_>,
     at: Frame,
-) -> Result<(), OutOfMemory> {
+) -> Result<(), OutOfMemory>
+    ensures { OnOk result (Adds (placed.entry.now.region.line.now ∷ []) canvas.old canvas.new) }
+{
     let region = &placed.region;
     let mut class = Words::new(alloc);
     class_of(&mut class, &board.faults, region, placed.is_lost)?;
@@ -139,14 +176,14 @@ fn draw_box<A: Allocator + Copy>(
         anchor.put(b"-")?;
         anchor.put(region.register)?;
     }
-    let mut title = Words::new(alloc);
-    board.put_title(&mut title, region)?;
     let shape = Shape {
         at,
         class: class.bytes.as_slice(),
         anchor: anchor.bytes.as_slice(),
     };
-    canvas.add_box(shape, title.bytes.as_slice())
+    let title = board.title(alloc, region)?;
+    let lines = title.bytes.as_slice();
+    canvas.add_box(shape, lines)
 }
 
 /// Writes the words in the box of a region.
@@ -156,7 +193,9 @@ fn write_region<A: Allocator + Copy>(
     board: &Board<'_, A>,
     placed: &Placed<'_>,
     at: Frame,
-) -> Result<(), OutOfMemory> {
+) -> Result<(), OutOfMemory>
+    ensures { OnOk result (Adds [] canvas.old canvas.new) }
+{
     let region = &placed.region;
     let mut words = Words::new(alloc);
     let width = placed.width;
@@ -191,10 +230,10 @@ fn write_region<A: Allocator + Copy>(
         }
     }
     canvas.add_cut(label, &mut words, room)?;
-    if region.part == Part::Window && 2 * LINE <= at.height.saturating_add(1) {
-        write_buses(alloc, canvas, board, region, label, room)?;
+    if region.part != Part::Window || at.height.saturating_add(1) < 2 * LINE {
+        return Ok(());
     }
-    Ok(())
+    write_buses(alloc, canvas, board, region, label, room)
 }
 
 /// Writes the buses behind a window below its first line.
@@ -205,7 +244,9 @@ fn write_buses<A: Allocator + Copy>(
     region: &Region<'_>,
     above: Label<'_>,
     room: u64,
-) -> Result<(), OutOfMemory> {
+) -> Result<(), OutOfMemory>
+    ensures { OnOk result (Adds [] canvas.old canvas.new) }
+{
     let mut words = Words::of(alloc, b"to ")?;
     words.put_buses(board.buses(region))?;
     let label = Label {
@@ -234,13 +275,16 @@ fn frame_of<A: Allocator + Copy>(heights: &Heights<A>, placed: &Placed<'_>) -> F
 }
 
 /// Draws the range that two regions share, over both.
+#[tactic(auto, using(crate::proofs::Boxes::unchanged))]
 fn draw_shared<A: Allocator + Copy>(
     alloc: A,
     canvas: &mut Canvas<A>,
     board: &Board<'_, A>,
     plan: &Plan<'_, A>,
     range: &Told,
-) -> Result<(), OutOfMemory> {
+) -> Result<(), OutOfMemory>
+    ensures { OnOk result (Adds [] canvas.old canvas.new) }
+{
     let Some(fault) = board.faults.faults.get(range.fault) else {
         return Ok(());
     };
@@ -268,24 +312,27 @@ fn draw_shared<A: Allocator + Copy>(
         width: right.saturating_sub(left).max(1),
         height: end.saturating_sub(y).saturating_sub(1).max(3),
     };
-    let mut title = Words::new(alloc);
-    board.put_fault(&mut title, fault)?;
+    let title = board.fault_title(alloc, fault)?;
+    let lines = title.bytes.as_slice();
     let shape = Shape {
         at,
         class: b"shared",
         anchor: b"",
     };
-    canvas.add_box(shape, title.bytes.as_slice())
+    canvas.add_box(shape, lines)
 }
 
 /// Draws where the region that a fault names would fit, over the first free line that has the range.
+#[tactic(auto, using(crate::proofs::Boxes::unchanged))]
 fn draw_fits<A: Allocator + Copy>(
     alloc: A,
     canvas: &mut Canvas<A>,
     board: &Board<'_, A>,
     plan: &Plan<'_, A>,
     range: &Told,
-) -> Result<(), OutOfMemory> {
+) -> Result<(), OutOfMemory>
+    ensures { OnOk result (Adds [] canvas.old canvas.new) }
+{
     let (Some(fault), Some(free)) = (board.faults.faults.get(range.fault), free_line(plan, range))
     else {
         return Ok(());
@@ -299,14 +346,14 @@ fn draw_fits<A: Allocator + Copy>(
         width: width.saturating_sub(92).max(1),
         height: end.saturating_sub(y).saturating_sub(3),
     };
-    let mut title = Words::new(alloc);
-    board.put_fault(&mut title, fault)?;
+    let title = board.fault_title(alloc, fault)?;
+    let lines = title.bytes.as_slice();
     let shape = Shape {
         at,
         class: b"fits",
         anchor: b"",
     };
-    canvas.add_box(shape, title.bytes.as_slice())?;
+    canvas.add_box(shape, lines)?;
     let label = Label {
         x: free.left.saturating_add(96),
         y: y.saturating_add(11),
@@ -339,39 +386,78 @@ fn free_line<A: Allocator + Copy>(plan: &Plan<'_, A>, range: &Told) -> Option<Wi
     None
 }
 
+/// Draws the regions of a section.
+fn draw_regions<A: Allocator + Copy>(
+    alloc: A,
+    canvas: &mut Canvas<A>,
+    board: &Board<'_, A>,
+    plan: &Plan<'_, A>,
+) -> Result<(), OutOfMemory>
+    ensures { OnOk result (Adds (lines_of (regions_at plan.entry.now.placed.items)) canvas.old canvas.new) }
+{
+    for placed in &plan.placed {
+        let at = frame_of(&plan.heights, placed);
+        draw_box(alloc, canvas, board, placed, at)?;
+        write_region(alloc, canvas, board, placed, at)?;
+    }
+    Ok(())
+}
+
+/// Draws what the faults of a section say of addresses.
+fn draw_tellings<A: Allocator + Copy>(
+    alloc: A,
+    canvas: &mut Canvas<A>,
+    board: &Board<'_, A>,
+    plan: &Plan<'_, A>,
+) -> Result<(), OutOfMemory>
+    ensures { OnOk result (Adds [] canvas.old canvas.new) }
+{
+    for range in &plan.tellings.shared {
+        draw_shared(alloc, canvas, board, plan, range)?;
+    }
+    for fit in &plan.tellings.fits {
+        draw_fits(alloc, canvas, board, plan, fit)?;
+    }
+    Ok(())
+}
+
+/// Writes the heading of a section.
+fn write_heading<A: Allocator + Copy>(
+    alloc: A,
+    canvas: &mut Canvas<A>,
+    site: &Site,
+) -> Result<(), OutOfMemory>
+    ensures { OnOk result (Adds [] canvas.old canvas.new) }
+{
+    let mut heading = Words::of(alloc, b"bus ")?;
+    heading.put_hex(u64::from(site.bus()), 2)?;
+    heading.put(if site.is_io() { b", I/O" } else { b", memory" })?;
+    let label = Label {
+        x: site.x,
+        y: site.y.saturating_add(13),
+        class: b"head",
+    };
+    canvas.add_heading(label, heading.bytes.as_slice())
+}
+
 /// Draws a section. Its answer is where it ends.
 pub fn draw_section<A: Allocator + Copy>(
     alloc: A,
     canvas: &mut Canvas<A>,
     board: &Board<'_, A>,
     site: &Site,
-    (regions, lost): (&[Region<'_>], &[Region<'_>]),
-) -> Result<u64, OutOfMemory> {
-    let mut heading = Words::of(alloc, b"bus ")?;
-    heading.put_hex(u64::from(site.bus), 2)?;
-    heading.put(if site.is_io { b", I/O" } else { b", memory" })?;
-    let label = Label {
-        x: site.x,
-        y: site.y.saturating_add(13),
-        class: b"head",
-    };
-    canvas.add_heading(label, heading.bytes.as_slice())?;
-    let plan = Plan::of(alloc, &board.faults, site, regions, lost)?;
+    members: &[Member<'_>],
+) -> Result<u64, OutOfMemory>
+    ensures { IfOk result (λ _. Adds (lines_of (regions_of members.entry.now)) canvas.old canvas.new) }
+{
+    write_heading(alloc, canvas, site)?;
+    let plan = Plan::of(alloc, &board.faults, site, members)?;
     let mut every = Vec::new(alloc);
     for placed in &plan.placed {
         every.push(placed.region)?;
     }
     draw_axis(alloc, canvas, site, every.as_slice(), &plan.heights)?;
-    for placed in &plan.placed {
-        let at = frame_of(&plan.heights, placed);
-        draw_box(alloc, canvas, board, placed, at)?;
-        write_region(alloc, canvas, board, placed, at)?;
-    }
-    for range in &plan.tellings.shared {
-        draw_shared(alloc, canvas, board, &plan, range)?;
-    }
-    for range in &plan.tellings.fits {
-        draw_fits(alloc, canvas, board, &plan, range)?;
-    }
+    draw_regions(alloc, canvas, board, &plan)?;
+    draw_tellings(alloc, canvas, board, &plan)?;
     Ok(plan.heights.bottom.saturating_add(30))
 }

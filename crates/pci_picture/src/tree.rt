@@ -1,4 +1,6 @@
 //! The tree of buses.
+ghost use Rattle.std.specs.Prelude.{[], IfOk, OnOk};
+ghost use Rattle.pci_picture.specs.Canvases.{Adds};
 
 use super::board::Board;
 use super::canvas::{Canvas, Label, Shape};
@@ -68,8 +70,11 @@ fn draw_row<A: Allocator + Copy>(
     canvas: &mut Canvas<A>,
     board: &Board<'_, A>,
     function: &Function<'_>,
-    (depth, y): (u64, u64),
-) -> Result<(), OutOfMemory> {
+    depth: u64,
+    y: u64,
+) -> Result<(), OutOfMemory>
+    ensures { OnOk result (Adds [] canvas.old canvas.new) }
+{
     let x = LEFT + STEP * depth.min(DEEPEST);
     let base = y.saturating_add(10);
     let mut badges = Words::new(alloc);
@@ -128,8 +133,11 @@ fn draw_bus<A: Allocator + Copy>(
     canvas: &mut Canvas<A>,
     board: &Board<'_, A>,
     drawn: &mut [bool; 256],
-    (root, top): (u8, u64),
-) -> Result<u64, OutOfMemory> {
+    root: u8,
+    top: u64,
+) -> Result<u64, OutOfMemory>
+    ensures { IfOk result (λ _. Adds [] canvas.old canvas.new) }
+{
     let mut y = top;
     let mut rests = Vec::new(alloc);
     rests.push(on_bus(board, root, 0))?;
@@ -146,7 +154,7 @@ fn draw_bus<A: Allocator + Copy>(
         let Some(function) = board.functions.get(rest.next) else {
             continue;
         };
-        draw_row(alloc, canvas, board, function, (rest.depth, y))?;
+        draw_row(alloc, canvas, board, function, rest.depth, y)?;
         y = y.saturating_add(LINE);
         rests.push(Rest {
             next: rest.next.saturating_add(1),
@@ -170,7 +178,9 @@ pub fn draw_tree<A: Allocator + Copy>(
     canvas: &mut Canvas<A>,
     board: &Board<'_, A>,
     top: u64,
-) -> Result<u64, OutOfMemory> {
+) -> Result<u64, OutOfMemory>
+    ensures { IfOk result (λ _. Adds [] canvas.old canvas.new) }
+{
     let mut has_functions = [false; 256];
     let mut is_behind = [false; 256];
     for function in &board.functions {
@@ -183,18 +193,20 @@ pub fn draw_tree<A: Allocator + Copy>(
     let mut y = top;
     for bus in 0..256u16 {
         let index = bus as usize;
-        if has_functions[index] && !is_behind[index] && !drawn[index] {
-            let mut words = Words::of(alloc, b"bus ")?;
-            words.put_hex(u64::from(bus), 2)?;
-            let label = Label {
-                x: LEFT,
-                y: y.saturating_add(11),
-                class: b"bold",
-            };
-            canvas.add_heading(label, words.bytes.as_slice())?;
-            let below = y.saturating_add(LINE + 2);
-            y = draw_bus(alloc, canvas, board, &mut drawn, (bus as u8, below))?.saturating_add(8);
+        if !has_functions[index] || is_behind[index] || drawn[index] {
+            continue;
         }
+        let mut words = Words::of(alloc, b"bus ")?;
+        words.put_hex(u64::from(bus), 2)?;
+        let label = Label {
+            x: LEFT,
+            y: y.saturating_add(11),
+            class: b"bold",
+        };
+        canvas.add_heading(label, words.bytes.as_slice())?;
+        let below = y.saturating_add(LINE + 2);
+        let end = draw_bus(alloc, canvas, board, &mut drawn, bus as u8, below)?;
+        y = end.saturating_add(8);
     }
     Ok(y)
 }

@@ -1,4 +1,5 @@
 //! A line of words while it is put together.
+ghost use Rattle.std.specs.Prelude.{◌≡◌, ◌++◌, [], IfOk, OnOk};
 
 use super::function::{Buses, Function};
 use super::memory::OutOfMemory;
@@ -22,21 +23,27 @@ pub struct Words<A: Allocator> {
 
 impl<A: Allocator + Copy> Words<A> {
     /// No words.
-    pub fn new(alloc: A) -> Words<A> {
+    pub fn new(alloc: A) -> Words<A>
+        ensures { result.bytes.items ≡ [] }
+    {
         Words {
             bytes: Vec::new(alloc),
         }
     }
 
     /// Some words.
-    pub fn of(alloc: A, bytes: &[u8]) -> Result<Words<A>, OutOfMemory> {
+    pub fn of(alloc: A, bytes: &[u8]) -> Result<Words<A>, OutOfMemory>
+        ensures { IfOk result (λ words. words.bytes.items ≡ bytes.now) }
+    {
         let mut words = Words::new(alloc);
         words.put(bytes)?;
         Ok(words)
     }
 
     /// Appends bytes.
-    pub fn put(&mut self, bytes: &[u8]) -> Result<(), OutOfMemory> {
+    pub fn put(&mut self, bytes: &[u8]) -> Result<(), OutOfMemory>
+        ensures { OnOk result (self.new.bytes.items ≡ self.old.bytes.items ++ bytes.now) }
+    {
         self.bytes.extend_from_slice(bytes)?;
         Ok(())
     }

@@ -2,6 +2,8 @@ use Rattle.std.proofs.Common.{arith}
 use Rattle.std.specs.String.{string_bytes}
 use Rattle.pci_picture.specs.Elements.{tick_text}
 use Rattle.pci_picture.proofs.Drawn.{tick_content}
+use Rattle.std.proofs.lemmas.Result.{on_ok_weaker}
+use Rattle.pci_picture.proofs.Boxes.{added_bare, tick_titles}
 use Rattle.pci_picture.proofs.Kept.{made}
 use Rattle.pci_picture.proofs.canvas.Canvas.add_tick.Goals as goal
 
@@ -9,3 +11,10 @@ pub keep_box-requires : goal.keep_box-requires
 keep_box-requires g c =
     made (string_bytes c.clear.new.self) (string_bytes c.push_tick.new.text) (tick_text c.args.x c.args.y)
     (tick_content c.args.x c.args.y (omega arith) (omega arith)) c.clear.ensures.bytes c.in_ok-push_tick.ensures
+
+pub returns : goal.returns
+returns g c =
+    on_ok_weaker c.keep_box.result
+    (λ kept. added_bare (tick_text c.args.x c.args.y) (tick_titles c.args.x c.args.y)
+    c.args.self.now c.keep_box.new.self (string_bytes c.clear.new.self) (string_bytes c.push_tick.new.text) c.clear.ensures.bytes c.in_ok-push_tick.ensures kept.0 kept.1)
+    c.keep_box.ensures

@@ -2,6 +2,8 @@ use Rattle.std.proofs.Common.{arith}
 use Rattle.std.specs.String.{string_bytes}
 use Rattle.pci_picture.specs.Elements.{words_text}
 use Rattle.pci_picture.proofs.Drawn.{words_content}
+use Rattle.std.proofs.lemmas.Result.{on_ok_weaker}
+use Rattle.pci_picture.proofs.Boxes.{added_words, words_titles, unchanged}
 use Rattle.pci_picture.proofs.Kept.{made}
 use Rattle.pci_picture.proofs.canvas.Canvas.add_words.Goals as goal
 
@@ -9,3 +11,13 @@ pub keep_words-requires : goal.keep_words-requires
 keep_words-requires g c =
     made (string_bytes c.clear.new.self) (string_bytes c.push_words.new.text) (words_text c.args.label.x c.args.label.y c.args.label.class.now c.args.words.now)
     (words_content c.args.label.x c.args.label.y c.args.label.class.now c.args.words.now (omega arith) (omega arith)) c.clear.ensures.bytes c.in_ok-push_words.ensures
+
+pub returns : goal.returns
+returns g c =
+    on_ok_weaker c.keep_words.result
+    (λ kept. added_words (words_text c.args.label.x c.args.label.y c.args.label.class.now c.args.words.now) (words_titles c.args.label.x c.args.label.y c.args.label.class.now c.args.words.now)
+    c.args.self.now c.keep_words.new.self (string_bytes c.clear.new.self) (string_bytes c.push_words.new.text) c.clear.ensures.bytes c.in_ok-push_words.ensures kept.1 kept.0)
+    c.keep_words.ensures
+
+pub returns-then-is_empty : goal.returns-then-is_empty
+returns-then-is_empty g c = unchanged c.args.self.now

@@ -1,5 +1,6 @@
 use Rattle.std.proofs.Common.{arith}
 use Rattle.std.specs.String.{string_bytes}
+use Rattle.pci_picture.proofs.Boxes.{drawn_of}
 use Rattle.pci_picture.proofs.Kept.{finished}
 use Rattle.pci_picture.proofs.canvas.Canvas.finish.Goals as goal
 
@@ -7,4 +8,6 @@ pub returns : goal.returns
 returns g c = record {
   closed = finished c.text.result (λ text. string_bytes text) (string_bytes c.args.self.now.boxes) (string_bytes c.args.self.now.words) c.args.width c.args.height
       (omega arith) (omega arith) c.args.self.now.boxes_closed c.args.self.now.words_closed c.text.ensures;
+  drawn = λ lines drawn. drawn_of c.text.result (λ text. string_bytes text) (string_bytes c.args.self.now.boxes) (string_bytes c.args.self.now.words) c.args.width c.args.height
+      lines drawn c.text.ensures;
 }

@@ -1,4 +1,5 @@
 use Rattle.std.specs.String.{string_bytes}
+use Rattle.pci_picture.proofs.Boxes.{none_lines, none_titles}
 use Rattle.pci_picture.proofs.Kept.{none_drawn}
 use Rattle.pci_picture.proofs.canvas.Canvas.new.Goals as goal
 
@@ -6,4 +7,10 @@ pub invariant_of-result : goal.invariant_of-result
 invariant_of-result g c = record {
   boxes_closed = none_drawn (string_bytes c.new.result) c.new.ensures.bytes;
   words_closed = none_drawn (string_bytes c.new-2.result) c.new-2.ensures.bytes;
+}
+
+pub returns : goal.returns
+returns g c = record {
+  in_boxes = none_lines (string_bytes c.new.result) c.new.ensures.bytes;
+  in_words = none_titles (string_bytes c.new-2.result) c.new-2.ensures.bytes;
 }

@@ -1,0 +1,181 @@
+-- What comes to a canvas, one element behind the other.
+use Rattle.std.proofs.Common.{◌≡◌, ℕ, List, [], ◌∷◌, ◌++◌, refl, sym, ap, subst, ◌∙◌, Result, Ok, Err, IfOk}
+use Rattle.std.proofs.lemmas.List.{append_assoc, append-nil}
+use Rattle.std.proofs.lemmas.List.Concat.{flat_map-append}
+use Rattle.std.specs.List.{flat_map}
+use Rattle.std.specs.String.{string_bytes}
+use Rattle.pci_picture.specs.Elements.{box_text, words_text, axis_text, tick_text, gap_text}
+use Rattle.pci_picture.specs.Boxes.{HasTitles, no_element, a_box, a_line, at_axis, a_tick, a_gap, titled_line, HasLines, AreDrawn, IsDrawnOf}
+use Rattle.pci_picture.specs.Whole.{picture_text}
+use Rattle.pci_picture.specs.Canvases.{HasDrawn, Adds}
+use Rattle.pci_picture.specs.declared.canvas.Canvas.{Canvas}
+
+-- boxes behind boxes
+pub titles_append : (s t : List (List ℕ)) (a b : List ℕ) → HasTitles s a → HasTitles t b → HasTitles (s ++ t) (a ++ b)
+titles_append _ t _ b no_element h = h
+titles_append _ t _ b (a_box x y width height class anchor title rest titles r) h =
+    subst (HasTitles (title ∷ (titles ++ t))) (sym (append_assoc (box_text x y width height class anchor title) rest b))
+    (a_box x y width height class anchor title (rest ++ b) (titles ++ t) (titles_append titles t rest b r h))
+titles_append _ t _ b (a_line x y class line rest titles r) h =
+    subst (HasTitles (titles ++ t)) (sym (append_assoc (words_text x y class line) rest b))
+    (a_line x y class line (rest ++ b) (titles ++ t) (titles_append titles t rest b r h))
+titles_append _ t _ b (at_axis x y faint line rest titles r) h =
+    subst (HasTitles (titles ++ t)) (sym (append_assoc (axis_text x y faint line) rest b))
+    (at_axis x y faint line (rest ++ b) (titles ++ t) (titles_append titles t rest b r h))
+titles_append _ t _ b (a_tick x y rest titles r) h =
+    subst (HasTitles (titles ++ t)) (sym (append_assoc (tick_text x y) rest b))
+    (a_tick x y (rest ++ b) (titles ++ t) (titles_append titles t rest b r h))
+titles_append _ t _ b (a_gap x y to rest titles r) h =
+    subst (HasTitles (titles ++ t)) (sym (append_assoc (gap_text x y to) rest b))
+    (a_gap x y to (rest ++ b) (titles ++ t) (titles_append titles t rest b r h))
+
+-- ---- one element alone
+
+pub box_titles : (x y width height : ℕ) (class anchor title : List ℕ) → HasTitles (title ∷ []) (box_text x y width height class anchor title)
+box_titles x y width height class anchor title =
+    subst (HasTitles (title ∷ [])) (append-nil (box_text x y width height class anchor title))
+    (a_box x y width height class anchor title [] [] no_element)
+
+pub words_titles : (x y : ℕ) (class line : List ℕ) → HasTitles [] (words_text x y class line)
+words_titles x y class line =
+    subst (HasTitles []) (append-nil (words_text x y class line)) (a_line x y class line [] [] no_element)
+
+pub axis_titles : (x y : ℕ) (faint line : List ℕ) → HasTitles [] (axis_text x y faint line)
+axis_titles x y faint line =
+    subst (HasTitles []) (append-nil (axis_text x y faint line)) (at_axis x y faint line [] [] no_element)
+
+pub tick_titles : (x y : ℕ) → HasTitles [] (tick_text x y)
+tick_titles x y = subst (HasTitles []) (append-nil (tick_text x y)) (a_tick x y [] [] no_element)
+
+pub gap_titles : (x y to : ℕ) → HasTitles [] (gap_text x y to)
+gap_titles x y to = subst (HasTitles []) (append-nil (gap_text x y to)) (a_gap x y to [] [] no_element)
+
+-- ---- lines of boxes
+
+pub lines_append : (s t : List (List ℕ)) (a b : List ℕ) → HasLines s a → HasLines t b → HasLines (s ++ t) (a ++ b)
+lines_append s t a b h k = record {
+  titles = h.titles ++ k.titles;
+  has = titles_append h.titles k.titles a b h.has k.has;
+  first = flat_map-append titled_line h.titles k.titles ∙ ap (λ l. l ++ flat_map titled_line k.titles) h.first ∙ ap (λ l. s ++ l) k.first;
+}
+
+bare_lines : (a : List ℕ) → HasTitles [] a → HasLines [] a
+bare_lines a h = record { titles = []; has = h; first = refl }
+
+box_lines : (x y width height : ℕ) (class anchor title : List ℕ) → HasLines (titled_line title) (box_text x y width height class anchor title)
+box_lines x y width height class anchor title = record {
+  titles = title ∷ [];
+  has = box_titles x y width height class anchor title;
+  first = append-nil (titled_line title);
+}
+
+-- ---- canvases
+
+pub added_box : {A : Type 0} (x y width height : ℕ) (class anchor title : List ℕ) (before after : Canvas A) (empty element : List ℕ)
+    → empty ≡ [] → element ≡ empty ++ box_text x y width height class anchor title
+    → string_bytes after.boxes ≡ string_bytes before.boxes ++ element → string_bytes after.words ≡ string_bytes before.words
+    → Adds (titled_line title) before after
+added_box x y width height class anchor title before after empty element none made boxes words = record {
+  behind = λ lines drawn.
+      let e : element ≡ box_text x y width height class anchor title = made ∙ ap (λ l. l ++ box_text x y width height class anchor title) none in
+      record {
+        in_boxes = subst (HasLines (lines ++ titled_line title)) (sym (boxes ∙ ap (λ l. string_bytes before.boxes ++ l) e))
+            (lines_append lines (titled_line title) (string_bytes before.boxes) _ drawn.in_boxes (box_lines x y width height class anchor title));
+        in_words = subst (HasTitles []) (sym words) drawn.in_words;
+      };
+}
+
+-- an element without a title among the boxes
+pub added_bare : {A : Type 0} (made : List ℕ) → HasTitles [] made → (before after : Canvas A) (empty element : List ℕ)
+    → empty ≡ [] → element ≡ empty ++ made
+    → string_bytes after.boxes ≡ string_bytes before.boxes ++ element → string_bytes after.words ≡ string_bytes before.words
+    → Adds [] before after
+added_bare made bare before after empty element none is boxes words = record {
+  behind = λ lines drawn.
+      let e : element ≡ made = is ∙ ap (λ l. l ++ made) none in
+      record {
+        in_boxes = subst (HasLines (lines ++ [])) (sym (boxes ∙ ap (λ l. string_bytes before.boxes ++ l) e))
+            (lines_append lines [] (string_bytes before.boxes) made drawn.in_boxes (bare_lines made bare));
+        in_words = subst (HasTitles []) (sym words) drawn.in_words;
+      };
+}
+
+-- an element without a title among the words
+pub added_words : {A : Type 0} (made : List ℕ) → HasTitles [] made → (before after : Canvas A) (empty element : List ℕ)
+    → empty ≡ [] → element ≡ empty ++ made
+    → string_bytes after.boxes ≡ string_bytes before.boxes → string_bytes after.words ≡ string_bytes before.words ++ element
+    → Adds [] before after
+added_words made bare before after empty element none is boxes words = record {
+  behind = λ lines drawn.
+      let e : element ≡ made = is ∙ ap (λ l. l ++ made) none in
+      record {
+        in_boxes = subst (HasLines (lines ++ [])) (sym boxes) (subst (λ l. HasLines l (string_bytes before.boxes)) (sym (append-nil lines)) drawn.in_boxes);
+        in_words = subst (HasTitles []) (sym (words ∙ ap (λ l. string_bytes before.words ++ l) e))
+            (titles_append [] [] (string_bytes before.words) made drawn.in_words bare);
+      };
+}
+
+-- nothing comes to it
+pub unchanged : {A : Type 0} (canvas : Canvas A) → Adds [] canvas canvas
+unchanged canvas = record {
+  behind = λ lines drawn. subst (λ l. HasDrawn l canvas) (sym (append-nil lines)) drawn;
+}
+
+-- one after the other
+pub then_adds : {A : Type 0} (first second : List (List ℕ)) (before between after : Canvas A)
+    → Adds first before between → Adds second between after → Adds (first ++ second) before after
+then_adds first second before between after one other = record {
+  behind = λ lines drawn.
+      subst (λ l. HasDrawn l after) (append_assoc lines first second) (other.behind (lines ++ first) (one.behind lines drawn));
+}
+
+-- nothing, and then some lines; some lines, and then nothing
+pub then_draws : {A : Type 0} (lines : List (List ℕ)) (before between after : Canvas A)
+    → Adds [] before between → Adds lines between after → Adds lines before after
+then_draws lines before between after one other = then_adds [] lines before between after one other
+
+pub then_keeps : {A : Type 0} (lines : List (List ℕ)) (before between after : Canvas A)
+    → Adds lines before between → Adds [] between after → Adds lines before after
+then_keeps lines before between after one other =
+    subst (λ l. Adds l before after) (append-nil lines) (then_adds lines [] before between after one other)
+
+-- nothing is drawn
+pub none_lines : (text : List ℕ) → text ≡ [] → HasLines [] text
+none_lines text none = subst (HasLines []) (sym none) (record { titles = []; has = no_element; first = refl })
+
+pub none_titles : (text : List ℕ) → text ≡ [] → HasTitles [] text
+none_titles text none = subst (HasTitles []) (sym none) no_element
+
+-- the picture of what is drawn
+pub drawn_of : {T E : Type 0} (result : Result T E) (bytes : T → List ℕ) (boxes words : List ℕ) (width height : ℕ)
+    (lines : List (List ℕ)) → AreDrawn lines boxes words
+    → IfOk result (λ t. bytes t ≡ picture_text boxes words width height) → IfOk result (λ t. IsDrawnOf lines (bytes t))
+drawn_of (Err e) bytes boxes words width height lines drawn is = tt
+drawn_of (Ok t) bytes boxes words width height lines drawn is = record {
+  boxes = boxes;
+  words = words;
+  width = width;
+  height = height;
+  drawn = subst (λ l. HasLines l (boxes ++ words)) (append-nil lines) (lines_append lines [] boxes words drawn.in_boxes (bare_lines words drawn.in_words));
+  says = is;
+}
+
+-- ---- before the end of a function: what comes at its last step
+
+pub then_ok : {A T E : Type 0} (result : Result T E) (lines : List (List ℕ)) (before between after : Canvas A)
+    → Adds [] before between → IfOk result (λ _. Adds lines between after) → IfOk result (λ _. Adds lines before after)
+then_ok (Err e) lines before between after one other = tt
+then_ok (Ok t) lines before between after one other = then_draws lines before between after one other
+
+pub keep_ok : {A T E : Type 0} (result : Result T E) (lines : List (List ℕ)) (before between after : Canvas A)
+    → Adds lines before between → IfOk result (λ _. Adds [] between after) → IfOk result (λ _. Adds lines before after)
+keep_ok (Err e) lines before between after one other = tt
+keep_ok (Ok t) lines before between after one other = then_keeps lines before between after one other
+
+-- a box whose title has these lines
+pub box_ok : {A T E : Type 0} (result : Result T E) (lines more : List (List ℕ)) (before after : Canvas A)
+    → more ≡ lines → IfOk result (λ _. Adds more before after) → IfOk result (λ _. Adds lines before after)
+box_ok result lines more before after is adds = subst (λ l. IfOk result (λ _. Adds l before after)) is adds
+
+pub adds_same : {A : Type 0} (lines more : List (List ℕ)) (before after : Canvas A) → more ≡ lines → Adds more before after → Adds lines before after
+adds_same lines more before after is adds = subst (λ l. Adds l before after) is adds

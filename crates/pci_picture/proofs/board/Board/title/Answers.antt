@@ -1,0 +1,14 @@
+use Rattle.std.proofs.Common.{[], ◌∷◌, ◌++◌, ap, ◌∙◌}
+use Rattle.pci_picture.proofs.Titles.{title_alone, title_with}
+use Rattle.pci_picture.proofs.board.Board.title.Goals as goal
+
+pub returns-then-eq : goal.returns-then-eq
+returns-then-eq g c =
+    let r = c.args.region.now in
+    title_alone r.line.now c.in_ok-title.title.bytes.items r.is_one_line r.is_told c.in_ok-title.ensures
+
+pub returns : goal.returns
+returns g c =
+    let r = c.args.region.now in
+    title_with r.line.now c.as_slice.result.now c.put-2.new.self.bytes.items r.is_one_line r.is_told
+    (c.in_ok-put-2.ensures ∙ ap (λ l. l ++ c.as_slice.result.now) (c.in_ok-put.ensures ∙ ap (λ l. l ++ 10 ∷ []) c.in_ok-title.ensures))

@@ -1,0 +1,15 @@
+use Rattle.std.proofs.Common.{[]}
+use Rattle.std.specs.String.{string_bytes}
+use Rattle.pci_picture.proofs.Boxes.{then_draws}
+use Rattle.pci_picture.proofs.Sections.{whole_picture}
+use Rattle.pci_picture.proofs.picture.picture_of.Goals as goal
+
+pub returns : goal.returns
+returns g c = record {
+  closed = c.finish.ensures.closed;
+  drawn =
+      whole_picture c.args.texts.now.map.now c.in_ok-board.board.map c.new-canvas.result _ _ _ c.finish.result (λ text. string_bytes text)
+      c.in_ok-board.ensures c.new-canvas.ensures
+      (then_draws [] _ _ _ (then_draws [] _ _ _ (then_draws [] _ _ _ c.in_ok-write_counts.ensures c.in_ok-legend.ensures) c.in_ok-write_faults.ensures) c.in_ok-tree_end.ensures)
+      c.in_ok-y.ensures c.in_ok-end.ensures c.finish.ensures.drawn;
+}

@@ -1,0 +1,109 @@
+-- The lines of a map that are regions.
+use Rattle.std.specs.Prelude.{ℕ, Bool, ◌==◌, ◌&&◌, ◌||◌, not, ◌+◌, ◌-◌, ◌*◌, ◌%◌, ◌^◌, List, [], ◌∷◌, take, drop, length, fold, slice_index, Option, Some, None, unwrap_or, nat_le, nat_lt, nat_eq, codes, if◌then◌else◌}
+use Rattle.std.specs.List.{flat_map, filter, list_all, position_or_len, slice_get, slice_split, before_first, after_first}
+use Rattle.std.specs.Cmp.Lexicographic.{pointwise}
+
+abbrev pub is_blank : ℕ → Bool
+is_blank b = b == 32
+
+abbrev pub is_feed : ℕ → Bool
+is_feed b = b == 10
+
+abbrev pub is_dash : ℕ → Bool
+is_dash b = b == 45
+
+-- no line feed is in it
+abbrev pub is_one_line : List ℕ → Bool
+is_one_line line = list_all (λ b. not (is_feed b)) line
+
+-- how many blanks a line begins with, and what stands behind them
+abbrev pub indent_of : List ℕ → ℕ
+indent_of line = position_or_len (λ b. not (is_blank b)) line
+
+abbrev pub content_of : List ℕ → List ℕ
+content_of line = drop (indent_of line) line
+
+-- ---- the words of a line, between blanks
+
+abbrev pub is_word : List ℕ → Bool
+is_word part = not (length part == 0)
+
+unfoldable pub words_of : List ℕ → List (List ℕ)
+words_of line = filter is_word (slice_split is_blank line)
+
+-- the word behind so many words, or nothing
+abbrev pub nth_word : List (List ℕ) → ℕ → List ℕ
+nth_word words n = unwrap_or (slice_get words n) []
+
+abbrev pub says : List ℕ → List ℕ → Bool
+says word name = pointwise nat_eq word name
+
+-- ---- numbers in hex digits, slots and ranges
+
+-- 0 to 9, and a to f
+abbrev pub is_digit : ℕ → Bool
+is_digit b = (nat_le 48 b && nat_le b 57) || (nat_le 97 b && nat_le b 102)
+
+abbrev pub digit_value : ℕ → ℕ
+digit_value b = if nat_le b 57 then b - 48 else b - 87
+
+abbrev pub digit_of : ℕ → Option ℕ
+digit_of b = if is_digit b then Some (digit_value b) else None
+
+-- one to 16 digits, and their number
+abbrev pub is_number : List ℕ → Bool
+is_number digits = is_word digits && nat_le (length digits) 16 && list_all is_digit digits
+
+abbrev pub next_value : ℕ → ℕ → ℕ
+next_value n b = (n * 16 + digit_value b) % 2 ^ 64
+
+abbrev pub value_of : List ℕ → ℕ
+value_of digits = fold next_value 0 digits
+
+abbrev pub number_of : List ℕ → Option ℕ
+number_of digits = if is_number digits then Some (value_of digits) else None
+
+-- `F-L`, where F is at most L
+unfoldable pub is_range : List ℕ → Bool
+is_range word =
+    nat_lt (position_or_len is_dash word) (length word)
+    && is_number (before_first is_dash word) && is_number (after_first is_dash word)
+    && nat_le (value_of (before_first is_dash word)) (value_of (after_first is_dash word))
+
+-- two digits
+unfoldable pub is_register : List ℕ → Bool
+is_register word = (length word == 2) && is_digit (slice_index word 0) && is_digit (slice_index word 1)
+
+-- `bb:dd.f`
+unfoldable pub is_slot : List ℕ → Bool
+is_slot word =
+    (length word == 7) && (slice_index word 2 == 58) && (slice_index word 5 == 46)
+    && is_register (take 2 word) && is_register (take 2 (drop 3 word)) && is_digit (slice_index word 6)
+
+abbrev pub names_register : List (List ℕ) → ℕ → Bool
+names_register words at = is_slot (nth_word words at) && is_register (nth_word words (at + 1))
+
+-- the part that words name from the third one on: `bar S r`, `bar pref S r`, `rom S r`, `window S r` or `free`
+unfoldable pub is_part : List (List ℕ) → Bool
+is_part words =
+    if says (nth_word words 2) (codes "bar")
+    then names_register words (if says (nth_word words 3) (codes "pref") then 4 else 3)
+    else (if says (nth_word words 2) (codes "rom") || says (nth_word words 2) (codes "window")
+    then names_register words 3
+    else says (nth_word words 2) (codes "free"))
+
+-- a line `F-L N PART S r` or `F-L N free`, without the blanks before it
+unfoldable pub is_region_line : List ℕ → Bool
+is_region_line line = is_range (nth_word (words_of line) 0) && is_part (words_of line)
+
+-- the line itself where it is a region, else none
+abbrev pub region_line : List ℕ → List (List ℕ)
+region_line line = if is_region_line line then line ∷ [] else []
+
+-- the same of a line that begins with two blanks or more, without them
+abbrev pub told_line : List ℕ → List (List ℕ)
+told_line line = if nat_lt (indent_of line) 2 then [] else region_line (content_of line)
+
+-- the regions of a map's text, in their order
+abbrev pub region_lines : List ℕ → List (List ℕ)
+region_lines map = flat_map told_line (slice_split is_feed map)

@@ -1,0 +1,138 @@
+//! The legend.
+ghost use Rattle.std.specs.Prelude.{◌≡◌, [], IfOk, OnOk};
+ghost use Rattle.pci_picture.specs.Boxes.{titled_line};
+ghost use Rattle.pci_picture.specs.Canvases.{Adds};
+
+use super::canvas::{Canvas, Label, Shape};
+use super::elements::Frame;
+use super::memory::OutOfMemory;
+use super::tree::LEFT;
+use std::alloc::Allocator;
+
+/// What a box of a section can be.
+#[derive(Clone, Copy)]
+enum Mark {
+    Window,
+    Bar,
+    Prefetchable,
+    Rom,
+    Free,
+    Clash,
+    Lost,
+    Off,
+    Shared,
+    Fits,
+}
+
+static LEGEND: [Mark; 10] = [
+    Mark::Window,
+    Mark::Bar,
+    Mark::Prefetchable,
+    Mark::Rom,
+    Mark::Free,
+    Mark::Clash,
+    Mark::Lost,
+    Mark::Off,
+    Mark::Shared,
+    Mark::Fits,
+];
+
+impl Mark {
+    /// The classes of its box.
+    fn class(self) -> &'static str {
+        match self {
+            Mark::Window => "window",
+            Mark::Bar => "bar",
+            Mark::Prefetchable => "pref",
+            Mark::Rom => "rom",
+            Mark::Free => "free",
+            Mark::Clash => "bar clash",
+            Mark::Lost => "bar lost",
+            Mark::Off => "off",
+            Mark::Shared => "shared",
+            Mark::Fits => "fits",
+        }
+    }
+
+    /// The title of its box.
+    #[tactic(auto, unfolding(crate::specs::Lines::is_region_line, crate::specs::Lines::is_range, crate::specs::Lines::words_of))]
+    fn title(self) -> &'static str
+        // it is no region of a map
+        ensures { titled_line result.now ≡ [] }
+    {
+        match self {
+            Mark::Window => "window",
+            Mark::Bar => "BAR",
+            Mark::Prefetchable => "prefetchable",
+            Mark::Rom => "ROM",
+            Mark::Free => "free",
+            Mark::Clash => "clash",
+            Mark::Lost => "not reached",
+            Mark::Off => "off",
+            Mark::Shared => "shared",
+            Mark::Fits => "fits",
+        }
+    }
+
+    /// What stands beside its box.
+    fn words(self) -> &'static str {
+        match self {
+            Mark::Window => "window",
+            Mark::Bar => "BAR",
+            Mark::Prefetchable => "prefetchable",
+            Mark::Rom => "ROM",
+            Mark::Free => "free",
+            Mark::Clash => "clash",
+            Mark::Lost => "not reached",
+            Mark::Off => "off",
+            Mark::Shared => "shared addresses",
+            Mark::Fits => "where it would fit",
+        }
+    }
+}
+
+/// Draws an entry of the legend.
+fn draw_entry<A: Allocator + Copy>(
+    canvas: &mut Canvas<A>,
+    mark: Mark,
+    x: u64,
+    y: u64,
+) -> Result<(), OutOfMemory>
+    ensures { OnOk result (Adds [] canvas.old canvas.new) }
+{
+    let at = Frame {
+        x,
+        y: y.saturating_sub(9),
+        width: 16,
+        height: 11,
+    };
+    let text = mark.title();
+    let title = text.as_bytes();
+    let shape = Shape {
+        at,
+        class: mark.class().as_bytes(),
+        anchor: b"",
+    };
+    canvas.add_box(shape, title)?;
+    let label = Label {
+        x: x.saturating_add(21),
+        y,
+        class: b"",
+    };
+    canvas.add_words(label, mark.words().as_bytes())
+}
+
+/// Draws the legend. Its answer is where its last entry begins from the left.
+pub fn draw_legend<A: Allocator + Copy>(canvas: &mut Canvas<A>, y: u64) -> Result<u64, OutOfMemory>
+    ensures { IfOk result (λ _. Adds [] canvas.old canvas.new) }
+{
+    let mut x = LEFT;
+    let mut last = LEFT;
+    for mark in &LEGEND {
+        draw_entry(canvas, *mark, x, y)?;
+        last = x;
+        let room = (mark.words().len() as u64).saturating_mul(7);
+        x = x.saturating_add(34).saturating_add(room);
+    }
+    Ok(last)
+}
