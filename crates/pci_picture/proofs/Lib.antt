@@ -10,3 +10,4 @@ pub mod Titles
 pub mod Taken
 pub mod Sections
 pub mod Ranges
+pub mod Examples

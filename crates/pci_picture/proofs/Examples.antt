@@ -1,0 +1,31 @@
+-- Lines of maps, and titles.
+use Rattle.std.proofs.Common.{◌≡◌, [], ◌∷◌, ◌++◌, codes, refl}
+use Rattle.pci_picture.specs.Lines.{region_lines, is_region_line, is_range, is_part, is_slot, is_register, words_of}
+use Rattle.pci_picture.specs.Boxes.{titled_line}
+
+-- a map of a heading and a line
+one_region : region_lines (codes "bus 00 io" ++ 10 ∷ codes "  0000d040-0000d05f 32 bar 00:1f.2 20")
+    ≡ codes "0000d040-0000d05f 32 bar 00:1f.2 20" ∷ []
+unfolding is_region_line is_range is_part is_slot is_register words_of
+one_region = refl
+
+-- what is inside a window, and what is free there
+inner_regions : region_lines (codes "    fe800000-fe8fffff 1M bar pref 43:00.0 20" ++ 10 ∷ codes "    fe900000-fe9fffff 1M free")
+    ≡ codes "fe800000-fe8fffff 1M bar pref 43:00.0 20" ∷ codes "fe900000-fe9fffff 1M free" ∷ []
+unfolding is_region_line is_range is_part is_slot is_register words_of
+inner_regions = refl
+
+-- one blank, a range whose ends fall, a word that is no part, and a slot of other digits
+no_region : region_lines (codes " d040-d05f 32 free" ++ 10 ∷ (codes "  d05f-d040 32 free" ++ 10 ∷ (codes "  d040-d05f 32 used"
+    ++ 10 ∷ codes "  d040-d05f 32 rom 00:1F.2 20"))) ≡ []
+unfolding is_region_line is_range is_part is_slot is_register words_of
+no_region = refl
+
+-- the title of a region with the name of its function, and that of a fault
+of_region : titled_line (codes "d040-d05f 32 bar 00:1f.2 20" ++ 10 ∷ codes "SATA controller") ≡ codes "d040-d05f 32 bar 00:1f.2 20" ∷ []
+unfolding is_region_line is_range is_part is_slot is_register words_of
+of_region = refl
+
+of_fault : titled_line (codes "61 Clash bus 00 io 00000720 00:1f.3 20 00:1f.2 20") ≡ []
+unfolding is_region_line is_range is_part is_slot is_register words_of
+of_fault = refl
