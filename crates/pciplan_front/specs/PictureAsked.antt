@@ -4,6 +4,7 @@ use Rattle.std.specs.Io.KnownBytes.{Appends}
 use Rattle.pci_spec.specs.Text.{Block}
 use Rattle.pci_dump.specs.Begun.{AppendsBeginning}
 use Rattle.pci_check.specs.Audits.{IsDumpOf}
+use Rattle.pci_picture.specs.Boxes.{IsPictureOf}
 use Rattle.pci_picture.specs.Whole.{IsPictureText}
 use Rattle.pciplan_cli.specs.CarriedOut.{TextsByPath}
 use Rattle.pciplan_cli.specs.Invocations.{IsInvocationOf, HasBadWords}
@@ -19,8 +20,8 @@ use Rattle.pciplan_front.specs.Went.{Went}
 abbrev pub map_words : List (List ℕ) → List (List ℕ)
 map_words words = codes "map" ∷ words
 
--- a well-formed picture, where there is a map; `show` and `faults` with reasons have answers too, and no field says what is drawn of
--- them
+-- a well-formed picture of the map, where there is one: each of its regions is the title of one box; `show` and `faults` with
+-- reasons have answers too, and no field says what is drawn of them
 pub record IsDrawn (beside : Beside) (dump probe : List Block) (answer : Answer) : Type 0 where
   pub map : Answer
   pub is_map : IsPairAnswer (task.Map beside) dump probe map
@@ -31,6 +32,7 @@ pub record IsDrawn (beside : Beside) (dump probe : List Block) (answer : Answer)
   pub are_faults : IsPairAnswer (task.Faults beside true) dump probe faults
   pub text : List ℕ
   pub picture : IsPictureText text
+  pub draws : IsPictureOf map.text text
   pub line : answer ≡ done_with map.remarks text
 
 -- the line `no ..` of the map, where there is none
