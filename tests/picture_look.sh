@@ -1,7 +1,7 @@
 #!/bin/sh
 # Opens a picture in headless Chromium and asks the browser itself. Each line of the map is one box with that line as its
 # title. Each text stays within its box and within the picture. Boxes overlap only where their addresses do. It prints
-# `fine`, or what isn't so, with status 1.
+# `fine`, or what isn't so, or that the browser gave no answer, with status 1.
 #
 # Usage: picture_look.sh SVG MAP
 set -eu
@@ -18,6 +18,7 @@ trap 'rm -rf "$room"' EXIT
     cat -- "$here/picture_look.js"
     echo '</script>'
 } >"$room/page.html"
-timeout 100 chromium --headless --no-sandbox --disable-gpu --hide-scrollbars --dump-dom "file://$room/page.html" \
+timeout 300 chromium --headless --no-sandbox --disable-gpu --hide-scrollbars --dump-dom "file://$room/page.html" \
     2>"$room/err" | sed -n '/LOOKED$/,/<\/pre>/p' | sed '1d; s/<\/pre>.*//' | tee "$room/said"
+[ -s "$room/said" ] || echo 'the browser gave no answer within 300 seconds'
 [ "$(cat "$room/said")" = fine ]
