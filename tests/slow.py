@@ -1,10 +1,10 @@
 #!/usr/bin/env python3
 """Slow models beside the program, on boards made by rule.
 
-Usage: slow.py KIND COUNT [FIRST [PROGRAM]]
+Usage: slow.py KIND COUNT [FIRST [PROGRAM]] [--growth]
        slow.py KIND show SEED
 
-KIND is `judge`, `plan`, `settle`, or `all`. COUNT seeds are taken from FIRST on (0 if not said), of `all` a quarter of
+KIND is `judge`, `plan`, `settle`, `growth`, or `all`, which is the first three. COUNT seeds are taken from FIRST on (0 if not said), of `all` a quarter of
 these for `plan` and `settle`, of which a seed has several boards. PROGRAM is the built program, by default
 crates/pciplan/out/pciplan. What is printed:
 
@@ -12,11 +12,15 @@ crates/pciplan/out/pciplan. What is printed:
 - for each kind of how many seeds boards were of each sort, and of 1,000 seeds or more a line for each sort that lacks;
 - at last `N boards, M disagree`, counted by seeds.
 
+Of `growth` the program is asked nothing: laws are tried of what the slow settler does where windows grow, and before
+them the boards of growth_rows.py. With `--growth` the program is taken to let windows grow, in `settle` too.
+
 The status is 1 where boards disagree or a sort is lacking. `show` prints the board of a seed. RT_JOBS sets how many
 processes run at a time (as many as there are cores if not said).
 """
 
 import collections
+import functools
 import multiprocessing
 import os
 import shutil
@@ -26,14 +30,18 @@ import tempfile
 HERE = os.path.dirname(os.path.abspath(__file__))
 sys.path.insert(0, os.path.join(HERE, 'slow'))
 
-import judged  # noqa: E402  (the modules beside this file)
+import growth_laws  # noqa: E402  (the modules beside this file)
+import judged  # noqa: E402
 import moving  # noqa: E402
+from growing import settled_growing  # noqa: E402
+from growth_rows import row_faults  # noqa: E402
 
 # of each kind what compares the board of a seed, what prints it, and which sorts of boards there have to be among many
 KINDS = {
     'judge': (judged.compare, judged.show, judged.SORTS),
     'plan': (moving.compare_plans, moving.show_plans, moving.PLAN_SORTS),
     'settle': (moving.compare_settling, moving.show_settling, moving.SETTLE_SORTS),
+    'growth': (growth_laws.compare_alone, growth_laws.show, growth_laws.SORTS),
 }
 MANY = 1000
 # of how many seeds for `all` each kind takes one, by what its boards cost
@@ -81,8 +89,26 @@ def lacking(kind, count, sorts):
     return len(missing)
 
 
+def let_windows_grow():
+    """Compares with a program that lets windows grow."""
+    compare = functools.partial(moving.compare_settling, settle=settled_growing)
+    KINDS['settle'] = (compare,) + KINDS['settle'][1:]
+    KINDS['growth'] = (growth_laws.compare,) + KINDS['growth'][1:]
+
+
+def rows_disagree():
+    """Prints what is wrong on the boards of growth_rows.py; how many that are."""
+    faults = row_faults()
+    for fault in faults:
+        print('growth_rows.py, ' + fault)
+    return len(faults)
+
+
 def main(words):
     """Reads the words of the command line."""
+    if '--growth' in words:
+        let_windows_grow()
+        words = [word for word in words if word != '--growth']
     if len(words) < 2 or words[0] not in list(KINDS) + ['all']:
         print(__doc__)
         return 2
@@ -92,10 +118,11 @@ def main(words):
     count, first = int(words[1]), int(words[2]) if len(words) > 2 else 0
     built = os.path.join(HERE, '..', 'crates', 'pciplan', 'out', 'pciplan')
     program = os.path.abspath(words[3] if len(words) > 3 else built)
-    counts = {kind: count // SHARES[kind] for kind in KINDS} if words[0] == 'all' else {words[0]: count}
+    counts = {kind: count // SHARES[kind] for kind in SHARES} if words[0] == 'all' else {words[0]: count}
     jobs = [(kind, seed) for kind, many in counts.items() for seed in range(first, first + many)]
     sorts = {kind: collections.Counter() for kind in counts}
     disagree = compare_all(jobs, program, sorts)
+    disagree += rows_disagree() if 'growth' in counts else 0
     missing = sum(lacking(kind, many, sorts[kind]) for kind, many in counts.items())
     print('%d boards, %d disagree' % (len(jobs), disagree))
     return 1 if disagree or missing else 0

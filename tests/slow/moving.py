@@ -55,11 +55,15 @@ def roots_words(roots):
 
 
 class Asker:
-    """Asks the program about boards, whose texts it puts into a folder, and notes which sorts of boards were met."""
+    """Asks the program about boards, whose texts it puts into a folder, and notes which sorts of boards were met.
 
-    def __init__(self, program, folder):
+    `settle` is how boards are settled.
+    """
+
+    def __init__(self, program, folder, settle=settled):
         self.program = program
         self.folder = folder
+        self.settle = settle
         self.sorts = set()
 
     def ask(self, task, functions, words):
@@ -236,7 +240,7 @@ def settle_differs(asker, rule, board, request):
     """Settles a board, which then is the settled one: what disagrees, or none."""
     words = roots_words(board.roots) + request_words(request)
     try:
-        plan = first_early(board) or settled(board.functions, request)
+        plan = first_early(board) or asker.settle(board.functions, request)
     except TooLarge:
         # which fault comes before a window of 2^64 addresses is left to the proof
         asker.sorts.add('too large')
@@ -246,7 +250,7 @@ def settle_differs(asker, rule, board, request):
     if told or isinstance(plan, Fault):
         return told
     board.functions = plan.functions
-    again = settled(board.functions, request._replace(anew=False))
+    again = asker.settle(board.functions, request._replace(anew=False))
     return None if not isinstance(again, Fault) and not again.writes else 'settled again it changes'
 
 
@@ -266,9 +270,9 @@ def ask_settling(seed, asker):
     return None
 
 
-def compare_settling(seed, program, folder):
+def compare_settling(seed, program, folder, settle=settled):
     """Compares the settling of a seed: what disagrees, or none, and the sorts of boards."""
-    asker = Asker(program, folder)
+    asker = Asker(program, folder, settle)
     return ask_settling(seed, asker), asker.sorts
 
 

@@ -32,14 +32,20 @@ class Order:
                    for register in registers)
 
     def is_replaced(self, f, kind):
+        """Whether it is a bridge whose window of a kind changes and doesn't stay."""
+        return self.changes_window(f, kind) and not self.settler.keeps_window(f, kind, self.settler.stays)
+
+    def changes_window(self, f, kind):
         """Whether it is a bridge whose window of a kind changes."""
         return f.is_bridge and self.differs(f, WINDOW_REGISTERS[kind])
 
     def moves(self, region):
-        """Whether the register of a BAR or ROM changes, or the window of its class of a bridge above it."""
+        """Whether a BAR or ROM doesn't stay, and its register changes or the window of its class of a bridge above."""
+        if self.settler.stays(region):
+            return False
         width = 8 if region.part.kind == 'bar' and region.part.wide else 4
         return self.differs(region.function, [(region.part.register, width)]) or any(
-            self.is_replaced(b, self.settler.class_of(region)) for b in bridges_above(self.functions, region.bus))
+            self.changes_window(b, self.settler.class_of(region)) for b in bridges_above(self.functions, region.bus))
 
     # ---- what is shut
 

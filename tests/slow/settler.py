@@ -71,11 +71,14 @@ def first_place(ranges, taken, extent):
     return None
 
 
-def place_all(items, ranges_of, taken):
-    """The places of items by their ranks, one after another, and the first item that has none."""
+def place_all(items, place_of, taken):
+    """The places of items by their ranks, one after another, and the first item that has none.
+
+    `place_of` says where an item goes beside what is taken, or none.
+    """
     places, taken = {}, list(taken)
     for item in items:
-        at = first_place(ranges_of(item), taken, item.extent)
+        at = place_of(item, taken)
         if at is None:
             return {}, item
         places[item.rank] = (item, at)
@@ -255,8 +258,11 @@ class Settler:
 
     def taken(self, bus, space, keeps):
         """What is taken on a bus by what keeps its addresses."""
-        return [(r.first, r.last) for r in self.regions
-                if r.space == space and self.are_beside(bus, r.bus) and keeps(r)]
+        return [(r.first, r.last) for r in self.beside(bus, space) if keeps(r)]
+
+    def beside(self, bus, space):
+        """The parts of a space on a bus."""
+        return [r for r in self.regions if r.space == space and self.are_beside(bus, r.bus)]
 
     def holds(self, region):
         """Whether a part stands and, if it is a window, has room for what has to be placed behind it."""
@@ -266,7 +272,8 @@ class Settler:
     def has_room(self, window):
         """Whether each item behind a window has a place in it."""
         bus, kind = window.function.secondary, window.part.window
-        _, lack = place_all(self.items(bus, kind, self.holds), lambda item: [(window.first, window.last)],
+        _, lack = place_all(self.items(bus, kind, self.holds),
+                            lambda item, taken: first_place([(window.first, window.last)], taken, item.extent),
                             self.taken(bus, window.space, self.holds))
         return lack is None
 
@@ -277,6 +284,14 @@ class Settler:
             for b in bridges_above(self.functions, region.bus)))
 
     # ---- where the rest goes
+
+    def new_range(self, region):
+        """The addresses of a part that stays."""
+        return region.first, region.last
+
+    def place_of(self, item, taken):
+        """The first place of an item, or none."""
+        return first_place(self.ranges_of(item), taken, item.extent)
 
     def ranges_of(self, item):
         """The ranges in which an item can have its place."""
@@ -298,7 +313,7 @@ class Settler:
         kinds = ['io'] if space == IO else ['mem', 'pref']
         return self.remembered(('places', bus, space), lambda: place_all(
             [item for kind in kinds for item in self.items(bus, kind, self.stays)],
-            self.ranges_of, self.taken(bus, space, self.stays)))
+            self.place_of, [self.new_range(r) for r in self.beside(bus, space) if self.stays(r)]))
 
     def new_place(self, f, register, space):
         """The item and its new place of a part, or none."""
@@ -313,11 +328,15 @@ class Settler:
             placed = self.new_place(f, part.register, part.space)
             if placed:
                 put_part(new, part, placed[1], placed[0].extent.size)
-            elif part.kind == 'window' and not part.is_closed \
-                    and not self.keeps_window(f, part.window, self.stays):
-                close_window(new, part.window)
+            elif part.kind == 'window' and not part.is_closed:
+                self.show_window(new, self.window_of(f, part.window))
         put_number(new.image, COMMAND, 2, f.command & ~3 | self.is_enabled(f, IO) | self.is_enabled(f, MEM) << 1)
         return new
+
+    def show_window(self, new, window):
+        """Lets the registers of an open window without a new place show what it comes to: what goes is closed."""
+        if not self.stays(window):
+            close_window(new, window.part.window)
 
     def behind(self, f):
         """The functions on the bus right behind a bridge."""
