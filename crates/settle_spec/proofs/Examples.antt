@@ -5,4 +5,5 @@ pub mod Lists
 pub mod Stands
 pub mod Places
 pub mod Writes
+pub mod Growth
 pub mod Assumed

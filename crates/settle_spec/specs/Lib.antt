@@ -12,3 +12,9 @@ pub mod WindowLaws
 pub mod ClassLaws
 pub mod BusLaws
 pub mod LiveLaws
+pub mod LastPlace
+pub mod Reach
+pub mod Growth
+pub mod Kept
+pub mod Keeping
+pub mod Growing

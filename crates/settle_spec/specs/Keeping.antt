@@ -1,0 +1,3 @@
+pub mod Places
+pub mod Registers
+pub mod Writes
