@@ -30,7 +30,8 @@ place_each find taken [] = AllPlaced []
 place_each find taken (i ∷ items) =
     place_next i (find i taken) (λ a. place_each find (taken_by i a ∷ taken) items)
 
--- the least pages that hold a window and other addresses, where no half of a bound moves inward
+-- the least pages that hold a window and other addresses, where no half of a bound moves inward: so a write of any register
+-- leaves a window that holds what it held, and no more than it will
 abbrev pub grown_to : WindowKind → Range → List Range → Range
 grown_to c w others = record {
   first = lowered_first c w.first

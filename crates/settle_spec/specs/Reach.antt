@@ -23,29 +23,22 @@ upper_of c a = a / half_size c
 abbrev pub lower_of : WindowKind → ℕ → ℕ
 lower_of c a = a % half_size c
 
--- a last address that is to rise: its lower half is raised to what it was where the upper half rises and the lower one would fall
+-- a greater last address: its lower half is no less than it was
 abbrev pub raised_last : WindowKind → ℕ → ℕ → ℕ
-raised_last c old last =
-    if nat_lt (upper_of c old) (upper_of c last)
-    then upper_of c last * half_size c + max (lower_of c old) (lower_of c last) else last
+raised_last c old last = upper_of c last * half_size c + max (lower_of c old) (lower_of c last)
 
--- a first address that is to fall, likewise
+-- a smaller first address: its lower half is no greater than it was
 abbrev pub lowered_first : WindowKind → ℕ → ℕ → ℕ
-lowered_first c old first =
-    if nat_lt (upper_of c first) (upper_of c old)
-    then upper_of c first * half_size c + min (lower_of c old) (lower_of c first) else first
+lowered_first c old first = upper_of c first * half_size c + min (lower_of c old) (lower_of c first)
 
--- the last address that a raised one may be, where it may be up to an address: where the upper half rises and the lower one
--- falls, it ends before that upper half
+-- an end up to which last addresses can be raised: where its lower half is less than it was, it is before that upper half
 abbrev pub cut_last : WindowKind → ℕ → ℕ → ℕ
 cut_last c old last =
-    if nat_lt (upper_of c old) (upper_of c last) && nat_lt (lower_of c last) (lower_of c old)
-    then upper_of c last * half_size c - 1 else last
+    if nat_lt (lower_of c last) (lower_of c old) then upper_of c last * half_size c - 1 else last
 
 abbrev pub cut_first : WindowKind → ℕ → ℕ → ℕ
 cut_first c old first =
-    if nat_lt (upper_of c first) (upper_of c old) && nat_lt (lower_of c old) (lower_of c first)
-    then (upper_of c first + 1) * half_size c else first
+    if nat_lt (lower_of c old) (lower_of c first) then (upper_of c first + 1) * half_size c else first
 
 abbrev pub cut_to_halves : WindowKind → Range → Range → Range
 cut_to_halves c w r = record { first = cut_first c w.first r.first; last = cut_last c w.last r.last }

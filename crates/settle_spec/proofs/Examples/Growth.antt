@@ -183,3 +183,11 @@ open_at_0_is_closed : settle_growing roomy (bridge (slot 0 1 0) 2 0x10100 ((0x20
     ≡ Settled (write (slot 0 2 0) 0x04 2 0x0000 ∷ write (slot 0 1 0) 0x24 4 0x0001fff1 ∷ write (slot 0 2 0) 0x10 4 0xe0000000 ∷ write (slot 0 2 0) 0x04 2 0x0002 ∷ [])
 unfolding stands_within window_within holds_within reach_within there_beside there_within placing_within is_live_within
 open_at_0_is_closed = refl
+
+-- ---- halves of I/O
+
+-- an I/O window from F000h to FFFFh grows over 64 KB: its limit keeps its lower half, so it ends at 1FFFFh
+io_above_ffff : settle_growing (record roomy { lists = record lists { io = all_roots 0xf000 0x2ffff ∷ [] } }) (bridge (slot 0 1 0) 1 0x10100 ((0x1c, 0xf1f1) ∷ (0x20, 0xfff0) ∷ []) ((0x1c, 0xf1f1) ∷ (0x30, 0xffffffff) ∷ []) ∷ device (slot 1 0 0) 1 ((0x10, 0xf001) ∷ []) ((0x10, 0xfffff801) ∷ []) ∷ device (slot 1 1 0) 0 ((0x10, 1) ∷ []) ((0x10, 0xfffff001) ∷ []) ∷ [])
+    ≡ Settled (write (slot 0 1 0) 0x30 4 0x00010000 ∷ write (slot 1 1 0) 0x10 4 0x00010001 ∷ write (slot 1 1 0) 0x04 2 0x0001 ∷ [])
+unfolding stands_within window_within holds_within reach_within there_beside there_within placing_within is_live_within
+io_above_ffff = refl
