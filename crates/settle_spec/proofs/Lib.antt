@@ -1,5 +1,7 @@
 pub mod FirstSpot
 pub mod FirstPlace
+pub mod LastSpot
+pub mod Grown
 pub mod SameTaken
 pub mod LaidOut
 pub mod MoreTaken

@@ -12,6 +12,7 @@ pub mod WindowLaws
 pub mod ClassLaws
 pub mod BusLaws
 pub mod LiveLaws
+pub mod GrowthLaws
 pub mod LastPlace
 pub mod Reach
 pub mod Growth

@@ -8,6 +8,7 @@
 
 pub mod bus_laws;
 pub mod class_laws;
+pub mod growth_laws;
 pub mod live_laws;
 pub mod placing_laws;
 pub mod window_laws;
