@@ -1,6 +1,7 @@
 -- The writes of settling lead to the settled system in three stages.
-use Rattle.std.proofs.Common.{◌≡◌, [], ◌∷◌, ◌++◌, refl, ap}
+use Rattle.std.proofs.Common.{◌≡◌, inl, inr, [], ◌∷◌, ◌++◌, refl, ap}
 use Rattle.std.specs.List.{flat_map}
+use Rattle.pci_spec.specs.Window.{bounds_at}
 use Rattle.pci_spec.specs.System.{System, IsSystem}
 use Rattle.pci_spec.specs.Sound.{IsInProfile}
 use Rattle.settle_spec.specs.Lists.{Request}
@@ -9,6 +10,7 @@ use Rattle.settle_spec.specs.Writes.{closed_function, closing_from, setting_from
 use Rattle.settle_laws.specs.PlacesLaws.{CanSettle}
 use Rattle.settle_laws.proofs.ClosedMoves.{closed_moved, final_moved, closed_rest, final_rest, windows}
 use Rattle.settle_laws.proofs.Moves.{new_profile}
+use Rattle.settle_laws.proofs.StageBounds.{same_out}
 use Rattle.settle_laws.proofs.Stages.{AreStages, AreStates, all_closings, all_stages}
 use Rattle.settle_laws.proofs.StillHeld.{held}
 use Rattle.settle_laws.proofs.StillShown.{was_on, ends_on, bar_rests, rom_rests}
@@ -28,7 +30,13 @@ are_stages q s can = record {
   ends_on = ends_on q s can;
   bar_rests = bar_rests q s can;
   rom_rests = rom_rests q s can;
-  windows = windows q s can.system can.profile;
+  windows = λ f c listed bridge. elim (windows q s can.system can.profile f c listed bridge) [
+    | inl same ↦ inl record {
+      closed_same = same.closed_same;
+      final_out = same_out (bounds_at c f.image) (bounds_at c (settled_function q s f).image) same.final_same;
+    }
+    | inr shut ↦ inr shut
+  ];
   held = held q s can;
 }
 

@@ -1,5 +1,5 @@
 -- A window whose registers show partly one state and partly another holds no more than it should.
-use Rattle.std.proofs.Common.{◌≡◌, ℕ, ◌+◌, ◌-◌, ◌*◌, ◌/◌, ◌<◌, ◌≤◌, ◌⊎◌, inl, inr, List, true, false, ◌&&◌, arith, sym, ◌∙◌, ap}
+use Rattle.std.proofs.Common.{◌≡◌, ℕ, ◌+◌, ◌*◌, ◌/◌, ◌<◌, ◌≤◌, ◌⊎◌, inl, inr, List, true, ◌&&◌, arith, refl, sym, ◌∙◌, ap}
 use Rattle.std.specs.Bool.{nat_le, nat_lt, if◌then◌else◌}
 use Rattle.std.proofs.lemmas.Bool.{and_parts, and_from, cases_Bool, le-leb, leb-true, ltb-false, ltb-true}
 use Rattle.std.proofs.Math.Nat.{mul-le-mul_right}
@@ -7,6 +7,7 @@ use Rattle.pci_spec.specs.Number.{IsImage}
 use Rattle.pci_spec.specs.Window.{WindowKind, IoWindow, MemoryWindow, PrefetchWindow, Bounds, bounds_at, base_page, limit_page, has_window, holds, lower_pages, page_bits, page_size}
 use Rattle.plan_spec.proofs.Planning.Registers.{number_below}
 use Rattle.settle_spec.specs.Writes.{shut_bounds}
+use Rattle.settle_laws.proofs.Stages.{MoveOut}
 
 -- a window is closed, or its pages are among another's
 abbrev pub IsWithin : WindowKind → List ℕ → List ℕ → Type 0
@@ -83,6 +84,60 @@ mixed_same from to now v first second mixed = λ i. record {
   base_upper = one_of from.base_upper to.base_upper now.base_upper v.base_upper (ap (λ (b : Bounds). b.base_upper) first) (ap (λ (b : Bounds). b.base_upper) second) mixed.base_upper i;
   limit_upper = one_of from.limit_upper to.limit_upper now.limit_upper v.limit_upper (ap (λ (b : Bounds). b.limit_upper) first) (ap (λ (b : Bounds). b.limit_upper) second) mixed.limit_upper i;
 }
+
+-- ---- windows that grow
+
+between_falls : (a b x : ℕ) → b ≤ a → (x ≡ a) ⊎ (x ≡ b) → (b ≤ x) × (x ≤ a)
+between_falls a b x le either = elim either [
+  | inl e ↦ (omega (arith, e, le), omega (arith, e))
+  | inr e ↦ (omega (arith, e), omega (arith, e, le))
+]
+
+between_rises : (a b x : ℕ) → a ≤ b → (x ≡ a) ⊎ (x ≡ b) → (a ≤ x) × (x ≤ b)
+between_rises a b x le either = elim either [
+  | inl e ↦ (omega (arith, e), omega (arith, e, le))
+  | inr e ↦ (omega (arith, e, le), omega (arith, e))
+]
+
+-- where no half of a bound moves inward, any of the registers may show the later state: the window holds what it held, and no
+-- more than it will
+pub out_within : (c : WindowKind) (f final now : List ℕ) → MoveOut (bounds_at c f) (bounds_at c final) → IsMixed (bounds_at c f) (bounds_at c final) (bounds_at c now) → IsWithin c f now × IsWithin c now final
+out_within c f final now out mixed =
+    let v = bounds_at c f in
+    let w = bounds_at c final in
+    let n = bounds_at c now in
+    let base = between_falls v.base w.base n.base out.base mixed.base in
+    let limit = between_rises v.limit w.limit n.limit out.limit mixed.limit in
+    let base_upper = between_falls v.base_upper w.base_upper n.base_upper out.base_upper mixed.base_upper in
+    let limit_upper = between_rises v.limit_upper w.limit_upper n.limit_upper out.limit_upper mixed.limit_upper in
+    let from_final : w.base_upper * lower_pages c ≤ n.base_upper * lower_pages c = mul-le-mul_right (lower_pages c) base_upper.0 in
+    let from_now : n.base_upper * lower_pages c ≤ v.base_upper * lower_pages c = mul-le-mul_right (lower_pages c) base_upper.1 in
+    let to_now : v.limit_upper * lower_pages c ≤ n.limit_upper * lower_pages c = mul-le-mul_right (lower_pages c) limit_upper.0 in
+    let to_final : n.limit_upper * lower_pages c ≤ w.limit_upper * lower_pages c = mul-le-mul_right (lower_pages c) limit_upper.1 in
+    let base_final = base.0 in
+    let base_now = base.1 in
+    let limit_now = limit.0 in
+    let limit_final = limit.1 in
+    (inr (omega (arith, from_now, base_now), omega (arith, to_now, limit_now)), inr (omega (arith, from_final, base_final), omega (arith, to_final, limit_final)))
+
+pub holds_out : (c : WindowKind) (f final : List ℕ) → MoveOut (bounds_at c f) (bounds_at c final) → IsWithin c f final
+holds_out c f final out = (out_within c f final final out (record { base = inr refl; limit = inr refl; base_upper = inr refl; limit_upper = inr refl })).0
+
+-- what shows the same has moved nowhere
+pub same_out : (v w : Bounds) → w ≡ v → MoveOut v w
+same_out v w e =
+    let base : w.base ≡ v.base = ap (λ (b : Bounds). b.base) e in
+    let limit : w.limit ≡ v.limit = ap (λ (b : Bounds). b.limit) e in
+    let base_upper : w.base_upper ≡ v.base_upper = ap (λ (b : Bounds). b.base_upper) e in
+    let limit_upper : w.limit_upper ≡ v.limit_upper = ap (λ (b : Bounds). b.limit_upper) e in
+    record {
+      base = omega (arith, base);
+      limit = omega (arith, limit);
+      base_upper = omega (arith, base_upper);
+      limit_upper = omega (arith, limit_upper);
+    }
+
+-- ---- windows that are closed
 
 -- closing takes pages away only
 pub closing_within : (c : WindowKind) (f closed now : List ℕ) → IsImage f → (n : ℕ) → n < 16 → bounds_at c closed ≡ shut_bounds c n (bounds_at c f) → IsMixed (bounds_at c f) (bounds_at c closed) (bounds_at c now) → IsWithin c now f

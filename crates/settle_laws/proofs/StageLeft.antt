@@ -7,8 +7,8 @@ use Rattle.pci_spec.specs.Slot.{slot_number}
 use Rattle.pci_spec.specs.Registers.{COMMAND, PREFETCHABLE_BASE_UPPER}
 use Rattle.pci_spec.specs.Header.{command, layout, bar_count, is_in_register}
 use Rattle.pci_spec.specs.Bar.{has_bar}
-use Rattle.pci_spec.specs.Window.{WindowKind, bounds_at, holds}
-use Rattle.pci_spec.specs.System.{System, Function, IsSystem, Space, Part, Bar, Rom, Window, Claims, forwards, has_part, is_bridge, is_prefetchable_part, is_space_on, is_window, passes, space_of, window_space}
+use Rattle.pci_spec.specs.Window.{WindowKind, holds}
+use Rattle.pci_spec.specs.System.{System, Function, IsSystem, Space, Part, Bar, Rom, Window, Claims, has_part, is_bridge, is_prefetchable_part, is_space_on, is_window, passes, space_of, window_space}
 use Rattle.pci_spec.specs.Bus.{IsNested}
 use Rattle.pci_spec.proofs.Members.{in_head}
 use Rattle.plan_spec.specs.Plan.{IsMoved, bridges_above}
@@ -21,8 +21,9 @@ use Rattle.settle_laws.proofs.Held.{above_is_lower, claim_on, claimed_bar}
 use Rattle.settle_laws.proofs.Images.{AgreeAside, bounds_aside, function_at, same_number}
 use Rattle.settle_laws.proofs.Left.{IsLeft}
 use Rattle.settle_laws.proofs.StageParts.{on_same, AgreeIn, agree_by_number, registers_same, has_same, plain_place, plain_unclosed, upper_unclosed, claims_in, claims_window, forwards_in, holds_by_bounds, passes_by}
-use Rattle.settle_laws.proofs.StageWindows.{either_shows, closing_same, closing_window, setting_same, setting_window}
-use Rattle.settle_laws.proofs.Stages.{AreStages, IsHeldBy, IsProgress, IsSameWindow, setting_change}
+use Rattle.settle_laws.proofs.StageBounds.{holds_within, holds_out}
+use Rattle.settle_laws.proofs.StageWindows.{either_shows, closing_held, closing_window, setting_held, setting_window}
+use Rattle.settle_laws.proofs.Stages.{AreStages, IsHeldBy, IsKeptWindow, IsProgress, setting_change}
 
 module _ (roots : List ℕ) (s : System) (system : IsSystem s) (nested : IsNested roots s) (closed final : Function → Function) (are : AreStages s closed final) where
   is : (f : Function) → Contains s f → IsImage f.image
@@ -34,13 +35,13 @@ module _ (roots : List ℕ) (s : System) (system : IsSystem s) (nested : IsNeste
   bridge_above : (f b : Function) → Contains (bridges_above s f.slot.bus) b → is_bridge b ≡ true
   bridge_above f b above = (above_to s f.slot.bus b above).bridge
 
-  -- what claims an address once closed is passed by the bridges above, as long as they are on and show their windows
+  -- what claims an address once closed is passed by the bridges above, as long as they are on and their windows hold what they held
   held_passes : (f b k : Function) (p : Part) (space : Space) (a : ℕ) → Contains s f → is_window p ≡ false → Claims (closed f) p space a → Contains (bridges_above s f.slot.bus) b → IsMoved b k
-      → (is_space_on (closed b) space ≡ true → is_space_on k space ≡ true) → ((c : WindowKind) → IsSameWindow b (closed b) (final b) c → bounds_at c k.image ≡ bounds_at c b.image)
+      → (is_space_on (closed b) space ≡ true → is_space_on k space ≡ true) → ((c : WindowKind) → IsKeptWindow b (closed b) (final b) c → holds c b.image b.probe a ≡ true → holds c k.image b.probe a ≡ true)
       → passes space (is_prefetchable_part f p) a k ≡ true
-  held_passes f b k p space a listed plain claim above m on same =
+  held_passes f b k p space a listed plain claim above m on still =
       let by : IsHeldBy b (closed b) (final b) (is_prefetchable_part f p) space a = are.held f b p space a listed plain claim above in
-      let holds_k = holds_by_bounds by.class k.image b.image b.probe a (same by.class by.same) ∙ by.held in
+      let holds_k = still by.class by.kept by.held in
       subst (λ x. passes x (is_prefetchable_part f p) a k ≡ true) by.at
       (passes_by by.class (is_prefetchable_part f p) a k by.may
       (and_from (is_space_on k (window_space by.class)) (holds by.class k.image k.probe a) (subst (λ x. is_space_on k x ≡ true) (sym by.at) (on by.on))
@@ -124,7 +125,7 @@ module _ (roots : List ℕ) (s : System) (system : IsSystem s) (nested : IsNeste
               | inr same ↦ subst (λ g. passes space (is_prefetchable_part f p) a g ≡ true) (sym same) e
               | inl done ↦
                   held_passes f b (h b) p space a listed plain (subst (λ g. Claims g p space a) done claim) above (moved b in_b) (still_on b in_b space)
-                  (λ c same. closing_same b (closed b) (final b) (h b) (bridge_above f b above) (is b in_b) (are.states.closed_moved b in_b).image (moved b in_b).image (progress b in_b) (upper_shown b in_b) c same)
+                  (λ c kept e. closing_held b (closed b) (final b) (h b) (bridge_above f b above) (is b in_b) (are.states.closed_moved b in_b).image (moved b in_b).image (progress b in_b) (upper_shown b in_b) c kept b.probe a e)
             ];
       }
 
@@ -182,7 +183,7 @@ module _ (roots : List ℕ) (s : System) (system : IsSystem s) (nested : IsNeste
         passed = λ f b p space a listed plain claim above e.
             let in_b = listed_above f b above in
             held_passes f b (h b) p space a listed plain (claims_closed f p space a plain listed claim) above (moved b in_b) (λ on. on_closed b in_b space ∙ on)
-            (λ c same. setting_same b (closed b) (final b) (h b) (closed_bridge b in_b (bridge_above f b above)) (are.states.closed_moved b in_b).image (are.states.final_moved b in_b).image (moved b in_b).image (progress b in_b) c same);
+            (λ c kept e. setting_held b (closed b) (final b) (h b) (closed_bridge b in_b (bridge_above f b above)) (are.states.closed_moved b in_b).image (are.states.final_moved b in_b).image (moved b in_b).image (progress b in_b) c kept b.probe a e);
       }
 
     -- ---- while functions are opened
@@ -241,6 +242,6 @@ module _ (roots : List ℕ) (s : System) (system : IsSystem s) (nested : IsNeste
               | inl done ↦ subst (λ g. passes space (is_prefetchable_part f p) a g ≡ true) (sym done) e
               | inr waits ↦
                   held_passes f b (h b) p space a listed plain (unopened f p space a plain listed waits claim) above (moved b in_b) (stays_on b in_b space)
-                  (λ c same. bounds_aside (h b).image (final b).image (agrees b in_b) c ∙ same.final_same)
+                  (λ c kept e. holds_by_bounds c (h b).image (final b).image b.probe a (bounds_aside (h b).image (final b).image (agrees b in_b) c) ∙ holds_within c b.image (final b).image (holds_out c b.image (final b).image kept.final_out) b.probe a e)
             ];
       }

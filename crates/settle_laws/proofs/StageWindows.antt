@@ -14,8 +14,8 @@ use Rattle.plan_spec.specs.Planning.PlanWrites.{Change}
 use Rattle.plan_spec.proofs.Planning.Reached.{byte_of_number}
 use Rattle.settle_spec.specs.Writes.{closing_registers, setting_registers, upper_halves}
 use Rattle.settle_laws.proofs.Images.{same_number}
-use Rattle.settle_laws.proofs.StageBounds.{holds_within, holds_same, IsMixed, mixed_same, closing_within, AreUppers, Neither, Both, BaseFirst, LimitFirst, IsSet, Waiting, Done, set_mixed, setting_within}
-use Rattle.settle_laws.proofs.Stages.{IsProgress, IsSameWindow, IsShutWindow}
+use Rattle.settle_laws.proofs.StageBounds.{IsWithin, holds_within, holds_same, IsMixed, mixed_same, out_within, closing_within, AreUppers, Neither, Both, BaseFirst, LimitFirst, IsSet, Waiting, Done, set_mixed, setting_within}
+use Rattle.settle_laws.proofs.Stages.{IsProgress, IsKeptWindow, IsShutWindow}
 
 -- ---- a beginning of a list
 
@@ -120,14 +120,17 @@ module _ (f closed final now : Function) (bridge : is_bridge f ≡ true) (is_f :
       let low = both_of (prefetch_low now.image f.image is_now is_f) (prefetch_low now.image closed.image is_now is_closed) (closing_shows 0x24 4 (4, omega arith, refl)) in
       record { base = firsts low; limit = seconds low; base_upper = inl upper; limit_upper = closing_shows 0x2c 4 (5, omega arith, refl) }
 
-  -- a window that never changes is as it was
-  pub closing_same : (c : WindowKind) → IsSameWindow f closed final c → bounds_at c now.image ≡ bounds_at c f.image
-  closing_same c same = mixed_same (bounds_at c f.image) (bounds_at c closed.image) (bounds_at c now.image) (bounds_at c f.image) refl same.closed_same (closing_mixed c)
+  -- a window that is kept is as it was
+  closing_same : (c : WindowKind) → IsKeptWindow f closed final c → bounds_at c now.image ≡ bounds_at c f.image
+  closing_same c kept = mixed_same (bounds_at c f.image) (bounds_at c closed.image) (bounds_at c now.image) (bounds_at c f.image) refl kept.closed_same (closing_mixed c)
+
+  pub closing_held : (c : WindowKind) → IsKeptWindow f closed final c → (probe : List ℕ) (x : ℕ) → holds c f.image probe x ≡ true → holds c now.image probe x ≡ true
+  closing_held c kept = holds_within c f.image now.image (holds_same c f.image now.image (sym (closing_same c kept)))
 
   -- The law: a window holds no more than it did.
-  pub closing_window : (c : WindowKind) → IsSameWindow f closed final c ⊎ IsShutWindow f closed c → (probe : List ℕ) (x : ℕ) → holds c now.image probe x ≡ true → holds c f.image probe x ≡ true
+  pub closing_window : (c : WindowKind) → IsKeptWindow f closed final c ⊎ IsShutWindow f closed c → (probe : List ℕ) (x : ℕ) → holds c now.image probe x ≡ true → holds c f.image probe x ≡ true
   closing_window c either = holds_within c now.image f.image (elim either [
-    | inl same ↦ holds_same c now.image f.image (closing_same c same)
+    | inl kept ↦ holds_same c now.image f.image (closing_same c kept)
     | inr shut ↦ closing_within c f.image closed.image now.image is_f shut.nibble shut.small shut.shows (closing_mixed c)
   ])
 
@@ -232,15 +235,19 @@ module _ (f closed final now : Function) (bridge : is_bridge closed ≡ true) (i
   setting_set MemoryWindow = memory_set
   setting_set PrefetchWindow = prefetch_set
 
-  -- a window that never changes is as it was
-  pub setting_same : (c : WindowKind) → IsSameWindow f closed final c → bounds_at c now.image ≡ bounds_at c f.image
-  setting_same c same =
-      mixed_same (bounds_at c closed.image) (bounds_at c final.image) (bounds_at c now.image) (bounds_at c f.image) same.closed_same same.final_same
-      (set_mixed (bounds_at c closed.image) (bounds_at c final.image) (bounds_at c now.image) (setting_set c))
+  -- a window that is kept is between what it was and what it will be
+  setting_between : (c : WindowKind) → IsKeptWindow f closed final c → IsWithin c f.image now.image × IsWithin c now.image final.image
+  setting_between c kept =
+      out_within c f.image final.image now.image kept.final_out
+      (subst (λ v. IsMixed v (bounds_at c final.image) (bounds_at c now.image)) kept.closed_same
+      (set_mixed (bounds_at c closed.image) (bounds_at c final.image) (bounds_at c now.image) (setting_set c)))
+
+  pub setting_held : (c : WindowKind) → IsKeptWindow f closed final c → (probe : List ℕ) (x : ℕ) → holds c f.image probe x ≡ true → holds c now.image probe x ≡ true
+  setting_held c kept = holds_within c f.image now.image (setting_between c kept).0
 
   -- The law: a window holds no more than it will.
-  pub setting_window : (c : WindowKind) → IsSameWindow f closed final c ⊎ IsShutWindow f closed c → (probe : List ℕ) (x : ℕ) → holds c now.image probe x ≡ true → holds c final.image probe x ≡ true
+  pub setting_window : (c : WindowKind) → IsKeptWindow f closed final c ⊎ IsShutWindow f closed c → (probe : List ℕ) (x : ℕ) → holds c now.image probe x ≡ true → holds c final.image probe x ≡ true
   setting_window c either = holds_within c now.image final.image (elim either [
-    | inl same ↦ holds_same c now.image final.image (setting_same c same ∙ sym same.final_same)
+    | inl kept ↦ (setting_between c kept).1
     | inr shut ↦ setting_within c f.image closed.image final.image now.image is_final shut.nibble shut.small shut.shows (setting_set c)
   ])

@@ -1,11 +1,11 @@
 -- Three stages of writes lead from one state of a system to another: some of it is closed, registers are set, functions are opened.
-use Rattle.std.proofs.Common.{◌≡◌, ℕ, ◌+◌, ◌<◌, ◌≤◌, ◌⊎◌, List, [], ◌∷◌, ◌++◌, Bool, true, false}
+use Rattle.std.proofs.Common.{◌≡◌, ℕ, ◌<◌, ◌≤◌, ◌⊎◌, List, [], ◌∷◌, ◌++◌, Bool, true, false}
 use Rattle.std.specs.List.{Contains, flat_map, list_any}
 use Rattle.pci_spec.specs.Number.{byte_at, number_at}
 use Rattle.pci_spec.specs.Registers.{COMMAND}
 use Rattle.pci_spec.specs.Header.{layout, bar_count, address_registers, is_in_register}
 use Rattle.pci_spec.specs.Bar.{has_bar}
-use Rattle.pci_spec.specs.Window.{WindowKind, PrefetchWindow, bounds_at, holds}
+use Rattle.pci_spec.specs.Window.{WindowKind, PrefetchWindow, Bounds, bounds_at, holds}
 use Rattle.pci_spec.specs.System.{System, Function, Space, Memory, Part, Bar, Rom, Claims, is_bridge, is_prefetchable_part, is_space_on, is_window, space_of, window_space}
 use Rattle.pci_spec.specs.Machine.{Write}
 use Rattle.plan_spec.specs.Plan.{IsMoved, bridges_above}
@@ -63,18 +63,30 @@ pub record IsSameWindow (f closed final : Function) (c : WindowKind) : Type 0 wh
   pub closed_same : bounds_at c closed.image ≡ bounds_at c f.image
   pub final_same : bounds_at c final.image ≡ bounds_at c f.image
 
+-- no half of a bound moves inward
+pub record MoveOut (from to : Bounds) : Type 0 where
+  pub base : to.base ≤ from.base
+  pub limit : from.limit ≤ to.limit
+  pub base_upper : to.base_upper ≤ from.base_upper
+  pub limit_upper : from.limit_upper ≤ to.limit_upper
+
+-- a window is never closed, and at the end it shows the same or has grown
+pub record IsKeptWindow (f closed final : Function) (c : WindowKind) : Type 0 where
+  pub closed_same : bounds_at c closed.image ≡ bounds_at c f.image
+  pub final_out : MoveOut (bounds_at c f.image) (bounds_at c final.image)
+
 -- a window is closed, with upper halves that close it too
 pub record IsShutWindow (f closed : Function) (c : WindowKind) : Type 0 where
   pub nibble : ℕ
   pub small : nibble < 16
   pub shows : bounds_at c closed.image ≡ shut_bounds c nibble (bounds_at c f.image)
 
--- a bridge has a window that holds an address, may forward it, is never changed and stays on
+-- a bridge has a window that holds an address, may forward it, is kept and stays on
 pub record IsHeldBy (b closed final : Function) (prefetchable : Bool) (space : Space) (a : ℕ) : Type 0 where
   pub class : WindowKind
   pub at : window_space class ≡ space
   pub may : class ≡ PrefetchWindow → prefetchable ≡ true
-  pub same : IsSameWindow b closed final class
+  pub kept : IsKeptWindow b closed final class
   pub held : holds class b.image b.probe a ≡ true
   pub on : is_space_on closed space ≡ true
 
@@ -98,10 +110,10 @@ pub record AreStages (s : System) (closed final : Function → Function) : Type 
   pub bar_rests : (f : Function) (n : ℕ) → Contains s f → n < bar_count (layout f.image) → has_bar f.probe n ≡ true
       → is_space_on (closed f) (space_of f (Bar n)) ≡ true → ShowsSame (closed f) (final f) (Bar n)
   pub rom_rests : (f : Function) → Contains s f → is_space_on (closed f) Memory ≡ true → ShowsSame (closed f) (final f) Rom
-  -- a window never changes, or is closed meanwhile
+  -- a window is kept, or is closed meanwhile
   pub windows : (f : Function) (c : WindowKind) → Contains s f → is_bridge f ≡ true
-      → IsSameWindow f (closed f) (final f) c ⊎ IsShutWindow f (closed f) c
-  -- what decodes an address once closed is behind windows that hold it, never change and stay on
+      → IsKeptWindow f (closed f) (final f) c ⊎ IsShutWindow f (closed f) c
+  -- what decodes an address once closed is behind windows that hold it, are kept and stay on
   pub held : (f b : Function) (p : Part) (space : Space) (a : ℕ) → Contains s f → is_window p ≡ false
       → Claims (closed f) p space a → Contains (bridges_above s f.slot.bus) b
       → IsHeldBy b (closed b) (final b) (is_prefetchable_part f p) space a

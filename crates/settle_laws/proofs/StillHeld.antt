@@ -1,4 +1,4 @@
--- What claims an address once closed claims it once settled too, and is behind windows that hold it, never change and stay on.
+-- What claims an address once closed claims it once settled too, and is behind windows that hold it, are kept and stay on.
 use Rattle.std.proofs.Common.{◌≡◌, ◌&&◌, ℕ, suc, ◌+◌, ◌*◌, ◌/◌, ◌≤◌, List, true, false, arith, refl, sym, ◌∙◌, ap, subst}
 use Rattle.std.specs.Bool.{nat_le, nat_lt}
 use Rattle.std.specs.Int.{bit_at}
@@ -28,6 +28,7 @@ use Rattle.settle_laws.proofs.Images.{function_at}
 use Rattle.settle_laws.proofs.PartClasses.{prefetch_of_class, space_of_class}
 use Rattle.settle_laws.proofs.PassedAbove.{passed_above}
 use Rattle.settle_laws.proofs.SettledMoved.{kind_stays}
+use Rattle.settle_laws.proofs.StageBounds.{same_out}
 use Rattle.settle_laws.proofs.Stages.{IsSameWindow, IsHeldBy}
 use Rattle.settle_laws.proofs.StillShown.{rests, on_is, left_of, was_on, ends_on, closed_layout, whole_closed, whole_final, rom_at_closed, rom_at_final}
 use Rattle.settle_laws.proofs.NonePasses.{none_passes}
@@ -174,7 +175,7 @@ module _ (q : Request) (s : System) (can : CanSettle q s) where
         class = class;
         at = space_of_class q s f p ∙ before.maps;
         may = part_prefetch f p plain;
-        same = same;
+        kept = record { closed_same = same.closed_same; final_out = same_out (bounds_at class b.image) (bounds_at class (final b).image) same.final_same };
         held = held_here;
         on = on_is q s can b space in_b ∙ up b above;
       }
