@@ -19,8 +19,7 @@ from settler import Settler, TooLarge, settled
 from stops import beginnings, is_sound, stop_fault
 
 SORTS = ('a window grows', 'grows at its end', 'grows at its beginning', 'grows in two levels', 'a half is kept',
-         'a window stays as it is beside one that grows', 'grows into another', 'behind one as it stands',
-         'nothing grows', 'settled, which it is not without', 'as without growth', 'something fixed',
+         'would grow into another', 'nothing grows', 'settled, which it is not without', 'as without growth', 'something fixed',
          'an I/O window grows', 'a prefetchable window grows', 'above 4 GB', 'several roots', 'from an unsound start')
 
 # lists with room beside what is placed first, of prefetchable memory also around a multiple of 4 GB
@@ -52,6 +51,8 @@ def tight_board(seed):
     if isinstance(plan, Fault):
         return None
     board.functions = [f for f in plan.functions if f.slot[1] != SPACER]
+    if rule.one_in(3):
+        request = request._replace(lists=cut_lists(plan.functions, request))
     take_out(rule, board)
     cut_window(rule, board)
     for _ in range(1 + rule.below(3)):
@@ -80,6 +81,20 @@ def with_spacers(rule, board):
             put_number(f.probe, 0x18, 8, (1 << 64) - rule.one_of(HOLES) | 0xC)
             spacers.append(f)
     return sorted([f for f in board.functions if f.slot[1] != SPACER] + spacers, key=lambda f: f.slot)
+
+
+def cut_lists(functions, request):
+    """The lists of a request, each range cut to the addresses that something on a root has."""
+    used = [r for r in Settler(functions, request._replace(anew=False)).regions if r.bus in request.roots]
+    lists = {}
+    for kind, ranges in request.lists.items():
+        lists[kind] = []
+        for root, first, last in ranges:
+            lasts = [r.last for r in used if r.space == (IO if kind == 'io' else MEM) and r.is_within(first, last)]
+            if lasts:
+                page = page_size(kind)
+                lists[kind].append((root, first, min(last, (max(lasts) // page + 1) * page - 1)))
+    return lists
 
 
 def take_out(rule, board):
@@ -158,13 +173,9 @@ def sorts_of(board, request, grower, plan, plain):
         sorts.add('settled, which it is not without')
     for window in grown:
         sorts |= growth_sorts(grower, window, grown)
-    for window in [r for r in grower.regions if r.is_window and grower.stays(r) and not grower.is_grown(r)]:
-        sorts.add('behind one as it stands')
-        if grown:
-            sorts.add('a window stays as it is beside one that grows')
     for window in [r for r in grower.regions if r.is_window and grower.stands(r)]:
         if grower.taking(window) and not grower.takes_its_place(window):
-            sorts.add('grows into another')
+            sorts.add('would grow into another')
     return sorts
 
 

@@ -88,8 +88,14 @@ WIDE = {'pref': (0x100000000, 0x3FFFFFFFF)}
 
 MOVED = '''01:00.0 04.2 0000, 00:01.0 20.4 0000fff0, 00:01.0 20.4 e030e020, 01:00.0 10.4 e0300000,
            01:01.0 10.4 e0200000, 01:00.0 04.2 0002, 01:01.0 04.2 0002'''
-ALL_PORTS = ', '.join('01:%02x.0 %02x.4 %08x' % (1 + n // 6, 0x10 + 4 * (n % 6), 0x1101 + 0x100 * n)
-                      for n in range(18))
+THREE_OF_PORTS = [ports((1, device, 0), 6) for device in (1, 2, 3)]
+
+
+def ports_from(value):
+    """The writes that place the BARs of three cards one after another and switch them on."""
+    places = ['01:%02x.0 %02x.4 %08x' % (1 + n // 6, 0x10 + 4 * (n % 6), value + 0x100 * n) for n in range(18)]
+    return ', '.join(places + ['01:%02x.0 04.2 0001' % device for device in (1, 2, 3)])
+
 
 # name, functions, further words, what `check` says before, the writes or the fault, and where it becomes safe
 ROWS = [
@@ -113,8 +119,7 @@ ROWS = [
     ('an I/O window is opened', [over(0xE000E000, {0x1C: (0xF0F0, 0x00F0)}), DISK_ON, ports((1, 1, 0), 1)], {}, 'yes',
      '00:01.0 1c.2 1010, 01:01.0 10.4 00001001, 00:01.0 04.2 0003, 01:01.0 04.2 0001', 0),
     ('an I/O window grows', [bridge((0, 1, 0), 1, (0, 1, 1), {0x1C: (0xF0F0, 0x1010)}), ports((1, 0, 0), 1, 1, 0x1001)]
-     + [ports((1, device, 0), 6) for device in (1, 2, 3)], {}, 'yes',
-     '00:01.0 1c.2 2010, %s, 01:01.0 04.2 0001, 01:02.0 04.2 0001, 01:03.0 04.2 0001' % ALL_PORTS, 0),
+     + THREE_OF_PORTS, {}, 'yes', '00:01.0 1c.2 2010, ' + ports_from(0x1101), 0),
     ('the lower half of a limit does not fall', [HIGH, HIGH_ON, wide_card((1, 1, 0))], WIDE, 'yes',
      '00:01.0 2c.4 00000002, 01:01.0 14.4 00000002, 01:01.0 04.2 0002', 0),
     ('a reach ends at an upper half', [HIGH, wide_card((0, 2, 0), 0x4000000C, 2, 2), HIGH_ON, wide_card((1, 1, 0))],
@@ -136,6 +141,15 @@ ROWS = [
     ('what is fixed stays in a window that grows', ONE, {'fixed': [(1, 0, 0)]}, 'yes',
      '00:01.0 20.4 e010e000, 01:01.0 10.4 e0100000, 01:01.0 04.2 0002', 0),
     ('the window of a fixed bridge does not grow', ONE, {'fixed': [(0, 1, 0)]}, 'yes', 'no 74 Fixed 00:01.0 20', 0),
+    ('what grows leaves no room in the window above, which holds as it stands',
+     [over(0xE030E000, buses=(0, 1, 2)), on((0, 2, 0), 0xE0400000, 0xFFC00000),
+      over(0xE010E010, buses=(1, 2, 2), slot=(1, 0, 0)), card((1, 1, 0), 0xFFE00000),
+      on((2, 0, 0), 0xE0100000, MEGABYTE), card((2, 1, 0))], {'mem': (0xE0000000, 0xE07FFFFF)}, 'yes',
+     '''02:00.0 04.2 0000, 01:00.0 20.4 0000fff0, 01:00.0 20.4 e030e020, 01:01.0 10.4 e0000000, 02:00.0 10.4 e0200000,
+        02:01.0 10.4 e0300000, 01:01.0 04.2 0002, 02:00.0 04.2 0002, 02:01.0 04.2 0002''', 0),
+    ('the lower half of the limit of an I/O window does not fall',
+     [bridge((0, 1, 0), 1, (0, 1, 1), {0x1C: (0xF1F1, 0xF1F1), 0x30: (0xFFFFFFFF, 0)}), ports((1, 0, 0), 1, 1, 0xF001)]
+     + THREE_OF_PORTS, {'io': (0xF000, 0x2FFFF)}, 'yes', '00:01.0 30.4 00010000, ' + ports_from(0xF101), 0),
     ('a window that is open at 0 is closed',
      [prefetching(2, 0x00010001, 0), on((0, 2, 0), 0)], {},
      'no 61 Clash bus 00 mem 0000000000000000 00:01.0 24 00:02.0 10',

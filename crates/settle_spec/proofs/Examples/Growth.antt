@@ -187,7 +187,16 @@ open_at_0_is_closed = refl
 -- ---- halves of I/O
 
 -- an I/O window from F000h to FFFFh grows over 64 KB: its limit keeps its lower half, so it ends at 1FFFFh
-io_above_ffff : settle_growing (record roomy { lists = record lists { io = all_roots 0xf000 0x2ffff ∷ [] } }) (bridge (slot 0 1 0) 1 0x10100 ((0x1c, 0xf1f1) ∷ (0x20, 0xfff0) ∷ []) ((0x1c, 0xf1f1) ∷ (0x30, 0xffffffff) ∷ []) ∷ device (slot 1 0 0) 1 ((0x10, 0xf001) ∷ []) ((0x10, 0xfffff801) ∷ []) ∷ device (slot 1 1 0) 0 ((0x10, 1) ∷ []) ((0x10, 0xfffff001) ∷ []) ∷ [])
-    ≡ Settled (write (slot 0 1 0) 0x30 4 0x00010000 ∷ write (slot 1 1 0) 0x10 4 0x00010001 ∷ write (slot 1 1 0) 0x04 2 0x0001 ∷ [])
+io_above_ffff : settle_growing (record roomy { lists = record lists { io = all_roots 0xf000 0x2ffff ∷ [] } }) (bridge (slot 0 1 0) 1 0x10100 ((0x1c, 0xf1f1) ∷ (0x20, 0xfff0) ∷ []) ((0x1c, 0xf1f1) ∷ (0x30, 0xffffffff) ∷ []) ∷ device (slot 1 0 0) 1 ((0x10, 0xf001) ∷ []) ((0x10, 0xffffff01) ∷ []) ∷ six_ports 1 ∷ six_ports 2 ∷ six_ports 3 ∷ [])
+    ≡ Settled (write (slot 0 1 0) 0x30 4 0x00010000 ∷ write (slot 1 1 0) 0x10 4 0x0000f101 ∷ write (slot 1 1 0) 0x14 4 0x0000f201 ∷ write (slot 1 1 0) 0x18 4 0x0000f301 ∷ write (slot 1 1 0) 0x1c 4 0x0000f401 ∷ write (slot 1 1 0) 0x20 4 0x0000f501 ∷ write (slot 1 1 0) 0x24 4 0x0000f601 ∷ write (slot 1 2 0) 0x10 4 0x0000f701 ∷ write (slot 1 2 0) 0x14 4 0x0000f801 ∷ write (slot 1 2 0) 0x18 4 0x0000f901 ∷ write (slot 1 2 0) 0x1c 4 0x0000fa01 ∷ write (slot 1 2 0) 0x20 4 0x0000fb01 ∷ write (slot 1 2 0) 0x24 4 0x0000fc01 ∷ write (slot 1 3 0) 0x10 4 0x0000fd01 ∷ write (slot 1 3 0) 0x14 4 0x0000fe01 ∷ write (slot 1 3 0) 0x18 4 0x0000ff01 ∷ write (slot 1 3 0) 0x1c 4 0x00010001 ∷ write (slot 1 3 0) 0x20 4 0x00010101 ∷ write (slot 1 3 0) 0x24 4 0x00010201 ∷ write (slot 1 1 0) 0x04 2 0x0001 ∷ write (slot 1 2 0) 0x04 2 0x0001 ∷ write (slot 1 3 0) 0x04 2 0x0001 ∷ [])
 unfolding stands_within window_within holds_within reach_within there_beside there_within placing_within is_live_within
 io_above_ffff = refl
+
+-- ---- windows that hold as they stand
+
+-- an inner window would grow by a megabyte and leave no 2 MB that are aligned in the outer one, which can't grow: that one holds
+-- without growth, so behind it all is as without growth
+holds_as_it_stands : settle_growing (with_memory (all_roots 0xe0000000 0xe07fffff ∷ [])) (outer 0xe030e000 ∷ plain (slot 0 2 0) 2 0xe0400000 0xffc00000 ∷ bridge (slot 1 0 0) 2 0x20201 ((0x20, 0xe010e010) ∷ []) [] ∷ card 0xffe00000 ∷ plain (slot 2 0 0) 2 0xe0100000 0xfff00000 ∷ inner_card ∷ [])
+    ≡ Settled (write (slot 2 0 0) 0x04 2 0x0000 ∷ write (slot 1 0 0) 0x20 4 0x0000fff0 ∷ write (slot 1 0 0) 0x20 4 0xe030e020 ∷ write (slot 1 1 0) 0x10 4 0xe0000000 ∷ write (slot 2 0 0) 0x10 4 0xe0200000 ∷ write (slot 2 1 0) 0x10 4 0xe0300000 ∷ write (slot 1 1 0) 0x04 2 0x0002 ∷ write (slot 2 0 0) 0x04 2 0x0002 ∷ write (slot 2 1 0) 0x04 2 0x0002 ∷ [])
+unfolding stands_within window_within holds_within reach_within there_beside there_within placing_within is_live_within
+holds_as_it_stands = refl
