@@ -18,9 +18,9 @@ from planner import Fault, bridges_above
 from settler import Settler, TooLarge, settled
 from stops import beginnings, is_sound, stop_fault
 
-SORTS = ('a window grows', 'grows at its end', 'grows at its beginning', 'grows in two levels', 'a half is kept',
-         'would grow into another', 'nothing grows', 'settled, which it is not without', 'as without growth', 'something fixed',
-         'an I/O window grows', 'a prefetchable window grows', 'above 4 GB', 'several roots', 'from an unsound start')
+SORTS = ('a window grows', 'grows at its end', 'grows at its beginning', 'grows in two levels', 'nothing grows',
+         'settled, which it is not without', 'something fixed', 'an I/O window grows', 'a prefetchable window grows',
+         'above 4 GB', 'several roots', 'from an unsound start')
 
 # lists with room beside what is placed first, of prefetchable memory also around a multiple of 4 GB
 ROOMY = {'io': [[(None, 0x1000, 0xFFFF)], [(None, 0xD000, 0x2FFFF)], [(None, 0x1000, 0xFFFF)]],

@@ -74,7 +74,7 @@ def request(**words):
     lists = {'io': [(None, 0x1000, 0xFFFF)], 'mem': [(None, 0xE0000000, 0xE0FFFFFF)],
              'pref': [(None, 0x100000000, 0x1FFFFFFFF)]}
     lists.update({kind: [(None,) + words[kind]] for kind in lists if kind in words})
-    return Request([0], lists, words.get('fixed', []), False)
+    return Request([0], lists, words.get('fixed', []), words.get('anew', False))
 
 
 DISK_ON = on((1, 0, 0), 0xE0000000)
@@ -150,6 +150,25 @@ ROWS = [
     ('the lower half of the limit of an I/O window does not fall',
      [bridge((0, 1, 0), 1, (0, 1, 1), {0x1C: (0xF1F1, 0xF1F1), 0x30: (0xFFFFFFFF, 0)}), ports((1, 0, 0), 1, 1, 0xF001)]
      + THREE_OF_PORTS, {'io': (0xF000, 0x2FFFF)}, 'yes', '00:01.0 30.4 00010000, ' + ports_from(0xF101), 0),
+    ('a window a megabyte too short',
+     [over(0xE000E000), function((1, 0, 0), 2, {0x10: (MEGABYTE, 0xE0000000), 0x14: (MEGABYTE, 0xE0100000)})], {},
+     'no 60 Unreached 01:00.0 14 mem 00000000e0100000 bridge 00:01.0',
+     '01:00.0 04.2 0000, 00:01.0 20.4 e010e000, 01:00.0 04.2 0002', 1),
+    ('growth leaves no room for something else, so all is as without',
+     [over(0xE030E030), card((0, 2, 0), 0xFFC00000), on((1, 0, 0), 0xE0300000, MEGABYTE), card((1, 1, 0), 0xFFE00000)],
+     {'mem': (0xE0000000, 0xE07FFFFF)}, 'yes',
+     '''01:00.0 04.2 0000, 00:01.0 20.4 0000fff0, 00:01.0 20.4 e060e040, 00:02.0 10.4 e0000000, 01:00.0 10.4 e0600000,
+        01:01.0 10.4 e0400000, 00:02.0 04.2 0002, 01:00.0 04.2 0002, 01:01.0 04.2 0002''', 0),
+    ('all is placed anew', THREE, {'mem': (0xE0000000, 0xE02FFFFF), 'anew': True}, 'yes',
+     '''01:00.0 04.2 0000, 00:02.0 04.2 0000, 00:01.0 20.4 0000fff0, 00:01.0 20.4 e010e000, 00:02.0 10.4 e0200000,
+        01:00.0 10.4 e0100000, 01:01.0 10.4 e0000000, 00:02.0 04.2 0002, 01:00.0 04.2 0002, 01:01.0 04.2 0002''', 0),
+    ('no room at all', THREE, {'mem': (0xE0000000, 0xE02FFFFF)}, 'yes', 'no 72 NoRoom mem 00:01.0 20 200000 100000', 0),
+    ('an inner window moves within a fixed one',
+     [over(0xE050E000, buses=(0, 1, 2)), over(0xE070E070, buses=(0, 3, 3), slot=(0, 2, 0)),
+      over(0xE050E050, buses=(1, 2, 2), slot=(1, 0, 0)), on((1, 1, 0), 0xE0400000, MEGABYTE), on((2, 0, 0), 0xE0500000),
+      card((2, 1, 0)), on((3, 0, 0), 0xE0700000), card((3, 1, 0))], {'fixed': [(0, 1, 0)]}, 'yes',
+     '''02:00.0 04.2 0000, 01:00.0 20.4 0000fff0, 00:02.0 20.4 e080e070, 01:00.0 20.4 e010e000, 02:00.0 10.4 e0100000,
+        02:01.0 10.4 e0000000, 03:01.0 10.4 e0800000, 02:00.0 04.2 0002, 02:01.0 04.2 0002, 03:01.0 04.2 0002''', 0),
     ('a window that is open at 0 is closed',
      [prefetching(2, 0x00010001, 0), on((0, 2, 0), 0)], {},
      'no 61 Clash bus 00 mem 0000000000000000 00:01.0 24 00:02.0 10',
