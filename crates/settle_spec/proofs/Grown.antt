@@ -36,25 +36,25 @@ module _ (q : Request) (s : System) where
 
 -- ---- what a window comes to
 
-fold_min : (a : ℕ) (xs : List ℕ) → fold min a xs ≤ a
+pub fold_min : (a : ℕ) (xs : List ℕ) → fold min a xs ≤ a
 fold_min a [] = omega arith
 fold_min a (x ∷ xs) = let rest : fold min (min a x) xs ≤ min a x = fold_min (min a x) xs in omega (arith, rest)
 
-fold_max : (a : ℕ) (xs : List ℕ) → a ≤ fold max a xs
+pub fold_max : (a : ℕ) (xs : List ℕ) → a ≤ fold max a xs
 fold_max a [] = omega arith
 fold_max a (x ∷ xs) = let rest : max a x ≤ fold max (max a x) xs = fold_max (max a x) xs in omega (arith, rest)
 
-some_page : (c : WindowKind) → 0 < page_size c
+pub some_page : (c : WindowKind) → 0 < page_size c
 some_page IoWindow = omega arith
 some_page MemoryWindow = omega arith
 some_page PrefetchWindow = omega arith
 
-no_higher : (c : WindowKind) (old first : ℕ) → lowered_first c old first ≤ first
+pub no_higher : (c : WindowKind) (old first : ℕ) → lowered_first c old first ≤ first
 no_higher c old first =
     let split = div-add-mod' first (half_size c) in
     omega (arith, split)
 
-no_lower : (c : WindowKind) (old last : ℕ) → last ≤ raised_last c old last
+pub no_lower : (c : WindowKind) (old last : ℕ) → last ≤ raised_last c old last
 no_lower c old last =
     let split = div-add-mod' last (half_size c) in
     omega (arith, split)

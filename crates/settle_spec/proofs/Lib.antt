@@ -2,6 +2,8 @@ pub mod FirstSpot
 pub mod FirstPlace
 pub mod LastSpot
 pub mod Grown
+pub mod Outward
+pub mod Reaching
 pub mod SameTaken
 pub mod LaidOut
 pub mod MoreTaken
