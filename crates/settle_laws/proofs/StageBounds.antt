@@ -6,8 +6,8 @@ use Rattle.std.proofs.Math.Nat.{mul-le-mul_right}
 use Rattle.pci_spec.specs.Number.{IsImage}
 use Rattle.pci_spec.specs.Window.{WindowKind, IoWindow, MemoryWindow, PrefetchWindow, Bounds, bounds_at, base_page, limit_page, has_window, holds, lower_pages, page_bits, page_size}
 use Rattle.plan_spec.proofs.Planning.Registers.{number_below}
+use Rattle.settle_spec.specs.GrowthLaws.{MoveOut}
 use Rattle.settle_spec.specs.Writes.{shut_bounds}
-use Rattle.settle_laws.proofs.Stages.{MoveOut}
 
 -- a window is closed, or its pages are among another's
 abbrev pub IsWithin : WindowKind → List ℕ → List ℕ → Type 0

@@ -5,11 +5,12 @@ use Rattle.pci_spec.specs.Number.{byte_at, number_at}
 use Rattle.pci_spec.specs.Registers.{COMMAND}
 use Rattle.pci_spec.specs.Header.{layout, bar_count, address_registers, is_in_register}
 use Rattle.pci_spec.specs.Bar.{has_bar}
-use Rattle.pci_spec.specs.Window.{WindowKind, PrefetchWindow, Bounds, bounds_at, holds}
+use Rattle.pci_spec.specs.Window.{WindowKind, PrefetchWindow, bounds_at, holds}
 use Rattle.pci_spec.specs.System.{System, Function, Space, Memory, Part, Bar, Rom, Claims, is_bridge, is_prefetchable_part, is_space_on, is_window, space_of, window_space}
 use Rattle.pci_spec.specs.Machine.{Write}
 use Rattle.plan_spec.specs.Plan.{IsMoved, bridges_above}
 use Rattle.plan_spec.specs.Planning.PlanWrites.{Change, register_write}
+use Rattle.settle_spec.specs.GrowthLaws.{MoveOut}
 use Rattle.settle_spec.specs.Writes.{part_registers, shut_bounds, closing_registers, setting_registers}
 
 -- ---- the writes, where each function has a closed state and a final one
@@ -62,13 +63,6 @@ ShowsSame f g p = (r : ℕ × ℕ) → Contains (part_registers f p) r → numbe
 pub record IsSameWindow (f closed final : Function) (c : WindowKind) : Type 0 where
   pub closed_same : bounds_at c closed.image ≡ bounds_at c f.image
   pub final_same : bounds_at c final.image ≡ bounds_at c f.image
-
--- no half of a bound moves inward
-pub record MoveOut (from to : Bounds) : Type 0 where
-  pub base : to.base ≤ from.base
-  pub limit : from.limit ≤ to.limit
-  pub base_upper : to.base_upper ≤ from.base_upper
-  pub limit_upper : from.limit_upper ≤ to.limit_upper
 
 -- a window is never closed, and at the end it shows the same or has grown
 pub record IsKeptWindow (f closed final : Function) (c : WindowKind) : Type 0 where
