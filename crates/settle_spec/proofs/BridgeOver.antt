@@ -11,7 +11,7 @@ use Rattle.settle_spec.proofs.Nested.{one_bridge}
 
 module _ {X : Type 0} (test : X → Bool) where
   -- what is found is in the list, and passes
-  found : (xs : List X) (x : X) → find test xs ≡ Some x → Contains xs x × IsTrue (test x)
+  pub found : (xs : List X) (x : X) → find test xs ≡ Some x → Contains xs x × IsTrue (test x)
   found [] x e = cc
   found (y ∷ xs) x e = elim (cases_Bool (test y)) [
     | inl fine ↦

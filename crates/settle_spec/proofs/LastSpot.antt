@@ -15,14 +15,14 @@ use Rattle.settle_spec.proofs.FirstSpot.{IsApart, spot_gives, spot_from}
 
 -- ---- a place, by its bounds
 
-record IsPlaceAt (r : Range) (taken : List Range) (e : Extent) (b : ℕ) : Type 0 where
-  multiple : b % e.alignment ≡ 0
-  from : r.first ≤ b
-  free : (t : Range) → Contains taken t → IsApart e.size b t
-  last : b + (e.size - 1) ≤ r.last
-  highest : b + (e.size - 1) ≤ e.highest
+pub record IsPlaceAt (r : Range) (taken : List Range) (e : Extent) (b : ℕ) : Type 0 where
+  pub multiple : b % e.alignment ≡ 0
+  pub from : r.first ≤ b
+  pub free : (t : Range) → Contains taken t → IsApart e.size b t
+  pub last : b + (e.size - 1) ≤ r.last
+  pub highest : b + (e.size - 1) ≤ e.highest
 
-place_gives : (r : Range) (taken : List Range) (e : Extent) (b : ℕ) → IsTrue (is_place r taken e b) → IsPlaceAt r taken e b
+pub place_gives : (r : Range) (taken : List Range) (e : Extent) (b : ℕ) → IsTrue (is_place r taken e b) → IsPlaceAt r taken e b
 place_gives r taken e b place =
     let parts = and_parts (is_spot r.first taken e b) (ends_by r e b) place in
     let spot = spot_gives r.first taken e b parts.0 in
@@ -278,3 +278,10 @@ module _ (r : Range) (taken : List Range) (e : Extent) (pos : 0 < e.alignment) (
       by : (o : Option ℕ) → last_place_in r taken e ≡ o → last_place_in r taken e ≡ None
       by None found = found
       by (Some b) found = absurd (true≢false (sym (last_is b found).place ∙ none b))
+
+-- ---- whatever the extent
+
+pub last_is_place : (r : Range) (taken : List Range) (e : Extent) (a : ℕ) → last_place_in r taken e ≡ Some a → IsTrue (is_place r taken e a)
+last_is_place r taken e a found =
+    let listed = (greatest_is (filter (is_place r taken e) (late_candidates r taken e)) a found).listed in
+    (in_filter_to (is_place r taken e) (late_candidates r taken e) a listed).1

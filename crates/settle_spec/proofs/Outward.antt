@@ -1,5 +1,5 @@
 -- A window that grows moves no half of a bound inward, holds all that it grows for, and stays within its reach.
-use Rattle.std.proofs.Common.{◌≡◌, ℕ, suc, ◌+◌, ◌-◌, ◌*◌, ◌/◌, ◌%◌, ◌^◌, ◌<◌, ◌≤◌, min, max, inl, inr, List, [], ◌∷◌, map, arith, ap, sym, ◌∙◌, refl, true}
+use Rattle.std.proofs.Common.{◌≡◌, ℕ, suc, ◌+◌, ◌-◌, ◌*◌, ◌/◌, ◌%◌, ◌^◌, ◌<◌, ◌≤◌, min, max, inl, inr, List, [], ◌∷◌, map, arith, ap, true}
 use Rattle.std.specs.Bool.{nat_le}
 use Rattle.std.specs.List.{Contains, fold}
 use Rattle.std.proofs.lemmas.Bool.{cases_lt, and_parts, and_from, leb-true, le-leb}
@@ -12,7 +12,7 @@ use Rattle.plan_spec.specs.Plan.{raised_to}
 use Rattle.plan_spec.proofs.Planning.Placement.{multiple_of_mod}
 use Rattle.plan_spec.proofs.Planning.Room.{raised}
 use Rattle.settle_spec.specs.Parts.{lies_within}
-use Rattle.settle_spec.specs.Reach.{half_size, upper_of, lower_of, raised_last, lowered_first}
+use Rattle.settle_spec.specs.Reach.{half_size, raised_last, lowered_first}
 use Rattle.settle_spec.specs.Growth.{grown_to}
 use Rattle.settle_spec.specs.GrowthLaws.{MoveOut, CanReach}
 use Rattle.settle_spec.proofs.Grown.{fold_min, fold_max, some_page, no_higher, no_lower}

@@ -1,5 +1,5 @@
 -- The reach of a window is in the room around it, and off all else that stands on its bus.
-use Rattle.std.proofs.Common.{◌||◌, ◌&&◌, ◌≡◌, ◌≢◌, ◌⊎◌, ℕ, suc, ◌+◌, ◌-◌, ◌*◌, ◌/◌, ◌%◌, ◌<◌, ◌≤◌, min, max, inl, inr, Bool, List, [], ◌∷◌, map, arith, ap, sym, subst, ◌∙◌, refl, true, false, Option, None, Some}
+use Rattle.std.proofs.Common.{◌&&◌, ◌≡◌, ◌≢◌, ◌⊎◌, ℕ, suc, ◌+◌, ◌-◌, ◌*◌, ◌/◌, ◌%◌, ◌<◌, ◌≤◌, min, max, inl, inr, Bool, List, [], ◌∷◌, arith, ap, sym, subst, ◌∙◌, refl, true, false, Option, None, Some}
 use Rattle.std.specs.Bool.{nat_le, nat_lt, ◌==◌, if◌then◌else◌}
 use Rattle.std.specs.Prelude.{not}
 use Rattle.std.specs.List.{Contains, filter, fold}
@@ -10,14 +10,13 @@ use Rattle.pci_spec.specs.Window.{WindowKind, IoWindow, MemoryWindow, PrefetchWi
 use Rattle.pci_spec.specs.Decoded.{Range}
 use Rattle.pci_spec.specs.System.{System, Function}
 use Rattle.pci_spec.proofs.Members.{in_nil, in_head, in_tail, in_cons_cases, in_map_from, in_filter_from}
-use Rattle.plan_spec.specs.Plan.{raised_to}
 use Rattle.plan_spec.proofs.Planning.Room.{raised}
 use Rattle.settle_spec.specs.FirstPlace.{ranges_are_apart}
 use Rattle.settle_spec.specs.Lists.{Request}
 use Rattle.settle_spec.specs.Parts.{FunctionPart, system_parts, addresses, lies_within}
 use Rattle.settle_spec.specs.Stands.{is_fixed_part, rank, are_beside, window_part, stands}
 use Rattle.settle_spec.specs.Items.{highest_in}
-use Rattle.settle_spec.specs.Reach.{half_size, upper_of, lower_of, cut_last, cut_first, cut_to_halves, clear_of, standing_beside, no_higher, whole_pages, room_around, reach_in, reach_if, reach_within, reach}
+use Rattle.settle_spec.specs.Reach.{half_size, upper_of, lower_of, cut_to_halves, clear_of, standing_beside, no_higher, whole_pages, room_around, reach_in, reach_if, reach_within, reach}
 use Rattle.settle_spec.specs.GrowthLaws.{CanReach}
 use Rattle.settle_spec.proofs.Grown.{some_page}
 use Rattle.settle_spec.proofs.Outward.{some_half, page_from}
@@ -38,14 +37,14 @@ apart_ends r t (inl under) = or_left (nat_lt r.last t.first) (nat_lt t.last r.fi
 apart_ends r t (inr over) = or_right (nat_lt r.last t.first) (nat_lt t.last r.first) (lt-ltb t.last r.first over)
 
 -- a range lies on that side of other addresses on which a window is, where it lies within another
-record LiesIn (r room : Range) : Type 0 where
-  first : room.first ≤ r.first
-  last : r.last ≤ room.last
+pub record LiesIn (r room : Range) : Type 0 where
+  pub first : room.first ≤ r.first
+  pub last : r.last ≤ room.last
 
 lies_in_same : (r : Range) → LiesIn r r
 lies_in_same r = record { first = omega arith; last = omega arith }
 
-lies_in_trans : (a b c : Range) → LiesIn a b → LiesIn b c → LiesIn a c
+pub lies_in_trans : (a b c : Range) → LiesIn a b → LiesIn b c → LiesIn a c
 lies_in_trans a b c inner outer =
     let f = inner.first in
     let g = outer.first in
@@ -256,22 +255,22 @@ module _ (c : WindowKind) (w p : Range) (inside : LiesIn w p) (first_page : p.fi
       }
 
 -- a window has whole pages
-window_first : (c : WindowKind) (b : Function) → (addresses (window_part c b)).first % page_size c ≡ 0
+pub window_first : (c : WindowKind) (b : Function) → (addresses (window_part c b)).first % page_size c ≡ 0
 window_first c b = mul-mod_left (base_page c b.image) (page_size c)
 
-window_last : (c : WindowKind) (b : Function) → ((addresses (window_part c b)).last + 1) % page_size c ≡ 0
+pub window_last : (c : WindowKind) (b : Function) → ((addresses (window_part c b)).last + 1) % page_size c ≡ 0
 window_last c b =
     let k = limit_page c b.image in
     let pos = some_page c in
     let is : k * page_size c + (page_size c - 1) + 1 ≡ suc k * page_size c = omega (arith, pos) in
     ap (λ n. n % page_size c) is ∙ mul-mod_left (suc k) (page_size c)
 
-within_gives : (r t : Range) → lies_within r t ≡ true → LiesIn r t
+pub within_gives : (r t : Range) → lies_within r t ≡ true → LiesIn r t
 within_gives r t h =
     let parts = and_parts (nat_le t.first r.first) (nat_le r.last t.last) h in
     record { first = leb-true t.first r.first parts.0; last = leb-true r.last t.last parts.1 }
 
-within_from : (r t : Range) → LiesIn r t → lies_within r t ≡ true
+pub within_from : (r t : Range) → LiesIn r t → lies_within r t ≡ true
 within_from r t is = and_from (nat_le t.first r.first) (nat_le r.last t.last) (le-leb t.first r.first is.first) (le-leb r.last t.last is.last)
 
 module _ (q : Request) (s : System) (c : WindowKind) (b : Function) (room : Range) where
@@ -334,7 +333,7 @@ module _ (q : Request) (s : System) (c : WindowKind) (b : Function) (t : Functio
       by true = apart
       by false = in_apart has room
 
-  reach_step : reach q s c b ≡ reach_if q s c b (room_around q s c (reach_within q s c 255) b)
+  pub reach_step : reach q s c b ≡ reach_if q s c b (room_around q s c (reach_within q s c 255) b)
   unfolding reach_within
   reach_step = refl
 

@@ -33,7 +33,7 @@ pieces_same f g (x ∷ xs) same =
     ap (λ ys. ys ++ flat_map f xs) (same x (in_head x xs)) ∙ ap (λ ys. g x ++ ys) (pieces_same f g xs (λ y listed. same y (in_tail x xs y listed)))
 
 module _ (q : Request) (s : System) where
-  holds_step : (depth : ℕ) (r : FunctionPart) → holds_within q s (suc depth) r ≡ (stands q s r && has_room q s (holds_within q s depth) r.function r.part)
+  pub holds_step : (depth : ℕ) (r : FunctionPart) → holds_within q s (suc depth) r ≡ (stands q s r && has_room q s (holds_within q s depth) r.function r.part)
   unfolding holds_within
   holds_step depth r = refl
 

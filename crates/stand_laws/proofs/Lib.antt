@@ -4,3 +4,5 @@ pub mod Apart
 pub mod Ranks
 pub mod Passes
 pub mod Holding
+pub mod Reach
+pub mod There

@@ -110,7 +110,7 @@ module _ (q : Request) (s : System) where
   in_header : (f : Function) (c : WindowKind) → Contains (header_parts f) (Window c)
   in_header f c = Contains-append_right (header_bars f) (Window IoWindow ∷ Window MemoryWindow ∷ Window PrefetchWindow ∷ Rom ∷ []) (Window c) (after_bars c)
 
-  window_listed : (c : WindowKind) (b : Function) → Contains s b → is_part q s b (Window c) ≡ true → Contains (system_parts q s) (window_part c b)
+  pub window_listed : (c : WindowKind) (b : Function) → Contains s b → is_part q s b (Window c) ≡ true → Contains (system_parts q s) (window_part c b)
   window_listed c b listed is =
       in_flat_map_from (function_parts q s) s b (window_part c b) listed
       (in_map_from (λ p. record { function = b; part = p }) (parts_of q s b) (Window c)

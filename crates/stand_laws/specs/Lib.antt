@@ -2,3 +2,5 @@ pub mod Order
 pub mod Standing
 pub mod Passes
 pub mod Holding
+pub mod Reach
+pub mod There

@@ -2,4 +2,5 @@
 #![tactic(auto)]
 
 pub mod holding_laws;
+pub mod reach_laws;
 pub mod standing_laws;

@@ -1,0 +1,45 @@
+-- Laws of what is there where windows grow: it stands, in its reach, and a window holds what is there behind it.
+use Rattle.std.specs.Prelude.{◌≡◌, ℕ, ◌<◌, Bool, IsTrue, Some}
+use Rattle.std.specs.List.{Contains}
+use Rattle.pci_spec.specs.Window.{WindowKind}
+use Rattle.pci_spec.specs.Decoded.{Range}
+use Rattle.pci_spec.specs.System.{System, Function, IsSystem, Part, Window}
+use Rattle.pci_spec.specs.Bus.{secondary, are_siblings, IsNested}
+use Rattle.settle_spec.specs.Lists.{Request}
+use Rattle.settle_spec.specs.Parts.{FunctionPart, system_parts, addresses, lies_within, class_in}
+use Rattle.settle_spec.specs.Stands.{window_part, stands}
+use Rattle.settle_spec.specs.Items.{Item, bus_items, new_window}
+use Rattle.settle_spec.specs.Reach.{reach}
+use Rattle.settle_spec.specs.Growth.{there, comes_to}
+use Rattle.stand_laws.specs.Reach.{WindowsAreLow}
+
+-- each item has an alignment
+abbrev pub ItemsAreAligned : Request → System → Type 0
+ItemsAreAligned q s =
+    (c : WindowKind) (keeps : FunctionPart → Bool) (bus : ℕ) (i : Item)
+    → Contains (bus_items q s c keeps (new_window q s c) bus) i → 0 < i.extent.alignment
+
+-- the addresses that a part can come to: a window those of its reach
+abbrev pub part_reach : Request → System → Function → Part → Range
+part_reach q s f (Window c) = reach q s c f
+part_reach q s f p = addresses (record { function = f; part = p })
+
+-- a part stands, and some addresses are such
+pub record IsInReach (q : Request) (s : System) (r : FunctionPart) (x : Range) : Type 0 where
+  pub stands : IsTrue (stands q s r)
+  pub within : IsTrue (lies_within x (part_reach q s r.function r.part))
+
+-- What is there stands, and is in its reach.
+abbrev pub ThereIsInReach : Type 0
+ThereIsInReach =
+    (q : Request) (s : System) (r : FunctionPart) (x : Range) → IsSystem s → IsNested q.roots s
+    → WindowsAreLow q s → ItemsAreAligned q s → Contains (system_parts q s) r
+    → there q s r ≡ Some x → IsInReach q s r x
+
+-- What a window comes to holds all of its class that is there behind it.
+abbrev pub ComesToHoldWhatIsThere : Type 0
+ComesToHoldWhatIsThere =
+    (q : Request) (s : System) (c : WindowKind) (b : Function) (g : Range) (r : FunctionPart) (x : Range)
+    → comes_to q s (window_part c b) ≡ Some g → Contains (system_parts q s) r
+    → IsTrue (are_siblings q.roots (secondary b) r.function.slot.bus)
+    → class_in q s r.function r.part ≡ c → there q s r ≡ Some x → IsTrue (lies_within x g)
