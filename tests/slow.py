@@ -4,16 +4,16 @@
 Usage: slow.py KIND COUNT [FIRST [PROGRAM]] [--growth]
        slow.py KIND show SEED
 
-KIND is `judge`, `plan`, `settle`, `growth`, or `all`, which is the first three. COUNT seeds are taken from FIRST on (0 if not said), of `all` a quarter of
-these for `plan` and `settle`, of which a seed has several boards. PROGRAM is the built program, by default
-crates/pciplan/out/pciplan. What is printed:
+KIND is `judge`, `plan`, `settle`, `growth`, or `all`, which is the first three. COUNT seeds are taken from FIRST on (0 if
+not said), of `all` a quarter of these for `plan` and `settle`, of which a seed has several boards. PROGRAM is the built
+program, by default crates/pciplan/out/pciplan. What is printed:
 
 - a line for each board on which program and model differ, and below it what differs;
 - for each kind of how many seeds boards were of each sort, and of 1,000 seeds or more a line for each sort that lacks;
 - at last `N boards, M disagree`, counted by seeds.
 
-Of `growth` the program is asked nothing: laws are tried of what the slow settler does where windows grow, and before
-them the boards of growth_rows.py. With `--growth` the program is taken to let windows grow, in `settle` too.
+Of `growth` the program is asked nothing: laws are tried of what the slow settler does where windows grow, and the boards
+of growth_rows.py are settled. With `--growth` the program is taken to let windows grow, in `settle` too.
 
 The status is 1 where boards disagree or a sort is lacking. `show` prints the board of a seed. RT_JOBS sets how many
 processes run at a time (as many as there are cores if not said).
