@@ -35,7 +35,7 @@ or_swap false true = refl
 or_swap false false = refl
 
 module _ (q : Request) (s : System) where
-  beside_back : (r t : FunctionPart) → are_beside q r t ≡ true → are_beside q t r ≡ true
+  pub beside_back : (r t : FunctionPart) → are_beside q r t ≡ true → are_beside q t r ≡ true
   beside_back r t beside =
       let parts = and_parts (are_siblings q.roots r.function.slot.bus t.function.slot.bus) (are_same_space (part_space r) (part_space t)) beside in
       and_from (are_siblings q.roots t.function.slot.bus r.function.slot.bus) (are_same_space (part_space t) (part_space r))

@@ -6,3 +6,4 @@ pub mod Passes
 pub mod Holding
 pub mod Reach
 pub mod There
+pub mod ThereApart

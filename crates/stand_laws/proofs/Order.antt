@@ -111,7 +111,7 @@ fewer_or_same p r (x ∷ xs) more =
           ]
     ]
 
-fewer : {X : Type 0} (p r : X → Bool) (xs : List X) → ((x : X) → p x ≡ true → r x ≡ true) → (t : X) → Contains xs t → p t ≡ false → r t ≡ true
+pub fewer : {X : Type 0} (p r : X → Bool) (xs : List X) → ((x : X) → p x ≡ true → r x ≡ true) → (t : X) → Contains xs t → p t ≡ false → r t ≡ true
     → length (filter p xs) < length (filter r xs)
 fewer p r [] more t listed off on = absurd (in_nil t listed)
 fewer p r (x ∷ xs) more t listed off on = elim (in_cons_cases x xs t listed) [
@@ -145,7 +145,7 @@ few_pass p (x ∷ xs) =
       | inr off ↦ (let a = ap (λ b. length (cond b (x ∷ filter p xs) (filter p xs))) off in omega (arith, rest, a))
     ]
 
-not_all_pass : {X : Type 0} (p : X → Bool) (xs : List X) (t : X) → Contains xs t → p t ≡ false → length (filter p xs) < length xs
+pub not_all_pass : {X : Type 0} (p : X → Bool) (xs : List X) (t : X) → Contains xs t → p t ≡ false → length (filter p xs) < length xs
 not_all_pass p [] t listed off = absurd (in_nil t listed)
 not_all_pass p (x ∷ xs) t listed off = elim (in_cons_cases x xs t listed) [
   | inl here ↦

@@ -18,7 +18,7 @@ use Rattle.stand_laws.specs.Standing.{IsStanding}
 use Rattle.stand_laws.specs.Order.{level, comes_first}
 use Rattle.stand_laws.proofs.Order.{before, falls, few}
 
-all_same : {X : Type 0} (p r : X → Bool) (xs : List X) → ((x : X) → Contains xs x → p x ≡ r x) → list_all p xs ≡ list_all r xs
+pub all_same : {X : Type 0} (p r : X → Bool) (xs : List X) → ((x : X) → Contains xs x → p x ≡ r x) → list_all p xs ≡ list_all r xs
 all_same p r [] same = refl
 all_same p r (x ∷ xs) same =
     ap (λ b. b && list_all p xs) (same x (in_head x xs)) ∙ ap (λ b. r x && b) (all_same p r xs (λ y listed. same y (in_tail x xs y listed)))

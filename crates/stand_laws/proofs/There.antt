@@ -1,5 +1,5 @@
 -- What is there where windows grow stands and is in its reach, and a window holds what is there behind it.
-use Rattle.std.proofs.Common.{◌≡◌, ℕ, zero, suc, ◌+◌, ◌-◌, ◌*◌, ◌<◌, ◌≤◌, inl, inr, List, [], ◌∷◌, ◌++◌, map, length, Option, None, Some, Bool, true, false, ◌&&◌, not, arith, ap, sym, subst, ◌∙◌, refl}
+use Rattle.std.proofs.Common.{◌≡◌, ℕ, zero, suc, ◌-◌, ◌*◌, ◌<◌, ◌≤◌, inl, inr, List, [], ◌∷◌, ◌++◌, map, length, Option, None, Some, Bool, true, false, ◌&&◌, not, arith, ap, sym, subst, ◌∙◌, refl}
 use Rattle.std.specs.Bool.{nat_le, nat_lt, if◌then◌else◌}
 use Rattle.std.specs.List.{Contains}
 use Rattle.std.specs.Option.{is_some}
@@ -175,12 +175,12 @@ module _ (q : Request) (s : System) where
   -- ---- what is there is in its reach
 
   module _ (system : IsSystem s) (nested : IsNested q.roots s) (low : WindowsAreLow q s) (aligned : ItemsAreAligned q s) where
-    record IsOpen (c : WindowKind) (b : Function) : Type 0 where
-      listed : Contains s b
-      bridge : is_bridge b ≡ true
-      forward : (addresses (window_part c b)).first ≤ (addresses (window_part c b)).last
+    pub record IsOpen (c : WindowKind) (b : Function) : Type 0 where
+      pub listed : Contains s b
+      pub bridge : is_bridge b ≡ true
+      pub forward : (addresses (window_part c b)).first ≤ (addresses (window_part c b)).last
 
-    opened : (c : WindowKind) (b : Function) → IsStandingWindow q s c b → IsOpen c b
+    pub opened : (c : WindowKind) (b : Function) → IsStandingWindow q s c b → IsOpen c b
     opened c b is =
         let of = part_of q s (window_part c b) is.part in
         let outer = and_parts (is_bridge b && has_window c b.probe) (not (is_closed c b.image)) of.is in
@@ -306,7 +306,7 @@ module _ (q : Request) (s : System) where
     unfolding there_within
     within_zero r = refl
 
-    within_next : (depth : ℕ) (r : FunctionPart) → there_within q s (suc depth) r ≡ there_beside q s (λ r. part_comes_to q s (there_within q s depth) r.function r.part) (length (system_parts q s)) r
+    pub within_next : (depth : ℕ) (r : FunctionPart) → there_within q s (suc depth) r ≡ there_beside q s (λ r. part_comes_to q s (there_within q s depth) r.function r.part) (length (system_parts q s)) r
     unfolding there_within
     within_next depth r = refl
 

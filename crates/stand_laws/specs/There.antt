@@ -1,13 +1,14 @@
 -- Laws of what is there where windows grow: it stands, in its reach, and a window holds what is there behind it.
-use Rattle.std.specs.Prelude.{◌≡◌, ℕ, ◌<◌, Bool, IsTrue, Some}
+use Rattle.std.specs.Prelude.{◌≡◌, ◌≢◌, ℕ, ◌<◌, Bool, IsTrue, Some}
 use Rattle.std.specs.List.{Contains}
 use Rattle.pci_spec.specs.Window.{WindowKind}
 use Rattle.pci_spec.specs.Decoded.{Range}
 use Rattle.pci_spec.specs.System.{System, Function, IsSystem, Part, Window}
 use Rattle.pci_spec.specs.Bus.{secondary, are_siblings, IsNested}
+use Rattle.settle_spec.specs.FirstPlace.{ranges_are_apart}
 use Rattle.settle_spec.specs.Lists.{Request}
 use Rattle.settle_spec.specs.Parts.{FunctionPart, system_parts, addresses, lies_within, class_in}
-use Rattle.settle_spec.specs.Stands.{window_part, stands}
+use Rattle.settle_spec.specs.Stands.{rank, are_beside, window_part, stands}
 use Rattle.settle_spec.specs.Items.{Item, bus_items, new_window}
 use Rattle.settle_spec.specs.Reach.{reach}
 use Rattle.settle_spec.specs.Growth.{there, comes_to}
@@ -35,6 +36,14 @@ ThereIsInReach =
     (q : Request) (s : System) (r : FunctionPart) (x : Range) → IsSystem s → IsNested q.roots s
     → WindowsAreLow q s → ItemsAreAligned q s → Contains (system_parts q s) r
     → there q s r ≡ Some x → IsInReach q s r x
+
+-- Two parts that are there, of one space and on one bus or both on roots, share no address.
+abbrev pub ThereIsApart : Type 0
+ThereIsApart =
+    (q : Request) (s : System) (r t : FunctionPart) (x y : Range) → IsSystem s → IsNested q.roots s
+    → WindowsAreLow q s → ItemsAreAligned q s → Contains (system_parts q s) r
+    → Contains (system_parts q s) t → IsTrue (are_beside q r t) → rank r ≢ rank t
+    → there q s r ≡ Some x → there q s t ≡ Some y → IsTrue (ranges_are_apart x y)
 
 -- What a window comes to holds all of its class that is there behind it.
 abbrev pub ComesToHoldWhatIsThere : Type 0

@@ -1,7 +1,7 @@
 //! Laws of windows that grow. These functions do nothing: each contract is a law.
 
 ghost use Rattle.stand_laws.specs.Reach.{ReachesAreAround, ReachesNest, ReachesAreOff};
-ghost use Rattle.stand_laws.specs.There.{ThereIsInReach, ComesToHoldWhatIsThere};
+ghost use Rattle.stand_laws.specs.There.{ThereIsInReach, ThereIsApart, ComesToHoldWhatIsThere};
 
 /// The reach of a window that stands is pages around it, in that of the window above, off what stands beside it.
 pub fn reaches_are_around_windows()
@@ -10,8 +10,9 @@ pub fn reaches_are_around_windows()
     ensures off { ReachesAreOff }
 {}
 
-/// What is there where windows grow is in its reach, and what a window comes to holds what is there behind it.
+/// What is there where windows grow is in its reach, off what is there beside it, and a window holds what is there behind it.
 pub fn what_is_there_is_in_reach()
     ensures within { ThereIsInReach }
+    ensures apart { ThereIsApart }
     ensures holds { ComesToHoldWhatIsThere }
 {}
