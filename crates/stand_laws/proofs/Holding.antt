@@ -27,7 +27,7 @@ filter_same p r (x ∷ xs) same =
     ap (λ b. cond b (x ∷ filter p xs) (filter p xs)) (same x (in_head x xs))
     ∙ ap (λ ys. cond (r x) (x ∷ ys) ys) (filter_same p r xs (λ y listed. same y (in_tail x xs y listed)))
 
-pieces_same : {X Y : Type 0} (f g : X → List Y) (xs : List X) → ((x : X) → Contains xs x → f x ≡ g x) → flat_map f xs ≡ flat_map g xs
+pub pieces_same : {X Y : Type 0} (f g : X → List Y) (xs : List X) → ((x : X) → Contains xs x → f x ≡ g x) → flat_map f xs ≡ flat_map g xs
 pieces_same f g [] same = refl
 pieces_same f g (x ∷ xs) same =
     ap (λ ys. ys ++ flat_map f xs) (same x (in_head x xs)) ∙ ap (λ ys. g x ++ ys) (pieces_same f g xs (λ y listed. same y (in_tail x xs y listed)))

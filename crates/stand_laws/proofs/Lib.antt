@@ -7,3 +7,4 @@ pub mod Holding
 pub mod Reach
 pub mod There
 pub mod ThereApart
+pub mod ThereByBus

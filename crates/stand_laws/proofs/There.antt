@@ -158,6 +158,27 @@ around_holds c w others (AllPlaced placed) g x is has =
     subst (λ t. lies_within x t ≡ true) (some_is (grown_to c w all) g is) (grown_holds_each c w all x (Contains-append_left others (map (λ (p : Placed). taken_by p.item p.at) placed) x has))
 
 module _ (q : Request) (s : System) where
+  -- ---- one step
+
+  pub stands_where_holds : (r : FunctionPart) → has_room_behind q s r ≡ true → stands q s r ≡ true
+  stands_where_holds r holds = (and_parts (stands q s r) (has_room q s (holds_within q s 255) r.function r.part) (sym (holds_step q s 255 r) ∙ holds)).0
+
+  pub beside_zero : (comes : FunctionPart → Option Range) (r : FunctionPart) → there_beside q s comes 0 r ≡ None
+  unfolding there_beside
+  beside_zero comes r = refl
+
+  pub beside_next : (comes : FunctionPart → Option Range) (n : ℕ) (r : FunctionPart) → there_beside q s comes (suc n) r ≡ there_if q s comes (there_beside q s comes n) r
+  unfolding there_beside
+  beside_next comes n r = refl
+
+  pub within_zero : (r : FunctionPart) → there_within q s 0 r ≡ None
+  unfolding there_within
+  within_zero r = refl
+
+  pub within_next : (depth : ℕ) (r : FunctionPart) → there_within q s (suc depth) r ≡ there_beside q s (λ r. part_comes_to q s (there_within q s depth) r.function r.part) (length (system_parts q s)) r
+  unfolding there_within
+  within_next depth r = refl
+
   pub comes_to_holds : (c : WindowKind) (b : Function) (g : Range) (r : FunctionPart) (x : Range) → comes_to q s (window_part c b) ≡ Some g → Contains (system_parts q s) r
       → are_siblings q.roots (secondary b) r.function.slot.bus ≡ true → class_in q s r.function r.part ≡ c → there q s r ≡ Some x → lies_within x g ≡ true
   comes_to_holds c b g r x comes listed beside class is = by (stands q s (window_part c b)) comes
@@ -271,9 +292,6 @@ module _ (q : Request) (s : System) where
 
     -- ---- bus by bus, and on a bus part by part
 
-    stands_where_holds : (r : FunctionPart) → has_room_behind q s r ≡ true → stands q s r ≡ true
-    stands_where_holds r holds = (and_parts (stands q s r) (has_room q s (holds_within q s 255) r.function r.part) (sym (holds_step q s 255 r) ∙ holds)).0
-
     own_in_reach : (f : Function) (p : Part) → Contains (system_parts q s) (record { function = f; part = p }) → stands q s (record { function = f; part = p }) ≡ true
         → lies_within (addresses (record { function = f; part = p })) (part_reach q s f p) ≡ true
     own_in_reach f (Window c) listed stand =
@@ -293,22 +311,6 @@ module _ (q : Request) (s : System) where
         by false stand is = absurd (false≢true (ap is_some is))
     part_in behind within f (Bar n) x listed found = absurd (false≢true (ap is_some found))
     part_in behind within f Rom x listed found = absurd (false≢true (ap is_some found))
-
-    beside_zero : (comes : FunctionPart → Option Range) (r : FunctionPart) → there_beside q s comes 0 r ≡ None
-    unfolding there_beside
-    beside_zero comes r = refl
-
-    beside_next : (comes : FunctionPart → Option Range) (n : ℕ) (r : FunctionPart) → there_beside q s comes (suc n) r ≡ there_if q s comes (there_beside q s comes n) r
-    unfolding there_beside
-    beside_next comes n r = refl
-
-    within_zero : (r : FunctionPart) → there_within q s 0 r ≡ None
-    unfolding there_within
-    within_zero r = refl
-
-    pub within_next : (depth : ℕ) (r : FunctionPart) → there_within q s (suc depth) r ≡ there_beside q s (λ r. part_comes_to q s (there_within q s depth) r.function r.part) (length (system_parts q s)) r
-    unfolding there_within
-    within_next depth r = refl
 
     if_in : (behind before : FunctionPart → Option Range) → InReach behind → (f : Function) (p : Part) (x : Range) → Contains (system_parts q s) (record { function = f; part = p })
         → there_if q s (λ r. part_comes_to q s behind r.function r.part) before (record { function = f; part = p }) ≡ Some x → IsInReach q s (record { function = f; part = p }) x

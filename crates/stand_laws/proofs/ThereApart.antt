@@ -22,7 +22,7 @@ use Rattle.stand_laws.proofs.Order.{fewer, not_all_pass}
 use Rattle.stand_laws.proofs.Standing.{all_same}
 use Rattle.stand_laws.proofs.Apart.{beside_back, apart_where_beside}
 use Rattle.stand_laws.proofs.Reach.{some_is, reaches_are_off}
-use Rattle.stand_laws.proofs.There.{opened, within_next, there_is_in_reach}
+use Rattle.stand_laws.proofs.There.{opened, beside_next, within_next, there_is_in_reach}
 
 -- ---- ranges that are apart
 
@@ -36,7 +36,7 @@ inner_apart x r t inside (inr over) = (let f = inside.first in inr (omega (arith
 
 module _ (q : Request) (s : System) (comes : FunctionPart → Option Range) where
   -- how many parts stand at lower addresses
-  abbrev place : FunctionPart → ℕ
+  abbrev pub place : FunctionPart → ℕ
   place r = length (filter (λ u. nat_lt (addresses u).first (addresses r).first) (system_parts q s))
 
   irreflexive : (r : FunctionPart) → nat_lt (addresses r).first (addresses r).first ≡ false
@@ -51,12 +51,12 @@ module _ (q : Request) (s : System) (comes : FunctionPart → Option Range) wher
       lt-ltb (addresses u).first (addresses r).first (omega (arith, a, b)))
       t listed (irreflexive t) less
 
-  few : (r : FunctionPart) → Contains (system_parts q s) r → place r < length (system_parts q s)
+  pub few : (r : FunctionPart) → Contains (system_parts q s) r → place r < length (system_parts q s)
   few r listed = not_all_pass (λ u. nat_lt (addresses u).first (addresses r).first) (system_parts q s) r listed (irreflexive r)
 
   -- ---- as many others as there are at lower addresses are enough
 
-  clear_same : (one other : FunctionPart → Option Range) (r : FunctionPart) → ((u : FunctionPart) → Contains (system_parts q s) u → is_before q u r ≡ true → one u ≡ other u)
+  pub clear_same : (one other : FunctionPart → Option Range) (r : FunctionPart) → ((u : FunctionPart) → Contains (system_parts q s) u → is_before q u r ≡ true → one u ≡ other u)
       → (o : Option Range) → is_clear q s one r o ≡ is_clear q s other r o
   clear_same one other r same None = refl
   clear_same one other r same (Some g) =
@@ -66,25 +66,21 @@ module _ (q : Request) (s : System) (comes : FunctionPart → Option Range) wher
         | inr off ↦ ap (λ b. not b || is_off g (one u)) off ∙ sym (ap (λ b. not b || is_off g (other u)) off)
       ])
 
-  if_same : (one other : FunctionPart → Option Range) (r : FunctionPart) → ((u : FunctionPart) → Contains (system_parts q s) u → is_before q u r ≡ true → one u ≡ other u)
+  pub if_same : (one other : FunctionPart → Option Range) (r : FunctionPart) → ((u : FunctionPart) → Contains (system_parts q s) u → is_before q u r ≡ true → one u ≡ other u)
       → there_if q s comes one r ≡ there_if q s comes other r
   if_same one other r same =
       ap (λ b. if b then comes r else if has_room_behind q s r then Some (addresses r) else None) (clear_same one other r same (comes r))
 
-  beside_next : (n : ℕ) (r : FunctionPart) → there_beside q s comes (suc n) r ≡ there_if q s comes (there_beside q s comes n) r
-  unfolding there_beside
-  beside_next n r = refl
-
-  enough : (d e : ℕ) (r : FunctionPart) → Contains (system_parts q s) r → place r < d → place r < e → there_beside q s comes d r ≡ there_beside q s comes e r
+  pub enough : (d e : ℕ) (r : FunctionPart) → Contains (system_parts q s) r → place r < d → place r < e → there_beside q s comes d r ≡ there_beside q s comes e r
   enough zero e r listed hd he = absurd (let no : ⊥ = omega (arith, hd) in no)
   enough (suc d) zero r listed hd he = absurd (let no : ⊥ = omega (arith, he) in no)
   enough (suc d) (suc e) r listed hd he =
-      beside_next d r
+      beside_next q s comes d r
       ∙ if_same (there_beside q s comes d) (there_beside q s comes e) r (λ u has before.
       let less = (and_parts (are_beside q u r) (nat_lt (addresses u).first (addresses r).first) before).1 in
       let lower = falls u r has less in
       enough d e u has (omega (arith, lower, hd)) (omega (arith, lower, he)))
-      ∙ sym (beside_next e r)
+      ∙ sym (beside_next q s comes e r)
 
   -- ---- of two on a bus the upper one is off the lower one
 
@@ -95,7 +91,7 @@ module _ (q : Request) (s : System) (comes : FunctionPart → Option Range) wher
       → there_beside q s comes n r ≡ Some x → there_beside q s comes n t ≡ Some y → IsOffOrStands r t x y
   upper zero r t x y in_r in_t small before is_x is_y = absurd (let no : ⊥ = omega (arith, small) in no)
   upper (suc m) r t x y in_r in_t small before is_x is_y =
-      by (is_clear q s (there_beside q s comes m) t (comes t)) (has_room_behind q s t) refl (sym (beside_next m t) ∙ is_y)
+      by (is_clear q s (there_beside q s comes m) t (comes t)) (has_room_behind q s t) refl (sym (beside_next q s comes m t) ∙ is_y)
     where
       less : nat_lt (addresses r).first (addresses t).first ≡ true
       less = (and_parts (are_beside q r t) (nat_lt (addresses r).first (addresses t).first) before).1
@@ -148,7 +144,7 @@ module _ (q : Request) (s : System) (system : IsSystem s) (nested : IsNested q.r
       let at_t = there_is_in_reach q s system nested low aligned t y in_t is_y in
       let before = and_from (are_beside q r t) (nat_lt (addresses r).first (addresses t).first) beside (lt-ltb (addresses r).first (addresses t).first less) in
       let way = upper q s comes_last (length (system_parts q s)) r t x y in_r in_t (few q s comes_last t in_t) before
-      (sym (within_next q s system nested low aligned 255 r) ∙ is_x) (sym (within_next q s system nested low aligned 255 t) ∙ is_y) in
+      (sym (within_next q s 255 r) ∙ is_x) (sym (within_next q s 255 t) ∙ is_y) in
       elim way.is [
         | inl off ↦ swapped y x (ends_apart y x off)
         | inr stays ↦

@@ -1,17 +1,17 @@
 -- Laws of what is there where windows grow: it stands, in its reach, and a window holds what is there behind it.
-use Rattle.std.specs.Prelude.{◌≡◌, ◌≢◌, ℕ, ◌<◌, Bool, IsTrue, Some}
+use Rattle.std.specs.Prelude.{◌≡◌, ◌≢◌, ℕ, ◌<◌, Bool, if◌then◌else◌, IsTrue, Some}
 use Rattle.std.specs.List.{Contains}
 use Rattle.pci_spec.specs.Window.{WindowKind}
 use Rattle.pci_spec.specs.Decoded.{Range}
 use Rattle.pci_spec.specs.System.{System, Function, IsSystem, Part, Window}
-use Rattle.pci_spec.specs.Bus.{secondary, are_siblings, IsNested}
+use Rattle.pci_spec.specs.Bus.{is_root, secondary, are_siblings, IsNested}
 use Rattle.settle_spec.specs.FirstPlace.{ranges_are_apart}
 use Rattle.settle_spec.specs.Lists.{Request}
 use Rattle.settle_spec.specs.Parts.{FunctionPart, system_parts, addresses, lies_within, class_in}
 use Rattle.settle_spec.specs.Stands.{rank, are_beside, window_part, stands}
 use Rattle.settle_spec.specs.Items.{Item, bus_items, new_window}
 use Rattle.settle_spec.specs.Reach.{reach}
-use Rattle.settle_spec.specs.Growth.{there, comes_to}
+use Rattle.settle_spec.specs.Growth.{there_if, there, comes_to}
 use Rattle.stand_laws.specs.Reach.{WindowsAreLow}
 
 -- each item has an alignment
@@ -19,6 +19,10 @@ abbrev pub ItemsAreAligned : Request → System → Type 0
 ItemsAreAligned q s =
     (c : WindowKind) (keeps : FunctionPart → Bool) (bus : ℕ) (i : Item)
     → Contains (bus_items q s c keeps (new_window q s c) bus) i → 0 < i.extent.alignment
+
+-- a bus, all roots being the lowest one
+abbrev pub height : Request → ℕ → ℕ
+height q bus = if is_root q.roots bus then 0 else bus
 
 -- the addresses that a part can come to: a window those of its reach
 abbrev pub part_reach : Request → System → Function → Part → Range
@@ -44,6 +48,13 @@ ThereIsApart =
     → WindowsAreLow q s → ItemsAreAligned q s → Contains (system_parts q s) r
     → Contains (system_parts q s) t → IsTrue (are_beside q r t) → rank r ≢ rank t
     → there q s r ≡ Some x → there q s t ≡ Some y → IsTrue (ranges_are_apart x y)
+
+-- What is there is told by what is there before it on its bus, and by what it comes to, which what is there behind it tells:
+-- 256 buses behind one another are all.
+abbrev pub ThereByBus : Type 0
+ThereByBus =
+    (q : Request) (s : System) (r : FunctionPart) → IsSystem s → IsNested q.roots s
+    → Contains (system_parts q s) r → there q s r ≡ there_if q s (comes_to q s) (there q s) r
 
 -- What a window comes to holds all of its class that is there behind it.
 abbrev pub ComesToHoldWhatIsThere : Type 0
