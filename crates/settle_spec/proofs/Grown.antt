@@ -89,7 +89,7 @@ around_holds c w others (AllPlaced placed) r is =
     subst (λ t. lies_within w t ≡ true) (ap (λ o. range_or o (grown_to c w all)) is) (grown_holds c w all)
 
 module _ (q : Request) (s : System) where
-  part_holds : (f : Function) (p : Part) → HoldsAll (addresses (record { function = f; part = p })) (part_comes_to q s (there q s) f p)
+  pub part_holds : (f : Function) (p : Part) → HoldsAll (addresses (record { function = f; part = p })) (part_comes_to q s (there q s) f p)
   part_holds f (Window c) = by (stands q s (window_part c f))
     where
       by : (b : Bool) → HoldsAll (addresses (window_part c f)) (if b then window_comes_to q s (there q s) c f else None)

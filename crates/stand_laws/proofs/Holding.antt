@@ -6,18 +6,18 @@ use Rattle.pci_spec.specs.Window.{WindowKind}
 use Rattle.pci_spec.specs.System.{System, Function, Part, Bar, Rom, Window, IsSystem, is_bridge, is_window, window_space}
 use Rattle.pci_spec.specs.Bus.{is_root, are_siblings, secondary, IsNested, LeadsTo}
 use Rattle.pci_spec.proofs.BusRanges.{root_means}
-use Rattle.pci_spec.proofs.Members.{in_head, in_tail, in_map_to, IsMade}
+use Rattle.pci_spec.proofs.Members.{in_head, in_tail, in_map_to, in_filter_to, IsMade}
 use Rattle.plan_spec.specs.Plan.{is_open, bridges_above, same_class}
 use Rattle.plan_spec.proofs.Planning.AboveBuses.{all_above, all_above_root}
 use Rattle.plan_spec.proofs.Planning.PlacedItems.{same_class_is}
 use Rattle.plan_spec.proofs.Planning.Safe.{slots_of, order_of}
 use Rattle.settle_spec.specs.Lists.{Request}
-use Rattle.settle_spec.specs.Parts.{FunctionPart, system_parts, function_parts, parts_of, addresses, class_in, are_same_space}
+use Rattle.settle_spec.specs.Parts.{FunctionPart, system_parts, function_parts, parts_of, header_parts, is_part, addresses, class_in, are_same_space}
 use Rattle.settle_spec.specs.Stands.{window_part, part_space, stands}
 use Rattle.settle_spec.specs.Items.{Item, in_turn, own_item, is_own, has_of, items_of, bus_items, new_window, taken_on, are_placed, place_all, has_places, has_room, holds_within, has_room_behind, stays}
 use Rattle.settle_spec.proofs.Nested.{on_it}
 use Rattle.stand_laws.specs.Holding.{TellsRoom}
-use Rattle.stand_laws.proofs.Standing.{part_of, stands_by_itself}
+use Rattle.stand_laws.proofs.Standing.{part_of, in_header, stands_by_itself}
 
 -- ---- lists by what is in them
 
@@ -39,29 +39,29 @@ module _ (q : Request) (s : System) where
 
   -- ---- room is told by what is on the bus behind
 
-  module _ (test other : FunctionPart → Bool) (bus : ℕ) (c : WindowKind) (same : (t : FunctionPart) → Contains s t.function → are_siblings q.roots bus t.function.slot.bus ≡ true → class_in q s t.function t.part ≡ c → test t ≡ other t) where
+  module _ (test other : FunctionPart → Bool) (bus : ℕ) (c : WindowKind) (same : (t : FunctionPart) → Contains s t.function → Contains (header_parts t.function) t.part → are_siblings q.roots bus t.function.slot.bus ≡ true → class_in q s t.function t.part ≡ c → test t ≡ other t) where
     -- tests that agree on what is of a class on a bus leave the same items of it there
     own_same : (f : Function) → Contains s f → are_siblings q.roots bus f.slot.bus ≡ true → filter (λ r. is_own q s c r && not (test r)) (function_parts q s f) ≡ filter (λ r. is_own q s c r && not (other r)) (function_parts q s f)
     own_same f listed beside =
         filter_same (λ r. is_own q s c r && not (test r)) (λ r. is_own q s c r && not (other r)) (function_parts q s f) (λ t has.
         let made : IsMade (λ p. record { function = f; part = p }) (parts_of q s f) t = in_map_to (λ p. record { function = f; part = p }) (parts_of q s f) t has in
         ap (λ x. is_own q s c x && not (test x)) (sym made.is)
-        ∙ of_part made.from
+        ∙ of_part made.from (in_filter_to (is_part q s f) (header_parts f) made.from made.has).0
         ∙ ap (λ x. is_own q s c x && not (other x)) made.is)
       where
-        of_part : (p : Part) → (is_own q s c (record { function = f; part = p }) && not (test (record { function = f; part = p }))) ≡ (is_own q s c (record { function = f; part = p }) && not (other (record { function = f; part = p })))
-        of_part p = elim (cases_Bool (is_own q s c (record { function = f; part = p }))) [
+        of_part : (p : Part) → Contains (header_parts f) p → (is_own q s c (record { function = f; part = p }) && not (test (record { function = f; part = p }))) ≡ (is_own q s c (record { function = f; part = p }) && not (other (record { function = f; part = p })))
+        of_part p there = elim (cases_Bool (is_own q s c (record { function = f; part = p }))) [
           | inl own ↦
               let class = same_class_is c (class_in q s f p) (and_parts (not (is_window p)) (same_class c (class_in q s f p)) own).1 in
-              ap (λ b. is_own q s c (record { function = f; part = p }) && not b) (same (record { function = f; part = p }) listed beside class)
+              ap (λ b. is_own q s c (record { function = f; part = p }) && not b) (same (record { function = f; part = p }) listed there beside class)
           | inr off ↦ ap (λ b. b && not (test (record { function = f; part = p }))) off ∙ sym (ap (λ b. b && not (other (record { function = f; part = p }))) off)
         ]
 
     abbrev window_item : Function → Bool → List Item
     window_item f kept = cond (is_bridge f && has_of q s c f && not kept) (record { region = window_part c f; class = c; extent = new_window q s c f } ∷ []) []
 
-    pub items_same : bus_items q s c test (new_window q s c) bus ≡ bus_items q s c other (new_window q s c) bus
-    items_same =
+    pub items_same_on : bus_items q s c test (new_window q s c) bus ≡ bus_items q s c other (new_window q s c) bus
+    items_same_on =
         ap in_turn (pieces_same (λ f. cond (are_siblings q.roots bus f.slot.bus) (items_of q s c test (new_window q s c) f) []) (λ f. cond (are_siblings q.roots bus f.slot.bus) (items_of q s c other (new_window q s c) f) []) s of_function)
       where
         of_function : (f : Function) → Contains s f → cond (are_siblings q.roots bus f.slot.bus) (items_of q s c test (new_window q s c) f) [] ≡ cond (are_siblings q.roots bus f.slot.bus) (items_of q s c other (new_window q s c) f) []
@@ -69,12 +69,17 @@ module _ (q : Request) (s : System) where
           | inl beside ↦
               ap (λ b. cond b (items_of q s c test (new_window q s c) f) []) beside
               ∙ ap (λ rs. map (own_item c) rs ++ window_item f (test (window_part c f))) (own_same f listed beside)
-              ∙ ap (λ b. map (own_item c) (filter (λ r. is_own q s c r && not (other r)) (function_parts q s f)) ++ window_item f b) (same (window_part c f) listed beside refl)
+              ∙ ap (λ b. map (own_item c) (filter (λ r. is_own q s c r && not (other r)) (function_parts q s f)) ++ window_item f b) (same (window_part c f) listed (in_header q s f c) beside refl)
               ∙ sym (ap (λ b. cond b (items_of q s c other (new_window q s c) f) []) beside)
           | inr apart ↦
               ap (λ b. cond b (items_of q s c test (new_window q s c) f) []) apart
               ∙ sym (ap (λ b. cond b (items_of q s c other (new_window q s c) f) []) apart)
         ]
+
+  -- and so do tests that agree on all of a class
+  pub items_same : (test other : FunctionPart → Bool) (bus : ℕ) (c : WindowKind) → ((t : FunctionPart) → Contains s t.function → are_siblings q.roots bus t.function.slot.bus ≡ true → class_in q s t.function t.part ≡ c → test t ≡ other t)
+      → bus_items q s c test (new_window q s c) bus ≡ bus_items q s c other (new_window q s c) bus
+  items_same test other bus c same = items_same_on test other bus c (λ t listed there beside class. same t listed beside class)
 
   module _ (test other : FunctionPart → Bool) (bus : ℕ) (same : (t : FunctionPart) → Contains s t.function → are_siblings q.roots bus t.function.slot.bus ≡ true → test t ≡ other t) where
     -- tests that agree on a bus keep the same there

@@ -8,3 +8,5 @@ pub mod Reach
 pub mod There
 pub mod ThereApart
 pub mod ThereByBus
+pub mod StandingKept
+pub mod GrowingKept

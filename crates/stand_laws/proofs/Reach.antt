@@ -37,7 +37,7 @@ pub some_is : {X : Type 0} (x y : X) → Some x ≡ Some y → x ≡ y
 some_is x y e = cc
 
 module _ (q : Request) (s : System) (c : WindowKind) (nested : IsNested q.roots s) where
-  abbrev Stands : Function → Type 0
+  abbrev pub Stands : Function → Type 0
   Stands b = IsStandingWindow q s c b
 
   own_reach : (b : Function) → CanReach c (addresses (window_part c b)) (addresses (window_part c b))
@@ -51,7 +51,7 @@ module _ (q : Request) (s : System) (c : WindowKind) (nested : IsNested q.roots 
   }
 
   -- what stands beside a window is apart from it
-  apart_beside : (b : Function) → Stands b → (t : Range) → Contains (standing_beside q s (window_part c b)) t → ranges_are_apart (addresses (window_part c b)) t ≡ true
+  pub apart_beside : (b : Function) → Stands b → (t : Range) → Contains (standing_beside q s (window_part c b)) t → ranges_are_apart (addresses (window_part c b)) t ≡ true
   apart_beside b is t has =
       let w = window_part c b in
       let made : IsMade addresses (filter (λ u. are_beside q w u && not (rank u == rank w) && stands q s u) (system_parts q s)) t =
@@ -88,10 +88,10 @@ module _ (q : Request) (s : System) (c : WindowKind) (nested : IsNested q.roots 
     -- ---- what a window is in
 
     -- a reach that is right for all windows that stand
-    abbrev IsAround : (Function → Range) → Type 0
+    abbrev pub IsAround : (Function → Range) → Type 0
     IsAround f = (b : Function) → Stands b → CanReach c (addresses (window_part c b)) (f b)
 
-    room_holds : (f : Function → Range) → IsAround f → (b : Function) → Stands b → (room : Range) → room_around q s c f b ≡ Some room → lies_within (addresses (window_part c b)) room ≡ true
+    pub room_holds : (f : Function → Range) → IsAround f → (b : Function) → Stands b → (room : Range) → room_around q s c f b ≡ Some room → lies_within (addresses (window_part c b)) room ≡ true
     room_holds f around b is room e = elim (cases_Bool (is_root q.roots b.slot.bus)) [
       | inl root ↦
           let here = sym (ap (λ t. if t then find (lies_within (addresses (window_part c b))) (ranges_for q c b.slot.bus) else range_over f (bridge_over s b.slot.bus)) root) ∙ e in
@@ -123,7 +123,7 @@ module _ (q : Request) (s : System) (c : WindowKind) (nested : IsNested q.roots 
           by true = own_reach b
           by false = (reach_is_around q s c b room (room_holds f around b is room e) (low c b (in_system b is) is.stands) (apart_beside b is)).0
 
-      reachable : (depth : ℕ) → IsAround (reach_within q s c depth)
+      pub reachable : (depth : ℕ) → IsAround (reach_within q s c depth)
       reachable zero b is = subst (CanReach c (addresses (window_part c b))) (sym (reach_zero q s c b)) (own_reach b)
       reachable (suc depth) b is =
           subst (CanReach c (addresses (window_part c b))) (sym (reach_next q s c depth b))

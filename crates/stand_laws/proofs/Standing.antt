@@ -107,7 +107,7 @@ module _ (q : Request) (s : System) where
   after_bars MemoryWindow = (1, omega arith, refl)
   after_bars PrefetchWindow = (2, omega arith, refl)
 
-  in_header : (f : Function) (c : WindowKind) → Contains (header_parts f) (Window c)
+  pub in_header : (f : Function) (c : WindowKind) → Contains (header_parts f) (Window c)
   in_header f c = Contains-append_right (header_bars f) (Window IoWindow ∷ Window MemoryWindow ∷ Window PrefetchWindow ∷ Rom ∷ []) (Window c) (after_bars c)
 
   pub window_listed : (c : WindowKind) (b : Function) → Contains s b → is_part q s b (Window c) ≡ true → Contains (system_parts q s) (window_part c b)

@@ -26,11 +26,11 @@ use Rattle.stand_laws.proofs.There.{opened, beside_next, within_next, there_is_i
 
 -- ---- ranges that are apart
 
-swapped : (x y : Range) → LieApart x y → LieApart y x
+pub swapped : (x y : Range) → LieApart x y → LieApart y x
 swapped x y (inl under) = inr under
 swapped x y (inr over) = inl over
 
-inner_apart : (x r t : Range) → LiesIn x r → LieApart r t → LieApart x t
+pub inner_apart : (x r t : Range) → LiesIn x r → LieApart r t → LieApart x t
 inner_apart x r t inside (inl under) = (let l = inside.last in inl (omega (arith, l, under)))
 inner_apart x r t inside (inr over) = (let f = inside.first in inr (omega (arith, f, over)))
 

@@ -4,3 +4,4 @@ pub mod Passes
 pub mod Holding
 pub mod Reach
 pub mod There
+pub mod KeptApart

@@ -2,5 +2,6 @@
 #![tactic(auto)]
 
 pub mod holding_laws;
+pub mod kept_laws;
 pub mod reach_laws;
 pub mod standing_laws;
