@@ -33,13 +33,14 @@ use Rattle.settle_spec.proofs.Nested.{on_it}
 use Rattle.settle_spec.proofs.NewWindows.{window_is_around}
 use Rattle.settle_spec.proofs.Placed.{are_placed as placed_are}
 use Rattle.settle_spec.proofs.Room.{window_has_room}
+use Rattle.settle_laws.specs.KeptLaws.{IsAside, IsAlikeIn}
 use Rattle.settle_laws.specs.PlacesLaws.{CanSettle}
 use Rattle.stand_laws.proofs.Holding.{items_same}
 use Rattle.stand_laws.proofs.Standing.{part_of}
 use Rattle.settle_laws.proofs.HeaderParts.{window_of}
 use Rattle.settle_laws.proofs.ItemForms.{item_by, items_are, window_in, item_power, new_window_power}
 use Rattle.settle_laws.proofs.Kept.{IsTaken, taken_is, is_taken, at_is, is_at, holding, stays_holds, stays_stands, stand_apart, outside_within, off_roots, window_ranks, window_listed, stays_over, over_stays, within_over}
-use Rattle.settle_laws.proofs.Outside.{IsAlikeIn, IsOutside, same_outside, with_taken, placed_after, with_taken_is, with_taken_keeps}
+use Rattle.settle_laws.proofs.Outside.{same_outside, with_taken, placed_after, with_taken_is, with_taken_keeps}
 use Rattle.settle_laws.proofs.PartClasses.{space_of_class}
 use Rattle.settle_laws.proofs.Powers.{below_greatest, multiple_below}
 use Rattle.settle_laws.proofs.PlacedBus.{placed_list, places, items, low_bus, beside_itself, in_space, IsPlacedBus, bus_placed, HasPlace, place_of, EndsIn, Keeps, Gets, IsBeside, end_apart}
@@ -108,7 +109,7 @@ module _ (q : Request) (s : System) (can : CanSettle q s) where
       kept_window = stays_stands q s can.system can.nested (window_part c b) listed keeps
 
       -- what holds there in the other class is outside
-      of_other : (t : Range) (is : IsTaken q s (window_space c) (has_room_behind q s) bus t) → same_class c (class_in q s is.of.function is.of.part) ≡ false → IsOutside kept_range t
+      of_other : (t : Range) (is : IsTaken q s (window_space c) (has_room_behind q s) bus t) → same_class c (class_in q s is.of.function is.of.part) ≡ false → IsAside kept_range t
       of_other t is differ =
           let r = is.of in
           let in_r = (part_of q s r is.listed).listed in
@@ -116,7 +117,7 @@ module _ (q : Request) (s : System) (can : CanSettle q s) where
           let on = on_bus r.function.slot.bus is.beside in
           let stands_r = (holding q s can.system can.nested r in_r is.kept).stands in
           let within = within_over q s can.system can.nested b listed bridge r is.listed on stands_r in
-          subst (IsOutside kept_range) is.is
+          subst (IsAside kept_range) is.is
           (outside_within kept_range (addresses (window_part d b)) (addresses r)
           (stand_apart q s can.system can.nested b.slot.bus (window_part c b) (window_part d b)
           (window_listed q s can.system can.nested b listed bridge c kept_window) (window_listed q s can.system can.nested b listed bridge d within.1) kept_window within.1
@@ -220,7 +221,7 @@ module _ (q : Request) (s : System) (can : CanSettle q s) where
         new_ends = Gets moves window_place.at window_place.found_there window_place.listed (ap (λ (i : Item). i.region) window_place.item) refl
 
         -- what stays behind is in the other window
-        other_stays : (t : Range) → IsTaken q s space (stays q s) bus t → IsOutside new_range t
+        other_stays : (t : Range) → IsTaken q s space (stays q s) bus t → IsAside new_range t
         other_stays t is =
             let r = is.of in
             let in_r = (part_of q s r is.listed).listed in
@@ -229,7 +230,7 @@ module _ (q : Request) (s : System) (can : CanSettle q s) where
             let keeps_d = over_stays q s can.system can.nested b listed bridge r in_r on is.kept in
             let of_d : window_space d ≡ space = space_of_class q s r.function r.part ∙ is.at in
             let within = within_over q s can.system can.nested b listed bridge r is.listed on (stays_stands q s can.system can.nested r in_r is.kept) in
-            subst (IsOutside new_range) is.is
+            subst (IsAside new_range) is.is
             (outside_within new_range (addresses (window_part d b)) (addresses r)
             (end_apart q s can space b.slot.bus over (window_part c b) (window_part d b) new_range (addresses (window_part d b)) (window_beside c of) (window_beside d of_d)
             (λ e. both_ways (stays q s (window_part c b)) moves (ap (λ k. stays q s (window_part k b)) (window_ranks q s can.system can.nested b listed bridge c d e) ∙ keeps_d)) new_ends (Keeps keeps_d refl)) within.0)
@@ -294,7 +295,7 @@ module _ (q : Request) (s : System) (can : CanSettle q s) where
         (λ e. differ (window_ranks q s can.system can.nested b listed bridge c d e)) h.ends k.ends
 
     -- what is placed in a window is outside what is outside of it
-    lies_outside : (r u : Range) (xs : List Range) (e : Extent) (a : ℕ) → IsTrue (is_place u xs e a) → LieApart r u → IsOutside r (range_from a e.size)
+    lies_outside : (r u : Range) (xs : List Range) (e : Extent) (a : ℕ) → IsTrue (is_place u xs e a) → LieApart r u → IsAside r (range_from a e.size)
     lies_outside r u xs e a place out =
         let parts = and_parts (is_spot u.first xs e a) (ends_by u e a) place in
         let from = (spot_gives u.first xs e a parts.0).from in
@@ -305,7 +306,7 @@ module _ (q : Request) (s : System) (can : CanSettle q s) where
     no_item xs i has none = absurd (in_nil i (subst (λ ys. Contains ys i) none has))
 
     module _ (placed : List Placed) (is : place_all ranges taken (items q s can MemoryWindow bus) ≡ AllPlaced placed) (m : window_space MemoryWindow ≡ space) (p : window_space PrefetchWindow ≡ space) (h : HasRange PrefetchWindow) where
-      memory_out : (x : Placed) → Contains placed x → (items q s can MemoryWindow bus ≡ []) ⊎ HasRange MemoryWindow → IsOutside h.range (taken_by x.item x.at)
+      memory_out : (x : Placed) → Contains placed x → (items q s can MemoryWindow bus ≡ []) ⊎ HasRange MemoryWindow → IsAside h.range (taken_by x.item x.at)
       memory_out x listed_x memory =
           let are : ArePlaced ranges taken (items q s can MemoryWindow bus) placed = placed_are ranges taken (items q s can MemoryWindow bus) placed (positive MemoryWindow) is in
           let item : Contains (items q s can MemoryWindow bus) x.item = subst (λ xs. Contains xs x.item) are.all (in_map_from (λ (y : Placed). y.item) placed x listed_x) in
@@ -320,7 +321,7 @@ module _ (q : Request) (s : System) (can : CanSettle q s) where
       prefetch_to : IsAlikeIn h.range (with_taken placed taken) h.off
       prefetch_to t has = elim (with_taken_is placed taken t has) [
         | inl there ↦ h.to t there
-        | inr (x, listed_x, same) ↦ inr (subst (IsOutside h.range) same (memory_out x listed_x (range_or_none MemoryWindow m)))
+        | inr (x, listed_x, same) ↦ inr (subst (IsAside h.range) same (memory_out x listed_x (range_or_none MemoryWindow m)))
       ]
 
       prefetch_back : IsAlikeIn h.range h.off (with_taken placed taken)

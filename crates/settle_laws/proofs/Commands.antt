@@ -1,5 +1,5 @@
 -- Command of a function on the way: what a closing write leaves of its enables, and what settling makes of them.
-use Rattle.std.proofs.Common.{◌≡◌, ℕ, ◌-◌, ◌*◌, ◌/◌, ◌%◌, refl, Bool, true, false, ◌&&◌, ◌||◌, not, arith, ◌∙◌, ap}
+use Rattle.std.proofs.Common.{◌≡◌, ℕ, ◌*◌, ◌/◌, ◌%◌, refl, Bool, true, false, ◌&&◌, ◌||◌, not, arith, ◌∙◌, ap}
 use Rattle.std.specs.Bool.{if◌then◌else◌, ◌==◌}
 use Rattle.std.specs.List.{list_any}
 use Rattle.std.proofs.lemmas.Bool.{and_parts, and_from, or_left, not-true}

@@ -19,11 +19,13 @@ pub mod ClosedImages
 pub mod ClosedMoves
 pub mod ClosedSame
 pub mod Commands
+pub mod EachPlaced
 pub mod Examples
 pub mod Few
 pub mod Finding
 pub mod Fits
 pub mod Fixed
+pub mod GrowingPlaces
 pub mod HeaderParts
 pub mod Held
 pub mod Images
@@ -32,8 +34,10 @@ pub mod InPlace
 pub mod InWindows
 pub mod IoAlone
 pub mod ItemForms
+pub mod ItemRanks
 pub mod Kept
 pub mod KeptAside
+pub mod KeptTaken
 pub mod Left
 pub mod Lives
 pub mod Moves
@@ -67,6 +71,7 @@ pub mod SettlingStages
 pub mod Shown
 pub mod ShownKept
 pub mod ShownParts
+pub mod SoundKept
 pub mod StageBounds
 pub mod StageLeft
 pub mod StageParts

@@ -9,14 +9,7 @@ use Rattle.settle_spec.specs.FirstPlace.{Extent, is_spot, ends_by, is_place, fir
 use Rattle.settle_spec.specs.Items.{Item, Placed, Placing, AllPlaced, Lacks, and_placed, place_next, place_all, are_placed, taken_by}
 use Rattle.settle_spec.proofs.FirstPlace.{in_is, in_none, in_by, in_by_none}
 use Rattle.settle_spec.proofs.FirstSpot.{spot_gives, spot_from}
-
--- it shares no address with a range
-abbrev pub IsOutside : Range → Range → Type 0
-IsOutside r t = (t.last < r.first) ⊎ (r.last < t.first)
-
--- what is taken is taken in the other list too, or outside a range
-abbrev pub IsAlikeIn : Range → List Range → List Range → Type 0
-IsAlikeIn r xs ys = (t : Range) → Contains xs t → Contains ys t ⊎ IsOutside r t
+use Rattle.settle_laws.specs.KeptLaws.{IsAlikeIn}
 
 pub alike_cons : (r u : Range) (xs ys : List Range) → IsAlikeIn r xs ys → IsAlikeIn r (u ∷ xs) (u ∷ ys)
 alike_cons r u xs ys alike t has = elim (in_cons_cases u xs t has) [

@@ -48,7 +48,7 @@ module _ (q : Request) (s : System) (c : WindowKind) (keeps : FunctionPart → B
   abbrev window : Function → Item
   window f = record { region = window_part c f; class = c; extent = extent f }
 
-  placed_part : (f : Function) (p : Part) → Contains (parts_of q s f) p → moves record { function = f; part = p } ≡ true → IsPlacedPart q s c keeps f p
+  pub placed_part : (f : Function) (p : Part) → Contains (parts_of q s f) p → moves record { function = f; part = p } ≡ true → IsPlacedPart q s c keeps f p
   placed_part f p listed is =
       let r : FunctionPart = record { function = f; part = p } in
       let there = in_filter_to (is_part q s f) (header_parts f) p listed in
@@ -62,7 +62,7 @@ module _ (q : Request) (s : System) (c : WindowKind) (keeps : FunctionPart → B
         moves = not-true (keeps r) own.1;
       }
 
-  opened : (f : Function) → opens f ≡ true → IsOpened q s c keeps f
+  pub opened : (f : Function) → opens f ≡ true → IsOpened q s c keeps f
   opened f is =
       let both = and_parts (is_bridge f && has_of q s c f) (not (keeps (window_part c f))) is in
       let bridge = and_parts (is_bridge f) (has_of q s c f) both.0 in

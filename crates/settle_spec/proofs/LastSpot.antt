@@ -35,7 +35,7 @@ place_gives r taken e b place =
       highest = leb-true (b + (e.size - 1)) e.highest ends.1;
     }
 
-place_from : (r : Range) (taken : List Range) (e : Extent) (b : ℕ) → IsPlaceAt r taken e b → IsTrue (is_place r taken e b)
+pub place_from : (r : Range) (taken : List Range) (e : Extent) (b : ℕ) → IsPlaceAt r taken e b → IsTrue (is_place r taken e b)
 place_from r taken e b is =
     and_from (is_spot r.first taken e b) (ends_by r e b)
     (spot_from r.first taken e b (record { multiple = is.multiple; from = is.from; free = is.free }))

@@ -102,12 +102,12 @@ module _ (q : Request) (s : System) (f : Function) where
   abbrev region : Part → FunctionPart
   region p = record { function = f; part = p }
 
-  own_rise : AllPairs (λ r t. rank r < rank t) (function_parts q s f)
+  pub own_rise : AllPairs (λ r t. rank r < rank t) (function_parts q s f)
   own_rise = pairs_map (λ r t. rank r < rank t) region (parts_of q s f)
       (λ i j d up inside. let less = parts_rise i j d up inside in omega (arith, less))
 
   -- the parts of a function have the ranks of its slot
-  in_slot : (r : FunctionPart) → Contains (function_parts q s f) r → (slot_number f.slot * 256 ≤ rank r) × (rank r < slot_number f.slot * 256 + 64)
+  pub in_slot : (r : FunctionPart) → Contains (function_parts q s f) r → (slot_number f.slot * 256 ≤ rank r) × (rank r < slot_number f.slot * 256 + 64)
   in_slot r has =
       let made : IsMade region (parts_of q s f) r = in_map_to region (parts_of q s f) r has in
       let low = part_low made.from made.has in

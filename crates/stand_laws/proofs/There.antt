@@ -70,15 +70,15 @@ place_in_reach w around taken e a pos forward high low found = by (first_place_i
 
 -- ---- each item has the place that was found for it
 
-record IsFoundPlace (find : Item → List Range → Option ℕ) (items : List Item) (p : Placed) : Type 0 where
-  taken : List Range
-  found : find p.item taken ≡ Some p.at
-  listed : Contains items p.item
+pub record IsFoundPlace (find : Item → List Range → Option ℕ) (items : List Item) (p : Placed) : Type 0 where
+  pub taken : List Range
+  pub found : find p.item taken ≡ Some p.at
+  pub listed : Contains items p.item
 
 abbrev first_of : Item → ℕ → Placed
 first_of i a = record { item = i; at = a }
 
-each_found : (find : Item → List Range → Option ℕ) (taken : List Range) (items : List Item) (placed : List Placed) → place_each find taken items ≡ AllPlaced placed
+pub each_found : (find : Item → List Range → Option ℕ) (taken : List Range) (items : List Item) (placed : List Placed) → place_each find taken items ≡ AllPlaced placed
     → (p : Placed) → Contains placed p → IsFoundPlace find items p
 each_found find taken [] placed all p has = absurd (in_nil p (subst (λ l. Contains l p) (sym (ap placed_of all)) has))
 each_found find taken (i ∷ items) placed all p has = by (find i taken) refl (λ taken placed all p has. each_found find taken items placed all p has)
@@ -104,7 +104,7 @@ each_found find taken (i ∷ items) placed all p has = by (find i taken) refl (�
 
 -- ---- what is there on a bus
 
-record IsThereOn (q : Request) (s : System) (there : FunctionPart → Option Range) (test : FunctionPart → Bool) (bus : ℕ) (x : Range) : Type 0 where
+pub record IsThereOn (q : Request) (s : System) (there : FunctionPart → Option Range) (test : FunctionPart → Bool) (bus : ℕ) (x : Range) : Type 0 where
   part : FunctionPart
   listed : Contains (system_parts q s) part
   beside : are_siblings q.roots bus part.function.slot.bus ≡ true
@@ -119,7 +119,7 @@ module _ (q : Request) (s : System) (there : FunctionPart → Option Range) (tes
   abbrev piece : FunctionPart → List Range
   piece r = if are_siblings q.roots bus r.function.slot.bus && test r then range_list (there r) else []
 
-  there_on_gives : (x : Range) → Contains (there_on q s there test bus) x → IsThereOn q s there test bus x
+  pub there_on_gives : (x : Range) → Contains (there_on q s there test bus) x → IsThereOn q s there test bus x
   there_on_gives x has =
       let at : IsInPiece piece (system_parts q s) x = in_flat_map_to piece (system_parts q s) x has in
       of at.of at.has at.piece
@@ -138,7 +138,7 @@ module _ (q : Request) (s : System) (there : FunctionPart → Option Range) (tes
         | inr off ↦ absurd (in_nil x (subst (λ b. Contains (if b then range_list (there r) else []) x) off has))
       ]
 
-  there_on_from : (r : FunctionPart) (x : Range) → Contains (system_parts q s) r → are_siblings q.roots bus r.function.slot.bus ≡ true → test r ≡ true → there r ≡ Some x → Contains (there_on q s there test bus) x
+  pub there_on_from : (r : FunctionPart) (x : Range) → Contains (system_parts q s) r → are_siblings q.roots bus r.function.slot.bus ≡ true → test r ≡ true → there r ≡ Some x → Contains (there_on q s there test bus) x
   there_on_from r x listed beside passes is =
       in_flat_map_from piece (system_parts q s) r x listed
       (subst (λ b. Contains (if b then range_list (there r) else []) x) (sym (and_from (are_siblings q.roots bus r.function.slot.bus) (test r) beside passes))
@@ -146,7 +146,7 @@ module _ (q : Request) (s : System) (there : FunctionPart → Option Range) (tes
 
 -- ---- what a window comes to holds what is there behind it
 
-class_itself : (c : WindowKind) → same_class c c ≡ true
+pub class_itself : (c : WindowKind) → same_class c c ≡ true
 class_itself IoWindow = refl
 class_itself MemoryWindow = refl
 class_itself PrefetchWindow = refl

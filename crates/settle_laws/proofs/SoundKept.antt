@@ -1,0 +1,46 @@
+-- What stays, as it stands or where windows grow, is kept soundly.
+use Rattle.std.proofs.Common.{◌≡◌, ◌&&◌, Bool, true, false, arith, ap, ◌∙◌, refl}
+use Rattle.pci_spec.specs.System.{System, IsSystem}
+use Rattle.pci_spec.specs.Bus.{IsNested}
+use Rattle.settle_spec.specs.Lists.{Request}
+use Rattle.settle_spec.specs.Parts.{addresses}
+use Rattle.settle_spec.specs.Stands.{window_part}
+use Rattle.settle_spec.specs.Items.{has_room_behind, stays}
+use Rattle.settle_spec.specs.Kept.{as_it_stands, growing, place_in}
+use Rattle.settle_spec.proofs.Grown.{growth_holds_all, only_windows_grow}
+use Rattle.settle_spec.proofs.Reaching.{within_from}
+use Rattle.stand_laws.specs.Reach.{WindowsAreLow}
+use Rattle.stand_laws.proofs.GrowingKept.{growing_kept}
+use Rattle.stand_laws.proofs.StandingKept.{standing_kept}
+use Rattle.settle_laws.specs.KeptLaws.{IsSoundKept}
+use Rattle.settle_laws.proofs.GrowingPlaces.{growing_places}
+use Rattle.settle_laws.proofs.Kept.{stays_holds, stays_over}
+use Rattle.settle_laws.proofs.KeptTaken.{items_aligned, on_bus, standing_places}
+
+module _ (q : Request) (s : System) (system : IsSystem s) (nested : IsNested q.roots s) where
+  pub standing_is_sound : IsSoundKept q s (as_it_stands q s)
+  standing_is_sound = record {
+    apart = standing_kept q s system nested;
+    holds = λ r. within_from (addresses r) (addresses r) (record { first = omega arith; last = omega arith });
+    plain = λ r is. refl;
+    places = λ c b taken listed bridge keeps to back.
+        standing_places q s (as_it_stands q s) system nested b listed bridge (standing_kept q s system nested) c keeps refl (stays_holds q s (window_part c b) keeps)
+        (λ t in_t there beside class.
+        stays_over q s system nested b listed bridge t in_t (on_bus q s (as_it_stands q s) system nested b listed bridge t.function.slot.bus beside)
+        ∙ ap (λ d. has_room_behind q s t && stays q s (window_part d b)) class ∙ ap (λ x. has_room_behind q s t && x) keeps ∙ and_true (has_room_behind q s t))
+        (λ t beside class is. refl)
+        (λ i xs class. ap (λ d. place_in (addresses (window_part d b)) i xs) class)
+        taken to back;
+  }
+    where
+      and_true : (x : Bool) → (x && true) ≡ x
+      and_true true = refl
+      and_true false = refl
+
+  pub growing_is_sound : WindowsAreLow q s → IsSoundKept q s (growing q s)
+  growing_is_sound low = record {
+    apart = growing_kept q s system nested low (items_aligned q s (growing q s));
+    holds = growth_holds_all q s;
+    plain = only_windows_grow q s;
+    places = growing_places q s system nested low;
+  }
