@@ -48,14 +48,14 @@ use Rattle.settle_laws.proofs.PlacedBus.{placed_list, places, items, low_bus, be
 pub one_left : (r t : Range) → Contains (r ∷ []) t → r ≡ t
 one_left r t has = elim (in_cons_cases r [] t has) [ inl is ↦ is | inr none ↦ absurd (in_nil t none) ]
 
-nothing_long : (xs : List Item) → nat_lt 0 (length xs) ≡ false → xs ≡ []
+pub nothing_long : (xs : List Item) → nat_lt 0 (length xs) ≡ false → xs ≡ []
 nothing_long [] none = refl
 nothing_long (i ∷ xs) none = absurd (both_ways (nat_lt 0 (length (i ∷ xs))) none (lt-ltb 0 (length (i ∷ xs)) (omega arith)))
 
 pub page_some : (c : WindowKind) → 0 < page_size c
 page_some c = power_pos (page_size c) (step_power c)
 
-memory_no_prefetch : MemoryWindow ≡ PrefetchWindow → ⊥
+pub memory_no_prefetch : MemoryWindow ≡ PrefetchWindow → ⊥
 memory_no_prefetch e = both_ways (same_class MemoryWindow PrefetchWindow) refl (ap (λ c. same_class c PrefetchWindow) e)
 
 module _ (q : Request) (s : System) (can : CanSettle q s) where

@@ -43,7 +43,7 @@ extent_by new f (Bar n) = own_extent (record { function = f; part = Bar n })
 extent_by new f Rom = own_extent (record { function = f; part = Rom })
 extent_by new f (Window kind) = new kind f
 
-own_by_part : (new : WindowKind → Function → Extent) (f : Function) (p : Part) → is_window p ≡ false → own_extent (record { function = f; part = p }) ≡ extent_by new f p
+pub own_by_part : (new : WindowKind → Function → Extent) (f : Function) (p : Part) → is_window p ≡ false → own_extent (record { function = f; part = p }) ≡ extent_by new f p
 own_by_part new f (Bar n) plain = refl
 own_by_part new f Rom plain = refl
 own_by_part new f (Window kind) plain = absurd (both_ways true plain refl)
@@ -203,10 +203,9 @@ module _ (q : Request) (s : System) where
   item_positive space bus i has = power_pos i.extent.alignment (item_aligned space bus i has)
 
   -- a rank names one item
-  pub same_rank : IsSystem s → (space : Space) (bus : ℕ) (i : Item) → IsItemIn space bus i → (f : Function) (p : Part) → Contains s f → has_part f p ≡ true → rank i.region ≡ rank record { function = f; part = p }
+  pub item_of_rank : IsSystem s → (c : WindowKind) (bus : ℕ) (i : Item) → IsItemOf q s (new_window q s) c bus i → (f : Function) (p : Part) → Contains s f → has_part f p ≡ true → rank i.region ≡ rank record { function = f; part = p }
       → i ≡ item_by (new_window q s) (class_in q s f p) f p
-  same_rank system space bus i is f p listed there ranks =
-      let o = is.of in
+  item_of_rank system c bus i o f p listed there ranks =
       let own : rank record { function = o.f; part = o.p } ≡ rank record { function = f; part = p } = ap (λ (j : Item). rank j.region) o.is ∙ ranks in
       let low = register_of-lt o.f o.p o.there in
       let high = register_of-lt f p there in
@@ -215,3 +214,7 @@ module _ (q : Request) (s : System) where
       let register : register_of o.f o.p ≡ register_of f p = omega (arith, own, slot) in
       let part : o.p ≡ p = part_same f o.p p (subst (λ g. has_part g o.p ≡ true) one o.there) there (sym (ap (λ g. register_of g o.p) one) ∙ register) in
       sym o.is ∙ sym (ap (λ c. item_by (new_window q s) c o.f o.p) o.class) ∙ ap (λ g. item_by (new_window q s) (class_in q s g o.p) g o.p) one ∙ ap (λ o. item_by (new_window q s) (class_in q s f o) f o) part
+
+  pub same_rank : IsSystem s → (space : Space) (bus : ℕ) (i : Item) → IsItemIn space bus i → (f : Function) (p : Part) → Contains s f → has_part f p ≡ true → rank i.region ≡ rank record { function = f; part = p }
+      → i ≡ item_by (new_window q s) (class_in q s f p) f p
+  same_rank system space bus i is f p listed there ranks = item_of_rank system is.c bus i is.of f p listed there ranks

@@ -35,6 +35,7 @@ pub mod InWindows
 pub mod IoAlone
 pub mod ItemForms
 pub mod ItemRanks
+pub mod Keeping
 pub mod Kept
 pub mod KeptAside
 pub mod KeptTaken

@@ -49,7 +49,7 @@ pub record IsItem (q : Request) (s : System) (space : Space) (i : Item) : Type 0
   pub class : window_space i.class ≡ space
   pub of : IsOwn f p i ⊎ IsNew q s f p i
 
-page_some : (c : WindowKind) → 0 < page_size c
+pub page_some : (c : WindowKind) → 0 < page_size c
 page_some IoWindow = omega arith
 page_some MemoryWindow = omega arith
 page_some PrefetchWindow = omega arith

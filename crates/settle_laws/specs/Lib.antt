@@ -1,4 +1,5 @@
 pub mod AgainLaws
+pub mod Keeping
 pub mod KeptLaws
 pub mod PlacesLaws
 pub mod PlanLaws

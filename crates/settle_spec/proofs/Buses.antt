@@ -47,7 +47,7 @@ placing_step q s space depth bus = refl
 
 module _ (q : Request) (s : System) (system : IsSystem s) (nested : IsNested q.roots s) where
   -- what is beside a bus and on no root is on it
-  on_it : (bus other : ℕ) → are_siblings q.roots bus other ≡ true → is_root q.roots other ≡ false → bus ≡ other
+  pub on_it : (bus other : ℕ) → are_siblings q.roots bus other ≡ true → is_root q.roots other ≡ false → bus ≡ other
   on_it bus other beside off = elim (or_cases (bus == other) (is_root q.roots bus && is_root q.roots other) beside) [
     | inl same ↦ eqb-true bus other same
     | inr both ↦ absurd (both_ways (is_root q.roots other) off (and_parts (is_root q.roots bus) (is_root q.roots other) both).1)
@@ -105,7 +105,7 @@ siblings_same roots root other bus is_one is_other beside =
     ] in
     or_right (other == bus) (is_root roots other && is_root roots bus) (and_from (is_root roots other) (is_root roots bus) is_other there)
 
-one_bus : (roots : List ℕ) (root other bus : ℕ) → is_root roots root ≡ true → is_root roots other ≡ true → are_siblings roots root bus ≡ are_siblings roots other bus
+pub one_bus : (roots : List ℕ) (root other bus : ℕ) → is_root roots root ≡ true → is_root roots other ≡ true → are_siblings roots root bus ≡ are_siblings roots other bus
 one_bus roots root other bus is_one is_other = elim (cases_Bool (are_siblings roots root bus)) [
   | inl is ↦ is ∙ sym (siblings_same roots root other bus is_one is_other is)
   | inr not_is ↦ not_is ∙ sym (false_from_ne_true (are_siblings roots other bus) (λ is. both_ways (are_siblings roots root bus) not_is (siblings_same roots other root bus is_other is_one is)))

@@ -1,0 +1,9 @@
+pub mod BusPlaced
+pub mod Buses
+pub mod InLists
+pub mod InWindows
+pub mod Items
+pub mod Kept
+pub mod NewPlaces
+pub mod PartPlaces
+pub mod PlacedBus

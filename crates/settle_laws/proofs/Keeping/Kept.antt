@@ -1,0 +1,40 @@
+-- What is kept stands, is apart on its bus, and lies in the window over it.
+use Rattle.std.proofs.Common.{◌≡◌, ℕ, ◌&&◌, true, false, sym, ◌∙◌, ap, subst}
+use Rattle.std.specs.List.{Contains}
+use Rattle.std.proofs.lemmas.Bool.{and_from}
+use Rattle.pci_spec.specs.System.{System, Function, Part, is_bridge}
+use Rattle.pci_spec.specs.Bus.{is_root, are_siblings, secondary}
+use Rattle.plan_spec.specs.Planning.Layout.{LieApart}
+use Rattle.settle_spec.specs.Lists.{Request}
+use Rattle.settle_spec.specs.Parts.{FunctionPart, system_parts, header_parts, class_in, is_part, are_same_space, lies_within}
+use Rattle.settle_spec.specs.Stands.{rank, part_space, window_part, stands}
+use Rattle.settle_spec.specs.Kept.{Kept}
+use Rattle.stand_laws.proofs.Standing.{stands_by_itself}
+use Rattle.settle_laws.specs.Keeping.PlacesLaws.{CanSettle}
+use Rattle.settle_laws.proofs.Held.{same_itself}
+use Rattle.settle_laws.proofs.Kept.{in_regions, lie_apart, off_roots, siblings_through}
+
+module _ (q : Request) (s : System) (k : Kept) (can : CanSettle q s k) where
+  pub stays_stands : (r : FunctionPart) → k.stays r ≡ true → stands q s r ≡ true
+  stays_stands r is = can.sound.apart.stands r is
+
+  pub stays_part : (r : FunctionPart) → Contains s r.function → k.stays r ≡ true → is_part q s r.function r.part ≡ true
+  stays_part r listed is = (stands_by_itself q s can.nested).only r listed (stays_stands r is)
+
+  pub stays_listed : (f : Function) (p : Part) → Contains s f → Contains (header_parts f) p → k.stays record { function = f; part = p } ≡ true → Contains (system_parts q s) record { function = f; part = p }
+  stays_listed f p listed there is = in_regions q s f p listed there (stays_part record { function = f; part = p } listed is)
+
+  -- what is kept beside one another is apart
+  pub kept_apart : (bus : ℕ) (r t : FunctionPart) → Contains (system_parts q s) r → Contains (system_parts q s) t → k.stays r ≡ true → k.stays t ≡ true
+      → are_siblings q.roots bus r.function.slot.bus ≡ true → are_siblings q.roots bus t.function.slot.bus ≡ true → part_space r ≡ part_space t → (rank r ≡ rank t → ⊥) → LieApart (k.range r) (k.range t)
+  kept_apart bus r t in_r in_t is_r is_t with_r with_t spaces differ =
+      lie_apart (k.range r) (k.range t)
+      (can.sound.apart.apart r t in_r in_t is_r is_t
+      (and_from (are_siblings q.roots r.function.slot.bus t.function.slot.bus) (are_same_space (part_space r) (part_space t))
+      (siblings_through q.roots bus r.function.slot.bus t.function.slot.bus with_r with_t) (ap (are_same_space (part_space r)) (sym spaces) ∙ same_itself (part_space r))) differ)
+
+  -- what is kept behind a bridge is in the window of its class, which is kept
+  pub kept_over : (b : Function) → Contains s b → is_bridge b ≡ true → (r : FunctionPart) → Contains (system_parts q s) r → k.stays r ≡ true → secondary b ≡ r.function.slot.bus
+      → (lies_within (k.range r) (k.range (window_part (class_in q s r.function r.part) b)) ≡ true) × (k.stays (window_part (class_in q s r.function r.part) b) ≡ true)
+  kept_over b listed bridge r in_r is at =
+      can.sound.apart.windows r b in_r is (subst (λ n. is_root q.roots n ≡ false) at (off_roots q s can.system can.nested b listed bridge)) (listed, bridge, at)
