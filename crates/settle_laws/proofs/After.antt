@@ -1,11 +1,10 @@
 -- What is asked of the settled functions for the laws of their writes.
-use Rattle.std.proofs.Common.{◌≡◌, ℕ, ◌<◌, ◌≤◌, false, not}
+use Rattle.std.proofs.Common.{◌≡◌, ℕ, ◌<◌, ◌≤◌, false}
 use Rattle.std.specs.List.{Contains, list_any}
 use Rattle.pci_spec.specs.Number.{byte_at}
 use Rattle.pci_spec.specs.Header.{command, layout, address_registers, is_in_register}
 use Rattle.pci_spec.specs.System.{System, Function, IsSystem}
 use Rattle.plan_spec.specs.Plan.{IsMoved}
-use Rattle.plan_spec.proofs.Planning.Settled.{settled}
 use Rattle.settle_spec.specs.Lists.{Request}
 use Rattle.settle_spec.specs.Registers.{settled_function, settled_command}
 

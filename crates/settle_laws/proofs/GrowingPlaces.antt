@@ -16,7 +16,7 @@ use Rattle.settle_spec.specs.LastPlace.{last_place_in}
 use Rattle.settle_spec.specs.Lists.{Request}
 use Rattle.settle_spec.specs.Parts.{FunctionPart, system_parts, header_parts, addresses, class_in, are_same_space}
 use Rattle.settle_spec.specs.Stands.{part_space, window_part, stands}
-use Rattle.settle_spec.specs.Items.{Item, Placed, Placing, AllPlaced, Lacks, taken_by, bus_items, new_window, has_room_behind}
+use Rattle.settle_spec.specs.Items.{Item, Placed, Placing, AllPlaced, Lacks, taken_by, bus_items, highest_in, new_window, has_room_behind}
 use Rattle.settle_spec.specs.Places.{placed_of, place_among}
 use Rattle.settle_spec.specs.PlacingLaws.{HasOtherRank}
 use Rattle.settle_spec.specs.Reach.{reach}
@@ -26,20 +26,21 @@ use Rattle.settle_spec.specs.Keeping.Places.{taken_at}
 use Rattle.settle_spec.proofs.FirstPlace.{in_is}
 use Rattle.settle_spec.proofs.FirstSpot.{IsApart}
 use Rattle.settle_spec.proofs.LastSpot.{place_gives, place_from, last_is_place}
-use Rattle.settle_spec.proofs.Outward.{grown_holds_each}
-use Rattle.settle_spec.proofs.Reaching.{LiesIn, within_gives}
+use Rattle.settle_spec.proofs.Outward.{grown_holds_each, halves_move_out}
+use Rattle.settle_spec.proofs.Reaching.{LiesIn, within_gives, window_first, window_last}
 use Rattle.stand_laws.specs.Reach.{WindowsAreLow}
-use Rattle.stand_laws.proofs.GrowingKept.{taking, grown_takes, grown_range, same_range, stays_kept, kept_stands, stays_by_over, grown_by_over, kept_is_there, there_is_kept, growing_kept}
+use Rattle.stand_laws.proofs.GrowingKept.{taking, growing_stands, grown_takes, grown_range, same_range, stays_kept, kept_stands, stays_by_over, grown_by_over, kept_is_there, there_is_kept, growing_kept, growing_low}
 use Rattle.stand_laws.proofs.Holding.{items_same_on}
 use Rattle.stand_laws.proofs.Reach.{some_is}
-use Rattle.stand_laws.proofs.Standing.{stands_by_itself}
+use Rattle.stand_laws.proofs.Standing.{window_listed, stands_by_itself}
 use Rattle.stand_laws.proofs.There.{stands_where_holds, beside_zero, beside_next, there_on_from}
 use Rattle.stand_laws.proofs.ThereByBus.{there_beside_all}
-use Rattle.settle_laws.specs.KeptLaws.{IsAside, IsAlikeIn, HavePlaces}
+use Rattle.settle_laws.specs.KeptLaws.{IsAside, IsAlikeIn, HavePlaces, IsGrown}
 use Rattle.settle_laws.proofs.EachPlaced.{IsFreeAt, AreFree, each_free, looked_up, among_is}
 use Rattle.settle_laws.proofs.Held.{same_itself}
 use Rattle.settle_laws.proofs.ItemRanks.{items_differ}
 use Rattle.settle_laws.proofs.Kept.{in_regions}
+use Rattle.settle_laws.proofs.LowWindows.{grown_first, grown_last}
 use Rattle.settle_laws.proofs.KeptTaken.{kept_there, items_aligned, item_class, leads_to, standing_places}
 
 -- ---- places around a window are off what is taken
@@ -283,3 +284,28 @@ module _ (q : Request) (s : System) (system : IsSystem s) (nested : IsNested q.r
     | inl grown ↦ grown_places c b listed bridge keeps grown taken to
     | inr off ↦ as_it_was c b listed bridge keeps off low taken to back
   ]
+
+  -- ---- what a window that stays has then
+
+  pub growing_grown : WindowsAreLow q s → (c : WindowKind) (b : Function) → Contains s b → is_bridge b ≡ true → stays_growing q s (window_part c b) ≡ true → IsGrown c b (range_growing q s (window_part c b))
+  growing_grown low c b listed bridge keeps =
+      let w = window_part c b in
+      let in_w = window_listed q s c b listed ((stands_by_itself q s nested).only w listed (growing_stands q s w keeps)) in
+      let most = growing_low q s system nested low (items_aligned q s (growing q s)) c b in_w keeps in
+      elim (cases_Bool (has_grown q s w)) [
+        | inl grown ↦
+            let to = come_to c b listed bridge keeps grown in
+            let list = others c b listed bridge keeps grown ++ map (λ (p : Placed). taken_by p.item p.at) to.placed in
+            subst (IsGrown c b) (sym to.is) record {
+              first = grown_first c (addresses w) list (window_first c b);
+              last = grown_last c (addresses w) list (window_last c b);
+              low = subst (λ (x : Range). x.last ≤ highest_in c b.probe) to.is most;
+              outward = λ n. halves_move_out c n (addresses w) list;
+            }
+        | inr off ↦ subst (IsGrown c b) (sym (same_range q s w off)) record {
+          first = window_first c b;
+          last = window_last c b;
+          low = subst (λ (x : Range). x.last ≤ highest_in c b.probe) (same_range q s w off) most;
+          outward = λ n. record { base = omega arith; limit = omega arith; base_upper = omega arith; limit_upper = omega arith };
+        }
+      ]

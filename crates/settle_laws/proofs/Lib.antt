@@ -41,6 +41,7 @@ pub mod KeptAside
 pub mod KeptTaken
 pub mod Left
 pub mod Lives
+pub mod LowWindows
 pub mod Moves
 pub mod NewPlaces
 pub mod NoLarger

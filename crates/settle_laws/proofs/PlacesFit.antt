@@ -79,7 +79,7 @@ module _ (f : Function) (is : IsImage f.image) where
 
 -- ---- how far places reach
 
-encoding_width : (io wide narrow : Bool) → (if io then 4 else 16) ≡ 2 ^ first_bit (if io then IoBar else if wide then Memory64 else if narrow then Memory32 else Reserved)
+pub encoding_width : (io wide narrow : Bool) → (if io then 4 else 16) ≡ 2 ^ first_bit (if io then IoBar else if wide then Memory64 else if narrow then Memory32 else Reserved)
 encoding_width true wide narrow = refl
 encoding_width false true narrow = refl
 encoding_width false false true = refl
@@ -110,10 +110,10 @@ bounds_kept PrefetchWindow f first last few order low = open_kept PrefetchWindow
   | inr narrow ↦ (let h : highest_in PrefetchWindow f.probe ≡ 0xffff_ffff = ap (λ t. if t then 0xffff_ffff_ffff_ffff else 0xffff_ffff) narrow in (omega (arith, low, h), λ none. omega (arith, low, h)))
 ])
 
-one_bar : (m n : ℕ) → Bar m ≡ Bar n → m ≡ n
+pub one_bar : (m n : ℕ) → Bar m ≡ Bar n → m ≡ n
 one_bar m n e = cc
 
-no_bar : (n : ℕ) → Rom ≡ Bar n → ⊥
+pub no_bar : (n : ℕ) → Rom ≡ Bar n → ⊥
 no_bar n e = cc
 
 module _ (q : Request) (s : System) (system : IsSystem s) (f : Function) (listed : Contains s f) (is : IsFunction f) (decodable : IsDecodable f) where

@@ -21,7 +21,7 @@ use Rattle.settle_laws.proofs.HeaderParts.{IsPart}
 use Rattle.settle_laws.proofs.NewPlaces.{HasPlace, new_place_is}
 
 -- a multiple of a power of two is even
-even_by : (k a : ℕ) → 0 < k → a % 2 ^ k ≡ 0 → a % 2 ≡ 0
+pub even_by : (k a : ℕ) → 0 < k → a % 2 ^ k ≡ 0 → a % 2 ≡ 0
 even_by k a some multiple =
     let of = multiple_of_mod a (2 ^ k) multiple in
     let plain : of.0 * 2 ^ k + 0 ≡ a = (let is = of.1 in omega (arith, is)) in

@@ -36,7 +36,7 @@ readable roots s profile f listed = record {
   clean = λ offset. false_from_ne_true (is_stray f.image f.probe offset) (λ is. profile (StrayProbe f.slot offset) refl (f, listed, refl, is));
 }
 
-not_header : (bridge : Bool) → list_any (is_in_register 0x0e) (registers_by bridge) ≡ false
+pub not_header : (bridge : Bool) → list_any (is_in_register 0x0e) (registers_by bridge) ≡ false
 not_header true = refl
 not_header false = refl
 

@@ -46,7 +46,7 @@ pub record IsPassedBy (space : Space) (prefetchable : Bool) (a : ℕ) (b : Funct
   pub may : class ≡ PrefetchWindow → prefetchable ≡ true
   pub claims : window_claims b class a ≡ true
 
-no_prefetch : (c : WindowKind) → same_class PrefetchWindow c ≡ false → {P : Type 0} → c ≡ PrefetchWindow → P
+pub no_prefetch : (c : WindowKind) → same_class PrefetchWindow c ≡ false → {P : Type 0} → c ≡ PrefetchWindow → P
 no_prefetch c differ e = absurd (both_ways (same_class PrefetchWindow c) differ (ap (same_class PrefetchWindow) e))
 
 pub passed_by : (space : Space) (prefetchable : Bool) (a : ℕ) (b : Function) → passes space prefetchable a b ≡ true → IsPassedBy space prefetchable a b

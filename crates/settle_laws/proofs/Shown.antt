@@ -44,7 +44,7 @@ off_of : (first last o w place : ℕ) → (place < first) ⊎ (last ≤ place) �
 off_of first last o w place (inl low) from to = inl (omega (arith, low, from))
 off_of first last o w place (inr high) from to = inr (omega (arith, high, to))
 
-bounds_off : (c : WindowKind) (b : Bounds) (image : List ℕ) (place : ℕ) → IsOffWindows place → byte_at (with_bounds c b image) place ≡ byte_at image place
+pub bounds_off : (c : WindowKind) (b : Bounds) (image : List ℕ) (place : ℕ) → IsOffWindows place → byte_at (with_bounds c b image) place ≡ byte_at image place
 bounds_off IoWindow b image place (first, second) =
     with_elsewhere 2 0x32 b.limit_upper place _ (off_of 0x20 0x34 0x32 2 place second (omega arith) (omega arith))
     ∙ with_elsewhere 2 0x30 b.base_upper place _ (off_of 0x20 0x34 0x30 2 place second (omega arith) (omega arith))
@@ -86,7 +86,7 @@ bar_in false (suc (suc (suc (suc zero)))) inside = (4, omega arith, refl)
 bar_in false (suc (suc (suc (suc (suc zero))))) inside = (5, omega arith, refl)
 bar_in false (suc (suc (suc (suc (suc (suc n)))))) inside = absurd (let no : ⊥ = omega (arith, inside) in no)
 
-rom_in : (bridge : Bool) → Contains (registers_by bridge) (rom_place bridge, 4)
+pub rom_in : (bridge : Bool) → Contains (registers_by bridge) (rom_place bridge, 4)
 rom_in true = (8, omega arith, refl)
 rom_in false = (6, omega arith, refl)
 

@@ -26,13 +26,13 @@ use Rattle.settle_laws.proofs.Shown.{IsChanging, fold_keeps, changing_is}
 use Rattle.settle_laws.proofs.ShownParts.{aside, bar_or_not, rom_or_not, keeps_whole, keeps_rom, rom_aside, bounds_stay}
 
 -- a window's addresses, by its bounds
-abbrev range_by : WindowKind → Bounds → Range
+abbrev pub range_by : WindowKind → Bounds → Range
 range_by kind b = record {
   first = (b.base_upper * lower_pages kind + b.base / 16) * page_size kind;
   last = (b.limit_upper * lower_pages kind + b.limit / 16) * page_size kind + (page_size kind - 1);
 }
 
-abbrev opens_by : WindowKind → Bounds → Bool
+abbrev pub opens_by : WindowKind → Bounds → Bool
 opens_by kind b = nat_le (b.base_upper * lower_pages kind + b.base / 16) (b.limit_upper * lower_pages kind + b.limit / 16)
 
 module _ (q : Request) (s : System) (can : CanSettle q s) (f : Function) (listed : Contains s f) where

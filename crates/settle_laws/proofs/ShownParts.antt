@@ -57,7 +57,7 @@ reaches I P step (b ∷ bs) b0 each sets keeps a i has = elim (in_cons_cases b b
   | inr later ↦ reaches I P step bs b0 (λ c in_c. each c (in_tail b bs c in_c)) sets (λ c in_c. keeps c (in_tail b bs c in_c)) (step a b) (each b (in_head b bs) a i) later
 ]
 
-abbrev is_bar : Part → Bool
+abbrev pub is_bar : Part → Bool
 is_bar (Bar n) = true
 is_bar p = false
 
@@ -91,7 +91,7 @@ window_or_not c (Window d) = elim (cases_Bool (same_class c d)) [
     kind p = c
 
 -- whether bounds are those of a closed window
-abbrev closed_by : WindowKind → Bounds → Bool
+abbrev pub closed_by : WindowKind → Bounds → Bool
 closed_by c b = not (nat_le (b.base_upper * lower_pages c + b.base / 16) (b.limit_upper * lower_pages c + b.limit / 16))
 
 module _ (q : Request) (s : System) (can : CanSettle q s) (f : Function) (listed : Contains s f) where

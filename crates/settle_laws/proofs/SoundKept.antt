@@ -1,28 +1,44 @@
 -- What stays, as it stands or where windows grow, is kept soundly.
 use Rattle.std.proofs.Common.{◌≡◌, ◌&&◌, Bool, true, false, arith, ap, ◌∙◌, refl}
-use Rattle.pci_spec.specs.System.{System, IsSystem}
+use Rattle.std.specs.List.{Contains}
+use Rattle.pci_spec.specs.Window.{WindowKind}
+use Rattle.pci_spec.specs.System.{System, Function, IsSystem}
 use Rattle.pci_spec.specs.Bus.{IsNested}
+use Rattle.pci_spec.specs.Sound.{IsInProfile}
 use Rattle.settle_spec.specs.Lists.{Request}
 use Rattle.settle_spec.specs.Parts.{addresses}
-use Rattle.settle_spec.specs.Stands.{window_part}
+use Rattle.settle_spec.specs.Stands.{window_part, stands}
 use Rattle.settle_spec.specs.Items.{has_room_behind, stays}
 use Rattle.settle_spec.specs.Kept.{as_it_stands, growing, place_in}
 use Rattle.settle_spec.proofs.Grown.{growth_holds_all, only_windows_grow}
-use Rattle.settle_spec.proofs.Reaching.{within_from}
+use Rattle.settle_spec.proofs.Reaching.{within_from, window_first, window_last}
 use Rattle.stand_laws.specs.Reach.{WindowsAreLow}
 use Rattle.stand_laws.proofs.GrowingKept.{growing_kept}
 use Rattle.stand_laws.proofs.StandingKept.{standing_kept}
-use Rattle.settle_laws.specs.KeptLaws.{IsSoundKept}
-use Rattle.settle_laws.proofs.GrowingPlaces.{growing_places}
+use Rattle.settle_laws.specs.KeptLaws.{IsGrown, IsSoundKept}
+use Rattle.settle_laws.proofs.GrowingPlaces.{growing_places, growing_grown}
 use Rattle.settle_laws.proofs.Kept.{stays_holds, stays_over}
+use Rattle.settle_laws.proofs.LowWindows.{windows_low}
 use Rattle.settle_laws.proofs.KeptTaken.{items_aligned, on_bus, standing_places}
 
-module _ (q : Request) (s : System) (system : IsSystem s) (nested : IsNested q.roots s) where
+module _ (q : Request) (s : System) (system : IsSystem s) (nested : IsNested q.roots s) (profile : IsInProfile q.roots s) where
+  low : WindowsAreLow q s
+  low = windows_low q s system nested profile
+
+  as_it_was : (c : WindowKind) (b : Function) → Contains s b → stands q s (window_part c b) ≡ true → IsGrown c b (addresses (window_part c b))
+  as_it_was c b listed stand = record {
+    first = window_first c b;
+    last = window_last c b;
+    low = low c b listed stand;
+    outward = λ n. record { base = omega arith; limit = omega arith; base_upper = omega arith; limit_upper = omega arith };
+  }
+
   pub standing_is_sound : IsSoundKept q s (as_it_stands q s)
   standing_is_sound = record {
     apart = standing_kept q s system nested;
     holds = λ r. within_from (addresses r) (addresses r) (record { first = omega arith; last = omega arith });
     plain = λ r is. refl;
+    grown = λ c b listed bridge keeps. as_it_was c b listed ((standing_kept q s system nested).stands (window_part c b) keeps);
     places = λ c b taken listed bridge keeps to back.
         standing_places q s (as_it_stands q s) system nested b listed bridge (standing_kept q s system nested) c keeps refl (stays_holds q s (window_part c b) keeps)
         (λ t in_t there beside class.
@@ -37,10 +53,11 @@ module _ (q : Request) (s : System) (system : IsSystem s) (nested : IsNested q.r
       and_true true = refl
       and_true false = refl
 
-  pub growing_is_sound : WindowsAreLow q s → IsSoundKept q s (growing q s)
-  growing_is_sound low = record {
+  pub growing_is_sound : IsSoundKept q s (growing q s)
+  growing_is_sound = record {
     apart = growing_kept q s system nested low (items_aligned q s (growing q s));
     holds = growth_holds_all q s;
     plain = only_windows_grow q s;
+    grown = growing_grown q s system nested low;
     places = growing_places q s system nested low;
   }

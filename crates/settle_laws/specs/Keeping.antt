@@ -1,1 +1,2 @@
 pub mod PlacesLaws
+pub mod SoundLaws

@@ -1,6 +1,7 @@
 //! Laws of settling beside what is kept. These functions do nothing: each contract is a law.
 
 ghost use Rattle.settle_laws.specs.Keeping.PlacesLaws.{EachBusIsPlaced, PartsGetPlaces, PlacesAreOfOthers, PlacesAreInLists, PlacesAreInWindows, PlacesAreApart};
+ghost use Rattle.settle_laws.specs.Keeping.SoundLaws.{SettledShowsPlaces, SettledOpensPlaces, SettledClosesTheRest, SettlingMoves, SettledIsInProfile, BridgesAreEnabled, SettledIsSound};
 
 /// Where nothing lacks room on the roots, nothing does: each BAR and ROM that is looked at stays or gets a
 /// place, and none does both.
@@ -16,4 +17,23 @@ pub fn places_are_in_windows_and_apart()
     ensures listed { PlacesAreInLists }
     ensures inside { PlacesAreInWindows }
     ensures apart { PlacesAreApart }
+{}
+
+/// Settling changes address bits and Command's enables of I/O and memory alone, and keeps the profile.
+pub fn settling_moves_addresses()
+    ensures moved { SettlingMoves }
+    ensures profile { SettledIsInProfile }
+{}
+
+/// Registers show what stays and the new places, and other windows are closed.
+pub fn settled_registers_show_places()
+    ensures shows { SettledShowsPlaces }
+    ensures opens { SettledOpensPlaces }
+    ensures closes { SettledClosesTheRest }
+{}
+
+/// What settling comes to is sound.
+pub fn settling_is_sound()
+    ensures enabled { BridgesAreEnabled }
+    ensures sound { SettledIsSound }
 {}

@@ -302,6 +302,16 @@ module _ (q : Request) (s : System) (c : WindowKind) (b : Function) (room : Rang
       let in_start = lies_in_trans (cut_to_halves c own pages) free start in_free (all_in own start (standing_beside q s (window_part c b))) in
       (can, within_from (cut_to_halves c own pages) room (lies_in_trans (cut_to_halves c own pages) start room in_start start_in))
 
+  -- and no higher than the window may be
+  pub reach_in_low : (reach_in q s c b room).last ≤ highest_in c b.probe
+  reach_in_low =
+      let pages = whole_pages (page_size c) free in
+      let cut = cut_to_halves c own pages in
+      let in_free = lies_in_trans cut pages free (cut_in c own pages) (pages_in (page_size c) (some_page c) free) in
+      let in_start = lies_in_trans cut free start in_free (all_in own start (standing_beside q s (window_part c b))) in
+      let last = in_start.last in
+      omega (arith, last)
+
 -- ---- the reach is off all else
 
 module _ (q : Request) (s : System) (c : WindowKind) (b : Function) (t : FunctionPart) where

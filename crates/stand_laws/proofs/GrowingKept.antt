@@ -1,5 +1,5 @@
 -- What stays where windows grow stands, apart from what else stays on its bus, and in its lists or the window over it.
-use Rattle.std.proofs.Common.{◌≡◌, ◌≢◌, ℕ, inl, inr, Option, None, Some, Bool, true, false, ◌&&◌, ◌||◌, arith, ap, sym, subst, ◌∙◌, refl}
+use Rattle.std.proofs.Common.{◌≡◌, ◌≢◌, ◌≤◌, ℕ, inl, inr, Option, None, Some, Bool, true, false, ◌&&◌, ◌||◌, arith, ap, sym, subst, ◌∙◌, refl}
 use Rattle.std.specs.Bool.{◌==◌, if◌then◌else◌}
 use Rattle.std.specs.List.{Contains, list_all, find}
 use Rattle.std.specs.Option.{is_some}
@@ -16,13 +16,13 @@ use Rattle.settle_spec.specs.FirstPlace.{ranges_are_apart}
 use Rattle.settle_spec.specs.Lists.{Request, class_ranges}
 use Rattle.settle_spec.specs.Parts.{FunctionPart, system_parts, addresses, bridge_over, class_in, lies_within}
 use Rattle.settle_spec.specs.Stands.{is_fixed_part, rank, part_space, are_beside, is_listed, is_in_lists, window_part, stands}
-use Rattle.settle_spec.specs.Items.{has_room_behind}
+use Rattle.settle_spec.specs.Items.{highest_in, has_room_behind}
 use Rattle.settle_spec.specs.Reach.{ranges_for, range_over, room_around, reach_in, reach_if, reach_within, reach}
 use Rattle.settle_spec.specs.Growth.{window_comes_to, part_comes_to, is_clear, there, comes_to, takes, has_grown}
 use Rattle.settle_spec.specs.Kept.{is_kept, stays_growing, range_or, range_growing, growing}
 use Rattle.settle_spec.proofs.BridgeOver.{found}
 use Rattle.settle_spec.proofs.Grown.{growth_holds_all, part_holds}
-use Rattle.settle_spec.proofs.Reaching.{lies_in_trans, within_gives, within_from, ends_apart, apart_ends, reach_is_around, reach_step}
+use Rattle.settle_spec.proofs.Reaching.{lies_in_trans, within_gives, within_from, ends_apart, apart_ends, reach_is_around, reach_in_low, reach_step}
 use Rattle.stand_laws.specs.Reach.{WindowsAreLow, IsStandingWindow}
 use Rattle.stand_laws.specs.There.{ItemsAreAligned}
 use Rattle.stand_laws.specs.KeptApart.{IsKeptApart}
@@ -284,6 +284,41 @@ module _ (q : Request) (s : System) where
             subst (λ x. is_in_lists q r.function.slot.bus x (part_space r) ≡ true) (sym (same_range r not_grown))
             (in_root_lists q s nested r listed (growing_stands r is) root)
       ]
+
+      -- ---- no higher than a window may be
+
+      reach_low : (c : WindowKind) (b : Function) → IsStandingWindow q s c b → (reach q s c b).last ≤ highest_in c b.probe
+      reach_low c b is = subst (λ (x : Range). x.last ≤ highest_in c b.probe) (sym (reach_step q s c b w)) (by_room (room_around q s c (reach_within q s c 255) b))
+        where
+          w : FunctionPart
+          w = window_part c b
+
+          own : (addresses (window_part c b)).last ≤ highest_in c b.probe
+          own = low c b (in_system q s c nested system low b is) is.stands
+
+          by_room : (o : Option Range) → (reach_if q s c b o).last ≤ highest_in c b.probe
+          by_room None = own
+          by_room (Some room) = by (is_fixed_part q w)
+            where
+              by : (fixed : Bool) → (if fixed then addresses w else reach_in q s c b room).last ≤ highest_in c b.probe
+              by true = own
+              by false = reach_in_low q s c b room
+
+      pub growing_low : (c : WindowKind) (b : Function) → Contains (system_parts q s) (window_part c b) → stays_growing q s (window_part c b) ≡ true → (range_growing q s (window_part c b)).last ≤ highest_in c b.probe
+      growing_low c b listed is =
+          let w = window_part c b in
+          let stand : IsStandingWindow q s c b = record { part = listed; stands = growing_stands w is } in
+          elim (cases_Bool (has_grown q s w)) [
+            | inl grown ↦
+                let taken = grown_takes w grown in
+                let to = taking w taken in
+                let at = there_is_in_reach q s system nested low aligned w to.range listed (there_taking w listed taken ∙ to.comes) in
+                let in_reach = (within_gives to.range (reach q s c b) at.within).last in
+                let most = reach_low c b stand in
+                subst (λ (x : Range). x.last ≤ highest_in c b.probe) (sym (grown_range w to.range grown to.comes)) (omega (arith, in_reach, most))
+            | inr not_grown ↦
+                subst (λ (x : Range). x.last ≤ highest_in c b.probe) (sym (same_range w not_grown)) (low c b (in_system q s c nested system low b stand) stand.stands)
+          ]
 
       pub growing_kept : IsKeptApart q s (growing q s)
       growing_kept = record {

@@ -1,7 +1,7 @@
 -- Only roots can lack room beside what is kept: where they have it, each bus has a place for each of its items.
 use Rattle.std.proofs.Common.{◌≡◌, ◌&&◌, ℕ, zero, suc, ◌+◌, ◌-◌, ◌%◌, ◌<◌, ◌≤◌, ◌⊎◌, inl, inr, max, List, [], ◌∷◌, ◌++◌, map, true, false, cond, arith, refl, sym, ◌∙◌, ap, subst, Option, None, Some}
 use Rattle.std.specs.Bool.{◌==◌, nat_le, nat_lt}
-use Rattle.std.specs.List.{Contains, AllPairs}
+use Rattle.std.specs.List.{Contains}
 use Rattle.std.proofs.lemmas.Bool.{and_parts, both_ways, cases_Bool, eqb-true, leb-true, lt-ltb, or_cases, or_left, or_right}
 use Rattle.std.proofs.lemmas.List.Elements.{Contains-append_cases}
 use Rattle.pci_spec.specs.Decoded.{Range}
@@ -28,7 +28,7 @@ use Rattle.settle_spec.specs.Growth.{place_each}
 use Rattle.settle_spec.specs.Kept.{Kept}
 use Rattle.settle_spec.specs.Keeping.Places.{space_items, taken_at, place_behind, place_of_item, placing_on, root_lack, lacking_on}
 use Rattle.settle_spec.proofs.BridgeOver.{over_is}
-use Rattle.settle_spec.proofs.FirstSpot.{IsApart, apart_from, least_in, spot_gives, spot_from}
+use Rattle.settle_spec.proofs.FirstSpot.{IsApart, least_in, spot_gives}
 use Rattle.settle_spec.proofs.ItemsBehind.{items_are_behind}
 use Rattle.settle_spec.proofs.LastSpot.{place_gives, place_from}
 use Rattle.settle_spec.proofs.Nested.{on_it}
@@ -36,7 +36,6 @@ use Rattle.settle_spec.proofs.NewWindows.{window_is_around}
 use Rattle.settle_spec.proofs.Placed.{are_placed as placed_are}
 use Rattle.settle_spec.proofs.Room.{window_has_room}
 use Rattle.stand_laws.proofs.Holding.{items_same_on}
-use Rattle.stand_laws.proofs.Standing.{part_of}
 use Rattle.settle_laws.specs.KeptLaws.{IsAside, IsAlikeIn, HavePlaces}
 use Rattle.settle_laws.specs.Keeping.PlacesLaws.{CanSettle}
 use Rattle.settle_laws.proofs.BusPlaced.{one_left, nothing_long, page_some, memory_no_prefetch}
@@ -51,7 +50,7 @@ use Rattle.settle_laws.proofs.PlacedBus.{placed_list}
 use Rattle.settle_laws.proofs.Powers.{below_greatest, multiple_below}
 use Rattle.settle_laws.proofs.Keeping.Buses.{placing_by_bus, roots_are_one, of_space}
 use Rattle.settle_laws.proofs.Keeping.Items.{item_positive}
-use Rattle.settle_laws.proofs.Keeping.Kept.{stays_listed, stays_stands, kept_over}
+use Rattle.settle_laws.proofs.Keeping.Kept.{stays_listed, kept_over}
 use Rattle.settle_laws.proofs.Keeping.PlacedBus.{window_ranges, ranges_of_item, places, items, low_bus, beside_itself, in_space, IsPlacedBus, HasPlace, place_of, EndsIn, Keeps, Gets, IsBeside, end_apart}
 
 -- ---- items of two lists

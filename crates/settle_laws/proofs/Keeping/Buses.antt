@@ -1,5 +1,5 @@
 -- Places beside what is kept are told bus by bus: those of a bus by the bus on which the bridge to it stands.
-use Rattle.std.proofs.Common.{◌≡◌, ℕ, zero, suc, ◌<◌, inl, inr, List, [], ◌∷◌, ◌++◌, map, Bool, true, cond, ◌&&◌, arith, sym, ◌∙◌, ap, refl, Option, None, Some}
+use Rattle.std.proofs.Common.{◌≡◌, ℕ, zero, suc, ◌<◌, inl, inr, List, [], ◌++◌, map, Bool, true, cond, ◌&&◌, arith, sym, ◌∙◌, ap, refl, Option, None, Some}
 use Rattle.std.specs.List.{Contains, filter, flat_map}
 use Rattle.std.proofs.Math.Path.{fun_ext}
 use Rattle.std.proofs.lemmas.Bool.{cases_Bool}
@@ -13,7 +13,7 @@ use Rattle.settle_spec.specs.FirstPlace.{first_place}
 use Rattle.settle_spec.specs.Lists.{Request}
 use Rattle.settle_spec.specs.Parts.{FunctionPart, system_parts, bridge_over, are_same_space}
 use Rattle.settle_spec.specs.Stands.{window_part, part_space}
-use Rattle.settle_spec.specs.Items.{Item, Placed, Placing, in_turn, items_of, bus_items, new_window}
+use Rattle.settle_spec.specs.Items.{Item, Placed, in_turn, items_of, bus_items, new_window}
 use Rattle.settle_spec.specs.Places.{root_ranges, placed_of, place_among, placed_range}
 use Rattle.settle_spec.specs.Growth.{place_each}
 use Rattle.settle_spec.specs.Kept.{Kept}

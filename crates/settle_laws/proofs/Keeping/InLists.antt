@@ -12,7 +12,7 @@ use Rattle.plan_spec.specs.Planning.Layout.{IsInside}
 use Rattle.plan_spec.proofs.Planning.Behind.{any_from}
 use Rattle.settle_spec.specs.FirstPlace.{is_high}
 use Rattle.settle_spec.specs.Lists.{Request, class_ranges}
-use Rattle.settle_spec.specs.Parts.{FunctionPart, addresses, lies_within, bridge_over}
+use Rattle.settle_spec.specs.Parts.{FunctionPart, lies_within, bridge_over}
 use Rattle.settle_spec.specs.Stands.{is_in_lists}
 use Rattle.settle_spec.specs.Items.{Item, taken_by}
 use Rattle.settle_spec.specs.Places.{placed_of, root_ranges, wide_ranges}

@@ -14,7 +14,7 @@ use Rattle.pci_spec.proofs.Regions.{register_of-lt}
 use Rattle.plan_spec.specs.Planning.Layout.{IsInside, LieApart, AreBeside, AreTwo}
 use Rattle.plan_spec.proofs.Planning.Reached.{slot_itself}
 use Rattle.settle_spec.specs.Lists.{Request}
-use Rattle.settle_spec.specs.Parts.{FunctionPart, addresses, class_in}
+use Rattle.settle_spec.specs.Parts.{FunctionPart, class_in}
 use Rattle.settle_spec.specs.Stands.{rank, window_part}
 use Rattle.settle_spec.specs.Items.{Item, Placed, taken_by}
 use Rattle.settle_spec.specs.Places.{placed_of, place_among}

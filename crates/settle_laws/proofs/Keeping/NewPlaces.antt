@@ -1,11 +1,10 @@
 -- What a new place beside what is kept is like: how large its part is, and by which address it ends.
-use Rattle.std.proofs.Common.{◌≡◌, ◌&&◌, ◌+◌, ◌-◌, ◌%◌, ◌≤◌, ℕ, inl, inr, true, false, sym, ◌∙◌, ap, subst, Some}
+use Rattle.std.proofs.Common.{◌≡◌, inl, inr, true, sym, ◌∙◌, ap, subst, Some}
 use Rattle.std.specs.List.{Contains}
 use Rattle.std.proofs.lemmas.Bool.{both_ways, cases_Bool}
-use Rattle.pci_spec.specs.Window.{WindowKind}
-use Rattle.pci_spec.specs.System.{System, Function, Part, Window, has_part, is_window, space_of}
+use Rattle.pci_spec.specs.System.{System, Function, Part, has_part, is_window, space_of}
 use Rattle.settle_spec.specs.Lists.{Request}
-use Rattle.settle_spec.specs.Items.{Item, Placed, own_extent, new_window}
+use Rattle.settle_spec.specs.Items.{Item, Placed, new_window}
 use Rattle.settle_spec.specs.Places.{placed_of}
 use Rattle.settle_spec.specs.Kept.{Kept}
 use Rattle.settle_spec.specs.Keeping.Places.{taken_at, new_place}

@@ -1,8 +1,8 @@
 -- A bus whose items are placed beside what is kept: each has its place, and what stays and what is placed end apart.
-use Rattle.std.proofs.Common.{◌≡◌, ◌&&◌, ℕ, ◌<◌, ◌⊎◌, inl, inr, List, [], ◌∷◌, true, false, refl, sym, ◌∙◌, ap, subst, Option, None, Some}
+use Rattle.std.proofs.Common.{◌≡◌, ◌&&◌, ℕ, ◌<◌, inl, inr, List, [], ◌∷◌, true, false, refl, sym, ◌∙◌, ap, subst, Option, None, Some}
 use Rattle.std.specs.Bool.{◌==◌, if◌then◌else◌}
-use Rattle.std.specs.List.{Contains, AllPairs}
-use Rattle.std.proofs.lemmas.Bool.{and_parts, both_ways, eq-eqb, eqb-true, or_left}
+use Rattle.std.specs.List.{Contains}
+use Rattle.std.proofs.lemmas.Bool.{and_parts, eq-eqb, eqb-true, or_left}
 use Rattle.std.proofs.lemmas.List.Elements.{Contains-append_left, Contains-append_right}
 use Rattle.pci_spec.specs.Decoded.{Range}
 use Rattle.pci_spec.specs.Window.{WindowKind, IoWindow, MemoryWindow, PrefetchWindow}
@@ -16,10 +16,10 @@ use Rattle.settle_spec.specs.FirstPlace.{Extent, is_spot, ends_by}
 use Rattle.settle_spec.specs.Lists.{Request}
 use Rattle.settle_spec.specs.Parts.{FunctionPart, bridge_over, class_in, header_parts}
 use Rattle.settle_spec.specs.Stands.{rank, part_space, window_part}
-use Rattle.settle_spec.specs.Items.{Item, Placed, Placing, AllPlaced, Lacks, are_placed, taken_by, bus_items, new_window}
+use Rattle.settle_spec.specs.Items.{Item, Placed, AllPlaced, taken_by, bus_items, new_window}
 use Rattle.settle_spec.specs.Places.{placed_of, place_among, placed_range, root_ranges}
 use Rattle.settle_spec.specs.Kept.{Kept}
-use Rattle.settle_spec.specs.Keeping.Places.{place_of_item, space_items, taken_at, placing_on}
+use Rattle.settle_spec.specs.Keeping.Places.{space_items, taken_at, placing_on}
 use Rattle.settle_spec.specs.PlacingLaws.{PlacesAreApart, ArePlaced}
 use Rattle.settle_spec.proofs.FirstSpot.{spot_gives}
 use Rattle.settle_laws.specs.Keeping.PlacesLaws.{CanSettle}
