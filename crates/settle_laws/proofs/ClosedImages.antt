@@ -39,7 +39,7 @@ use Rattle.settle_laws.proofs.Stages.{ShowsSame}
 use Rattle.settle_laws.proofs.WindowBytes.{IsOf, one_window, window_bytes, bounds_elsewhere, bounds_by_bytes, bounds_shown, number_elsewhere}
 use Rattle.settle_laws.proofs.NonePasses.{none_passes}
 
-no_kind : (c d : WindowKind) → c ≡ d → same_class c d ≡ false → ⊥
+pub no_kind : (c d : WindowKind) → c ≡ d → same_class c d ≡ false → ⊥
 no_kind c d e differ = both_ways (same_class c d) differ (ap (same_class c) (sym e) ∙ class_itself c)
 
 -- the bytes of a window's registers are the window's
@@ -67,19 +67,19 @@ register_bytes f PrefetchWindow r has j less = elim (in_cons_cases (0x24, 4) ((0
 ]
 
 -- the lower halves of a closed window have its low nibble, and fit
-record AreLow (c : WindowKind) (n : ℕ) : Type 0 where
-  nibble : (page_bits c + n) % 16 ≡ n
-  itself : n % 16 ≡ n
-  base : page_bits c + n < 2 ^ (8 * page_bytes c)
-  limit : n < 2 ^ (8 * page_bytes c)
+pub record AreLow (c : WindowKind) (n : ℕ) : Type 0 where
+  pub nibble : (page_bits c + n) % 16 ≡ n
+  pub itself : n % 16 ≡ n
+  pub base : page_bits c + n < 2 ^ (8 * page_bytes c)
+  pub limit : n < 2 ^ (8 * page_bytes c)
 
-are_low : (c : WindowKind) (n : ℕ) → n ≤ 1 → AreLow c n
+pub are_low : (c : WindowKind) (n : ℕ) → n ≤ 1 → AreLow c n
 are_low IoWindow n few = record { nibble = omega (arith, few); itself = omega (arith, few); base = omega (arith, few); limit = omega (arith, few) }
 are_low MemoryWindow n few = record { nibble = omega (arith, few); itself = omega (arith, few); base = omega (arith, few); limit = omega (arith, few) }
 are_low PrefetchWindow n few = record { nibble = omega (arith, few); itself = omega (arith, few); base = omega (arith, few); limit = omega (arith, few) }
 
 -- upper halves are within the bits that are there
-upper_kept : (f : Function) → IsImage f.image → (c : WindowKind) (n : ℕ) → n ≤ 1 → IsLawful c n (bounds_at c f.image) (bounds_at c f.probe)
+pub upper_kept : (f : Function) → IsImage f.image → (c : WindowKind) (n : ℕ) → n ≤ 1 → IsLawful c n (bounds_at c f.image) (bounds_at c f.probe)
     → ((bounds_at c f.image).base_upper ≤ n * upper_bits c) × ((bounds_at c f.image).limit_upper ≤ n * upper_bits c)
 upper_kept f is c zero few lawful =
     let b = bounds_at c f.image in

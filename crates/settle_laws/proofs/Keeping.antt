@@ -2,6 +2,8 @@ pub mod After
 pub mod BusPlaced
 pub mod Buses
 pub mod Claimed
+pub mod ClosedImages
+pub mod ClosedMoves
 pub mod Commands
 pub mod Fits
 pub mod Held
@@ -20,6 +22,10 @@ pub mod PlacesFit
 pub mod RomPlaces
 pub mod SettledMoved
 pub mod SettledSound
+pub mod SettlingStages
 pub mod Shown
 pub mod ShownKept
 pub mod ShownParts
+pub mod StillHeld
+pub mod StillShown
+pub mod Stopping

@@ -15,6 +15,7 @@ pub mod Anew
 pub mod BarReach
 pub mod BusPlaced
 pub mod Claimed
+pub mod Climbs
 pub mod ClosedImages
 pub mod ClosedMoves
 pub mod ClosedSame
@@ -83,6 +84,7 @@ pub mod StageRegisters
 pub mod StageStops
 pub mod StageWindows
 pub mod Stages
+pub mod StandingAbove
 pub mod StandingStart
 pub mod Staying
 pub mod StayingRests

@@ -1,5 +1,5 @@
 -- A beginning of a list that is joined from pieces: how far it comes in each piece.
-use Rattle.std.proofs.Common.{◌≡◌, ℕ, ◌+◌, ◌<◌, ◌⊎◌, inl, inr, List, [], ◌∷◌, ◌++◌, refl, Bool, true, false, cond, sym, ◌∙◌, ap, subst}
+use Rattle.std.proofs.Common.{◌≡◌, ℕ, ◌<◌, ◌⊎◌, inl, inr, List, [], ◌∷◌, ◌++◌, refl, Bool, true, false, cond, sym, ◌∙◌, ap, subst}
 use Rattle.std.specs.Bool.{◌==◌}
 use Rattle.std.specs.List.{AllPairs, Contains, flat_map}
 use Rattle.std.proofs.lemmas.Bool.{both_ways}

@@ -36,7 +36,7 @@ use Rattle.settle_laws.proofs.NonePasses.{none_passes}
 -- ---- a claim, by what a BAR or ROM shows
 
 -- a BAR or ROM shows the same in two images
-abbrev IsShownSame : List ℕ → List ℕ → List ℕ → Part → Type 0
+abbrev pub IsShownSame : List ℕ → List ℕ → List ℕ → Part → Type 0
 IsShownSame probe a b (Bar n) = whole_bar probe a n ≡ whole_bar probe b n
 IsShownSame probe a b Rom = rom_at a a ≡ rom_at b b
 IsShownSame probe a b (Window c) = bounds_at c a ≡ bounds_at c b
@@ -49,7 +49,7 @@ module _ (slot : Slot) (probe a b : List ℕ) (kind : layout a ≡ layout b) (on
   to = function_at slot b probe
 
   -- it is one in the other image, if that enables what this does
-  claims_by : (p : Part) (space : Space) (x : ℕ) → is_window p ≡ false → IsShownSame probe a b p → Claims from p space x → Claims to p space x
+  pub claims_by : (p : Part) (space : Space) (x : ℕ) → is_window p ≡ false → IsShownSame probe a b p → Claims from p space x → Claims to p space x
   claims_by (Bar n) space x plain same c = record {
     there = ap (λ k. nat_lt n (bar_count k)) (sym kind) ∙ c.there;
     enabled = on (space_of from (Bar n)) c.enabled;

@@ -73,7 +73,7 @@ module _ (q : Request) (s : System) (can : CanSettle q s) where
 -- ---- what is never off
 
 -- a beginning of three lists behind one another
-in_three : {X : Type 0} (P : List X → Type 0) (a b c : List X) → ((p rest : List X) → p ++ rest ≡ a → P p) → ((p rest : List X) → p ++ rest ≡ b → P (a ++ p))
+pub in_three : {X : Type 0} (P : List X → Type 0) (a b c : List X) → ((p rest : List X) → p ++ rest ≡ a → P p) → ((p rest : List X) → p ++ rest ≡ b → P (a ++ p))
     → ((p rest : List X) → p ++ rest ≡ c → P (a ++ (b ++ p))) → (k : ℕ) → P (take k (a ++ (b ++ c)))
 in_three P a b c first second third k = elim (cases_lt k (length a)) [
   | inl less ↦ subst P (sym (take-append-le k a (b ++ c) (omega (arith, less)))) (first (take k a) (drop k a) (take-append-drop k a))
@@ -90,7 +90,7 @@ in_three P a b c first second third k = elim (cases_lt k (length a)) [
       ]))
 ]
 
-on_same : (f g : Function) → command g.image ≡ command f.image → (space : Space) → is_space_on f space ≡ true → is_space_on g space ≡ true
+pub on_same : (f g : Function) → command g.image ≡ command f.image → (space : Space) → is_space_on f space ≡ true → is_space_on g space ≡ true
 on_same f g e Io on = ap (λ n. has_bit n 0) e ∙ on
 on_same f g e Memory on = ap (λ n. has_bit n 1) e ∙ on
 

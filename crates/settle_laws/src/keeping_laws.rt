@@ -1,7 +1,7 @@
 //! Laws of settling beside what is kept. These functions do nothing: each contract is a law.
 
 ghost use Rattle.settle_laws.specs.Keeping.PlacesLaws.{EachBusIsPlaced, PartsGetPlaces, PlacesAreOfOthers, PlacesAreInLists, PlacesAreInWindows, PlacesAreApart};
-ghost use Rattle.settle_laws.specs.Keeping.SoundLaws.{SettledShowsPlaces, SettledOpensPlaces, SettledClosesTheRest, SettlingMoves, SettledIsInProfile, BridgesAreEnabled, SettledIsSound};
+ghost use Rattle.settle_laws.specs.Keeping.SoundLaws.{SettledShowsPlaces, SettledOpensPlaces, SettledClosesTheRest, SettlingMoves, SettledIsInProfile, BridgesAreEnabled, SettledIsSound, SettlingCanStop, SettlingSettles};
 
 /// Where nothing lacks room on the roots, nothing does: each BAR and ROM that is looked at stays or gets a
 /// place, and none does both.
@@ -32,8 +32,10 @@ pub fn settled_registers_show_places()
     ensures closes { SettledClosesTheRest }
 {}
 
-/// What settling comes to is sound.
+/// What settling comes to is sound, and so is what is left of it wherever its writes may stop.
 pub fn settling_is_sound()
     ensures enabled { BridgesAreEnabled }
     ensures sound { SettledIsSound }
+    ensures stop { SettlingCanStop }
+    ensures settles { SettlingSettles }
 {}

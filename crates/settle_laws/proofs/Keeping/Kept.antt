@@ -1,17 +1,17 @@
 -- What is kept stands, is apart on its bus, and lies in the window over it.
-use Rattle.std.proofs.Common.{◌≡◌, ◌<◌, ◌≤◌, ℕ, zero, suc, inl, inr, true, false, arith, sym, ◌∙◌, ap, subst}
+use Rattle.std.proofs.Common.{◌≡◌, ◌≤◌, ℕ, true, false, arith, sym, ◌∙◌, ap, subst}
 use Rattle.std.specs.List.{Contains}
-use Rattle.std.proofs.lemmas.Bool.{and_from, cases_eq}
+use Rattle.std.proofs.lemmas.Bool.{and_from}
 use Rattle.pci_spec.specs.Window.{WindowKind}
 use Rattle.pci_spec.specs.System.{System, Function, Part, Window, is_bridge}
-use Rattle.pci_spec.specs.Bus.{is_root, are_siblings, secondary, is_behind}
+use Rattle.pci_spec.specs.Bus.{is_root, are_siblings, secondary}
 use Rattle.plan_spec.specs.Planning.Layout.{LieApart}
 use Rattle.settle_spec.specs.Lists.{Request}
 use Rattle.settle_spec.specs.Parts.{FunctionPart, system_parts, header_parts, addresses, class_in, is_part, are_same_space, lies_within}
 use Rattle.settle_spec.specs.Stands.{rank, part_space, window_part, stands}
 use Rattle.settle_spec.specs.Kept.{Kept}
 use Rattle.settle_spec.proofs.Reaching.{within_gives}
-use Rattle.stand_laws.proofs.Standing.{stands_by_itself}
+use Rattle.stand_laws.proofs.Standing.{part_of, stands_by_itself}
 use Rattle.stand_laws.proofs.There.{opened}
 use Rattle.settle_laws.specs.Keeping.PlacesLaws.{CanSettle}
 use Rattle.settle_laws.proofs.HeaderParts.{window_of}
@@ -19,12 +19,8 @@ use Rattle.settle_laws.proofs.Held.{same_itself}
 use Rattle.settle_laws.proofs.KeptTaken.{items_aligned}
 use Rattle.settle_laws.proofs.LowWindows.{windows_low}
 use Rattle.settle_laws.proofs.Kept.{in_regions, lie_apart, off_roots, siblings_through}
-use Rattle.plan_spec.proofs.Planning.AboveBuses.{root_or_led, above_to, above_from}
-use Rattle.settle_spec.proofs.Nested.{is_no_root, one_bridge}
-use Rattle.pci_spec.proofs.BusRanges.{root_means}
-use Rattle.plan_spec.proofs.Planning.Safe.{order_of}
-use Rattle.plan_spec.proofs.Planning.Behind.{behind_range, bridge_between}
 use Rattle.plan_spec.specs.Plan.{bridges_above}
+use Rattle.settle_laws.proofs.Climbs.{climbs}
 
 module _ (q : Request) (s : System) (k : Kept) (can : CanSettle q s k) where
   pub stays_stands : (r : FunctionPart) → k.stays r ≡ true → stands q s r ≡ true
@@ -63,27 +59,17 @@ module _ (q : Request) (s : System) (k : Kept) (can : CanSettle q s k) where
       omega (arith, own, first, last)
 
   -- where a part is kept, so is the window of its class of each bridge above it
-  above_below : (n : ℕ) (f : Function) (p : Part) → f.slot.bus < n → Contains s f → Contains (header_parts f) p → k.stays record { function = f; part = p } ≡ true
-      → (b : Function) → Contains (bridges_above s f.slot.bus) b → k.stays (window_part (class_in q s f p) b) ≡ true
-  above_below zero f p less listed there keeps b above = absurd (let no : ⊥ = omega (arith, less) in no)
-  above_below (suc n) f p less listed there keeps b above = elim (root_or_led q.roots s can.system can.nested f listed) [
-    | inl root ↦ (let is = above_to s f.slot.bus b above in absurd (is_no_root q.roots s can.system can.nested b f.slot.bus is.listed is.bridge is.behind ((root_means q.roots f.slot.bus).1 root)))
-    | inr (d, leader) ↦
-        let is = above_to s f.slot.bus b above in
-        let to = leader.leads in
-        let up = order_of q.roots s can.nested d leader.listed leader.bridge in
-        let c = class_in q s f p in
-        let over = (kept_over d leader.listed leader.bridge record { function = f; part = p } (stays_listed f p listed there keeps) keeps to).1 in
-        elim (cases_eq (secondary b) (secondary d)) [
-          | inl same ↦ subst (λ x. k.stays (window_part c x) ≡ true) (sym (one_bridge q.roots s can.system can.nested b d is.listed leader.listed is.bridge leader.bridge same)) over
-          | inr differ ↦
-              let behind = subst (λ bus. is_behind b bus ≡ true) (sym to) is.behind in
-              let low = (behind_range b (secondary d) behind).0 in
-              let between = bridge_between q.roots s can.system can.nested b d is.listed leader.listed is.bridge leader.bridge behind (omega (arith, low, differ)) in
-              above_below n d (Window c) (omega (arith, less, to, up)) leader.listed (window_of d c) over b (above_from s d.slot.bus b record { listed = is.listed; bridge = is.bridge; behind = between })
-        ]
-  ]
+  record IsKeptPart (r : FunctionPart) : Type 0 where
+    listed : Contains (system_parts q s) r
+    keeps : k.stays r ≡ true
+
+  kept_above : (r : FunctionPart) → IsKeptPart r → (b : Function) → Contains (bridges_above s r.function.slot.bus) b → IsKeptPart (window_part (class_in q s r.function r.part) b)
+  kept_above r is b above = climbs q s can.system can.nested IsKeptPart
+      (λ t d in_t at leads.
+      let over = (kept_over d leads.0 leads.1 t at.listed at.keeps leads.2).1 in
+      record { listed = stays_listed d (Window (class_in q s t.function t.part)) leads.0 (window_of d (class_in q s t.function t.part)) over; keeps = over })
+      r (part_of q s r is.listed).listed is b above
 
   pub above_stays : (f : Function) (p : Part) → Contains s f → Contains (header_parts f) p → k.stays record { function = f; part = p } ≡ true
       → (b : Function) → Contains (bridges_above s f.slot.bus) b → k.stays (window_part (class_in q s f p) b) ≡ true
-  above_stays f p listed there keeps b above = above_below (suc f.slot.bus) f p (omega arith) listed there keeps b above
+  above_stays f p listed there keeps b above = (kept_above record { function = f; part = p } record { listed = stays_listed f p listed there keeps; keeps = keeps } b above).keeps

@@ -1,11 +1,11 @@
 -- A settled function shows what stays where it was.
-use Rattle.std.proofs.Common.{◌≡◌, ◌&&◌, ℕ, ◌^◌, ◌<◌, inl, inr, List, Bool, true, false, cond, not, refl, sym, ◌∙◌, ap, subst, None}
-use Rattle.std.specs.Bool.{◌==◌}
+use Rattle.std.proofs.Common.{◌≡◌, ◌+◌, ◌&&◌, ℕ, ◌^◌, ◌<◌, inl, inr, List, Bool, true, false, cond, not, arith, refl, sym, ◌∙◌, ap, subst, None}
+use Rattle.std.specs.Bool.{◌==◌, if◌then◌else◌}
 use Rattle.std.specs.List.{Contains}
-use Rattle.std.proofs.lemmas.Bool.{and_from, and_parts, both_ways, cases_Bool, eqb-true, ltb-true, not_from_false}
+use Rattle.std.proofs.lemmas.Bool.{and_from, and_parts, both_ways, cases_Bool, eqb-true, lt-ltb, ltb-true, not_from_false}
 use Rattle.pci_spec.specs.Number.{number_at, lowest_one}
-use Rattle.pci_spec.specs.Header.{layout, bar_count, rom_register}
-use Rattle.pci_spec.specs.Bar.{has_bar, whole_bar}
+use Rattle.pci_spec.specs.Header.{layout, bar_count, bar_register, rom_register}
+use Rattle.pci_spec.specs.Bar.{bar_at, has_bar, is_wide, whole_bar}
 use Rattle.pci_spec.specs.Window.{WindowKind, bounds_at, has_window, is_closed}
 use Rattle.pci_spec.specs.Decoded.{Range, aligned_range, bar_size, rom_size}
 use Rattle.pci_spec.specs.System.{System, Function, Part, Bar, Rom, Window, has_part, is_bridge, is_window}
@@ -15,17 +15,19 @@ use Rattle.settle_spec.specs.Lists.{Request}
 use Rattle.settle_spec.specs.Parts.{FunctionPart, addresses, is_part, is_left}
 use Rattle.settle_spec.specs.Keeping.Places.{new_place}
 use Rattle.settle_spec.specs.Registers.{closed_if_open, changing}
-use Rattle.settle_spec.specs.Keeping.Registers.{is_same_range, with_range, with_kept, shown, settled_image, settled_function}
+use Rattle.settle_spec.specs.Keeping.Registers.{is_same_range, with_range, with_kept, shown, settled_image, settled_function, settled_command}
 use Rattle.settle_laws.specs.Keeping.PlacesLaws.{CanSettle}
 use Rattle.settle_laws.proofs.HeaderParts.{few_bars}
-use Rattle.settle_laws.proofs.Images.{whole_aside}
+use Rattle.settle_laws.proofs.Images.{same_number, whole_aside}
 use Rattle.settle_laws.proofs.Keeping.Kept.{stays_part}
 use Rattle.settle_laws.proofs.Keeping.PartPlaces.{kept_unplaced}
 use Rattle.settle_laws.proofs.Keeping.SettledMoved.{kind_stays}
 use Rattle.settle_laws.proofs.Shown.{fold_keeps}
-use Rattle.settle_laws.proofs.Keeping.Shown.{IsChanging, changing_is}
-use Rattle.settle_laws.proofs.Keeping.ShownParts.{aside, bar_or_not, rom_or_not, keeps_whole, keeps_rom, rom_aside, keeps_range, bounds_stay, grown_shown, grown_open}
+use Rattle.settle_laws.proofs.Keeping.Shown.{IsChanging, changing_is, shown_off}
+use Rattle.settle_laws.proofs.Keeping.ShownParts.{aside, bar_or_not, off_bar, rom_or_not, keeps_whole, keeps_rom, rom_aside, keeps_range, bounds_stay, grown_shown, grown_open}
 use Rattle.settle_spec.specs.Kept.{Kept}
+use Rattle.pci_spec.specs.Registers.{COMMAND}
+use Rattle.settle_laws.proofs.Numbers.{with_elsewhere}
 use Rattle.settle_laws.proofs.ShownKept.{opens_by, range_by}
 
 module _ (q : Request) (s : System) (k : Kept) (can : CanSettle q s k) (f : Function) (listed : Contains s f) where
@@ -67,6 +69,24 @@ module _ (q : Request) (s : System) (k : Kept) (can : CanSettle q s k) (f : Func
       subst (λ (t : FunctionPart). whole_bar f.probe (shown k t (new_place q s k t) image) n ≡ v) c.is (elim (bar_or_not n c.p) [
         | inl here ↦ subst (λ o. whole_bar f.probe (shown k (region o) (new_place q s k (region o)) image) n ≡ v) here (ap (λ x. whole_bar f.probe x n) (leaves (Bar n) there keeps (plain_kept (Bar n) refl) image) ∙ same)
         | inr other ↦ keeps_whole q s k can f listed n inside has c.p c.there c.can other image ∙ same
+      ])) f.image refl
+
+  pub bar_number_stays : (n : ℕ) → n < bar_count (layout f.image) → has_bar f.probe n ≡ true → k.stays (region (Bar n)) ≡ true
+      → number_at g.image (bar_register n) (if is_wide (bar_at f.probe n) then 8 else 4) ≡ number_at f.image (bar_register n) (if is_wide (bar_at f.probe n) then 8 else 4)
+  bar_number_stays n inside has keeps =
+      let o : ℕ = bar_register n in
+      let w : ℕ = if is_wide (bar_at f.probe n) then 8 else 4 in
+      let v : ℕ = number_at f.image o w in
+      let there = lt-ltb n (bar_count (layout f.image)) inside in
+      same_number g.image (settled_image q s k f) o w (λ j less. with_elsewhere 2 COMMAND (settled_command q s k f) (o + j) (settled_image q s k f) (inr (omega arith)))
+      ∙ fold_keeps (λ image. number_at image o w ≡ v) (λ image r. shown k r (new_place q s k r) image) (changing q s f)
+      (λ r in_r image same.
+      let c : IsChanging q s k f r = changing_is q s k f r in_r in
+      subst (λ (t : FunctionPart). number_at (shown k t (new_place q s k t) image) o w ≡ v) c.is (elim (bar_or_not n c.p) [
+        | inl here ↦ subst (λ x. number_at (shown k (region x) (new_place q s k (region x)) image) o w ≡ v) here (ap (λ x. number_at x o w) (leaves (Bar n) there keeps (plain_kept (Bar n) refl) image) ∙ same)
+        | inr other ↦
+            same_number (shown k (region c.p) (new_place q s k (region c.p)) image) image o w
+            (λ j less. shown_off q s k f c.p (new_place q s k (region c.p)) image (o + j) (off_bar q s k can f listed n inside has c.p c.there c.can other (o + j) (omega arith) (omega (arith, less)))) ∙ same
       ])) f.image refl
 
   pub rom_stays : k.stays (region Rom) ≡ true → number_at g.image (rom_register (layout f.image)) 4 ≡ number_at f.image (rom_register (layout f.image)) 4

@@ -175,7 +175,7 @@ module _ (q : Request) (s : System) (k : Kept) (can : CanSettle q s k) (f : Func
   -- ---- BARs
 
   module _ (n : ℕ) (inside : n < bar_count (layout f.image)) (there : has_bar f.probe n ≡ true) where
-    off_bar : (p : Part) → Contains (header_parts f) p → can_change q s k f p ≡ true → (Bar n ≡ p → ⊥) → (place : ℕ) → bar_register n ≤ place → place < bar_register n + width n → IsOff f p place
+    pub off_bar : (p : Part) → Contains (header_parts f) p → can_change q s k f p ≡ true → (Bar n ≡ p → ⊥) → (place : ℕ) → bar_register n ≤ place → place < bar_register n + width n → IsOff f p place
     off_bar p in_p can_p other place from to = elim (part_cases f p in_p) [
       | inl bar ↦
           let m = bar.n in

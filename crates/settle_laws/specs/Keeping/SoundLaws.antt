@@ -1,10 +1,11 @@
 -- Laws of what settling beside what is kept comes to: it shows where parts end, changes nothing else, and is sound.
-use Rattle.std.specs.Prelude.{◌≡◌, IsTrue, IsFalse, None}
+use Rattle.std.specs.Prelude.{◌≡◌, ℕ, ◌≤◌, ◌⊎◌, IsTrue, IsFalse, None, length, take}
 use Rattle.std.specs.List.{AllZip, Contains}
 use Rattle.pci_spec.specs.Window.{WindowKind}
 use Rattle.pci_spec.specs.Decoded.{Range}
 use Rattle.pci_spec.specs.System.{System, Function, Part, Window, is_space_on, space_of}
 use Rattle.pci_spec.specs.Bus.{LeadsTo}
+use Rattle.pci_spec.specs.Machine.{system_after}
 use Rattle.pci_spec.specs.Sound.{IsInProfile, IsSound}
 use Rattle.plan_spec.specs.Plan.{IsMoved, is_open}
 use Rattle.plan_spec.specs.Planning.Layout.{range_of}
@@ -13,6 +14,7 @@ use Rattle.settle_spec.specs.Stands.{window_part}
 use Rattle.settle_spec.specs.Items.{Placed}
 use Rattle.settle_spec.specs.Kept.{Kept}
 use Rattle.settle_spec.specs.Keeping.Registers.{settled, settled_function}
+use Rattle.settle_spec.specs.Keeping.Writes.{closings, settle_writes}
 use Rattle.settle_laws.specs.Keeping.PlacesLaws.{CanSettle, GetsPlace, EndsAt, end_range}
 
 -- ---- registers
@@ -58,3 +60,16 @@ BridgesAreEnabled =
 -- What settling comes to is sound.
 abbrev pub SettledIsSound : Type 0
 SettledIsSound = (q : Request) (s : System) (k : Kept) → CanSettle q s k → IsSound q.roots (settled q s k)
+
+-- So its writes can stop anywhere once the closing ones are made, and from a sound start anywhere at all;
+abbrev pub SettlingCanStop : Type 0
+SettlingCanStop =
+    (q : Request) (s : System) (k : Kept) → CanSettle q s k → (n : ℕ)
+    → (length (closings q s k s) ≤ n) ⊎ IsSound q.roots s
+    → IsSound q.roots (system_after s (take n (settle_writes q s k)))
+
+-- and after all of them the system is the settled one.
+abbrev pub SettlingSettles : Type 0
+SettlingSettles =
+    (q : Request) (s : System) (k : Kept) → CanSettle q s k
+    → system_after s (settle_writes q s k) ≡ settled q s k

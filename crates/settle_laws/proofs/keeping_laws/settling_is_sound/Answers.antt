@@ -3,6 +3,7 @@ use Rattle.pci_spec.specs.System.{space_of}
 use Rattle.settle_laws.proofs.Keeping.Claimed.{on_now}
 use Rattle.settle_laws.proofs.Keeping.Lives.{serves, serves_over, serves_enabled}
 use Rattle.settle_laws.proofs.Keeping.SettledSound.{settled_sound}
+use Rattle.settle_laws.proofs.Keeping.Stopping.{stop_sound, writes_settle}
 use Rattle.settle_laws.proofs.keeping_laws.settling_is_sound.Goals as goal
 
 pub returns-clause-enabled : goal.returns-clause-enabled
@@ -12,3 +13,9 @@ returns-clause-enabled c = λ q s k can f b p x is leads.
 
 pub returns-clause-sound : goal.returns-clause-sound
 returns-clause-sound c = settled_sound
+
+pub returns-clause-stop : goal.returns-clause-stop
+returns-clause-stop c = stop_sound
+
+pub returns-clause-settles : goal.returns-clause-settles
+returns-clause-settles c = writes_settle
