@@ -70,6 +70,7 @@ pub mod RomPlaces
 pub mod SettledAlready
 pub mod SettledMoved
 pub mod SettledSound
+pub mod SettlingEnds
 pub mod SettlingStages
 pub mod Shown
 pub mod ShownKept

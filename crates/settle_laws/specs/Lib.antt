@@ -1,4 +1,5 @@
 pub mod AgainLaws
+pub mod GrowingLaws
 pub mod Keeping
 pub mod KeptLaws
 pub mod PlacesLaws

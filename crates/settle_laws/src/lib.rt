@@ -6,6 +6,7 @@
 #![tactic(auto)]
 
 pub mod again_laws;
+pub mod growing_laws;
 pub mod keeping_laws;
 pub mod kept_laws;
 pub mod places_laws;

@@ -1,0 +1,131 @@
+-- Where settling ends with writes, lists are good and nothing lacks room; so each stop is sound, with windows that grow and without.
+use Rattle.std.proofs.Common.{◌≡◌, ℕ, ◌≤◌, ◌⊎◌, List, Option, None, Some, Bool, true, false, sym, ◌∙◌, ap, subst, refl, length, take}
+use Rattle.std.specs.Bool.{if◌then◌else◌}
+use Rattle.std.proofs.lemmas.Bool.{false≢true}
+use Rattle.pci_spec.specs.System.{System}
+use Rattle.pci_spec.specs.Machine.{Write, system_after}
+use Rattle.pci_spec.specs.Sound.{IsSound}
+use Rattle.settle_spec.specs.Lists.{Request, are_bad_lists}
+use Rattle.settle_spec.specs.Parts.{FunctionPart}
+use Rattle.settle_spec.specs.Stands.{stands}
+use Rattle.settle_spec.specs.Items.{Item, stays}
+use Rattle.settle_spec.specs.Places.{lacking}
+use Rattle.settle_spec.specs.Writes.{Settling, BadLists, Fixed, NoRoom, Settled, closings, settle_writes, fixed_without, fixed_write, or_fixed, or_lack, or_write, settle}
+use Rattle.settle_spec.specs.Kept.{Kept, growing}
+use Rattle.settle_spec.specs.Keeping.Places.{lacking as lacking_beside}
+use Rattle.settle_spec.specs.Keeping.Writes.{closings as closings_beside, settle_writes as writes_beside, settle_keeping}
+use Rattle.settle_spec.specs.Growing.{or_else, settle_growing}
+use Rattle.settle_laws.specs.GrowingLaws.{CanBeAsked, closings_by, growing_closings, SettledGrowingIsSound, SettlingGrowingCanStop}
+use Rattle.settle_laws.specs.PlacesLaws.{CanSettle}
+use Rattle.settle_laws.specs.Keeping.PlacesLaws.{CanSettle as CanSettleBeside}
+use Rattle.settle_laws.proofs.Moves.{new_profile}
+use Rattle.settle_laws.proofs.SettledSound.{settled_sound}
+use Rattle.settle_laws.proofs.SoundKept.{growing_is_sound}
+use Rattle.settle_laws.proofs.Stopping.{stop_sound, writes_settle}
+use Rattle.settle_laws.proofs.Keeping.SettledSound.{settled_sound as sound_beside}
+use Rattle.settle_laws.proofs.Keeping.Stopping.{stop_sound as stop_beside, writes_settle as settles_beside}
+
+-- ---- how settling ends
+
+abbrev is_settled : Settling → Bool
+is_settled (Settled writes) = true
+is_settled refused = false
+
+abbrev writes_of : Settling → List Write → List Write
+writes_of (Settled writes) other = writes
+writes_of refused other = other
+
+-- lists are good, nothing lacks room, and these are the writes
+record IsEnd (bad : Bool) (lack : Option Item) (own writes : List Write) : Type 0 where
+  good : bad ≡ false
+  room : lack ≡ None
+  same : own ≡ writes
+
+ends : (bad : Bool) (a b : Option FunctionPart) (lack : Option Item) (w : Option Write) (own writes : List Write)
+    → (if bad then BadLists else or_fixed a (or_fixed b (or_lack lack (or_write w (Settled own))))) ≡ Settled writes → IsEnd bad lack own writes
+ends true a b lack w own writes e = absurd (false≢true (ap is_settled e))
+ends false (Some r) b lack w own writes e = absurd (false≢true (ap is_settled e))
+ends false None (Some r) lack w own writes e = absurd (false≢true (ap is_settled e))
+ends false None None (Some i) w own writes e = absurd (false≢true (ap is_settled e))
+ends false None None None (Some x) own writes e = absurd (false≢true (ap is_settled e))
+ends false None None None None own writes e = record { good = refl; room = refl; same = ap (λ o. writes_of o own) e }
+
+module _ (q : Request) (s : System) (asked : CanBeAsked q s) where
+  abbrev k : Kept
+  k = growing q s
+
+  -- ---- without windows that grow
+
+  plain_end : (writes : List Write) → settle q s ≡ Settled writes → IsEnd (are_bad_lists q.roots q.lists) (lacking q s) (settle_writes q s) writes
+  plain_end writes e = ends (are_bad_lists q.roots q.lists) (fixed_without (stands q s) q s) (fixed_without (stays q s) q s) (lacking q s) (fixed_write q (settle_writes q s)) (settle_writes q s) writes e
+
+  plain_can : (writes : List Write) → settle q s ≡ Settled writes → CanSettle q s
+  plain_can writes e =
+      let end = plain_end writes e in
+      record { lists = end.good; high = asked.high; system = asked.system; nested = asked.nested; profile = asked.profile; chains = asked.chains; room = end.room }
+
+  plain_sound : (writes : List Write) → settle q s ≡ Settled writes → IsSound q.roots (system_after s writes)
+  plain_sound writes e =
+      let can = plain_can writes e in
+      subst (λ ws. IsSound q.roots (system_after s ws)) (plain_end writes e).same
+      (subst (IsSound q.roots) (sym (writes_settle q s can.system can.profile (new_profile q s can))) (settled_sound q s can))
+
+  plain_stop : (writes : List Write) (n : ℕ) → settle q s ≡ Settled writes → (length (closings q s s) ≤ n) ⊎ IsSound q.roots s → IsSound q.roots (system_after s (take n writes))
+  plain_stop writes n e from =
+      subst (λ ws. IsSound q.roots (system_after s (take n ws))) (plain_end writes e).same (stop_sound q s (plain_can writes e) n from)
+
+  -- ---- with windows that grow
+
+  grown_end : (writes : List Write) → settle_keeping q s k ≡ Settled writes → IsEnd (are_bad_lists q.roots q.lists) (lacking_beside q s k) (writes_beside q s k) writes
+  grown_end writes e = ends (are_bad_lists q.roots q.lists) (fixed_without (stands q s) q s) (fixed_without k.stays q s) (lacking_beside q s k) (fixed_write q (writes_beside q s k)) (writes_beside q s k) writes e
+
+  grown_can : (writes : List Write) → settle_keeping q s k ≡ Settled writes → CanSettleBeside q s k
+  grown_can writes e =
+      let end = grown_end writes e in
+      record {
+        lists = end.good;
+        high = asked.high;
+        system = asked.system;
+        nested = asked.nested;
+        profile = asked.profile;
+        chains = asked.chains;
+        sound = growing_is_sound q s asked.system asked.nested asked.profile;
+        room = end.room;
+      }
+
+  grown_sound : (writes : List Write) → settle_keeping q s k ≡ Settled writes → IsSound q.roots (system_after s writes)
+  grown_sound writes e =
+      let can = grown_can writes e in
+      subst (λ ws. IsSound q.roots (system_after s ws)) (grown_end writes e).same
+      (subst (IsSound q.roots) (sym (settles_beside q s k can)) (sound_beside q s k can))
+
+  grown_stop : (writes : List Write) (n : ℕ) → settle_keeping q s k ≡ Settled writes → (length (closings_beside q s k s) ≤ n) ⊎ IsSound q.roots s → IsSound q.roots (system_after s (take n writes))
+  grown_stop writes n e from =
+      subst (λ ws. IsSound q.roots (system_after s (take n ws))) (grown_end writes e).same (stop_beside q s k (grown_can writes e) n from)
+
+  -- ---- either
+
+  pub ends_sound : (writes : List Write) → settle_growing q s ≡ Settled writes → IsSound q.roots (system_after s writes)
+  ends_sound writes e = by (settle_keeping q s k) refl e
+    where
+      by : (o : Settling) → settle_keeping q s k ≡ o → or_else o (settle q s) ≡ Settled writes → IsSound q.roots (system_after s writes)
+      by (Settled own) is e = grown_sound writes (is ∙ e)
+      by BadLists is e = plain_sound writes e
+      by (Fixed slot register) is e = plain_sound writes e
+      by (NoRoom class slot register size alignment) is e = plain_sound writes e
+
+  pub stops_sound : (writes : List Write) (n : ℕ) → settle_growing q s ≡ Settled writes → (length (growing_closings q s) ≤ n) ⊎ IsSound q.roots s → IsSound q.roots (system_after s (take n writes))
+  stops_sound writes n e from = by (settle_keeping q s k) refl e from
+    where
+      by : (o : Settling) → settle_keeping q s k ≡ o → or_else o (settle q s) ≡ Settled writes → (length (closings_by o (closings_beside q s k s) (closings q s s)) ≤ n) ⊎ IsSound q.roots s
+          → IsSound q.roots (system_after s (take n writes))
+      by (Settled own) is e from = grown_stop writes n (is ∙ e) from
+      by BadLists is e from = plain_stop writes n e from
+      by (Fixed slot register) is e from = plain_stop writes n e from
+      by (NoRoom class slot register size alignment) is e from = plain_stop writes n e from
+
+pub settled_growing_is_sound : SettledGrowingIsSound
+settled_growing_is_sound q s writes asked e = ends_sound q s asked writes e
+
+pub settling_growing_can_stop : SettlingGrowingCanStop
+settling_growing_can_stop q s writes n asked e from = stops_sound q s asked writes n e from

@@ -1,0 +1,43 @@
+-- Laws of settling where windows grow: what it comes to is sound, and its writes can stop.
+use Rattle.std.specs.Prelude.{◌≡◌, ℕ, ◌^◌, ◌<◌, ◌≤◌, ◌⊎◌, List, length, take}
+use Rattle.std.specs.List.{Contains}
+use Rattle.pci_spec.specs.System.{System, IsSystem}
+use Rattle.pci_spec.specs.Bus.{IsNested}
+use Rattle.pci_spec.specs.Machine.{Write, system_after}
+use Rattle.pci_spec.specs.Sound.{IsInProfile, HasChains, IsSound}
+use Rattle.settle_spec.specs.Lists.{RootRange, Request}
+use Rattle.settle_spec.specs.Writes.{Settling, Settled, closings}
+use Rattle.settle_spec.specs.Kept.{growing}
+use Rattle.settle_spec.specs.Keeping.Writes.{closings as closings_beside, settle_keeping}
+use Rattle.settle_spec.specs.Growing.{settle_growing}
+
+-- A system is admitted, and lists of prefetchable memory end below 2^64.
+pub record CanBeAsked (q : Request) (s : System) : Type 0 where
+  pub high : (r : RootRange) → Contains q.lists.prefetch r → r.range.last < 2 ^ 64
+  pub system : IsSystem s
+  pub nested : IsNested q.roots s
+  pub profile : IsInProfile q.roots s
+  pub chains : HasChains s
+
+-- What settling comes to is sound.
+abbrev pub SettledGrowingIsSound : Type 0
+SettledGrowingIsSound =
+    (q : Request) (s : System) (writes : List Write) → CanBeAsked q s
+    → settle_growing q s ≡ Settled writes → IsSound q.roots (system_after s writes)
+
+-- the closing writes of settling with windows that grow, where it settles, else of settling without
+abbrev pub closings_by : Settling → List Write → List Write → List Write
+closings_by (Settled writes) own other = own
+closings_by refused own other = other
+
+abbrev pub growing_closings : Request → System → List Write
+growing_closings q s =
+    closings_by (settle_keeping q s (growing q s)) (closings_beside q s (growing q s) s) (closings q s s)
+
+-- The writes can stop anywhere once the closing ones are made, and from a sound start anywhere at all.
+abbrev pub SettlingGrowingCanStop : Type 0
+SettlingGrowingCanStop =
+    (q : Request) (s : System) (writes : List Write) (n : ℕ) → CanBeAsked q s
+    → settle_growing q s ≡ Settled writes
+    → (length (growing_closings q s) ≤ n) ⊎ IsSound q.roots s
+    → IsSound q.roots (system_after s (take n writes))
