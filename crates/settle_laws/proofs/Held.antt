@@ -34,10 +34,10 @@ pub same_itself : (space : Space) → are_same_space space space ≡ true
 same_itself Io = refl
 same_itself Memory = refl
 
-memory_is_not_io : Memory ≡ Io → ⊥
+pub memory_is_not_io : Memory ≡ Io → ⊥
 memory_is_not_io e = both_ways (are_same_space Memory Io) refl (ap (λ x. are_same_space x Io) e)
 
-io_of : (io : Bool) → (if io then Io else Memory) ≡ Io → io ≡ true
+pub io_of : (io : Bool) → (if io then Io else Memory) ≡ Io → io ≡ true
 io_of true e = refl
 io_of false e = absurd (memory_is_not_io e)
 

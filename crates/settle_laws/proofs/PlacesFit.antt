@@ -46,7 +46,7 @@ pub record HasBits (f : Function) (image : List ℕ) : Type 0 where
   pub bits : (place i : ℕ) → place < 256 → i < 8 → in_fields (address_fields f.image f.probe) place i ≡ false → bit_at (byte_at image place) i ≡ bit_at (byte_at f.image place) i
 
 module _ (f : Function) (is : IsImage f.image) where
-  with_fit : (w o v : ℕ) (image : List ℕ) → o + w ≤ 256 → BitsFit f o w v → HasBits f image → HasBits f (with_number w o v image)
+  pub with_fit : (w o v : ℕ) (image : List ℕ) → o + w ≤ 256 → BitsFit f o w v → HasBits f image → HasBits f (with_number w o v image)
   with_fit w o v image room fit h = record {
     whole = with_image w o v image h.whole;
     bits = λ place i inside small plain. elim (cases_lt place o) [
@@ -86,7 +86,7 @@ encoding_width false false true = refl
 encoding_width false false false = refl
 
 -- the registers of a window that ends by the highest address that it can hold are in keeping with their low nibbles
-bounds_kept : (c : WindowKind) (f : Function) (first last : ℕ) → nibble_of c f ≤ 1 → first ≤ last → last ≤ highest_in c f.probe → AreKept c (nibble_of c f) (bounds_for c (nibble_of c f) first last)
+pub bounds_kept : (c : WindowKind) (f : Function) (first last : ℕ) → nibble_of c f ≤ 1 → first ≤ last → last ≤ highest_in c f.probe → AreKept c (nibble_of c f) (bounds_for c (nibble_of c f) first last)
 bounds_kept IoWindow f first last few order low = elim (cases_Bool (is_wide_window IoWindow f.probe)) [
   | inl wide ↦
       let n : nibble_of IoWindow f ≡ 1 = ap (λ t. if t then 1 else 0) wide in

@@ -30,7 +30,7 @@ use Rattle.settle_laws.proofs.Numbers.{with_elsewhere, with_image}
 use Rattle.settle_laws.proofs.PlacesFit.{image_has_bits}
 use Rattle.settle_laws.proofs.Shown.{settled_image_is, settled_off, rom_stays_switched}
 
-readable : (roots : List ℕ) (s : System) → IsInProfile roots s → (f : Function) → Contains s f → IsReadable f
+pub readable : (roots : List ℕ) (s : System) → IsInProfile roots s → (f : Function) → Contains s f → IsReadable f
 readable roots s profile f listed = record {
   decodable = All-contains IsDecodable s f (profile_decodes roots s profile) listed;
   clean = λ offset. false_from_ne_true (is_stray f.image f.probe offset) (λ is. profile (StrayProbe f.slot offset) refl (f, listed, refl, is));
@@ -40,7 +40,7 @@ pub not_header : (bridge : Bool) → list_any (is_in_register 0x0e) (registers_b
 not_header true = refl
 not_header false = refl
 
-rom_high : (f : Function) → 6 ≤ rom_register (layout f.image)
+pub rom_high : (f : Function) → 6 ≤ rom_register (layout f.image)
 rom_high f = elim (rom_at_end f) [ inl e ↦ omega (arith, e) | inr e ↦ omega (arith, e) ]
 
 module _ (q : Request) (s : System) (system : IsSystem s) (profile : IsInProfile q.roots s) (f : Function) (listed : Contains s f) where

@@ -32,7 +32,7 @@ use Rattle.settle_laws.proofs.PartClasses.{prefetch_of_class, space_of_class}
 use Rattle.settle_laws.proofs.SettledMoved.{kind_stays}
 
 -- a window of this class passes what may use it
-passes_by : (c : WindowKind) (space : Space) (prefetchable : Bool) (a : ℕ) (b : Function) → window_space c ≡ space → (c ≡ PrefetchWindow → prefetchable ≡ true) → window_claims b c a ≡ true → passes space prefetchable a b ≡ true
+pub passes_by : (c : WindowKind) (space : Space) (prefetchable : Bool) (a : ℕ) (b : Function) → window_space c ≡ space → (c ≡ PrefetchWindow → prefetchable ≡ true) → window_claims b c a ≡ true → passes space prefetchable a b ≡ true
 passes_by c space prefetchable a b at may h = subst (λ sp. passes sp prefetchable a b ≡ true) at (by c may h)
   where
     by : (c : WindowKind) → (c ≡ PrefetchWindow → prefetchable ≡ true) → window_claims b c a ≡ true → passes (window_space c) prefetchable a b ≡ true

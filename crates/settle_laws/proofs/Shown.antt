@@ -65,7 +65,7 @@ bounds_image MemoryWindow b image is = with_image 2 0x22 b.limit _ (with_image 2
 bounds_image PrefetchWindow b image is = with_image 4 0x2c b.limit_upper _ (with_image 4 0x28 b.base_upper _ (with_image 2 0x26 b.limit _ (with_image 2 0x24 b.base image is)))
 
 -- a byte in none of the registers of bases and limits from 20h on
-past_all : (place : ℕ) → (place < 0x20) ⊎ (0x24 ≤ place) → (place < 0x24) ⊎ (0x28 ≤ place) → (place < 0x28) ⊎ (0x2c ≤ place) → (place < 0x2c) ⊎ (0x30 ≤ place) → (place < 0x30) ⊎ (0x34 ≤ place)
+pub past_all : (place : ℕ) → (place < 0x20) ⊎ (0x24 ≤ place) → (place < 0x24) ⊎ (0x28 ≤ place) → (place < 0x28) ⊎ (0x2c ≤ place) → (place < 0x2c) ⊎ (0x30 ≤ place) → (place < 0x30) ⊎ (0x34 ≤ place)
     → (place < 0x20) ⊎ (0x34 ≤ place)
 past_all place (inl low) b c d e = inl low
 past_all place (inr a) (inl b) c d e = absurd (let no : ⊥ = omega (arith, a, b) in no)
@@ -74,7 +74,7 @@ past_all place (inr a) (inr b) (inr c) (inl d) e = absurd (let no : ⊥ = omega 
 past_all place (inr a) (inr b) (inr c) (inr d) (inl e) = absurd (let no : ⊥ = omega (arith, d, e) in no)
 past_all place (inr a) (inr b) (inr c) (inr d) (inr e) = inr e
 
-bar_in : (bridge : Bool) (n : ℕ) → n < (if bridge then 2 else 6) → Contains (registers_by bridge) (bar_register n, 4)
+pub bar_in : (bridge : Bool) (n : ℕ) → n < (if bridge then 2 else 6) → Contains (registers_by bridge) (bar_register n, 4)
 bar_in true zero inside = (0, omega arith, refl)
 bar_in true (suc zero) inside = (1, omega arith, refl)
 bar_in true (suc (suc n)) inside = absurd (let no : ⊥ = omega (arith, inside) in no)

@@ -47,7 +47,7 @@ use Rattle.settle_laws.proofs.Shown.{IsChanging, IsOff, fold_keeps, either, can_
 use Rattle.settle_laws.proofs.WindowBytes.{IsOf, one_window, window_bytes, bounds_elsewhere, bounds_by_bytes, bounds_shown}
 
 -- what a step sets and no other step takes away is there at the end
-reaches : {A B : Type 0} (I P : A → Type 0) (step : A → B → A) (bs : List B) (b0 : B) → ((b : B) → Contains bs b → (a : A) → I a → I (step a b)) → ((a : A) → I a → P (step a b0))
+pub reaches : {A B : Type 0} (I P : A → Type 0) (step : A → B → A) (bs : List B) (b0 : B) → ((b : B) → Contains bs b → (a : A) → I a → I (step a b)) → ((a : A) → I a → P (step a b0))
     → ((b : B) → Contains bs b → (a : A) → I a → P a → P (step a b)) → (a : A) → I a → Contains bs b0 → P (fold step a bs)
 reaches I P step [] b0 each sets keeps a i has = absurd (in_nil b0 has)
 reaches I P step (b ∷ bs) b0 each sets keeps a i has = elim (in_cons_cases b bs b0 has) [
@@ -78,7 +78,7 @@ rom_or_not (Bar m) = inr (λ e. true≢false (sym (ap is_bar e)))
 rom_or_not Rom = inl refl
 rom_or_not (Window c) = inr (λ e. true≢false (sym (ap is_window e)))
 
-window_or_not : (c : WindowKind) (p : Part) → (Window c ≡ p) ⊎ (Window c ≡ p → ⊥)
+pub window_or_not : (c : WindowKind) (p : Part) → (Window c ≡ p) ⊎ (Window c ≡ p → ⊥)
 window_or_not c (Bar m) = inr (λ e. true≢false (ap is_window e))
 window_or_not c Rom = inr (λ e. true≢false (ap is_window e))
 window_or_not c (Window d) = elim (cases_Bool (same_class c d)) [

@@ -30,13 +30,14 @@ use Rattle.settle_spec.specs.Registers.{with_number, with_bounds, closed_if_open
 use Rattle.settle_spec.specs.Keeping.Registers.{is_same_range, with_kept, shown, settled_image, settled_function, settled_command}
 use Rattle.settle_spec.specs.Writes.{part_registers, differs_at, shut_bounds}
 use Rattle.settle_spec.specs.Keeping.Writes.{changes_at, is_left_on, closing_command, is_replaced, without_window, closed_image, closed_function}
-use Rattle.settle_laws.proofs.Keeping.Held.{and_second_false}
+use Rattle.settle_laws.proofs.Held.{and_second_false}
 use Rattle.settle_laws.proofs.HeaderParts.{part_cases}
 use Rattle.settle_laws.proofs.Images.{same_number}
 use Rattle.settle_laws.proofs.Numbers.{with_elsewhere, with_image, command_with}
 use Rattle.settle_laws.proofs.NumbersPut.{reads_four}
 use Rattle.settle_laws.proofs.Shown.{IsOff, fold_keeps, bounds_image}
-use Rattle.settle_laws.proofs.Keeping.Shown.{IsChanging, either, can_change, changing_is, window_there, can_bar, upper_there, shown_off}
+use Rattle.settle_laws.proofs.Keeping.Shown.{IsChanging, can_change, changing_is, window_there, can_bar, upper_there, shown_off}
+use Rattle.settle_laws.proofs.Shown.{either}
 use Rattle.settle_laws.proofs.Stages.{ShowsSame}
 use Rattle.settle_laws.proofs.WindowBytes.{IsOf, one_window, window_bytes, bounds_elsewhere, bounds_by_bytes, bounds_shown, number_elsewhere}
 use Rattle.settle_laws.proofs.NonePasses.{none_passes}

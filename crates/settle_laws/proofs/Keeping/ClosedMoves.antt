@@ -27,7 +27,7 @@ use Rattle.settle_spec.specs.Keeping.Writes.{is_left_on, closing_command, is_rep
 use Rattle.settle_laws.proofs.Keeping.ClosedImages.{unreplaced_same, closed_elsewhere, closed_device, closed_is, closed_command, closed_base_upper, closed_bounds_are, shut_fits}
 use Rattle.settle_laws.proofs.Numbers.{with_elsewhere, with_image}
 use Rattle.settle_laws.proofs.PlacesFit.{HasBits}
-use Rattle.settle_laws.proofs.Keeping.PlacesFit.{bounds_fit}
+use Rattle.settle_laws.proofs.PlacesFit.{bounds_fit}
 use Rattle.settle_laws.proofs.Keeping.Shown.{settled_image_is, settled_off}
 use Rattle.settle_laws.proofs.Stages.{IsKeptWindow, IsShutWindow}
 use Rattle.settle_laws.proofs.WindowBytes.{IsOf}

@@ -31,7 +31,7 @@ use Rattle.settle_laws.specs.Keeping.PlacesLaws.{CanSettle}
 use Rattle.settle_laws.specs.WriteLaws.{AreLists}
 use Rattle.settle_laws.proofs.BusPlaced.{page_some}
 use Rattle.settle_laws.proofs.HeaderParts.{is_part_of, part_cases}
-use Rattle.settle_laws.proofs.Keeping.Held.{and_second_false}
+use Rattle.settle_laws.proofs.Held.{and_second_false}
 use Rattle.settle_laws.proofs.ItemForms.{IsPlaceable, IsOwnPart, IsNewWindow, extent_by, new_window_power}
 use Rattle.settle_laws.proofs.Keeping.NewPlaces.{new_place_is as place_is}
 use Rattle.settle_laws.proofs.PartClasses.{io_of_class, prefetch_windows}

@@ -27,26 +27,7 @@ use Rattle.settle_laws.proofs.Keeping.Commands.{IsLeftOn, left_parts, left_by}
 use Rattle.settle_laws.proofs.NonePasses.{none_by, none_passes}
 use Rattle.settle_spec.specs.Kept.{Kept}
 use Rattle.settle_laws.proofs.Held.{same_itself}
-
-pub and_second_false : (x y : Bool) → x ≡ true → (x && y) ≡ false → y ≡ false
-and_second_false x y is none = elim (and_cases x y none) [ inl other ↦ absurd (both_ways x other is) | inr second ↦ second ]
-
-memory_is_not_io : Memory ≡ Io → ⊥
-memory_is_not_io e = both_ways (are_same_space Memory Io) refl (ap (λ x. are_same_space x Io) e)
-
-io_of : (io : Bool) → (if io then Io else Memory) ≡ Io → io ≡ true
-io_of true e = refl
-io_of false e = absurd (memory_is_not_io e)
-
--- a BAR that claims an address is implemented
-pub claimed_bar : (f : Function) (n : ℕ) (space : Space) (a : ℕ) → Claims f (Bar n) space a → has_bar f.probe n ≡ true
-claimed_bar f n space a c =
-    let starts = c.decodes.0 in
-    let answers = c.decodes.1 in
-    let k = answers.0 in
-    let P : ℕ → Type 0 = λ m. is_lawful (bar_kind m) (if is_wide m then m + 2 ^ 32 * bar_at f.probe (n + 1) else m) k ≡ true in
-    and_from (starts_bar f.probe n) (not (bar_at f.probe n == 0)) starts
-    (not_from_false (bar_at f.probe n == 0) (false_from_ne_true (bar_at f.probe n == 0) (λ none. not_lawful (bar_kind 0) k (subst P (eqb-true (bar_at f.probe n) 0 none) answers.1))))
+use Rattle.settle_laws.proofs.Held.{and_second_false, claimed_bar, io_of, memory_is_not_io}
 
 module _ (q : Request) (s : System) (k : Kept) where
   -- what a function that isn't shut in a space isn't

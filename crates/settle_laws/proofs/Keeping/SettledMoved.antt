@@ -28,15 +28,7 @@ use Rattle.settle_laws.proofs.Keeping.Shown.{settled_image_is, settled_off}
 use Rattle.settle_spec.specs.Kept.{Kept}
 use Rattle.settle_laws.specs.Keeping.PlacesLaws.{CanSettle}
 use Rattle.settle_laws.proofs.SettledMoved.{not_header}
-
-readable : (roots : List ℕ) (s : System) → IsInProfile roots s → (f : Function) → Contains s f → IsReadable f
-readable roots s profile f listed = record {
-  decodable = All-contains IsDecodable s f (profile_decodes roots s profile) listed;
-  clean = λ offset. false_from_ne_true (is_stray f.image f.probe offset) (λ is. profile (StrayProbe f.slot offset) refl (f, listed, refl, is));
-}
-
-rom_high : (f : Function) → 6 ≤ rom_register (layout f.image)
-rom_high f = elim (rom_at_end f) [ inl e ↦ omega (arith, e) | inr e ↦ omega (arith, e) ]
+use Rattle.settle_laws.proofs.SettledMoved.{readable}
 
 module _ (q : Request) (s : System) (k : Kept) (can : CanSettle q s k) (f : Function) (listed : Contains s f) where
   abbrev g : Function

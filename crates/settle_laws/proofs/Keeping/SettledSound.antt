@@ -31,15 +31,7 @@ use Rattle.settle_laws.proofs.PartClasses.{prefetch_of_class, space_of_class}
 use Rattle.settle_laws.proofs.Keeping.SettledMoved.{kind_stays}
 use Rattle.settle_spec.specs.Kept.{Kept}
 use Rattle.settle_laws.proofs.SettledSound.{no_prefetch, passed_by}
-
--- a window of this class passes what may use it
-passes_by : (c : WindowKind) (space : Space) (prefetchable : Bool) (a : ℕ) (b : Function) → window_space c ≡ space → (c ≡ PrefetchWindow → prefetchable ≡ true) → window_claims b c a ≡ true → passes space prefetchable a b ≡ true
-passes_by c space prefetchable a b at may h = subst (λ sp. passes sp prefetchable a b ≡ true) at (by c may h)
-  where
-    by : (c : WindowKind) → (c ≡ PrefetchWindow → prefetchable ≡ true) → window_claims b c a ≡ true → passes (window_space c) prefetchable a b ≡ true
-    by IoWindow may h = h
-    by MemoryWindow may h = or_left (window_claims b MemoryWindow a) (prefetchable && window_claims b PrefetchWindow a) h
-    by PrefetchWindow may h = or_right (window_claims b MemoryWindow a) (prefetchable && window_claims b PrefetchWindow a) (and_from prefetchable (window_claims b PrefetchWindow a) (may refl) h)
+use Rattle.settle_laws.proofs.SettledSound.{passes_by}
 
 module _ (q : Request) (s : System) (k : Kept) (can : CanSettle q s k) where
   abbrev now : Function → Function

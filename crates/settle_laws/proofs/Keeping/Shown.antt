@@ -29,31 +29,7 @@ use Rattle.settle_laws.proofs.NonePasses.{none_passes, outside}
 use Rattle.settle_spec.specs.Kept.{Kept}
 use Rattle.settle_laws.specs.Keeping.PlacesLaws.{CanSettle}
 use Rattle.settle_laws.proofs.Shown.{IsOff, IsOffWindows, bounds_image, bounds_off, fold_keeps, rom_in}
-
--- a byte in none of the registers of bases and limits from 20h on
-past_all : (place : ℕ) → (place < 0x20) ⊎ (0x24 ≤ place) → (place < 0x24) ⊎ (0x28 ≤ place) → (place < 0x28) ⊎ (0x2c ≤ place) → (place < 0x2c) ⊎ (0x30 ≤ place) → (place < 0x30) ⊎ (0x34 ≤ place)
-    → (place < 0x20) ⊎ (0x34 ≤ place)
-past_all place (inl low) b c d e = inl low
-past_all place (inr a) (inl b) c d e = absurd (let no : ⊥ = omega (arith, a, b) in no)
-past_all place (inr a) (inr b) (inl c) d e = absurd (let no : ⊥ = omega (arith, b, c) in no)
-past_all place (inr a) (inr b) (inr c) (inl d) e = absurd (let no : ⊥ = omega (arith, c, d) in no)
-past_all place (inr a) (inr b) (inr c) (inr d) (inl e) = absurd (let no : ⊥ = omega (arith, d, e) in no)
-past_all place (inr a) (inr b) (inr c) (inr d) (inr e) = inr e
-
-bar_in : (bridge : Bool) (n : ℕ) → n < (if bridge then 2 else 6) → Contains (registers_by bridge) (bar_register n, 4)
-bar_in true zero inside = (0, omega arith, refl)
-bar_in true (suc zero) inside = (1, omega arith, refl)
-bar_in true (suc (suc n)) inside = absurd (let no : ⊥ = omega (arith, inside) in no)
-bar_in false zero inside = (0, omega arith, refl)
-bar_in false (suc zero) inside = (1, omega arith, refl)
-bar_in false (suc (suc zero)) inside = (2, omega arith, refl)
-bar_in false (suc (suc (suc zero))) inside = (3, omega arith, refl)
-bar_in false (suc (suc (suc (suc zero)))) inside = (4, omega arith, refl)
-bar_in false (suc (suc (suc (suc (suc zero))))) inside = (5, omega arith, refl)
-bar_in false (suc (suc (suc (suc (suc (suc n)))))) inside = absurd (let no : ⊥ = omega (arith, inside) in no)
-
-pub either : (P : List ℕ → Type 0) (b : Bool) (x y : List ℕ) → P x → P y → P (cond b x y)
-either P b x y p q = cond_both b x y P (λ e. p) (λ e. q)
+use Rattle.settle_laws.proofs.Shown.{bar_in, either, past_all}
 
 module _ (q : Request) (s : System) (k : Kept) (f : Function) where
   abbrev region : Part → FunctionPart

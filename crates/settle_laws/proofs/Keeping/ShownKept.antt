@@ -24,7 +24,8 @@ use Rattle.settle_laws.proofs.Keeping.PartPlaces.{kept_unplaced}
 use Rattle.settle_laws.proofs.Keeping.SettledMoved.{kind_stays}
 use Rattle.settle_laws.proofs.Shown.{fold_keeps}
 use Rattle.settle_laws.proofs.Keeping.Shown.{IsChanging, changing_is, shown_off}
-use Rattle.settle_laws.proofs.Keeping.ShownParts.{aside, bar_or_not, off_bar, rom_or_not, keeps_whole, keeps_rom, rom_aside, keeps_range, bounds_stay, grown_shown, grown_open}
+use Rattle.settle_laws.proofs.Keeping.ShownParts.{aside, off_bar, keeps_whole, keeps_rom, rom_aside, keeps_range, bounds_stay, grown_shown, grown_open}
+use Rattle.settle_laws.proofs.ShownParts.{bar_or_not, rom_or_not}
 use Rattle.settle_spec.specs.Kept.{Kept}
 use Rattle.pci_spec.specs.Registers.{COMMAND}
 use Rattle.settle_laws.proofs.Numbers.{with_elsewhere}

@@ -37,7 +37,7 @@ use Rattle.settle_laws.specs.Keeping.PlacesLaws.{CanSettle}
 use Rattle.settle_laws.proofs.BarReach.{size_is, top_here, bar_shows, highest_by}
 use Rattle.settle_laws.proofs.Keeping.Fits.{was, decodable, window_there, window_has, size_of_place, bar_room, rom_room, window_room, shown_fit, more_fit, none_fit}
 use Rattle.settle_laws.proofs.HeaderParts.{part_cases, few_bars, rom_at_end, bar_of, rom_of, window_of}
-use Rattle.settle_laws.proofs.Keeping.Held.{and_second_false}
+use Rattle.settle_laws.proofs.Held.{and_second_false}
 use Rattle.settle_laws.proofs.Images.{AgreeAside, same_number, whole_aside, bounds_aside}
 use Rattle.settle_laws.proofs.ItemForms.{IsPlaceable, IsOwnPart, IsNewWindow}
 use Rattle.settle_laws.proofs.Numbers.{with_elsewhere}
@@ -45,51 +45,13 @@ use Rattle.settle_laws.proofs.NumbersPut.{reads_four, reads_low, reads_high}
 use Rattle.settle_laws.proofs.Keeping.PartPlaces.{new_place_is}
 use Rattle.settle_laws.proofs.Keeping.SettledMoved.{kind_stays}
 use Rattle.settle_laws.proofs.Shown.{IsOff, fold_keeps}
-use Rattle.settle_laws.proofs.Keeping.Shown.{IsChanging, either, can_change, changing_is, window_bridge, can_bar, upper_there, shown_off, shown_image, bar_below}
+use Rattle.settle_laws.proofs.Keeping.Shown.{IsChanging, can_change, changing_is, window_bridge, can_bar, upper_there, shown_off, shown_image, bar_below}
+use Rattle.settle_laws.proofs.Shown.{either}
 use Rattle.settle_laws.proofs.WindowBytes.{IsOf, one_window, window_bytes, bounds_elsewhere, bounds_by_bytes, bounds_shown}
 use Rattle.settle_spec.specs.Kept.{Kept}
 use Rattle.settle_laws.proofs.Keeping.Kept.{stays_part, kept_forward}
 use Rattle.settle_laws.proofs.ShownParts.{closed_by, is_bar}
-
--- what a step sets and no other step takes away is there at the end
-reaches : {A B : Type 0} (I P : A → Type 0) (step : A → B → A) (bs : List B) (b0 : B) → ((b : B) → Contains bs b → (a : A) → I a → I (step a b)) → ((a : A) → I a → P (step a b0))
-    → ((b : B) → Contains bs b → (a : A) → I a → P a → P (step a b)) → (a : A) → I a → Contains bs b0 → P (fold step a bs)
-reaches I P step [] b0 each sets keeps a i has = absurd (in_nil b0 has)
-reaches I P step (b ∷ bs) b0 each sets keeps a i has = elim (in_cons_cases b bs b0 has) [
-  | inl here ↦
-      (fold_keeps (λ x. I x × P x) step bs (λ c in_c x both. (each c (in_tail b bs c in_c) x both.0, keeps c (in_tail b bs c in_c) x both.0 both.1)) (step a b)
-      (each b (in_head b bs) a i, subst (λ c. P (step a c)) (sym here) (sets a i))).1
-  | inr later ↦ reaches I P step bs b0 (λ c in_c. each c (in_tail b bs c in_c)) sets (λ c in_c. keeps c (in_tail b bs c in_c)) (step a b) (each b (in_head b bs) a i) later
-]
-
-pub bar_or_not : (n : ℕ) (p : Part) → (Bar n ≡ p) ⊎ (Bar n ≡ p → ⊥)
-bar_or_not n (Bar m) = elim (cases_eq n m) [
-  | inl same ↦ inl (ap Bar same)
-  | inr differ ↦ inr (λ e. differ (ap number e))
-]
-  where
-    number : Part → ℕ
-    number (Bar m) = m
-    number p = n
-bar_or_not n Rom = inr (λ e. true≢false (ap is_bar e))
-bar_or_not n (Window c) = inr (λ e. true≢false (ap is_bar e))
-
-pub rom_or_not : (p : Part) → (Rom ≡ p) ⊎ (Rom ≡ p → ⊥)
-rom_or_not (Bar m) = inr (λ e. true≢false (sym (ap is_bar e)))
-rom_or_not Rom = inl refl
-rom_or_not (Window c) = inr (λ e. true≢false (sym (ap is_window e)))
-
-window_or_not : (c : WindowKind) (p : Part) → (Window c ≡ p) ⊎ (Window c ≡ p → ⊥)
-window_or_not c (Bar m) = inr (λ e. true≢false (ap is_window e))
-window_or_not c Rom = inr (λ e. true≢false (ap is_window e))
-window_or_not c (Window d) = elim (cases_Bool (same_class c d)) [
-  | inl same ↦ inl (ap Window (sym (same_class_is c d same)))
-  | inr differ ↦ inr (λ e. both_ways (same_class c d) differ (ap (same_class c) (sym (ap kind e)) ∙ class_itself c))
-]
-  where
-    kind : Part → WindowKind
-    kind (Window d) = d
-    kind p = c
+use Rattle.settle_laws.proofs.ShownParts.{bar_or_not, reaches, rom_or_not, window_or_not}
 
 size_whole : (c : WindowKind) (first last : ℕ) → first ≤ last → first % page_size c ≡ 0 → (last + 1) % page_size c ≡ 0 → (last + 1 - first) % page_size c ≡ 0
 size_whole IoWindow first last forward from to = omega (arith, forward, from, to)

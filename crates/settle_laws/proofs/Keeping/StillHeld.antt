@@ -20,7 +20,8 @@ use Rattle.settle_laws.proofs.Keeping.ClosedMoves.{kept_window}
 use Rattle.settle_laws.proofs.Keeping.Commands.{left_is_enabled}
 use Rattle.settle_laws.proofs.HeaderParts.{header_of}
 use Rattle.settle_laws.proofs.Held.{claim_on}
-use Rattle.settle_laws.proofs.Keeping.Held.{claimed_bar, held as stays_on}
+use Rattle.settle_laws.proofs.Keeping.Held.{held as stays_on}
+use Rattle.settle_laws.proofs.Held.{claimed_bar}
 use Rattle.settle_laws.proofs.PartClasses.{prefetch_of_class, space_of_class}
 use Rattle.settle_laws.proofs.Keeping.PassedAbove.{passed_above}
 use Rattle.settle_laws.proofs.Keeping.SettledMoved.{new_image, kind_stays}

@@ -25,12 +25,14 @@ use Rattle.settle_laws.proofs.Keeping.Commands.{IsLeftOn, on_closed, left_parts,
 use Rattle.settle_laws.proofs.Keeping.Fits.{was}
 use Rattle.settle_laws.proofs.HeaderParts.{bar_of, rom_of}
 use Rattle.settle_laws.proofs.Held.{same_itself}
-use Rattle.settle_laws.proofs.Keeping.Held.{and_second_false, unshut_parts}
+use Rattle.settle_laws.proofs.Keeping.Held.{unshut_parts}
+use Rattle.settle_laws.proofs.Held.{and_second_false}
 use Rattle.settle_laws.proofs.Images.{same_number}
 use Rattle.settle_laws.proofs.Keeping.SettledMoved.{new_image, kind_stays}
 use Rattle.settle_laws.proofs.Shown.{fold_keeps}
 use Rattle.settle_laws.proofs.Keeping.Shown.{IsChanging, can_change, changing_is}
-use Rattle.settle_laws.proofs.Keeping.ShownParts.{bridge_bar, whole_by_bytes, keeps_rom, rom_aside, rom_or_not}
+use Rattle.settle_laws.proofs.Keeping.ShownParts.{bridge_bar, whole_by_bytes, keeps_rom, rom_aside}
+use Rattle.settle_laws.proofs.ShownParts.{rom_or_not}
 use Rattle.settle_laws.proofs.Stages.{ShowsSame}
 use Rattle.settle_laws.proofs.WindowBytes.{window_bytes}
 use Rattle.settle_laws.proofs.NonePasses.{none_passes}
