@@ -26,7 +26,7 @@ both_some None (Some y) both = absurd both
 both_some (Some x) None both = absurd both
 both_some (Some x) (Some y) both = refl
 
-any_bars : (p r : Part → Bool) → ((n : ℕ) → p (Bar n) ≡ r (Bar n)) → (ns : List ℕ) → list_any p (map Bar ns) ≡ list_any r (map Bar ns)
+pub any_bars : (p r : Part → Bool) → ((n : ℕ) → p (Bar n) ≡ r (Bar n)) → (ns : List ℕ) → list_any p (map Bar ns) ≡ list_any r (map Bar ns)
 any_bars p r same [] = refl
 any_bars p r same (n ∷ ns) = (let here = same n in let rest = any_bars p r same ns in λ i. here i || rest i)
 

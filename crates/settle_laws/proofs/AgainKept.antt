@@ -45,7 +45,7 @@ class_by_windows IoWindow memory prefetch new at windows = absurd (both_ways (ar
 class_by_windows MemoryWindow memory prefetch new at windows = ap (λ m. by_windows false m prefetch new) (windows.plain refl)
 class_by_windows PrefetchWindow memory prefetch new at windows = (let no = windows.apart refl in let is = windows.held refl in λ i. by_windows false (no i) (is i) new)
 
-tests_same : (io prefetchable : Bool) (x y : WindowKind) → (io ≡ false → prefetchable ≡ true → x ≡ y) → by_tests io prefetchable x ≡ by_tests io prefetchable y
+pub tests_same : (io prefetchable : Bool) (x y : WindowKind) → (io ≡ false → prefetchable ≡ true → x ≡ y) → by_tests io prefetchable x ≡ by_tests io prefetchable y
 tests_same true prefetchable x y same = refl
 tests_same false true x y same = same refl refl
 tests_same false false x y same = refl

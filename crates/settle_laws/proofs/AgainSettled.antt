@@ -44,7 +44,7 @@ module _ (q : Request) (s : System) (can : CanSettle q s) where
 
   -- ---- what is left is off, and what got a place is on
 
-  left_off : (f : Function) → Contains s f → has_left q t (now f) ≡ true → is_space_on (now f) Io ≡ false
+  pub left_off : (f : Function) → Contains s f → has_left q t (now f) ≡ true → is_space_on (now f) Io ≡ false
   left_off f listed left = false_from_ne_true (is_space_on (now f) Io) (λ on.
       both_ways (has_left q s f) (not-true (has_left q s f) (enabled_unleft q s f Io (sym (on_now q s can f listed Io) ∙ on))) (left_again q s can f listed ∙ left))
 

@@ -72,7 +72,7 @@ module _ (q : Request) (s : System) (system : IsSystem s) (nested : IsNested q.r
 
   -- ---- nothing is to be placed
 
-  no_items : (keeps : FunctionPart → Bool) → ((r : FunctionPart) → Contains (system_parts q s) r → keeps r ≡ true) → (c : WindowKind) (bus : ℕ) → bus_items q s c keeps (new_window q s c) bus ≡ []
+  pub no_items : (keeps : FunctionPart → Bool) → ((r : FunctionPart) → Contains (system_parts q s) r → keeps r ≡ true) → (c : WindowKind) (bus : ℕ) → bus_items q s c keeps (new_window q s c) bus ≡ []
   no_items keeps each c bus = none_in (bus_items q s c keeps (new_window q s c) bus) (λ i has.
       let is = items_are q s (new_window q s) c keeps bus i has in
       let moves = ap (λ (j : Item). keeps j.region) is.is ∙ item_moves q s (new_window q s) c keeps bus i has in
@@ -99,7 +99,7 @@ module _ (q : Request) (s : System) (system : IsSystem s) (nested : IsNested q.r
       and_true true = refl
       and_true false = refl
 
-  all_hold : (r : FunctionPart) → Contains (system_parts q s) r → has_room_behind q s r ≡ true
+  pub all_hold : (r : FunctionPart) → Contains (system_parts q s) r → has_room_behind q s r ≡ true
   all_hold r listed = sym (holds_alone q s system nested (stands q s) holding r (part_of q s r listed).listed) ∙ all r listed
 
   stays_within : (n : ℕ) (r : FunctionPart) → r.function.slot.bus < n → Contains (system_parts q s) r → stays q s r ≡ true

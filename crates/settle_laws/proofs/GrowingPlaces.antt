@@ -86,7 +86,7 @@ module _ (q : Request) (s : System) (system : IsSystem s) (nested : IsNested q.r
   comes_none f Rom off = refl
   comes_none f (Window c) off = ap (λ b. if b then window_comes_to q s (there q s) c f else None) off
 
-  unstanding : (r : FunctionPart) → Contains s r.function → stands q s r ≡ false → there q s r ≡ None
+  pub unstanding : (r : FunctionPart) → Contains s r.function → stands q s r ≡ false → there q s r ≡ None
   unstanding r listed off = there_beside_all q s system nested r listed ∙ by (length (system_parts q s))
     where
       room : has_room_behind q s r ≡ false

@@ -27,6 +27,7 @@ pub mod Finding
 pub mod Fits
 pub mod Fixed
 pub mod GrowingPlaces
+pub mod GrownAlready
 pub mod HeaderParts
 pub mod Held
 pub mod Images

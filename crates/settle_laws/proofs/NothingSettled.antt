@@ -15,7 +15,7 @@ use Rattle.settle_laws.proofs.AllStand.{all_stay, none_lacks}
 use Rattle.settle_laws.proofs.StandingStart.{start_stays}
 use Rattle.settle_laws.proofs.Unchanged.{no_write}
 
-find_none : {X : Type 0} (test : X → Bool) (xs : List X) → ((x : X) → Contains xs x → test x ≡ false) → find test xs ≡ None
+pub find_none : {X : Type 0} (test : X → Bool) (xs : List X) → ((x : X) → Contains xs x → test x ≡ false) → find test xs ≡ None
 find_none test [] none = refl
 find_none test (x ∷ xs) none = ap (λ b. cond b (Some x) (find test xs)) (none x (in_head x xs)) ∙ find_none test xs (λ y listed. none y (in_tail x xs y listed))
 

@@ -37,7 +37,7 @@ use Rattle.settle_laws.proofs.SettledSound.{passed_by}
 
 -- ---- a part claims its first address
 
-claims_first : (q : Request) (s : System) (f : Function) (p : Part) → IsImage f.image → IsDecodable f → has_part f p ≡ true → is_part q s f p ≡ true → is_space_on f (space_of f p) ≡ true
+pub claims_first : (q : Request) (s : System) (f : Function) (p : Part) → IsImage f.image → IsDecodable f → has_part f p ≡ true → is_part q s f p ≡ true → is_space_on f (space_of f p) ≡ true
     → Claims f p (space_of f p) (range_of f p).first
 claims_first q s f p image fine there part on = claims_at q s f image fine p there part on (range_of f p).first (omega arith, part_order q s f p part)
 

@@ -1,12 +1,14 @@
 -- Where settling ends with writes, lists are good and nothing lacks room; so each stop is sound, with windows that grow and without.
-use Rattle.std.proofs.Common.{◌≡◌, ℕ, ◌≤◌, ◌⊎◌, List, Option, None, Some, Bool, true, false, sym, ◌∙◌, ap, subst, refl, length, take}
+use Rattle.std.proofs.Common.{◌≡◌, ℕ, ◌≤◌, ◌⊎◌, List, [], Option, None, Some, Bool, true, false, sym, ◌∙◌, ap, subst, refl, length, take}
 use Rattle.std.specs.Bool.{if◌then◌else◌}
 use Rattle.std.proofs.lemmas.Bool.{false≢true}
-use Rattle.pci_spec.specs.System.{System}
+use Rattle.pci_spec.specs.System.{System, Io, is_space_on}
+use Rattle.pci_spec.proofs.Members.{in_map_to, IsMade}
+use Rattle.settle_spec.specs.Registers.{settled, settled_function}
 use Rattle.pci_spec.specs.Machine.{Write, system_after}
 use Rattle.pci_spec.specs.Sound.{IsSound}
 use Rattle.settle_spec.specs.Lists.{Request, are_bad_lists}
-use Rattle.settle_spec.specs.Parts.{FunctionPart}
+use Rattle.settle_spec.specs.Parts.{FunctionPart, has_left}
 use Rattle.settle_spec.specs.Stands.{stands}
 use Rattle.settle_spec.specs.Items.{Item, stays}
 use Rattle.settle_spec.specs.Places.{lacking}
@@ -15,11 +17,14 @@ use Rattle.settle_spec.specs.Kept.{Kept, growing}
 use Rattle.settle_spec.specs.Keeping.Places.{lacking as lacking_beside}
 use Rattle.settle_spec.specs.Keeping.Writes.{closings as closings_beside, settle_writes as writes_beside, settle_keeping}
 use Rattle.settle_spec.specs.Growing.{or_else, settle_growing}
-use Rattle.settle_laws.specs.GrowingLaws.{CanBeAsked, closings_by, growing_closings, SettledGrowingIsSound, SettlingGrowingCanStop}
+use Rattle.settle_laws.specs.GrowingLaws.{CanBeAsked, closings_by, growing_closings, SettledGrowingIsSound, SettlingGrowingCanStop, SettlingGrowingAgainWritesNothing}
 use Rattle.settle_laws.specs.PlacesLaws.{CanSettle}
 use Rattle.settle_laws.specs.Keeping.PlacesLaws.{CanSettle as CanSettleBeside}
-use Rattle.settle_laws.proofs.Moves.{new_profile}
+use Rattle.settle_laws.proofs.Moves.{new_profile, new_system}
+use Rattle.settle_laws.proofs.AgainKept.{all_stand}
+use Rattle.settle_laws.proofs.AgainSettled.{left_off}
 use Rattle.settle_laws.proofs.SettledSound.{settled_sound}
+use Rattle.settle_laws.proofs.Keeping.NothingSettled.{nothing_grows, nothing_again}
 use Rattle.settle_laws.proofs.SoundKept.{growing_is_sound}
 use Rattle.settle_laws.proofs.Stopping.{stop_sound, writes_settle}
 use Rattle.settle_laws.proofs.Keeping.SettledSound.{settled_sound as sound_beside}
@@ -124,8 +129,38 @@ module _ (q : Request) (s : System) (asked : CanBeAsked q s) where
       by (Fixed slot register) is e from = plain_stop writes n e from
       by (NoRoom class slot register size alignment) is e from = plain_stop writes n e from
 
+  -- ---- settled again
+
+  plain_again : (writes : List Write) → settle q s ≡ Settled writes → q.anew ≡ false → settle_growing q (system_after s writes) ≡ Settled []
+  plain_again writes e kept =
+      let can = plain_can writes e in
+      subst (λ ws. settle_growing q (system_after s ws) ≡ Settled []) (plain_end writes e).same
+      (subst (λ t. settle_growing q t ≡ Settled []) (sym (writes_settle q s can.system can.profile (new_profile q s can)))
+      (nothing_grows q (settled q s) (new_system q s can) (settled_sound q s can) can.lists (all_stand q s can kept)
+      (λ g has left.
+      let f : IsMade (settled_function q s) s g = in_map_to (settled_function q s) s g has in
+      subst (λ x. is_space_on x Io ≡ false) f.is (left_off q s can f.from f.has (ap (has_left q (settled q s)) f.is ∙ left)))))
+
+  grown_again : (writes : List Write) → settle_keeping q s k ≡ Settled writes → q.anew ≡ false → settle_growing q (system_after s writes) ≡ Settled []
+  grown_again writes e kept =
+      let can = grown_can writes e in
+      subst (λ ws. settle_growing q (system_after s ws) ≡ Settled []) (grown_end writes e).same
+      (subst (λ t. settle_growing q t ≡ Settled []) (sym (settles_beside q s k can)) (nothing_again q s k can kept))
+
+  pub again_nothing : (writes : List Write) → settle_growing q s ≡ Settled writes → q.anew ≡ false → settle_growing q (system_after s writes) ≡ Settled []
+  again_nothing writes e kept = by (settle_keeping q s k) refl e
+    where
+      by : (o : Settling) → settle_keeping q s k ≡ o → or_else o (settle q s) ≡ Settled writes → settle_growing q (system_after s writes) ≡ Settled []
+      by (Settled own) is e = grown_again writes (is ∙ e) kept
+      by BadLists is e = plain_again writes e kept
+      by (Fixed slot register) is e = plain_again writes e kept
+      by (NoRoom class slot register size alignment) is e = plain_again writes e kept
+
 pub settled_growing_is_sound : SettledGrowingIsSound
 settled_growing_is_sound q s writes asked e = ends_sound q s asked writes e
 
 pub settling_growing_can_stop : SettlingGrowingCanStop
 settling_growing_can_stop q s writes n asked e from = stops_sound q s asked writes n e from
+
+pub settling_growing_again_writes_nothing : SettlingGrowingAgainWritesNothing
+settling_growing_again_writes_nothing q s writes asked kept e = again_nothing q s asked writes e kept

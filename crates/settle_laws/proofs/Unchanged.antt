@@ -1,5 +1,5 @@
 -- What is settled already is neither shut nor written.
-use Rattle.std.proofs.Common.{◌≡◌, ℕ, zero, suc, ◌<◌, inl, inr, [], ◌∷◌, ◌++◌, refl, Bool, true, false, cond, ◌&&◌, ◌||◌, not, arith, sym, ◌∙◌, ap, subst, map}
+use Rattle.std.proofs.Common.{◌≡◌, ℕ, zero, suc, ◌<◌, inl, inr, [], ◌∷◌, ◌++◌, refl, Bool, true, false, ◌&&◌, ◌||◌, not, arith, sym, ◌∙◌, ap, subst, map}
 use Rattle.std.specs.Bool.{◌==◌}
 use Rattle.std.specs.List.{Contains, list_all, list_any, flat_map}
 use Rattle.std.proofs.lemmas.Bool.{and_parts, and_from, and_right, or_from, or_left, or_right, cases_Bool, eq-eqb, not_from_true}
@@ -31,7 +31,7 @@ use Rattle.settle_laws.proofs.Shown.{settled_image_is}
 use Rattle.settle_laws.proofs.Unleft.{unleft}
 use Rattle.settle_laws.proofs.NonePasses.{none_by}
 
-fixed_each : (g : Function → Function) (t : System) → map g t ≡ t → (f : Function) → Contains t f → g f ≡ f
+pub fixed_each : (g : Function → Function) (t : System) → map g t ≡ t → (f : Function) → Contains t f → g f ≡ f
 fixed_each g [] e f has = absurd (in_nil f has)
 fixed_each g (x ∷ t) e f has =
     let first : g x ≡ x = cc in

@@ -1,5 +1,5 @@
 -- Laws of settling where windows grow: what it comes to is sound, and its writes can stop.
-use Rattle.std.specs.Prelude.{◌≡◌, ℕ, ◌^◌, ◌<◌, ◌≤◌, ◌⊎◌, List, length, take}
+use Rattle.std.specs.Prelude.{◌≡◌, ℕ, ◌^◌, ◌<◌, ◌≤◌, ◌⊎◌, IsFalse, List, [], length, take}
 use Rattle.std.specs.List.{Contains}
 use Rattle.pci_spec.specs.System.{System, IsSystem}
 use Rattle.pci_spec.specs.Bus.{IsNested}
@@ -41,3 +41,9 @@ SettlingGrowingCanStop =
     → settle_growing q s ≡ Settled writes
     → (length (growing_closings q s) ≤ n) ⊎ IsSound q.roots s
     → IsSound q.roots (system_after s (take n writes))
+
+-- Settled again nothing is written, unless all is placed anew.
+abbrev pub SettlingGrowingAgainWritesNothing : Type 0
+SettlingGrowingAgainWritesNothing =
+    (q : Request) (s : System) (writes : List Write) → CanBeAsked q s → IsFalse q.anew
+    → settle_growing q s ≡ Settled writes → settle_growing q (system_after s writes) ≡ Settled []

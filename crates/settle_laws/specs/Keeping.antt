@@ -1,2 +1,3 @@
+pub mod AgainLaws
 pub mod PlacesLaws
 pub mod SoundLaws

@@ -1,9 +1,14 @@
 //! Laws of settling where windows grow. These functions do nothing: each contract is a law.
 
-ghost use Rattle.settle_laws.specs.GrowingLaws.{SettledGrowingIsSound, SettlingGrowingCanStop};
+ghost use Rattle.settle_laws.specs.GrowingLaws.{SettledGrowingIsSound, SettlingGrowingCanStop, SettlingGrowingAgainWritesNothing};
 
 /// What settling comes to where windows grow is sound, and so is what is left of it wherever its writes may stop.
 pub fn settled_growing_is_sound()
     ensures sound { SettledGrowingIsSound }
     ensures stop { SettlingGrowingCanStop }
+{}
+
+/// What is settled where windows grow is settled again by no write.
+pub fn settling_growing_again_writes_nothing()
+    ensures { SettlingGrowingAgainWritesNothing }
 {}

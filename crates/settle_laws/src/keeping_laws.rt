@@ -1,5 +1,6 @@
 //! Laws of settling beside what is kept. These functions do nothing: each contract is a law.
 
+ghost use Rattle.settle_laws.specs.Keeping.AgainLaws.{SettledPartsStand};
 ghost use Rattle.settle_laws.specs.Keeping.PlacesLaws.{EachBusIsPlaced, PartsGetPlaces, PlacesAreOfOthers, PlacesAreInLists, PlacesAreInWindows, PlacesAreApart};
 ghost use Rattle.settle_laws.specs.Keeping.SoundLaws.{SettledShowsPlaces, SettledOpensPlaces, SettledClosesTheRest, SettlingMoves, SettledIsInProfile, BridgesAreEnabled, SettledIsSound, SettlingCanStop, SettlingSettles};
 
@@ -38,4 +39,9 @@ pub fn settling_is_sound()
     ensures sound { SettledIsSound }
     ensures stop { SettlingCanStop }
     ensures settles { SettlingSettles }
+{}
+
+/// What is settled stands where it is.
+pub fn settled_parts_stand()
+    ensures { SettledPartsStand }
 {}

@@ -59,7 +59,7 @@ no_lower c old last =
     let split = div-add-mod' last (half_size c) in
     omega (arith, split)
 
-grown_holds : (c : WindowKind) (w : Range) (others : List Range) → lies_within w (grown_to c w others) ≡ true
+pub grown_holds : (c : WindowKind) (w : Range) (others : List Range) → lies_within w (grown_to c w others) ≡ true
 grown_holds c w others =
     let page = page_size c in
     let low = fold min w.first (map (λ (r : Range). r.first) others) in

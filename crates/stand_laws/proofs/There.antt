@@ -105,11 +105,11 @@ each_found find taken (i ∷ items) placed all p has = by (find i taken) refl (�
 -- ---- what is there on a bus
 
 pub record IsThereOn (q : Request) (s : System) (there : FunctionPart → Option Range) (test : FunctionPart → Bool) (bus : ℕ) (x : Range) : Type 0 where
-  part : FunctionPart
-  listed : Contains (system_parts q s) part
-  beside : are_siblings q.roots bus part.function.slot.bus ≡ true
-  passes : test part ≡ true
-  is : there part ≡ Some x
+  pub part : FunctionPart
+  pub listed : Contains (system_parts q s) part
+  pub beside : are_siblings q.roots bus part.function.slot.bus ≡ true
+  pub passes : test part ≡ true
+  pub is : there part ≡ Some x
 
 in_range_list : (o : Option Range) (x : Range) → Contains (range_list o) x → o ≡ Some x
 in_range_list None x has = absurd (in_nil x has)

@@ -1,17 +1,16 @@
 -- What claims an address and stays on through settling has bridges above it that stay on.
-use Rattle.std.proofs.Common.{◌≡◌, ℕ, ◌+◌, ◌*◌, ◌^◌, ◌<◌, inl, inr, [], ◌∷◌, refl, Bool, true, false, ◌&&◌, ◌||◌, not, arith, sym, ◌∙◌, ap, subst, map}
+use Rattle.std.proofs.Common.{◌≡◌, ℕ, ◌<◌, inl, inr, [], ◌∷◌, refl, true, false, ◌&&◌, ◌||◌, not, arith, sym, ◌∙◌, ap, map}
 use Rattle.std.specs.Bool.{◌==◌, if◌then◌else◌}
 use Rattle.std.specs.List.{Contains, list_any, filter, range_with_len}
-use Rattle.std.proofs.lemmas.Bool.{and_parts, and_from, and_left, and_cases, or_left, or_right, or_cases, or_parts, or_from, cases_Bool, both_ways, ltb-true, ne_eqb, eqb-true, not-false, not_from_false, false_from_ne_true}
+use Rattle.std.proofs.lemmas.Bool.{and_parts, and_from, and_left, or_left, or_right, or_cases, or_parts, or_from, cases_Bool, both_ways, ltb-true, ne_eqb, not-false, not_from_false, false_from_ne_true}
 use Rattle.std.proofs.lemmas.List.Elements.{Contains-append_left, Contains-append_right}
 use Rattle.pci_spec.specs.Number.{has_bit}
 use Rattle.pci_spec.specs.Header.{layout, bar_count}
-use Rattle.pci_spec.specs.Bar.{bar_at, bar_kind, has_bar, is_io, is_lawful, is_wide, starts_bar}
+use Rattle.pci_spec.specs.Bar.{bar_at, has_bar, is_io}
 use Rattle.pci_spec.specs.Rom.{rom_at, has_rom, rom_is_on}
 use Rattle.pci_spec.specs.Window.{IoWindow, MemoryWindow, PrefetchWindow, has_window}
 use Rattle.pci_spec.specs.System.{System, Function, IsSystem, Space, Io, Memory, Part, Bar, Rom, Window, Claims, is_implemented, is_space_on, is_window, space_of}
 use Rattle.pci_spec.specs.Bus.{IsNested}
-use Rattle.pci_spec.proofs.Absent.{not_lawful}
 use Rattle.pci_spec.proofs.Members.{in_filter_from, in_map_from, in_range_from}
 use Rattle.plan_spec.specs.Plan.{bridges_above, is_io_part}
 use Rattle.plan_spec.proofs.Planning.AboveBuses.{above_to, above_from}

@@ -3,17 +3,17 @@ use Rattle.std.proofs.Common.{◌≡◌, ℕ, suc, ◌+◌, ◌-◌, ◌*◌, �
 use Rattle.std.specs.Bool.{◌==◌, nat_lt, if◌then◌else◌}
 use Rattle.std.specs.Int.{bit_at}
 use Rattle.std.specs.List.{Contains}
-use Rattle.std.proofs.lemmas.Bool.{and_parts, and_from, and_left, cases_Bool, cases_lt, cond_both, both_ways, eqb-true, ne_eqb}
+use Rattle.std.proofs.lemmas.Bool.{and_parts, and_from, and_left, cases_Bool, cond_both, both_ways, eqb-true, ne_eqb}
 use Rattle.std.proofs.lemmas.Nat.{mod_below, shr_split}
-use Rattle.pci_spec.specs.Number.{byte_at, has_bit, IsImage}
+use Rattle.pci_spec.specs.Number.{has_bit}
 use Rattle.pci_spec.specs.Header.{layout, bar_count, bar_register, rom_register}
 use Rattle.pci_spec.specs.Bar.{bar_at, bar_kind, encodings, first_bit, has_bar, is_io, is_wide, starts_bar, type_bits}
 use Rattle.pci_spec.specs.Rom.{has_rom}
-use Rattle.pci_spec.specs.Window.{WindowKind, IoWindow, MemoryWindow, PrefetchWindow, Bounds, bounds_for, closed_bounds, breaks_window_rule, has_window, is_wide_window}
+use Rattle.pci_spec.specs.Window.{WindowKind, bounds_for, closed_bounds, breaks_window_rule, has_window}
 use Rattle.pci_spec.specs.Decoded.{IsDecodable, bar_size, rom_size}
 use Rattle.pci_spec.specs.System.{System, Function, IsFunction, Memory, Part, Bar, Rom, Window, space_of, is_bridge, is_window}
 use Rattle.pci_spec.specs.Bus.{secondary}
-use Rattle.pci_spec.specs.Machine.{in_fields, address_fields, bar_field}
+use Rattle.pci_spec.specs.Machine.{bar_field}
 use Rattle.pci_spec.proofs.Bits.{bit_at-mod}
 use Rattle.pci_spec.proofs.Members.{in_head}
 use Rattle.plan_spec.specs.Plan.{is_open}
@@ -21,9 +21,8 @@ use Rattle.plan_spec.specs.Place.{nibble_of}
 use Rattle.plan_spec.specs.Planning.Showing.{bar_value, rom_value}
 use Rattle.plan_spec.proofs.Planning.BarFits.{bar_register_fits}
 use Rattle.plan_spec.proofs.Planning.BitsFit.{BitsFit, fits_joined}
-use Rattle.plan_spec.proofs.Planning.Registers.{register_bit, datum_bit_at}
 use Rattle.plan_spec.proofs.Planning.RomFits.{rom_there, rom_number_fits}
-use Rattle.plan_spec.proofs.Planning.WindowFits.{AreKept, PartsFit, by_closed, few_nibbles, kept_fit, lawful_nibbles, open_kept, window_fits}
+use Rattle.plan_spec.proofs.Planning.WindowFits.{PartsFit, by_closed, few_nibbles, kept_fit, lawful_nibbles, window_fits}
 use Rattle.settle_spec.specs.FirstPlace.{Extent}
 use Rattle.settle_spec.specs.Lists.{Request}
 use Rattle.settle_spec.specs.Parts.{FunctionPart, addresses, header_parts}
@@ -36,7 +35,6 @@ use Rattle.settle_laws.proofs.BarReach.{lower_fits, upper_fits}
 use Rattle.settle_laws.proofs.HeaderParts.{IsPart, part_cases, few_bars, rom_at_end}
 use Rattle.settle_laws.proofs.NewPlaces.{HasPlace, size_some}
 use Rattle.settle_laws.proofs.Keeping.NewPlaces.{new_place_is}
-use Rattle.settle_laws.proofs.Numbers.{with_elsewhere, with_image, with_inside}
 use Rattle.settle_laws.proofs.RomPlaces.{rom_part}
 use Rattle.settle_laws.proofs.Shown.{fold_keeps}
 use Rattle.settle_laws.proofs.Keeping.Shown.{IsChanging, can_change, changing_is, can_bar, can_rom, window_bridge, window_there, upper_there}

@@ -1,27 +1,22 @@
 -- Where both systems are in the profile, settling moves functions: address bits and Command bits 0 and 1 alone change.
-use Rattle.std.proofs.Common.{◌≡◌, ℕ, ◌+◌, ◌-◌, ◌*◌, ◌%◌, ◌<◌, ◌≤◌, ◌⊎◌, inl, inr, List, refl, false, ◌&&◌, arith, sym, ◌∙◌, ap}
+use Rattle.std.proofs.Common.{◌≡◌, ℕ, ◌+◌, ◌-◌, ◌*◌, ◌%◌, ◌<◌, ◌≤◌, ◌⊎◌, inl, inr, refl, false, ◌&&◌, arith, sym, ◌∙◌, ap}
 use Rattle.std.specs.Bool.{IsFalse, nat_lt, ◌==◌}
 use Rattle.std.specs.Int.{bit_at}
 use Rattle.std.specs.List.{Contains, list_any}
-use Rattle.std.proofs.lemmas.Bool.{cases_lt, false_from_ne_true}
+use Rattle.std.proofs.lemmas.Bool.{cases_lt}
 use Rattle.std.proofs.lemmas.List.Elements.{All-contains}
 use Rattle.pci_spec.specs.Number.{byte_at, IsImage}
 use Rattle.pci_spec.specs.Registers.{COMMAND}
-use Rattle.pci_spec.specs.Header.{command, layout, rom_register, address_registers, is_in_register}
+use Rattle.pci_spec.specs.Header.{command, layout, address_registers, is_in_register}
 use Rattle.pci_spec.specs.System.{System, Function, IsFunction, Io, Memory}
-use Rattle.pci_spec.specs.Sound.{IsInProfile}
-use Rattle.pci_spec.specs.Decoded.{IsDecodable}
-use Rattle.pci_spec.specs.Fault.{StrayProbe, is_stray}
 use Rattle.pci_spec.specs.Machine.{in_fields, address_fields}
 use Rattle.pci_spec.specs.ToldAlike.{IsReadable}
 use Rattle.plan_spec.specs.Plan.{IsMoved}
-use Rattle.plan_spec.proofs.PlanningLaws.{profile_decodes}
 use Rattle.plan_spec.proofs.Planning.CommandFits.{command_fits}
 use Rattle.plan_spec.proofs.Planning.Registers.{register_bit}
 use Rattle.settle_spec.specs.Lists.{Request, are_bad_lists, end_above}
 use Rattle.settle_spec.specs.Keeping.Registers.{settled_image, settled_function, settled_command, is_enabled_in}
 use Rattle.settle_laws.proofs.Keeping.Commands.{settled_is}
-use Rattle.settle_laws.proofs.HeaderParts.{rom_at_end}
 use Rattle.settle_laws.proofs.Numbers.{with_elsewhere, with_image}
 use Rattle.settle_laws.proofs.Keeping.PlacesFit.{image_has_bits}
 use Rattle.settle_laws.proofs.Keeping.Shown.{settled_image_is, settled_off}

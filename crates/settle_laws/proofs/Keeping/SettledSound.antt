@@ -1,11 +1,11 @@
 -- What settling comes to is sound: at most one region claims an address, and each is reached.
-use Rattle.std.proofs.Common.{◌≡◌, ◌&&◌, ℕ, inl, inr, Bool, true, false, refl, sym, ◌∙◌, ap, subst}
+use Rattle.std.proofs.Common.{◌≡◌, ℕ, inl, inr, Bool, true, false, refl, sym, ◌∙◌, ap, subst}
 use Rattle.std.specs.List.{Contains}
-use Rattle.std.proofs.lemmas.Bool.{and_parts, and_from, both_ways, or_left, or_right}
+use Rattle.std.proofs.lemmas.Bool.{and_parts, both_ways}
 use Rattle.pci_spec.specs.Header.{rom_register}
-use Rattle.pci_spec.specs.Window.{WindowKind, IoWindow, MemoryWindow, PrefetchWindow, holds}
+use Rattle.pci_spec.specs.Window.{MemoryWindow, PrefetchWindow, holds}
 use Rattle.pci_spec.specs.Decoded.{InRange}
-use Rattle.pci_spec.specs.System.{System, Function, Space, Part, Bar, Rom, Window, Claims, is_bridge, is_prefetchable_part, is_space_on, is_window, space_of, window_space, window_claims, passes, register_of}
+use Rattle.pci_spec.specs.System.{System, Function, Space, Part, Bar, Rom, Window, Claims, is_bridge, is_prefetchable_part, is_space_on, is_window, space_of, window_space, passes, register_of}
 use Rattle.pci_spec.specs.Bus.{LeadsTo}
 use Rattle.pci_spec.specs.Sound.{IsSingle, IsHome, IsSound}
 use Rattle.pci_spec.proofs.Members.{in_map_to, IsMade}

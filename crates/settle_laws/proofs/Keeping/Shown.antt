@@ -1,5 +1,5 @@
 -- A settled image differs in the bytes of address registers alone, and a ROM stays as it was switched.
-use Rattle.std.proofs.Common.{◌≡◌, ℕ, zero, suc, ◌+◌, ◌/◌, ◌%◌, ◌^◌, ◌<◌, ◌≤◌, ◌⊎◌, inl, inr, List, refl, Bool, true, false, cond, ◌&&◌, ◌||◌, not, Option, None, Some, arith, sym, ◌∙◌, ap, subst, length}
+use Rattle.std.proofs.Common.{◌≡◌, ℕ, suc, ◌+◌, ◌/◌, ◌%◌, ◌^◌, ◌<◌, ◌≤◌, ◌⊎◌, inl, inr, List, refl, Bool, true, false, cond, ◌&&◌, ◌||◌, not, Option, None, Some, arith, sym, ◌∙◌, ap, subst, length}
 use Rattle.std.specs.Bool.{◌==◌, if◌then◌else◌}
 use Rattle.std.specs.Int.{bit_at}
 use Rattle.std.specs.List.{Contains, filter, list_any}

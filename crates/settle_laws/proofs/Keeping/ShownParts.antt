@@ -1,8 +1,8 @@
 -- A settled function shows its new places: each part that has one is there, and a window that has none is closed.
-use Rattle.std.proofs.Common.{◌≡◌, ◌&&◌, ℕ, suc, ◌+◌, ◌-◌, ◌*◌, ◌%◌, ◌^◌, ◌<◌, ◌≤◌, ◌⊎◌, inl, inr, List, [], ◌∷◌, Bool, true, false, cond, not, refl, arith, sym, ◌∙◌, ap, subst, Option, None, Some}
+use Rattle.std.proofs.Common.{◌≡◌, ◌&&◌, ℕ, suc, ◌+◌, ◌-◌, ◌*◌, ◌%◌, ◌^◌, ◌<◌, ◌≤◌, inl, inr, List, Bool, true, false, cond, not, refl, arith, sym, ◌∙◌, ap, subst, Option, None, Some}
 use Rattle.std.specs.Bool.{◌==◌, if◌then◌else◌}
-use Rattle.std.specs.List.{Contains, filter, fold}
-use Rattle.std.proofs.lemmas.Bool.{and_parts, and_from, both_ways, cases_Bool, cases_eq, cases_lt, lt-ltb, not-false, or_left, or_right, true≢false}
+use Rattle.std.specs.List.{Contains, filter}
+use Rattle.std.proofs.lemmas.Bool.{and_parts, and_from, both_ways, cases_Bool, cases_eq, cases_lt, lt-ltb, not-false, or_left, or_right}
 use Rattle.std.proofs.lemmas.Nat.{mod_below, pow_pos}
 use Rattle.std.proofs.Math.Nat.{pow-le-pow_right}
 use Rattle.pci_spec.specs.Number.{byte_at, number_at, lowest_one, IsImage}
@@ -13,18 +13,16 @@ use Rattle.pci_spec.specs.Rom.{has_rom}
 use Rattle.pci_spec.specs.Window.{WindowKind, IoWindow, MemoryWindow, PrefetchWindow, Bounds, bounds_at, bounds_for, closed_bounds, has_window, is_closed, page_size}
 use Rattle.pci_spec.specs.Decoded.{Range, aligned_range, bar_size, rom_size}
 use Rattle.pci_spec.specs.System.{System, Function, Part, Bar, Rom, Window, has_part, is_bridge, is_implemented, is_window}
-use Rattle.pci_spec.proofs.Members.{in_nil, in_cons_cases, in_head, in_tail, in_map_from, in_filter_from}
+use Rattle.pci_spec.proofs.Members.{in_map_from, in_filter_from}
 use Rattle.pci_spec.proofs.Ranges as ranges
-use Rattle.plan_spec.specs.Plan.{is_open, same_class}
+use Rattle.plan_spec.specs.Plan.{is_open}
 use Rattle.plan_spec.specs.Place.{nibble_of, range_from}
 use Rattle.plan_spec.specs.Planning.Layout.{range_of}
 use Rattle.plan_spec.specs.Planning.Showing.{bar_value, rom_value}
 use Rattle.plan_spec.proofs.Planning.BarValues.{rom_shows}
-use Rattle.plan_spec.proofs.Planning.PlacedItems.{same_class_is}
 use Rattle.plan_spec.proofs.Planning.RomFits.{rom_there, rom_number_small}
 use Rattle.plan_spec.proofs.Planning.Shown.{closed_shows}
 use Rattle.plan_spec.proofs.Planning.Shows.{window_shows}
-use Rattle.plan_spec.proofs.Planning.Tables.{class_itself}
 use Rattle.plan_spec.proofs.Planning.WindowFits.{few_nibbles}
 use Rattle.settle_spec.specs.FirstPlace.{Extent}
 use Rattle.settle_spec.specs.Lists.{Request}
@@ -50,7 +48,7 @@ use Rattle.settle_laws.proofs.Shown.{either}
 use Rattle.settle_laws.proofs.WindowBytes.{IsOf, one_window, window_bytes, bounds_elsewhere, bounds_by_bytes, bounds_shown}
 use Rattle.settle_spec.specs.Kept.{Kept}
 use Rattle.settle_laws.proofs.Keeping.Kept.{stays_part, kept_forward}
-use Rattle.settle_laws.proofs.ShownParts.{closed_by, is_bar}
+use Rattle.settle_laws.proofs.ShownParts.{closed_by}
 use Rattle.settle_laws.proofs.ShownParts.{bar_or_not, reaches, rom_or_not, window_or_not}
 
 size_whole : (c : WindowKind) (first last : ℕ) → first ≤ last → first % page_size c ≡ 0 → (last + 1) % page_size c ≡ 0 → (last + 1 - first) % page_size c ≡ 0
