@@ -2,6 +2,7 @@ pub mod After
 pub mod Again
 pub mod AgainKept
 pub mod AgainParts
+pub mod AsItStands
 pub mod BusPlaced
 pub mod Buses
 pub mod Claimed

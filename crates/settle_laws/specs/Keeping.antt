@@ -1,3 +1,4 @@
 pub mod AgainLaws
 pub mod PlacesLaws
 pub mod SoundLaws
+pub mod StandingLaws

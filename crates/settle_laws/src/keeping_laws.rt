@@ -2,6 +2,7 @@
 
 ghost use Rattle.settle_laws.specs.Keeping.AgainLaws.{SettledPartsStand};
 ghost use Rattle.settle_laws.specs.Keeping.PlacesLaws.{EachBusIsPlaced, PartsGetPlaces, PlacesAreOfOthers, PlacesAreInLists, PlacesAreInWindows, PlacesAreApart};
+ghost use Rattle.settle_laws.specs.Keeping.StandingLaws.{SettledIsTheSame, WritesAreTheSame};
 ghost use Rattle.settle_laws.specs.Keeping.SoundLaws.{SettledShowsPlaces, SettledOpensPlaces, SettledClosesTheRest, SettlingMoves, SettledIsInProfile, BridgesAreEnabled, SettledIsSound, SettlingCanStop, SettlingSettles};
 
 /// Where nothing lacks room on the roots, nothing does: each BAR and ROM that is looked at stays or gets a
@@ -44,4 +45,10 @@ pub fn settling_is_sound()
 /// What is settled stands where it is.
 pub fn settled_parts_stand()
     ensures { SettledPartsStand }
+{}
+
+/// Beside what stays as it stands the same is settled as without growth, by the same writes.
+pub fn standing_settles_the_same()
+    ensures settled { SettledIsTheSame }
+    ensures writes { WritesAreTheSame }
 {}

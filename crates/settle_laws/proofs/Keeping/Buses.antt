@@ -39,7 +39,7 @@ module _ (q : Request) (s : System) (k : Kept) where
 
   -- ---- as many buses as there are above one another are enough
 
-  placing_step : (space : Space) (depth bus : ℕ)
+  pub placing_step : (space : Space) (depth bus : ℕ)
       → placing_within q s k space (suc depth) bus ≡ place_each (place_of_item q s k (λ over. placed_of (placing_within q s k space depth over))) (taken_at q s k space bus) (space_items q s k space bus)
   unfolding placing_within
   placing_step space depth bus = refl
