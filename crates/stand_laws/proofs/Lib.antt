@@ -8,5 +8,6 @@ pub mod Reach
 pub mod There
 pub mod ThereApart
 pub mod ThereByBus
+pub mod ThereAlone
 pub mod StandingKept
 pub mod GrowingKept

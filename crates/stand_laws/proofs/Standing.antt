@@ -90,6 +90,7 @@ module _ (q : Request) (s : System) where
 
   pub record IsOfSystem (r : FunctionPart) : Type 0 where
     pub listed : Contains s r.function
+    pub there : Contains (header_parts r.function) r.part
     pub is : is_part q s r.function r.part ≡ true
 
   pub part_of : (r : FunctionPart) → Contains (system_parts q s) r → IsOfSystem r
@@ -98,7 +99,12 @@ module _ (q : Request) (s : System) where
       let f = piece.of in
       let made : IsMade (λ p. record { function = f; part = p }) (parts_of q s f) r = in_map_to (λ p. record { function = f; part = p }) (parts_of q s f) r piece.piece in
       let kept = in_filter_to (is_part q s f) (header_parts f) made.from made.has in
-      subst IsOfSystem made.is record { listed = piece.has; is = kept.1 }
+      subst IsOfSystem made.is record { listed = piece.has; there = kept.0; is = kept.1 }
+
+  pub in_parts : (r : FunctionPart) → Contains s r.function → Contains (header_parts r.function) r.part → is_part q s r.function r.part ≡ true → Contains (system_parts q s) r
+  in_parts r listed there is =
+      in_flat_map_from (function_parts q s) s r.function r listed
+      (in_map_from (λ p. record { function = r.function; part = p }) (parts_of q s r.function) r.part (in_filter_from (is_part q s r.function) (header_parts r.function) r.part there is))
 
   -- an open window is one of them
 

@@ -42,7 +42,7 @@ module _ (q : Request) (s : System) (comes : FunctionPart → Option Range) wher
   irreflexive : (r : FunctionPart) → nat_lt (addresses r).first (addresses r).first ≡ false
   irreflexive r = false_from_ne_true (nat_lt (addresses r).first (addresses r).first) (λ less. let more = ltb-true (addresses r).first (addresses r).first less in let no : ⊥ = omega (arith, more) in no)
 
-  falls : (t r : FunctionPart) → Contains (system_parts q s) t → nat_lt (addresses t).first (addresses r).first ≡ true → place t < place r
+  pub falls : (t r : FunctionPart) → Contains (system_parts q s) t → nat_lt (addresses t).first (addresses r).first ≡ true → place t < place r
   falls t r listed less =
       fewer (λ u. nat_lt (addresses u).first (addresses t).first) (λ u. nat_lt (addresses u).first (addresses r).first) (system_parts q s)
       (λ u earlier.

@@ -11,14 +11,14 @@ use Rattle.pci_spec.specs.Bus.{is_root, secondary, are_siblings, IsNested}
 use Rattle.plan_spec.specs.Plan.{same_class, is_open}
 use Rattle.plan_spec.proofs.Planning.Safe.{slots_of, order_of}
 use Rattle.settle_spec.specs.Lists.{Request}
-use Rattle.settle_spec.specs.Parts.{FunctionPart, system_parts, addresses, class_in, are_same_space}
+use Rattle.settle_spec.specs.Parts.{FunctionPart, system_parts, header_parts, addresses, class_in, are_same_space}
 use Rattle.settle_spec.specs.Stands.{are_beside, window_part, part_space, stands}
 use Rattle.settle_spec.specs.Items.{Item, bus_items, new_window, has_room_behind}
 use Rattle.settle_spec.specs.Reach.{reach}
 use Rattle.settle_spec.specs.Growth.{place_around, place_each, grown_around, range_list, there_on, taken_around, window_comes_to, part_comes_to, is_clear, there_if, there_beside, there_within, there, comes_to}
 use Rattle.settle_spec.proofs.Nested.{at_secondary, is_no_root, on_it}
 use Rattle.stand_laws.specs.There.{height}
-use Rattle.stand_laws.proofs.Holding.{pieces_same, items_same}
+use Rattle.stand_laws.proofs.Holding.{pieces_same, items_same_on}
 use Rattle.stand_laws.proofs.Standing.{part_of, stands_by_itself}
 use Rattle.stand_laws.proofs.There.{beside_zero, beside_next, within_next}
 use Rattle.stand_laws.proofs.ThereApart.{if_same, enough, few}
@@ -26,26 +26,26 @@ use Rattle.stand_laws.proofs.ThereApart.{if_same, enough, few}
 module _ (q : Request) (s : System) where
   -- ---- what a window comes to is told by what is there on the bus behind it
 
-  module _ (one other : FunctionPart → Option Range) (bus : ℕ) (same : (t : FunctionPart) → Contains s t.function → are_siblings q.roots bus t.function.slot.bus ≡ true → one t ≡ other t) where
+  module _ (one other : FunctionPart → Option Range) (bus : ℕ) (same : (t : FunctionPart) → Contains s t.function → Contains (header_parts t.function) t.part → are_siblings q.roots bus t.function.slot.bus ≡ true → one t ≡ other t) where
     abbrev piece : (FunctionPart → Bool) → (FunctionPart → Option Range) → FunctionPart → List Range
     piece test there r = if are_siblings q.roots bus r.function.slot.bus && test r then range_list (there r) else []
 
     on_same : (test : FunctionPart → Bool) → there_on q s one test bus ≡ there_on q s other test bus
-    on_same test = pieces_same (piece test one) (piece test other) (system_parts q s) (λ r listed. of r (part_of q s r listed).listed)
+    on_same test = pieces_same (piece test one) (piece test other) (system_parts q s) (λ r listed. let is = part_of q s r listed in of r is.listed is.there)
       where
-        of : (r : FunctionPart) → Contains s r.function → piece test one r ≡ piece test other r
-        of r in_r = elim (cases_Bool (are_siblings q.roots bus r.function.slot.bus)) [
-          | inl beside ↦ ap (λ o. if are_siblings q.roots bus r.function.slot.bus && test r then range_list o else []) (same r in_r beside)
+        of : (r : FunctionPart) → Contains s r.function → Contains (header_parts r.function) r.part → piece test one r ≡ piece test other r
+        of r in_r there = elim (cases_Bool (are_siblings q.roots bus r.function.slot.bus)) [
+          | inl beside ↦ ap (λ o. if are_siblings q.roots bus r.function.slot.bus && test r then range_list o else []) (same r in_r there beside)
           | inr apart ↦ ap (λ b. if b && test r then range_list (one r) else []) apart ∙ sym (ap (λ b. if b && test r then range_list (other r) else []) apart)
         ]
 
-  comes_same : (one other : FunctionPart → Option Range) (c : WindowKind) (b : Function) → ((t : FunctionPart) → Contains s t.function → are_siblings q.roots (secondary b) t.function.slot.bus ≡ true → one t ≡ other t)
+  comes_same : (one other : FunctionPart → Option Range) (c : WindowKind) (b : Function) → ((t : FunctionPart) → Contains s t.function → Contains (header_parts t.function) t.part → are_siblings q.roots (secondary b) t.function.slot.bus ≡ true → one t ≡ other t)
       → window_comes_to q s one c b ≡ window_comes_to q s other c b
   comes_same one other c b same =
       ap (λ xs. grown_around c w xs (taken_around q s one c b)) (on_same one other (secondary b) same of_class)
       ∙ ap (λ xs. grown_around c w (there_on q s other of_class (secondary b)) (place_each find xs (items one))) (on_same one other (secondary b) same of_space)
       ∙ ap (λ is. grown_around c w (there_on q s other of_class (secondary b)) (place_each find (there_on q s other of_space (secondary b)) is))
-      (items_same q s (λ r. is_some (one r)) (λ r. is_some (other r)) (secondary b) c (λ t listed beside class. ap is_some (same t listed beside)))
+      (items_same_on q s (λ r. is_some (one r)) (λ r. is_some (other r)) (secondary b) c (λ t listed there beside class. ap is_some (same t listed there beside)))
     where
       w : Range
       w = addresses (window_part c b)
@@ -64,14 +64,14 @@ module _ (q : Request) (s : System) where
 
   -- ---- buses of one height: all roots are one
 
-  height_low : (f : Function) → height q f.slot.bus ≤ f.slot.bus
+  pub height_low : (f : Function) → height q f.slot.bus ≤ f.slot.bus
   height_low f = by (is_root q.roots f.slot.bus)
     where
       by : (root : Bool) → (if root then 0 else f.slot.bus) ≤ f.slot.bus
       by true = omega arith
       by false = omega arith
 
-  beside_height : (u r : FunctionPart) → are_beside q u r ≡ true → height q u.function.slot.bus ≡ height q r.function.slot.bus
+  pub beside_height : (u r : FunctionPart) → are_beside q u r ≡ true → height q u.function.slot.bus ≡ height q r.function.slot.bus
   beside_height u r beside =
       elim (or_cases (u.function.slot.bus == r.function.slot.bus) (is_root q.roots u.function.slot.bus && is_root q.roots r.function.slot.bus) (and_parts (are_siblings q.roots u.function.slot.bus r.function.slot.bus) (are_same_space (part_space u) (part_space r)) beside).0) [
         | inl same ↦ ap (height q) (eqb-true u.function.slot.bus r.function.slot.bus same)
@@ -84,7 +84,7 @@ module _ (q : Request) (s : System) where
     bridge_of : (g : Function) (k : WindowKind) → is_open g k ≡ true → is_bridge g ≡ true
     bridge_of g k opens = (and_parts (is_bridge g) _ (and_parts _ _ opens).0).0
 
-    part_same : (one other : FunctionPart → Option Range) (f : Function) (p : Part) → Contains s f → ((t : FunctionPart) → Contains s t.function → height q f.slot.bus < height q t.function.slot.bus → one t ≡ other t)
+    pub part_same : (one other : FunctionPart → Option Range) (f : Function) (p : Part) → Contains s f → ((t : FunctionPart) → Contains s t.function → Contains (header_parts t.function) t.part → height q f.slot.bus < height q t.function.slot.bus → one t ≡ other t)
         → part_comes_to q s one f p ≡ part_comes_to q s other f p
     part_same one other f (Bar n) listed same = refl
     part_same one other f Rom listed same = refl
@@ -92,13 +92,13 @@ module _ (q : Request) (s : System) where
       | inl stand ↦
           let bridge = bridge_of f c ((stands_by_itself q s nested).only (window_part c f) listed stand) in
           ap (λ o. if stands q s (window_part c f) then o else None)
-          (comes_same one other c f (λ t in_t beside.
+          (comes_same one other c f (λ t in_t there beside.
           let on = on_it q.roots s system nested f t.function.slot.bus listed bridge beside in
           let off = false_from_ne_true (is_root q.roots t.function.slot.bus) (is_no_root q.roots s system nested f t.function.slot.bus listed bridge (at_secondary q.roots s system nested f t.function.slot.bus listed bridge on)) in
           let high : height q t.function.slot.bus ≡ t.function.slot.bus = ap (λ b. if b then 0 else t.function.slot.bus) off in
           let up = order_of q.roots s nested f listed bridge in
           let low = height_low f in
-          same t in_t (omega (arith, up, on, low, high))))
+          same t in_t there (omega (arith, up, on, low, high))))
       | inr off ↦ ap (λ b. if b then window_comes_to q s one c f else None) off ∙ sym (ap (λ b. if b then window_comes_to q s other c f else None) off)
     ]
 
@@ -124,7 +124,7 @@ module _ (q : Request) (s : System) where
     deep (suc d) (suc e) r listed hd he =
         within_next q s d r
         ∙ beside_same (comes d) (comes e) (height q r.function.slot.bus) (λ t in_t at.
-        part_same (there_within q s d) (there_within q s e) t.function t.part in_t (λ u in_u up. deep d e u in_u (omega (arith, hd, at, up)) (omega (arith, he, at, up))))
+        part_same (there_within q s d) (there_within q s e) t.function t.part in_t (λ u in_u there up. deep d e u in_u (omega (arith, hd, at, up)) (omega (arith, he, at, up))))
         (length (system_parts q s)) r listed refl
         ∙ sym (within_next q s e r)
 
@@ -132,7 +132,7 @@ module _ (q : Request) (s : System) where
     there_beside_all r listed =
         within_next q s 255 r
         ∙ beside_same (comes 255) (comes_to q s) (height q r.function.slot.bus) (λ t in_t at.
-        part_same (there_within q s 255) (there q s) t.function t.part in_t (λ u in_u up. deep 255 256 u in_u (omega (arith, up)) (omega (arith, up))))
+        part_same (there_within q s 255) (there q s) t.function t.part in_t (λ u in_u there up. deep 255 256 u in_u (omega (arith, up)) (omega (arith, up))))
         (length (system_parts q s)) r listed refl
 
     -- The law: what is there tells itself.

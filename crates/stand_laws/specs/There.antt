@@ -1,6 +1,7 @@
 -- Laws of what is there where windows grow: it stands, in its reach, and a window holds what is there behind it.
-use Rattle.std.specs.Prelude.{◌≡◌, ◌≢◌, ℕ, ◌<◌, Bool, if◌then◌else◌, IsTrue, Some}
+use Rattle.std.specs.Prelude.{◌≡◌, ◌≢◌, ℕ, ◌<◌, Bool, if◌then◌else◌, IsTrue, Option, Some}
 use Rattle.std.specs.List.{Contains}
+use Rattle.std.specs.Option.{is_some}
 use Rattle.pci_spec.specs.Window.{WindowKind}
 use Rattle.pci_spec.specs.Decoded.{Range}
 use Rattle.pci_spec.specs.System.{System, Function, IsSystem, Part, Window}
@@ -11,7 +12,7 @@ use Rattle.settle_spec.specs.Parts.{FunctionPart, system_parts, addresses, lies_
 use Rattle.settle_spec.specs.Stands.{rank, are_beside, window_part, stands}
 use Rattle.settle_spec.specs.Items.{Item, bus_items, new_window}
 use Rattle.settle_spec.specs.Reach.{reach}
-use Rattle.settle_spec.specs.Growth.{there_if, there, comes_to}
+use Rattle.settle_spec.specs.Growth.{part_comes_to, there_if, there, comes_to}
 use Rattle.stand_laws.specs.Reach.{WindowsAreLow}
 
 -- each item has an alignment
@@ -55,6 +56,18 @@ abbrev pub ThereByBus : Type 0
 ThereByBus =
     (q : Request) (s : System) (r : FunctionPart) → IsSystem s → IsNested q.roots s
     → Contains (system_parts q s) r → there q s r ≡ there_if q s (comes_to q s) (there q s) r
+
+-- what is told of each part follows so from what is told of others, and of what doesn't stand nothing is told
+pub record TellsThere (q : Request) (s : System) (told : FunctionPart → Option Range) : Type 0 where
+  pub each : (r : FunctionPart) → Contains (system_parts q s) r
+      → told r ≡ there_if q s (λ t. part_comes_to q s told t.function t.part) told r
+  pub only : (r : FunctionPart) → Contains s r.function → IsTrue (is_some (told r)) → IsTrue (stands q s r)
+
+-- Nothing else tells so.
+abbrev pub ThereAlone : Type 0
+ThereAlone =
+    (q : Request) (s : System) (told : FunctionPart → Option Range) → IsSystem s → IsNested q.roots s
+    → TellsThere q s told → (r : FunctionPart) → Contains (system_parts q s) r → told r ≡ there q s r
 
 -- What a window comes to holds all of its class that is there behind it.
 abbrev pub ComesToHoldWhatIsThere : Type 0

@@ -1,7 +1,7 @@
 //! Laws of windows that grow. These functions do nothing: each contract is a law.
 
 ghost use Rattle.stand_laws.specs.Reach.{ReachesAreAround, ReachesNest, ReachesAreOff};
-ghost use Rattle.stand_laws.specs.There.{ThereIsInReach, ThereIsApart, ThereByBus, ComesToHoldWhatIsThere};
+ghost use Rattle.stand_laws.specs.There.{ThereIsInReach, ThereIsApart, ThereByBus, ThereAlone, ComesToHoldWhatIsThere};
 
 /// The reach of a window that stands is pages around it, in that of the window above, off what stands beside it.
 pub fn reaches_are_around_windows()
@@ -17,7 +17,8 @@ pub fn what_is_there_is_in_reach()
     ensures holds { ComesToHoldWhatIsThere }
 {}
 
-/// What is there is told bus by bus, and on a bus part by part.
+/// What is there is told bus by bus, and on a bus part by part, and by nothing else.
 pub fn what_is_there_is_told_by_bus()
-    ensures { ThereByBus }
+    ensures bus { ThereByBus }
+    ensures alone { ThereAlone }
 {}
