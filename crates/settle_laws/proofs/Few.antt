@@ -1,5 +1,5 @@
 -- How many writes of settling are made to one slot.
-use Rattle.std.proofs.Common.{◌≡◌, ℕ, suc, ◌+◌, ◌≤◌, inl, inr, List, [], ◌∷◌, ◌++◌, refl, Bool, true, false, cond, arith, sym, ◌∙◌, ap, length, ◌-◌}
+use Rattle.std.proofs.Common.{◌≡◌, ℕ, suc, ◌+◌, ◌≤◌, inl, inr, List, [], ◌∷◌, ◌++◌, refl, Bool, true, false, cond, arith, sym, ◌∙◌, ap, length}
 use Rattle.std.specs.Bool.{◌==◌, if◌then◌else◌, nat_lt}
 use Rattle.std.specs.List.{AllPairs, Contains, count_by, flat_map}
 use Rattle.std.proofs.lemmas.Bool.{cases_Bool}
@@ -7,7 +7,7 @@ use Rattle.std.proofs.lemmas.List.{length-append}
 use Rattle.std.proofs.lemmas.List.Sums.{sum_by-append, sum_by-cons, count_by-le-length}
 use Rattle.pci_spec.specs.Number.{number_at}
 use Rattle.pci_spec.specs.Slot.{Slot, same_slot, slot_number}
-use Rattle.pci_spec.specs.Header.{layout, registers_by}
+use Rattle.pci_spec.specs.Header.{registers_by}
 use Rattle.pci_spec.specs.System.{System, Function, IsSystem, is_bridge}
 use Rattle.pci_spec.specs.Machine.{Write}
 use Rattle.pci_spec.proofs.Members.{in_nil, in_cons_cases, in_head, in_tail, pairs_head, pairs_tail, IsInPiece, in_flat_map_to}

@@ -1,5 +1,5 @@
 -- Where windows grow, a window that stays has the places for which it grows, or those in it as it stands.
-use Rattle.std.proofs.Common.{◌≡◌, ℕ, zero, suc, ◌+◌, ◌-◌, ◌<◌, ◌≤◌, inl, inr, List, [], ◌++◌, map, length, Option, None, Some, Bool, true, false, ◌&&◌, ◌||◌, arith, sym, ◌∙◌, ap, subst, refl}
+use Rattle.std.proofs.Common.{◌≡◌, ℕ, ◌+◌, ◌-◌, ◌<◌, ◌≤◌, inl, inr, List, [], ◌++◌, map, Option, None, Some, Bool, true, false, ◌&&◌, ◌||◌, arith, sym, ◌∙◌, ap, subst, refl}
 use Rattle.std.specs.Bool.{nat_lt, if◌then◌else◌}
 use Rattle.std.specs.List.{Contains, AllPairs}
 use Rattle.std.specs.Option.{is_some}
@@ -7,7 +7,7 @@ use Rattle.std.proofs.lemmas.Bool.{cases_Bool, false≢true, both_ways, and_righ
 use Rattle.std.proofs.lemmas.List.Elements.{Contains-append_right}
 use Rattle.pci_spec.specs.Window.{WindowKind}
 use Rattle.pci_spec.specs.Decoded.{Range}
-use Rattle.pci_spec.specs.System.{System, Function, IsSystem, Part, Bar, Rom, Window, is_bridge, window_space}
+use Rattle.pci_spec.specs.System.{System, Function, IsSystem, is_bridge, window_space}
 use Rattle.pci_spec.specs.Bus.{secondary, are_siblings, IsNested}
 use Rattle.pci_spec.proofs.Members.{in_head, in_map_from}
 use Rattle.plan_spec.specs.Plan.{same_class}
@@ -20,7 +20,7 @@ use Rattle.settle_spec.specs.Items.{Item, Placed, Placing, AllPlaced, Lacks, tak
 use Rattle.settle_spec.specs.Places.{placed_of, place_among}
 use Rattle.settle_spec.specs.PlacingLaws.{HasOtherRank}
 use Rattle.settle_spec.specs.Reach.{reach}
-use Rattle.settle_spec.specs.Growth.{place_around, place_each, grown_to, grown_around, there_on, taken_around, window_comes_to, part_comes_to, is_clear, there_beside, there, comes_to, takes, has_grown}
+use Rattle.settle_spec.specs.Growth.{place_around, place_each, grown_to, grown_around, there_on, taken_around, window_comes_to, there, comes_to, takes, has_grown}
 use Rattle.settle_spec.specs.Kept.{is_kept, stays_growing, range_growing, place_of, place_in, growing}
 use Rattle.settle_spec.specs.Keeping.Places.{taken_at}
 use Rattle.settle_spec.proofs.FirstPlace.{in_is}
@@ -33,8 +33,8 @@ use Rattle.stand_laws.proofs.GrowingKept.{taking, growing_stands, grown_takes, g
 use Rattle.stand_laws.proofs.Holding.{items_same_on}
 use Rattle.stand_laws.proofs.Reach.{some_is}
 use Rattle.stand_laws.proofs.Standing.{window_listed, stands_by_itself}
-use Rattle.stand_laws.proofs.There.{stands_where_holds, beside_zero, beside_next, there_on_from}
-use Rattle.stand_laws.proofs.ThereByBus.{there_beside_all}
+use Rattle.stand_laws.proofs.There.{there_on_from}
+use Rattle.stand_laws.proofs.ThereAlone.{unstanding}
 use Rattle.settle_laws.specs.KeptLaws.{IsAside, IsAlikeIn, HavePlaces, IsGrown}
 use Rattle.settle_laws.proofs.EachPlaced.{IsFreeAt, AreFree, each_free, looked_up, among_is}
 use Rattle.settle_laws.proofs.Held.{same_itself}
@@ -80,25 +80,6 @@ off_aside r t size a from to (inl under) = inr (omega (arith, from, under))
 off_aside r t size a from to (inr over) = inl (omega (arith, to, over))
 
 module _ (q : Request) (s : System) (system : IsSystem s) (nested : IsNested q.roots s) where
-  -- what doesn't stand isn't there
-  comes_none : (f : Function) (p : Part) → stands q s (record { function = f; part = p }) ≡ false → part_comes_to q s (there q s) f p ≡ None
-  comes_none f (Bar n) off = refl
-  comes_none f Rom off = refl
-  comes_none f (Window c) off = ap (λ b. if b then window_comes_to q s (there q s) c f else None) off
-
-  pub unstanding : (r : FunctionPart) → Contains s r.function → stands q s r ≡ false → there q s r ≡ None
-  unstanding r listed off = there_beside_all q s system nested r listed ∙ by (length (system_parts q s))
-    where
-      room : has_room_behind q s r ≡ false
-      room = false_from_ne_true (has_room_behind q s r) (λ holds. both_ways (stands q s r) off (stands_where_holds q s r holds))
-
-      by : (n : ℕ) → there_beside q s (comes_to q s) n r ≡ None
-      by zero = beside_zero q s (comes_to q s) r
-      by (suc n) =
-          beside_next q s (comes_to q s) n r
-          ∙ ap (λ o. if is_clear q s (there_beside q s (comes_to q s) n) r o then o else if has_room_behind q s r then Some (addresses r) else None) (comes_none r.function r.part off)
-          ∙ ap (λ b. if b then Some (addresses r) else None) room
-
   -- ---- what stays behind a window that stays
 
   module _ (c : WindowKind) (b : Function) (listed : Contains s b) (bridge : is_bridge b ≡ true) (keeps : stays_growing q s (window_part c b) ≡ true) where
@@ -179,7 +160,7 @@ module _ (q : Request) (s : System) (system : IsSystem s) (nested : IsNested q.r
             ]
         | inr off ↦
             false_from_ne_true (is_kept q s t) (λ kept. both_ways (stands q s t) off (kept_stands q s t kept))
-            ∙ sym (ap is_some (unstanding t in_t off))
+            ∙ sym (ap is_some (unstanding q s system nested t in_t off))
       ]
         where
           by : (o : Option Range) → there q s t ≡ o → Contains (system_parts q s) t → is_kept q s t ≡ false → is_some o ≡ false

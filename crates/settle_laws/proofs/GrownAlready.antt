@@ -28,8 +28,8 @@ use Rattle.stand_laws.proofs.Holding.{items_same_on}
 use Rattle.stand_laws.proofs.Reach.{some_is}
 use Rattle.stand_laws.proofs.Standing.{part_of, stands_by_itself}
 use Rattle.stand_laws.proofs.There.{there_on_gives}
+use Rattle.stand_laws.proofs.ThereAlone.{unstanding}
 use Rattle.settle_laws.proofs.AllStand.{no_items, all_hold}
-use Rattle.settle_laws.proofs.GrowingPlaces.{unstanding}
 use Rattle.settle_laws.proofs.Kept.{in_regions, off_roots}
 
 -- one that holds nothing outside comes to itself
