@@ -1,12 +1,12 @@
 -- Laws of settling where windows grow: what it comes to is sound, and its writes can stop.
-use Rattle.std.specs.Prelude.{◌≡◌, ℕ, ◌^◌, ◌<◌, ◌≤◌, ◌⊎◌, IsFalse, List, [], length, take}
+use Rattle.std.specs.Prelude.{◌≡◌, ℕ, ◌^◌, ◌<◌, ◌≤◌, ◌⊎◌, IsTrue, IsFalse, List, [], length, take}
 use Rattle.std.specs.List.{Contains}
 use Rattle.pci_spec.specs.System.{System, IsSystem}
 use Rattle.pci_spec.specs.Bus.{IsNested}
 use Rattle.pci_spec.specs.Machine.{Write, system_after}
 use Rattle.pci_spec.specs.Sound.{IsInProfile, HasChains, IsSound}
 use Rattle.settle_spec.specs.Lists.{RootRange, Request}
-use Rattle.settle_spec.specs.Writes.{Settling, Settled, closings}
+use Rattle.settle_spec.specs.Writes.{Settling, Settled, closings, settle}
 use Rattle.settle_spec.specs.Kept.{growing}
 use Rattle.settle_spec.specs.Keeping.Writes.{closings as closings_beside, settle_keeping}
 use Rattle.settle_spec.specs.Growing.{settle_growing}
@@ -41,6 +41,10 @@ SettlingGrowingCanStop =
     → settle_growing q s ≡ Settled writes
     → (length (growing_closings q s) ≤ n) ⊎ IsSound q.roots s
     → IsSound q.roots (system_after s (take n writes))
+
+-- Where all is placed anew no window grows.
+abbrev pub AnewNothingGrows : Type 0
+AnewNothingGrows = (q : Request) (s : System) → IsTrue q.anew → settle_growing q s ≡ settle q s
 
 -- Settled again nothing is written, unless all is placed anew.
 abbrev pub SettlingGrowingAgainWritesNothing : Type 0

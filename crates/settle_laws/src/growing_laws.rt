@@ -1,6 +1,6 @@
 //! Laws of settling where windows grow. These functions do nothing: each contract is a law.
 
-ghost use Rattle.settle_laws.specs.GrowingLaws.{SettledGrowingIsSound, SettlingGrowingCanStop, SettlingGrowingAgainWritesNothing};
+ghost use Rattle.settle_laws.specs.GrowingLaws.{SettledGrowingIsSound, SettlingGrowingCanStop, AnewNothingGrows, SettlingGrowingAgainWritesNothing};
 
 /// What settling comes to where windows grow is sound, and so is what is left of it wherever its writes may stop.
 pub fn settled_growing_is_sound()
@@ -11,4 +11,9 @@ pub fn settled_growing_is_sound()
 /// What is settled where windows grow is settled again by no write.
 pub fn settling_growing_again_writes_nothing()
     ensures { SettlingGrowingAgainWritesNothing }
+{}
+
+/// Where all is placed anew no window grows.
+pub fn nothing_grows_anew()
+    ensures { AnewNothingGrows }
 {}

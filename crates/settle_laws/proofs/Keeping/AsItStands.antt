@@ -1,16 +1,16 @@
--- Settling beside what stays as it stands is settling.
-use Rattle.std.proofs.Common.{◌≡◌, ℕ, zero, suc, ◌+◌, inl, inr, List, [], ◌∷◌, ◌++◌, map, Option, None, Some, Bool, true, false, cond, ◌&&◌, ◌||◌, not, ap, sym, ◌∙◌, refl}
+-- Settling beside what stays as it stands is settling; so is settling where windows grow, if all is placed anew.
+use Rattle.std.proofs.Common.{◌≡◌, ℕ, zero, suc, ◌+◌, inl, inr, List, [], ◌∷◌, ◌++◌, length, map, Option, None, Some, Bool, true, false, cond, ◌&&◌, ◌||◌, not, ap, sym, ◌∙◌, refl}
 use Rattle.std.specs.Bool.{◌==◌, if◌then◌else◌}
-use Rattle.std.specs.List.{Contains, flat_map, fold, list_any}
+use Rattle.std.specs.List.{Contains, filter, flat_map, fold, list_any}
 use Rattle.std.specs.Option.{is_some}
 use Rattle.std.proofs.Math.Path.{fun_ext}
-use Rattle.std.proofs.lemmas.Bool.{and_from, and_right, cases_Bool, eq-eqb, or_parts}
+use Rattle.std.proofs.lemmas.Bool.{and_from, and_parts, and_right, both_ways, cases_Bool, eq-eqb, false_from_ne_true, or_parts}
 use Rattle.pci_spec.specs.Registers.{COMMAND}
 use Rattle.pci_spec.specs.Header.{command}
 use Rattle.pci_spec.specs.Window.{WindowKind, IoWindow, MemoryWindow, PrefetchWindow, bounds_at}
 use Rattle.pci_spec.specs.Decoded.{Range}
 use Rattle.pci_spec.specs.System.{System, Function, Space, Io, Memory, Part, Window, is_bridge, is_space_on, is_window, has_part, space_of}
-use Rattle.pci_spec.specs.Bus.{is_root, secondary}
+use Rattle.pci_spec.specs.Bus.{is_root, are_siblings, secondary}
 use Rattle.pci_spec.specs.Machine.{without_low}
 use Rattle.pci_spec.proofs.Members.{in_head, in_tail, in_map_to, in_filter_to, IsMade}
 use Rattle.plan_spec.specs.Plan.{bridges_above}
@@ -19,22 +19,28 @@ use Rattle.plan_spec.specs.Planning.PlanWrites.{register_write}
 use Rattle.plan_spec.proofs.Planning.AboveBuses.{above_to}
 use Rattle.settle_spec.specs.FirstPlace.{first_place}
 use Rattle.settle_spec.specs.Lists.{Request, are_bad_lists}
-use Rattle.settle_spec.specs.Parts.{FunctionPart, function_parts, parts_of, header_parts, is_part, addresses, bridge_over, class_in, has_left, are_same_space}
+use Rattle.settle_spec.specs.Parts.{FunctionPart, system_parts, function_parts, parts_of, header_parts, is_part, addresses, bridge_over, class_in, has_left, are_same_space}
 use Rattle.settle_spec.specs.Stands.{part_space, window_part, stands}
-use Rattle.settle_spec.specs.Items.{Item, Placed, place_all, stays}
+use Rattle.settle_spec.specs.Items.{Item, Placed, bus_items, new_window, place_all, stays}
 use Rattle.settle_spec.specs.Places as old
 use Rattle.settle_spec.specs.Places.{placed_of, place_among, placed_range, root_ranges, window_ranges, ranges_of_item, first_lack}
 use Rattle.settle_spec.specs.Registers as registers
 use Rattle.settle_spec.specs.Registers.{with_number, with_bounds, closed_if_open, changing, has_own}
 use Rattle.settle_spec.specs.Writes as writes
-use Rattle.settle_spec.specs.Writes.{differs_at, part_registers, is_cut_off_in, shut_bounds, closing_registers, setting_registers, Settling, BadLists, Settled, fixed_without, fixed_write, or_fixed, or_lack, or_write, settle}
+use Rattle.settle_spec.specs.Writes.{differs_at, part_registers, is_cut_off_in, shut_bounds, closing_registers, setting_registers, Settling, BadLists, Fixed, NoRoom, Settled, fixed_without, fixed_write, or_fixed, or_lack, or_write, settle}
 use Rattle.settle_spec.specs.Growth.{place_each}
-use Rattle.settle_spec.specs.Kept.{Kept, as_it_stands}
+use Rattle.settle_spec.specs.Kept.{Kept, place_in, as_it_stands, stays_growing, growing}
 use Rattle.settle_spec.specs.Keeping.Places.{space_items, taken_at, place_behind, place_of_item, placing_within, placing_on, new_place, lacking_on, lacking}
-use Rattle.settle_spec.specs.Keeping.Registers.{is_same_range, with_range, shown, settled_image, got_place, is_enabled_if, is_live_within, is_enabled_in, settled_command, settled_function, settled}
+use Rattle.settle_spec.specs.Keeping.Registers.{is_same_range, with_range, with_kept, shown, settled_image, got_place, is_enabled_if, is_live_within, is_enabled_in, settled_command, settled_function, settled}
 use Rattle.settle_spec.specs.Keeping.Writes.{changes_at, changes_above, moves, has_moving, is_shut_itself, is_shut, is_left_on, closing_command, is_replaced, without_window, closed_function, closing_from, setting_from, opening_from, closings, settle_writes, settle_keeping}
+use Rattle.settle_spec.specs.Growing.{or_else}
+use Rattle.settle_spec.proofs.Anew.{none_stands, none_stays}
+use Rattle.stand_laws.proofs.GrowingKept.{growing_stands}
+use Rattle.settle_laws.specs.GrowingLaws.{AnewNothingGrows}
+use Rattle.settle_laws.specs.Keeping.StandingLaws.{SettledIsTheSame, WritesAreTheSame}
 use Rattle.settle_laws.proofs.EachPlaced.{each_same, each_all}
 use Rattle.settle_laws.proofs.ItemForms.{header_has}
+use Rattle.settle_laws.proofs.StayingRests.{staying_rests}
 use Rattle.settle_laws.proofs.Keeping.Buses.{placing_step}
 
 any_in : {X : Type 0} (p r : X → Bool) (xs : List X) → ((x : X) → Contains xs x → p x ≡ r x) → list_any p xs ≡ list_any r xs
@@ -45,23 +51,33 @@ flat_in : {X Y : Type 0} (f g : X → List Y) (xs : List X) → ((x : X) → Con
 flat_in f g [] same = refl
 flat_in f g (x ∷ xs) same = ap (λ ys. ys ++ flat_map f xs) (same x (in_head x xs)) ∙ ap (λ ys. g x ++ ys) (flat_in f g xs (λ y has. same y (in_tail x xs y has)))
 
-module _ (q : Request) (s : System) where
-  abbrev k : Kept
-  k = as_it_stands q s
+map_in : {X Y : Type 0} (f g : X → Y) (xs : List X) → ((x : X) → Contains xs x → f x ≡ g x) → map f xs ≡ map g xs
+map_in f g [] same = refl
+map_in f g (x ∷ xs) same = ap (λ y. y ∷ map f xs) (same x (in_head x xs)) ∙ ap (λ ys. g x ∷ ys) (map_in f g xs (λ y has. same y (in_tail x xs y has)))
+
+-- the same stays, with the addresses that it has
+record IsAsItStands (q : Request) (s : System) (k : Kept) : Type 0 where
+  same : (r : FunctionPart) → k.stays r ≡ stays q s r
+  range : (r : FunctionPart) → stays q s r ≡ true → k.range r ≡ addresses r
+  place : (b : Function) (i : Item) (xs : List Range) → stays q s (window_part i.class b) ≡ true → k.place b i xs ≡ place_in (addresses (window_part i.class b)) i xs
+
+module _ (q : Request) (s : System) (k : Kept) (like : IsAsItStands q s k) where
+  stays_is : k.stays ≡ stays q s
+  stays_is = fun_ext like.same
 
   -- ---- places
 
   behind_same : (placed : ℕ → List Placed) (i : Item) (xs : List Range) (o : Option Function) → place_behind k placed i xs o ≡ first_place (window_ranges q s placed i.class o) xs i.extent
   behind_same placed i xs None = refl
-  behind_same placed i xs (Some b) = by (stays q s (window_part i.class b))
+  behind_same placed i xs (Some b) = ap (λ kept. if kept then k.place b i xs else first_place (placed_range (place_among w (placed b.slot.bus))) xs i.extent) (like.same w) ∙ by (stays q s w) refl
     where
       w : FunctionPart
       w = window_part i.class b
 
-      by : (kept : Bool) → (if kept then first_place (addresses (window_part i.class b) ∷ []) xs i.extent else first_place (placed_range (place_among (window_part i.class b) (placed b.slot.bus))) xs i.extent)
-          ≡ first_place (if kept then addresses (window_part i.class b) ∷ [] else placed_range (place_among (window_part i.class b) (placed b.slot.bus))) xs i.extent
-      by true = refl
-      by false = refl
+      by : (kept : Bool) → stays q s w ≡ kept → (if kept then k.place b i xs else first_place (placed_range (place_among w (placed b.slot.bus))) xs i.extent)
+          ≡ first_place (if kept then addresses w ∷ [] else placed_range (place_among w (placed b.slot.bus))) xs i.extent
+      by true is = like.place b i xs is
+      by false is = refl
 
   place_same : (placed : ℕ → List Placed) (i : Item) (xs : List Range) → place_of_item q s k placed i xs ≡ first_place (ranges_of_item q s placed i) xs i.extent
   place_same placed i xs = by (is_root q.roots i.region.function.slot.bus) ∙ refl
@@ -79,13 +95,22 @@ module _ (q : Request) (s : System) where
   unfolding placing_within old.placing_within
   zero_same space bus = refl
 
+  taken_by : (space : Space) (bus : ℕ) → taken_at q s k space bus ≡ map addresses (filter (λ r. are_siblings q.roots bus r.function.slot.bus && are_same_space space (part_space r) && stays q s r) (system_parts q s))
+  taken_by space bus =
+      ap (λ kept. map k.range (filter (λ r. are_siblings q.roots bus r.function.slot.bus && are_same_space space (part_space r) && kept r) (system_parts q s))) stays_is
+      ∙ map_in k.range addresses (filter test (system_parts q s))
+      (λ r has. like.range r (and_parts (are_siblings q.roots bus r.function.slot.bus && are_same_space space (part_space r)) (stays q s r) (in_filter_to test (system_parts q s) r has).1).1)
+    where
+      test : FunctionPart → Bool
+      test r = are_siblings q.roots bus r.function.slot.bus && are_same_space space (part_space r) && stays q s r
+
   taken_same : (space : Space) (bus : ℕ) → taken_at q s k space bus ≡ old.taken_at q s space bus
-  taken_same Io bus = refl
-  taken_same Memory bus = refl
+  taken_same Io bus = taken_by Io bus
+  taken_same Memory bus = taken_by Memory bus
 
   items_same : (space : Space) (bus : ℕ) → space_items q s k space bus ≡ old.space_items q s space bus
-  items_same Io bus = refl
-  items_same Memory bus = refl
+  items_same Io bus = ap (λ kept. bus_items q s IoWindow kept (new_window q s IoWindow) bus) stays_is
+  items_same Memory bus = ap (λ kept. bus_items q s MemoryWindow kept (new_window q s MemoryWindow) bus ++ bus_items q s PrefetchWindow kept (new_window q s PrefetchWindow) bus) stays_is
 
   within_same : (space : Space) (depth bus : ℕ) → placing_within q s k space depth bus ≡ old.placing_within q s space depth bus
   within_same space zero bus = zero_same space bus
@@ -122,8 +147,13 @@ module _ (q : Request) (s : System) where
 
   shown_same : (r : FunctionPart) (o : Option Placed) (image : List ℕ) → shown k r o image ≡ registers.shown q s r o image
   shown_same r (Some p) image = refl
-  shown_same r None image =
-      ap (λ t. if stays q s r then t else closed_if_open r.function r.part image) (ap (λ t. cond t image (with_range r.function r.part (addresses r) image)) (itself (addresses r)))
+  shown_same r None image = ap (λ kept. if kept then with_kept k r image else closed_if_open r.function r.part image) (like.same r) ∙ by (stays q s r) refl
+    where
+      by : (kept : Bool) → stays q s r ≡ kept → (if kept then with_kept k r image else closed_if_open r.function r.part image) ≡ (if kept then image else closed_if_open r.function r.part image)
+      by true is =
+          ap (λ x. if is_same_range x (addresses r) then image else with_range r.function r.part x image) (like.range r is)
+          ∙ ap (λ t. cond t image (with_range r.function r.part (addresses r) image)) (itself (addresses r))
+      by false is = refl
 
   image_same : (f : Function) → settled_image q s k f ≡ registers.settled_image q s f
   image_same f =
@@ -173,7 +203,7 @@ module _ (q : Request) (s : System) where
       ∙ ap (λ n. record { slot = f.slot; image = with_number 2 COMMAND n (registers.settled_image q s f); probe = f.probe }) (command_same f)
 
   -- The law: the same is settled.
-  pub settled_same : settled q s k ≡ registers.settled q s
+  settled_same : settled q s k ≡ registers.settled q s
   settled_same = ap (λ g. map g s) (fun_ext function_same)
 
   -- ---- writes
@@ -187,7 +217,8 @@ module _ (q : Request) (s : System) where
   module _ (rests : (f : Function) (p : Part) → Contains s f → has_part f p ≡ true → stays q s record { function = f; part = p } ≡ true → writes.moves q s record { function = f; part = p } ≡ false) where
     moves_same : (f : Function) (p : Part) → Contains s f → has_part f p ≡ true → moves q s k record { function = f; part = p } ≡ writes.moves q s record { function = f; part = p }
     moves_same f p listed there =
-        ap (λ b. not (stays q s r) && (b || changes_above q s k (class_in q s f p) f.slot.bus)) (changes_same f p)
+        ap (λ b. not b && (changes_at q s k f p || changes_above q s k (class_in q s f p) f.slot.bus)) (like.same r)
+        ∙ ap (λ b. not (stays q s r) && (b || changes_above q s k (class_in q s f p) f.slot.bus)) (changes_same f p)
         ∙ ap (λ b. not (stays q s r) && (writes.changes_at q s f p || b)) (above_same (class_in q s f p) f.slot.bus)
         ∙ elim (cases_Bool (stays q s r)) [
           | inl keeps ↦ ap (λ b. not b && writes.moves q s r) keeps ∙ sym (rests f p listed there keeps)
@@ -232,7 +263,8 @@ module _ (q : Request) (s : System) where
 
     replaced_same : (f : Function) (c : WindowKind) → Contains s f → is_replaced q s k f c ≡ writes.is_replaced q s f c
     replaced_same f c listed =
-        ap (λ b. is_bridge f && not (stays q s (window_part c f)) && b) (changes_same f (Window c))
+        ap (λ b. is_bridge f && not b && changes_at q s k f (Window c)) (like.same (window_part c f))
+        ∙ ap (λ b. is_bridge f && not (stays q s (window_part c f)) && b) (changes_same f (Window c))
         ∙ elim (cases_Bool (is_bridge f)) [
           | inr device ↦ ap (λ b. b && not (stays q s (window_part c f)) && writes.changes_at q s f (Window c)) device ∙ sym (ap (λ b. b && writes.changes_at q s f (Window c)) device)
           | inl bridge ↦ elim (cases_Bool (stays q s (window_part c f))) [
@@ -272,14 +304,48 @@ module _ (q : Request) (s : System) where
         ap (λ ws. ws ++ closing_from q s k f) (closings_same t (λ g has. in_s g (in_tail f t g has)))
         ∙ ap (λ ws. writes.closings q s t ++ ws) (closing_from_same f (in_s f (in_head f t)))
 
-    pub writes_same : settle_writes q s k ≡ writes.settle_writes q s
+    writes_same : settle_writes q s k ≡ writes.settle_writes q s
     writes_same =
         ap (λ ws. ws ++ (flat_map (setting_from q s k) s ++ flat_map (opening_from q s k) s)) (closings_same s (λ f has. has))
         ∙ ap (λ ws. writes.closings q s s ++ (ws ++ flat_map (opening_from q s k) s)) (flat_in (setting_from q s k) (writes.setting_from q s) s setting_from_same)
         ∙ ap (λ ws. writes.closings q s s ++ (flat_map (writes.setting_from q s) s ++ ws)) (flat_in (opening_from q s k) (writes.opening_from q s) s opening_from_same)
 
     -- The law: settling ends the same.
-    pub settling_same : settle_keeping q s k ≡ settle q s
+    settling_same : settle_keeping q s k ≡ settle q s
     settling_same =
-        ap (λ l. if are_bad_lists q.roots q.lists then BadLists else or_fixed (fixed_without (stands q s) q s) (or_fixed (fixed_without (stays q s) q s) (or_lack l (or_write (fixed_write q (settle_writes q s k)) (Settled (settle_writes q s k)))))) lacking_same
+        ap (λ kept. if are_bad_lists q.roots q.lists then BadLists else or_fixed (fixed_without (stands q s) q s) (or_fixed (fixed_without kept q s) (or_lack (lacking q s k) (or_write (fixed_write q (settle_writes q s k)) (Settled (settle_writes q s k)))))) stays_is
+        ∙ ap (λ l. if are_bad_lists q.roots q.lists then BadLists else or_fixed (fixed_without (stands q s) q s) (or_fixed (fixed_without (stays q s) q s) (or_lack l (or_write (fixed_write q (settle_writes q s k)) (Settled (settle_writes q s k)))))) lacking_same
         ∙ ap (λ ws. if are_bad_lists q.roots q.lists then BadLists else or_fixed (fixed_without (stands q s) q s) (or_fixed (fixed_without (stays q s) q s) (or_lack (old.lacking q s) (or_write (fixed_write q ws) (Settled ws))))) writes_same
+
+-- ---- what is so
+
+standing_is : (q : Request) (s : System) → IsAsItStands q s (as_it_stands q s)
+standing_is q s = record { same = λ r. refl; range = λ r is. refl; place = λ b i xs is. refl }
+
+-- where all is placed anew nothing stays
+growing_anew : (q : Request) (s : System) → q.anew ≡ true → IsAsItStands q s (growing q s)
+growing_anew q s anew = record {
+  same = λ r. false_from_ne_true (stays_growing q s r) (λ is. both_ways (stands q s r) (none_stands q s anew (length (system_parts q s)) r) (growing_stands q s r is)) ∙ sym (none_stays q s anew r);
+  range = λ r is. absurd (both_ways (stays q s r) (none_stays q s anew r) is);
+  place = λ b i xs is. absurd (both_ways (stays q s (window_part i.class b)) (none_stays q s anew (window_part i.class b)) is);
+}
+
+-- The law: what stays as it stands.
+pub standing_settles_the_same : SettledIsTheSame
+standing_settles_the_same q s = settled_same q s (as_it_stands q s) (standing_is q s)
+
+pub standing_writes_the_same : WritesAreTheSame
+standing_writes_the_same q s can =
+    let like = standing_is q s in
+    let rests = staying_rests q s can in
+    (writes_same q s (as_it_stands q s) like rests, settling_same q s (as_it_stands q s) like rests)
+
+-- The law: where all is placed anew no window grows.
+pub anew_nothing_grows : AnewNothingGrows
+anew_nothing_grows q s anew = ap (λ o. or_else o (settle q s)) (settling_same q s (growing q s) (growing_anew q s anew) (λ f p listed there is. absurd (both_ways (stays q s record { function = f; part = p }) (none_stays q s anew record { function = f; part = p }) is))) ∙ by (settle q s)
+  where
+    by : (o : Settling) → or_else o o ≡ o
+    by (Settled writes) = refl
+    by BadLists = refl
+    by (Fixed slot register) = refl
+    by (NoRoom class slot register size alignment) = refl
