@@ -32,6 +32,9 @@ use Rattle.stand_laws.proofs.ThereAlone.{unstanding}
 use Rattle.settle_laws.proofs.AllStand.{no_items, all_hold}
 use Rattle.settle_laws.proofs.Kept.{in_regions, off_roots}
 
+same_ends : (r t : Range) → r.first ≡ t.first → r.last ≡ t.last → r ≡ t
+same_ends r t first last = λ i. record { first = first i; last = last i }
+
 -- one that holds nothing outside comes to itself
 grown_same : (c : WindowKind) (b : Function) (others : List Range) → ((t : Range) → Contains others t → lies_within t (addresses (window_part c b)) ≡ true) → grown_to c (addresses (window_part c b)) others ≡ addresses (window_part c b)
 grown_same c b others each =
@@ -52,7 +55,7 @@ grown_same c b others each =
     let f = outer.last in
     let first : g.first ≡ w.first = omega (arith, a, d) in
     let last : g.last ≡ w.last = omega (arith, e, f) in
-    ap (λ n. record { first = n; last = g.last }) first ∙ ap (λ n. record { first = w.first; last = n }) last
+    same_ends g w first last
 
 append_none : (xs : List Range) → xs ++ [] ≡ xs
 append_none [] = refl

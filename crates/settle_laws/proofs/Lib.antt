@@ -12,6 +12,7 @@ pub mod AlikePlaces
 pub mod AllInPlace
 pub mod AllStand
 pub mod Anew
+pub mod AnewAgain
 pub mod BarReach
 pub mod BusPlaced
 pub mod Claimed

@@ -1,7 +1,7 @@
 -- Where settling ends with writes, lists are good and nothing lacks room; so each stop is sound, with windows that grow and without.
-use Rattle.std.proofs.Common.{◌≡◌, ℕ, ◌≤◌, ◌⊎◌, List, [], Option, None, Some, Bool, true, false, sym, ◌∙◌, ap, subst, refl, length, take}
+use Rattle.std.proofs.Common.{◌≡◌, ℕ, ◌≤◌, ◌⊎◌, inl, inr, List, [], Option, None, Some, Bool, true, false, sym, ◌∙◌, ap, subst, refl, length, take}
 use Rattle.std.specs.Bool.{if◌then◌else◌}
-use Rattle.std.proofs.lemmas.Bool.{false≢true}
+use Rattle.std.proofs.lemmas.Bool.{cases_Bool, false≢true}
 use Rattle.pci_spec.specs.System.{System, Io, is_space_on}
 use Rattle.pci_spec.proofs.Members.{in_map_to, IsMade}
 use Rattle.settle_spec.specs.Registers.{settled, settled_function}
@@ -21,6 +21,8 @@ use Rattle.settle_laws.specs.GrowingLaws.{CanBeAsked, closings_by, growing_closi
 use Rattle.settle_laws.specs.PlacesLaws.{CanSettle}
 use Rattle.settle_laws.specs.Keeping.PlacesLaws.{CanSettle as CanSettleBeside}
 use Rattle.settle_laws.proofs.Moves.{new_profile, new_system}
+use Rattle.settle_laws.proofs.AnewAgain.{anew_again}
+use Rattle.settle_laws.proofs.Keeping.AsItStands.{anew_nothing_grows}
 use Rattle.settle_laws.proofs.AgainKept.{all_stand}
 use Rattle.settle_laws.proofs.AgainSettled.{left_off}
 use Rattle.settle_laws.proofs.SettledSound.{settled_sound}
@@ -40,20 +42,22 @@ abbrev writes_of : Settling → List Write → List Write
 writes_of (Settled writes) other = writes
 writes_of refused other = other
 
--- lists are good, nothing lacks room, and these are the writes
-record IsEnd (bad : Bool) (lack : Option Item) (own writes : List Write) : Type 0 where
+-- lists are good, what is fixed stands, nothing lacks room, and these are the writes, none to what is fixed
+record IsEnd (bad : Bool) (fixed : Option FunctionPart) (lack : Option Item) (w : Option Write) (own writes : List Write) : Type 0 where
   good : bad ≡ false
+  stand : fixed ≡ None
   room : lack ≡ None
+  unwritten : w ≡ None
   same : own ≡ writes
 
 ends : (bad : Bool) (a b : Option FunctionPart) (lack : Option Item) (w : Option Write) (own writes : List Write)
-    → (if bad then BadLists else or_fixed a (or_fixed b (or_lack lack (or_write w (Settled own))))) ≡ Settled writes → IsEnd bad lack own writes
+    → (if bad then BadLists else or_fixed a (or_fixed b (or_lack lack (or_write w (Settled own))))) ≡ Settled writes → IsEnd bad a lack w own writes
 ends true a b lack w own writes e = absurd (false≢true (ap is_settled e))
 ends false (Some r) b lack w own writes e = absurd (false≢true (ap is_settled e))
 ends false None (Some r) lack w own writes e = absurd (false≢true (ap is_settled e))
 ends false None None (Some i) w own writes e = absurd (false≢true (ap is_settled e))
 ends false None None None (Some x) own writes e = absurd (false≢true (ap is_settled e))
-ends false None None None None own writes e = record { good = refl; room = refl; same = ap (λ o. writes_of o own) e }
+ends false None None None None own writes e = record { good = refl; stand = refl; room = refl; unwritten = refl; same = ap (λ o. writes_of o own) e }
 
 module _ (q : Request) (s : System) (asked : CanBeAsked q s) where
   abbrev k : Kept
@@ -61,7 +65,7 @@ module _ (q : Request) (s : System) (asked : CanBeAsked q s) where
 
   -- ---- without windows that grow
 
-  plain_end : (writes : List Write) → settle q s ≡ Settled writes → IsEnd (are_bad_lists q.roots q.lists) (lacking q s) (settle_writes q s) writes
+  plain_end : (writes : List Write) → settle q s ≡ Settled writes → IsEnd (are_bad_lists q.roots q.lists) (fixed_without (stands q s) q s) (lacking q s) (fixed_write q (settle_writes q s)) (settle_writes q s) writes
   plain_end writes e = ends (are_bad_lists q.roots q.lists) (fixed_without (stands q s) q s) (fixed_without (stays q s) q s) (lacking q s) (fixed_write q (settle_writes q s)) (settle_writes q s) writes e
 
   plain_can : (writes : List Write) → settle q s ≡ Settled writes → CanSettle q s
@@ -81,7 +85,7 @@ module _ (q : Request) (s : System) (asked : CanBeAsked q s) where
 
   -- ---- with windows that grow
 
-  grown_end : (writes : List Write) → settle_keeping q s k ≡ Settled writes → IsEnd (are_bad_lists q.roots q.lists) (lacking_beside q s k) (writes_beside q s k) writes
+  grown_end : (writes : List Write) → settle_keeping q s k ≡ Settled writes → IsEnd (are_bad_lists q.roots q.lists) (fixed_without (stands q s) q s) (lacking_beside q s k) (fixed_write q (writes_beside q s k)) (writes_beside q s k) writes
   grown_end writes e = ends (are_bad_lists q.roots q.lists) (fixed_without (stands q s) q s) (fixed_without k.stays q s) (lacking_beside q s k) (fixed_write q (writes_beside q s k)) (writes_beside q s k) writes e
 
   grown_can : (writes : List Write) → settle_keeping q s k ≡ Settled writes → CanSettleBeside q s k
@@ -147,14 +151,28 @@ module _ (q : Request) (s : System) (asked : CanBeAsked q s) where
       subst (λ ws. settle_growing q (system_after s ws) ≡ Settled []) (grown_end writes e).same
       (subst (λ t. settle_growing q t ≡ Settled []) (sym (settles_beside q s k can)) (nothing_again q s k can kept))
 
-  pub again_nothing : (writes : List Write) → settle_growing q s ≡ Settled writes → q.anew ≡ false → settle_growing q (system_after s writes) ≡ Settled []
-  again_nothing writes e kept = by (settle_keeping q s k) refl e
+  anew_nothing : (writes : List Write) → settle q s ≡ Settled writes → q.anew ≡ true → settle_growing q (system_after s writes) ≡ Settled []
+  anew_nothing writes e anew =
+      let can = plain_can writes e in
+      let end = plain_end writes e in
+      subst (λ ws. settle_growing q (system_after s ws) ≡ Settled []) end.same
+      (subst (λ t. settle_growing q t ≡ Settled []) (sym (writes_settle q s can.system can.profile (new_profile q s can)))
+      (anew_nothing_grows q (settled q s) anew ∙ anew_again q s can anew end.stand end.unwritten))
+
+  kept_nothing : (writes : List Write) → settle_growing q s ≡ Settled writes → q.anew ≡ false → settle_growing q (system_after s writes) ≡ Settled []
+  kept_nothing writes e kept = by (settle_keeping q s k) refl e
     where
       by : (o : Settling) → settle_keeping q s k ≡ o → or_else o (settle q s) ≡ Settled writes → settle_growing q (system_after s writes) ≡ Settled []
       by (Settled own) is e = grown_again writes (is ∙ e) kept
       by BadLists is e = plain_again writes e kept
       by (Fixed slot register) is e = plain_again writes e kept
       by (NoRoom class slot register size alignment) is e = plain_again writes e kept
+
+  pub again_nothing : (writes : List Write) → settle_growing q s ≡ Settled writes → settle_growing q (system_after s writes) ≡ Settled []
+  again_nothing writes e = elim (cases_Bool q.anew) [
+    | inl anew ↦ anew_nothing writes (sym (anew_nothing_grows q s anew) ∙ e) anew
+    | inr kept ↦ kept_nothing writes e kept
+  ]
 
 pub settled_growing_is_sound : SettledGrowingIsSound
 settled_growing_is_sound q s writes asked e = ends_sound q s asked writes e
@@ -163,4 +181,4 @@ pub settling_growing_can_stop : SettlingGrowingCanStop
 settling_growing_can_stop q s writes n asked e from = stops_sound q s asked writes n e from
 
 pub settling_growing_again_writes_nothing : SettlingGrowingAgainWritesNothing
-settling_growing_again_writes_nothing q s writes asked kept e = again_nothing q s asked writes e kept
+settling_growing_again_writes_nothing q s writes asked e = again_nothing q s asked writes e

@@ -1,5 +1,5 @@
 -- Laws of settling where windows grow: what it comes to is sound, and its writes can stop.
-use Rattle.std.specs.Prelude.{◌≡◌, ℕ, ◌^◌, ◌<◌, ◌≤◌, ◌⊎◌, IsTrue, IsFalse, List, [], length, take}
+use Rattle.std.specs.Prelude.{◌≡◌, ℕ, ◌^◌, ◌<◌, ◌≤◌, ◌⊎◌, IsTrue, List, [], length, take}
 use Rattle.std.specs.List.{Contains}
 use Rattle.pci_spec.specs.System.{System, IsSystem}
 use Rattle.pci_spec.specs.Bus.{IsNested}
@@ -46,8 +46,8 @@ SettlingGrowingCanStop =
 abbrev pub AnewNothingGrows : Type 0
 AnewNothingGrows = (q : Request) (s : System) → IsTrue q.anew → settle_growing q s ≡ settle q s
 
--- Settled again nothing is written, unless all is placed anew.
+-- Settled again nothing is written.
 abbrev pub SettlingGrowingAgainWritesNothing : Type 0
 SettlingGrowingAgainWritesNothing =
-    (q : Request) (s : System) (writes : List Write) → CanBeAsked q s → IsFalse q.anew
+    (q : Request) (s : System) (writes : List Write) → CanBeAsked q s
     → settle_growing q s ≡ Settled writes → settle_growing q (system_after s writes) ≡ Settled []

@@ -1,0 +1,104 @@
+-- Where all is placed anew, what is settled is settled again by no write: what is fixed has no part, and no write is to it.
+use Rattle.std.proofs.Common.{◌≡◌, ◌&&◌, inl, inr, length, List, [], ◌∷◌, map, Bool, true, false, cond, not, refl, sym, ◌∙◌, ap, Some, None}
+use Rattle.std.specs.List.{Contains, find, list_any}
+use Rattle.std.proofs.lemmas.Bool.{and_from, both_ways, cases_Bool, false_from_ne_true}
+use Rattle.pci_spec.specs.Slot.{Slot, same_slot}
+use Rattle.pci_spec.specs.Machine.{Write}
+use Rattle.pci_spec.specs.System.{System, Function, Part, Bar, Rom, Window, is_window}
+use Rattle.pci_spec.proofs.Members.{in_nil, in_cons_cases}
+use Rattle.plan_spec.proofs.Planning.Settled.{function_after, system_by_function}
+use Rattle.plan_spec.proofs.Planning.Writes.{same_fields}
+use Rattle.settle_spec.specs.Lists.{Request}
+use Rattle.settle_spec.specs.Parts.{FunctionPart, system_parts, is_part}
+use Rattle.settle_spec.specs.Stands.{is_fixed_part, stands}
+use Rattle.settle_spec.specs.Items.{stays}
+use Rattle.settle_spec.specs.Places.{lacking}
+use Rattle.settle_spec.specs.Registers.{settled, settled_function}
+use Rattle.settle_spec.specs.Writes.{BadLists, Settled, fixed_without, fixed_write, or_fixed, or_lack, or_write, settle, settle_writes}
+use Rattle.settle_spec.proofs.Anew.{none_stands}
+use Rattle.settle_laws.specs.PlacesLaws.{CanSettle}
+use Rattle.settle_laws.proofs.Again.{settled_alike, all_alike, room_again}
+use Rattle.settle_laws.proofs.AgainParts.{settled_part}
+use Rattle.settle_laws.proofs.AgainSettled.{none_again}
+use Rattle.settle_laws.proofs.Alike.{part_alike}
+use Rattle.settle_laws.proofs.HeaderParts.{header_of}
+use Rattle.settle_laws.proofs.Kept.{in_regions}
+use Rattle.settle_laws.proofs.Moves.{new_profile}
+use Rattle.settle_laws.proofs.NothingSettled.{find_none}
+use Rattle.settle_laws.proofs.StagePrefixes.{others_leave}
+use Rattle.settle_laws.proofs.Stopping.{writes_settle}
+
+-- functions that make the same list are alike on each of its members
+map_at : {X Y : Type 0} (g h : X → Y) (xs : List X) → map g xs ≡ map h xs → (x : X) → Contains xs x → g x ≡ h x
+map_at g h [] same x has = absurd (in_nil x has)
+map_at g h (y ∷ xs) same x has =
+    let first : g y ≡ h y = cc in
+    let rest : map g xs ≡ map h xs = cc in
+    elim (in_cons_cases y xs x has) [
+      | inl here ↦ ap g (sym here) ∙ first ∙ ap h here
+      | inr later ↦ map_at g h xs rest x later
+    ]
+
+-- where nothing is found, nothing passes
+not_found : {X : Type 0} (test : X → Bool) (xs : List X) → find test xs ≡ None → (x : X) → Contains xs x → test x ≡ false
+not_found test [] none x has = absurd (in_nil x has)
+not_found test (y ∷ xs) none x has = elim (cases_Bool (test y)) [
+  | inl here ↦
+      let found : Some y ≡ None = sym (ap (λ b. cond b (Some y) (find test xs)) here) ∙ none in
+      absurd (let differ : ⊥ = cc in differ)
+  | inr off ↦
+      let rest : find test xs ≡ None = sym (ap (λ b. cond b (Some y) (find test xs)) off) ∙ none in
+      elim (in_cons_cases y xs x has) [ inl is ↦ ap test (sym is) ∙ off | inr later ↦ not_found test xs rest x later ]
+]
+
+module _ (q : Request) (s : System) (can : CanSettle q s) (anew : q.anew ≡ true) (stand : fixed_without (stands q s) q s ≡ None) (unwritten : fixed_write q (settle_writes q s) ≡ None) where
+  abbrev now : Function → Function
+  now f = settled_function q s f
+
+  abbrev t : System
+  t = settled q s
+
+  -- no write is to what is fixed
+  elsewhere : (f : Function) → list_any (same_slot f.slot) q.fixed ≡ true → (x : Write) → Contains (settle_writes q s) x → same_slot f.slot x.slot ≡ false
+  elsewhere f fixed x has = false_from_ne_true (same_slot f.slot x.slot) (λ here.
+      both_ways (list_any (same_slot x.slot) q.fixed) (not_found (λ (w : Write). list_any (same_slot w.slot) q.fixed) (settle_writes q s) unwritten x has)
+      (ap (λ (z : Slot). list_any (same_slot z) q.fixed) (sym (same_fields f.slot x.slot here)) ∙ fixed))
+
+  function_stays : (f : Function) → Contains s f → list_any (same_slot f.slot) q.fixed ≡ true → now f ≡ f
+  function_stays f listed fixed =
+      sym (map_at (λ f. function_after f (settle_writes q s)) now s (sym (system_by_function s (settle_writes q s)) ∙ writes_settle q s can.system can.profile (new_profile q s can)) f listed)
+      ∙ others_leave f (settle_writes q s) (elsewhere f fixed)
+
+  part_before : (f : Function) (p : Part) → Contains s f → list_any (same_slot f.slot) q.fixed ≡ true → is_part q t (now f) p ≡ true → is_part q s f p ≡ true
+  part_before f p listed fixed part = elim (cases_Bool (is_window p)) [
+    | inr plain ↦ part_alike q s t (all_alike q s can) f (now f) (settled_alike q s can f listed) p plain ∙ part
+    | inl window ↦ by p window part
+  ]
+    where
+      by : (p : Part) → is_window p ≡ true → is_part q t (now f) p ≡ true → is_part q s f p ≡ true
+      by (Bar n) window part = absurd (both_ways false refl window)
+      by Rom window part = absurd (both_ways false refl window)
+      by (Window c) window part = ap (λ g. is_part q t g (Window c)) (sym (function_stays f listed fixed)) ∙ part
+
+  -- a part is not of what is fixed
+  none_fixed : (r : FunctionPart) → Contains (system_parts q t) r → is_fixed_part q r ≡ false
+  none_fixed r has = false_from_ne_true (is_fixed_part q r) (λ fixed.
+      let at = settled_part q s can r has in
+      let held : list_any (same_slot at.f.slot) q.fixed ≡ true = ap (is_fixed_part q) at.is ∙ fixed in
+      let old : FunctionPart = record { function = at.f; part = at.p } in
+      both_ways (is_fixed_part q old && not (stands q s old))
+      (not_found (λ r. is_fixed_part q r && not (stands q s r)) (system_parts q s) stand old (in_regions q s at.f at.p at.listed (header_of at.f at.p at.there) (part_before at.f at.p at.listed held at.part)))
+      (and_from (is_fixed_part q old) (not (stands q s old)) held (ap not (none_stands q s anew (length (system_parts q s)) old))))
+
+  none_without : (test : FunctionPart → Bool) → fixed_without test q t ≡ None
+  none_without test = find_none (λ r. is_fixed_part q r && not (test r)) (system_parts q t) (λ r listed. ap (λ b. b && not (test r)) (none_fixed r listed))
+
+  -- The law: nothing is written.
+  pub anew_again : settle q t ≡ Settled []
+  anew_again =
+      ap (λ b. cond b BadLists (or_fixed (fixed_without (stands q t) q t) (or_fixed (fixed_without (stays q t) q t)
+      (or_lack (lacking q t) (or_write (fixed_write q (settle_writes q t)) (Settled (settle_writes q t))))))) can.lists
+      ∙ ap (λ o. or_fixed o (or_fixed (fixed_without (stays q t) q t) (or_lack (lacking q t) (or_write (fixed_write q (settle_writes q t)) (Settled (settle_writes q t)))))) (none_without (stands q t))
+      ∙ ap (λ o. or_fixed o (or_lack (lacking q t) (or_write (fixed_write q (settle_writes q t)) (Settled (settle_writes q t))))) (none_without (stays q t))
+      ∙ ap (λ o. or_lack o (or_write (fixed_write q (settle_writes q t)) (Settled (settle_writes q t)))) (room_again q s can anew)
+      ∙ ap (λ ws. or_write (fixed_write q ws) (Settled ws)) (none_again q s can)
