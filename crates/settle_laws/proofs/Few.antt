@@ -21,10 +21,10 @@ use Rattle.settle_laws.specs.WriteLaws.{most_settle_writes}
 use Rattle.settle_laws.proofs.ClosedSame.{closed_layout}
 use Rattle.settle_laws.proofs.Pieces.{Lower, in_command, system_rises}
 
-abbrev count : Slot → List Write → ℕ
+abbrev pub count : Slot → List Write → ℕ
 count slot ws = count_by (λ w. same_slot w.slot slot) ws
 
-count_both : (slot : Slot) (xs ys : List Write) → count slot (xs ++ ys) ≡ count slot xs + count slot ys
+pub count_both : (slot : Slot) (xs ys : List Write) → count slot (xs ++ ys) ≡ count slot xs + count slot ys
 count_both slot xs ys = sum_by-append (λ w. cond (same_slot w.slot slot) 1 0) xs ys
 
 count_none : (slot : Slot) (ws : List Write) → ((w : Write) → Contains ws w → same_slot w.slot slot ≡ false) → count slot ws ≡ 0
@@ -40,7 +40,7 @@ module _ (g : Function → List Write) (own : (f : Function) (w : Write) → Con
   others : (slot : Slot) (f : Function) (w : Write) → Contains (g f) w → (slot_number f.slot ≡ slot_number slot → ⊥) → same_slot w.slot slot ≡ false
   others slot f w has differ = other_number w.slot slot (λ e. differ (ap slot_number (sym (own f w has)) ∙ e))
 
-  count_flat : (t : System) → AllPairs Lower t → (f : Function) → Contains t f → count f.slot (flat_map g t) ≤ length (g f)
+  pub count_flat : (t : System) → AllPairs Lower t → (f : Function) → Contains t f → count f.slot (flat_map g t) ≤ length (g f)
   count_flat [] rise f has = absurd (in_nil f has)
   count_flat (x ∷ t) rise f has = elim (in_cons_cases x t f has) [
     | inl is ↦
@@ -61,14 +61,14 @@ module _ (g : Function → List Write) (own : (f : Function) (w : Write) → Con
         omega (arith, all, none, rest)
   ]
 
-one : (b : Bool) (w : Write) → length (cond b [] (w ∷ [])) ≤ 1
+pub one : (b : Bool) (w : Write) → length (cond b [] (w ∷ [])) ≤ 1
 one true w = omega arith
 one false w = omega arith
 
-in_one : (b : Bool) (w x : Write) → Contains (cond b [] (w ∷ [])) x → x.slot ≡ w.slot
+pub in_one : (b : Bool) (w x : Write) → Contains (cond b [] (w ∷ [])) x → x.slot ≡ w.slot
 in_one b w x has = sym (ap (λ (y : Write). y.slot) (in_command b w x has).1)
 
-few_flat : {X : Type 0} (g : X → List Write) (xs : List X) → ((x : X) → length (g x) ≤ 1) → length (flat_map g xs) ≤ length xs
+pub few_flat : {X : Type 0} (g : X → List Write) (xs : List X) → ((x : X) → length (g x) ≤ 1) → length (flat_map g xs) ≤ length xs
 few_flat g [] one = omega arith
 few_flat g (x ∷ xs) one =
     let e = length-append (g x) (flat_map g xs) in
@@ -76,7 +76,7 @@ few_flat g (x ∷ xs) one =
     let r = few_flat g xs one in
     omega (arith, e, h, r)
 
-closing_count : (bridge : Bool) → length {A = ℕ × ℕ} (if bridge then (0x1c, 2) ∷ (0x30, 4) ∷ (0x20, 4) ∷ (0x24, 4) ∷ (0x2c, 4) ∷ [] else []) ≡ (if bridge then 5 else 0)
+pub closing_count : (bridge : Bool) → length {A = ℕ × ℕ} (if bridge then (0x1c, 2) ∷ (0x30, 4) ∷ (0x20, 4) ∷ (0x24, 4) ∷ (0x2c, 4) ∷ [] else []) ≡ (if bridge then 5 else 0)
 closing_count true = refl
 closing_count false = refl
 
@@ -89,7 +89,7 @@ halves_count c = elim (cases_Bool (nat_lt (number_at c.new.image 0x28 4) (number
 five_more : (xs : List (ℕ × ℕ)) → length {A = ℕ × ℕ} ((0x10, 4) ∷ (0x14, 4) ∷ (0x30, 4) ∷ (0x1c, 2) ∷ (0x20, 4) ∷ xs) ≡ suc (suc (suc (suc (suc (length xs)))))
 five_more xs = refl
 
-setting_count : (c : Change) → length (setting_registers c) ≡ (if is_bridge c.old then 9 else 7)
+pub setting_count : (c : Change) → length (setting_registers c) ≡ (if is_bridge c.old then 9 else 7)
 setting_count c =
     let behind = upper_halves c ++ ((0x24, 4) ∷ (0x38, 4) ∷ []) in
     let many = length-append (upper_halves c) ((0x24, 4) ∷ (0x38, 4) ∷ []) in
@@ -102,6 +102,10 @@ setting_count c =
         → length {A = ℕ × ℕ} (cond bridge ((0x10, 4) ∷ (0x14, 4) ∷ (0x30, 4) ∷ (0x1c, 2) ∷ (0x20, 4) ∷ (upper_halves c ++ ((0x24, 4) ∷ (0x38, 4) ∷ []))) (registers_by bridge)) ≡ (if bridge then 9 else 7)
     by true nine = nine
     by false nine = refl
+
+pub most_is : (bridge : Bool) → (1 + (if bridge then 5 else 0)) + ((if bridge then 9 else 7) + 1) ≡ (if bridge then 16 else 9)
+most_is true = refl
+most_is false = refl
 
 module _ (q : Request) (s : System) (system : IsSystem s) where
   -- a write between two states of a function goes to its slot
@@ -124,10 +128,6 @@ module _ (q : Request) (s : System) (system : IsSystem s) where
       let b = count_both slot (closing_from q s f) (flat_map (closing_from q s) t) in
       let rest = closings_as_flat slot t in
       omega (arith, a, b, rest)
-
-  most_is : (bridge : Bool) → (1 + (if bridge then 5 else 0)) + ((if bridge then 9 else 7) + 1) ≡ (if bridge then 16 else 9)
-  most_is true = refl
-  most_is false = refl
 
   -- The law: to a slot no more writes are made than there are registers to close and to set, and one that opens.
   pub few_each : (f : Function) → Contains s f → count_by (λ w. same_slot w.slot f.slot) (settle_writes q s) ≤ most_settle_writes f

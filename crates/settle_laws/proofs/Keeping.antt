@@ -10,6 +10,7 @@ pub mod ClosedImages
 pub mod ClosedMoves
 pub mod ClosedSame
 pub mod Commands
+pub mod Few
 pub mod Fits
 pub mod Held
 pub mod InLists

@@ -2,7 +2,9 @@
 use Rattle.std.proofs.Common.{◌≡◌, ℕ, ◌≤◌, ◌⊎◌, inl, inr, List, [], Option, None, Some, Bool, true, false, sym, ◌∙◌, ap, subst, refl, length, take}
 use Rattle.std.specs.Bool.{if◌then◌else◌}
 use Rattle.std.proofs.lemmas.Bool.{cases_Bool, false≢true}
-use Rattle.pci_spec.specs.System.{System, Io, is_space_on}
+use Rattle.std.specs.List.{Contains, count_by}
+use Rattle.pci_spec.specs.Slot.{same_slot}
+use Rattle.pci_spec.specs.System.{System, Function, Io, is_space_on}
 use Rattle.pci_spec.proofs.Members.{in_map_to, IsMade}
 use Rattle.settle_spec.specs.Registers.{settled, settled_function}
 use Rattle.pci_spec.specs.Machine.{Write, system_after}
@@ -17,10 +19,13 @@ use Rattle.settle_spec.specs.Kept.{Kept, growing}
 use Rattle.settle_spec.specs.Keeping.Places.{lacking as lacking_beside}
 use Rattle.settle_spec.specs.Keeping.Writes.{closings as closings_beside, settle_writes as writes_beside, settle_keeping}
 use Rattle.settle_spec.specs.Growing.{or_else, settle_growing}
-use Rattle.settle_laws.specs.GrowingLaws.{CanBeAsked, closings_by, growing_closings, SettledGrowingIsSound, SettlingGrowingCanStop, SettlingGrowingAgainWritesNothing}
+use Rattle.settle_laws.specs.GrowingLaws.{CanBeAsked, closings_by, growing_closings, SettledGrowingIsSound, SettlingGrowingCanStop, FewGrowingWritesEach, SettlingGrowingAgainWritesNothing}
+use Rattle.settle_laws.specs.WriteLaws.{most_settle_writes}
 use Rattle.settle_laws.specs.PlacesLaws.{CanSettle}
 use Rattle.settle_laws.specs.Keeping.PlacesLaws.{CanSettle as CanSettleBeside}
 use Rattle.settle_laws.proofs.Moves.{new_profile, new_system}
+use Rattle.settle_laws.proofs.Few.{few_each}
+use Rattle.settle_laws.proofs.Keeping.Few.{few_each as few_beside}
 use Rattle.settle_laws.proofs.AnewAgain.{anew_again}
 use Rattle.settle_laws.proofs.Keeping.AsItStands.{anew_nothing_grows}
 use Rattle.settle_laws.proofs.AgainKept.{all_stand}
@@ -133,6 +138,18 @@ module _ (q : Request) (s : System) (asked : CanBeAsked q s) where
       by (Fixed slot register) is e from = plain_stop writes n e from
       by (NoRoom class slot register size alignment) is e from = plain_stop writes n e from
 
+  pub ends_few : (writes : List Write) → settle_growing q s ≡ Settled writes → (f : Function) → Contains s f → count_by (λ w. same_slot w.slot f.slot) writes ≤ most_settle_writes f
+  ends_few writes e f listed = by (settle_keeping q s k) refl e
+    where
+      plain : settle q s ≡ Settled writes → count_by (λ w. same_slot w.slot f.slot) writes ≤ most_settle_writes f
+      plain e = subst (λ ws. count_by (λ w. same_slot w.slot f.slot) ws ≤ most_settle_writes f) (plain_end writes e).same (few_each q s asked.system f listed)
+
+      by : (o : Settling) → settle_keeping q s k ≡ o → or_else o (settle q s) ≡ Settled writes → count_by (λ w. same_slot w.slot f.slot) writes ≤ most_settle_writes f
+      by (Settled own) is e = subst (λ ws. count_by (λ w. same_slot w.slot f.slot) ws ≤ most_settle_writes f) (grown_end writes (is ∙ e)).same (few_beside q s k asked.system f listed)
+      by BadLists is e = plain e
+      by (Fixed slot register) is e = plain e
+      by (NoRoom class slot register size alignment) is e = plain e
+
   -- ---- settled again
 
   plain_again : (writes : List Write) → settle q s ≡ Settled writes → q.anew ≡ false → settle_growing q (system_after s writes) ≡ Settled []
@@ -179,6 +196,9 @@ settled_growing_is_sound q s writes asked e = ends_sound q s asked writes e
 
 pub settling_growing_can_stop : SettlingGrowingCanStop
 settling_growing_can_stop q s writes n asked e from = stops_sound q s asked writes n e from
+
+pub few_growing_writes_each : FewGrowingWritesEach
+few_growing_writes_each q s writes asked e f listed = ends_few q s asked writes e f listed
 
 pub settling_growing_again_writes_nothing : SettlingGrowingAgainWritesNothing
 settling_growing_again_writes_nothing q s writes asked e = again_nothing q s asked writes e

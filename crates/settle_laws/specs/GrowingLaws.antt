@@ -1,7 +1,8 @@
 -- Laws of settling where windows grow: what it comes to is sound, and its writes can stop.
 use Rattle.std.specs.Prelude.{◌≡◌, ℕ, ◌^◌, ◌<◌, ◌≤◌, ◌⊎◌, IsTrue, List, [], length, take}
-use Rattle.std.specs.List.{Contains}
-use Rattle.pci_spec.specs.System.{System, IsSystem}
+use Rattle.std.specs.List.{Contains, count_by}
+use Rattle.pci_spec.specs.Slot.{same_slot}
+use Rattle.pci_spec.specs.System.{System, Function, IsSystem}
 use Rattle.pci_spec.specs.Bus.{IsNested}
 use Rattle.pci_spec.specs.Machine.{Write, system_after}
 use Rattle.pci_spec.specs.Sound.{IsInProfile, HasChains, IsSound}
@@ -10,6 +11,7 @@ use Rattle.settle_spec.specs.Writes.{Settling, Settled, closings, settle}
 use Rattle.settle_spec.specs.Kept.{growing}
 use Rattle.settle_spec.specs.Keeping.Writes.{closings as closings_beside, settle_keeping}
 use Rattle.settle_spec.specs.Growing.{settle_growing}
+use Rattle.settle_laws.specs.WriteLaws.{most_settle_writes}
 
 -- A system is admitted, and lists of prefetchable memory end below 2^64.
 pub record CanBeAsked (q : Request) (s : System) : Type 0 where
@@ -41,6 +43,13 @@ SettlingGrowingCanStop =
     → settle_growing q s ≡ Settled writes
     → (length (growing_closings q s) ≤ n) ⊎ IsSound q.roots s
     → IsSound q.roots (system_after s (take n writes))
+
+-- To a device at most 9 writes are made, and to a bridge 16.
+abbrev pub FewGrowingWritesEach : Type 0
+FewGrowingWritesEach =
+    (q : Request) (s : System) (writes : List Write) → CanBeAsked q s
+    → settle_growing q s ≡ Settled writes → (f : Function) → Contains s f
+    → count_by (λ w. same_slot w.slot f.slot) writes ≤ most_settle_writes f
 
 -- Where all is placed anew no window grows.
 abbrev pub AnewNothingGrows : Type 0

@@ -4,6 +4,7 @@ ghost use Rattle.settle_laws.specs.Keeping.AgainLaws.{SettledPartsStand};
 ghost use Rattle.settle_laws.specs.Keeping.PlacesLaws.{EachBusIsPlaced, PartsGetPlaces, PlacesAreOfOthers, PlacesAreInLists, PlacesAreInWindows, PlacesAreApart};
 ghost use Rattle.settle_laws.specs.Keeping.StandingLaws.{SettledIsTheSame, WritesAreTheSame};
 ghost use Rattle.settle_laws.specs.Keeping.SoundLaws.{SettledShowsPlaces, SettledOpensPlaces, SettledClosesTheRest, SettlingMoves, SettledIsInProfile, BridgesAreEnabled, SettledIsSound, SettlingCanStop, SettlingSettles};
+ghost use Rattle.settle_laws.specs.Keeping.WriteLaws.{FewSettleWritesEach, UnshutIsNeverOff};
 
 /// Where nothing lacks room on the roots, nothing does: each BAR and ROM that is looked at stays or gets a
 /// place, and none does both.
@@ -51,4 +52,10 @@ pub fn settled_parts_stand()
 pub fn standing_settles_the_same()
     ensures settled { SettledIsTheSame }
     ensures writes { WritesAreTheSame }
+{}
+
+/// Each function is written a bounded number of times, and what isn't shut is never off.
+pub fn settling_writes_little()
+    ensures few { FewSettleWritesEach }
+    ensures on { UnshutIsNeverOff }
 {}

@@ -1,8 +1,8 @@
 -- A function that no closing write changes is its own closed state.
-use Rattle.std.proofs.Common.{◌≡◌, ℕ, List, false, cond, sym, ◌∙◌, ap}
+use Rattle.std.proofs.Common.{◌≡◌, ℕ, ◌%◌, List, arith, false, cond, sym, ◌∙◌, ap}
 use Rattle.pci_spec.specs.Number.{IsImage}
 use Rattle.pci_spec.specs.Registers.{COMMAND}
-use Rattle.pci_spec.specs.Header.{command}
+use Rattle.pci_spec.specs.Header.{command, layout}
 use Rattle.pci_spec.specs.Window.{WindowKind, IoWindow, MemoryWindow, PrefetchWindow, bounds_at}
 use Rattle.pci_spec.specs.System.{System, Function, Space, Io, Memory, is_space_on}
 use Rattle.plan_spec.specs.Place.{nibble_of}
@@ -13,6 +13,7 @@ use Rattle.settle_spec.specs.Writes.{shut_bounds}
 use Rattle.settle_spec.specs.Keeping.Writes.{is_left_on, closing_command, is_replaced, without_window, closed_image, closed_function}
 use Rattle.settle_laws.proofs.Commands.{as_it_is}
 use Rattle.settle_laws.proofs.Keeping.Commands.{closing_is}
+use Rattle.settle_laws.proofs.Keeping.ClosedImages.{closed_low}
 use Rattle.settle_laws.proofs.Reput.{put_two}
 use Rattle.settle_spec.specs.Kept.{Kept}
 
@@ -40,3 +41,6 @@ module _ (q : Request) (s : System) (k : Kept) (f : Function) (is : IsImage f.im
       ∙ ap (λ n. with_number 2 COMMAND n f.image) stays_closed
       ∙ put_two f.image is COMMAND in
       λ i. record { slot = f.slot; image = image i; probe = f.probe }
+
+pub closed_layout : (q : Request) (s : System) (k : Kept) (f : Function) → layout (closed_function q s k f).image ≡ layout f.image
+closed_layout q s k f = ap (λ n. n % 128) (closed_low q s k f 0x0e (omega arith) (omega arith))
