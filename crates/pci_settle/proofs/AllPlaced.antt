@@ -18,23 +18,23 @@ use Rattle.pci_settle.specs.Placings.{item_extent, at_places, lacks_first, placi
 
 -- ---- some items placed before others
 
-abbrev and_all : List Placed → Placing → Placing
+abbrev pub and_all : List Placed → Placing → Placing
 and_all [] r = r
 and_all (p ∷ ps) r = and_placed p.item p.at (and_all ps r)
 
-all_append : (ps : List Placed) (p : Placed) (r : Placing) → and_all (ps ++ p ∷ []) r ≡ and_all ps (and_placed p.item p.at r)
+pub all_append : (ps : List Placed) (p : Placed) (r : Placing) → and_all (ps ++ p ∷ []) r ≡ and_all ps (and_placed p.item p.at r)
 all_append [] p r = refl
 all_append (q ∷ ps) p r = ap (and_placed q.item q.at) (all_append ps p r)
 
-all_lack : (ps : List Placed) (j : Item) → and_all ps (Lacks j) ≡ Lacks j
+pub all_lack : (ps : List Placed) (j : Item) → and_all ps (Lacks j) ≡ Lacks j
 all_lack [] j = refl
 all_lack (q ∷ ps) j = ap (and_placed q.item q.at) (all_lack ps j)
 
-all_placed : (ps : List Placed) → and_all ps (AllPlaced []) ≡ AllPlaced ps
+pub all_placed : (ps : List Placed) → and_all ps (AllPlaced []) ≡ AllPlaced ps
 all_placed [] = refl
 all_placed (q ∷ ps) = ap (and_placed q.item q.at) (all_placed ps)
 
-at_append : (items : List Item) (places : List ℕ) (i : Item) (a : ℕ) → length items ≡ length places
+pub at_append : (items : List Item) (places : List ℕ) (i : Item) (a : ℕ) → length items ≡ length places
     → at_places (items ++ i ∷ []) (places ++ a ∷ []) ≡ at_places items places ++ record { item = i; at = a } ∷ []
 at_append [] [] i a same = refl
 at_append [] (b ∷ places) i a same = absurd (let no : ⊥ = omega (arith, same) in no)
@@ -67,7 +67,7 @@ put_same (x ∷ taken) (suc index) r within =
 
 -- ---- the walk over the items
 
-drop_all : (n : ℕ) (items : List Item) → length items ≤ n → drop n items ≡ []
+pub drop_all : (n : ℕ) (items : List Item) → length items ≤ n → drop n items ≡ []
 drop_all zero [] past = refl
 drop_all zero (i ∷ items) past = absurd (let no : ⊥ = omega (arith, past) in no)
 drop_all (suc n) [] past = refl
@@ -97,7 +97,7 @@ lawful_item lists ranges items wanted n are lawful w i (k, less, here) =
     let same : i.extent ≡ extent_value (get_or wanted k w).extent = ap item_extent (sym here) ∙ (are.each k i w within).extent in
     subst (λ x. 0 < x.alignment) (sym same) (lawful k w within).extent.alignment
 
-take_table : (places : List ℕ) (n a : ℕ) → n < length places → take (n + 1) (set places n a) ≡ take n places ++ a ∷ []
+pub take_table : (places : List ℕ) (n a : ℕ) → n < length places → take (n + 1) (set places n a) ≡ take n places ++ a ∷ []
 take_table places n a within =
     let long = length-set places n a in
     (take_at_read (set places n a) n 0 (omega (arith, within, long))).1

@@ -27,7 +27,7 @@ fn has_upper_halves(window: Option<Window>) -> bool
 }
 
 /// The highest address that the window of a class can hold: one of I/O or prefetchable memory may have upper halves.
-fn highest_in(class: WindowKind, windows: &Windows) -> u64
+pub fn highest_in(class: WindowKind, windows: &Windows) -> u64
     ensures { result ≡ highest_by (kind_value class) windows.now }
 {
     match class {

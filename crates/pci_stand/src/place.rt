@@ -77,7 +77,7 @@ fn is_held(windows: &Windows, kind: WindowKind, range: Range) -> bool
 }
 
 /// The window over a part in which it can stand: a prefetchable BAR is in that of memory where that holds it.
-fn window_for(region: &Region, windows: &Windows) -> WindowKind
+pub fn window_for(region: &Region, windows: &Windows) -> WindowKind
     ensures { kind_value result ≡ window_for windows.now region.now }
 {
     match region.part {
