@@ -1,0 +1,6 @@
+//! Which windows grow where they stand, and to what: each takes what it has no room for, as far as that is free beside it.
+//!
+//! In the comments "Bridge 1.2" is the PCI-to-PCI Bridge Architecture Specification 1.2.
+#![tactic(auto)]
+
+pub mod halves;
