@@ -4,3 +4,4 @@
 #![tactic(auto)]
 
 pub mod halves;
+pub mod last_place;
