@@ -1,5 +1,5 @@
 -- The walk down along what is taken: no place lies above the address that it has come to.
-use Rattle.std.proofs.Common.{◌≡◌, ◌⊎◌, ℕ, ◌+◌, ◌-◌, ◌*◌, ◌/◌, ◌%◌, ◌<◌, ◌≤◌, min, inl, inr, List, map, length, get_or, arith, sym, subst, true, None, Some}
+use Rattle.std.proofs.Common.{◌≡◌, ℕ, ◌+◌, ◌-◌, ◌*◌, ◌/◌, ◌%◌, ◌<◌, ◌≤◌, min, inl, inr, List, map, length, get_or, arith, sym, subst, true, None, Some}
 use Rattle.std.specs.Bool.{IsTrue}
 use Rattle.std.specs.List.{Contains}
 use Rattle.std.proofs.lemmas.Bool.{cases_lt, cases_eq, false_from_ne_true}
@@ -8,7 +8,7 @@ use Rattle.std.proofs.lemmas.List.{get_or_default}
 use Rattle.std.proofs.lemmas.List.Elements.{Contains-get_or}
 use Rattle.pci_spec.specs.Decoded.{Range as DecodedRange}
 use Rattle.pci_spec.proofs.Members.{in_map_from, in_map_to}
-use Rattle.settle_spec.specs.FirstPlace.{Extent as ExtentValue, is_place, HasNoPlace}
+use Rattle.settle_spec.specs.FirstPlace.{is_place, HasNoPlace}
 use Rattle.settle_spec.specs.LastPlace.{lowered_to, last_place_in}
 use Rattle.settle_spec.proofs.FirstSpot.{IsApart}
 use Rattle.pci_base.specs.declared.range.Range.{Range}
@@ -16,7 +16,7 @@ use Rattle.pci_base.specs.Ranges.{decoded_range_of}
 use Rattle.pci_settle.specs.declared.extent.Extent.{Extent}
 use Rattle.pci_settle.specs.Spots.{extent_value, IsExtent}
 use Rattle.pci_grow.specs.declared.last_place.LateSpot.{LateSpot}
-use Rattle.pci_grow.specs.LastPlaces.{LastsRise, HasNone, IsDescended, IsLateStart, IsLateSpotAt}
+use Rattle.pci_grow.specs.LastPlaces.{LastsRise, IsDescended, IsLateSpotAt}
 use Rattle.pci_grow.proofs.Places.{lowered, place_gives, place_from, last_from, none_from}
 
 -- what an index past the end is read as

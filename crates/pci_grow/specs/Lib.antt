@@ -1,1 +1,2 @@
 pub mod LastPlaces
+pub mod Tables

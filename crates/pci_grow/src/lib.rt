@@ -5,3 +5,4 @@
 
 pub mod halves;
 pub mod last_place;
+pub mod table;
