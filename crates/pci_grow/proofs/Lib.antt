@@ -1,2 +1,4 @@
 pub mod Places
 pub mod Late
+pub mod Searches
+pub mod Each

@@ -1,2 +1,3 @@
 pub mod LastPlaces
 pub mod Tables
+pub mod Arounds

@@ -3,6 +3,7 @@
 //! In the comments "Bridge 1.2" is the PCI-to-PCI Bridge Architecture Specification 1.2.
 #![tactic(auto)]
 
+pub mod around;
 pub mod halves;
 pub mod last_place;
 pub mod table;

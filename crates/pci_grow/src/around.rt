@@ -1,0 +1,217 @@
+//! The places of what has none behind a window, around it: the first one from its first address on, or else the last one
+//! before it.
+ghost use Rattle.std.specs.Prelude.{◌≡◌, None, IfSome, IfNone, IfOk, List, length, map};
+ghost use Rattle.std.specs.List.{All};
+ghost use Rattle.settle_spec.specs.FirstPlace.{first_place_in};
+ghost use Rattle.settle_spec.specs.Items.{Item as ItemValue};
+ghost use Rattle.settle_spec.specs.Growth.{place_around, place_each};
+ghost use Rattle.pci_base.specs.Ranges.{decoded_range_of};
+ghost use Rattle.pci_settle.specs.Spots.{extent_value, IsExtent, FirstsRise, IsBetweenTaken, spot_place};
+ghost use Rattle.pci_settle.specs.Placings.{placing_of};
+ghost use Rattle.pci_settle.specs.Turns.{HasExtent};
+ghost use Rattle.pci_grow.specs.LastPlaces.{LastsRise};
+ghost use Rattle.pci_grow.specs.Arounds.{onward, backward, last_place_of, find_around, IsSearch, IsBelowLast, AreInOrder, IsPutAt, HaveExtents, AreEndingAll};
+
+use crate::last_place::{LateSpot, last_place, last_start};
+use pci_base::memory::OutOfMemory;
+use pci_base::range::Range;
+use pci_settle::extent::Extent;
+use pci_settle::item::Item;
+use pci_settle::spot::{Spot, Start, first_place};
+use std::alloc::Allocator;
+
+/// A window and how far it can grow.
+#[derive(Clone, Copy, Debug)]
+pub struct Around {
+    pub window: Range,
+    pub reach: Range,
+}
+
+impl Around {
+    /// From the window's first address to the end of the reach.
+    fn onward(&self) -> Range
+        ensures { result ≡ onward self.now }
+    {
+        Range {
+            first: self.window.first,
+            last: self.reach.last,
+        }
+    }
+
+    /// The part of the reach before the window; None where it begins with it.
+    fn backward(&self) -> Option<Range>
+        ensures { result ≡ backward self.now }
+    {
+        if self.reach.first < self.window.first {
+            Some(Range {
+                first: self.reach.first,
+                last: self.window.first - 1,
+            })
+        } else {
+            None
+        }
+    }
+}
+
+/// How far the searches for an extent have come. What one of them didn't find free isn't free for the next one.
+#[derive(Clone, Copy, Debug)]
+struct Search {
+    extent: Extent,
+    /// From where on first places are looked for; None where there is none any more.
+    first: Option<Start>,
+    /// The same of last places.
+    last: Option<LateSpot>,
+}
+
+impl Search {
+    /// Nothing was looked for.
+    fn begin(around: &Around, extent: Extent) -> Search
+        requires { IsExtent extent }
+        ensures extent { result.extent ≡ extent }
+        ensures search { (taken : List Range) → IsSearch around.now taken result }
+    {
+        let last = match around.backward() {
+            Some(range) => last_start(range, extent),
+            None => None,
+        };
+        Search {
+            extent,
+            first: Some(Start::first()),
+            last,
+        }
+    }
+
+    /// The first place from a window's first address on.
+    fn first_from(&mut self, around: &Around, taken: &[Range]) -> Option<Spot>
+        requires order { FirstsRise taken.now }
+        requires search { IsSearch around.now taken.now self.old }
+        ensures extent { self.new.extent ≡ self.old.extent }
+        ensures place { spot_place result ≡ first_place_in (decoded_range_of (onward around.now))
+            (map decoded_range_of taken.now) (extent_value self.old.extent) }
+        ensures between { IfSome result (IsBetweenTaken taken.now self.old.extent) }
+        ensures search { IsSearch around.now taken.now self.new }
+        ensures index { IfSome result (IsBelowLast taken.now self.new) }
+        ensures none { result ≡ None → self.new.first ≡ None }
+    {
+        let mut start = self.first?;
+        if first_place(&[around.onward()], taken, self.extent, &mut start) {
+            self.first = Some(start);
+            return Some(start.spot);
+        }
+        self.first = None;
+        None
+    }
+
+    /// The last place before a window, where there is no first one.
+    fn last_before(&mut self, around: &Around, taken: &[Range]) -> Option<Spot>
+        requires order { LastsRise taken.now }
+        requires search { IsSearch around.now taken.now self.old }
+        requires none { self.old.first ≡ None }
+        ensures extent { self.new.extent ≡ self.old.extent }
+        ensures place { spot_place result ≡ last_place_of (backward around.now) taken.now self.old.extent }
+        ensures between { IfSome result (IsBetweenTaken taken.now self.old.extent) }
+        ensures search { IfSome result (λ _. IsSearch around.now taken.now self.new) }
+        ensures index { IfSome result (IsBelowLast taken.now self.new) }
+    {
+        let range = around.backward()?;
+        let from = self.last?;
+        let late = last_place(range, taken, from, self.extent)?;
+        self.last = Some(late);
+        Some(Spot {
+            at: late.at,
+            index: taken.len() - late.above,
+        })
+    }
+}
+
+/// The search for an extent: the last one, if that was for such an extent.
+fn search_for(last: Option<Search>, around: &Around, extent: Extent) -> Search
+    requires { IsExtent extent }
+    ensures extent { result.extent ≡ extent }
+    ensures search { (taken : List Range) → IfSome last (IsSearch around.now taken)
+        → IsSearch around.now taken result }
+{
+    match last {
+        Some(search) if search.extent == extent => search,
+        _ => Search::begin(around, extent),
+    }
+}
+
+/// The next place around a window.
+fn next_spot(search: &mut Search, around: &Around, taken: &[Range]) -> Option<Spot>
+    requires firsts { FirstsRise taken.now }
+    requires lasts { LastsRise taken.now }
+    requires search { IsSearch around.now taken.now search.old }
+    ensures place { spot_place result ≡ place_around (decoded_range_of around.now.window)
+        (decoded_range_of around.now.reach) (map decoded_range_of taken.now)
+        (extent_value search.old.extent) }
+    ensures between { IfSome result (IsBetweenTaken taken.now search.old.extent) }
+    ensures extent { search.new.extent ≡ search.old.extent }
+    ensures search { IfSome result (λ _. IsSearch around.now taken.now search.new) }
+    // so the search goes on there once the place is taken
+    ensures index { IfSome result (IsBelowLast taken.now search.new) }
+{
+    match search.first_from(around, taken) {
+        Some(spot) => Some(spot),
+        None => search.last_before(around, taken),
+    }
+}
+
+/// Takes the next place around a window, if there is any.
+fn take_next<A: Allocator>(
+    search: &mut Search,
+    around: &Around,
+    taken: &mut Vec<Range, A>,
+) -> Result<Option<u64>, OutOfMemory>
+    requires listed { AreInOrder taken.old.items }
+    requires search { IsSearch around.now taken.old.items search.old }
+    ensures place { IfOk result (λ place. place
+        ≡ place_around (decoded_range_of around.now.window) (decoded_range_of around.now.reach)
+        (map decoded_range_of taken.old.items) (extent_value search.old.extent)) }
+    ensures taken { IfOk result (λ place. IfSome place
+        (IsPutAt taken.old.items taken.new.items search.old.extent)) }
+    ensures listed { AreInOrder taken.new.items }
+    ensures search { IfOk result (λ place. IfSome place
+        (λ _. IsSearch around.now taken.new.items search.new)) }
+{
+    let extent = search.extent;
+    let Some(spot) = next_spot(search, around, taken.as_slice()) else {
+        return Ok(None);
+    };
+    let first = spot.at;
+    let last = first + (extent.size - 1);
+    taken.insert(spot.index, Range { first, last })?;
+    Ok(Some(first))
+}
+
+/// Gives each item its place around a window, what is taken and those before it being taken. The answer is None where all
+/// have one, else the index of the first that has none.
+pub fn places_around<A: Allocator>(
+    around: &Around,
+    taken: &mut Vec<Range, A>,
+    items: &[Item],
+    places: &mut [u64],
+) -> Result<Option<usize>, OutOfMemory>
+    // without an address it has no last one, and of 0 there is no multiple
+    requires items { All HasExtent items.now }
+    // what is free lies between two that follow one another
+    requires listed { AreInOrder taken.old.items }
+    // an item's place stands at its index
+    requires count { length places.old ≡ length items.now }
+    ensures placing { IfOk result (λ lack. (values : List ItemValue) → HaveExtents values items.now
+        → place_each (find_around around.now) (map decoded_range_of taken.old.items) values
+        ≡ placing_of values places.new lack) }
+    // so the last address of each can be told
+    ensures ends { IfOk result (λ lack. IfNone lack (AreEndingAll items.now places.new (length items.now))) }
+{
+    let mut last: Option<Search> = None;
+    for index in 0..items.len() {
+        let mut search = search_for(last, around, items[index].extent);
+        let Some(at) = take_next(&mut search, around, taken)? else {
+            return Ok(Some(index));
+        };
+        places[index] = at;
+        last = Some(search);
+    }
+    Ok(None)
+}
