@@ -2,3 +2,4 @@ pub mod Places
 pub mod Late
 pub mod Searches
 pub mod Each
+pub mod Rows

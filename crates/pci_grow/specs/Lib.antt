@@ -1,3 +1,4 @@
 pub mod LastPlaces
 pub mod Tables
 pub mod Arounds
+pub mod Rows

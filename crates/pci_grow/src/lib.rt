@@ -4,6 +4,7 @@
 #![tactic(auto)]
 
 pub mod around;
+pub mod beside;
 pub mod halves;
 pub mod last_place;
 pub mod table;

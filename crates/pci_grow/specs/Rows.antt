@@ -1,0 +1,60 @@
+-- The parts that stand, row by row: those of a bus and a space, by rising addresses.
+use Rattle.std.specs.Prelude.{◌≡◌, ℕ, ◌+◌, ◌-◌, ◌*◌, ◌<◌, ◌⊎◌, List, length, slice_index_or}
+use Rattle.std.specs.List.{AllPairs, filter}
+use Rattle.std.specs.List.Sorted.{IsPermutation}
+use Rattle.pci_spec.specs.System.{Space, Io, Memory}
+use Rattle.pci_base.specs.Space.{space_of}
+use Rattle.pci_base.specs.declared.range.Range.{Range}
+use Rattle.pci_settle.specs.declared.kept.Kept.{Kept}
+use Rattle.pci_stand.specs.declared.region.Region.{Region}
+use Rattle.pci_stand.specs.Held.{is_kept}
+
+-- a number that rises with the bus, all roots being one, and then from I/O to memory
+abbrev pub row_number : ℕ → Space → ℕ
+row_number level Io = 2 * level
+row_number level Memory = 2 * level + 1
+
+abbrev pub row_of : Region → ℕ
+row_of r = row_number r.level (space_of r.space)
+
+-- a part begins below another, or with it and is of a lower number
+abbrev pub IsLower : (Region → ℕ) → Region → Region → Type 0
+IsLower number r t =
+    (r.range.first < t.range.first)
+    ⊎ ((r.range.first ≡ t.range.first) × (number r < number t))
+
+-- it is of a lower row, or comes first in the same one
+abbrev pub IsInRowOrder : (Region → ℕ) → Region → Region → Type 0
+IsInRowOrder number r t = (row_of r < row_of t) ⊎ ((row_of r ≡ row_of t) × IsLower number r t)
+
+-- the parts that a table tells to stand, in that order by any number that rises along all parts
+pub record AreRows (regions : List Region) (standing : List Kept) (rows : List Region) : Type 0 where
+  pub same : IsPermutation (filter (is_kept standing) regions) rows
+  pub order : (number : Region → ℕ) → AllPairs (λ r t. number r < number t) regions
+      → AllPairs (IsInRowOrder number) rows
+
+-- ---- next to a part in its row
+
+-- the part before one is in its row too, and has these addresses
+pub record IsBefore (rows : List Region) (index : ℕ) (r : Range) : Type 0 where
+  pub some : 0 < index
+  pub row : (d : Region) → row_of (slice_index_or rows (index - 1) d) ≡ row_of (slice_index_or rows index d)
+  pub range : (d : Region) → r ≡ (slice_index_or rows (index - 1) d).range
+
+-- all before it are in lower rows
+abbrev pub AreAllInLowerRows : List Region → ℕ → Type 0
+AreAllInLowerRows rows index =
+    (k : ℕ) (d : Region) → k < index
+    → row_of (slice_index_or rows k d) < row_of (slice_index_or rows index d)
+
+-- the part behind one is in its row too, and has these addresses
+pub record IsBehind (rows : List Region) (index : ℕ) (r : Range) : Type 0 where
+  pub some : index + 1 < length rows
+  pub row : (d : Region) → row_of (slice_index_or rows (index + 1) d) ≡ row_of (slice_index_or rows index d)
+  pub range : (d : Region) → r ≡ (slice_index_or rows (index + 1) d).range
+
+-- all behind it are in higher rows
+abbrev pub AreAllInHigherRows : List Region → ℕ → Type 0
+AreAllInHigherRows rows index =
+    (k : ℕ) (d : Region) → index < k → k < length rows
+    → row_of (slice_index_or rows index d) < row_of (slice_index_or rows k d)
