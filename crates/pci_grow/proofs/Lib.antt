@@ -3,3 +3,4 @@ pub mod Late
 pub mod Searches
 pub mod Each
 pub mod Rows
+pub mod Placeless

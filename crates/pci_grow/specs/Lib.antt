@@ -2,3 +2,4 @@ pub mod LastPlaces
 pub mod Tables
 pub mod Arounds
 pub mod Rows
+pub mod PlaceTables

@@ -7,4 +7,5 @@ pub mod around;
 pub mod beside;
 pub mod halves;
 pub mod last_place;
+pub mod place;
 pub mod table;
