@@ -29,7 +29,7 @@ use pci_settle::list::Lists;
 use pci_settle::over::is_within;
 
 /// Whether a root has a range of a list that holds another.
-fn has_range(one: RootRange, bus: u8, range: Range) -> bool
+pub fn has_range(one: RootRange, bus: u8, range: Range) -> bool
     ensures { result ≡ root_range_holds bus (decoded_range_of range) (root_range_value one) }
 {
     match one.root {
