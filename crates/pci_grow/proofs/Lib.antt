@@ -4,3 +4,5 @@ pub mod Searches
 pub mod Each
 pub mod Rows
 pub mod Placeless
+pub mod Clear
+pub mod Found

@@ -3,3 +3,4 @@ pub mod Tables
 pub mod Arounds
 pub mod Rows
 pub mod PlaceTables
+pub mod Rooms

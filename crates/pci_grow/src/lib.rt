@@ -8,4 +8,5 @@ pub mod beside;
 pub mod halves;
 pub mod last_place;
 pub mod place;
+pub mod room;
 pub mod table;
