@@ -4,3 +4,4 @@ pub mod Arounds
 pub mod Rows
 pub mod PlaceTables
 pub mod Rooms
+pub mod Reaches

@@ -8,5 +8,6 @@ pub mod beside;
 pub mod halves;
 pub mod last_place;
 pub mod place;
+pub mod reach;
 pub mod room;
 pub mod table;

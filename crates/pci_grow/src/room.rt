@@ -88,7 +88,8 @@ fn last_free(room: Range, behind: Option<Range>) -> u64
 pub fn between(window: Range, room: Range, before: Option<Range>, behind: Option<Range>) -> Range
     // what ends before a window isn't at the end of 64 bits
     requires apart { IfSome before (λ other. other.last < window.first) }
-    ensures { (beside : List DecodedRange)
+    ensures first { result.first ≡ first_behind room.first (option_map decoded_range_of before) }
+    ensures clear { (beside : List DecodedRange)
         → IsNearestBelow (decoded_range_of window) beside (option_map decoded_range_of before)
         → IsNearestAbove (decoded_range_of window) beside (option_map decoded_range_of behind)
         → decoded_range_of result

@@ -4,8 +4,8 @@ use Rattle.pci_base.specs.Ranges.{decoded_range_of}
 use Rattle.pci_grow.proofs.Clear.{first_by_nearest, last_by_nearest, cleared_is}
 use Rattle.pci_grow.proofs.room.between.Goals as goal
 
-pub returns : goal.returns
-returns c = λ beside below above.
+pub returns-clause-clear : goal.returns-clause-clear
+returns-clause-clear c = λ beside below above.
     let w = decoded_range_of c.args.window in
     let r = decoded_range_of c.args.room in
     cleared_is w r beside _ _

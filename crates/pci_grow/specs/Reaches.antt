@@ -1,0 +1,23 @@
+-- A window among what stands beside it.
+use Rattle.std.specs.Prelude.{◌≡◌, ℕ}
+use Rattle.std.specs.Option.{option_map}
+use Rattle.pci_spec.specs.Window.{WindowKind}
+use Rattle.pci_spec.specs.System.{System, Function}
+use Rattle.settle_spec.specs.Lists.{Request}
+use Rattle.settle_spec.specs.Parts.{addresses}
+use Rattle.settle_spec.specs.Stands.{window_part}
+use Rattle.settle_spec.specs.Items.{highest_in}
+use Rattle.settle_spec.specs.Reach.{standing_beside}
+use Rattle.pci_base.specs.Ranges.{decoded_range_of}
+use Rattle.pci_grow.specs.declared.reach.Among.{Among}
+use Rattle.pci_grow.specs.Rooms.{IsNearestBelow, IsNearestAbove}
+
+-- a window of a bridge with its neighbours among what stands beside it, and the highest address that it can hold
+pub record IsAmong (q : Request) (s : System) (c : WindowKind) (b : Function) (highest : ℕ)
+    (a : Among) : Type 0 where
+  pub window : addresses (window_part c b) ≡ decoded_range_of a.window
+  pub highest_is : highest_in c b.probe ≡ highest
+  pub below : IsNearestBelow (decoded_range_of a.window) (standing_beside q s (window_part c b))
+      (option_map decoded_range_of a.before)
+  pub above : IsNearestAbove (decoded_range_of a.window) (standing_beside q s (window_part c b))
+      (option_map decoded_range_of a.behind)

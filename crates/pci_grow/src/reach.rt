@@ -1,0 +1,55 @@
+//! How far a window that stands can grow: over the pages beside it that nothing else on its bus has.
+ghost use Rattle.std.specs.Prelude.{◌≡◌, ◌≤◌, ◌<◌, IfSome, map};
+ghost use Rattle.std.specs.Option.{option_map};
+ghost use Rattle.pci_spec.specs.Window.{page_size};
+ghost use Rattle.pci_spec.specs.System.{System, Function};
+ghost use Rattle.plan_spec.specs.Plan.{raised_to};
+ghost use Rattle.settle_spec.specs.Lists.{Request};
+ghost use Rattle.settle_spec.specs.Reach.{cut_to_halves, whole_pages as pages_of, reach_in};
+ghost use Rattle.pci_base.specs.Ranges.{decoded_range_of};
+ghost use Rattle.pci_base.specs.WindowKinds.{kind_value};
+ghost use Rattle.pci_grow.specs.Rooms.{first_behind};
+ghost use Rattle.pci_grow.specs.Reaches.{IsAmong};
+
+use crate::halves::{cut_to_halves, whole_pages};
+use crate::room::{between, no_higher};
+use pci_base::range::Range;
+use pci_base::window_kind::WindowKind;
+
+/// The whole pages of what is free around a window, up to which it can grow.
+fn pages_around(class: WindowKind, window: Range, free: Range) -> Range
+    // the first whole page begins no later than the window, which is of whole pages itself
+    requires { raised_to (page_size (kind_value class)) free.first ≤ window.first }
+    ensures { decoded_range_of result ≡ cut_to_halves (kind_value class) (decoded_range_of window)
+        (pages_of (page_size (kind_value class)) (decoded_range_of free)) }
+{
+    match whole_pages(class, free) {
+        Some(pages) => cut_to_halves(class, window, pages),
+        None => window,
+    }
+}
+
+/// A window and the parts next to it in its row.
+#[derive(Clone, Copy, Debug)]
+pub struct Among {
+    pub window: Range,
+    pub before: Option<Range>,
+    pub behind: Option<Range>,
+}
+
+/// How far a window can grow in a room, up to the highest address that it can hold.
+pub fn reach_in(class: WindowKind, among: &Among, highest: u64, room: Range) -> Range
+    // what ends before a window isn't at the end of 64 bits
+    requires apart { IfSome among.now.before (λ other. other.last < among.now.window.first) }
+    // the first whole page begins no later than the window, which is of whole pages itself
+    requires page { raised_to (page_size (kind_value class))
+        (first_behind room.first (option_map decoded_range_of among.now.before))
+        ≤ among.now.window.first }
+    ensures { (q : Request) → (s : System) → (b : Function)
+        → IsAmong q s (kind_value class) b highest among.now
+        → decoded_range_of result ≡ reach_in q s (kind_value class) b (decoded_range_of room) }
+{
+    let low = no_higher(highest, room);
+    let free = between(among.window, low, among.before, among.behind);
+    pages_around(class, among.window, free)
+}
