@@ -6,3 +6,4 @@ pub mod Rows
 pub mod Placeless
 pub mod Clear
 pub mod Found
+pub mod Neighbours

@@ -1,8 +1,10 @@
 -- The parts that stand, row by row: those of a bus and a space, by rising addresses.
-use Rattle.std.specs.Prelude.{◌≡◌, ℕ, ◌+◌, ◌-◌, ◌*◌, ◌<◌, ◌⊎◌, List, length, slice_index_or}
-use Rattle.std.specs.List.{AllPairs, filter}
+use Rattle.std.specs.Prelude.{◌≡◌, ℕ, ◌+◌, ◌-◌, ◌*◌, ◌<◌, ◌≤◌, ◌⊎◌, List, length, slice_index_or}
+use Rattle.std.specs.List.{AllPairs, Contains, filter}
 use Rattle.std.specs.List.Sorted.{IsPermutation}
 use Rattle.pci_spec.specs.System.{Space, Io, Memory}
+use Rattle.pci_spec.specs.Decoded.{Range as DecodedRange}
+use Rattle.pci_base.specs.Ranges.{decoded_range_of}
 use Rattle.pci_base.specs.Space.{space_of}
 use Rattle.pci_base.specs.declared.range.Range.{Range}
 use Rattle.pci_settle.specs.declared.kept.Kept.{Kept}
@@ -58,3 +60,31 @@ abbrev pub AreAllInHigherRows : List Region → ℕ → Type 0
 AreAllInHigherRows rows index =
     (k : ℕ) (d : Region) → index < k → k < length rows
     → row_of (slice_index_or rows index d) < row_of (slice_index_or rows k d)
+
+-- ---- where parts of a row share no address
+
+-- none is backward, and each ends before those behind it in its row begin
+pub record AreApartInRows (rows : List Region) : Type 0 where
+  pub forward : (k : ℕ) (d : Region) → k < length rows
+      → (slice_index_or rows k d).range.first ≤ (slice_index_or rows k d).range.last
+  pub apart : (j k : ℕ) (d : Region) → j < k → k < length rows
+      → row_of (slice_index_or rows j d) ≡ row_of (slice_index_or rows k d)
+      → (slice_index_or rows j d).range.last < (slice_index_or rows k d).range.first
+
+-- a part is another one of a row
+pub record IsBeside (rows : List Region) (index k : ℕ) : Type 0 where
+  pub within : k < length rows
+  pub other : k ≡ index → ⊥
+  pub row : (d : Region) → row_of (slice_index_or rows k d) ≡ row_of (slice_index_or rows index d)
+
+-- a part of that index has these addresses
+pub record IsRangeBeside (rows : List Region) (index : ℕ) (t : DecodedRange) : Type 0 where
+  pub k : ℕ
+  pub beside : IsBeside rows index k
+  pub range : (d : Region) → decoded_range_of (slice_index_or rows k d).range ≡ t
+
+-- these are the addresses of all others of its row
+pub record AreBeside (rows : List Region) (index : ℕ) (ts : List DecodedRange) : Type 0 where
+  pub each : (t : DecodedRange) → Contains ts t → IsRangeBeside rows index t
+  pub all : (k : ℕ) (d : Region) → IsBeside rows index k
+      → Contains ts (decoded_range_of (slice_index_or rows k d).range)

@@ -1,6 +1,8 @@
 //! How far a window that stands can grow: over the pages beside it that nothing else on its bus has.
-ghost use Rattle.std.specs.Prelude.{◌≡◌, ◌≤◌, ◌<◌, IfSome, map};
+ghost use Rattle.std.specs.Prelude.{◌≡◌, ◌≤◌, ◌<◌, IfSome, List, length, map, slice_index_or};
 ghost use Rattle.std.specs.Option.{option_map};
+ghost use Rattle.std.specs.List.Sorted.{IsNonDecreasingBy};
+ghost use Rattle.pci_spec.specs.Decoded.{Range as DecodedRange};
 ghost use Rattle.pci_spec.specs.Window.{page_size};
 ghost use Rattle.pci_spec.specs.System.{System, Function};
 ghost use Rattle.plan_spec.specs.Plan.{raised_to};
@@ -8,13 +10,16 @@ ghost use Rattle.settle_spec.specs.Lists.{Request};
 ghost use Rattle.settle_spec.specs.Reach.{cut_to_halves, whole_pages as pages_of, reach_in};
 ghost use Rattle.pci_base.specs.Ranges.{decoded_range_of};
 ghost use Rattle.pci_base.specs.WindowKinds.{kind_value};
-ghost use Rattle.pci_grow.specs.Rooms.{first_behind};
+ghost use Rattle.pci_grow.specs.Rooms.{first_behind, IsNearestBelow, IsNearestAbove};
+ghost use Rattle.pci_grow.specs.Rows.{row_of, AreApartInRows, AreBeside};
 ghost use Rattle.pci_grow.specs.Reaches.{IsAmong};
 
+use crate::beside::{before, behind};
 use crate::halves::{cut_to_halves, whole_pages};
 use crate::room::{between, no_higher};
 use pci_base::range::Range;
 use pci_base::window_kind::WindowKind;
+use pci_stand::region::Region;
 
 /// The whole pages of what is free around a window, up to which it can grow.
 fn pages_around(class: WindowKind, window: Range, free: Range) -> Range
@@ -35,6 +40,31 @@ pub struct Among {
     pub window: Range,
     pub before: Option<Range>,
     pub behind: Option<Range>,
+}
+
+/// A part and those next to it in its row.
+pub fn with_neighbours(rows: &[Region], index: usize) -> Among
+    requires index { index < length rows.now }
+    // those of a row follow one another
+    requires order { IsNonDecreasingBy row_of rows.now }
+    ensures window { (d : Region) → result.window ≡ (slice_index_or rows.now index d).range }
+    // what ends before it isn't at the end of 64 bits
+    ensures apart { AreApartInRows rows.now
+        → IfSome result.before (λ other. other.last < result.window.first) }
+    ensures below { (beside : List DecodedRange) → AreApartInRows rows.now
+        → AreBeside rows.now index beside
+        → IsNearestBelow (decoded_range_of result.window) beside
+        (option_map decoded_range_of result.before) }
+    ensures above { (beside : List DecodedRange) → AreApartInRows rows.now
+        → AreBeside rows.now index beside
+        → IsNearestAbove (decoded_range_of result.window) beside
+        (option_map decoded_range_of result.behind) }
+{
+    Among {
+        window: rows[index].range,
+        before: before(rows, index),
+        behind: behind(rows, index),
+    }
 }
 
 /// How far a window can grow in a room, up to the highest address that it can hold.
