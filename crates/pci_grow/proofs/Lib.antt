@@ -7,3 +7,4 @@ pub mod Placeless
 pub mod Clear
 pub mod Found
 pub mod Neighbours
+pub mod RoomOver

@@ -1,15 +1,22 @@
 -- A window among what stands beside it.
-use Rattle.std.specs.Prelude.{◌≡◌, ℕ}
+use Rattle.std.specs.Prelude.{◌≡◌, ℕ, IsTrue, List, Option, Some, slice_get}
 use Rattle.std.specs.Option.{option_map}
 use Rattle.pci_spec.specs.Window.{WindowKind}
-use Rattle.pci_spec.specs.System.{System, Function}
+use Rattle.pci_spec.specs.System.{System, Function, is_bridge}
+use Rattle.pci_spec.specs.Bus.{secondary}
+use Rattle.pci_spec.specs.Decoded.{Range}
 use Rattle.settle_spec.specs.Lists.{Request}
 use Rattle.settle_spec.specs.Parts.{addresses}
 use Rattle.settle_spec.specs.Stands.{window_part}
 use Rattle.settle_spec.specs.Items.{highest_in}
 use Rattle.settle_spec.specs.Reach.{standing_beside}
+use Rattle.pci_base.specs.declared.range.Range.{Range as CodeRange}
+use Rattle.pci_base.specs.declared.window_kind.WindowKind.{WindowKind as CodeKind}
+use Rattle.pci_base.specs.declared.window_kind.ByKind.{ByKind}
+use Rattle.pci_base.specs.WindowKinds.{kind_value}
 use Rattle.pci_base.specs.Ranges.{decoded_range_of}
 use Rattle.pci_grow.specs.declared.reach.Among.{Among}
+use Rattle.pci_grow.specs.Tables.{told}
 use Rattle.pci_grow.specs.Rooms.{IsNearestBelow, IsNearestAbove}
 
 -- a window of a bridge with its neighbours among what stands beside it, and the highest address that it can hold
@@ -21,3 +28,10 @@ pub record IsAmong (q : Request) (s : System) (c : WindowKind) (b : Function) (h
       (option_map decoded_range_of a.before)
   pub above : IsNearestAbove (decoded_range_of a.window) (standing_beside q s (window_part c b))
       (option_map decoded_range_of a.behind)
+
+-- a table tells this of the windows of a class of the bridges to a bus
+abbrev pub AreToldOver : System → WindowKind → ℕ → (Function → Range) → List (ByKind (Option CodeRange)) → Type 0
+AreToldOver s c bus reach table =
+    (k : ℕ) (f : Function) (class : CodeKind) → slice_get s k ≡ Some f → IsTrue (is_bridge f)
+    → secondary f ≡ bus → kind_value class ≡ c
+    → option_map decoded_range_of (told table k class) ≡ Some (reach f)

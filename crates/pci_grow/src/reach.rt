@@ -7,18 +7,27 @@ ghost use Rattle.pci_spec.specs.Window.{page_size};
 ghost use Rattle.pci_spec.specs.System.{System, Function};
 ghost use Rattle.plan_spec.specs.Plan.{raised_to};
 ghost use Rattle.settle_spec.specs.Lists.{Request};
-ghost use Rattle.settle_spec.specs.Reach.{cut_to_halves, whole_pages as pages_of, reach_in};
+ghost use Rattle.settle_spec.specs.Reach.{cut_to_halves, whole_pages as pages_of, reach_in, room_around};
 ghost use Rattle.pci_base.specs.Ranges.{decoded_range_of};
 ghost use Rattle.pci_base.specs.WindowKinds.{kind_value};
 ghost use Rattle.pci_grow.specs.Rooms.{first_behind, IsNearestBelow, IsNearestAbove};
 ghost use Rattle.pci_grow.specs.Rows.{row_of, AreApartInRows, AreBeside};
-ghost use Rattle.pci_grow.specs.Reaches.{IsAmong};
+ghost use Rattle.pci_tree.specs.Ways.{IsBridgeToBus};
+ghost use Rattle.pci_place.specs.Items.{function_in};
+ghost use Rattle.pci_settle.specs.Lists.{lists_value};
+ghost use Rattle.pci_settle.specs.declared.kept.Part.TheVariants.{Window};
+ghost use Rattle.pci_stand.specs.Boards.{IsBoard, IsKnown};
+ghost use Rattle.pci_grow.specs.Reaches.{IsAmong, AreToldOver};
 
 use crate::beside::{before, behind};
 use crate::halves::{cut_to_halves, whole_pages};
-use crate::room::{between, no_higher};
+use crate::room::{between, no_higher, room_on_root};
+use crate::table::{WindowRanges, told_of};
 use pci_base::range::Range;
+use pci_base::slot::BUSES;
 use pci_base::window_kind::WindowKind;
+use pci_function::record::Record;
+use pci_settle::list::Lists;
 use pci_stand::region::Region;
 
 /// The whole pages of what is free around a window, up to which it can grow.
@@ -82,4 +91,36 @@ pub fn reach_in(class: WindowKind, among: &Among, highest: u64, room: Range) -> 
     let low = no_higher(highest, room);
     let free = between(among.window, low, among.before, among.behind);
     pages_around(class, among.window, free)
+}
+
+/// The functions of a board and the ranges that are asked for.
+#[derive(Clone, Copy)]
+pub struct Board<'a, 'l> {
+    pub records: &'a [Record],
+    /// The bridge over each bus, by its place among the records; None on a root.
+    pub over: &'a [Option<usize>; BUSES],
+    pub lists: &'a Lists<'l>,
+}
+
+/// What a window is in: a range of its root, or what the window above it can reach, as a table tells it.
+fn room_around(
+    board: &Board,
+    region: &Region,
+    class: WindowKind,
+    reaches: &[WindowRanges],
+) -> Option<Range>
+    // the bridge to its bus is found by one look into this table
+    requires over { IsBridgeToBus board.now.records.now board.now.over.now }
+    ensures { (q : Request) → (s : System) → (reach : Function → DecodedRange)
+        → IsBoard q s board.now.records.now (lists_value board.now.lists.now)
+        → IsKnown q s region.now → region.now.part ≡ Window class
+        → AreToldOver s (kind_value class) region.now.bus reach reaches.now
+        → option_map decoded_range_of result
+        ≡ room_around q s (kind_value class) reach (function_in s region.now.function) }
+{
+    if region.level == 0 {
+        return room_on_root(board.lists, region.bus, class, region.range);
+    }
+    let over = board.over[region.bus as usize]?;
+    told_of(reaches, over, class)
 }
