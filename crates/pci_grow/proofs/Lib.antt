@@ -8,3 +8,4 @@ pub mod Clear
 pub mod Found
 pub mod Neighbours
 pub mod RoomOver
+pub mod ReachByBus
