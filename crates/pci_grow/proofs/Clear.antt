@@ -1,5 +1,5 @@
 -- What is clear of all that is beside a window is what lies between its neighbours.
-use Rattle.std.proofs.Common.{◌≡◌, ◌⊎◌, ℕ, ◌+◌, ◌-◌, ◌<◌, ◌≤◌, max, min, inl, inr, List, [], ◌∷◌, cond, arith, ap, sym, subst, ◌∙◌, refl, true, false, Bool, Option, None, Some}
+use Rattle.std.proofs.Common.{◌≡◌, ◌⊎◌, ℕ, ◌+◌, ◌-◌, ◌<◌, ◌≤◌, max, min, inl, inr, List, [], ◌∷◌, cond, arith, ap, sym, subst, ◌∙◌, refl, false, Option, None, Some}
 use Rattle.std.specs.Bool.{nat_lt}
 use Rattle.std.specs.List.{Contains, fold}
 use Rattle.std.proofs.lemmas.Bool.{cases_Bool, cases_lt, ltb-true, ltb-false, lt-ltb}

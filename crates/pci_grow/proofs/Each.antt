@@ -8,7 +8,7 @@ use Rattle.std.proofs.lemmas.Grind.{take_at_read}
 use Rattle.pci_spec.specs.Decoded.{Range as DecodedRange}
 use Rattle.pci_spec.proofs.Members.{in_head, in_tail}
 use Rattle.plan_spec.specs.Place.{range_from}
-use Rattle.settle_spec.specs.FirstPlace.{Extent as ExtentValue, is_place, first_place_in, first_place, else_at}
+use Rattle.settle_spec.specs.FirstPlace.{Extent as ExtentValue, is_place, first_place_in, else_at}
 use Rattle.settle_spec.specs.LastPlace.{last_place_in}
 use Rattle.settle_spec.specs.Items.{Item as ItemValue, Placed, AllPlaced, and_placed, place_next, taken_by}
 use Rattle.settle_spec.specs.Growth.{place_around, place_each}
