@@ -11,17 +11,20 @@ use Rattle.pci_spec.specs.Header.{layout, bar_count}
 use Rattle.pci_spec.specs.Window.{WindowKind, IoWindow, MemoryWindow, PrefetchWindow}
 use Rattle.pci_spec.specs.System.{System, Function, Part, Bar, Rom, Window, IsSystem, has_part}
 use Rattle.pci_spec.specs.Bus.{is_root, IsNested, LeadsTo}
+use Rattle.pci_spec.proofs.BusRanges.{root_means}
 use Rattle.pci_spec.proofs.Members.{in_flat_map_from, in_map_from, in_filter_from, in_range_from}
 use Rattle.pci_spec.proofs.Regions.{register_of-lt}
 use Rattle.plan_spec.specs.Plan.{bridges_above}
+use Rattle.plan_spec.proofs.Planning.AboveBuses.{all_above_root}
 use Rattle.plan_spec.proofs.Planning.Safe.{slots_of, order_of}
 use Rattle.settle_spec.specs.Lists.{Request}
 use Rattle.settle_spec.specs.Parts.{FunctionPart, system_parts, function_parts, parts_of, is_part, header_bars, header_parts, addresses, lies_within, class_in, bridge_over}
 use Rattle.settle_spec.specs.Stands.{rank, window_part, part_space, is_in_lists, is_in_window, is_in_place, takes_from, stands}
-use Rattle.settle_spec.specs.Items.{has_room, has_room_behind, stays}
+use Rattle.settle_spec.specs.Items.{has_room, has_room_behind}
 use Rattle.settle_spec.proofs.BridgeOver.{over_is}
 use Rattle.stand_laws.proofs.Standing.{part_of, stands_by_itself}
-use Rattle.stand_laws.proofs.Holding.{holds_by_bus, stays_on_root, stays_by_bus}
+use Rattle.stand_laws.proofs.GrowingKept.{over_first}
+use Rattle.stand_laws.proofs.Holding.{holds_by_bus}
 use Rattle.pci_place.specs.Items.{no_function}
 use Rattle.pci_settle.specs.declared.kept.Kept.{Kept}
 use Rattle.pci_settle.specs.Kept.{kept_of, nothing_kept}
@@ -32,8 +35,8 @@ use Rattle.pci_stand.specs.Tables.{stands_in}
 use Rattle.pci_stand.proofs.Indexes.{table_at, noted_here, noted_others}
 use Rattle.pci_stand.proofs.Whole.{values_are, numbers_rise, known_sorted}
 use Rattle.pci_stay.specs.Rooms.{region_bus}
-use Rattle.pci_stay.specs.Holding.{AreHolding}
-use Rattle.pci_stay.specs.Staying.{IsStayedTo, AreStaying}
+use Rattle.pci_stay.specs.Holding.{AreNoted}
+use Rattle.pci_stay.specs.Staying.{HoldsWhereStands, stays_by, IsStayedTo, AreStayingBy}
 use Rattle.pci_stay.proofs.Rooms.{part_there}
 
 -- a list with an index has an element
@@ -56,19 +59,34 @@ part_listed q s f p in_f there is =
     in_flat_map_from (function_parts q s) s f record { function = f; part = p } in_f
     (in_map_from (λ o. record { function = f; part = o }) (parts_of q s f) p (in_filter_from (is_part q s f) (header_parts f) p (header_from f p there) is))
 
-module _ (q : Request) (s : System) (system : IsSystem s) (nested : IsNested q.roots s) where
-  -- what holds stands, and what stands is a part
-  stands_of : (r : FunctionPart) → Contains s r.function → has_room_behind q s r ≡ true → stands q s r ≡ true
-  stands_of r listed is = (and_parts (stands q s r) (has_room q s (has_room_behind q s) r.function r.part) (sym (holds_by_bus q s system nested r listed) ∙ is)).0
+with_true : (b : Bool) → (b && true) ≡ b
+with_true true = refl
+with_true false = refl
 
+module _ (q : Request) (s : System) (system : IsSystem s) (nested : IsNested q.roots s) where
+  -- what has room behind it stands
+  pub room_stands : HoldsWhereStands q s (has_room_behind q s)
+  room_stands r listed is = (and_parts (stands q s r) (has_room q s (has_room_behind q s) r.function r.part) (sym (holds_by_bus q s system nested r listed) ∙ is)).0
+
+module _ (q : Request) (s : System) (system : IsSystem s) (nested : IsNested q.roots s) (holds : FunctionPart → Bool) (stands_of : HoldsWhereStands q s holds) where
+  -- what stands is a part
   is_part_of : (r : FunctionPart) → Contains s r.function → stands q s r ≡ true → is_part q s r.function r.part ≡ true
   is_part_of r listed is = (stands_by_itself q s nested).only r listed is
 
-  no_part_holds : (r : FunctionPart) → Contains s r.function → is_part q s r.function r.part ≡ false → has_room_behind q s r ≡ false
-  no_part_holds r listed off = false_from_ne_true (has_room_behind q s r) (λ is. both_ways (is_part q s r.function r.part) off (is_part_of r listed (stands_of r listed is)))
+  no_part_holds : (r : FunctionPart) → Contains s r.function → is_part q s r.function r.part ≡ false → holds r ≡ false
+  no_part_holds r listed off = false_from_ne_true (holds r) (λ is. both_ways (is_part q s r.function r.part) off (is_part_of r listed (stands_of r listed is)))
 
-  no_hold_stays : (r : FunctionPart) → has_room_behind q s r ≡ false → stays q s r ≡ false
-  no_hold_stays r off = ap (λ b. b && list_all (λ f. has_room_behind q s (window_part (class_in q s r.function r.part) f)) (bridges_above s r.function.slot.bus)) off
+  no_hold_stays : (r : FunctionPart) → holds r ≡ false → stays_by q s holds r ≡ false
+  no_hold_stays r off = ap (λ b. b && list_all (λ f. holds (window_part (class_in q s r.function r.part) f)) (bridges_above s r.function.slot.bus)) off
+
+  on_root : (r : FunctionPart) → is_root q.roots r.function.slot.bus ≡ true → stays_by q s holds r ≡ holds r
+  on_root r root =
+      ap (λ b. holds r && b) (all_above_root q.roots s system nested (λ b. holds (window_part (class_in q s r.function r.part) b)) r.function.slot.bus ((root_means q.roots r.function.slot.bus).0 root))
+      ∙ with_true (holds r)
+
+  by_bus : (r : FunctionPart) (b : Function) → LeadsTo s b r.function.slot.bus
+      → stays_by q s holds r ≡ (holds r && stays_by q s holds (window_part (class_in q s r.function r.part) b))
+  by_bus r b leads = ap (λ x. holds r && x) (over_first q s system nested holds (class_in q s r.function r.part) b r.function.slot.bus leads)
 
   module _ (rs : List CodeRegion) (parts : AreParts q s rs) where
     abbrev value : CodeRegion → FunctionPart
@@ -117,7 +135,7 @@ module _ (q : Request) (s : System) (system : IsSystem s) (nested : IsNested q.r
         let low : i < length rs = (let inside = there.1 in let long = length-map rs value in omega (arith, inside, long)) in
         (i, low, λ d. sym (get_or-map value rs i d r low) ∙ there.2)
 
-    pub stayed_none : (table : List Kept) → AreHolding q s table → IsStayedTo q s rs 0 table
+    pub stayed_none : (table : List Kept) → AreNoted s holds table → IsStayedTo q s holds rs 0 table
     stayed_none table are = record {
       count = are.count;
       opens = are.opens;
@@ -135,7 +153,7 @@ module _ (q : Request) (s : System) (system : IsSystem s) (nested : IsNested q.r
 
     -- ---- one part
 
-    module _ (n : ℕ) (x : CodeRegion) (within : n < length rs) (x_is : x ≡ get_or rs n x) (old : List Kept) (was : IsStayedTo q s rs n old) where
+    module _ (n : ℕ) (x : CodeRegion) (within : n < length rs) (x_is : x ≡ get_or rs n x) (old : List Kept) (was : IsStayedTo q s holds rs n old) where
       abbrev v : FunctionPart
       v = value x
 
@@ -151,8 +169,8 @@ module _ (q : Request) (s : System) (system : IsSystem s) (nested : IsNested q.r
       in_v : Contains s v.function
       in_v = in_system x in_rs
 
-      before : test v ≡ has_room_behind q s v
-      before = ap (λ y. test (value y)) x_is ∙ was.rest n x (omega arith) within ∙ ap (λ y. has_room_behind q s (value y)) (sym x_is)
+      before : test v ≡ holds v
+      before = ap (λ y. test (value y)) x_is ∙ was.rest n x (omega arith) within ∙ ap (λ y. holds (value y)) (sym x_is)
 
       in_place_if : (stand : FunctionPart → Bool) → is_in_place q s stand v
           ≡ cond (is_root q.roots bus) (is_in_lists q bus (addresses v) (part_space v)) (is_in_window stand (class_in q s v.function v.part) (addresses v) (bridge_over s bus))
@@ -195,25 +213,25 @@ module _ (q : Request) (s : System) (system : IsSystem s) (nested : IsNested q.r
               ]
         ]
 
-        told_over : test over ≡ stays q s over
+        told_over : test over ≡ stays_by q s holds over
         told_over =
             let place = place_of over listed_over in
             let same = place.2 x in
-            ap test (sym same) ∙ was.told place.0 x (earlier place.0 place.1 same) place.1 ∙ ap (stays q s) same
+            ap test (sym same) ∙ was.told place.0 x (earlier place.0 place.1 same) place.1 ∙ ap (stays_by q s holds) same
 
       true_and : (a b : Bool) → a ≡ true → (a && b) ≡ b
       true_and a b is = ap (λ y. y && b) is
 
       -- a part that holds stays where it is in place by what the table tells
-      pub stays_is : stays q s v ≡ (has_room_behind q s v && is_in_place q s test v)
-      stays_is = elim (cases_Bool (has_room_behind q s v)) [
+      pub stays_is : stays_by q s holds v ≡ (holds v && is_in_place q s test v)
+      stays_is = elim (cases_Bool (holds v)) [
         | inr off ↦ no_hold_stays v off ∙ sym (ap (λ b. b && is_in_place q s test v) off)
         | inl on ↦ elim (cases_Bool (is_root q.roots bus)) [
           | inl root ↦
               let lists : (stand : FunctionPart → Bool) → is_in_place q s stand v ≡ is_in_lists q bus (addresses v) (part_space v) = λ stand.
               ap (λ b. cond b (is_in_lists q bus (addresses v) (part_space v)) (is_in_window stand (class_in q s v.function v.part) (addresses v) (bridge_over s bus))) root in
               let place : is_in_place q s test v ≡ true = lists test ∙ sym (lists (stands q s)) ∙ stands_there (stands_of v in_v on) in
-              stays_on_root q s system nested v root ∙ on ∙ sym (ap (λ b. b && is_in_place q s test v) on ∙ place)
+              on_root v root ∙ on ∙ sym (ap (λ b. b && is_in_place q s test v) on ∙ place)
           | inr behind ↦
               let one = nested.one v.function in_v behind in
               let b = one.0 in
@@ -223,28 +241,24 @@ module _ (q : Request) (s : System) (system : IsSystem s) (nested : IsNested q.r
               ap (λ y. cond y (is_in_lists q bus (addresses v) (part_space v)) (is_in_window stand c (addresses v) (bridge_over s bus))) behind
               ∙ ap (is_in_window stand c (addresses v)) (over_is q.roots s system nested bus b leads) in
               let both = and_parts (lies_within (addresses v) (addresses (window_part c b))) (stands q s (window_part c b)) (sym (there (stands q s)) ∙ stands_there (stands_of v in_v on)) in
-              stays_by_bus q s system nested v b leads
-              ∙ ap (λ y. has_room_behind q s v && y) (sym (told_over b leads c both.1) ∙ sym (true_and (lies_within (addresses v) (addresses (window_part c b))) (test (window_part c b)) both.0) ∙ sym (there test))
+              by_bus v b leads
+              ∙ ap (λ y. holds v && y) (sym (told_over b leads c both.1) ∙ sym (true_and (lies_within (addresses v) (addresses (window_part c b))) (test (window_part c b)) both.0) ∙ sym (there test))
         ]
       ]
-
-      with_true : (b : Bool) → (b && true) ≡ b
-      with_true true = refl
-      with_true false = refl
 
       with_false : (b : Bool) → (b && false) ≡ false
       with_false true = refl
       with_false false = refl
 
       -- it is in place
-      pub stayed_same : is_in_place q s test v ≡ true → IsStayedTo q s rs (n + 1) old
+      pub stayed_same : is_in_place q s test v ≡ true → IsStayedTo q s holds rs (n + 1) old
       stayed_same place = record {
         count = was.count;
         opens = was.opens;
         told = λ i d less low. elim (cases_eq i n) [
           | inl same ↦
               let here : get_or rs i d ≡ x = get_or_default rs i d x low ∙ ap (λ m. get_or rs m x) same ∙ sym x_is in
-              ap (λ y. test (value y)) here ∙ before ∙ sym (stays_is ∙ ap (λ b. has_room_behind q s v && b) place ∙ with_true (has_room_behind q s v)) ∙ ap (λ y. stays q s (value y)) (sym here)
+              ap (λ y. test (value y)) here ∙ before ∙ sym (stays_is ∙ ap (λ b. holds v && b) place ∙ with_true (holds v)) ∙ ap (λ y. stays_by q s holds (value y)) (sym here)
           | inr differ ↦ was.told i d (omega (arith, less, differ)) low
         ];
         rest = λ i d from low. was.rest i d (omega (arith, from)) low;
@@ -281,7 +295,7 @@ module _ (q : Request) (s : System) (system : IsSystem s) (nested : IsNested q.r
           | inr same ↦ same
         ]
 
-        pub stayed_less : IsStayedTo q s rs (n + 1) new
+        pub stayed_less : IsStayedTo q s holds rs (n + 1) new
         stayed_less = record {
           count = length-set old x.function entry ∙ was.count;
           opens = λ c b in_b is. elim (others_same (window_part c b) in_b) [
@@ -291,7 +305,7 @@ module _ (q : Request) (s : System) (system : IsSystem s) (nested : IsNested q.r
           told = λ i d less low. elim (cases_eq i n) [
             | inl same ↦
                 let at : get_or rs i d ≡ x = get_or_default rs i d x low ∙ ap (λ m. get_or rs m x) same ∙ sym x_is in
-                ap (λ y. stands_in s new (value y)) at ∙ here ∙ sym (stays_is ∙ ap (λ b. has_room_behind q s v && b) off ∙ with_false (has_room_behind q s v)) ∙ ap (λ y. stays q s (value y)) (sym at)
+                ap (λ y. stands_in s new (value y)) at ∙ here ∙ sym (stays_is ∙ ap (λ b. holds v && b) off ∙ with_false (holds v)) ∙ ap (λ y. stays_by q s holds (value y)) (sym at)
             | inr differ ↦ same_at i d differ low ∙ was.told i d (omega (arith, less, differ)) low
           ];
           rest = λ i d from low. same_at i d (λ same. let no : ⊥ = omega (arith, from, same) in no) low ∙ was.rest i d (omega (arith, from)) low;
@@ -303,7 +317,7 @@ module _ (q : Request) (s : System) (system : IsSystem s) (nested : IsNested q.r
 
     -- ---- all of them
 
-    pub all_stay : (n : ℕ) → length rs ≤ n → (table : List Kept) → IsStayedTo q s rs n table → AreStaying q s table
+    pub all_stay : (n : ℕ) → length rs ≤ n → (table : List Kept) → IsStayedTo q s holds rs n table → AreStayingBy q s holds table
     all_stay n past table are = record {
       count = are.count;
       each = λ k f p at there. (
@@ -321,7 +335,7 @@ module _ (q : Request) (s : System) (system : IsSystem s) (nested : IsNested q.r
           ]);
     }
       where
-        listed_stays : (table : List Kept) → IsStayedTo q s rs n table → (i : ℕ) → i < length rs → i < n → (r : FunctionPart) → ((d : CodeRegion) → value (get_or rs i d) ≡ r) → stands_in s table r ≡ stays q s r
+        listed_stays : (table : List Kept) → IsStayedTo q s holds rs n table → (i : ℕ) → i < length rs → i < n → (r : FunctionPart) → ((d : CodeRegion) → value (get_or rs i d) ≡ r) → stands_in s table r ≡ stays_by q s holds r
         listed_stays table are i low less r same =
             let x = code_at rs i low in
-            ap (stands_in s table) (sym (same x)) ∙ are.told i x less low ∙ ap (stays q s) (same x)
+            ap (stands_in s table) (sym (same x)) ∙ are.told i x less low ∙ ap (stays_by q s holds) (same x)

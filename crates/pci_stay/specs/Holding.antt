@@ -75,11 +75,15 @@ abbrev pub IsWindowHolding : Request → System → List Kept → Function → W
 IsWindowHolding q s table f c holds =
     holds ≡ (stands q s (window_part c f) && has_places q s (told_in q s table) f c)
 
--- a table by function in slot order, with what holds of each
-pub record AreHolding (q : Request) (s : System) (table : List Kept) : Type 0 where
+-- a table by function in slot order, with the parts of each of which a test holds; of windows only open ones are there
+pub record AreNoted (s : System) (holds : FunctionPart → Bool) (table : List Kept) : Type 0 where
   pub count : length table ≡ length s
   pub opens : AreOpen s table
   pub each : (k : ℕ) (f : Function) (part : Part) → slice_get s k ≡ Some f
       → IsTrue (has_part f part)
       → kept_of (slice_index_or table k nothing_kept) part
-      ≡ has_room_behind q s record { function = f; part = part }
+      ≡ holds record { function = f; part = part }
+
+-- a table with what holds of each
+abbrev pub AreHolding : Request → System → List Kept → Type 0
+AreHolding q s table = AreNoted s (has_room_behind q s) table

@@ -1,12 +1,14 @@
 -- What a table tells of parts that stay.
-use Rattle.std.specs.Prelude.{◌≡◌, ℕ, ◌<◌, ◌≤◌, false, IsTrue, List, [], length, map, Some, slice_get, slice_index_or, ⊤}
-use Rattle.std.specs.List.{Contains}
+use Rattle.std.specs.Prelude.{◌≡◌, ℕ, ◌<◌, ◌≤◌, Bool, false, ◌&&◌, IsTrue, List, [], length, map, Some, slice_get, slice_index_or, ⊤}
+use Rattle.std.specs.List.{Contains, list_all}
 use Rattle.pci_spec.specs.Slot.{Slot}
 use Rattle.pci_spec.specs.Window.{IoWindow}
 use Rattle.pci_spec.specs.System.{System, Function, Part, has_part}
+use Rattle.plan_spec.specs.Plan.{bridges_above}
 use Rattle.settle_spec.specs.Lists.{Request}
-use Rattle.settle_spec.specs.Parts.{FunctionPart, system_parts}
-use Rattle.settle_spec.specs.Items.{has_room_behind, stays}
+use Rattle.settle_spec.specs.Parts.{FunctionPart, system_parts, class_in}
+use Rattle.settle_spec.specs.Stands.{window_part, stands}
+use Rattle.settle_spec.specs.Items.{has_room_behind}
 use Rattle.pci_base.specs.declared.memory.Refused.{Refused}
 use Rattle.pci_base.specs.declared.memory.Refused.TheVariants as refused
 use Rattle.pci_base.specs.declared.range.RootRange.{RootRange}
@@ -22,27 +24,43 @@ use Rattle.pci_stand.specs.Tables.{stands_in}
 use Rattle.pci_stay.specs.declared.windows.TooLarge.{TooLarge}
 use Rattle.pci_stay.specs.Windows.{HasWholeWindow}
 
--- of the first parts a table tells which stay, and of the rest which hold
-pub record IsStayedTo (q : Request) (s : System) (rs : List CodeRegion) (n : ℕ)
+-- a test holds only of parts that stand
+abbrev pub HoldsWhereStands : Request → System → (FunctionPart → Bool) → Type 0
+HoldsWhereStands q s holds =
+    (r : FunctionPart) → Contains s r.function → IsTrue (holds r) → IsTrue (stands q s r)
+
+-- a part stays where a test holds of it, and of each window of its class above it
+abbrev pub stays_by : Request → System → (FunctionPart → Bool) → FunctionPart → Bool
+stays_by q s holds r =
+    holds r
+    && list_all (λ b. holds (window_part (class_in q s r.function r.part) b))
+    (bridges_above s r.function.slot.bus)
+
+-- of the first parts a table tells which stay by a test, and of the rest of which it holds
+pub record IsStayedTo (q : Request) (s : System) (holds : FunctionPart → Bool) (rs : List CodeRegion) (n : ℕ)
     (table : List Kept) : Type 0 where
   pub count : length table ≡ length s
   pub opens : AreOpen s table
   pub told : (i : ℕ) (d : CodeRegion) → i < n → i < length rs
       → stands_in s table (region_value s (slice_index_or rs i d))
-      ≡ stays q s (region_value s (slice_index_or rs i d))
+      ≡ stays_by q s holds (region_value s (slice_index_or rs i d))
   pub rest : (i : ℕ) (d : CodeRegion) → n ≤ i → i < length rs
       → stands_in s table (region_value s (slice_index_or rs i d))
-      ≡ has_room_behind q s (region_value s (slice_index_or rs i d))
+      ≡ holds (region_value s (slice_index_or rs i d))
   pub others : (r : FunctionPart) → Contains s r.function → IsTrue (has_part r.function r.part)
       → (Contains (system_parts q s) r → ⊥) → stands_in s table r ≡ false
 
--- a table by function in slot order, with what stays of each
-pub record AreStaying (q : Request) (s : System) (table : List Kept) : Type 0 where
+-- a table by function in slot order, with what stays of each by a test
+pub record AreStayingBy (q : Request) (s : System) (holds : FunctionPart → Bool) (table : List Kept) : Type 0 where
   pub count : length table ≡ length s
   pub each : (k : ℕ) (f : Function) (part : Part) → slice_get s k ≡ Some f
       → IsTrue (has_part f part)
       → kept_of (slice_index_or table k nothing_kept) part
-      ≡ stays q s record { function = f; part = part }
+      ≡ stays_by q s holds record { function = f; part = part }
+
+-- what stays where it stands: windows have room for what is behind them
+abbrev pub AreStaying : Request → System → List Kept → Type 0
+AreStaying q s table = AreStayingBy q s (has_room_behind q s) table
 
 -- what is asked for in lists of I/O alone
 abbrev pub asked_in_io : List ℕ → List RootRange → List Slot → Request

@@ -1,8 +1,9 @@
 //! Which parts stay: those that hold, below windows that stay.
-ghost use Rattle.std.specs.Prelude.{◌≡◌, ◌+◌, ◌<◌, IfOk, IfErr, length};
+ghost use Rattle.std.specs.Prelude.{◌≡◌, ◌+◌, ◌<◌, Bool, IfOk, IfErr, length};
 ghost use Rattle.std.specs.List.{All};
 ghost use Rattle.pci_spec.specs.System.{System};
 ghost use Rattle.settle_spec.specs.Lists.{Request};
+ghost use Rattle.settle_spec.specs.Parts.{FunctionPart};
 ghost use Rattle.pci_tree.specs.Ways.{IsBridgeToBus};
 ghost use Rattle.pci_place.specs.Above.{AreAboves, system_in};
 ghost use Rattle.pci_settle.specs.Buses.{classing_value};
@@ -11,8 +12,8 @@ ghost use Rattle.pci_stand.specs.Boards.{IsBoard};
 ghost use Rattle.pci_stand.specs.Known.{asked, AreParts};
 ghost use Rattle.pci_stand.specs.Passing.{CanBeNoted};
 ghost use Rattle.pci_stay.specs.Windows.{AreAllLawful};
-ghost use Rattle.pci_stay.specs.Holding.{IsKnowing, AreHolding};
-ghost use Rattle.pci_stay.specs.Staying.{IsStayedTo, AreStaying, IsTooLargeFor, IsTooLargeInIo, asked_in_io};
+ghost use Rattle.pci_stay.specs.Holding.{IsKnowing, AreNoted};
+ghost use Rattle.pci_stay.specs.Staying.{HoldsWhereStands, IsStayedTo, AreStayingBy, AreStaying, IsTooLargeFor, IsTooLargeInIo, asked_in_io};
 
 use crate::holding::{Behind, hold_all};
 use crate::windows::{TooLarge, all_windows, io_windows, open_windows, unknown_beside};
@@ -36,24 +37,25 @@ use std::alloc::Allocator;
 
 /// The functions of a board, and their parts.
 #[derive(Clone, Copy)]
-struct Board<'a> {
-    records: &'a [Record],
+pub struct Board<'a> {
+    pub records: &'a [Record],
     /// The bridge over each bus, by its place among the records; None on a root.
-    over: &'a [Option<usize>; BUSES],
+    pub over: &'a [Option<usize>; BUSES],
     /// The parts of all functions, by rising slots.
-    regions: &'a [Region],
+    pub regions: &'a [Region],
 }
 
-/// Notes of a part that holds whether it stays: it is on a root, or the window over it stays.
+/// Notes of a part of which a test holds whether it stays: it is on a root, or the window over it stays.
 fn stay_one(board: &Board, lists: &Lists, index: usize, table: &mut [Kept])
     requires over { IsBridgeToBus board.now.records.now board.now.over.now }
     requires count { length table.old ≡ length board.now.records.now }
     requires ready { All (CanBeNoted (length board.now.records.now)) board.now.regions.now }
     requires index { index < length board.now.regions.now }
-    ensures { (q : Request) → (s : System) → IsBoard q s board.now.records.now (lists_value lists.now)
-        → AreParts q s board.now.regions.now
-        → IsStayedTo q s board.now.regions.now index table.old
-        → IsStayedTo q s board.now.regions.now (index + 1) table.new }
+    ensures { (q : Request) → (s : System) → (holds : FunctionPart → Bool)
+        → IsBoard q s board.now.records.now (lists_value lists.now)
+        → AreParts q s board.now.regions.now → HoldsWhereStands q s holds
+        → IsStayedTo q s holds board.now.regions.now index table.old
+        → IsStayedTo q s holds board.now.regions.now (index + 1) table.new }
 {
     let region = &board.regions[index];
     if !is_in_place(board.records, board.over, lists, region, table) {
@@ -61,13 +63,19 @@ fn stay_one(board: &Board, lists: &Lists, index: usize, table: &mut [Kept])
     }
 }
 
-/// Notes in a table of what holds what stays. The parts come by rising slots, so a window comes before what is in it.
-fn stay_all(board: &Board, lists: &Lists, table: &mut [Kept])
+/// Notes in a table of parts of which a test holds which of them stay by it. The parts come by rising slots, so a window comes
+/// before what is in it.
+pub fn stay_all(board: &Board, lists: &Lists, table: &mut [Kept])
+    // the bridge to a bus is found by one look into this table
     requires over { IsBridgeToBus board.now.records.now board.now.over.now }
+    // a function's entry stands where its record does
     requires count { length table.old ≡ length board.now.records.now }
+    // each part names a function that the table has
     requires ready { All (CanBeNoted (length board.now.records.now)) board.now.regions.now }
-    ensures { (q : Request) → (s : System) → IsBoard q s board.now.records.now (lists_value lists.now)
-        → AreParts q s board.now.regions.now → AreHolding q s table.old → AreStaying q s table.new }
+    ensures { (q : Request) → (s : System) → (holds : FunctionPart → Bool)
+        → IsBoard q s board.now.records.now (lists_value lists.now)
+        → AreParts q s board.now.regions.now → HoldsWhereStands q s holds
+        → AreNoted s holds table.old → AreStayingBy q s holds table.new }
 {
     for index in 0..board.regions.len() {
         stay_one(board, lists, index, table);

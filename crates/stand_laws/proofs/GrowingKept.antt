@@ -106,7 +106,7 @@ module _ (q : Request) (s : System) where
   module _ (system : IsSystem s) (nested : IsNested q.roots s) where
     -- ---- by the window over
 
-    over_first : (test : FunctionPart → Bool) (c : WindowKind) (b : Function) (bus : ℕ) → LeadsTo s b bus
+    pub over_first : (test : FunctionPart → Bool) (c : WindowKind) (b : Function) (bus : ℕ) → LeadsTo s b bus
         → list_all (λ d. test (window_part c d)) (bridges_above s bus) ≡ (test (window_part c b) && list_all (λ d. test (window_part c d)) (bridges_above s b.slot.bus))
     over_first test c b bus (listed, bridge, to) =
         ap (λ n. list_all above (bridges_above s n)) (sym to)

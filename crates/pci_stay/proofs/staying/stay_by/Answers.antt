@@ -5,12 +5,13 @@ use Rattle.std.proofs.lemmas.List.Sorted.{IsPermutation-refl}
 use Rattle.pci_place.specs.Above.{system_in}
 use Rattle.pci_place.proofs.Records.{lent, same_count}
 use Rattle.pci_settle.specs.Lists.{lists_value}
+use Rattle.settle_spec.specs.Items.{has_room_behind}
 use Rattle.pci_stand.specs.Known.{asked, AreParts}
 use Rattle.pci_stand.specs.Passing.{CanBeNoted, AreStanding}
 use Rattle.pci_stand.proofs.Whole.{ready, slice_back}
 use Rattle.pci_stay.specs.Rooms.{region_bus}
 use Rattle.pci_stay.specs.Staying.{AreStaying}
-use Rattle.pci_stay.proofs.Stays.{buses_rise}
+use Rattle.pci_stay.proofs.Stays.{room_stands, buses_rise}
 use Rattle.pci_stay.proofs.staying.stay_by.Goals as goal
 
 pub hold_all-requires-clause-order : goal.hold_all-requires-clause-order
@@ -18,7 +19,7 @@ hold_all-requires-clause-order g c =
     let s = system_in c.args.classing.now.admitted.now in
     let q = asked c.args.classing.now.admitted.now.roots (lists_value c.args.lists.now) c.args.fixed.now in
     let admitted = c.outline.ensures.admitted in
-    subst (IsNonDecreasingBy region_bus) (sym c.as_slice-regions.ensures.value) (buses_rise q s admitted.system admitted.nested c.in_ok-regions.regions.items c.in_ok-regions.ensures)
+    subst (IsNonDecreasingBy region_bus) (sym c.as_slice-regions.ensures.value) (buses_rise q s admitted.system admitted.nested (has_room_behind q s) (room_stands q s admitted.system admitted.nested) c.in_ok-regions.regions.items c.in_ok-regions.ensures)
 
 pub hold_all-requires-clause-ready : goal.hold_all-requires-clause-ready
 hold_all-requires-clause-ready g c =
@@ -57,4 +58,4 @@ returns g c = λ knowing.
     let long = c.in_ok-table.table.ok.0 in
     subst (AreStaying q s)
     (sym (slice_back c.in_ok-table.table.len c.stay_all.new.table c.in_ok-table.table.items (c.stay_all.auto.table ∙ c.hold_all.auto.table ∙ ap length c.as_mut_slice-entries.ensures.value) (omega (arith, long))))
-    (c.stay_all.ensures q s record { has = lent s c.records-records.result.now c.records-records.ensures.value c.outline.ensures.records; system = admitted.system; nested = admitted.nested; same = refl; stands = refl } parts holding)
+    (c.stay_all.ensures q s (has_room_behind q s) record { has = lent s c.records-records.result.now c.records-records.ensures.value c.outline.ensures.records; system = admitted.system; nested = admitted.nested; same = refl; stands = refl } parts (room_stands q s admitted.system admitted.nested) holding)
