@@ -1,5 +1,6 @@
 pub mod Places
 pub mod Late
+pub mod Marked
 pub mod Searches
 pub mod Each
 pub mod Rows

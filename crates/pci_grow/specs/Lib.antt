@@ -5,3 +5,4 @@ pub mod Rows
 pub mod PlaceTables
 pub mod Rooms
 pub mod Reaches
+pub mod Marks

@@ -7,6 +7,7 @@ pub mod around;
 pub mod beside;
 pub mod halves;
 pub mod last_place;
+pub mod marks;
 pub mod place;
 pub mod reach;
 pub mod room;
