@@ -1,6 +1,7 @@
 pub mod Places
 pub mod Late
 pub mod Marked
+pub mod Grows
 pub mod Searches
 pub mod Each
 pub mod Rows

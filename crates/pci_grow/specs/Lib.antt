@@ -6,3 +6,4 @@ pub mod PlaceTables
 pub mod Rooms
 pub mod Reaches
 pub mod Marks
+pub mod Growing

@@ -320,6 +320,7 @@ module _ (q : Request) (s : System) (system : IsSystem s) (nested : IsNested q.r
     pub all_stay : (n : ℕ) → length rs ≤ n → (table : List Kept) → IsStayedTo q s holds rs n table → AreStayingBy q s holds table
     all_stay n past table are = record {
       count = are.count;
+      opens = are.opens;
       each = λ k f p at there. (
           let r : FunctionPart = record { function = f; part = p } in
           let in_f : Contains s f = (k, slice_get_within s k f at, get_or_from_slice_get s k f f at) in

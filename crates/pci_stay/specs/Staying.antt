@@ -50,9 +50,10 @@ pub record IsStayedTo (q : Request) (s : System) (holds : FunctionPart → Bool)
   pub others : (r : FunctionPart) → Contains s r.function → IsTrue (has_part r.function r.part)
       → (Contains (system_parts q s) r → ⊥) → stands_in s table r ≡ false
 
--- a table by function in slot order, with what stays of each by a test
+-- a table by function in slot order, with what stays of each by a test; of windows only open ones are there
 pub record AreStayingBy (q : Request) (s : System) (holds : FunctionPart → Bool) (table : List Kept) : Type 0 where
   pub count : length table ≡ length s
+  pub opens : AreOpen s table
   pub each : (k : ℕ) (f : Function) (part : Part) → slice_get s k ≡ Some f
       → IsTrue (has_part f part)
       → kept_of (slice_index_or table k nothing_kept) part
