@@ -11,3 +11,4 @@ pub mod Found
 pub mod Neighbours
 pub mod RoomOver
 pub mod ReachByBus
+pub mod StandingRows

@@ -2,14 +2,17 @@
 use Rattle.std.specs.Prelude.{◌≡◌, ℕ, ◌+◌, ◌-◌, ◌*◌, ◌<◌, ◌≤◌, ◌⊎◌, List, length, slice_index_or}
 use Rattle.std.specs.List.{AllPairs, Contains, filter}
 use Rattle.std.specs.List.Sorted.{IsPermutation}
-use Rattle.pci_spec.specs.System.{Space, Io, Memory}
+use Rattle.pci_spec.specs.System.{System, Space, Io, Memory}
 use Rattle.pci_spec.specs.Decoded.{Range as DecodedRange}
+use Rattle.settle_spec.specs.Lists.{Request}
 use Rattle.pci_base.specs.Ranges.{decoded_range_of}
 use Rattle.pci_base.specs.Space.{space_of}
 use Rattle.pci_base.specs.declared.range.Range.{Range}
 use Rattle.pci_settle.specs.declared.kept.Kept.{Kept}
 use Rattle.pci_stand.specs.declared.region.Region.{Region}
 use Rattle.pci_stand.specs.Held.{is_kept}
+use Rattle.pci_stand.specs.Known.{AreParts}
+use Rattle.pci_stand.specs.Passing.{AreStanding}
 
 -- a number that rises with the bus, all roots being one, and then from I/O to memory
 abbrev pub row_number : ℕ → Space → ℕ
@@ -34,6 +37,14 @@ pub record AreRows (regions : List Region) (standing : List Kept) (rows : List R
   pub same : IsPermutation (filter (is_kept standing) regions) rows
   pub order : (number : Region → ℕ) → AllPairs (λ r t. number r < number t) regions
       → AllPairs (IsInRowOrder number) rows
+
+-- the rows have all parts of a system that stand: a table tells exactly which do
+pub record HasRows (q : Request) (s : System) (rows : List Region) : Type 0 where
+  pub regions : List Region
+  pub standing : List Kept
+  pub parts : AreParts q s regions
+  pub stand : AreStanding q s standing
+  pub sorted : AreRows regions standing rows
 
 -- ---- next to a part in its row
 
