@@ -12,3 +12,5 @@ pub mod Neighbours
 pub mod RoomOver
 pub mod ReachByBus
 pub mod StandingRows
+pub mod Highest
+pub mod Reached

@@ -1,23 +1,28 @@
--- A window among what stands beside it.
-use Rattle.std.specs.Prelude.{◌≡◌, ℕ, IsTrue, List, Option, Some, slice_get}
+-- A window among what stands beside it, and what is told of the window over it.
+use Rattle.std.specs.Prelude.{◌≡◌, ℕ, IsTrue, List, Option, Some, slice_get, slice_index_or}
 use Rattle.std.specs.Option.{option_map}
 use Rattle.pci_spec.specs.Window.{WindowKind}
 use Rattle.pci_spec.specs.System.{System, Function, is_bridge}
 use Rattle.pci_spec.specs.Bus.{secondary}
 use Rattle.pci_spec.specs.Decoded.{Range}
-use Rattle.settle_spec.specs.Lists.{Request}
+use Rattle.settle_spec.specs.Lists.{Lists, Request}
 use Rattle.settle_spec.specs.Parts.{addresses}
 use Rattle.settle_spec.specs.Stands.{window_part}
 use Rattle.settle_spec.specs.Items.{highest_in}
-use Rattle.settle_spec.specs.Reach.{standing_beside}
+use Rattle.settle_spec.specs.Reach.{standing_beside, reach}
+use Rattle.stand_laws.specs.Reach.{WindowsAreLow}
 use Rattle.pci_base.specs.declared.range.Range.{Range as CodeRange}
 use Rattle.pci_base.specs.declared.window_kind.WindowKind.{WindowKind as CodeKind}
 use Rattle.pci_base.specs.declared.window_kind.ByKind.{ByKind}
 use Rattle.pci_base.specs.WindowKinds.{kind_value}
 use Rattle.pci_base.specs.Ranges.{decoded_range_of}
+use Rattle.pci_function.specs.declared.record.Record.{Record}
+use Rattle.pci_stand.specs.declared.region.Region.{Region}
+use Rattle.pci_stand.specs.Boards.{IsBoard}
 use Rattle.pci_grow.specs.declared.reach.Among.{Among}
 use Rattle.pci_grow.specs.Tables.{told}
 use Rattle.pci_grow.specs.Rooms.{IsNearestBelow, IsNearestAbove}
+use Rattle.pci_grow.specs.Rows.{HasRows}
 
 -- a window of a bridge with its neighbours among what stands beside it, and the highest address that it can hold
 pub record IsAmong (q : Request) (s : System) (c : WindowKind) (b : Function) (highest : ℕ)
@@ -35,3 +40,18 @@ AreToldOver s c bus reach table =
     (k : ℕ) (f : Function) (class : CodeKind) → slice_get s k ≡ Some f → IsTrue (is_bridge f)
     → secondary f ≡ bus → kind_value class ≡ c
     → option_map decoded_range_of (told table k class) ≡ Some (reach f)
+
+-- a lawful board with the rows of what stands, and no window above the highest address that it can hold
+pub record StandsInRows (q : Request) (s : System) (records : List Record) (lists : Lists)
+    (rows : List Region) : Type 0 where
+  pub board : IsBoard q s records lists
+  pub low : WindowsAreLow q s
+  pub has : HasRows q s rows
+
+-- and the window over a part is told
+pub record IsToldAbove (q : Request) (s : System) (records : List Record) (lists : Lists)
+    (rows : List Region) (index : ℕ) (class : CodeKind)
+    (table : List (ByKind (Option CodeRange))) : Type 0 where
+  pub stand : StandsInRows q s records lists rows
+  pub over : (d : Region) → AreToldOver s (kind_value class) (slice_index_or rows index d).bus
+      (reach q s (kind_value class)) table

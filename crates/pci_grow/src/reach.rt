@@ -1,23 +1,25 @@
 //! How far a window that stands can grow: over the pages beside it that nothing else on its bus has.
-ghost use Rattle.std.specs.Prelude.{◌≡◌, ◌≤◌, ◌<◌, IfSome, List, length, map, slice_index_or};
+ghost use Rattle.std.specs.Prelude.{◌≡◌, ◌≤◌, ◌<◌, IsTrue, IfSome, List, length, map, slice_index_or};
 ghost use Rattle.std.specs.Option.{option_map};
 ghost use Rattle.std.specs.List.Sorted.{IsNonDecreasingBy};
 ghost use Rattle.pci_spec.specs.Decoded.{Range as DecodedRange};
 ghost use Rattle.pci_spec.specs.Window.{page_size};
-ghost use Rattle.pci_spec.specs.System.{System, Function};
+ghost use Rattle.pci_spec.specs.System.{System, Function, is_bridge};
 ghost use Rattle.plan_spec.specs.Plan.{raised_to};
 ghost use Rattle.settle_spec.specs.Lists.{Request};
-ghost use Rattle.settle_spec.specs.Reach.{cut_to_halves, whole_pages as pages_of, reach_in, room_around};
+ghost use Rattle.settle_spec.specs.Items.{highest_in as highest_of_window};
+ghost use Rattle.settle_spec.specs.Reach.{cut_to_halves, whole_pages as pages_of, reach, reach_in, room_around};
 ghost use Rattle.pci_base.specs.Ranges.{decoded_range_of};
 ghost use Rattle.pci_base.specs.WindowKinds.{kind_value};
 ghost use Rattle.pci_grow.specs.Rooms.{first_behind, IsNearestBelow, IsNearestAbove};
 ghost use Rattle.pci_grow.specs.Rows.{row_of, AreApartInRows, AreBeside};
 ghost use Rattle.pci_tree.specs.Ways.{IsBridgeToBus};
 ghost use Rattle.pci_place.specs.Items.{function_in};
+ghost use Rattle.pci_place.specs.Records.{IsRecordOf};
 ghost use Rattle.pci_settle.specs.Lists.{lists_value};
 ghost use Rattle.pci_settle.specs.declared.kept.Part.TheVariants.{Window};
 ghost use Rattle.pci_stand.specs.Boards.{IsBoard, IsKnown};
-ghost use Rattle.pci_grow.specs.Reaches.{IsAmong, AreToldOver};
+ghost use Rattle.pci_grow.specs.Reaches.{IsAmong, AreToldOver, IsToldAbove};
 
 use crate::beside::{before, behind};
 use crate::halves::{cut_to_halves, whole_pages};
@@ -28,6 +30,7 @@ use pci_base::slot::BUSES;
 use pci_base::window_kind::WindowKind;
 use pci_function::record::Record;
 use pci_settle::list::Lists;
+use pci_settle::new_window::highest_in;
 use pci_stand::region::Region;
 
 /// The whole pages of what is free around a window, up to which it can grow.
@@ -123,4 +126,47 @@ fn room_around(
     }
     let over = board.over[region.bus as usize]?;
     told_of(reaches, over, class)
+}
+
+/// The highest address that the window of a class of a bridge can hold.
+fn highest_of(function: &Record, class: WindowKind) -> u64
+    ensures { (s : System) → (f : Function) → IsRecordOf s f function.now → IsTrue (is_bridge f)
+        → result ≡ highest_of_window (kind_value class) f.probe }
+{
+    match &function.bridge {
+        Some(bridge) => highest_in(class, &bridge.windows),
+        None => u64::MAX,
+    }
+}
+
+/// How far a window that stands can grow, where it is told of the window over it. That of a fixed bridge can't, and neither
+/// can one with no room around it.
+fn reach_of(
+    board: &Board,
+    rows: &[Region],
+    index: usize,
+    class: WindowKind,
+    reaches: &[WindowRanges],
+) -> Range
+    // the bridge to its bus is found by one look into this table
+    requires over { IsBridgeToBus board.now.records.now board.now.over.now }
+    requires index { index < length rows.now }
+    requires part { (d : Region) → (slice_index_or rows.now index d).part ≡ Window class }
+    // so a window is in its room, and no address of its reach is past 64 bits
+    requires told { (q : Request) × (s : System) × IsToldAbove q s board.now.records.now
+        (lists_value board.now.lists.now) rows.now index class reaches.now }
+    ensures { (q : Request) → (s : System) → (d : Region) → IsToldAbove q s board.now.records.now
+        (lists_value board.now.lists.now) rows.now index class reaches.now
+        → decoded_range_of result ≡ reach q s (kind_value class)
+        (function_in s (slice_index_or rows.now index d).function) }
+{
+    let region = &rows[index];
+    let Some(room) = room_around(board, region, class, reaches) else {
+        return region.range;
+    };
+    if region.fixed {
+        return region.range;
+    }
+    let highest = highest_of(&board.records[region.function], class);
+    reach_in(class, &with_neighbours(rows, index), highest, room)
 }
