@@ -14,3 +14,4 @@ pub mod ReachByBus
 pub mod StandingRows
 pub mod Highest
 pub mod Reached
+pub mod FoundReaches

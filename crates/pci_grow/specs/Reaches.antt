@@ -1,5 +1,5 @@
--- A window among what stands beside it, and what is told of the window over it.
-use Rattle.std.specs.Prelude.{◌≡◌, ℕ, IsTrue, List, Option, Some, slice_get, slice_index_or}
+-- A window among what stands beside it, and tables of reaches.
+use Rattle.std.specs.Prelude.{◌≡◌, ℕ, ◌<◌, IsTrue, List, length, Option, Some, slice_get, slice_index_or}
 use Rattle.std.specs.Option.{option_map}
 use Rattle.pci_spec.specs.Window.{WindowKind}
 use Rattle.pci_spec.specs.System.{System, Function, is_bridge}
@@ -7,7 +7,7 @@ use Rattle.pci_spec.specs.Bus.{secondary}
 use Rattle.pci_spec.specs.Decoded.{Range}
 use Rattle.settle_spec.specs.Lists.{Lists, Request}
 use Rattle.settle_spec.specs.Parts.{addresses}
-use Rattle.settle_spec.specs.Stands.{window_part}
+use Rattle.settle_spec.specs.Stands.{window_part, stands}
 use Rattle.settle_spec.specs.Items.{highest_in}
 use Rattle.settle_spec.specs.Reach.{standing_beside, reach}
 use Rattle.stand_laws.specs.Reach.{WindowsAreLow}
@@ -17,6 +17,8 @@ use Rattle.pci_base.specs.declared.window_kind.ByKind.{ByKind}
 use Rattle.pci_base.specs.WindowKinds.{kind_value}
 use Rattle.pci_base.specs.Ranges.{decoded_range_of}
 use Rattle.pci_function.specs.declared.record.Record.{Record}
+use Rattle.pci_place.specs.Items.{function_in}
+use Rattle.pci_settle.specs.declared.kept.Part.TheVariants as parts
 use Rattle.pci_stand.specs.declared.region.Region.{Region}
 use Rattle.pci_stand.specs.Boards.{IsBoard}
 use Rattle.pci_grow.specs.declared.reach.Among.{Among}
@@ -41,6 +43,8 @@ AreToldOver s c bus reach table =
     → secondary f ≡ bus → kind_value class ≡ c
     → option_map decoded_range_of (told table k class) ≡ Some (reach f)
 
+-- ---- all windows that stand
+
 -- a lawful board with the rows of what stands, and no window above the highest address that it can hold
 pub record StandsInRows (q : Request) (s : System) (records : List Record) (lists : Lists)
     (rows : List Region) : Type 0 where
@@ -55,3 +59,18 @@ pub record IsToldAbove (q : Request) (s : System) (records : List Record) (lists
   pub stand : StandsInRows q s records lists rows
   pub over : (d : Region) → AreToldOver s (kind_value class) (slice_index_or rows index d).bus
       (reach q s (kind_value class)) table
+
+-- a table tells the reach of each window among the first parts of the rows
+abbrev pub AreFirstReaches : Request → System → List Region → ℕ → List (ByKind (Option CodeRange)) → Type 0
+AreFirstReaches q s rows count table =
+    (k : ℕ) (d : Region) (class : CodeKind) → k < count → k < length rows
+    → (slice_index_or rows k d).part ≡ parts.Window class
+    → option_map decoded_range_of (told table (slice_index_or rows k d).function class)
+    ≡ Some (reach q s (kind_value class) (function_in s (slice_index_or rows k d).function))
+
+-- a table tells the reach of each window that stands
+abbrev pub AreReaches : Request → System → List (ByKind (Option CodeRange)) → Type 0
+AreReaches q s table =
+    (k : ℕ) (f : Function) (class : CodeKind) → slice_get s k ≡ Some f → IsTrue (is_bridge f)
+    → IsTrue (stands q s (window_part (kind_value class) f))
+    → option_map decoded_range_of (told table k class) ≡ Some (reach q s (kind_value class) f)

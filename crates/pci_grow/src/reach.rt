@@ -1,5 +1,5 @@
 //! How far a window that stands can grow: over the pages beside it that nothing else on its bus has.
-ghost use Rattle.std.specs.Prelude.{◌≡◌, ◌≤◌, ◌<◌, IsTrue, IfSome, List, length, map, slice_index_or};
+ghost use Rattle.std.specs.Prelude.{◌≡◌, ◌+◌, ◌≤◌, ◌<◌, IsTrue, IfSome, List, length, map, slice_index_or};
 ghost use Rattle.std.specs.Option.{option_map};
 ghost use Rattle.std.specs.List.Sorted.{IsNonDecreasingBy};
 ghost use Rattle.pci_spec.specs.Decoded.{Range as DecodedRange};
@@ -19,16 +19,17 @@ ghost use Rattle.pci_place.specs.Records.{IsRecordOf};
 ghost use Rattle.pci_settle.specs.Lists.{lists_value};
 ghost use Rattle.pci_settle.specs.declared.kept.Part.TheVariants.{Window};
 ghost use Rattle.pci_stand.specs.Boards.{IsBoard, IsKnown};
-ghost use Rattle.pci_grow.specs.Reaches.{IsAmong, AreToldOver, IsToldAbove};
+ghost use Rattle.pci_grow.specs.Reaches.{IsAmong, AreToldOver, StandsInRows, IsToldAbove, AreFirstReaches, AreReaches};
 
 use crate::beside::{before, behind};
 use crate::halves::{cut_to_halves, whole_pages};
 use crate::room::{between, no_higher, room_on_root};
-use crate::table::{WindowRanges, told_of};
+use crate::table::{WindowRanges, tell, told_of};
 use pci_base::range::Range;
 use pci_base::slot::BUSES;
 use pci_base::window_kind::WindowKind;
 use pci_function::record::Record;
+use pci_settle::kept::Part;
 use pci_settle::list::Lists;
 use pci_settle::new_window::highest_in;
 use pci_stand::region::Region;
@@ -169,4 +170,47 @@ fn reach_of(
     }
     let highest = highest_of(&board.records[region.function], class);
     reach_in(class, &with_neighbours(rows, index), highest, room)
+}
+
+/// Tells the reach of one part of the rows, where it is a window.
+fn tell_reach(board: &Board, rows: &[Region], index: usize, reaches: &mut [WindowRanges])
+    // the bridge to its bus is found by one look into this table
+    requires over { IsBridgeToBus board.now.records.now board.now.over.now }
+    // a function's entry stands where its record does
+    requires count { length reaches.old ≡ length board.now.records.now }
+    requires index { index < length rows.now }
+    // the windows before it are told, and the one over it is among them
+    requires told { (q : Request) × (s : System) × StandsInRows q s board.now.records.now
+        (lists_value board.now.lists.now) rows.now
+        × AreFirstReaches q s rows.now index reaches.old }
+    ensures count { length reaches.new ≡ length reaches.old }
+    ensures told { (q : Request) → (s : System) → StandsInRows q s board.now.records.now
+        (lists_value board.now.lists.now) rows.now
+        → AreFirstReaches q s rows.now index reaches.old
+        → AreFirstReaches q s rows.now (index + 1) reaches.new }
+{
+    let region = &rows[index];
+    if let Part::Window(class) = region.part {
+        let reach = reach_of(board, rows, index, class, reaches);
+        tell(reaches, region.function, class, Some(reach));
+    }
+}
+
+/// Tells the reach of each window that stands. A bridge stands on a lower bus than what is behind it, so as rows rise the
+/// window over a window comes first.
+pub fn find_reaches(board: &Board, rows: &[Region], reaches: &mut [WindowRanges])
+    // the bridge to a bus is found by one look into this table
+    requires over { IsBridgeToBus board.now.records.now board.now.over.now }
+    // a function's entry stands where its record does
+    requires count { length reaches.old ≡ length board.now.records.now }
+    // each window is in its room, so no address of a reach is past 64 bits
+    requires rows { (q : Request) × (s : System) × StandsInRows q s board.now.records.now
+        (lists_value board.now.lists.now) rows.now }
+    ensures count { length reaches.new ≡ length reaches.old }
+    ensures reaches { (q : Request) → (s : System) → StandsInRows q s board.now.records.now
+        (lists_value board.now.lists.now) rows.now → AreReaches q s reaches.new }
+{
+    for index in 0..rows.len() {
+        tell_reach(board, rows, index, reaches);
+    }
 }

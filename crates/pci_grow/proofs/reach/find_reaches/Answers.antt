@@ -1,0 +1,16 @@
+use Rattle.std.proofs.Common.{refl}
+use Rattle.pci_settle.specs.Lists.{lists_value}
+use Rattle.pci_grow.proofs.FoundReaches.{none_told, all_told}
+use Rattle.pci_grow.proofs.reach.find_reaches.Goals as goal
+
+pub loop-index-init : goal.loop-index-init
+loop-index-init c = record { size = refl; told = λ q s is. none_told q s c.args.board.now.records.now (lists_value c.args.board.now.lists.now) c.args.rows.now is c.args.reaches.now }
+
+pub tell_reach-requires-clause-told : goal.tell_reach-requires-clause-told
+tell_reach-requires-clause-told c =
+    let rows = c.requires.rows in
+    (rows.0, rows.1, rows.2, c.loop-index.invariant.told rows.0 rows.1 rows.2)
+
+pub returns-clause-reaches : goal.returns-clause-reaches
+returns-clause-reaches c = λ q s is.
+    all_told q s c.args.board.now.records.now (lists_value c.args.board.now.lists.now) c.args.rows.now is c.loop-index.index c.loop-index.reaches c.loop-index-test.false (c.loop-index.invariant.told q s is)
