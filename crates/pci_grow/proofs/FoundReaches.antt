@@ -36,7 +36,7 @@ use Rattle.pci_stand.specs.Boards.{IsKnown}
 use Rattle.pci_stand.proofs.Indexes.{part_cases, index_at}
 use Rattle.pci_grow.specs.Rows.{row_number}
 use Rattle.pci_grow.specs.Tables.{told, TellsSame}
-use Rattle.pci_grow.specs.Reaches.{AreToldOver, StandsInRows, AreFirstReaches, AreReaches}
+use Rattle.pci_grow.specs.Reaches.{AreToldOver, StandsInRows, AreFirstReaches, TellsSameOutside, AreReaches}
 use Rattle.pci_grow.proofs.StandingRows.{no_region, IsInRows, in_rows, rows_rise}
 use Rattle.pci_grow.proofs.Reached.{row_is, standing}
 
@@ -77,6 +77,21 @@ row_below a b Memory Memory less = omega (arith, less)
 -- the part there, whatever an index past the end is read as
 pub part_for : (rows : List Region) (index : ℕ) (d e : Region) (part : CodePart) → index < length rows → (get_or rows index e).part ≡ part → (get_or rows index d).part ≡ part
 part_for rows index d e part within is = ap (λ (x : Region). x.part) (get_or_default rows index d e within) ∙ is
+
+-- ---- windows outside the rows
+
+module _ (rows : List Region) (start : Table) where
+  pub none_outside : TellsSameOutside rows 0 start start
+  none_outside k class off = refl
+
+  pub all_outside : (count : ℕ) (table : Table) → TellsSameOutside rows count start table → TellsSameOutside rows (length rows) start table
+  all_outside count table same k class off = same k class (λ i d low inside. off i d inside inside)
+
+  pub more_outside : (index : ℕ) (old new : Table) → index < length rows → TellsSameOutside rows index start old
+      → ((k : ℕ) (class : CodeKind) → ((d : Region) → (get_or rows index d).function ≡ k → (get_or rows index d).part ≡ parts.Window class → ⊥) → told new k class ≡ told old k class)
+      → TellsSameOutside rows (index + 1) start new
+  more_outside index old new within same step k class off =
+      step k class (λ d. off index d (omega arith) within) ∙ same k class (λ i d low. off i d (omega (arith, low)))
 
 module _ (q : Request) (s : System) (records : List Record) (lists : Lists) (rows : List Region) (is : StandsInRows q s records lists rows) where
   abbrev InRows : FunctionPart → Type 0

@@ -68,6 +68,14 @@ AreFirstReaches q s rows count table =
     → option_map decoded_range_of (told table (slice_index_or rows k d).function class)
     ≡ Some (reach q s (kind_value class) (function_in s (slice_index_or rows k d).function))
 
+-- of windows that aren't among those parts a table tells the same as another one
+abbrev pub TellsSameOutside : List Region → ℕ → List (ByKind (Option CodeRange)) → List (ByKind (Option CodeRange)) → Type 0
+TellsSameOutside rows count old new =
+    (k : ℕ) (class : CodeKind)
+    → ((i : ℕ) (d : Region) → i < count → i < length rows → (slice_index_or rows i d).function ≡ k
+    → (slice_index_or rows i d).part ≡ parts.Window class → ⊥)
+    → told new k class ≡ told old k class
+
 -- a table tells the reach of each window that stands
 abbrev pub AreReaches : Request → System → List (ByKind (Option CodeRange)) → Type 0
 AreReaches q s table =

@@ -1,5 +1,5 @@
 //! How far a window that stands can grow: over the pages beside it that nothing else on its bus has.
-ghost use Rattle.std.specs.Prelude.{◌≡◌, ◌+◌, ◌≤◌, ◌<◌, IsTrue, IfSome, List, length, map, slice_index_or};
+ghost use Rattle.std.specs.Prelude.{◌≡◌, ℕ, ◌+◌, ◌≤◌, ◌<◌, IsTrue, IfSome, List, length, map, slice_index_or};
 ghost use Rattle.std.specs.Option.{option_map};
 ghost use Rattle.std.specs.List.Sorted.{IsNonDecreasingBy};
 ghost use Rattle.pci_spec.specs.Decoded.{Range as DecodedRange};
@@ -11,15 +11,18 @@ ghost use Rattle.settle_spec.specs.Items.{highest_in as highest_of_window};
 ghost use Rattle.settle_spec.specs.Reach.{cut_to_halves, whole_pages as pages_of, reach, reach_in, room_around};
 ghost use Rattle.pci_base.specs.Ranges.{decoded_range_of};
 ghost use Rattle.pci_base.specs.WindowKinds.{kind_value};
+ghost use Rattle.pci_base.specs.declared.window_kind.WindowKind.{WindowKind as CodeKind};
 ghost use Rattle.pci_grow.specs.Rooms.{first_behind, IsNearestBelow, IsNearestAbove};
 ghost use Rattle.pci_grow.specs.Rows.{row_of, AreApartInRows, AreBeside};
+ghost use Rattle.pci_grow.specs.Tables.{told};
 ghost use Rattle.pci_tree.specs.Ways.{IsBridgeToBus};
 ghost use Rattle.pci_place.specs.Items.{function_in};
 ghost use Rattle.pci_place.specs.Records.{IsRecordOf};
 ghost use Rattle.pci_settle.specs.Lists.{lists_value};
 ghost use Rattle.pci_settle.specs.declared.kept.Part.TheVariants.{Window};
+ghost use Rattle.pci_stand.specs.declared.region.Region.{Region as CodeRegion};
 ghost use Rattle.pci_stand.specs.Boards.{IsBoard, IsKnown};
-ghost use Rattle.pci_grow.specs.Reaches.{IsAmong, AreToldOver, StandsInRows, IsToldAbove, AreFirstReaches, AreReaches};
+ghost use Rattle.pci_grow.specs.Reaches.{IsAmong, AreToldOver, StandsInRows, IsToldAbove, AreFirstReaches, TellsSameOutside, AreReaches};
 
 use crate::beside::{before, behind};
 use crate::halves::{cut_to_halves, whole_pages};
@@ -188,6 +191,10 @@ fn tell_reach(board: &Board, rows: &[Region], index: usize, reaches: &mut [Windo
         (lists_value board.now.lists.now) rows.now
         → AreFirstReaches q s rows.now index reaches.old
         → AreFirstReaches q s rows.now (index + 1) reaches.new }
+    ensures others { (k : ℕ) → (class : CodeKind)
+        → ((d : CodeRegion) → (slice_index_or rows.now index d).function ≡ k
+        → (slice_index_or rows.now index d).part ≡ Window class → ⊥)
+        → told reaches.new k class ≡ told reaches.old k class }
 {
     let region = &rows[index];
     if let Part::Window(class) = region.part {
@@ -209,6 +216,8 @@ pub fn find_reaches(board: &Board, rows: &[Region], reaches: &mut [WindowRanges]
     ensures count { length reaches.new ≡ length reaches.old }
     ensures reaches { (q : Request) → (s : System) → StandsInRows q s board.now.records.now
         (lists_value board.now.lists.now) rows.now → AreReaches q s reaches.new }
+    // nothing is told of a window that isn't in the rows
+    ensures others { TellsSameOutside rows.now (length rows.now) reaches.old reaches.new }
 {
     for index in 0..rows.len() {
         tell_reach(board, rows, index, reaches);

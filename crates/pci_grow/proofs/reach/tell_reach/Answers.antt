@@ -1,4 +1,4 @@
-use Rattle.std.proofs.Common.{arith}
+use Rattle.std.proofs.Common.{arith, sym, ◌∙◌, ap}
 use Rattle.pci_settle.specs.declared.kept.Part.TheVariants.{Window}
 use Rattle.pci_settle.specs.Lists.{lists_value}
 use Rattle.pci_grow.proofs.StandingRows.{no_region}
@@ -34,3 +34,7 @@ returns-in-Window-clause-told c = λ q s is first.
           (part_for c.args.rows.now c.args.index d no_region (Window c.in-Window.class) c.requires.index c.in-Window.is);
     })
     c.tell.ensures.told c.tell.ensures.others
+
+pub returns-in-Window-clause-others : goal.returns-in-Window-clause-others
+returns-in-Window-clause-others c = λ k other off.
+    c.tell.ensures.others k other (λ one same. off no_region (sym one) (c.in-Window.is ∙ ap Window (sym same)))
