@@ -15,3 +15,4 @@ pub mod StandingRows
 pub mod Highest
 pub mod Reached
 pub mod FoundReaches
+pub mod Gathered

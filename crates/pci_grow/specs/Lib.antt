@@ -7,3 +7,4 @@ pub mod Rooms
 pub mod Reaches
 pub mod Marks
 pub mod Growing
+pub mod There

@@ -1,6 +1,6 @@
 //! The places of what has none behind a window, around it: the first one from its first address on, or else the last one
 //! before it.
-ghost use Rattle.std.specs.Prelude.{◌≡◌, None, IfSome, IfNone, IfOk, List, length, map};
+ghost use Rattle.std.specs.Prelude.{◌≡◌, ◌<◌, None, IfSome, IfNone, IfOk, List, length, map};
 ghost use Rattle.std.specs.List.{All};
 ghost use Rattle.settle_spec.specs.FirstPlace.{first_place_in};
 ghost use Rattle.settle_spec.specs.Items.{Item as ItemValue};
@@ -201,6 +201,7 @@ pub fn places_around<A: Allocator>(
     ensures placing { IfOk result (λ lack. (values : List ItemValue) → HaveExtents values items.now
         → place_each (find_around around.now) (map decoded_range_of taken.old.items) values
         ≡ placing_of values places.new lack) }
+    ensures within { IfOk result (λ lack. IfSome lack (λ k. k < length items.now)) }
     // so the last address of each can be told
     ensures ends { IfOk result (λ lack. IfNone lack (AreEndingAll items.now places.new (length items.now))) }
 {

@@ -13,3 +13,4 @@ pub mod place;
 pub mod reach;
 pub mod room;
 pub mod table;
+pub mod there;
