@@ -66,7 +66,7 @@ same_around a i xs ys some pos same =
     before xs = cond (nat_lt a.reach.first a.window.first) (last_place_in (record { first = a.reach.first; last = a.window.first - 1 }) xs i.extent) None
 
 -- all of them are lawful
-abbrev AreLawful : List ItemValue → Type 0
+abbrev pub AreLawful : List ItemValue → Type 0
 AreLawful items = (i : ItemValue) → Contains items i → (0 < i.extent.size) × (0 < i.extent.alignment)
 
 same_next : (a : Around) (i : ItemValue) (items : List ItemValue) (xs ys : List DecodedRange) (o : Option ℕ)
@@ -75,7 +75,7 @@ same_next : (a : Around) (i : ItemValue) (items : List ItemValue) (xs ys : List 
 same_next a i items xs ys None same = refl
 same_next a i items xs ys (Some b) same = ap (and_placed i b) (same b)
 
-same_each : (a : Around) (items : List ItemValue) (xs ys : List DecodedRange) → AreLawful items → HaveSame xs ys → place_each (find_around a) xs items ≡ place_each (find_around a) ys items
+pub same_each : (a : Around) (items : List ItemValue) (xs ys : List DecodedRange) → AreLawful items → HaveSame xs ys → place_each (find_around a) xs items ≡ place_each (find_around a) ys items
 same_each a [] xs ys lawful same = refl
 same_each a (i ∷ items) xs ys lawful same =
     ap (λ p. place_next i p (λ b. place_each (find_around a) (taken_by i b ∷ xs) items)) (same_around a i xs ys (lawful i (in_head i items)).0 (lawful i (in_head i items)).1 same)
@@ -103,7 +103,7 @@ in_drop zero items i listed = listed
 in_drop (suc n) [] i listed = listed
 in_drop (suc n) (j ∷ items) i listed = in_tail j items i (in_drop n items i listed)
 
-lawful_values : (values : List ItemValue) (items : List Item) → HaveExtents values items → All HasExtent items → Item → AreLawful values
+pub lawful_values : (values : List ItemValue) (items : List Item) → HaveExtents values items → All HasExtent items → Item → AreLawful values
 lawful_values values items are lawful c i (k, less, here) =
     let long = are.count in
     let within : k < length items = omega (arith, less, long) in

@@ -16,3 +16,16 @@ pub mod Highest
 pub mod Reached
 pub mod FoundReaches
 pub mod Gathered
+pub mod Told
+pub mod ClassOver
+pub mod Folds
+pub mod Comings
+pub mod InRows
+pub mod Clearing
+pub mod Stepping
+pub mod MarkedAround
+pub mod WhatComes
+pub mod Lacking
+pub mod Ranked
+pub mod Putting
+pub mod Noting

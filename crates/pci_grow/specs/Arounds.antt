@@ -1,10 +1,10 @@
 -- Places around a window: the first one from its first address on, or else the last one before it.
-use Rattle.std.specs.Prelude.{ℕ, ◌≡◌, ◌+◌, ◌-◌, ◌^◌, ◌<◌, ◌≤◌, nat_lt, if◌then◌else◌, List, [], ◌∷◌, map, length, slice_index_or, Option, None, Some, IfSome, ⊤}
+use Rattle.std.specs.Prelude.{ℕ, ◌≡◌, ◌+◌, ◌-◌, ◌^◌, ◌<◌, ◌≤◌, nat_lt, if◌then◌else◌, false, List, [], ◌∷◌, map, length, slice_index_or, Option, None, Some, IfSome, ⊤}
 use Rattle.plan_spec.specs.Place.{range_from}
 use Rattle.settle_spec.specs.FirstPlace.{HasNoPlace, first_place_in}
 use Rattle.settle_spec.specs.LastPlace.{last_place_in}
-use Rattle.settle_spec.specs.Items.{Item as ItemValue}
-use Rattle.settle_spec.specs.Growth.{place_around}
+use Rattle.settle_spec.specs.Items.{Item as ItemValue, AllPlaced, are_placed}
+use Rattle.settle_spec.specs.Growth.{place_around, place_each}
 use Rattle.pci_spec.specs.Decoded.{Range as DecodedRange}
 use Rattle.pci_base.specs.declared.range.Range.{Range}
 use Rattle.pci_base.specs.Ranges.{decoded_range_of}
@@ -12,6 +12,7 @@ use Rattle.pci_settle.specs.declared.extent.Extent.{Extent}
 use Rattle.pci_settle.specs.declared.item.Item.{Item}
 use Rattle.pci_settle.specs.declared.spot.Spot.{Spot}
 use Rattle.pci_settle.specs.declared.spot.Start.{Start}
+use Rattle.pci_settle.specs.Placings.{at_places}
 use Rattle.pci_settle.specs.Spots.{extent_value, IsExtent, AreRisingRanges, IsPutIn, IsStart}
 use Rattle.pci_grow.specs.declared.around.Around.{Around}
 use Rattle.pci_grow.specs.declared.around.Search.{Search}
@@ -93,3 +94,17 @@ abbrev pub AreEndingAll : List Item → List ℕ → ℕ → Type 0
 AreEndingAll items places count =
     (k : ℕ) (c : Item) → k < count
     → (range_from (slice_index_or places k 0) (slice_index_or items k c).extent.size).last < 2 ^ 64
+
+-- so items get these places around a window beside what is taken
+pub record ArePlacesAround (a : Around) (taken : List Range) (items : List Item) (places : List ℕ) : Type 0 where
+  pub placing : (values : List ItemValue) → HaveExtents values items
+      → place_each (find_around a) (map decoded_range_of taken) values
+      ≡ AllPlaced (at_places values places)
+  pub count : length places ≡ length items
+  pub ends : AreEndingAll items places (length items)
+
+-- or one of them gets none
+abbrev pub HaveNoPlaces : Around → List Range → List Item → Type 0
+HaveNoPlaces a taken items =
+    (values : List ItemValue) → HaveExtents values items
+    → are_placed (place_each (find_around a) (map decoded_range_of taken) values) ≡ false

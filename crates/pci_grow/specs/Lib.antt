@@ -8,3 +8,4 @@ pub mod Reaches
 pub mod Marks
 pub mod Growing
 pub mod There
+pub mod Telling

@@ -5,6 +5,7 @@
 
 pub mod around;
 pub mod beside;
+pub mod coming;
 pub mod growing;
 pub mod halves;
 pub mod last_place;

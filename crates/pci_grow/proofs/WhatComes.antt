@@ -1,0 +1,212 @@
+-- What a window comes to by the code is what it comes to by what is told to be there.
+use Rattle.std.proofs.Common.{◌≡◌, ℕ, ◌+◌, ◌^◌, ◌<◌, ◌≤◌, ◌⊎◌, min, max, inl, inr, List, map, length, Bool, true, false, cond, arith, refl, ap, sym, subst, ◌∙◌, Option, None, Some}
+use Rattle.std.specs.Bool.{if◌then◌else◌}
+use Rattle.std.specs.List.{All, Contains, fold}
+use Rattle.std.specs.Option.{is_some, IfSome, IfNone, option_map}
+use Rattle.std.proofs.lemmas.Bool.{cases_Bool, false≢true}
+use Rattle.std.proofs.lemmas.Option.{none-some}
+use Rattle.pci_spec.specs.Window.{WindowKind, IoWindow, MemoryWindow, PrefetchWindow, is_wide_window}
+use Rattle.pci_spec.proofs.Members.{IsMade, in_map_to}
+use Rattle.pci_spec.specs.Decoded.{Range as DecodedRange}
+use Rattle.pci_spec.specs.System.{System, Function, IsSystem, is_bridge, window_space}
+use Rattle.pci_spec.specs.Bus.{is_root, secondary, IsNested}
+use Rattle.plan_spec.specs.Plan.{same_class}
+use Rattle.plan_spec.proofs.Planning.PlacedItems.{same_class_is}
+use Rattle.settle_spec.specs.Lists.{Request}
+use Rattle.settle_spec.specs.Parts.{FunctionPart, system_parts, addresses, class_in, are_same_space}
+use Rattle.settle_spec.specs.Stands.{is_fixed_part, part_space, window_part, stands}
+use Rattle.settle_spec.specs.Items.{Item as ItemValue, AllPlaced, highest_in, bus_items, new_window}
+use Rattle.settle_spec.specs.Reach.{room_around, reach_in, reach_if, reach_within, reach}
+use Rattle.settle_spec.specs.Growth.{place_each, grown_to, there_on, taken_around, window_comes_to}
+use Rattle.settle_spec.proofs.Reaching.{reach_step, reach_in_low}
+use Rattle.settle_spec.proofs.SameTaken.{HaveSame}
+use Rattle.settle_laws.proofs.PartClasses.{space_of_class}
+use Rattle.stand_laws.proofs.Reach.{reaches_are_around}
+use Rattle.stand_laws.proofs.Standing.{stands_by_itself, window_listed}
+use Rattle.pci_base.specs.declared.range.Range.{Range}
+use Rattle.pci_base.specs.declared.window_kind.WindowKind.{WindowKind as CodeKind}
+use Rattle.pci_base.specs.Ranges.{decoded_range_of}
+use Rattle.pci_base.specs.WindowKinds.{kind_value, by_kind}
+use Rattle.pci_function.specs.declared.record.Bridge.{Bridge}
+use Rattle.pci_tree.specs.Ways.{bus_behind}
+use Rattle.pci_tree.proofs.Lifting.{same_bridge, same_secondary}
+use Rattle.pci_settle.specs.declared.extent.Extent.{Extent}
+use Rattle.pci_settle.specs.declared.item.Item.{Item}
+use Rattle.pci_settle.specs.declared.item.Part.TheVariants.{Rom}
+use Rattle.pci_settle.specs.Buses.{Classing, AreInTurn, bus_listing}
+use Rattle.pci_settle.specs.NewWindows.{HasNewWindows, HasMarkedWindows, told_extent}
+use Rattle.pci_settle.specs.Own.{asked_item_value}
+use Rattle.pci_settle.specs.Placings.{at_places}
+use Rattle.pci_settle.specs.Turns.{HasExtent}
+use Rattle.pci_settle.proofs.Marked.{told_is}
+use Rattle.pci_stand.specs.declared.region.Region.{Region}
+use Rattle.pci_stand.specs.Known.{region_value}
+use Rattle.pci_stay.specs.Windows.{IsWhole}
+use Rattle.pci_grow.specs.declared.around.Around.{Around}
+use Rattle.pci_grow.specs.Arounds.{ArePlacesAround, HaveNoPlaces}
+use Rattle.pci_grow.specs.Rows.{row_number, row_of}
+use Rattle.pci_grow.specs.There.{Tables, in_row, there_of, there_of_class, range_told, class_told, holding, placed_ranges, there_told}
+use Rattle.pci_grow.specs.Telling.{Setting, IsGrowing, IsWindowOf, IsThereTold}
+use Rattle.pci_grow.proofs.ClassOver.{class_is}
+use Rattle.pci_grow.proofs.Comings.{StandFor, comes_none, comes_some}
+use Rattle.pci_grow.proofs.InRows.{known_in, stands_in}
+use Rattle.pci_grow.proofs.MarkedAround.{marks_stand}
+use Rattle.pci_grow.proofs.Told.{IsOnBus, row_bus, region_range, told_is as range_is, picked_same, one_space, space_itself}
+
+-- what an index past the end is read as
+abbrev pub no_item : Item
+no_item = record { function = 0; part = Rom; extent = record { size = 1; alignment = 1; highest = 0 } }
+
+module _ (p : Setting) (t : Tables) (b : Bridge) (class : CodeKind) (a : Around)
+    (items : List Item) (d : Item) (lawful : All HasExtent items) (turn : AreInTurn (bus_listing p.classing (kind_value class) b.secondary (by_kind p.windows class) t.kept) items)
+    (row : List Region) (row_is : row ≡ in_row (row_number (b.secondary + 1) (window_space (kind_value class))) p.rows) where
+  abbrev s : System
+  s = p.classing.system
+
+  abbrev c : WindowKind
+  c = kind_value class
+
+  module _ (q : Request) (f : Function) (growing : IsGrowing q p) (window : IsWindowOf q s f b class a) (told : IsThereTold q s t) where
+    abbrev there : FunctionPart → Option DecodedRange
+    there = there_told s t
+
+    keeps : FunctionPart → Bool
+    keeps r = is_some (there r)
+
+    listed : Contains s f
+    listed = window.is.listed
+
+    bridge : is_bridge f ≡ true
+    bridge = sym (same_bridge window.x f window.is.value) ∙ ap is_some window.bridge
+
+    abbrev behind_in : Option Bridge → ℕ
+    behind_in None = 0
+    behind_in (Some x) = x.secondary
+
+    bus : secondary f ≡ b.secondary
+    bus = sym (same_secondary window.x f window.is.value bridge) ∙ ap (λ o. bus_behind (record window.x { bridge = o })) window.bridge
+
+    -- ---- its reach
+
+    high : (k : WindowKind) (probe : List ℕ) → highest_in k probe < 2 ^ 64
+    high IoWindow probe = elim (cases_Bool (is_wide_window IoWindow probe)) [
+      | inl wide ↦ (let e : highest_in IoWindow probe ≡ 0xffff_ffff = ap (λ x. if x then 0xffff_ffff else 0xffff) wide in omega (arith, e))
+      | inr narrow ↦ (let e : highest_in IoWindow probe ≡ 0xffff = ap (λ x. if x then 0xffff_ffff else 0xffff) narrow in omega (arith, e))
+    ]
+    high MemoryWindow probe = omega arith
+    high PrefetchWindow probe = elim (cases_Bool (is_wide_window PrefetchWindow probe)) [
+      | inl wide ↦ (let e : highest_in PrefetchWindow probe ≡ 0xffff_ffff_ffff_ffff = ap (λ x. if x then 0xffff_ffff_ffff_ffff else 0xffff_ffff) wide in omega (arith, e))
+      | inr narrow ↦ (let e : highest_in PrefetchWindow probe ≡ 0xffff_ffff = ap (λ x. if x then 0xffff_ffff_ffff_ffff else 0xffff_ffff) narrow in omega (arith, e))
+    ]
+
+    -- it is no higher than the window may be
+    reach_low : (reach q s c f).last ≤ highest_in c f.probe
+    reach_low = subst (λ (r : DecodedRange). r.last ≤ highest_in c f.probe) (sym (reach_step q s c f (window_part c f))) (by (room_around q s c (reach_within q s c 255) f))
+      where
+        own : (addresses (window_part c f)).last ≤ highest_in c f.probe
+        own = growing.low c f listed window.stand
+
+        by : (o : Option DecodedRange) → (reach_if q s c f o).last ≤ highest_in c f.probe
+        by None = own
+        by (Some room) = by_fixed (is_fixed_part q (window_part c f))
+          where
+            by_fixed : (fixed : Bool) → (if fixed then addresses (window_part c f) else reach_in q s c f room).last ≤ highest_in c f.probe
+            by_fixed true = own
+            by_fixed false = reach_in_low q s c f room
+
+    small : a.reach.last < 2 ^ 64
+    small =
+        let to : a.reach.last ≡ (reach q s c f).last = ap (λ (r : DecodedRange). r.last) window.reach_is in
+        let most = reach_low in
+        let top = high c f.probe in
+        omega (arith, to, most, top)
+
+    part : Contains (system_parts q s) (window_part c f)
+    part = window_listed q s c f listed ((stands_by_itself q s growing.nested).only (window_part c f) listed window.stand)
+
+    -- and the window has an address
+    low : a.window.first < 2 ^ 64
+    low =
+        let made : IsMade (region_value s) p.rows (window_part c f) = in_map_to (region_value s) p.rows (window_part c f) (growing.rows.all (window_part c f) part window.stand) in
+        let known = known_in q s growing.system growing.nested p.rows growing.rows made.from made.has in
+        let is = region_range q s made.from known ∙ ap addresses made.is in
+        let first : made.from.range.first ≡ (addresses (window_part c f)).first = ap (λ (r : DecodedRange). r.first) is in
+        let last : made.from.range.last ≡ (addresses (window_part c f)).last = ap (λ (r : DecodedRange). r.last) is in
+        let forward = known.forward in
+        let own : a.window.first ≡ (addresses (window_part c f)).first = ap (λ (r : DecodedRange). r.first) window.window in
+        let most = growing.low c f listed window.stand in
+        let top = high c f.probe in
+        omega (arith, first, last, forward, own, most, top)
+
+    -- ---- the items
+
+    inside : a.reach.first ≤ a.window.first
+    inside =
+        let can = reaches_are_around q s c growing.nested growing.system growing.low f record { part = part; stands = window.stand } in
+        let first = can.first in
+        let to : a.reach.first ≡ (reach q s c f).first = ap (λ (r : DecodedRange). r.first) window.reach_is in
+        let own : a.window.first ≡ (addresses (window_part c f)).first = ap (λ (r : DecodedRange). r.first) window.window in
+        omega (arith, first, to, own)
+
+    stand_for : StandFor a (map (asked_item_value s c) items) (bus_items q s c (λ r. is_some (there r)) (new_window q s c) (secondary f))
+    stand_for = by (growing.new class f listed window.stand)
+      where
+        by : HasNewWindows q s c p.classing.terms (by_kind p.windows class) ⊎ (HasMarkedWindows q s c (by_kind p.windows class) × (IsWhole (reach q s c f) → ⊥))
+            → StandFor a (map (asked_item_value s c) items) (bus_items q s c (λ r. is_some (there r)) (new_window q s c) (secondary f))
+        by (inl new) = inl (
+            turn record { request = q; keeps = λ r. is_some (there r); extent = new_window q s c } record { left = growing.left; keeps_is = told.keeps; behind = new.behind b.secondary }
+            ∙ ap (bus_items q s c (λ r. is_some (there r)) (new_window q s c)) (sym bus))
+        by (inr (marked, narrow)) =
+            subst (λ n. StandFor a (map (asked_item_value s c) items) (bus_items q s c (λ r. is_some (there r)) (new_window q s c) n)) (sym bus)
+            (subst (λ xs. StandFor a xs (bus_items q s c (λ r. is_some (there r)) (new_window q s c) b.secondary))
+            (sym (turn record { request = q; keeps = λ r. is_some (there r); extent = told_extent (by_kind p.windows class) }
+            record { left = growing.left; keeps_is = told.keeps; behind = λ g in_g beside is. told_is _ _ _ (marked g in_g is) }))
+            (marks_stand q s growing.system growing.nested c a small low inside (λ whole. narrow (subst IsWhole window.reach_is whole)) (λ r. is_some (there r)) (by_kind p.windows class) b.secondary marked))
+
+    -- ---- what is there behind it
+
+    row_at : row ≡ in_row (row_number (secondary f + 1) (window_space c)) p.rows
+    row_at = row_is ∙ ap (λ n. in_row (row_number (n + 1) (window_space c)) p.rows) (sym bus)
+
+    on_bus : (r : Region) → Contains p.rows r → row_of r ≡ row_number (secondary f + 1) (window_space c) → IsOnBus q (secondary f) (window_space c) (region_value s r)
+    on_bus r has at = row_bus q s r (known_in q s growing.system growing.nested p.rows growing.rows r has) (secondary f) (window_space c) at
+
+    same_space : HaveSame (map decoded_range_of (there_of t row)) (there_on q s there (λ r. are_same_space (window_space c) (part_space r)) (secondary f))
+    same_space =
+        subst (λ rs. HaveSame (map decoded_range_of (there_of t rs)) (there_on q s there (λ r. are_same_space (window_space c) (part_space r)) (secondary f))) (sym row_at)
+        (picked_same q s growing.system growing.nested p.rows growing.rows there told.stand f listed bridge (window_space c) (λ r. are_same_space (window_space c) (part_space r)) (range_told t)
+        (λ r has at.
+        let on = on_bus r has at in
+        range_is s growing.system t q r (known_in q s growing.system growing.nested p.rows growing.rows r has)
+        ∙ sym (ap (λ x. cond x (there (region_value s r)) None) (ap (are_same_space (window_space c)) on.of_space ∙ space_itself (window_space c))))
+        (λ v in_v passes. sym (one_space (window_space c) (part_space v) passes)))
+
+    mapped : (x : Bool) (o : Option Range) (y : Option DecodedRange) → option_map decoded_range_of o ≡ y → option_map decoded_range_of (cond x o None) ≡ cond x y None
+    mapped true o y e = e
+    mapped false o y e = refl
+
+    same_class_there : HaveSame (map decoded_range_of (there_of_class b.windows c t row)) (there_on q s there (λ r. same_class c (class_in q s r.function r.part)) (secondary f))
+    same_class_there =
+        subst (λ rs. HaveSame (map decoded_range_of (there_of_class b.windows c t rs)) (there_on q s there (λ r. same_class c (class_in q s r.function r.part)) (secondary f))) (sym row_at)
+        (picked_same q s growing.system growing.nested p.rows growing.rows there told.stand f listed bridge (window_space c) (λ r. same_class c (class_in q s r.function r.part)) (class_told b.windows c t)
+        (λ r has at.
+        let on = on_bus r has at in
+        let known = known_in q s growing.system growing.nested p.rows growing.rows r has in
+        ap (λ k. option_map decoded_range_of (cond (same_class c k) (range_told t r) None))
+        (class_is q s growing.system growing.nested growing.standing f window.x window.is b window.bridge bridge r known on.off on.at (stands_in q s growing.system growing.nested p.rows growing.rows r has))
+        ∙ mapped _ (range_told t r) (there (region_value s r)) (range_is s growing.system t q r known))
+        (λ v in_v passes. sym (space_of_class q s v.function v.part) ∙ ap window_space (same_class_is c (class_in q s v.function v.part) passes)))
+
+    -- ---- what it comes to
+
+    pub none_is : HaveNoPlaces a (there_of t row) items → window_comes_to q s there c f ≡ None
+    none_is none = comes_none q s c f there a window.window window.reach_is items lawful d stand_for (there_of t row) same_space none
+
+    pub some_is : (places : List ℕ) → ArePlacesAround a (there_of t row) items places → (range : Range)
+        → ((others : List DecodedRange)
+        → (holding (holding a.window (there_of_class b.windows c t row)) (placed_ranges items places)).first ≡ fold min a.window.first (map (λ (r : DecodedRange). r.first) others)
+        → (holding (holding a.window (there_of_class b.windows c t row)) (placed_ranges items places)).last ≡ fold max a.window.last (map (λ (r : DecodedRange). r.last) others)
+        → decoded_range_of range ≡ grown_to c (decoded_range_of a.window) others)
+        → (window_comes_to q s there c f ≡ Some (decoded_range_of range)) × (taken_around q s there c f ≡ AllPlaced (at_places (map (asked_item_value s c) items) places))
+    some_is places are range grown =
+        comes_some q s c f there a window.window window.reach_is items lawful d stand_for (there_of t row) same_space places are (there_of_class b.windows c t row) same_class_there range grown
