@@ -12,6 +12,7 @@ pub mod Neighbours
 pub mod RoomOver
 pub mod ReachByBus
 pub mod StandingRows
+pub mod AllRows
 pub mod Highest
 pub mod Reached
 pub mod FoundReaches
@@ -27,5 +28,10 @@ pub mod MarkedAround
 pub mod WhatComes
 pub mod Lacking
 pub mod Ranked
+pub mod Noted
+pub mod Ordered
+pub mod Begun
 pub mod Putting
 pub mod Noting
+pub mod Taking
+pub mod Rowing

@@ -6,6 +6,7 @@
 pub mod around;
 pub mod beside;
 pub mod coming;
+pub mod finding;
 pub mod growing;
 pub mod halves;
 pub mod last_place;
