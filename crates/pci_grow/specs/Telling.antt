@@ -42,7 +42,8 @@ use Rattle.pci_grow.specs.declared.coming.Setting.{Setting as CodeSetting}
 use Rattle.pci_grow.specs.PlaceTables.{ArePlaceless}
 use Rattle.pci_grow.specs.Rows.{row_number, IsInRowOrder}
 use Rattle.pci_grow.specs.Tables.{AreUntold, told, TellsSame}
-use Rattle.pci_grow.specs.There.{AreReaches, Tables, grown_told, there_told, place_told, in_row}
+use Rattle.pci_grow.specs.Reaches.{AreReaches}
+use Rattle.pci_grow.specs.There.{Tables, grown_told, there_told, place_told, in_row}
 
 -- ---- what is given
 

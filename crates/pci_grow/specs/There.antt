@@ -31,13 +31,6 @@ use Rattle.pci_grow.specs.Rows.{row_of}
 use Rattle.pci_grow.specs.PlaceTables.{placed}
 use Rattle.pci_grow.specs.Tables.{untold, told}
 
--- a table tells the reach of each window that stands
-abbrev pub AreReaches : Request → System → List (ByKind (Option Range)) → Type 0
-AreReaches q s table =
-    (k : ℕ) (f : Function) (class : CodeKind) → slice_get s k ≡ Some f → IsTrue (is_bridge f)
-    → IsTrue (stands q s (window_part (kind_value class) f))
-    → option_map decoded_range_of (told table k class) ≡ Some (reach q s (kind_value class) f)
-
 -- ---- what tables tell
 
 -- by function in slot order: which parts are there, with what windows come to, and places around those windows
