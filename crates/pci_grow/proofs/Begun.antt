@@ -32,12 +32,7 @@ use Rattle.pci_grow.specs.There.{Tables, by_class, grown_in, with_own, grown_tol
 use Rattle.pci_grow.specs.Telling.{part_row, as_it_stands, IsToldAs, AreToldFrom, IsBegun}
 use Rattle.pci_grow.proofs.Ranked.{at_index}
 use Rattle.pci_grow.proofs.Told.{row_high, level_root, level_off}
-
-at_untold : (table : List (ByKind (Option Range))) → AreUntold table → (k : ℕ) → get_or table k untold ≡ untold
-at_untold table none k = elim (cases_lt k (length table)) [
-  | inl less ↦ none k untold less
-  | inr past ↦ get_or_past table k untold past
-]
+use Rattle.pci_grow.proofs.Untold.{at_untold}
 
 none_in : (p : Part) (table : List (ByKind (Option Range))) (k : ℕ) → get_or table k untold ≡ untold → grown_in table k p ≡ None
 none_in (Bar n) table k is = refl

@@ -16,6 +16,8 @@ pub mod AllRows
 pub mod Highest
 pub mod Reached
 pub mod FoundReaches
+pub mod Untold
+pub mod AllReaches
 pub mod Gathered
 pub mod Told
 pub mod ClassOver

@@ -9,3 +9,4 @@ pub mod Marks
 pub mod Growing
 pub mod There
 pub mod Telling
+pub mod Reaching

@@ -13,6 +13,7 @@ pub mod last_place;
 pub mod marks;
 pub mod place;
 pub mod reach;
+pub mod reaching;
 pub mod room;
 pub mod table;
 pub mod there;

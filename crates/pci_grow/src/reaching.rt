@@ -1,0 +1,111 @@
+//! What stands, row by row, and how far its windows can grow.
+ghost use Rattle.std.specs.Prelude.{◌≡◌, ◌⊎◌, None, Some, IsTrue, IsFalse, IfSome, IfOk};
+ghost use Rattle.std.specs.List.{All};
+ghost use Rattle.std.specs.Option.{option_map};
+ghost use Rattle.pci_base.specs.Ranges.{decoded_range_of};
+ghost use Rattle.pci_place.specs.Above.{system_in};
+ghost use Rattle.pci_settle.specs.Lists.{lists_value};
+ghost use Rattle.pci_stand.specs.Known.{asked};
+ghost use Rattle.pci_stay.specs.Windows.{is_whole_range};
+ghost use Rattle.pci_grow.specs.Reaching.{reaching_value, IsReaching, tells_whole, TellsWhole};
+
+use crate::beside::standing_in_rows;
+use crate::reach::{Board, find_reaches};
+use crate::table::{WindowRanges, nothing_told};
+use pci_base::memory::OutOfMemory;
+use pci_base::range::Range;
+use pci_base::slot::Slot;
+use pci_settle::kept::Kept;
+use pci_settle::list::Lists;
+use pci_stand::collect::regions;
+use pci_stand::pass::standing;
+use pci_stand::place::bridges_over;
+use pci_stand::region::Region;
+use pci_stay::windows::TooLarge;
+use pci_tree::admitted::Admitted;
+use std::alloc::Allocator;
+
+/// What stands, and how far its windows can grow.
+#[derive(Drop)]
+pub struct Reaching<A: Allocator> {
+    /// The parts of all functions, by rising slots.
+    pub regions: Vec<Region, A>,
+    /// Which of them stand, by function in slot order.
+    pub kept: Vec<Kept, A>,
+    /// Those that stand, row by row, and in a row by rising addresses.
+    pub rows: Vec<Region, A>,
+    /// How far each window that stands can grow.
+    pub reaches: Vec<WindowRanges, A>,
+}
+
+/// What stands, and how far its windows can grow. `fixed` are the slots of functions whose registers may not be written.
+pub fn all_reaches<A: Allocator + Copy, B: Allocator>(
+    alloc: A,
+    admitted: &Admitted<B>,
+    lists: &Lists,
+    fixed: &[Slot],
+) -> Result<Reaching<A>, OutOfMemory>
+    ensures { IfOk result (λ reaching. IsReaching
+        (asked admitted.now.roots (lists_value lists.now) fixed.now) (system_in admitted.now)
+        (reaching_value reaching)) }
+{
+    let records = admitted.outline().records();
+    let regions = regions(alloc, admitted, lists, fixed)?;
+    let kept = standing(alloc, admitted, lists, fixed)?;
+    let rows = standing_in_rows(alloc, regions.as_slice(), kept.as_slice())?;
+    let board = Board {
+        records,
+        over: &bridges_over(records),
+        lists,
+    };
+    let mut reaches = nothing_told(alloc, records.len())?;
+    find_reaches(&board, rows.as_slice(), reaches.as_mut_slice());
+    Ok(Reaching {
+        regions,
+        kept,
+        rows,
+        reaches,
+    })
+}
+
+/// Whether what is told of a window has all addresses of 64 bits.
+fn is_whole(range: Option<Range>) -> bool
+    ensures { result ≡ is_whole_range (option_map decoded_range_of range) }
+{
+    match range {
+        Some(range) => range.first == 0 && range.last == u64::MAX,
+        None => false,
+    }
+}
+
+/// Whether something told of the windows of a function has.
+fn tells_whole(ranges: &WindowRanges) -> bool
+    ensures { result ≡ tells_whole ranges.now }
+{
+    is_whole(ranges.io) || is_whole(ranges.memory) || is_whole(ranges.prefetchable)
+}
+
+/// Whether something that a table tells has.
+fn tell_whole(reaches: &[WindowRanges]) -> bool
+    ensures none { IsFalse result → All (λ ranges. IsFalse (tells_whole ranges)) reaches.now }
+    ensures some { IsTrue result → TellsWhole reaches.now }
+{
+    for k in 0..reaches.len() {
+        if tells_whole(&reaches[k]) {
+            return true;
+        }
+    }
+    false
+}
+
+/// The bridge around whose new window it isn't known what grows: one is too large, and a window that stands may have room for it.
+pub fn unknown_around(large: Option<TooLarge>, reaches: &[WindowRanges]) -> Option<TooLarge>
+    ensures some { IfSome result (λ window. (large ≡ Some window) × TellsWhole reaches.now) }
+    ensures none { result ≡ None
+        → (large ≡ None) ⊎ All (λ ranges. IsFalse (tells_whole ranges)) reaches.now }
+{
+    match large {
+        Some(window) if tell_whole(reaches) => Some(window),
+        _ => None,
+    }
+}
