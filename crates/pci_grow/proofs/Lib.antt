@@ -17,6 +17,8 @@ pub mod Highest
 pub mod Reached
 pub mod FoundReaches
 pub mod Untold
+pub mod LowReaches
+pub mod WholeReaches
 pub mod AllReaches
 pub mod Gathered
 pub mod Told
@@ -37,3 +39,5 @@ pub mod Putting
 pub mod Noting
 pub mod Taking
 pub mod Rowing
+pub mod ThereGrows
+pub mod Growable

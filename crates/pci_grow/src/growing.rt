@@ -1,26 +1,57 @@
 //! What stays where windows grow, from the roots down, and with which addresses.
-ghost use Rattle.std.specs.Prelude.{◌≡◌, OnOk, length};
+ghost use Rattle.std.specs.Prelude.{◌≡◌, IfOk, IfErr, OnOk, length};
 ghost use Rattle.std.specs.List.{All};
 ghost use Rattle.pci_spec.specs.System.{System};
 ghost use Rattle.settle_spec.specs.Lists.{Request};
 ghost use Rattle.settle_spec.specs.Growth.{takes, has_grown};
 ghost use Rattle.settle_spec.specs.Kept.{is_kept};
 ghost use Rattle.pci_tree.specs.Ways.{IsBridgeToBus};
+ghost use Rattle.pci_place.specs.Above.{AreAboves, system_in};
+ghost use Rattle.pci_settle.specs.Buses.{classing_value};
 ghost use Rattle.pci_settle.specs.Lists.{lists_value};
 ghost use Rattle.pci_stand.specs.Boards.{IsBoard};
-ghost use Rattle.pci_stand.specs.Known.{AreParts};
+ghost use Rattle.pci_stand.specs.Known.{asked, AreParts};
 ghost use Rattle.pci_stand.specs.Passing.{CanBeNoted};
 ghost use Rattle.pci_stay.specs.Holding.{AreHolding};
 ghost use Rattle.pci_stay.specs.Staying.{AreStayingBy};
-ghost use Rattle.pci_grow.specs.Growing.{AreComing};
+ghost use Rattle.pci_stay.specs.Windows.{AreAllLawful};
+ghost use Rattle.pci_grow.specs.Growing.{AreComing, CanGrow, grown_value, AreGrown};
+ghost use Rattle.pci_grow.specs.Reaching.{reaching_value, IsTooLargeAround};
 
+use crate::begin::begin;
+use crate::coming::Setting;
+use crate::finding::find_there;
 use crate::marks::{keep_marked, leave_marked, marks};
+use crate::place::Places;
+use crate::reaching::{Reaching, all_reaches, unknown_around};
 use crate::table::WindowRanges;
-use pci_base::memory::OutOfMemory;
+use crate::there::There;
+use pci_base::memory::{OutOfMemory, Refused};
+use pci_base::slot::{BUSES, Slot};
+use pci_base::window_kind::ByKind;
+use pci_place::above::aboves;
+use pci_settle::extent::Extent;
 use pci_settle::kept::Kept;
 use pci_settle::list::Lists;
+use pci_settle::listing::Classing;
+use pci_settle::own::Terms;
+use pci_stand::place::bridges_over;
+use pci_stay::holding::{Behind, hold_all};
 use pci_stay::staying::{Board, stay_all};
+use pci_stay::windows::{TooLarge, all_windows, open_windows};
+use pci_tree::admitted::Admitted;
 use std::alloc::Allocator;
+
+/// What keeps its place where windows grow, by function in slot order.
+#[derive(Drop)]
+pub struct Grown<A: Allocator> {
+    /// What stays.
+    pub stays: Vec<Kept, A>,
+    /// What each window that grows comes to.
+    pub coming: Vec<WindowRanges, A>,
+    /// The places of what is placed around windows that take.
+    pub places: Vec<Places, A>,
+}
 
 /// Leaves of what windows that take come to that of the windows that grow, as each window of the class above them takes too; and
 /// notes in a table of what has room behind it what stays where they grow.
@@ -54,4 +85,99 @@ fn stay_grown<A: Allocator>(
     stay_all(board, lists, table);
     leave_marked(coming, marks);
     Ok(())
+}
+
+/// What keeps its place where windows grow, by what stands and how far its windows can grow.
+fn growing_by<'b, A: Allocator + Copy, B: Allocator>(
+    alloc: A,
+    classing: &'b Classing<B>,
+    lists: &Lists,
+    windows: &'b ByKind<[Option<Extent>; BUSES]>,
+    reaching: Reaching<A>,
+) -> Result<Grown<A>, OutOfMemory>
+    // which windows lead to a BAR decides its class
+    requires above { AreAboves (system_in classing.now.admitted.now) classing.now.aboves.now }
+    // places are looked for by sizes and alignments
+    requires lawful { AreAllLawful windows.now }
+    // so what is there lies in order, whatever windows take
+    requires ready { (q : Request) × CanGrow q (classing_value classing.now) (lists_value lists.now)
+        windows.now (reaching_value reaching) }
+    ensures { IfOk result (λ grown. (q : Request)
+        → CanGrow q (classing_value classing.now) (lists_value lists.now) windows.now
+        (reaching_value reaching)
+        → AreGrown q (system_in classing.now.admitted.now) (grown_value grown)) }
+{
+    let Reaching {
+        regions,
+        mut kept,
+        rows,
+        reaches,
+    } = reaching;
+    let records = classing.admitted.outline().records();
+    let regions = regions.as_slice();
+    let entries = kept.as_mut_slice();
+    let behind = Behind {
+        classing,
+        windows,
+        regions,
+    };
+    hold_all(alloc, &behind, entries)?;
+    let setting = Setting {
+        classing,
+        windows,
+        rows: rows.as_slice(),
+        reaches: reaches.as_slice(),
+    };
+    let mut there = begin(alloc, entries)?;
+    find_there(alloc, &setting, &mut there)?;
+    let There {
+        kept: _,
+        grown: mut coming,
+        places,
+    } = there;
+    let board = Board {
+        records,
+        over: &bridges_over(records),
+        regions,
+    };
+    stay_grown(alloc, &board, lists, coming.as_mut_slice(), entries)?;
+    Ok(Grown {
+        stays: kept,
+        coming,
+        places,
+    })
+}
+
+/// What keeps its place where windows grow, and with which addresses. `fixed` are the slots of functions whose registers may
+/// not be written.
+///
+/// A bridge is named whose new window would have 2^64 addresses or more, where a window that stands can grow to all addresses
+/// of 64 bits: no other one has room for it.
+pub fn growing<A: Allocator + Copy, B: Allocator>(
+    alloc: A,
+    admitted: &Admitted<B>,
+    lists: &Lists,
+    fixed: &[Slot],
+) -> Result<Grown<A>, Refused<TooLarge>>
+    ensures grown { IfOk result (λ grown. AreGrown
+        (asked admitted.now.roots (lists_value lists.now) fixed.now) (system_in admitted.now)
+        (grown_value grown)) }
+    ensures fault { IfErr result (IsTooLargeAround
+        (asked admitted.now.roots (lists_value lists.now) fixed.now) (system_in admitted.now)) }
+{
+    let aboves = aboves(admitted);
+    let opened = open_windows(admitted.outline().records());
+    let classing = Classing {
+        admitted,
+        aboves: &aboves,
+        terms: Terms::of(lists),
+        overs: &opened,
+    };
+    let windows = all_windows(alloc, &classing)?;
+    let reaching = all_reaches(alloc, admitted, lists, fixed)?;
+    if let Some(window) = unknown_around(windows.large, reaching.reaches.as_slice()) {
+        return Err(Refused::Fault(window));
+    }
+    let grown = growing_by(alloc, &classing, lists, &windows.tables, reaching)?;
+    Ok(grown)
 }

@@ -4,6 +4,7 @@
 #![tactic(auto)]
 
 pub mod around;
+pub mod begin;
 pub mod beside;
 pub mod coming;
 pub mod finding;

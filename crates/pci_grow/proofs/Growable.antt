@@ -1,0 +1,106 @@
+-- What can grow meets what is asked for where holding parts, and then what is there, are found.
+use Rattle.std.proofs.Common.{◌≡◌, ◌⊎◌, List, length, map, false, refl, sym, subst, ◌∙◌, Option, None, Some}
+use Rattle.std.specs.List.{All}
+use Rattle.pci_spec.specs.Slot.{Slot}
+use Rattle.pci_spec.specs.System.{System}
+use Rattle.pci_spec.specs.Decoded.{HasRecords}
+use Rattle.settle_spec.specs.Lists.{Lists, Request}
+use Rattle.settle_laws.proofs.LowWindows.{windows_low}
+use Rattle.pci_base.specs.declared.memory.Refused.TheVariants as refused
+use Rattle.pci_base.specs.declared.range.Range.{Range}
+use Rattle.pci_base.specs.declared.window_kind.ByKind.{ByKind}
+use Rattle.pci_function.specs.declared.record.Record.{Record}
+use Rattle.pci_function.specs.Values.{record_value}
+use Rattle.pci_tree.specs.Admission.{Admission, IsAdmitted}
+use Rattle.pci_place.specs.Above.{system_in}
+use Rattle.pci_settle.specs.declared.extent.Extent.{Extent}
+use Rattle.pci_settle.specs.declared.kept.Kept.{Kept}
+use Rattle.pci_settle.specs.declared.over.OpenWindows.{OpenWindows}
+use Rattle.pci_settle.specs.declared.own.Terms.{Terms}
+use Rattle.pci_settle.specs.Buses.{Classing, classing_of, TellsClasses}
+use Rattle.pci_stand.specs.declared.region.Region.{Region}
+use Rattle.pci_stand.specs.Boards.{IsBoard}
+use Rattle.pci_stand.specs.Known.{asked, AreParts}
+use Rattle.pci_stay.specs.declared.windows.TooLarge.{TooLarge}
+use Rattle.pci_stay.specs.Holding.{IsAsking, AreHolding}
+use Rattle.pci_stay.specs.Windows.{AreAllNew}
+use Rattle.pci_grow.specs.Growing.{CanGrow}
+use Rattle.pci_grow.specs.PlaceTables.{ArePlaceless}
+use Rattle.pci_grow.specs.Reaches.{AreReaches}
+use Rattle.pci_grow.specs.Reaching.{Reaching, IsReaching, tells_whole, TellsWhole, IsTooLargeAround}
+use Rattle.pci_grow.specs.Tables.{AreUntold}
+use Rattle.pci_grow.specs.There.{Tables}
+use Rattle.pci_grow.specs.Telling.{Setting, AreStandingRows, IsGrowing, IsBegun}
+use Rattle.pci_grow.proofs.AllRows.{standing_rows}
+use Rattle.pci_grow.proofs.WholeReaches.{known_around, whole_reach, new_around, large_around, new_where_stands}
+
+module _ (q : Request) (p : Classing) (lists : Lists) (windows : ByKind (List (Option Extent))) (x : Reaching) (can : CanGrow q p lists windows x) where
+  pub board_of : (records : List Record) → HasRecords p.system (map record_value records) → IsBoard q p.system records lists
+  board_of records has = record { has = has; system = can.system; nested = can.nested; same = can.same; stands = can.standing }
+
+  pub asking_of : (regions : List Region) → regions ≡ x.regions → IsAsking p windows regions q
+  asking_of regions same = record {
+    system = can.system;
+    nested = can.nested;
+    left = can.left;
+    parts = subst (AreParts q p.system) (sym same) can.reaching.parts;
+    new = new_where_stands p q can.system can.nested can.low windows can.new;
+  }
+
+  pub growing_of : (rows : List Region) (reaches : List (ByKind (Option Range))) → rows ≡ x.rows → reaches ≡ x.reaches
+      → IsGrowing q (record { classing = p; windows = windows; rows = rows; reaches = reaches })
+  growing_of rows reaches same_rows same_reaches = record {
+    system = can.system;
+    nested = can.nested;
+    standing = can.standing;
+    low = can.low;
+    left = can.left;
+    rows = subst (AreStandingRows q p.system) (sym same_rows)
+        (standing_rows q p.system can.system can.nested x.rows record {
+          regions = x.regions;
+          standing = x.kept;
+          parts = can.reaching.parts;
+          stand = can.reaching.stand;
+          sorted = can.reaching.are_rows;
+        });
+    reaches = subst (AreReaches q p.system) (sym same_reaches) can.reaching.told_reaches;
+    new = can.new;
+  }
+
+  -- nothing has grown
+  pub begun_of : (t : Tables) (holding : List Kept) → AreHolding q p.system holding → t.kept ≡ holding → AreUntold t.grown → ArePlaceless t.places → length t.grown ≡ length holding → length t.places ≡ length holding
+      → IsBegun q p.system t
+  begun_of t holding are same untold placeless grown places = record {
+    holding = subst (AreHolding q p.system) (sym same) are;
+    untold = untold;
+    placeless = placeless;
+    grown = grown ∙ are.count;
+    places = places ∙ are.count;
+  }
+
+-- so it is with what is asked for of an admitted system, where no bridge is named
+pub can_grow : (a : Admission) (l : Lists) (fixed : List Slot) → IsAdmitted a → (terms : Terms) (over : List OpenWindows) → TellsClasses (classing_of a terms over) (asked a.roots l fixed)
+    → (windows : ByKind (List (Option Extent))) (large : Option TooLarge) → AreAllNew (classing_of a terms over) windows large
+    → (x : Reaching) → IsReaching (asked a.roots l fixed) (system_in a) x → (large ≡ None) ⊎ All (λ ranges. tells_whole ranges ≡ false) x.reaches
+    → CanGrow (asked a.roots l fixed) (classing_of a terms over) l windows x
+can_grow a l fixed admitted terms over left windows large all x is none = record {
+  system = admitted.system;
+  nested = admitted.nested;
+  same = refl;
+  standing = refl;
+  low = windows_low (asked a.roots l fixed) (system_in a) admitted.system admitted.nested admitted.profile;
+  left = left;
+  reaching = is;
+  new = new_around (classing_of a terms over) (asked a.roots l fixed) left windows large all
+      (known_around (asked a.roots l fixed) (system_in a) admitted.system admitted.nested x is large none);
+}
+
+-- and a bridge that is named has too large a new window, where a window can grow to all addresses
+pub large_of : (a : Admission) (l : Lists) (fixed : List Slot) → IsAdmitted a → (terms : Terms) (over : List OpenWindows) → TellsClasses (classing_of a terms over) (asked a.roots l fixed)
+    → (windows : ByKind (List (Option Extent))) (large : Option TooLarge) → AreAllNew (classing_of a terms over) windows large
+    → (x : Reaching) → IsReaching (asked a.roots l fixed) (system_in a) x → (w : TooLarge) → (large ≡ Some w) × TellsWhole x.reaches
+    → IsTooLargeAround (asked a.roots l fixed) (system_in a) (refused.Fault w)
+large_of a l fixed admitted terms over left windows large all x is w (named, whole) = (
+  large_around (classing_of a terms over) (asked a.roots l fixed) left windows large all w named,
+  whole_reach (asked a.roots l fixed) (system_in a) admitted.system admitted.nested x is whole,
+)
