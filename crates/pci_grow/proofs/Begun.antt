@@ -1,15 +1,14 @@
 -- Before the first row is gone over tables tell of no part that it has grown.
-use Rattle.std.proofs.Common.{◌≡◌, ℕ, ◌+◌, ◌*◌, ◌<◌, ◌≤◌, ◌⊎◌, inl, inr, List, length, get_or, Bool, true, false, arith, refl, ap, sym, ◌∙◌, Option, None, Some}
-use Rattle.std.specs.Bool.{if◌then◌else◌, ◌==◌}
-use Rattle.std.specs.List.{Contains, slice_get}
+use Rattle.std.proofs.Common.{◌≡◌, ℕ, ◌+◌, ◌*◌, ◌<◌, ◌⊎◌, inl, inr, List, length, get_or, Bool, true, false, arith, refl, ap, sym, ◌∙◌, Option, None, Some}
+use Rattle.std.specs.Bool.{if◌then◌else◌}
+use Rattle.std.specs.List.{Contains}
 use Rattle.std.specs.Option.{option_map, is_some}
 use Rattle.std.proofs.lemmas.Bool.{cases_Bool, cases_lt, and_parts, both_ways, false_from_ne_true}
-use Rattle.std.proofs.lemmas.List.{get_or_past, get_or_default}
-use Rattle.pci_spec.specs.Window.{WindowKind, IoWindow, MemoryWindow, PrefetchWindow}
+use Rattle.std.proofs.lemmas.List.{get_or_past}
+use Rattle.pci_spec.specs.Window.{IoWindow, MemoryWindow, PrefetchWindow}
 use Rattle.pci_spec.specs.Decoded.{Range as DecodedRange}
 use Rattle.pci_spec.specs.System.{System, Function, Part, Bar, Rom, Window, IsSystem, has_part, is_bridge}
 use Rattle.pci_spec.specs.Bus.{is_root, IsNested}
-use Rattle.plan_spec.specs.Plan.{is_open}
 use Rattle.plan_spec.proofs.Planning.Safe.{slots_of}
 use Rattle.settle_spec.specs.Lists.{Request}
 use Rattle.settle_spec.specs.Parts.{FunctionPart, system_parts, header_parts, addresses}
@@ -23,13 +22,13 @@ use Rattle.pci_base.specs.declared.range.Range.{Range}
 use Rattle.pci_base.specs.declared.window_kind.ByKind.{ByKind}
 use Rattle.pci_base.specs.Ranges.{decoded_range_of}
 use Rattle.pci_stand.specs.Tables.{index_of, stands_in}
-use Rattle.pci_stand.proofs.Indexes.{index_at, table_at}
+use Rattle.pci_stand.proofs.Indexes.{table_at}
 use Rattle.pci_stay.proofs.Rooms.{part_there}
 use Rattle.pci_grow.specs.declared.place.Places.{Places}
 use Rattle.pci_grow.specs.PlaceTables.{place_in, no_place, placed, ArePlaceless}
 use Rattle.pci_grow.specs.Tables.{untold, AreUntold}
-use Rattle.pci_grow.specs.There.{Tables, by_class, grown_in, with_own, grown_told, there_told, place_told}
-use Rattle.pci_grow.specs.Telling.{part_row, as_it_stands, IsToldAs, AreToldFrom, IsBegun}
+use Rattle.pci_grow.specs.There.{Tables, by_class, grown_in, with_own, grown_told, there_told}
+use Rattle.pci_grow.specs.Telling.{part_row, AreToldFrom, IsBegun}
 use Rattle.pci_grow.proofs.Ranked.{at_index}
 use Rattle.pci_grow.proofs.Told.{row_high, level_root, level_off}
 use Rattle.pci_grow.proofs.Untold.{at_untold}

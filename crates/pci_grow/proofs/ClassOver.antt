@@ -1,23 +1,20 @@
 -- The window in which a part that stands can stand, as the code tells it, is that of its class.
-use Rattle.std.proofs.Common.{◌≡◌, ℕ, ◌⊎◌, inl, inr, List, Bool, true, false, cond, ◌&&◌, ◌||◌, not, sym, ◌∙◌, ap, subst, refl, Some, None}
-use Rattle.std.specs.Bool.{nat_le}
-use Rattle.std.specs.List.{Contains, list_any, list_all}
-use Rattle.std.proofs.lemmas.Bool.{cases_Bool, and_parts, and_from, both_ways, false_from_ne_true}
+use Rattle.std.proofs.Common.{◌≡◌, ℕ, Bool, true, false, cond, ◌&&◌, ◌||◌, not, sym, ◌∙◌, ap, refl, Some, None}
+use Rattle.std.proofs.lemmas.Bool.{and_from, false_from_ne_true}
 use Rattle.pci_spec.specs.Bar.{bar_at, is_io, is_prefetchable}
 use Rattle.pci_spec.specs.Window.{WindowKind, IoWindow, MemoryWindow, PrefetchWindow, has_window}
 use Rattle.pci_spec.specs.Decoded.{Range}
 use Rattle.pci_spec.specs.System.{System, Function, Space, Io, Memory, Bar, Rom, Window, IsSystem, is_bridge, is_prefetchable_part, space_of, window_space}
 use Rattle.pci_spec.specs.Bus.{is_root, secondary, IsNested, LeadsTo}
-use Rattle.plan_spec.specs.Plan.{bridges_above, is_open, is_served}
+use Rattle.plan_spec.specs.Plan.{bridges_above, is_open}
 use Rattle.plan_spec.specs.Planning.Layout.{range_of}
 use Rattle.settle_spec.specs.Lists.{Request}
-use Rattle.settle_spec.specs.Parts.{FunctionPart, system_parts, addresses, lies_within, bridge_over, holds_range, upper_pools, is_empty, new_class, is_in_memory, is_in_prefetch, prefetchable_class, class_in}
+use Rattle.settle_spec.specs.Parts.{FunctionPart, addresses, lies_within, bridge_over, holds_range, new_class, is_in_memory, is_in_prefetch, prefetchable_class, class_in}
 use Rattle.settle_spec.specs.Stands.{part_space, window_part, stands}
 use Rattle.settle_spec.proofs.BridgeOver.{over_is}
 use Rattle.stand_laws.proofs.Apart.{in_window_over}
 use Rattle.stand_laws.proofs.Standing.{stands_by_itself}
 use Rattle.pci_base.specs.Ranges.{decoded_range_of}
-use Rattle.pci_base.specs.Space as code
 use Rattle.pci_function.specs.declared.record.Bridge.{Bridge}
 use Rattle.pci_function.specs.declared.record.Record.{Record}
 use Rattle.pci_place.specs.Records.{IsRecordOf}

@@ -1,12 +1,11 @@
 -- Whether what a part comes to is off all that is there before it, by the greatest last address of that.
-use Rattle.std.proofs.Common.{◌≡◌, ℕ, ◌+◌, ◌<◌, ◌≤◌, ◌⊎◌, max, inl, inr, List, [], ◌∷◌, ◌++◌, map, length, take, get_or, Bool, true, false, ◌||◌, not, arith, refl, ap, sym, subst, ◌∙◌, Option, None, Some}
+use Rattle.std.proofs.Common.{◌≡◌, ℕ, ◌<◌, ◌≤◌, ◌⊎◌, max, inl, inr, List, [], ◌∷◌, ◌++◌, length, take, get_or, Bool, true, false, ◌||◌, not, arith, refl, ap, sym, subst, ◌∙◌, Option, None, Some}
 use Rattle.std.specs.Bool.{nat_lt, if◌then◌else◌}
-use Rattle.std.specs.List.{Contains, flat_map, list_all}
+use Rattle.std.specs.List.{Contains, list_all}
 use Rattle.std.specs.Option.{option_map}
-use Rattle.std.proofs.lemmas.Bool.{cases_Bool, false≢true, both_ways, lt-ltb, ltb-true, ltb-false, or_left, or_right, and_from, false_from_ne_true, true_from_ne_false}
+use Rattle.std.proofs.lemmas.Bool.{cases_Bool, lt-ltb, ltb-true, ltb-false, or_left, or_right, and_from, false_from_ne_true, true_from_ne_false}
 use Rattle.std.proofs.lemmas.Option.{none-some, same_Some}
 use Rattle.std.proofs.lemmas.List.{append-nil}
-use Rattle.std.proofs.lemmas.List.Concat.{flat_map-append}
 use Rattle.std.proofs.lemmas.List.Elements.{Contains-append_left, Contains-push, Contains-push_cases}
 use Rattle.pci_spec.specs.Decoded.{Range as DecodedRange}
 use Rattle.pci_spec.specs.System.{System, IsSystem}
@@ -15,10 +14,10 @@ use Rattle.pci_spec.proofs.BusRanges.{all_gives, all_from}
 use Rattle.pci_spec.proofs.Members.{IsMade, IsInPiece, in_nil, in_head, in_cons_cases, in_map_to, in_flat_map_to, in_flat_map_from}
 use Rattle.settle_spec.specs.FirstPlace.{ranges_are_apart}
 use Rattle.settle_spec.specs.Lists.{Request}
-use Rattle.settle_spec.specs.Parts.{FunctionPart, system_parts, addresses, lies_within}
+use Rattle.settle_spec.specs.Parts.{FunctionPart, system_parts, addresses}
 use Rattle.settle_spec.specs.Stands.{are_beside, stands}
 use Rattle.settle_spec.specs.Items.{has_room_behind}
-use Rattle.settle_spec.specs.Growth.{range_list, is_before, is_off, is_clear, there_if, there, comes_to, takes}
+use Rattle.settle_spec.specs.Growth.{range_list, is_before, is_off, is_clear, there, comes_to, takes}
 use Rattle.settle_spec.proofs.Grown.{part_holds}
 use Rattle.settle_spec.proofs.Reaching.{LiesIn, ends_apart, within_gives}
 use Rattle.stand_laws.proofs.Standing.{part_of}
@@ -29,8 +28,8 @@ use Rattle.pci_base.specs.Ranges.{decoded_range_of}
 use Rattle.pci_stand.specs.declared.region.Region.{Region}
 use Rattle.pci_stand.specs.Known.{region_value}
 use Rattle.pci_grow.specs.There.{in_row, is_past, later_of}
-use Rattle.pci_grow.specs.Telling.{AreStandingRows, grown_there, as_it_stands, IsLatest, there_among}
-use Rattle.pci_grow.proofs.InRows.{of_row, known_in, stands_in, in_first, before_ends, before_done, v_known, v_listed, v_stands, v_row, part_in_row}
+use Rattle.pci_grow.specs.Telling.{AreStandingRows, as_it_stands, IsLatest, there_among}
+use Rattle.pci_grow.proofs.InRows.{of_row, known_in, in_first, before_ends, before_done, v_known, v_row, part_in_row}
 use Rattle.pci_grow.proofs.Told.{region_range, row_beside}
 
 -- ---- the greatest last address of ranges

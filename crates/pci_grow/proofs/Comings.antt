@@ -1,9 +1,8 @@
 -- What a window comes to, by the items that are listed and the places that are found for them.
-use Rattle.std.proofs.Common.{◌≡◌, ℕ, zero, suc, ◌<◌, ◌⊎◌, inl, inr, min, max, List, [], ◌∷◌, ◌++◌, map, length, drop, get_or, Bool, true, false, arith, refl, ap, sym, subst, ◌∙◌, Option, None, Some}
-use Rattle.std.specs.Bool.{if◌then◌else◌}
-use Rattle.std.specs.List.{All, Contains, fold}
+use Rattle.std.proofs.Common.{◌≡◌, ℕ, ◌⊎◌, inl, inr, min, max, List, ◌++◌, map, true, false, refl, ap, sym, ◌∙◌, Option, None, Some}
+use Rattle.std.specs.List.{All, fold}
 use Rattle.std.specs.Option.{is_some}
-use Rattle.std.proofs.lemmas.Bool.{false≢true, both_ways}
+use Rattle.std.proofs.lemmas.Bool.{both_ways}
 use Rattle.std.proofs.lemmas.List.{length-map, get_or-map}
 use Rattle.pci_spec.specs.Window.{WindowKind}
 use Rattle.pci_spec.specs.Decoded.{Range as DecodedRange}
@@ -22,7 +21,6 @@ use Rattle.pci_base.specs.Ranges.{decoded_range_of}
 use Rattle.pci_settle.specs.declared.item.Item.{Item}
 use Rattle.pci_settle.specs.Own.{asked_item_value}
 use Rattle.pci_settle.specs.Placings.{at_places}
-use Rattle.pci_settle.specs.Spots.{extent_value}
 use Rattle.pci_settle.specs.Turns.{HasExtent}
 use Rattle.pci_grow.specs.declared.around.Around.{Around}
 use Rattle.pci_grow.specs.Arounds.{find_around, HaveExtents, ArePlacesAround, HaveNoPlaces}

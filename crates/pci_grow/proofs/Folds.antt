@@ -5,7 +5,7 @@ use Rattle.std.proofs.lemmas.List.{map-append}
 use Rattle.std.proofs.lemmas.List.Sums.{fold-append}
 use Rattle.pci_spec.specs.Decoded.{Range as DecodedRange}
 use Rattle.pci_spec.proofs.Members.{IsMade, in_nil, in_head, in_tail, in_cons_cases, in_map_to, in_map_from}
-use Rattle.settle_spec.specs.Items.{Item as ItemValue, Placed, taken_by}
+use Rattle.settle_spec.specs.Items.{Placed, taken_by}
 use Rattle.settle_spec.proofs.Grown.{fold_min, fold_max}
 use Rattle.settle_spec.proofs.SameTaken.{HaveSame}
 use Rattle.pci_base.specs.declared.range.Range.{Range}

@@ -1,9 +1,9 @@
 -- What is gathered of a row, part by part: addresses, and the least range that holds them.
-use Rattle.std.proofs.Common.{◌≡◌, ℕ, zero, suc, ◌+◌, ◌-◌, ◌<◌, ◌≤◌, ◌⊎◌, inl, inr, min, max, List, [], ◌∷◌, ◌++◌, map, length, take, drop, get_or, Bool, true, false, cond, refl, arith, ap, sym, ◌∙◌, Option, None, Some}
+use Rattle.std.proofs.Common.{◌≡◌, ℕ, zero, suc, ◌+◌, ◌-◌, ◌<◌, ◌≤◌, ◌⊎◌, inl, inr, min, max, List, [], ◌∷◌, ◌++◌, map, length, take, drop, get_or, Bool, true, false, cond, refl, arith, ap, sym, ◌∙◌, Option}
 use Rattle.std.specs.Bool.{◌==◌}
 use Rattle.std.specs.List.{AllWithin, filter, flat_map, fold, slice_range}
 use Rattle.std.proofs.lemmas.Bool.{cases_lt, ne_eqb, eq-eqb}
-use Rattle.std.proofs.lemmas.List.{take_more, take_all, append-nil, map-append, length-take}
+use Rattle.std.proofs.lemmas.List.{take_more, take_all, append-nil, map-append}
 use Rattle.std.proofs.lemmas.List.Concat.{flat_map-append}
 use Rattle.std.proofs.lemmas.List.Sums.{fold_push}
 use Rattle.pci_base.specs.declared.range.Range.{Range}

@@ -1,18 +1,17 @@
 -- The parts that stand in a row: their order, and which of them are done.
-use Rattle.std.proofs.Common.{◌≡◌, ◌≢◌, ℕ, ◌+◌, ◌<◌, ◌≤◌, ◌⊎◌, inl, inr, List, [], ◌∷◌, ◌++◌, map, length, take, get_or, Bool, true, false, arith, refl, ap, sym, subst, ◌∙◌}
+use Rattle.std.proofs.Common.{◌≡◌, ◌≢◌, ℕ, ◌+◌, ◌<◌, ◌≤◌, ◌⊎◌, inl, inr, List, [], ◌∷◌, ◌++◌, map, length, take, get_or, true, arith, ap, sym, subst, ◌∙◌}
 use Rattle.std.specs.Bool.{◌==◌}
-use Rattle.std.specs.List.{AllPairs, Contains, filter}
+use Rattle.std.specs.List.{AllPairs, Contains}
 use Rattle.std.proofs.lemmas.Bool.{cases_lt, cases_eq, and_parts, eqb-true, eq-eqb, ltb-true}
 use Rattle.std.proofs.lemmas.List.{take_more, take_all, get_or_default, get_or-take, length-take}
-use Rattle.std.proofs.lemmas.List.Elements.{All-contains, Contains-get_or, Contains-append_left, Contains-push, Contains-push_cases}
+use Rattle.std.proofs.lemmas.List.Elements.{All-contains, Contains-append_left, Contains-push, Contains-push_cases}
 use Rattle.pci_spec.specs.Decoded.{Range as DecodedRange}
 use Rattle.pci_spec.specs.System.{System, IsSystem}
-use Rattle.pci_spec.specs.Bus.{IsNested, are_siblings}
-use Rattle.pci_spec.proofs.Members.{IsMade, in_nil, in_map_to, in_map_from, in_filter_to, in_filter_from, pairs_filter}
-use Rattle.settle_spec.specs.FirstPlace.{ranges_are_apart}
+use Rattle.pci_spec.specs.Bus.{IsNested}
+use Rattle.pci_spec.proofs.Members.{IsMade, in_map_to, in_map_from, in_filter_to, in_filter_from, pairs_filter}
 use Rattle.settle_spec.specs.Lists.{Request}
-use Rattle.settle_spec.specs.Parts.{FunctionPart, system_parts, addresses, are_same_space}
-use Rattle.settle_spec.specs.Stands.{rank, part_space, are_beside, stands}
+use Rattle.settle_spec.specs.Parts.{FunctionPart, system_parts, addresses}
+use Rattle.settle_spec.specs.Stands.{rank, are_beside, stands}
 use Rattle.settle_spec.specs.Growth.{is_before}
 use Rattle.settle_spec.proofs.Reaching.{LieApart, ends_apart}
 use Rattle.stand_laws.proofs.Apart.{apart_where_beside}

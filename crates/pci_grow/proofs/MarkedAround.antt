@@ -1,5 +1,5 @@
 -- Around a window that can't grow to all addresses what is marked has no place, and neither has what it marks.
-use Rattle.std.proofs.Common.{◌≡◌, ℕ, ◌+◌, ◌-◌, ◌^◌, ◌<◌, ◌≤◌, max, inl, inr, ◌⊎◌, List, [], ◌∷◌, get_or, Bool, true, false, cond, ◌&&◌, arith, refl, sym, ◌∙◌, ap, subst, Option, Some, None}
+use Rattle.std.proofs.Common.{◌≡◌, ℕ, ◌+◌, ◌-◌, ◌^◌, ◌<◌, ◌≤◌, max, inl, inr, ◌⊎◌, List, [], ◌∷◌, get_or, Bool, true, false, cond, arith, refl, sym, ◌∙◌, ap, subst, Option, Some, None}
 use Rattle.std.specs.Bool.{nat_le, nat_lt}
 use Rattle.std.specs.List.{Contains}
 use Rattle.std.proofs.lemmas.Bool.{and_parts, leb-true, cases_Bool, ltb-true, false_from_ne_true}

@@ -1,21 +1,20 @@
 -- Once a window is noted with what it comes to, one part more is told.
-use Rattle.std.proofs.Common.{◌≡◌, ◌≢◌, ℕ, ◌+◌, ◌<◌, ◌⊎◌, inl, inr, List, [], ◌∷◌, map, length, get_or, Bool, true, false, cond, refl, ap, sym, subst, ◌∙◌, Option, None, Some}
-use Rattle.std.specs.Bool.{if◌then◌else◌, ◌==◌}
-use Rattle.std.specs.List.{Contains, find, slice_get}
+use Rattle.std.proofs.Common.{◌≡◌, ◌≢◌, ℕ, ◌+◌, ◌<◌, ◌⊎◌, inl, inr, List, [], ◌∷◌, length, get_or, true, cond, refl, ap, sym, subst, ◌∙◌, Option, None, Some}
+use Rattle.std.specs.Bool.{if◌then◌else◌}
+use Rattle.std.specs.List.{Contains, slice_get}
 use Rattle.std.specs.Option.{option_map, is_some}
 use Rattle.std.proofs.lemmas.Bool.{and_parts, cases_eq, both_ways, ne_eqb}
 use Rattle.std.proofs.lemmas.Option.{slice_get-get_or, same_Some}
 use Rattle.pci_spec.specs.Window.{WindowKind, IoWindow, MemoryWindow, PrefetchWindow}
 use Rattle.pci_spec.specs.Decoded.{Range as DecodedRange}
 use Rattle.pci_spec.specs.System.{System, Function, Part, Bar, Rom, Window, IsSystem, is_bridge, has_part, window_space}
-use Rattle.pci_spec.specs.Bus.{secondary, are_siblings, IsNested}
+use Rattle.pci_spec.specs.Bus.{secondary, IsNested}
 use Rattle.pci_spec.proofs.Members.{in_head, in_tail}
-use Rattle.plan_spec.specs.Plan.{is_open}
 use Rattle.settle_spec.specs.FirstPlace.{else_at}
 use Rattle.settle_spec.specs.Lists.{Request}
-use Rattle.settle_spec.specs.Parts.{FunctionPart, system_parts, header_parts, addresses, class_in, are_same_space}
+use Rattle.settle_spec.specs.Parts.{FunctionPart, system_parts, addresses, class_in, are_same_space}
 use Rattle.settle_spec.specs.Stands.{rank, part_space, window_part, stands}
-use Rattle.settle_spec.specs.Items.{Item, Placed, Placing, AllPlaced, bus_items, new_window}
+use Rattle.settle_spec.specs.Items.{Item, Placed, AllPlaced, bus_items, new_window}
 use Rattle.settle_spec.specs.Places.{placed_of, place_among}
 use Rattle.settle_spec.specs.Reach.{reach}
 use Rattle.settle_spec.specs.Growth.{place_around, there_on, taken_around, there, comes_to, takes}
@@ -35,7 +34,7 @@ use Rattle.pci_settle.specs.declared.kept.Part.TheVariants as parts
 use Rattle.pci_settle.specs.Kept.{kept_of, nothing_kept, spec_part}
 use Rattle.pci_stand.specs.declared.region.Region.{Region}
 use Rattle.pci_stand.specs.Known.{region_value}
-use Rattle.pci_stand.specs.Tables.{index_of, stands_in}
+use Rattle.pci_stand.specs.Tables.{stands_in}
 use Rattle.pci_stand.proofs.Indexes.{part_cases, index_at, table_at}
 use Rattle.pci_grow.specs.PlaceTables.{placed, ArePutOver}
 use Rattle.pci_grow.specs.Tables.{untold, told}

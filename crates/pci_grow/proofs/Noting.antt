@@ -1,5 +1,5 @@
 -- What a window has come to is noted in slices of tables.
-use Rattle.std.proofs.Common.{◌≡◌, ℕ, List, length, get_or, Option, Some, true, ap, sym, subst, ◌∙◌}
+use Rattle.std.proofs.Common.{◌≡◌, ℕ, List, length, get_or, Option, Some, true, ap, ◌∙◌}
 use Rattle.pci_spec.specs.System.{Part, Window}
 use Rattle.pci_base.specs.declared.range.Range.{Range}
 use Rattle.pci_base.specs.declared.window_kind.WindowKind.{WindowKind as CodeKind}

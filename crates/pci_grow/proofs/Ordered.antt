@@ -1,18 +1,17 @@
 -- What is there in a row that is done lies in order: each part ends before those behind it in the row begin.
-use Rattle.std.proofs.Common.{◌≡◌, ◌≢◌, ℕ, ◌+◌, ◌<◌, ◌≤◌, ◌⊎◌, inl, inr, List, [], ◌∷◌, length, get_or, true, arith, refl, ap, sym, subst, ◌∙◌, Option, None, Some}
-use Rattle.std.specs.List.{AllPairs, Contains, flat_map}
+use Rattle.std.proofs.Common.{◌≡◌, ◌≢◌, ℕ, ◌<◌, ◌≤◌, inl, inr, List, [], get_or, arith, ap, sym, ◌∙◌, Option, None, Some}
+use Rattle.std.specs.List.{AllPairs, Contains}
 use Rattle.std.specs.Option.{option_map}
-use Rattle.std.proofs.lemmas.Bool.{cases_lt}
 use Rattle.std.proofs.lemmas.List.Elements.{Contains-get_or}
 use Rattle.pci_spec.specs.Decoded.{Range as DecodedRange}
 use Rattle.pci_spec.specs.System.{System, IsSystem}
 use Rattle.pci_spec.specs.Bus.{IsNested}
-use Rattle.pci_spec.proofs.Members.{IsInPiece, in_nil, in_cons_cases, in_flat_map_to, pairs_nil, pairs_cons, pairs_flat_map}
+use Rattle.pci_spec.proofs.Members.{IsInPiece, in_nil, in_flat_map_to, pairs_nil, pairs_cons, pairs_flat_map}
 use Rattle.settle_spec.specs.Lists.{Request}
-use Rattle.settle_spec.specs.Parts.{FunctionPart, system_parts, addresses}
-use Rattle.settle_spec.specs.Stands.{rank, stands}
+use Rattle.settle_spec.specs.Parts.{FunctionPart, addresses}
+use Rattle.settle_spec.specs.Stands.{rank}
 use Rattle.settle_spec.specs.Growth.{there}
-use Rattle.settle_spec.proofs.Reaching.{LieApart, ends_apart}
+use Rattle.settle_spec.proofs.Reaching.{ends_apart}
 use Rattle.settle_laws.proofs.KeptTaken.{items_aligned}
 use Rattle.settle_spec.specs.Kept.{growing}
 use Rattle.stand_laws.specs.Reach.{WindowsAreLow}
@@ -27,7 +26,7 @@ use Rattle.pci_grow.specs.Rows.{IsInRowOrder}
 use Rattle.pci_grow.specs.There.{Tables, in_row, range_told, listed, there_of, there_told}
 use Rattle.pci_grow.specs.Telling.{AreStandingRows}
 use Rattle.pci_grow.proofs.Clearing.{there_holds}
-use Rattle.pci_grow.proofs.InRows.{rank_one, known_in, stands_in, of_row, part_in_row, order, lower_in}
+use Rattle.pci_grow.proofs.InRows.{rank_one, known_in, of_row, part_in_row, order, lower_in}
 use Rattle.pci_grow.proofs.Told.{told_is, region_range, row_beside, in_listed}
 
 -- ranges each of which ends before the next ones begin

@@ -1,10 +1,8 @@
 -- Row by row, and in a row part by part.
-use Rattle.std.proofs.Common.{◌≡◌, ℕ, ◌+◌, ◌<◌, ◌≤◌, List, [], ◌∷◌, ◌++◌, length, take, get_or, arith, refl, ap, sym, subst, ◌∙◌, Option, None, Some}
-use Rattle.std.specs.List.{Contains, flat_map}
+use Rattle.std.proofs.Common.{◌≡◌, ℕ, ◌+◌, ◌<◌, ◌≤◌, List, [], ◌∷◌, ◌++◌, length, take, get_or, ap, sym, subst, ◌∙◌, Option, None}
 use Rattle.std.specs.Option.{option_map}
 use Rattle.std.proofs.lemmas.List.{take_more, get_or_default, append-nil}
 use Rattle.std.proofs.lemmas.List.Concat.{flat_map-append}
-use Rattle.pci_spec.specs.Decoded.{Range as DecodedRange}
 use Rattle.pci_spec.specs.System.{System}
 use Rattle.settle_spec.specs.Lists.{Request}
 use Rattle.settle_spec.specs.Growth.{range_list, there}

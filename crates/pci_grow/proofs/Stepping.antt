@@ -1,36 +1,29 @@
 -- What is told of what is there, part by part and row by row.
-use Rattle.std.proofs.Common.{◌≡◌, ◌≢◌, ℕ, ◌+◌, ◌*◌, ◌<◌, ◌≤◌, ◌⊎◌, inl, inr, List, [], ◌∷◌, map, length, take, get_or, Bool, true, false, cond, arith, refl, ap, sym, subst, ◌∙◌, Option, None, Some}
+use Rattle.std.proofs.Common.{◌≡◌, ℕ, ◌+◌, ◌*◌, ◌<◌, ◌≤◌, ◌⊎◌, inl, inr, List, length, get_or, true, false, arith, refl, ap, sym, subst, ◌∙◌, Option, None}
 use Rattle.std.specs.Bool.{if◌then◌else◌}
-use Rattle.std.specs.List.{All, AllPairs, Contains, flat_map, slice_get}
-use Rattle.std.specs.Option.{is_some, option_map}
-use Rattle.std.proofs.lemmas.Bool.{cases_Bool, both_ways, false≢true, and_parts, false_from_ne_true, true_from_ne_false}
-use Rattle.std.proofs.lemmas.List.{get_or_past, get_or_default}
-use Rattle.std.proofs.lemmas.Option.{none-some, same_Some, slice_get-get_or, slice_get_within, get_or_from_slice_get}
-use Rattle.pci_spec.specs.Window.{WindowKind, IoWindow, MemoryWindow, PrefetchWindow}
+use Rattle.std.specs.List.{Contains}
+use Rattle.std.proofs.lemmas.Bool.{cases_Bool, both_ways}
+use Rattle.pci_spec.specs.Window.{WindowKind}
 use Rattle.pci_spec.specs.Decoded.{Range as DecodedRange}
-use Rattle.pci_spec.specs.System.{System, Function, Part, Bar, Rom, Window, IsSystem, is_bridge, has_part}
-use Rattle.pci_spec.specs.Bus.{is_root, secondary, are_siblings, IsNested}
-use Rattle.plan_spec.specs.Plan.{is_open}
-use Rattle.plan_spec.proofs.Planning.Safe.{slots_of}
+use Rattle.pci_spec.specs.System.{System, Function, Part, Bar, Rom, Window, IsSystem}
+use Rattle.pci_spec.specs.Bus.{is_root, IsNested}
 use Rattle.settle_spec.specs.Lists.{Request}
-use Rattle.settle_spec.specs.Parts.{FunctionPart, system_parts, header_parts, addresses, is_part}
+use Rattle.settle_spec.specs.Parts.{FunctionPart, system_parts, header_parts}
 use Rattle.settle_spec.specs.Stands.{part_space, window_part, stands}
-use Rattle.settle_spec.specs.Items.{has_room_behind}
 use Rattle.settle_spec.specs.Growth.{is_clear, taken_around, window_comes_to, part_comes_to, there, comes_to, takes}
 use Rattle.settle_spec.specs.Kept.{place_of}
 use Rattle.settle_spec.specs.Places.{placed_of, place_among}
 use Rattle.stand_laws.specs.Order.{level}
 use Rattle.stand_laws.specs.There.{height}
 use Rattle.stand_laws.proofs.Standing.{part_of, in_parts, stands_by_itself, window_listed}
-use Rattle.stand_laws.proofs.There.{stands_where_holds}
 use Rattle.stand_laws.proofs.ThereByBus.{part_same}
 use Rattle.stand_laws.proofs.ThereAlone.{unstanding}
 use Rattle.pci_stand.specs.declared.region.Region.{Region}
 use Rattle.pci_stand.specs.Known.{region_value}
-use Rattle.pci_grow.specs.There.{Tables, in_row, there_told, grown_told, place_told}
-use Rattle.pci_grow.specs.Telling.{AreStandingRows, part_row, IsDone, grown_there, as_it_stands, place_there, IsUnder, IsToldAs, AreToldWhere, AreToldFrom, AreToldTo, AreThere}
+use Rattle.pci_grow.specs.There.{Tables, in_row, there_told}
+use Rattle.pci_grow.specs.Telling.{AreStandingRows, part_row, IsDone, grown_there, as_it_stands, place_there, IsToldAs, AreToldWhere, AreToldFrom, AreToldTo, AreThere}
 use Rattle.pci_grow.proofs.Clearing.{step}
-use Rattle.pci_grow.proofs.InRows.{v_listed, v_stands, v_row, not_done, done_cases, done_keeps, done_here, all_done, done_up}
+use Rattle.pci_grow.proofs.InRows.{v_listed, v_stands, v_row, not_done, done_cases, done_keeps, all_done, done_up}
 use Rattle.pci_grow.proofs.Told.{level_root, level_off, row_low, row_high}
 
 pub told_as : (s : System) (t : Tables) (r : FunctionPart) (g h x y : Option DecodedRange) → g ≡ h → x ≡ y → IsToldAs s t r g x → IsToldAs s t r h y

@@ -1,7 +1,7 @@
 -- Whether the next part of a row takes, by what is told.
-use Rattle.std.proofs.Common.{◌≡◌, ℕ, ◌+◌, ◌*◌, ◌<◌, ◌≤◌, ◌⊎◌, inl, inr, List, [], ◌∷◌, map, length, take, get_or, Bool, true, false, cond, ◌&&◌, arith, refl, ap, sym, subst, ◌∙◌, Option, None, Some}
+use Rattle.std.proofs.Common.{◌≡◌, ℕ, ◌+◌, ◌<◌, ◌≤◌, ◌⊎◌, inl, inr, List, [], map, length, take, get_or, Bool, true, false, ◌&&◌, arith, refl, ap, sym, subst, ◌∙◌, Option, None, Some}
 use Rattle.std.specs.Bool.{if◌then◌else◌}
-use Rattle.std.specs.List.{All, Contains, flat_map, slice_get}
+use Rattle.std.specs.List.{All, Contains, slice_get}
 use Rattle.std.specs.Option.{option_map, is_some}
 use Rattle.std.proofs.lemmas.Bool.{cases_Bool, cases_lt, and_parts, both_ways, false≢true, false_from_ne_true, true_from_ne_false, ltb-true}
 use Rattle.std.proofs.lemmas.List.{length-map, get_or-map, get_or_past}
@@ -10,13 +10,13 @@ use Rattle.std.proofs.lemmas.Option.{none-some, same_Some, slice_get-get_or}
 use Rattle.pci_spec.specs.Header.{layout, bar_count}
 use Rattle.pci_spec.specs.Window.{WindowKind}
 use Rattle.pci_spec.specs.Decoded.{Range as DecodedRange}
-use Rattle.pci_spec.specs.System.{System, Function, Part, Bar, Rom, Window, IsFunction, IsSystem, is_bridge, has_part, window_space}
+use Rattle.pci_spec.specs.System.{System, Function, IsFunction, IsSystem, is_bridge, has_part, window_space}
 use Rattle.pci_spec.specs.Bus.{is_root, secondary, are_siblings, IsNested}
 use Rattle.plan_spec.proofs.Planning.Safe.{order_of}
 use Rattle.settle_spec.specs.Lists.{Request}
 use Rattle.settle_spec.specs.Parts.{FunctionPart, system_parts, header_parts, addresses, are_same_space}
 use Rattle.settle_spec.specs.Stands.{part_space, window_part, stands}
-use Rattle.settle_spec.specs.Items.{Item as ItemValue, Placed, Placing, AllPlaced, bus_items, new_window}
+use Rattle.settle_spec.specs.Items.{Item as ItemValue, Placed, AllPlaced, bus_items, new_window}
 use Rattle.settle_spec.specs.Reach.{reach}
 use Rattle.settle_spec.specs.Growth.{place_around, place_each, range_list, there_on, taken_around, window_comes_to, part_comes_to, is_clear, there, comes_to, takes}
 use Rattle.settle_spec.proofs.Nested.{on_it, is_no_root, at_secondary}
@@ -53,7 +53,7 @@ use Rattle.pci_grow.specs.PlaceTables.{IsItemPart, ArePutOver, HasItemPart}
 use Rattle.pci_grow.specs.Rows.{row_number}
 use Rattle.pci_grow.specs.Tables.{told}
 use Rattle.pci_grow.specs.There.{Tables, in_row, there_of, is_past, there_told}
-use Rattle.pci_grow.specs.Telling.{Setting, IsGrowing, IsWindowOf, IsThereTold, IsNext, IsNoted, IsLatest, there_among, part_row, AreToldTo}
+use Rattle.pci_grow.specs.Telling.{Setting, IsWindowOf, IsThereTold, IsNext, IsNoted, IsLatest, there_among, part_row, AreToldTo}
 use Rattle.pci_grow.proofs.Clearing.{comes_hold, past_is}
 use Rattle.pci_grow.proofs.InRows.{v_known, v_listed, v_stands, v_row, part_in_row, of_row, known_in, stands_in}
 use Rattle.pci_grow.proofs.Noted.{noted_told}

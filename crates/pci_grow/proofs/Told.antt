@@ -1,13 +1,12 @@
 -- What tables tell of the parts of a row, as the definitions have it.
-use Rattle.std.proofs.Common.{◌≡◌, ℕ, ◌+◌, ◌*◌, ◌<◌, ◌≤◌, ◌⊎◌, inl, inr, List, [], ◌∷◌, map, length, get_or, Bool, true, false, cond, ◌&&◌, ◌||◌, arith, refl, ap, sym, subst, ◌∙◌, Option, None, Some}
+use Rattle.std.proofs.Common.{◌≡◌, ℕ, ◌+◌, ◌*◌, ◌<◌, ◌≤◌, ◌⊎◌, inl, inr, List, [], map, length, get_or, Bool, true, false, cond, ◌&&◌, ◌||◌, arith, refl, ap, sym, subst, ◌∙◌, Option, None, Some}
 use Rattle.std.specs.Bool.{◌==◌}
 use Rattle.std.specs.List.{Contains, slice_get, flat_map}
 use Rattle.std.specs.Option.{option_map, is_some}
-use Rattle.std.proofs.lemmas.Bool.{cases_Bool, false≢true, both_ways, eqb-true, eq-eqb, or_left, or_right, and_from, and_parts}
+use Rattle.std.proofs.lemmas.Bool.{cases_Bool, false≢true, eqb-true, eq-eqb, or_left, or_right, and_from, and_parts}
 use Rattle.std.proofs.lemmas.Option.{slice_get-get_or, none-some, same_Some}
 use Rattle.std.proofs.lemmas.List.Elements.{All-contains}
 use Rattle.pci_spec.specs.Decoded.{Range as DecodedRange}
-use Rattle.pci_spec.specs.Window.{WindowKind, IoWindow, MemoryWindow, PrefetchWindow}
 use Rattle.pci_spec.specs.System.{System, Function, Space, Io, Memory, IsSystem, is_bridge}
 use Rattle.pci_spec.specs.Bus.{is_root, secondary, are_siblings, IsNested}
 use Rattle.pci_spec.proofs.Members.{IsMade, IsInPiece, in_nil, in_head, in_cons_cases, in_map_to, in_map_from, in_filter_to, in_filter_from, in_flat_map_to, in_flat_map_from}
@@ -24,7 +23,6 @@ use Rattle.pci_base.specs.declared.window_kind.WindowKind.{WindowKind as CodeKin
 use Rattle.pci_base.specs.declared.window_kind.WindowKind.TheVariants as kinds
 use Rattle.pci_base.specs.declared.window_kind.ByKind.{ByKind}
 use Rattle.pci_base.specs.Ranges.{decoded_range_of}
-use Rattle.pci_base.specs.Space as code
 use Rattle.pci_base.specs.WindowKinds.{kind_value, by_kind}
 use Rattle.pci_place.specs.Items.{no_function, function_in}
 use Rattle.pci_settle.specs.declared.kept.Part.{Part as CodePart}
@@ -34,10 +32,10 @@ use Rattle.pci_stand.specs.declared.region.Region.{Region}
 use Rattle.pci_stand.specs.Boards.{IsKnown}
 use Rattle.pci_stand.specs.Held.{is_kept}
 use Rattle.pci_stand.specs.Known.{Known, region_value}
-use Rattle.pci_stand.specs.Tables.{index_of, stands_in}
+use Rattle.pci_stand.specs.Tables.{stands_in}
 use Rattle.pci_stand.proofs.Indexes.{index_at, table_at}
 use Rattle.pci_grow.specs.Rows.{row_number, row_of}
-use Rattle.pci_grow.specs.Tables.{untold, told}
+use Rattle.pci_grow.specs.Tables.{untold}
 use Rattle.pci_grow.specs.There.{Tables, grown_of, or_own, range_told, listed, in_row, by_class, grown_in, with_own, grown_told, there_told}
 use Rattle.pci_grow.specs.Telling.{part_row, AreStandingRows}
 

@@ -1,23 +1,22 @@
 -- What a window comes to by the code is what it comes to by what is told to be there.
-use Rattle.std.proofs.Common.{◌≡◌, ℕ, ◌+◌, ◌^◌, ◌<◌, ◌≤◌, ◌⊎◌, min, max, inl, inr, List, map, length, Bool, true, false, cond, arith, refl, ap, sym, subst, ◌∙◌, Option, None, Some}
+use Rattle.std.proofs.Common.{◌≡◌, ℕ, ◌+◌, ◌^◌, ◌<◌, ◌≤◌, ◌⊎◌, min, max, inl, inr, List, map, Bool, true, false, cond, arith, refl, ap, sym, subst, ◌∙◌, Option, None, Some}
 use Rattle.std.specs.Bool.{if◌then◌else◌}
 use Rattle.std.specs.List.{All, Contains, fold}
-use Rattle.std.specs.Option.{is_some, IfSome, IfNone, option_map}
-use Rattle.std.proofs.lemmas.Bool.{cases_Bool, false≢true}
-use Rattle.std.proofs.lemmas.Option.{none-some}
+use Rattle.std.specs.Option.{is_some, option_map}
+use Rattle.std.proofs.lemmas.Bool.{cases_Bool}
 use Rattle.pci_spec.specs.Window.{WindowKind, IoWindow, MemoryWindow, PrefetchWindow, is_wide_window}
 use Rattle.pci_spec.proofs.Members.{IsMade, in_map_to}
 use Rattle.pci_spec.specs.Decoded.{Range as DecodedRange}
-use Rattle.pci_spec.specs.System.{System, Function, IsSystem, is_bridge, window_space}
-use Rattle.pci_spec.specs.Bus.{is_root, secondary, IsNested}
+use Rattle.pci_spec.specs.System.{System, Function, is_bridge, window_space}
+use Rattle.pci_spec.specs.Bus.{secondary}
 use Rattle.plan_spec.specs.Plan.{same_class}
 use Rattle.plan_spec.proofs.Planning.PlacedItems.{same_class_is}
 use Rattle.settle_spec.specs.Lists.{Request}
 use Rattle.settle_spec.specs.Parts.{FunctionPart, system_parts, addresses, class_in, are_same_space}
-use Rattle.settle_spec.specs.Stands.{is_fixed_part, part_space, window_part, stands}
-use Rattle.settle_spec.specs.Items.{Item as ItemValue, AllPlaced, highest_in, bus_items, new_window}
+use Rattle.settle_spec.specs.Stands.{is_fixed_part, part_space, window_part}
+use Rattle.settle_spec.specs.Items.{AllPlaced, highest_in, bus_items, new_window}
 use Rattle.settle_spec.specs.Reach.{room_around, reach_in, reach_if, reach_within, reach}
-use Rattle.settle_spec.specs.Growth.{place_each, grown_to, there_on, taken_around, window_comes_to}
+use Rattle.settle_spec.specs.Growth.{grown_to, there_on, taken_around, window_comes_to}
 use Rattle.settle_spec.proofs.Reaching.{reach_step, reach_in_low}
 use Rattle.settle_spec.proofs.SameTaken.{HaveSame}
 use Rattle.settle_laws.proofs.PartClasses.{space_of_class}
@@ -30,10 +29,9 @@ use Rattle.pci_base.specs.WindowKinds.{kind_value, by_kind}
 use Rattle.pci_function.specs.declared.record.Bridge.{Bridge}
 use Rattle.pci_tree.specs.Ways.{bus_behind}
 use Rattle.pci_tree.proofs.Lifting.{same_bridge, same_secondary}
-use Rattle.pci_settle.specs.declared.extent.Extent.{Extent}
 use Rattle.pci_settle.specs.declared.item.Item.{Item}
 use Rattle.pci_settle.specs.declared.item.Part.TheVariants.{Rom}
-use Rattle.pci_settle.specs.Buses.{Classing, AreInTurn, bus_listing}
+use Rattle.pci_settle.specs.Buses.{AreInTurn, bus_listing}
 use Rattle.pci_settle.specs.NewWindows.{HasNewWindows, HasMarkedWindows, told_extent}
 use Rattle.pci_settle.specs.Own.{asked_item_value}
 use Rattle.pci_settle.specs.Placings.{at_places}

@@ -1,7 +1,7 @@
 -- What is told of what is there, row by row as rows fall, and in a row as addresses rise.
-use Rattle.std.specs.Prelude.{◌≡◌, ℕ, ◌+◌, ◌<◌, ◌≤◌, ◌⊎◌, Bool, true, if◌then◌else◌, IsTrue, IsFalse, List, [], map, length, take, Option, None, Some, slice_get, slice_index_or}
+use Rattle.std.specs.Prelude.{◌≡◌, ℕ, ◌+◌, ◌<◌, ◌≤◌, ◌⊎◌, true, if◌then◌else◌, IsTrue, IsFalse, List, [], map, length, take, Option, None, Some, slice_index_or}
 use Rattle.std.specs.List.{All, AllPairs, Contains, flat_map}
-use Rattle.std.specs.Option.{option_map, is_some}
+use Rattle.std.specs.Option.{is_some}
 use Rattle.pci_spec.specs.Window.{WindowKind}
 use Rattle.pci_spec.specs.Decoded.{Range as DecodedRange}
 use Rattle.pci_spec.specs.System.{System, Function, IsSystem, Part, Window, is_bridge, has_part}
@@ -9,7 +9,7 @@ use Rattle.pci_spec.specs.Bus.{secondary, are_siblings, IsNested}
 use Rattle.settle_spec.specs.Lists.{Request}
 use Rattle.settle_spec.specs.Parts.{FunctionPart, system_parts, header_parts, addresses, class_in}
 use Rattle.settle_spec.specs.Stands.{rank, part_space, window_part, stands}
-use Rattle.settle_spec.specs.Items.{Placed, Placing, AllPlaced, Lacks, has_room_behind}
+use Rattle.settle_spec.specs.Items.{AllPlaced, has_room_behind}
 use Rattle.settle_spec.specs.Places.{placed_of, place_among}
 use Rattle.settle_spec.specs.Reach.{reach}
 use Rattle.settle_spec.specs.Growth.{range_list, taken_around, window_comes_to, there, comes_to, takes}
@@ -25,7 +25,6 @@ use Rattle.pci_function.specs.declared.record.Bridge.{Bridge}
 use Rattle.pci_function.specs.declared.record.Record.{Record}
 use Rattle.pci_place.specs.Records.{IsRecordOf}
 use Rattle.pci_settle.specs.declared.extent.Extent.{Extent}
-use Rattle.pci_settle.specs.declared.item.Item.{Item}
 use Rattle.pci_settle.specs.Buses.{Classing, classing_value, TellsClasses}
 use Rattle.pci_settle.specs.Kept.{kept_of, nothing_kept, AreKeptParts}
 use Rattle.pci_settle.specs.NewWindows.{HasNewWindows, HasMarkedWindows}

@@ -1,10 +1,10 @@
 -- What is there: what holds as it stands, and windows that take with what they come to.
-use Rattle.std.specs.Prelude.{◌≡◌, ℕ, ◌+◌, ◌<◌, ◌≤◌, ◌⊎◌, ◌==◌, min, max, nat_lt, Bool, true, ◌&&◌, if◌then◌else◌, IsTrue, IsFalse, List, [], ◌∷◌, map, length, Option, None, Some, slice_get, slice_index_or}
-use Rattle.std.specs.List.{All, AllPairs, Contains, filter, flat_map, fold}
-use Rattle.std.specs.Option.{option_map, is_some}
+use Rattle.std.specs.Prelude.{◌≡◌, ℕ, ◌==◌, min, max, nat_lt, Bool, true, if◌then◌else◌, IsTrue, List, [], ◌∷◌, map, Option, None, Some, slice_get, slice_index_or}
+use Rattle.std.specs.List.{filter, flat_map, fold}
+use Rattle.std.specs.Option.{option_map}
 use Rattle.pci_spec.specs.Window.{WindowKind, IoWindow, MemoryWindow, PrefetchWindow}
 use Rattle.pci_spec.specs.Decoded.{Range as DecodedRange}
-use Rattle.pci_spec.specs.System.{System, Function, IsSystem, Part, Bar, Rom, Window, is_bridge, has_part}
+use Rattle.pci_spec.specs.System.{System, Function, Part, Bar, Rom, Window, is_bridge}
 use Rattle.plan_spec.specs.Plan.{same_class}
 use Rattle.settle_spec.specs.Lists.{Request}
 use Rattle.settle_spec.specs.Parts.{FunctionPart, addresses}

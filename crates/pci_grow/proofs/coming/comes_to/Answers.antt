@@ -1,4 +1,4 @@
-use Rattle.std.proofs.Common.{◌≡◌, length, ap, sym, subst, ◌∙◌, refl, IfSome, IfNone}
+use Rattle.std.proofs.Common.{◌≡◌, length, ap, sym, subst, ◌∙◌, IfSome, IfNone}
 use Rattle.pci_base.specs.declared.range.Range.{Range}
 use Rattle.pci_base.specs.WindowKinds.{kind_value}
 use Rattle.pci_grow.specs.Arounds.{ArePlacesAround, HaveNoPlaces, AreEndingAll}
