@@ -167,7 +167,7 @@ pub fn find_there<A: Allocator + Copy, B: Allocator>(
     requires lawful { AreAllLawful setting.now.windows.now }
     // rows are found by halves
     requires order { IsNonDecreasingBy row_of setting.now.rows.now }
-    // where nothing is asked for of a lawful system, what is there need not lie in order
+    // in a lawful system what is there lies in order, as looking for places asks
     requires begun { IsBegunOfSome (setting_value setting.now) (tables_of there.old) }
     ensures { OnOk result ((q : Request) → IsGrowing q (setting_value setting.now)
         → IsBegun q (system_in setting.now.classing.now.admitted.now) (tables_of there.old)
