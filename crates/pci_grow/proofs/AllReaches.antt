@@ -1,15 +1,14 @@
 -- What is told of reaches where all that stands is in the rows.
-use Rattle.std.proofs.Common.{◌≡◌, ℕ, List, length, map, get_or, true, false, refl, ap, sym, subst, ◌∙◌, Option, None, Some}
+use Rattle.std.proofs.Common.{◌≡◌, ℕ, List, length, map, get_or, false, refl, ap, sym, subst, ◌∙◌, Option, None, Some}
 use Rattle.std.specs.List.{slice_get}
 use Rattle.std.proofs.lemmas.Bool.{both_ways}
 use Rattle.std.proofs.lemmas.Option.{get_or_from_slice_get}
 use Rattle.pci_spec.specs.Slot.{Slot}
 use Rattle.pci_spec.specs.Decoded.{HasRecords}
 use Rattle.pci_spec.specs.Decoded as decoded
-use Rattle.pci_spec.specs.System.{System, Function, Part, Window}
+use Rattle.pci_spec.specs.System.{System, Function}
 use Rattle.pci_spec.specs.Sound.{IsInProfile}
 use Rattle.settle_spec.specs.Lists.{Lists, Request}
-use Rattle.settle_spec.specs.Parts.{FunctionPart}
 use Rattle.settle_spec.specs.Stands.{window_part, stands}
 use Rattle.settle_laws.proofs.LowWindows.{windows_low}
 use Rattle.pci_base.specs.declared.range.Range.{Range}
@@ -24,7 +23,6 @@ use Rattle.pci_place.specs.Items.{no_function, function_in}
 use Rattle.pci_place.proofs.Records.{lent}
 use Rattle.pci_settle.specs.declared.kept.Kept.{Kept}
 use Rattle.pci_settle.specs.declared.kept.Part.{Part as CodePart}
-use Rattle.pci_settle.specs.declared.kept.Part.TheVariants as parts
 use Rattle.pci_settle.specs.Kept.{spec_part}
 use Rattle.pci_stand.specs.declared.region.Region.{Region}
 use Rattle.pci_stand.specs.Boards.{IsBoard}
@@ -32,7 +30,7 @@ use Rattle.pci_stand.specs.Known.{asked, region_value, AreParts}
 use Rattle.pci_stand.specs.Passing.{AreStanding}
 use Rattle.pci_grow.specs.Reaches.{StandsInRows, TellsSameOutside}
 use Rattle.pci_grow.specs.Rows.{AreRows}
-use Rattle.pci_grow.specs.Tables.{untold, told, AreUntold}
+use Rattle.pci_grow.specs.Tables.{told, AreUntold}
 use Rattle.pci_grow.proofs.StandingRows.{row_at}
 use Rattle.pci_grow.proofs.Untold.{at_untold, untold_is}
 

@@ -1,5 +1,5 @@
 -- The rows of a system are exactly its parts that stand.
-use Rattle.std.proofs.Common.{ℕ, List, map, get_or, subst}
+use Rattle.std.proofs.Common.{List, map, get_or, subst}
 use Rattle.std.specs.List.{Contains}
 use Rattle.std.proofs.lemmas.List.Elements.{Contains-get_or}
 use Rattle.pci_spec.specs.System.{System, IsSystem}

@@ -2,7 +2,6 @@
 use Rattle.std.proofs.Common.{◌≡◌, ◌⊎◌, List, length, map, false, refl, sym, subst, ◌∙◌, Option, None, Some}
 use Rattle.std.specs.List.{All}
 use Rattle.pci_spec.specs.Slot.{Slot}
-use Rattle.pci_spec.specs.System.{System}
 use Rattle.pci_spec.specs.Decoded.{HasRecords}
 use Rattle.settle_spec.specs.Lists.{Lists, Request}
 use Rattle.settle_laws.proofs.LowWindows.{windows_low}
@@ -30,7 +29,7 @@ use Rattle.pci_grow.specs.Reaches.{AreReaches}
 use Rattle.pci_grow.specs.Reaching.{Reaching, IsReaching, tells_whole, TellsWhole, IsTooLargeAround}
 use Rattle.pci_grow.specs.Tables.{AreUntold}
 use Rattle.pci_grow.specs.There.{Tables}
-use Rattle.pci_grow.specs.Telling.{Setting, AreStandingRows, IsGrowing, IsBegun}
+use Rattle.pci_grow.specs.Telling.{AreStandingRows, IsGrowing, IsBegun}
 use Rattle.pci_grow.proofs.AllRows.{standing_rows}
 use Rattle.pci_grow.proofs.WholeReaches.{known_around, whole_reach, new_around, large_around, new_where_stands}
 

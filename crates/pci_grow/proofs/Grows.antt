@@ -1,5 +1,5 @@
 -- Windows that grow, by marks of those that take.
-use Rattle.std.proofs.Common.{◌≡◌, ℕ, zero, suc, ◌<◌, inl, inr, List, [], ◌∷◌, map, length, get_or, Bool, true, false, ◌&&◌, ◌||◌, cond, arith, refl, sym, ◌∙◌, ap, Option, Some, None}
+use Rattle.std.proofs.Common.{◌≡◌, ℕ, zero, suc, inl, inr, List, [], ◌∷◌, map, get_or, Bool, true, false, ◌||◌, cond, arith, refl, sym, ◌∙◌, ap, Option, Some, None}
 use Rattle.std.specs.List.{Contains, slice_get}
 use Rattle.std.specs.Option.{is_some, option_map}
 use Rattle.std.proofs.Math.Bool.{or_comm}
@@ -26,13 +26,11 @@ use Rattle.pci_base.specs.Ranges.{decoded_range_of}
 use Rattle.pci_base.specs.WindowKinds.{kind_value, by_kind}
 use Rattle.pci_settle.specs.declared.kept.Kept.{Kept}
 use Rattle.pci_settle.specs.Kept.{kept_of, nothing_kept}
-use Rattle.pci_stand.specs.Boards.{AreOpen}
-use Rattle.pci_stand.specs.Tables.{stands_in}
 use Rattle.pci_stand.proofs.Indexes.{table_at}
 use Rattle.pci_stay.specs.Holding.{AreNoted, AreHolding}
 use Rattle.pci_stay.specs.Staying.{HoldsWhereStands, AreStayingBy}
 use Rattle.pci_grow.specs.Tables.{untold, told}
-use Rattle.pci_grow.specs.Marks.{marks_of, is_window_kept, AreKeptToo, AreLeftToldOf}
+use Rattle.pci_grow.specs.Marks.{marks_of, AreKeptToo, AreLeftToldOf}
 use Rattle.pci_grow.specs.Growing.{AreComing}
 
 -- ---- one function

@@ -1,10 +1,10 @@
 -- What tables tell to be there tells what each window that takes comes to.
-use Rattle.std.proofs.Common.{◌≡◌, ℕ, ◌<◌, inl, inr, length, true, false, cond, ap, sym, ◌∙◌, Some, None}
+use Rattle.std.proofs.Common.{◌≡◌, ℕ, inl, inr, cond, ap, sym, ◌∙◌, Some, None}
 use Rattle.std.specs.List.{Contains, slice_get}
 use Rattle.std.specs.Option.{option_map}
 use Rattle.std.proofs.lemmas.Bool.{cases_Bool, both_ways, false_from_ne_true}
 use Rattle.std.proofs.lemmas.Option.{slice_get_within, get_or_from_slice_get}
-use Rattle.pci_spec.specs.System.{System, Function, Window, IsSystem}
+use Rattle.pci_spec.specs.System.{System, Function, IsSystem}
 use Rattle.pci_spec.specs.Bus.{IsNested}
 use Rattle.settle_spec.specs.Lists.{Request}
 use Rattle.settle_spec.specs.Parts.{FunctionPart}
@@ -15,7 +15,7 @@ use Rattle.stand_laws.proofs.Standing.{in_header, window_listed, stands_by_itsel
 use Rattle.pci_base.specs.declared.window_kind.WindowKind.{WindowKind as CodeKind}
 use Rattle.pci_base.specs.Ranges.{decoded_range_of}
 use Rattle.pci_base.specs.WindowKinds.{kind_value}
-use Rattle.pci_place.specs.Items.{no_function, function_in}
+use Rattle.pci_place.specs.Items.{no_function}
 use Rattle.pci_settle.specs.declared.kept.Part.TheVariants as parts
 use Rattle.pci_grow.specs.Growing.{AreComing, ArePlacedThere}
 use Rattle.pci_grow.specs.Tables.{told}

@@ -1,19 +1,14 @@
 -- What is there: what holds as it stands, and windows that take with what they come to.
-use Rattle.std.specs.Prelude.{◌≡◌, ℕ, ◌==◌, min, max, nat_lt, Bool, true, if◌then◌else◌, IsTrue, List, [], ◌∷◌, map, Option, None, Some, slice_get, slice_index_or}
+use Rattle.std.specs.Prelude.{ℕ, ◌==◌, min, max, nat_lt, Bool, true, if◌then◌else◌, List, [], ◌∷◌, map, Option, None, Some, slice_index_or}
 use Rattle.std.specs.List.{filter, flat_map, fold}
 use Rattle.std.specs.Option.{option_map}
 use Rattle.pci_spec.specs.Window.{WindowKind, IoWindow, MemoryWindow, PrefetchWindow}
 use Rattle.pci_spec.specs.Decoded.{Range as DecodedRange}
-use Rattle.pci_spec.specs.System.{System, Function, Part, Bar, Rom, Window, is_bridge}
+use Rattle.pci_spec.specs.System.{System, Part, Bar, Rom, Window}
 use Rattle.plan_spec.specs.Plan.{same_class}
-use Rattle.settle_spec.specs.Lists.{Request}
 use Rattle.settle_spec.specs.Parts.{FunctionPart, addresses}
-use Rattle.settle_spec.specs.Stands.{window_part, stands}
-use Rattle.settle_spec.specs.Reach.{reach}
 use Rattle.pci_base.specs.declared.range.Range.{Range}
-use Rattle.pci_base.specs.declared.window_kind.WindowKind.{WindowKind as CodeKind}
 use Rattle.pci_base.specs.declared.window_kind.ByKind.{ByKind}
-use Rattle.pci_base.specs.WindowKinds.{kind_value}
 use Rattle.pci_base.specs.Ranges.{decoded_range_of}
 use Rattle.pci_image.specs.declared.window.Windows.{Windows}
 use Rattle.pci_settle.specs.declared.item.Item.{Item}

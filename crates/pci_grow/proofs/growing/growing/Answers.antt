@@ -1,4 +1,4 @@
-use Rattle.std.proofs.Common.{◌⊎◌, ◌≡◌, None, Some, false, refl, subst}
+use Rattle.std.proofs.Common.{◌⊎◌, ◌≡◌, None, false, refl, subst}
 use Rattle.std.specs.List.{All}
 use Rattle.pci_settle.specs.Lists.{lists_value}
 use Rattle.pci_stay.proofs.Asked.{left_of}

@@ -1,4 +1,4 @@
-use Rattle.std.proofs.Common.{◌≡◌, length, arith, ap, sym, subst, ◌∙◌}
+use Rattle.std.proofs.Common.{length, arith, ap, sym, subst, ◌∙◌}
 use Rattle.std.specs.List.{All}
 use Rattle.std.specs.List.Sorted.{IsNonDecreasingBy}
 use Rattle.std.proofs.lemmas.List.Sorted.{IsPermutation-refl}
@@ -15,7 +15,7 @@ use Rattle.pci_stand.proofs.Whole.{ready, slice_back}
 use Rattle.pci_stay.specs.Rooms.{region_bus}
 use Rattle.pci_stay.specs.Staying.{AreStayingBy}
 use Rattle.pci_stay.proofs.Stays.{room_stands, buses_rise}
-use Rattle.pci_grow.specs.Growing.{AreComing, ArePlacedThere}
+use Rattle.pci_grow.specs.Growing.{AreComing}
 use Rattle.pci_grow.specs.Reaching.{reaching_value}
 use Rattle.pci_grow.specs.Rows.{row_of}
 use Rattle.pci_grow.specs.There.{tables_of}
