@@ -30,7 +30,7 @@ use Rattle.pci_stand.specs.Known.{asked, region_value, AreParts}
 use Rattle.pci_stand.specs.Passing.{AreStanding}
 use Rattle.pci_grow.specs.Reaches.{StandsInRows, TellsSameOutside}
 use Rattle.pci_grow.specs.Rows.{AreRows}
-use Rattle.pci_grow.specs.Tables.{told, AreUntold}
+use Rattle.pci_settle.specs.Tables.{told, AreUntold}
 use Rattle.pci_grow.proofs.StandingRows.{row_at}
 use Rattle.pci_grow.proofs.Untold.{at_untold, untold_is}
 

@@ -35,7 +35,7 @@ use Rattle.pci_stand.specs.Known.{Known, region_value}
 use Rattle.pci_stand.specs.Boards.{IsKnown}
 use Rattle.pci_stand.proofs.Indexes.{part_cases, index_at}
 use Rattle.pci_grow.specs.Rows.{row_number}
-use Rattle.pci_grow.specs.Tables.{told, TellsSame}
+use Rattle.pci_settle.specs.Tables.{told, TellsSame}
 use Rattle.pci_grow.specs.Reaches.{AreToldOver, StandsInRows, AreFirstReaches, TellsSameOutside, AreReaches}
 use Rattle.pci_grow.proofs.StandingRows.{no_region, IsInRows, in_rows, rows_rise}
 use Rattle.pci_grow.proofs.Reached.{row_is, standing}

@@ -24,10 +24,10 @@ use Rattle.pci_stay.specs.declared.windows.TooLarge.{TooLarge}
 use Rattle.pci_stay.specs.Holding.{IsAsking, AreHolding}
 use Rattle.pci_stay.specs.Windows.{AreAllNew}
 use Rattle.pci_grow.specs.Growing.{CanGrow}
-use Rattle.pci_grow.specs.PlaceTables.{ArePlaceless}
+use Rattle.pci_settle.specs.PlaceTables.{ArePlaceless}
 use Rattle.pci_grow.specs.Reaches.{AreReaches}
 use Rattle.pci_grow.specs.Reaching.{Reaching, IsReaching, tells_whole, TellsWhole, IsTooLargeAround}
-use Rattle.pci_grow.specs.Tables.{AreUntold}
+use Rattle.pci_settle.specs.Tables.{AreUntold}
 use Rattle.pci_grow.specs.There.{Tables}
 use Rattle.pci_grow.specs.Telling.{AreStandingRows, IsGrowing, IsBegun}
 use Rattle.pci_grow.proofs.AllRows.{standing_rows}

@@ -29,7 +29,7 @@ use Rattle.pci_settle.specs.Kept.{kept_of, nothing_kept}
 use Rattle.pci_stand.proofs.Indexes.{table_at}
 use Rattle.pci_stay.specs.Holding.{AreNoted, AreHolding}
 use Rattle.pci_stay.specs.Staying.{HoldsWhereStands, AreStayingBy}
-use Rattle.pci_grow.specs.Tables.{untold, told}
+use Rattle.pci_settle.specs.Tables.{untold, told}
 use Rattle.pci_grow.specs.Marks.{marks_of, AreKeptToo, AreLeftToldOf}
 use Rattle.pci_grow.specs.Growing.{AreComing}
 

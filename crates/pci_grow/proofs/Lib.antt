@@ -5,7 +5,6 @@ pub mod Grows
 pub mod Searches
 pub mod Each
 pub mod Rows
-pub mod Placeless
 pub mod Clear
 pub mod Found
 pub mod Neighbours

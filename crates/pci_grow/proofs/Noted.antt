@@ -36,8 +36,9 @@ use Rattle.pci_stand.specs.declared.region.Region.{Region}
 use Rattle.pci_stand.specs.Known.{region_value}
 use Rattle.pci_stand.specs.Tables.{stands_in}
 use Rattle.pci_stand.proofs.Indexes.{part_cases, index_at, table_at}
-use Rattle.pci_grow.specs.PlaceTables.{placed, ArePutOver}
-use Rattle.pci_grow.specs.Tables.{untold, told}
+use Rattle.pci_settle.specs.PlaceTables.{placed}
+use Rattle.pci_grow.specs.Putting.{ArePutOver}
+use Rattle.pci_settle.specs.Tables.{untold, told}
 use Rattle.pci_grow.specs.There.{Tables, in_row, by_class, grown_in, with_own, grown_told, there_told, place_told}
 use Rattle.pci_grow.specs.Telling.{AreStandingRows, IsDone, grown_there, as_it_stands, place_there, IsUnder, IsToldAs, AreToldTo, IsNoted}
 use Rattle.pci_grow.proofs.Clearing.{step}

@@ -19,8 +19,9 @@ use Rattle.pci_settle.specs.declared.item.Part.TheVariants.{Bar}
 use Rattle.pci_settle.specs.Own.{class_part, asked_item_value}
 use Rattle.pci_settle.specs.Placings.{at_places}
 use Rattle.pci_stand.proofs.Indexes.{index_at}
-use Rattle.pci_grow.specs.declared.place.Places.{Places}
-use Rattle.pci_grow.specs.PlaceTables.{placed, PlacesSame, ArePutOver, HasItemPart}
+use Rattle.pci_settle.specs.declared.place.Places.{Places}
+use Rattle.pci_settle.specs.PlaceTables.{placed, PlacesSame}
+use Rattle.pci_grow.specs.Putting.{ArePutOver, HasItemPart}
 use Rattle.pci_grow.proofs.Ranked.{rank_parts}
 
 -- what an index past the end is read as

@@ -30,7 +30,7 @@ use Rattle.pci_stand.specs.declared.region.Region.{Region}
 use Rattle.pci_stand.specs.Known.{Known}
 use Rattle.pci_stand.specs.Boards.{IsBoard, IsKnown}
 use Rattle.pci_grow.specs.Reaches.{AreToldOver}
-use Rattle.pci_grow.specs.Tables.{told}
+use Rattle.pci_settle.specs.Tables.{told}
 
 record_there : (records : List Record) (k : ℕ) → k < length records → (x : Record) × (slice_get records k ≡ Some x)
 record_there [] k less = absurd (let no : ⊥ = omega (arith, less) in no)

@@ -49,9 +49,10 @@ use Rattle.pci_settle.specs.Placings.{at_places}
 use Rattle.pci_stand.specs.declared.region.Region.{Region}
 use Rattle.pci_stand.specs.Known.{region_value}
 use Rattle.pci_grow.specs.Arounds.{AreInOrder}
-use Rattle.pci_grow.specs.PlaceTables.{IsItemPart, ArePutOver, HasItemPart}
+use Rattle.pci_settle.specs.PlaceTables.{IsItemPart}
+use Rattle.pci_grow.specs.Putting.{ArePutOver, HasItemPart}
 use Rattle.pci_grow.specs.Rows.{row_number}
-use Rattle.pci_grow.specs.Tables.{told}
+use Rattle.pci_settle.specs.Tables.{told}
 use Rattle.pci_grow.specs.There.{Tables, in_row, there_of, is_past, there_told}
 use Rattle.pci_grow.specs.Telling.{Setting, IsWindowOf, IsThereTold, IsNext, IsNoted, IsLatest, there_among, part_row, AreToldTo}
 use Rattle.pci_grow.proofs.Clearing.{comes_hold, past_is}

@@ -35,7 +35,7 @@ use Rattle.pci_stand.specs.Known.{Known, region_value}
 use Rattle.pci_stand.specs.Tables.{stands_in}
 use Rattle.pci_stand.proofs.Indexes.{index_at, table_at}
 use Rattle.pci_grow.specs.Rows.{row_number, row_of}
-use Rattle.pci_grow.specs.Tables.{untold}
+use Rattle.pci_settle.specs.Tables.{untold}
 use Rattle.pci_grow.specs.There.{Tables, grown_of, or_own, range_told, listed, in_row, by_class, grown_in, with_own, grown_told, there_told}
 use Rattle.pci_grow.specs.Telling.{part_row, AreStandingRows}
 

@@ -32,7 +32,7 @@ use Rattle.pci_stay.specs.declared.windows.TooLarge.{TooLarge}
 use Rattle.pci_stay.specs.Holding.{HasNewBeside, HasNewWhereStands}
 use Rattle.pci_stay.specs.Windows.{AreAllNew, IsWhole, is_whole_range}
 use Rattle.pci_grow.specs.Reaching.{Reaching, IsReaching, tells_whole, TellsWhole, HasWholeReach}
-use Rattle.pci_grow.specs.Tables.{untold, told}
+use Rattle.pci_settle.specs.Tables.{untold, told}
 use Rattle.pci_grow.specs.Telling.{HasNewAround}
 use Rattle.pci_grow.proofs.LowReaches.{reach_below}
 

@@ -22,10 +22,10 @@ use Rattle.pci_settle.specs.Buses.{Classing, TellsClasses}
 use Rattle.pci_stand.specs.Tables.{index_of}
 use Rattle.pci_stay.specs.Staying.{AreStayingBy}
 use Rattle.pci_grow.specs.declared.growing.Grown.{Grown as CodeGrown}
-use Rattle.pci_grow.specs.declared.place.Places.{Places}
-use Rattle.pci_grow.specs.PlaceTables.{placed}
+use Rattle.pci_settle.specs.declared.place.Places.{Places}
+use Rattle.pci_settle.specs.PlaceTables.{placed}
 use Rattle.pci_grow.specs.Reaching.{Reaching, IsReaching}
-use Rattle.pci_grow.specs.Tables.{told}
+use Rattle.pci_settle.specs.Tables.{told}
 use Rattle.pci_grow.specs.Telling.{HasNewAround, IsUnder, place_there}
 
 -- a table tells what each window comes to of which a test holds, and nothing of others

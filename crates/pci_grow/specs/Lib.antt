@@ -1,8 +1,6 @@
 pub mod LastPlaces
-pub mod Tables
 pub mod Arounds
 pub mod Rows
-pub mod PlaceTables
 pub mod Rooms
 pub mod Reaches
 pub mod Marks
@@ -10,3 +8,4 @@ pub mod Growing
 pub mod There
 pub mod Telling
 pub mod Reaching
+pub mod Putting

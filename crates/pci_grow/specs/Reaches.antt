@@ -22,7 +22,7 @@ use Rattle.pci_settle.specs.declared.kept.Part.TheVariants as parts
 use Rattle.pci_stand.specs.declared.region.Region.{Region}
 use Rattle.pci_stand.specs.Boards.{IsBoard}
 use Rattle.pci_grow.specs.declared.reach.Among.{Among}
-use Rattle.pci_grow.specs.Tables.{told}
+use Rattle.pci_settle.specs.Tables.{told}
 use Rattle.pci_grow.specs.Rooms.{IsNearestBelow, IsNearestAbove}
 use Rattle.pci_grow.specs.Rows.{HasRows}
 

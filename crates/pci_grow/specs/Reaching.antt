@@ -25,7 +25,7 @@ use Rattle.pci_stay.specs.Windows.{IsWhole, is_whole_range}
 use Rattle.pci_grow.specs.declared.reaching.Reaching.{Reaching as CodeReaching}
 use Rattle.pci_grow.specs.Reaches.{AreReaches}
 use Rattle.pci_grow.specs.Rows.{row_of, AreRows}
-use Rattle.pci_grow.specs.Tables.{told}
+use Rattle.pci_settle.specs.Tables.{told}
 
 -- the parts of all functions, which of them stand, those row by row, and how far each window can grow
 pub record Reaching : Type 0 where

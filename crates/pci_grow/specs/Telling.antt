@@ -38,9 +38,9 @@ use Rattle.pci_stay.specs.Holding.{AreHolding}
 use Rattle.pci_grow.specs.declared.around.Around.{Around}
 use Rattle.pci_grow.specs.declared.coming.Coming.{Coming}
 use Rattle.pci_grow.specs.declared.coming.Setting.{Setting as CodeSetting}
-use Rattle.pci_grow.specs.PlaceTables.{ArePlaceless}
+use Rattle.pci_settle.specs.PlaceTables.{ArePlaceless}
 use Rattle.pci_grow.specs.Rows.{row_number, IsInRowOrder}
-use Rattle.pci_grow.specs.Tables.{AreUntold, told, TellsSame}
+use Rattle.pci_settle.specs.Tables.{AreUntold, told, TellsSame}
 use Rattle.pci_grow.specs.Reaches.{AreReaches}
 use Rattle.pci_grow.specs.There.{Tables, grown_told, there_told, place_told, in_row}
 

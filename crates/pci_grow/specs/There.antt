@@ -20,11 +20,11 @@ use Rattle.pci_stand.specs.declared.region.Region.{Region}
 use Rattle.pci_stand.specs.Held.{is_kept}
 use Rattle.pci_stand.specs.Places.{window_for}
 use Rattle.pci_stand.specs.Tables.{index_of, stands_in}
-use Rattle.pci_grow.specs.declared.place.Places.{Places}
+use Rattle.pci_settle.specs.declared.place.Places.{Places}
 use Rattle.pci_grow.specs.declared.there.There.{There}
 use Rattle.pci_grow.specs.Rows.{row_of}
-use Rattle.pci_grow.specs.PlaceTables.{placed}
-use Rattle.pci_grow.specs.Tables.{untold, told}
+use Rattle.pci_settle.specs.PlaceTables.{placed}
+use Rattle.pci_settle.specs.Tables.{untold, told}
 
 -- ---- what tables tell
 

@@ -1,10 +1,10 @@
 //! What is there before any window is found to take: what holds as it stands.
 ghost use Rattle.std.specs.Prelude.{◌≡◌, IfOk, length};
-ghost use Rattle.pci_grow.specs.PlaceTables.{ArePlaceless};
-ghost use Rattle.pci_grow.specs.Tables.{AreUntold};
+ghost use Rattle.pci_settle.specs.PlaceTables.{ArePlaceless};
+ghost use Rattle.pci_settle.specs.Tables.{AreUntold};
 
-use crate::place::no_places;
-use crate::table::nothing_told;
+use pci_settle::place::no_places;
+use pci_settle::table::nothing_told;
 use crate::there::There;
 use pci_base::memory::OutOfMemory;
 use pci_base::window_kind::ByKind;

@@ -13,7 +13,7 @@ ghost use Rattle.pci_grow.specs.Telling.{setting_value, IsGrowing, IsComing, IsN
 
 use crate::around::Around;
 use crate::coming::{Coming, Setting, comes_to, note_coming};
-use crate::table::told_of;
+use pci_settle::table::told_of;
 use crate::there::{There, in_row, is_past, later};
 use pci_base::memory::OutOfMemory;
 use pci_base::slot::BUSES;

@@ -6,7 +6,7 @@ ghost use Rattle.pci_base.specs.WindowKinds.{by_kind};
 ghost use Rattle.pci_base.specs.declared.window_kind.WindowKind.{WindowKind as Kind};
 ghost use Rattle.pci_grow.specs.Marks.{marks_of, is_window_kept, AreKeptToo, AreLeftToldOf};
 
-use crate::table::WindowRanges;
+use pci_settle::table::WindowRanges;
 use pci_base::memory::OutOfMemory;
 use pci_base::range::Range;
 use pci_base::window_kind::ByKind;

@@ -14,7 +14,7 @@ ghost use Rattle.pci_base.specs.WindowKinds.{kind_value};
 ghost use Rattle.pci_base.specs.declared.window_kind.WindowKind.{WindowKind as CodeKind};
 ghost use Rattle.pci_grow.specs.Rooms.{first_behind, IsNearestBelow, IsNearestAbove};
 ghost use Rattle.pci_grow.specs.Rows.{row_of, AreApartInRows, AreBeside};
-ghost use Rattle.pci_grow.specs.Tables.{told};
+ghost use Rattle.pci_settle.specs.Tables.{told};
 ghost use Rattle.pci_tree.specs.Ways.{IsBridgeToBus};
 ghost use Rattle.pci_place.specs.Items.{function_in};
 ghost use Rattle.pci_place.specs.Records.{IsRecordOf};
@@ -27,7 +27,7 @@ ghost use Rattle.pci_grow.specs.Reaches.{IsAmong, AreToldOver, StandsInRows, IsT
 use crate::beside::{before, behind};
 use crate::halves::{cut_to_halves, whole_pages};
 use crate::room::{between, no_higher, room_on_root};
-use crate::table::{WindowRanges, tell, told_of};
+use pci_settle::table::{WindowRanges, tell, told_of};
 use pci_base::range::Range;
 use pci_base::slot::BUSES;
 use pci_base::window_kind::WindowKind;

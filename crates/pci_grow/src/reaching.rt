@@ -11,7 +11,7 @@ ghost use Rattle.pci_grow.specs.Reaching.{reaching_value, IsReaching, tells_whol
 
 use crate::beside::standing_in_rows;
 use crate::reach::{Board, find_reaches};
-use crate::table::{WindowRanges, nothing_told};
+use pci_settle::table::{WindowRanges, nothing_told};
 use pci_base::memory::OutOfMemory;
 use pci_base::range::Range;
 use pci_base::slot::Slot;

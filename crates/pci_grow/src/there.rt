@@ -9,8 +9,8 @@ ghost use Rattle.pci_grow.specs.Rows.{row_of};
 ghost use Rattle.pci_grow.specs.There.{tables_of, grown_of, range_told, class_told, there_of, there_of_class, in_row, holding, placed_ranges, is_past, later_of};
 
 use crate::beside::first_from;
-use crate::place::Places;
-use crate::table::{WindowRanges, told_of};
+use pci_settle::place::Places;
+use pci_settle::table::{WindowRanges, told_of};
 use pci_base::memory::OutOfMemory;
 use pci_base::range::Range;
 use pci_base::window_kind::WindowKind;

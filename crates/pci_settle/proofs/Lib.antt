@@ -12,6 +12,7 @@ pub mod ItemExtents
 pub mod Walks
 pub mod Headers
 pub mod Tables
+pub mod Placeless
 pub mod OwnItems
 pub mod Ranks
 pub mod Probes

@@ -4,6 +4,8 @@ pub mod Windows
 pub mod Turns
 pub mod Lists
 pub mod Kept
+pub mod Tables
+pub mod PlaceTables
 pub mod Over
 pub mod Own
 pub mod Buses

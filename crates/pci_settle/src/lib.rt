@@ -15,6 +15,8 @@ pub mod listing;
 pub mod new_window;
 pub mod over;
 pub mod own;
+pub mod place;
 pub mod placing;
 pub mod spot;
+pub mod table;
 pub mod window;

@@ -6,7 +6,7 @@ use Rattle.pci_stand.specs.Known.{asked}
 use Rattle.pci_stand.proofs.Whole.{slice_back}
 use Rattle.pci_grow.specs.Reaches.{AreReaches}
 use Rattle.pci_grow.specs.Rows.{AreRows}
-use Rattle.pci_grow.specs.Tables.{told, AreUntold}
+use Rattle.pci_settle.specs.Tables.{told, AreUntold}
 use Rattle.pci_grow.proofs.AllReaches.{rows_of, only_standing}
 use Rattle.pci_grow.proofs.reaching.all_reaches.Goals as goal
 

@@ -5,8 +5,8 @@ use Rattle.std.proofs.lemmas.List.{get_or-replicate, get_or_past}
 use Rattle.std.proofs.lemmas.List.Elements.{All-nil, All-cons, All-append}
 use Rattle.pci_spec.specs.Window.{IoWindow, MemoryWindow, PrefetchWindow}
 use Rattle.pci_spec.specs.System.{Part, Bar, Rom, Window}
-use Rattle.pci_grow.specs.declared.place.Places.{Places}
-use Rattle.pci_grow.specs.PlaceTables.{place_in, ArePlaceless}
+use Rattle.pci_settle.specs.declared.place.Places.{Places}
+use Rattle.pci_settle.specs.PlaceTables.{place_in, ArePlaceless}
 
 abbrev pub none_placed : Places
 none_placed = record {

@@ -1,6 +1,6 @@
 //! What is told of windows, by function in slot order.
 ghost use Rattle.std.specs.Prelude.{◌≡◌, ◌<◌, IfOk, length};
-ghost use Rattle.pci_grow.specs.Tables.{told, AreUntold, TellsSame};
+ghost use Rattle.pci_settle.specs.Tables.{told, AreUntold, TellsSame};
 
 use pci_base::memory::OutOfMemory;
 use pci_base::range::Range;

@@ -1,6 +1,6 @@
 use Rattle.std.proofs.Common.{arith, ap, length}
-use Rattle.pci_grow.proofs.Placeless.{placeless_first, placeless_more}
-use Rattle.pci_grow.proofs.place.no_places.Goals as goal
+use Rattle.pci_settle.proofs.Placeless.{placeless_first, placeless_more}
+use Rattle.pci_settle.proofs.place.no_places.Goals as goal
 
 pub loop-init : goal.loop-init
 loop-init g c = record { count = ap length c.new-table.ensures.items; none = placeless_first _ c.new-table.ensures.items }

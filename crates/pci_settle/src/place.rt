@@ -1,15 +1,13 @@
 //! The places of items, by function in slot order.
-ghost use Rattle.std.specs.Prelude.{◌≡◌, ◌<◌, IfOk, Some, length, map};
-ghost use Rattle.std.specs.List.{All};
-ghost use Rattle.pci_spec.specs.System.{System, IsSystem, Part as PartValue};
+ghost use Rattle.std.specs.Prelude.{◌≡◌, ◌<◌, IfOk, Some, length};
+ghost use Rattle.pci_spec.specs.System.{Part as PartValue};
 ghost use Rattle.pci_base.specs.WindowKinds.{kind_value};
-ghost use Rattle.pci_settle.specs.Own.{class_part, asked_item_value};
-ghost use Rattle.pci_settle.specs.Placings.{at_places};
-ghost use Rattle.pci_grow.specs.PlaceTables.{IsItemPart, place_in, placed, ArePlaceless, PlacesSame, ArePutOver, HasItemPart};
+ghost use Rattle.pci_settle.specs.Own.{class_part};
+ghost use Rattle.pci_settle.specs.PlaceTables.{IsItemPart, place_in, placed, ArePlaceless, PlacesSame};
 
+use crate::item::{Item, Part};
 use pci_base::memory::OutOfMemory;
 use pci_base::window_kind::{ByKind, WindowKind};
-use pci_settle::item::{Item, Part};
 use std::alloc::Allocator;
 
 /// The first address that each part of a function gets; None for what gets none.
@@ -79,24 +77,4 @@ pub fn put(table: &mut [Places], class: WindowKind, item: &Item, at: u64)
         (class_part (kind_value class) item.now.part) }
 {
     table[item.function].set(class, item.part, at);
-}
-
-/// Puts the places of items of a class into a table. What is listed first counts, so it is put last.
-pub fn put_all(table: &mut [Places], class: WindowKind, items: &[Item], places: &[u64])
-    // there is an entry for the function of each
-    requires functions { All (λ i. i.function < length table.old) items.now }
-    // no header has more BAR registers, and an entry has no place for more
-    requires parts { All (λ i. IsItemPart i.part) items.now }
-    // an item's place stands at its index
-    requires count { length places.now ≡ length items.now }
-    ensures count { length table.new ≡ length table.old }
-    ensures put { (s : System) → IsSystem s → length s ≡ length table.old
-        → All (HasItemPart s (kind_value class)) items.now
-        → ArePutOver s (at_places (map (asked_item_value s (kind_value class)) items.now) places.now)
-        table.old table.new }
-{
-    for done in 0..items.len() {
-        let index = items.len() - 1 - done;
-        put(table, class, &items[index], places[index]);
-    }
 }

@@ -1,7 +1,7 @@
 use Rattle.std.proofs.Common.{◌≡◌, [], arith, ap, length, subst, sym, refl}
 use Rattle.std.proofs.lemmas.List.Elements.{All-nil, All-cons, All-append}
-use Rattle.pci_grow.specs.Tables.{untold, AreUntold}
-use Rattle.pci_grow.proofs.table.nothing_told.Goals as goal
+use Rattle.pci_settle.specs.Tables.{untold, AreUntold}
+use Rattle.pci_settle.proofs.table.nothing_told.Goals as goal
 
 pub loop-init : goal.loop-init
 loop-init g c = record {

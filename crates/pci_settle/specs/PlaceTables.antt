@@ -1,17 +1,11 @@
 -- The places of items, by function in slot order.
-use Rattle.std.specs.Prelude.{◌≡◌, ℕ, ◌<◌, IsTrue, List, [], Option, None, Some, slice_get, slice_index_or}
+use Rattle.std.specs.Prelude.{◌≡◌, ℕ, ◌<◌, List, [], Option, None, slice_index_or}
 use Rattle.std.specs.List.{All}
-use Rattle.pci_spec.specs.Window.{WindowKind, IoWindow, MemoryWindow, PrefetchWindow}
-use Rattle.pci_spec.specs.System.{System, Function, Part, Bar, Rom, Window, has_part}
-use Rattle.settle_spec.specs.FirstPlace.{else_at}
-use Rattle.settle_spec.specs.Items.{Placed}
-use Rattle.settle_spec.specs.Places.{place_among}
-use Rattle.settle_spec.specs.Kept.{place_of}
+use Rattle.pci_spec.specs.Window.{IoWindow, MemoryWindow, PrefetchWindow}
+use Rattle.pci_spec.specs.System.{Part, Bar, Rom, Window}
 use Rattle.pci_settle.specs.declared.item.Part.{Part as ItemPart}
 use Rattle.pci_settle.specs.declared.item.Part.TheVariants as parts
-use Rattle.pci_settle.specs.declared.item.Item.{Item}
-use Rattle.pci_settle.specs.Own.{asked_item_value}
-use Rattle.pci_grow.specs.declared.place.Places.{Places}
+use Rattle.pci_settle.specs.declared.place.Places.{Places}
 
 -- a header has six Base Address registers at most
 abbrev pub IsItemPart : ItemPart → Type 0
@@ -48,15 +42,3 @@ abbrev pub PlacesSame : List Places → List Places → ℕ → Part → Type 0
 PlacesSame old new function part =
     (k : ℕ) (other : Part) → ((k ≡ function) → (other ≡ part) → ⊥)
     → placed new k other ≡ placed old k other
-
--- a table of a system's functions gets the places of items; of those of one part the first counts
-abbrev pub ArePutOver : System → List Placed → List Places → List Places → Type 0
-ArePutOver s put old new =
-    (k : ℕ) (f : Function) (part : Part) → slice_get s k ≡ Some f → IsTrue (has_part f part)
-    → placed new k part
-    ≡ else_at (place_of (place_among record { function = f; part = part } put)) (placed old k part)
-
--- the function of an item has its part
-abbrev pub HasItemPart : System → WindowKind → Item → Type 0
-HasItemPart s c i =
-    IsTrue (has_part (asked_item_value s c i).region.function (asked_item_value s c i).region.part)
