@@ -6,15 +6,15 @@ use Rattle.std.proofs.lemmas.Grind.{take_at_read, get_or-set_at}
 use Rattle.pci_spec.specs.Decoded.{Range as DecodedRange}
 use Rattle.pci_spec.proofs.Members.{in_head, in_tail, in_cons_cases}
 use Rattle.plan_spec.specs.Place.{range_from}
-use Rattle.settle_spec.specs.FirstPlace.{Extent as ExtentValue, first_place}
-use Rattle.settle_spec.specs.Items.{Item, Placed, Placing, AllPlaced, Lacks, and_placed, place_next, place_all, taken_by}
-use Rattle.settle_spec.proofs.SameTaken.{HaveSame, same_places}
+use Rattle.settle_spec.specs.FirstPlace.{Extent as ExtentValue, else_at, first_place}
+use Rattle.settle_spec.specs.Items.{Item, Placed, Placing, AllPlaced, Lacks, and_placed, place_next, taken_by}
+use Rattle.settle_spec.specs.Growth.{place_each}
+use Rattle.settle_spec.proofs.SameTaken.{HaveSame, same_cons, same_first_place}
 use Rattle.pci_base.specs.declared.range.Range.{Range}
 use Rattle.pci_base.specs.Ranges.{decoded_range_of}
-use Rattle.pci_settle.specs.declared.spot.Spot.{Spot}
 use Rattle.pci_settle.specs.declared.placing.Wanted.{Wanted}
-use Rattle.pci_settle.specs.Spots.{extent_value, AreRisingRanges, extent_range, IsPutIn}
-use Rattle.pci_settle.specs.Placings.{item_extent, at_places, lacks_first, placing_of, HasListAt, IsWanted, AreWanted}
+use Rattle.pci_settle.specs.Spots.{extent_value, AreRisingRanges, extent_range, IsTakenAt}
+use Rattle.pci_settle.specs.Placings.{item_extent, at_places, lacks_first, placing_of, HasListAt, wanted_place, IsWanted, AreWanted}
 
 -- ---- some items placed before others
 
@@ -65,6 +65,37 @@ put_same (x ∷ taken) (suc index) r within =
       ];
     }
 
+-- ---- places that are found the same in any order of what is taken
+
+abbrev pub FindsTheSame : (Item → List DecodedRange → Option ℕ) → Item → Type 0
+FindsTheSame find i = (xs ys : List DecodedRange) → HaveSame xs ys → find i xs ≡ find i ys
+
+next_same : (i : Item) (o : Option ℕ) (f g : ℕ → Placing) → ((a : ℕ) → f a ≡ g a) → place_next i o f ≡ place_next i o g
+next_same i None f g same = refl
+next_same i (Some a) f g same = ap (and_placed i a) (same a)
+
+pub each_same_taken : (find : Item → List DecodedRange → Option ℕ) (items : List Item) (xs ys : List DecodedRange) → ((i : Item) → Contains items i → FindsTheSame find i) → HaveSame xs ys
+    → place_each find xs items ≡ place_each find ys items
+each_same_taken find [] xs ys finds same = refl
+each_same_taken find (i ∷ items) xs ys finds same =
+    ap (λ o. place_next i o (λ a. place_each find (taken_by i a ∷ xs) items)) (finds i (in_head i items) xs ys same)
+    ∙ next_same i (find i ys) (λ a. place_each find (taken_by i a ∷ xs) items) (λ a. place_each find (taken_by i a ∷ ys) items)
+    (λ a. each_same_taken find items (taken_by i a ∷ xs) (taken_by i a ∷ ys) (λ j listed. finds j (in_tail i items j listed)) (same_cons (taken_by i a) xs ys same))
+
+-- what is wanted is found so
+pub wanted_same : (lists : List (List Range)) (find : Item → List DecodedRange → Option ℕ) (items : List Item) (wanted : List Wanted) (n : ℕ) → AreWanted lists find items wanted → All (HasListAt n) wanted → Wanted
+    → (i : Item) → Contains items i → FindsTheSame find i
+wanted_same lists find items wanted n are lawful w i (k, less, here) xs ys same =
+    let long = are.count in
+    let within : k < length wanted = omega (arith, less, long) in
+    let own = get_or wanted k w in
+    let is = are.each k i w within in
+    ap (λ j. find j xs) (sym here)
+    ∙ is.place xs
+    ∙ ap (else_at own.at) (same_first_place (map decoded_range_of (get_or lists own.list [])) xs ys (extent_value own.extent) (lawful k w within).extent.alignment same)
+    ∙ sym (is.place ys)
+    ∙ ap (λ j. find j ys) here
+
 -- ---- the walk over the items
 
 pub drop_all : (n : ℕ) (items : List Item) → length items ≤ n → drop n items ≡ []
@@ -76,26 +107,17 @@ drop_all (suc n) (i ∷ items) past = drop_all n items (omega (arith, past))
 pub record IsSoFar (lists : List (List Range)) (start : List DecodedRange) (wanted : List Wanted) (taken : List Range) (places : List ℕ) (n : ℕ) : Type 0 where
   pub listed : AreRisingRanges taken
   pub count : length places ≡ length wanted
-  pub so_far : (ranges : Item → List DecodedRange) (items : List Item) → AreWanted lists ranges items wanted
-      → place_all ranges start items ≡ and_all (at_places (take n items) (take n places)) (place_all ranges (map decoded_range_of taken) (drop n items))
+  pub so_far : (find : Item → List DecodedRange → Option ℕ) (items : List Item) → AreWanted lists find items wanted
+      → place_each find start items ≡ and_all (at_places (take n items) (take n places)) (place_each find (map decoded_range_of taken) (drop n items))
 
 pub so_far_none : (lists : List (List Range)) (wanted : List Wanted) (taken : List Range) (places : List ℕ) → AreRisingRanges taken → length places ≡ length wanted
     → IsSoFar lists (map decoded_range_of taken) wanted taken places 0
-so_far_none lists wanted taken places listed count = record { listed = listed; count = count; so_far = λ ranges items are. refl }
+so_far_none lists wanted taken places listed count = record { listed = listed; count = count; so_far = λ find items are. refl }
 
 in_drop : (n : ℕ) (items : List Item) (i : Item) → Contains (drop n items) i → Contains items i
 in_drop zero items i listed = listed
 in_drop (suc n) [] i listed = listed
 in_drop (suc n) (j ∷ items) i listed = in_tail j items i (in_drop n items i listed)
-
--- so it is lawful
-lawful_item : (lists : List (List Range)) (ranges : Item → List DecodedRange) (items : List Item) (wanted : List Wanted) (n : ℕ) → AreWanted lists ranges items wanted → All (HasListAt n) wanted
-    → (w : Wanted) (i : Item) → Contains items i → 0 < i.extent.alignment
-lawful_item lists ranges items wanted n are lawful w i (k, less, here) =
-    let long = are.count in
-    let within : k < length wanted = omega (arith, less, long) in
-    let same : i.extent ≡ extent_value (get_or wanted k w).extent = ap item_extent (sym here) ∙ (are.each k i w within).extent in
-    subst (λ x. 0 < x.alignment) (sym same) (lawful k w within).extent.alignment
 
 pub take_table : (places : List ℕ) (n a : ℕ) → n < length places → take (n + 1) (set places n a) ≡ take n places ++ a ∷ []
 take_table places n a within =
@@ -104,12 +126,8 @@ take_table places n a within =
     ∙ ap (λ xs. xs ++ get_or (set places n a) n 0 ∷ []) (take-set-le n places n a (omega arith))
     ∙ ap (λ x. take n places ++ x ∷ []) (get_or-set_at places n n a 0 refl within)
 
--- the ranges of a list
-abbrev pub ranges_at : List (List Range) → Wanted → List DecodedRange
-ranges_at lists w = map decoded_range_of (get_or lists w.list [])
-
 module _ (lists : List (List Range)) (start : List DecodedRange) (wanted : List Wanted) (taken : List Range) (places : List ℕ) (n : ℕ) (is : IsSoFar lists start wanted taken places n)
-    (within : n < length wanted) (e : Wanted) (ranges : Item → List DecodedRange) (items : List Item) (x : Item) (are : AreWanted lists ranges items wanted) where
+    (within : n < length wanted) (e : Wanted) (find : Item → List DecodedRange → Option ℕ) (items : List Item) (x : Item) (are : AreWanted lists find items wanted) where
   inside : n < length items
   inside = let same = are.count in omega (arith, same, within)
 
@@ -122,72 +140,70 @@ module _ (lists : List (List Range)) (start : List DecodedRange) (wanted : List 
   abbrev so : List Placed
   so = at_places (take n items) (take n places)
 
-  own : IsWanted lists ranges next (get_or wanted n e)
+  own : IsWanted lists find next (get_or wanted n e)
   own = are.each n x e within
 
   -- what the next item gets, before it is known
-  next_is : (o : Option ℕ) → o ≡ first_place (ranges_at lists (get_or wanted n e)) now (extent_value (get_or wanted n e).extent)
-      → place_all ranges start items ≡ and_all so (place_next next o (λ b. place_all ranges (taken_by next b ∷ now) (drop (n + 1) items)))
+  next_is : (o : Option ℕ) → o ≡ wanted_place lists now (get_or wanted n e)
+      → place_each find start items ≡ and_all so (place_next next o (λ b. place_each find (taken_by next b ∷ now) (drop (n + 1) items)))
   next_is o found =
-      is.so_far ranges items are
-      ∙ ap (and_all so) (at_drop_more (λ xs. place_all ranges now xs) items n x inside)
-      ∙ ap (λ p. and_all so (place_next next p (λ b. place_all ranges (taken_by next b ∷ now) (drop (n + 1) items))))
-      (ap (λ rs. first_place rs now next.extent) own.list ∙ ap (first_place (ranges_at lists (get_or wanted n e)) now) own.extent ∙ sym found)
+      is.so_far find items are
+      ∙ ap (and_all so) (at_drop_more (λ xs. place_each find now xs) items n x inside)
+      ∙ ap (λ p. and_all so (place_next next p (λ b. place_each find (taken_by next b ∷ now) (drop (n + 1) items)))) (own.place now ∙ sym found)
 
-  pub lacks_next : None ≡ first_place (ranges_at lists (get_or wanted n e)) now (extent_value (get_or wanted n e).extent) → place_all ranges start items ≡ lacks_first (drop n items)
+  pub lacks_next : None ≡ wanted_place lists now (get_or wanted n e) → place_each find start items ≡ lacks_first (drop n items)
   lacks_next none = next_is None none ∙ all_lack so next ∙ sym (at_drop_more lacks_first items n x inside)
 
-  pub places_next : (count : ℕ) → All (HasListAt count) wanted → (s : Spot) → Some s.at ≡ first_place (ranges_at lists (get_or wanted n e)) now (extent_value (get_or wanted n e).extent)
-      → (new : List Range) → IsPutIn taken new (get_or wanted n e).extent s
-      → place_all ranges start items ≡ and_all (at_places (take (n + 1) items) (take (n + 1) (set places n s.at))) (place_all ranges (map decoded_range_of new) (drop (n + 1) items))
-  places_next count lawful s found new put =
-      let a = s.at in
+  pub places_next : (count : ℕ) → All (HasListAt count) wanted → (a : ℕ) → Some a ≡ wanted_place lists now (get_or wanted n e)
+      → (new : List Range) → IsTakenAt taken new (get_or wanted n e).extent a
+      → place_each find start items ≡ and_all (at_places (take (n + 1) items) (take (n + 1) (set places n a))) (place_each find (map decoded_range_of new) (drop (n + 1) items))
+  places_next count lawful a found new put =
       let same : HaveSame (taken_by next a ∷ now) (map decoded_range_of new) =
       subst (λ (y : ExtentValue). HaveSame (range_from a y.size ∷ now) (map decoded_range_of new)) (sym own.extent)
-      (subst (λ ys. HaveSame (decoded_range_of (extent_range (get_or wanted n e).extent a) ∷ now) (map decoded_range_of ys)) (sym put.put) (put_same taken s.index (extent_range (get_or wanted n e).extent a) put.between.within)) in
+      (subst (λ ys. HaveSame (decoded_range_of (extent_range (get_or wanted n e).extent a) ∷ now) (map decoded_range_of ys)) (sym put.put) (put_same taken put.index (extent_range (get_or wanted n e).extent a) put.within)) in
       let some : n < length places = (let count = is.count in omega (arith, count, within)) in
       let even : length (take n items) ≡ length (take n places) =
       (let l = length-take n items in let m = length-take n places in let less = inside in omega (arith, l, m, less, some)) in
       next_is (Some a) found
-      ∙ ap (λ r. and_all so (and_placed next a r)) (same_places ranges (drop (n + 1) items) (taken_by next a ∷ now) (map decoded_range_of new)
-      (λ i listed. lawful_item lists ranges items wanted count are lawful e i (in_drop (n + 1) items i listed)) same)
-      ∙ sym (all_append so (record { item = next; at = a }) (place_all ranges (map decoded_range_of new) (drop (n + 1) items)))
-      ∙ ap (λ ps. and_all ps (place_all ranges (map decoded_range_of new) (drop (n + 1) items)))
+      ∙ ap (λ r. and_all so (and_placed next a r)) (each_same_taken find (drop (n + 1) items) (taken_by next a ∷ now) (map decoded_range_of new)
+      (λ i listed. wanted_same lists find items wanted count are lawful e i (in_drop (n + 1) items i listed)) same)
+      ∙ sym (all_append so (record { item = next; at = a }) (place_each find (map decoded_range_of new) (drop (n + 1) items)))
+      ∙ ap (λ ps. and_all ps (place_each find (map decoded_range_of new) (drop (n + 1) items)))
       (sym (at_append (take n items) (take n places) next a even)
       ∙ ap (λ xs. at_places xs (take n places ++ a ∷ [])) (sym (take_at_read items n x inside).1)
       ∙ ap (at_places (take (n + 1) items)) (sym (take_table places n a some)))
 
 pub so_far_next : (lists : List (List Range)) (start : List DecodedRange) (wanted : List Wanted) (taken : List Range) (places : List ℕ) (n count : ℕ)
-    → IsSoFar lists start wanted taken places n → All (HasListAt count) wanted → n < length wanted → (e : Wanted) (s : Spot)
-    → Some s.at ≡ first_place (ranges_at lists (get_or wanted n e)) (map decoded_range_of taken) (extent_value (get_or wanted n e).extent)
-    → (new : List Range) → AreRisingRanges new → IsPutIn taken new (get_or wanted n e).extent s
-    → IsSoFar lists start wanted new (set places n s.at) (n + 1)
-so_far_next lists start wanted taken places n count is lawful within e s found new listed put = record {
+    → IsSoFar lists start wanted taken places n → All (HasListAt count) wanted → n < length wanted → (e : Wanted) (a : ℕ)
+    → Some a ≡ wanted_place lists (map decoded_range_of taken) (get_or wanted n e)
+    → (new : List Range) → AreRisingRanges new → IsTakenAt taken new (get_or wanted n e).extent a
+    → IsSoFar lists start wanted new (set places n a) (n + 1)
+so_far_next lists start wanted taken places n count is lawful within e a found new listed put = record {
   listed = listed;
-  count = length-set places n s.at ∙ is.count;
-  so_far = λ ranges items are. by_items ranges items are;
+  count = length-set places n a ∙ is.count;
+  so_far = λ find items are. by_items find items are;
 }
   where
-    by_items : (ranges : Item → List DecodedRange) (items : List Item) → AreWanted lists ranges items wanted
-        → place_all ranges start items ≡ and_all (at_places (take (n + 1) items) (take (n + 1) (set places n s.at))) (place_all ranges (map decoded_range_of new) (drop (n + 1) items))
-    by_items ranges [] are = absurd (let long = are.count in let no : ⊥ = omega (arith, long, within) in no)
-    by_items ranges (x ∷ items) are = places_next lists start wanted taken places n is within e ranges (x ∷ items) x are count lawful s found new put
+    by_items : (find : Item → List DecodedRange → Option ℕ) (items : List Item) → AreWanted lists find items wanted
+        → place_each find start items ≡ and_all (at_places (take (n + 1) items) (take (n + 1) (set places n a))) (place_each find (map decoded_range_of new) (drop (n + 1) items))
+    by_items find [] are = absurd (let long = are.count in let no : ⊥ = omega (arith, long, within) in no)
+    by_items find (x ∷ items) are = places_next lists start wanted taken places n is within e find (x ∷ items) x are count lawful a found new put
 
 pub so_far_lacks : (lists : List (List Range)) (start : List DecodedRange) (wanted : List Wanted) (taken : List Range) (places : List ℕ) (n : ℕ)
     → IsSoFar lists start wanted taken places n → n < length wanted → (e : Wanted)
-    → None ≡ first_place (ranges_at lists (get_or wanted n e)) (map decoded_range_of taken) (extent_value (get_or wanted n e).extent)
-    → (ranges : Item → List DecodedRange) (items : List Item) → AreWanted lists ranges items wanted → place_all ranges start items ≡ placing_of items places (Some n)
-so_far_lacks lists start wanted taken places n is within e none ranges [] are = absurd (let long = are.count in let no : ⊥ = omega (arith, long, within) in no)
-so_far_lacks lists start wanted taken places n is within e none ranges (x ∷ items) are = lacks_next lists start wanted taken places n is within e ranges (x ∷ items) x are none
+    → None ≡ wanted_place lists (map decoded_range_of taken) (get_or wanted n e)
+    → (find : Item → List DecodedRange → Option ℕ) (items : List Item) → AreWanted lists find items wanted → place_each find start items ≡ placing_of items places (Some n)
+so_far_lacks lists start wanted taken places n is within e none find [] are = absurd (let long = are.count in let no : ⊥ = omega (arith, long, within) in no)
+so_far_lacks lists start wanted taken places n is within e none find (x ∷ items) are = lacks_next lists start wanted taken places n is within e find (x ∷ items) x are none
 
 pub so_far_all : (lists : List (List Range)) (start : List DecodedRange) (wanted : List Wanted) (taken : List Range) (places : List ℕ) (n : ℕ)
     → IsSoFar lists start wanted taken places n → length wanted ≤ n
-    → (ranges : Item → List DecodedRange) (items : List Item) → AreWanted lists ranges items wanted → place_all ranges start items ≡ placing_of items places None
-so_far_all lists start wanted taken places n is past ranges items are =
+    → (find : Item → List DecodedRange → Option ℕ) (items : List Item) → AreWanted lists find items wanted → place_each find start items ≡ placing_of items places None
+so_far_all lists start wanted taken places n is past find items are =
     let long = are.count in
     let count = is.count in
-    is.so_far ranges items are
-    ∙ ap (λ xs. and_all (at_places (take n items) (take n places)) (place_all ranges (map decoded_range_of taken) xs)) (drop_all n items (omega (arith, long, past)))
+    is.so_far find items are
+    ∙ ap (λ xs. and_all (at_places (take n items) (take n places)) (place_each find (map decoded_range_of taken) xs)) (drop_all n items (omega (arith, long, past)))
     ∙ all_placed (at_places (take n items) (take n places))
     ∙ ap (λ xs. AllPlaced (at_places xs (take n places))) (take_all n items (omega (arith, long, past)))
     ∙ ap (λ xs. AllPlaced (at_places items xs)) (take_all n places (omega (arith, count, past)))

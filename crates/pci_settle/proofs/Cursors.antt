@@ -1,13 +1,12 @@
 -- Where the search for an extent goes on stays so when more is taken.
-use Rattle.std.proofs.Common.{◌≡◌, ℕ, zero, suc, ◌+◌, ◌-◌, ◌^◌, ◌<◌, ◌≤◌, inl, inr, List, [], ◌∷◌, ◌++◌, map, length, set, get_or, arith, ap, sym, subst, ◌∙◌, true, false, Bool, Option, None, Some}
+use Rattle.std.proofs.Common.{◌≡◌, ℕ, zero, suc, ◌+◌, ◌-◌, ◌^◌, ◌<◌, ◌≤◌, inl, inr, List, [], ◌∷◌, ◌++◌, map, length, set, get_or, arith, ap, sym, subst, ◌∙◌, refl, true, false, Bool, Option, None, Some}
 use Rattle.std.specs.List.{All, Contains, insert}
-use Rattle.std.proofs.lemmas.Bool.{cases_eq, true≢false, false≢true}
+use Rattle.std.proofs.lemmas.Bool.{cases_eq}
 use Rattle.std.proofs.lemmas.List.{length-append, length-map, get_or-map, length-set, get_or-set_same, get_or-set_other, get_or_default}
 use Rattle.std.proofs.lemmas.List.Elements.{All-append}
 use Rattle.std.proofs.lemmas.List.Edits.{length-insert}
 use Rattle.pci_spec.proofs.Members.{in_tail}
-use Rattle.settle_spec.specs.FirstPlace.{first_place}
-use Rattle.settle_spec.specs.Items.{Item, place_all}
+use Rattle.plan_spec.specs.Place.{range_from}
 use Rattle.settle_spec.specs.PlacingLaws.{TakesMore}
 use Rattle.settle_spec.proofs.MoreTaken.{same_extent, less_spot, none_in}
 use Rattle.pci_spec.specs.Decoded.{Range as DecodedRange}
@@ -18,10 +17,10 @@ use Rattle.pci_settle.specs.declared.spot.Spot.{Spot}
 use Rattle.pci_settle.specs.declared.spot.Start.{Start}
 use Rattle.pci_settle.specs.declared.placing.Wanted.{Wanted}
 use Rattle.pci_settle.specs.declared.placing.Cursor.{Cursor}
-use Rattle.pci_settle.specs.Spots.{extent_value, IsExtent, AreRisingRanges, extent_range, place_if, IsPutIn, IsTakenBy, IsReached, IsStart}
-use Rattle.pci_settle.specs.Placings.{HasListAt, AreWanted, AreEnding, IsCursor, placing_of}
+use Rattle.pci_settle.specs.Spots.{extent_value, IsExtent, AreRisingRanges, extent_range, IsPutIn, IsTakenBy, IsTakenAt, IsReached, IsStart}
+use Rattle.pci_settle.specs.Placings.{HasListAt, wanted_place, AreEnding, IsCursor, AreCursors}
 use Rattle.pci_settle.proofs.Inserted.{Under, At, Over, find_where}
-use Rattle.pci_settle.proofs.AllPlaced.{put_same, IsSoFar, so_far_none, so_far_next, so_far_lacks, ranges_at}
+use Rattle.pci_settle.proofs.AllPlaced.{put_same, IsSoFar, so_far_none, so_far_next}
 
 module _ (old new : List Range) (d : Extent) (at : Spot) (listed : AreRisingRanges old) (put : IsPutIn old new d at) where
   takes_more : TakesMore (map decoded_range_of old) (map decoded_range_of new)
@@ -61,11 +60,6 @@ module _ (old new : List Range) (d : Extent) (at : Spot) (listed : AreRisingRang
 
 -- ---- of all lists
 
--- each list has its cursor
-pub record AreCursors (lists : List (List Range)) (taken : List Range) (cursors : List Cursor) : Type 0 where
-  pub count : length cursors ≡ length lists
-  pub each : (k : ℕ) (d : Cursor) → k < length lists → IsCursor (get_or lists k []) taken (get_or cursors k d)
-
 pub cursors_first : (lists : List (List Range)) (taken : List Range) (cursors : List Cursor) → length cursors ≡ length lists
     → ((ranges taken : List Range) → All (IsCursor ranges taken) cursors) → AreCursors lists taken cursors
 cursors_first lists taken cursors count each = record {
@@ -91,16 +85,16 @@ cursors_next lists old new d at cursors n c listed put are within is = record {
 
 -- ---- where they end
 
-ends_next : (wanted : List Wanted) (places : List ℕ) (n : ℕ) → AreEnding wanted places n → n < length wanted → length places ≡ length wanted → (w : Wanted) (taken new : List Range) (s : Spot)
-    → IsPutIn taken new (get_or wanted n w).extent s → AreEnding wanted (set places n s.at) (n + 1)
-ends_next wanted places n ends within count w taken new s put k v less = elim (cases_eq k n) [
+ends_next : (wanted : List Wanted) (places : List ℕ) (n : ℕ) → AreEnding wanted places n → n < length wanted → length places ≡ length wanted → (w : Wanted) (a : ℕ)
+    → (range_from a (get_or wanted n w).extent.size).last < 2 ^ 64 → AreEnding wanted (set places n a) (n + 1)
+ends_next wanted places n ends within count w a low k v less = elim (cases_eq k n) [
   | inl same ↦
-      let here : get_or (set places n s.at) k 0 ≡ s.at = ap (λ m. get_or (set places n s.at) m 0) same ∙ get_or-set_same places n s.at 0 (omega (arith, within, count)) in
+      let here : get_or (set places n a) k 0 ≡ a = ap (λ m. get_or (set places n a) m 0) same ∙ get_or-set_same places n a 0 (omega (arith, within, count)) in
       let own : get_or wanted k v ≡ get_or wanted n w = ap (λ m. get_or wanted m v) same ∙ get_or_default wanted n v w within in
-      subst (λ (x : Wanted). get_or (set places n s.at) k 0 + (x.extent.size - 1) < 2 ^ 64) (sym own)
-      (subst (λ a. a + ((get_or wanted n w).extent.size - 1) < 2 ^ 64) (sym here) put.between.ends)
+      subst (λ (x : Wanted). get_or (set places n a) k 0 + (x.extent.size - 1) < 2 ^ 64) (sym own)
+      (subst (λ b. b + ((get_or wanted n w).extent.size - 1) < 2 ^ 64) (sym here) low)
   | inr other ↦
-      subst (λ a. a + ((get_or wanted k v).extent.size - 1) < 2 ^ 64) (sym (get_or-set_other places n k s.at 0 other)) (ends k v (omega (arith, less, other)))
+      subst (λ b. b + ((get_or wanted k v).extent.size - 1) < 2 ^ 64) (sym (get_or-set_other places n k a 0 other)) (ends k v (omega (arith, less, other)))
 ]
 
 -- ---- all of it
@@ -120,63 +114,30 @@ placing_none lists wanted taken places cursors listed count long each = record {
   ends = λ k w less. absurd (let no : ⊥ = omega (arith, less) in no);
 }
 
-pub placing_next : (lists : List (List Range)) (start : List DecodedRange) (wanted : List Wanted) (taken : List Range) (places : List ℕ) (cursors : List Cursor) (n : ℕ)
-    → IsPlacing lists start wanted taken places cursors n → All (HasListAt (length lists)) wanted → n < length wanted → (w : Wanted) (s : Start)
-    → Some s.spot.at ≡ first_place (ranges_at lists (get_or wanted n w)) (map decoded_range_of taken) (extent_value (get_or wanted n w).extent)
-    → (new : List Range) → AreRisingRanges new → IsPutIn taken new (get_or wanted n w).extent s.spot
-    → IsStart (get_or lists (get_or wanted n w).list []) new (get_or wanted n w).extent s
-    → IsPlacing lists start wanted new (set places n s.spot.at) (set cursors (get_or wanted n w).list (record { extent = (get_or wanted n w).extent; start = s })) (n + 1)
-placing_next lists start wanted taken places cursors n is lawful within w s found new listed put begun = record {
-  so_far = so_far_next lists start wanted taken places n (length lists) is.so_far lawful within w s.spot found new listed put;
-  search = cursors_next lists taken new (get_or wanted n w).extent s.spot cursors (get_or wanted n w).list _ is.so_far.listed put is.search (lawful n w within).list
-      (record { extent = (lawful n w within).extent; start = begun });
-  ends = ends_next wanted places n is.ends within is.so_far.count w taken new s.spot put;
+pub placing_next : (lists : List (List Range)) (start : List DecodedRange) (wanted : List Wanted) (taken : List Range) (places : List ℕ) (cursors : List Cursor) (n count : ℕ)
+    → IsPlacing lists start wanted taken places cursors n → All (HasListAt count) wanted → n < length wanted → (w : Wanted) (a : ℕ)
+    → Some a ≡ wanted_place lists (map decoded_range_of taken) (get_or wanted n w)
+    → (new : List Range) → AreRisingRanges new → IsTakenAt taken new (get_or wanted n w).extent a → (others : List Cursor) → AreCursors lists new others
+    → IsPlacing lists start wanted new (set places n a) others (n + 1)
+placing_next lists start wanted taken places cursors n count is lawful within w a found new listed put others search = record {
+  so_far = so_far_next lists start wanted taken places n count is.so_far lawful within w a found new listed put;
+  search = search;
+  ends = ends_next wanted places n is.ends within is.so_far.count w a put.ends;
 }
 
--- ---- the next item, where its list is one of a table
+-- ---- where a list is searched next
 
-pub none_if : (found : Bool) (a : ℕ) (o : Option ℕ) → found ≡ false → place_if found a ≡ o → None ≡ o
-none_if true a o is same = absurd (true≢false is)
-none_if false a o is same = same
-
-pub some_if : (found : Bool) (a : ℕ) (o : Option ℕ) → found ≡ true → place_if found a ≡ o → Some a ≡ o
-some_if true a o is same = same
-some_if false a o is same = absurd (false≢true is)
-
-module _ {V : Type 0} (f : V → List Range) (lists : List V) (start : List DecodedRange) (wanted : List Wanted) (taken : List Range) (places : List ℕ) (cursors : List Cursor) (n : ℕ)
-    (is : IsPlacing (map f lists) start wanted taken places cursors n) (lawful : All (HasListAt (length lists)) wanted) (within : n < length wanted) (w : Wanted)
-    (v : V) (ranges : List Range) (v_is : v ≡ get_or lists (get_or wanted n w).list v) (ranges_are : ranges ≡ f v) where
-  abbrev own : Wanted
-  own = get_or wanted n w
-
-  inside : own.list < length lists
-  inside = (lawful n w within).list
-
+module _ {V : Type 0} (f : V → List Range) (lists : List V) (taken : List Range) (cursors : List Cursor) (search : AreCursors (map f lists) taken cursors) (own : Wanted) (lawful : HasListAt (length lists) own)
+    (v : V) (ranges : List Range) (v_is : v ≡ get_or lists own.list v) (ranges_are : ranges ≡ f v) where
   here : ranges ≡ get_or (map f lists) own.list []
-  here = ranges_are ∙ ap f v_is ∙ sym (get_or-map f lists own.list v [] inside)
+  here = ranges_are ∙ ap f v_is ∙ sym (get_or-map f lists own.list v [] lawful.list)
 
-  lawful_too : All (HasListAt (length (map f lists))) wanted
-  lawful_too = subst (λ m. All (HasListAt m) wanted) (sym (length-map lists f)) lawful
-
-  pub start_here : (c : Cursor) → c ≡ get_or cursors own.list c → (s : Start) → ((rs ts : List Range) → IsCursor rs ts c → IsStart rs ts own.extent s) → IsStart ranges taken own.extent s
-  start_here c c_is s begins =
-      begins ranges taken
-      (subst (λ rs. IsCursor rs taken c) (sym here)
-      (subst (IsCursor (get_or (map f lists) own.list []) taken) (sym c_is) (is.search.each own.list c (let long = length-map lists f in let less = inside in omega (arith, long, less)))))
-
-  pub lacks_here : (found : Bool) (a : ℕ) → found ≡ false → place_if found a ≡ first_place (map decoded_range_of ranges) (map decoded_range_of taken) (extent_value own.extent)
-      → (rs : Item → List DecodedRange) (items : List Item) → AreWanted (map f lists) rs items wanted → place_all rs start items ≡ placing_of items places (Some n)
-  lacks_here found a not place =
-      so_far_lacks (map f lists) start wanted taken places n is.so_far within w
-      (subst (λ rs. None ≡ first_place (map decoded_range_of rs) (map decoded_range_of taken) (extent_value own.extent)) here (none_if found a _ not place))
-
-  pub next_here : (s : Start) (found : Bool) → found ≡ true → place_if found s.spot.at ≡ first_place (map decoded_range_of ranges) (map decoded_range_of taken) (extent_value own.extent)
-      → (new : List Range) → AreRisingRanges new → IsTakenBy taken new own.extent s.spot found → IsStart ranges new own.extent s
-      → IsPlacing (map f lists) start wanted new (set places n s.spot.at) (set cursors own.list (record { extent = own.extent; start = s })) (n + 1)
-  next_here s found so place new listed put begun =
-      placing_next (map f lists) start wanted taken places cursors n is lawful_too within w s
-      (subst (λ rs. Some s.spot.at ≡ first_place (map decoded_range_of rs) (map decoded_range_of taken) (extent_value own.extent)) here (some_if found s.spot.at _ so place))
-      new listed (subst (IsTakenBy taken new own.extent s.spot) so put) (subst (λ rs. IsStart rs new own.extent s) here begun)
+  pub cursors_here : AreRisingRanges taken → (s : Start) (found : Bool) → found ≡ true → (new : List Range) → IsTakenBy taken new own.extent s.spot found → IsStart ranges new own.extent s
+      → AreCursors (map f lists) new (set cursors own.list (record { extent = own.extent; start = s }))
+  cursors_here listed s found so new put begun =
+      cursors_next (map f lists) taken new own.extent s.spot cursors own.list _ listed (subst (IsTakenBy taken new own.extent s.spot) so put) search
+      (let long = length-map lists f in let less = lawful.list in omega (arith, long, less))
+      (record { extent = lawful.extent; start = subst (λ rs. IsStart rs new own.extent s) here begun })
 
 -- ---- before any is placed
 
@@ -196,3 +157,20 @@ first_more old new c n are is put = record {
     one : (P : Cursor → Type 0) (c : Cursor) → P c → All P (c ∷ [])
     one P c here zero d less = here
     one P c here (suc k) d less = absurd (let no : ⊥ = omega (arith, less) in no)
+
+-- the first of them are searched from the beginning again
+pub record AreRestarted (old new : List Cursor) (n : ℕ) : Type 0 where
+  pub count : length new ≡ length old
+  pub each : (ranges taken : List Range) (k : ℕ) (d : Cursor) → k < n → IsCursor ranges taken (get_or new k d)
+
+pub restarted_none : (old : List Cursor) → AreRestarted old old 0
+restarted_none old = record { count = refl; each = λ ranges taken k d less. absurd (let no : ⊥ = omega (arith, less) in no) }
+
+pub restarted_more : (old new : List Cursor) (n : ℕ) → AreRestarted old new n → n < length new → (c : Cursor) → ((ranges taken : List Range) → IsCursor ranges taken c) → AreRestarted old (set new n c) (n + 1)
+restarted_more old new n was within c is = record {
+  count = length-set new n c ∙ was.count;
+  each = λ ranges taken k d less. elim (cases_eq k n) [
+    | inl same ↦ subst (λ m. IsCursor ranges taken (get_or (set new n c) m d)) (sym same) (subst (IsCursor ranges taken) (sym (get_or-set_same new n c d within)) (is ranges taken))
+    | inr other ↦ subst (IsCursor ranges taken) (sym (get_or-set_other new n k c d other)) (was.each ranges taken k d (omega (arith, less, other)))
+  ];
+}

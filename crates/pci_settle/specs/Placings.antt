@@ -1,8 +1,8 @@
--- Items at the places of a table, each of them wanted in one of many lists of ranges.
-use Rattle.std.specs.Prelude.{ℕ, ◌≡◌, ◌<◌, ◌^◌, List, [], ◌∷◌, map, length, drop, slice_index_or, Option, None, Some}
+-- Items at the places of a table, each of them wanted at a place that is told, or in one of many lists of ranges.
+use Rattle.std.specs.Prelude.{ℕ, ◌≡◌, ◌<◌, ◌^◌, List, [], ◌∷◌, map, length, drop, slice_index_or, Option, None, Some, IfSome}
 use Rattle.pci_spec.specs.Decoded.{Range as DecodedRange}
 use Rattle.plan_spec.specs.Place.{range_from}
-use Rattle.settle_spec.specs.FirstPlace.{Extent}
+use Rattle.settle_spec.specs.FirstPlace.{Extent, else_at, first_place}
 use Rattle.settle_spec.specs.Items.{Item, Placed, Placing, AllPlaced, Lacks}
 use Rattle.pci_base.specs.declared.range.Range.{Range}
 use Rattle.pci_base.specs.Ranges.{decoded_range_of}
@@ -15,27 +15,43 @@ item_extent i = i.extent
 
 -- ---- what is wanted
 
--- there is such a list
+-- there is such a list, and a place that is told ends in 64 bits
 pub record HasListAt (lists : ℕ) (w : Wanted) : Type 0 where
   pub extent : IsExtent w.extent
   pub list : w.list < lists
+  pub ends : IfSome w.at (λ a. (range_from a w.extent.size).last < 2 ^ 64)
 
--- an item has this extent, and the ranges of this list
-pub record IsWanted (lists : List (List Range)) (ranges : Item → List DecodedRange) (i : Item)
-    (w : Wanted) : Type 0 where
+-- the first place in the ranges of a list
+abbrev pub place_by_list : List (List Range) → List DecodedRange → Wanted → Option ℕ
+place_by_list lists taken w =
+    first_place (map decoded_range_of (slice_index_or lists w.list [])) taken (extent_value w.extent)
+
+-- the place that is told, or else that
+abbrev pub wanted_place : List (List Range) → List DecodedRange → Wanted → Option ℕ
+wanted_place lists taken w = else_at w.at (place_by_list lists taken w)
+
+-- an item has this extent, and this place is found for it, whatever is taken
+pub record IsWanted (lists : List (List Range)) (find : Item → List DecodedRange → Option ℕ)
+    (i : Item) (w : Wanted) : Type 0 where
   pub extent : i.extent ≡ extent_value w.extent
-  pub list : ranges i ≡ map decoded_range_of (slice_index_or lists w.list [])
+  pub place : (taken : List DecodedRange) → find i taken ≡ wanted_place lists taken w
 
-pub record AreWanted (lists : List (List Range)) (ranges : Item → List DecodedRange)
+pub record AreWanted (lists : List (List Range)) (find : Item → List DecodedRange → Option ℕ)
     (items : List Item) (wanted : List Wanted) : Type 0 where
   pub count : length items ≡ length wanted
   pub each : (k : ℕ) (i : Item) (w : Wanted) → k < length wanted
-      → IsWanted lists ranges (slice_index_or items k i) (slice_index_or wanted k w)
+      → IsWanted lists find (slice_index_or items k i) (slice_index_or wanted k w)
 
 -- a list can be searched for this extent from there on
 pub record IsCursor (ranges taken : List Range) (c : Cursor) : Type 0 where
   pub extent : IsExtent c.extent
   pub start : IsStart ranges taken c.extent c.start
+
+-- each list has its cursor
+pub record AreCursors (lists : List (List Range)) (taken : List Range) (cursors : List Cursor) : Type 0 where
+  pub count : length cursors ≡ length lists
+  pub each : (k : ℕ) (d : Cursor) → k < length lists
+      → IsCursor (slice_index_or lists k []) taken (slice_index_or cursors k d)
 
 -- ---- places
 

@@ -82,3 +82,10 @@ pub record IsPutIn (old new : List Range) (e : Extent) (s : Spot) : Type 0 where
 abbrev pub IsTakenBy : List Range → List Range → Extent → Spot → Bool → Type 0
 IsTakenBy old new e s true = IsPutIn old new e s
 IsTakenBy old new e s false = new ≡ old
+
+-- the addresses of an extent are taken, whether they were free or not
+pub record IsTakenAt (old new : List Range) (e : Extent) (a : ℕ) : Type 0 where
+  pub index : ℕ
+  pub within : index ≤ length old
+  pub ends : (range_from a e.size).last < 2 ^ 64
+  pub put : new ≡ insert old index (extent_range e a)

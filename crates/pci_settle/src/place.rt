@@ -31,6 +31,20 @@ const NONE: Places = Places {
 };
 
 impl Places {
+    /// The place of an item of a class.
+    fn get(&self, class: WindowKind, part: Part) -> Option<u64>
+        ensures { result ≡ place_in self.now (class_part (kind_value class) part) }
+    {
+        match part {
+            Part::Bar(n) => match self.bars.get(usize::from(n)) {
+                Some(at) => *at,
+                None => None,
+            },
+            Part::Rom => self.rom,
+            Part::Window => *self.windows.get(class),
+        }
+    }
+
     /// Sets the place of an item of a class.
     fn set(&mut self, class: WindowKind, part: Part, at: u64)
         requires { IsItemPart part }
@@ -61,6 +75,17 @@ pub fn no_places<A: Allocator>(alloc: A, functions: usize) -> Result<Vec<Places,
         table.push(NONE)?;
     }
     Ok(table)
+}
+
+/// The place that a table tells of an item of a class.
+pub fn place_of(table: &[Places], class: WindowKind, item: &Item) -> Option<u64>
+    ensures { result ≡ placed table.now item.now.function
+        (class_part (kind_value class) item.now.part) }
+{
+    match table.get(item.function) {
+        Some(places) => places.get(class, item.part),
+        None => None,
+    }
 }
 
 /// Puts the place of an item of a class into a table.

@@ -1,15 +1,18 @@
-//! Extents get their first places one after another, each place being taken for those that follow.
+//! Extents get their places one after another, each place being taken for those that follow: a place that is told, or the
+//! first one in a list of ranges.
 //!
 //! They come by falling alignment and size, so those of one extent come one after another: what one of them didn't
 //! find free isn't free for the next, and its search goes on where the last one in its list was placed.
-ghost use Rattle.std.specs.Prelude.{◌≡◌, ◌<◌, IfOk, IfSome, IfNone, List, length, map};
+ghost use Rattle.std.specs.Prelude.{◌≡◌, ℕ, ◌≤◌, ◌<◌, ◌^◌, IfOk, OnOk, IfSome, IfNone, List, Option, length, map, slice_index_or};
 ghost use Rattle.std.specs.List.{All};
 ghost use Rattle.pci_spec.specs.Decoded.{Range as DecodedRange};
+ghost use Rattle.plan_spec.specs.Place.{range_from};
 ghost use Rattle.settle_spec.specs.FirstPlace.{first_place as place_in_ranges};
-ghost use Rattle.settle_spec.specs.Items.{Item, place_all as items_placed};
+ghost use Rattle.settle_spec.specs.Items.{Item};
+ghost use Rattle.settle_spec.specs.Growth.{place_each};
 ghost use Rattle.pci_base.specs.Ranges.{decoded_range_of};
-ghost use Rattle.pci_settle.specs.Spots.{extent_value, IsExtent, AreRisingRanges, IsTakenBy, IsStart, place_if};
-ghost use Rattle.pci_settle.specs.Placings.{HasListAt, AreWanted, AreEnding, IsCursor, placing_of};
+ghost use Rattle.pci_settle.specs.Spots.{extent_value, IsExtent, FirstsRise, AreRisingRanges, IsTakenBy, IsTakenAt, IsStart, place_if};
+ghost use Rattle.pci_settle.specs.Placings.{HasListAt, place_by_list, wanted_place, AreWanted, AreEnding, IsCursor, AreCursors, placing_of};
 
 use crate::extent::Extent;
 use crate::spot::{Start, first_place};
@@ -17,12 +20,14 @@ use pci_base::memory::OutOfMemory;
 use pci_base::range::Range;
 use std::alloc::Allocator;
 
-/// An extent that is to be placed, and the list of ranges that it can have.
+/// An extent that is to be placed.
 #[derive(Clone, Copy, Debug, PartialEq, Eq)]
 pub struct Wanted {
     pub extent: Extent,
-    /// Which of the lists.
+    /// Which of the lists of ranges it can have.
     pub list: usize,
+    /// Its place, where that is told: no list is searched for it then.
+    pub at: Option<u64>,
 }
 
 /// Where in a list the last extent was placed.
@@ -103,8 +108,103 @@ fn cursors_for<A: Allocator>(alloc: A, lists: usize) -> Result<Vec<Cursor, A>, O
     Ok(cursors)
 }
 
-/// Gives each extent its first place in its list of ranges, what is taken and those before it being taken. The answer
-/// is None where all have one, else the index of the first that has none.
+/// Every list is searched from its beginning again.
+fn restart(cursors: &mut [Cursor])
+    ensures count { length cursors.new ≡ length cursors.old }
+    ensures cursors { (ranges taken : List Range) → All (IsCursor ranges taken) cursors.new }
+{
+    for index in 0..cursors.len() {
+        cursors[index] = Cursor::first();
+    }
+}
+
+/// The index of the first range that begins at an address or above it.
+fn first_from(taken: &[Range], at: u64) -> usize
+    requires { FirstsRise taken.now }
+    ensures bound { result ≤ length taken.now }
+    ensures before { (k : ℕ) → (d : Range) → k < result → (slice_index_or taken.now k d).first < at }
+    ensures after { (k : ℕ) → (d : Range) → result ≤ k → k < length taken.now
+        → at ≤ (slice_index_or taken.now k d).first }
+{
+    taken.partition_point(|range| range.first < at)
+}
+
+/// Takes the addresses of an extent from an address on.
+fn take_at<A: Allocator>(
+    taken: &mut Vec<Range, A>,
+    extent: Extent,
+    at: u64,
+) -> Result<(), OutOfMemory>
+    requires extent { IsExtent extent }
+    requires ends { (range_from at extent.size).last < 2 ^ 64 }
+    requires listed { AreRisingRanges taken.old.items }
+    ensures taken { OnOk result (IsTakenAt taken.old.items taken.new.items extent at) }
+    ensures listed { AreRisingRanges taken.new.items }
+{
+    let last = at + (extent.size - 1);
+    let index = first_from(taken.as_slice(), at);
+    taken.insert(index, Range { first: at, last })?;
+    Ok(())
+}
+
+/// Gives an extent its first place in its list of ranges, which is taken from then on; None where it has none.
+fn place_first<A: Allocator, B: Allocator>(
+    lists: &[Vec<Range, B>],
+    taken: &mut Vec<Range, A>,
+    cursors: &mut [Cursor],
+    wanted: &Wanted,
+) -> Result<Option<u64>, OutOfMemory>
+    requires wanted { HasListAt (length lists.now) wanted.now }
+    requires listed { AreRisingRanges taken.old.items }
+    requires cursors { AreCursors (map (λ list. list.items) lists.now) taken.old.items cursors.old }
+    ensures place { IfOk result (λ place. place ≡ place_by_list (map (λ list. list.items) lists.now)
+        (map decoded_range_of taken.old.items) wanted.now) }
+    ensures taken { IfOk result (λ place. IfSome place
+        (IsTakenAt taken.old.items taken.new.items wanted.now.extent)) }
+    ensures listed { AreRisingRanges taken.new.items }
+    ensures cursors { IfOk result (λ place. IfSome place
+        (λ _. AreCursors (map (λ list. list.items) lists.now) taken.new.items cursors.new)) }
+{
+    let extent = wanted.extent;
+    let mut start = cursors[wanted.list].start_for(extent);
+    if !place_next(&lists[wanted.list], taken, extent, &mut start)? {
+        return Ok(None);
+    }
+    cursors[wanted.list] = Cursor { extent, start };
+    Ok(Some(start.spot.at))
+}
+
+/// Gives an extent the place that is told for it, or else its first place in its list of ranges, and takes it.
+fn place_wanted<A: Allocator, B: Allocator>(
+    lists: &[Vec<Range, B>],
+    taken: &mut Vec<Range, A>,
+    cursors: &mut [Cursor],
+    wanted: &Wanted,
+) -> Result<Option<u64>, OutOfMemory>
+    requires wanted { HasListAt (length lists.now) wanted.now }
+    requires listed { AreRisingRanges taken.old.items }
+    requires cursors { AreCursors (map (λ list. list.items) lists.now) taken.old.items cursors.old }
+    ensures place { IfOk result (λ place. place ≡ wanted_place (map (λ list. list.items) lists.now)
+        (map decoded_range_of taken.old.items) wanted.now) }
+    ensures taken { IfOk result (λ place. IfSome place
+        (IsTakenAt taken.old.items taken.new.items wanted.now.extent)) }
+    ensures listed { AreRisingRanges taken.new.items }
+    ensures cursors { IfOk result (λ place. IfSome place
+        (λ _. AreCursors (map (λ list. list.items) lists.now) taken.new.items cursors.new)) }
+{
+    match wanted.at {
+        Some(at) => {
+            take_at(taken, wanted.extent, at)?;
+            // what is told may be taken where a search has been
+            restart(cursors);
+            Ok(Some(at))
+        }
+        None => place_first(lists, taken, cursors, wanted),
+    }
+}
+
+/// Gives each extent the place that is told for it, or else its first place in its list of ranges, what is taken and those
+/// before it being taken. The answer is None where all have one, else the index of the first that has none.
 pub fn place_all<A: Allocator + Copy, B: Allocator>(
     alloc: A,
     lists: &[Vec<Range, B>],
@@ -118,9 +218,9 @@ pub fn place_all<A: Allocator + Copy, B: Allocator>(
     requires listed { AreRisingRanges taken.old.items }
     // an extent's place stands at its index
     requires count { length places.old ≡ length wanted.now }
-    ensures placing { IfOk result (λ lack. (ranges : Item → List DecodedRange) (items : List Item)
-        → AreWanted (map (λ list. list.items) lists.now) ranges items wanted.now
-        → items_placed ranges (map decoded_range_of taken.old.items) items
+    ensures placing { IfOk result (λ lack. (find : Item → List DecodedRange → Option ℕ) (items : List Item)
+        → AreWanted (map (λ list. list.items) lists.now) find items wanted.now
+        → place_each find (map decoded_range_of taken.old.items) items
         ≡ placing_of items places.new lack) }
     // by it the caller names the part that has no place
     ensures within { IfOk result (λ lack. IfSome lack (λ k. k < length wanted.now)) }
@@ -129,17 +229,13 @@ pub fn place_all<A: Allocator + Copy, B: Allocator>(
         (AreEnding wanted.now places.new (length wanted.now))) }
     ensures listed { AreRisingRanges taken.new.items }
 {
-    let mut cursors = cursors_for(alloc, lists.len())?;
+    let mut table = cursors_for(alloc, lists.len())?;
+    let cursors = table.as_mut_slice();
     for (index, wanted) in wanted.iter().enumerate() {
-        let mut start = cursors[wanted.list].start_for(wanted.extent);
-        if !place_next(&lists[wanted.list], taken, wanted.extent, &mut start)? {
+        let Some(at) = place_wanted(lists, taken, cursors, wanted)? else {
             return Ok(Some(index));
-        }
-        places[index] = start.spot.at;
-        cursors[wanted.list] = Cursor {
-            extent: wanted.extent,
-            start,
         };
+        places[index] = at;
     }
     Ok(None)
 }

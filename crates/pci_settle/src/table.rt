@@ -1,6 +1,6 @@
 //! What is told of windows, by function in slot order.
-ghost use Rattle.std.specs.Prelude.{◌≡◌, ◌<◌, IfOk, length};
-ghost use Rattle.pci_settle.specs.Tables.{told, AreUntold, TellsSame};
+ghost use Rattle.std.specs.Prelude.{◌≡◌, ◌<◌, IfOk, length, slice_index_or};
+ghost use Rattle.pci_settle.specs.Tables.{untold, told, AreUntold, TellsSame};
 
 use pci_base::memory::OutOfMemory;
 use pci_base::range::Range;
@@ -11,7 +11,7 @@ use std::alloc::Allocator;
 pub type WindowRanges = ByKind<Option<Range>>;
 
 /// Of no window.
-const NONE: WindowRanges = ByKind {
+pub const NONE: WindowRanges = ByKind {
     io: None,
     memory: None,
     prefetchable: None,
@@ -33,14 +33,21 @@ pub fn nothing_told<A: Allocator>(
     Ok(table)
 }
 
+/// What a table tells of the windows of a function.
+pub fn ranges_told(table: &[WindowRanges], function: usize) -> &WindowRanges
+    ensures { result.now ≡ slice_index_or table.now function untold }
+{
+    match table.get(function) {
+        Some(ranges) => ranges,
+        None => &NONE,
+    }
+}
+
 /// What a table tells of a window.
 pub fn told_of(table: &[WindowRanges], function: usize, class: WindowKind) -> Option<Range>
     ensures { result ≡ told table.now function class }
 {
-    match table.get(function) {
-        Some(ranges) => *ranges.get(class),
-        None => None,
-    }
+    *ranges_told(table, function).get(class)
 }
 
 /// Tells the addresses of a window.

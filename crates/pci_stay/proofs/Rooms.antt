@@ -18,7 +18,10 @@ use Rattle.settle_spec.specs.Lists.{Request}
 use Rattle.settle_spec.specs.Parts.{FunctionPart, system_parts, function_parts, parts_of, is_part, header_parts, addresses, are_same_space}
 use Rattle.settle_spec.specs.Stands.{window_part, part_space}
 use Rattle.settle_spec.specs.Items.{Item as ItemValue, bus_items, new_window, taken_on, are_placed, place_all, has_places}
+use Rattle.settle_spec.specs.FirstPlace.{first_place}
+use Rattle.settle_spec.specs.Growth.{place_each}
 use Rattle.settle_spec.proofs.SameTaken.{HaveSame, same_places}
+use Rattle.settle_laws.proofs.EachPlaced.{each_all}
 use Rattle.pci_base.specs.declared.range.Range.{Range}
 use Rattle.pci_base.specs.Ranges.{decoded_range_of}
 use Rattle.pci_base.specs.Space.{space_of}
@@ -124,13 +127,13 @@ placed_where items places (Some k) false none within = lacking items k within
 -- each item is wanted in a list
 pub wanted_lawful : (items : List Item) → All HasExtent items → (wanted : List Wanted) → wanted ≡ map wanted_value items → (lists : ℕ) → lists ≡ 1 → All (HasListAt lists) wanted
 wanted_lawful items lawful wanted is lists one =
-    subst (All (HasListAt lists)) (sym is) (All-map (HasListAt lists) wanted_value items (λ n d within. record { extent = lawful n d within; list = omega (arith, one) }))
+    subst (All (HasListAt lists)) (sym is) (All-map (HasListAt lists) wanted_value items (λ n d within. record { extent = lawful n d within; list = omega (arith, one); ends = tt }))
 
 module _ (l : Listing) (rs : List CodeRegion) (range : Range)
     (items : List Item) (turn : AreInTurn l items) (lawful : All HasExtent items) (wanted : List Wanted) (wanted_is : wanted ≡ map wanted_value items)
     (taken : List Range) (moved : IsPermutation (map region_range (filter (is_taken_on l.bus (window_space l.class) l.kept) rs)) taken)
     (lists : List (List Range)) (lists_are : lists ≡ (range ∷ []) ∷ []) (places : List ℕ) (lack : Option ℕ) (within : IfSome lack (λ k. k < length wanted))
-    (placing : (ranges : ItemValue → List decoded.Range) (all : List ItemValue) → AreWanted lists ranges all wanted → place_all ranges (map decoded_range_of taken) all ≡ placing_of all places lack) where
+    (placing : (find : ItemValue → List decoded.Range → Option ℕ) (all : List ItemValue) → AreWanted lists find all wanted → place_each find (map decoded_range_of taken) all ≡ placing_of all places lack) where
   abbrev values : List ItemValue
   values = map (asked_item_value l.classing.system l.class) items
 
@@ -144,20 +147,25 @@ module _ (l : Listing) (rs : List CodeRegion) (range : Range)
     values_are : values ≡ bus_items q l.classing.system l.class keeps is.extent l.bus
     values_are = turn record { request = q; keeps = keeps; extent = is.extent } is.listed
 
-    are_wanted : AreWanted lists in_window values wanted
+    abbrev first_in_window : ItemValue → List decoded.Range → Option ℕ
+    first_in_window i xs = first_place (in_window i) xs i.extent
+
+    are_wanted : AreWanted lists first_in_window values wanted
     are_wanted = record {
       count = length-map items (asked_item_value l.classing.system l.class) ∙ sym long;
       each = λ k i w less. each k i w (let size = long in omega (arith, less, size));
     }
       where
-        each : (k : ℕ) (i : ItemValue) (w : Wanted) → k < length items → IsWanted lists in_window (get_or values k i) (get_or wanted k w)
+        each : (k : ℕ) (i : ItemValue) (w : Wanted) → k < length items → IsWanted lists first_in_window (get_or values k i) (get_or wanted k w)
         each k i w less =
             let item = item_at items k less in
             let value : get_or values k i ≡ asked_item_value l.classing.system l.class item.0 = get_or-map (asked_item_value l.classing.system l.class) items k item.0 i less ∙ ap (asked_item_value l.classing.system l.class) item.1 in
             let want : get_or wanted k w ≡ wanted_value item.0 = ap (λ ws. get_or ws k w) wanted_is ∙ get_or-map wanted_value items k item.0 w less ∙ ap wanted_value item.1 in
-            subst (λ x. IsWanted lists in_window x (get_or wanted k w)) (sym value) (subst (IsWanted lists in_window (asked_item_value l.classing.system l.class item.0)) (sym want) record {
+            subst (λ x. IsWanted lists first_in_window x (get_or wanted k w)) (sym value) (subst (IsWanted lists first_in_window (asked_item_value l.classing.system l.class item.0)) (sym want) record {
               extent = refl;
-              list = ap (λ r. r ∷ []) (sym is.range_is) ∙ sym (ap (λ ls. map decoded_range_of (get_or ls 0 [])) lists_are);
+              place = λ xs.
+                  ap (λ rs. first_place rs xs (asked_item_value l.classing.system l.class item.0).extent)
+                  (ap (λ r. r ∷ []) (sym is.range_is) ∙ sym (ap (λ ls. map decoded_range_of (get_or ls 0 [])) lists_are));
             })
 
     aligned : (i : ItemValue) → Contains values i → 0 < i.extent.alignment
@@ -170,7 +178,8 @@ module _ (l : Listing) (rs : List CodeRegion) (range : Range)
     room_is all none =
         let found = map region_range (filter (is_taken_on l.bus (window_space l.class) l.kept) rs) in
         sym (placed_where values places lack all none (within_values lack within))
-        ∙ ap are_placed (sym (placing in_window values are_wanted))
+        ∙ ap are_placed (sym (placing first_in_window values are_wanted))
+        ∙ ap are_placed (each_all in_window (map decoded_range_of taken) values)
         ∙ ap are_placed (sym (same_places in_window values (map decoded_range_of found) (map decoded_range_of taken) aligned (have_same found taken moved)))
         ∙ ap (λ xs. are_placed (place_all in_window xs values)) (taken_is q l.classing.system l.class keeps rs l.kept is.parts is.listed.keeps_is l.bus is.no_root)
         ∙ ap (λ xs. are_placed (place_all in_window (taken_on q l.classing.system l.class keeps l.bus) xs)) values_are

@@ -1,5 +1,5 @@
 -- What is taken on a bus, and the room that a window has for what is behind it.
-use Rattle.std.specs.Prelude.{◌≡◌, ℕ, ◌==◌, Bool, ◌&&◌, IsFalse, List, [], ◌∷◌, slice_index_or}
+use Rattle.std.specs.Prelude.{◌≡◌, ℕ, ◌==◌, Bool, ◌&&◌, IsFalse, List, [], ◌∷◌, None, slice_index_or}
 use Rattle.pci_spec.specs.Window.{WindowKind}
 use Rattle.pci_spec.specs.Decoded.{Range as DecodedRange}
 use Rattle.pci_spec.specs.System.{System, Function, Space, IsSystem}
@@ -41,7 +41,7 @@ is_taken_on bus space table r = bus == r.bus && is_taken space table r
 -- ---- room
 
 abbrev pub wanted_value : Item → Wanted
-wanted_value i = record { extent = i.extent; list = 0 }
+wanted_value i = record { extent = i.extent; list = 0; at = None }
 
 -- with these extents of new windows a range has room for the items of a bus exactly where it has with their own
 abbrev pub HasSameRoom : Request → System → WindowKind → (FunctionPart → Bool) → (Function → ExtentValue) → DecodedRange → ℕ → Type 0

@@ -44,6 +44,7 @@ fn wanted_of<A: Allocator>(alloc: A, items: &[Item]) -> Result<Vec<Wanted, A>, O
         wanted.push(Wanted {
             extent: item.extent,
             list: 0,
+            at: None,
         })?;
     }
     Ok(wanted)
