@@ -18,6 +18,7 @@ pub mod Ranks
 pub mod Probes
 pub mod Sized
 pub mod Anew
+pub mod AsItStands
 pub mod OnBus
 pub mod Marked
 pub mod NewWindows

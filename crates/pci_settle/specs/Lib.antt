@@ -7,6 +7,7 @@ pub mod Kept
 pub mod Tables
 pub mod PlaceTables
 pub mod Over
+pub mod Keeping
 pub mod Own
 pub mod Buses
 pub mod NewWindows

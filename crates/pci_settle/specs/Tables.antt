@@ -1,5 +1,5 @@
 -- What is told of windows, by function in slot order.
-use Rattle.std.specs.Prelude.{◌≡◌, ℕ, List, Option, None, slice_index_or}
+use Rattle.std.specs.Prelude.{◌≡◌, ℕ, ◌≤◌, List, Option, None, IfSome, slice_index_or}
 use Rattle.std.specs.List.{All}
 use Rattle.pci_base.specs.declared.range.Range.{Range}
 use Rattle.pci_base.specs.declared.window_kind.WindowKind.{WindowKind}
@@ -23,3 +23,8 @@ abbrev pub TellsSame : List (ByKind (Option Range)) → List (ByKind (Option Ran
 TellsSame old new function class =
     (k : ℕ) (other : WindowKind) → ((k ≡ function) → (other ≡ class) → ⊥)
     → told new k other ≡ told old k other
+
+-- the ranges that it tells have addresses
+abbrev pub AreForward : List (ByKind (Option Range)) → Type 0
+AreForward table =
+    (k : ℕ) (class : WindowKind) → IfSome (told table k class) (λ r. r.first ≤ r.last)

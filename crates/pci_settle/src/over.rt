@@ -9,6 +9,8 @@ ghost use Rattle.pci_tree.specs.Passes.{range_in};
 ghost use Rattle.pci_settle.specs.Over.{range_holds, no_windows};
 
 use crate::kept::Kept;
+use crate::place::Places;
+use crate::table::WindowRanges;
 use pci_base::range::Range;
 use pci_base::window_kind::WindowKind;
 use pci_image::window::Windows;
@@ -37,13 +39,17 @@ pub struct Over {
     pub windows: OpenWindows,
 }
 
-/// What is left where it stands.
+/// What is left where it stands, or grows there.
 #[derive(Clone, Copy, Debug)]
 pub struct Left<'a> {
     /// The open windows over each bus; empty where all is placed anew.
     pub over: &'a [OpenWindows],
     /// The parts of each function that keep their places, in slot order; empty where none does.
     pub kept: &'a [Kept],
+    /// What the windows of each function that grow come to; empty where none grows.
+    pub grown: &'a [WindowRanges],
+    /// The places of the items in windows that grow; empty where none grows.
+    pub places: &'a [Places],
 }
 
 /// Whether a range lies in another.

@@ -6,7 +6,8 @@ ghost use Rattle.pci_base.specs.Space.{space_of};
 ghost use Rattle.pci_place.specs.Above.{system_in};
 ghost use Rattle.pci_settle.specs.Lists.{lists_value};
 ghost use Rattle.pci_settle.specs.Spots.{AreRisingRanges};
-ghost use Rattle.pci_stand.specs.Held.{is_kept, held_of, held_level, held_range, is_level_on, AreByLevel, AreHeldIn};
+ghost use Rattle.pci_settle.specs.Tables.{AreForward};
+ghost use Rattle.pci_stand.specs.Held.{is_kept, kept_range, held_of, held_level, held_range, is_level_on, AreByLevel, AreHeldIn};
 
 use crate::collect::regions;
 use crate::region::Region;
@@ -14,9 +15,10 @@ use pci_base::memory::OutOfMemory;
 use pci_base::range::Range;
 use pci_base::space::Space;
 use pci_settle::bus::kept_by;
-use pci_settle::kept::Kept;
+use pci_settle::kept::{Kept, Part};
 use pci_settle::list::Lists;
 use pci_settle::spot::sort_by_first;
+use pci_settle::table::{WindowRanges, told_of};
 use pci_tree::admitted::Admitted;
 use std::alloc::Allocator;
 
@@ -36,21 +38,36 @@ fn is_kept(kept: &[Kept], region: &Region) -> bool
     kept_by(kept, region.function).keeps(region.part)
 }
 
+/// The addresses of a part that stays: what it comes to where it grows, or its own.
+fn kept_range(grown: &[WindowRanges], region: &Region) -> Range
+    ensures { result ≡ kept_range grown.now region.now }
+{
+    let told = match region.part {
+        Part::Window(class) => told_of(grown, region.function, class),
+        Part::Bar(_) | Part::Rom => None,
+    };
+    match told {
+        Some(range) => range,
+        None => region.range,
+    }
+}
+
 /// Adds the addresses of the parts that keep their places.
 fn add_held<A: Allocator>(
     held: &mut Vec<Held, A>,
     regions: &[Region],
     kept: &[Kept],
+    grown: &[WindowRanges],
 ) -> Result<(), OutOfMemory>
     ensures { OnOk result (held.new.items
-        ≡ held.old.items ++ map held_of (filter (is_kept kept.now) regions.now)) }
+        ≡ held.old.items ++ map (held_of grown.now) (filter (is_kept kept.now) regions.now)) }
 {
     for region in regions {
         if is_kept(kept, region) {
             held.push(Held {
                 level: region.level,
                 space: region.space,
-                range: region.range,
+                range: kept_range(grown, region),
             })?;
         }
     }
@@ -65,15 +82,18 @@ fn sort_by_level<A: Allocator>(held: &mut Vec<Held, A>)
     held.sort_unstable_by_key(|one| one.level);
 }
 
-/// The addresses of all parts that keep their places, by rising levels.
+/// The addresses of all parts that keep their places, by rising levels: of a window that grows those to which it does.
 pub fn held_parts<A: Allocator + Copy, B: Allocator>(
     alloc: A,
     admitted: &Admitted<B>,
     lists: &Lists,
     kept: &[Kept],
+    grown: &[WindowRanges],
 ) -> Result<Vec<Held, A>, OutOfMemory>
+    // what is free lies between two ranges that have addresses
+    requires { AreForward grown.now }
     ensures held { IfOk result (λ held. AreHeldIn admitted.now.roots (system_in admitted.now)
-        (lists_value lists.now) kept.now held.items) }
+        (lists_value lists.now) kept.now grown.now held.items) }
     // those of a bus are found by halving
     ensures order { IfOk result (λ held. AreByLevel held.items) }
 {
@@ -82,7 +102,7 @@ pub fn held_parts<A: Allocator + Copy, B: Allocator>(
         return Ok(held);
     }
     let regions = regions(alloc, admitted, lists, &[])?;
-    add_held(&mut held, regions.as_slice(), kept)?;
+    add_held(&mut held, regions.as_slice(), kept, grown)?;
     sort_by_level(&mut held);
     Ok(held)
 }
