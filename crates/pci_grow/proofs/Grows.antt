@@ -44,12 +44,12 @@ six_off (suc (suc (suc (suc zero)))) = refl
 six_off (suc (suc (suc (suc (suc zero))))) = refl
 six_off (suc (suc (suc (suc (suc (suc n)))))) = refl
 
-code_kind : WindowKind → CodeKind
+pub code_kind : WindowKind → CodeKind
 code_kind IoWindow = Io
 code_kind MemoryWindow = Memory
 code_kind PrefetchWindow = Prefetchable
 
-kind_back : (c : WindowKind) → kind_value (code_kind c) ≡ c
+pub kind_back : (c : WindowKind) → kind_value (code_kind c) ≡ c
 unfolding code_kind
 kind_back IoWindow = refl
 kind_back MemoryWindow = refl

@@ -40,3 +40,4 @@ pub mod Taking
 pub mod Rowing
 pub mod ThereGrows
 pub mod Growable
+pub mod TellsGrowing

@@ -3,12 +3,12 @@ ghost use Rattle.std.specs.Prelude.{◌≡◌, IfOk, length};
 ghost use Rattle.pci_settle.specs.PlaceTables.{ArePlaceless};
 ghost use Rattle.pci_settle.specs.Tables.{AreUntold};
 
-use pci_settle::place::no_places;
-use pci_settle::table::nothing_told;
 use crate::there::There;
 use pci_base::memory::OutOfMemory;
 use pci_base::window_kind::ByKind;
 use pci_settle::kept::Kept;
+use pci_settle::place::no_places;
+use pci_settle::table::nothing_told;
 use std::alloc::Allocator;
 
 /// Marks of a function as another one has them.

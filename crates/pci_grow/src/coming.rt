@@ -23,8 +23,7 @@ ghost use Rattle.pci_grow.specs.Telling.{setting_value, IsGrowing, IsWindowOf, I
 use crate::around::{Around, places_around};
 use crate::beside::row;
 use crate::halves::grown_to;
-use crate::putting::put_all;
-use pci_settle::table::{WindowRanges, tell};
+use crate::put_all::put_all;
 use crate::there::{There, held_with, held_with_places, in_row, there_in};
 use pci_base::memory::OutOfMemory;
 use pci_base::range::Range;
@@ -37,6 +36,7 @@ use pci_settle::extent::Extent;
 use pci_settle::item::Item;
 use pci_settle::kept::{Kept, Part as KeptPart};
 use pci_settle::listing::{Classing, Listing};
+use pci_settle::table::{WindowRanges, tell};
 use pci_stand::region::Region;
 use std::alloc::Allocator;
 

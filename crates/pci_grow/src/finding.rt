@@ -13,12 +13,12 @@ ghost use Rattle.pci_grow.specs.Telling.{setting_value, IsGrowing, IsComing, IsN
 
 use crate::around::Around;
 use crate::coming::{Coming, Setting, comes_to, note_coming};
-use pci_settle::table::told_of;
 use crate::there::{There, in_row, is_past, later};
 use pci_base::memory::OutOfMemory;
 use pci_base::slot::BUSES;
 use pci_base::window_kind::WindowKind;
 use pci_settle::kept::Part;
+use pci_settle::table::told_of;
 use pci_stand::region::Region;
 use std::alloc::Allocator;
 

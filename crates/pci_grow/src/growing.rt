@@ -1,13 +1,16 @@
 //! What stays where windows grow, from the roots down, and with which addresses.
 ghost use Rattle.std.specs.Prelude.{◌≡◌, IfOk, IfErr, OnOk, length};
 ghost use Rattle.std.specs.List.{All};
-ghost use Rattle.pci_spec.specs.System.{System};
+ghost use Rattle.pci_spec.specs.Bus.{IsNested};
+ghost use Rattle.pci_spec.specs.Sound.{IsInProfile};
+ghost use Rattle.pci_spec.specs.System.{System, IsSystem};
 ghost use Rattle.settle_spec.specs.Lists.{Request};
 ghost use Rattle.settle_spec.specs.Growth.{takes, has_grown};
-ghost use Rattle.settle_spec.specs.Kept.{is_kept};
+ghost use Rattle.settle_spec.specs.Kept.{is_kept, growing as growing_kept};
 ghost use Rattle.pci_tree.specs.Ways.{IsBridgeToBus};
 ghost use Rattle.pci_place.specs.Above.{AreAboves, system_in};
 ghost use Rattle.pci_settle.specs.Buses.{classing_value};
+ghost use Rattle.pci_settle.specs.Keeping.{TellsKept};
 ghost use Rattle.pci_settle.specs.Lists.{lists_value};
 ghost use Rattle.pci_stand.specs.Boards.{IsBoard};
 ghost use Rattle.pci_stand.specs.Known.{asked, AreParts};
@@ -22,9 +25,7 @@ use crate::begin::begin;
 use crate::coming::Setting;
 use crate::finding::find_there;
 use crate::marks::{keep_marked, leave_marked, marks};
-use pci_settle::place::Places;
 use crate::reaching::{Reaching, all_reaches, unknown_around};
-use pci_settle::table::WindowRanges;
 use crate::there::There;
 use pci_base::memory::{OutOfMemory, Refused};
 use pci_base::slot::{BUSES, Slot};
@@ -34,7 +35,10 @@ use pci_settle::extent::Extent;
 use pci_settle::kept::Kept;
 use pci_settle::list::Lists;
 use pci_settle::listing::Classing;
+use pci_settle::over::{Left, OpenWindows};
 use pci_settle::own::Terms;
+use pci_settle::place::Places;
+use pci_settle::table::WindowRanges;
 use pci_stand::place::bridges_over;
 use pci_stay::holding::{Behind, hold_all};
 use pci_stay::staying::{Board, stay_all};
@@ -51,6 +55,23 @@ pub struct Grown<A: Allocator> {
     pub coming: Vec<WindowRanges, A>,
     /// The places of what is placed around windows that take.
     pub places: Vec<Places, A>,
+}
+
+impl<A: Allocator> Grown<A> {
+    /// What is left, by the open windows over each bus.
+    pub fn left<'a>(&'a self, over: &'a [OpenWindows]) -> Left<'a>
+        ensures over { result.over.now ≡ over.now }
+        ensures tells { (q : Request) → (s : System) → IsSystem s → IsNested q.roots s
+            → IsInProfile q.roots s → AreGrown q s (grown_value self.now)
+            → TellsKept q s (growing_kept q s) result }
+    {
+        Left {
+            over,
+            kept: self.stays.as_slice(),
+            grown: self.coming.as_slice(),
+            places: self.places.as_slice(),
+        }
+    }
 }
 
 /// Leaves of what windows that take come to that of the windows that grow, as each window of the class above them takes too; and

@@ -12,7 +12,7 @@ pub mod growing;
 pub mod halves;
 pub mod last_place;
 pub mod marks;
-pub mod putting;
+pub mod put_all;
 pub mod reach;
 pub mod reaching;
 pub mod room;

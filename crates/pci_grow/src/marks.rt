@@ -6,11 +6,11 @@ ghost use Rattle.pci_base.specs.WindowKinds.{by_kind};
 ghost use Rattle.pci_base.specs.declared.window_kind.WindowKind.{WindowKind as Kind};
 ghost use Rattle.pci_grow.specs.Marks.{marks_of, is_window_kept, AreKeptToo, AreLeftToldOf};
 
-use pci_settle::table::WindowRanges;
 use pci_base::memory::OutOfMemory;
 use pci_base::range::Range;
 use pci_base::window_kind::ByKind;
 use pci_settle::kept::Kept;
+use pci_settle::table::WindowRanges;
 use std::alloc::Allocator;
 
 /// Marks of the windows of one function of which something is told.

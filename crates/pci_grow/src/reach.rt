@@ -27,7 +27,6 @@ ghost use Rattle.pci_grow.specs.Reaches.{IsAmong, AreToldOver, StandsInRows, IsT
 use crate::beside::{before, behind};
 use crate::halves::{cut_to_halves, whole_pages};
 use crate::room::{between, no_higher, room_on_root};
-use pci_settle::table::{WindowRanges, tell, told_of};
 use pci_base::range::Range;
 use pci_base::slot::BUSES;
 use pci_base::window_kind::WindowKind;
@@ -35,6 +34,7 @@ use pci_function::record::Record;
 use pci_settle::kept::Part;
 use pci_settle::list::Lists;
 use pci_settle::new_window::highest_in;
+use pci_settle::table::{WindowRanges, tell, told_of};
 use pci_stand::region::Region;
 
 /// The whole pages of what is free around a window, up to which it can grow.

@@ -11,12 +11,12 @@ ghost use Rattle.pci_grow.specs.Reaching.{reaching_value, IsReaching, tells_whol
 
 use crate::beside::standing_in_rows;
 use crate::reach::{Board, find_reaches};
-use pci_settle::table::{WindowRanges, nothing_told};
 use pci_base::memory::OutOfMemory;
 use pci_base::range::Range;
 use pci_base::slot::Slot;
 use pci_settle::kept::Kept;
 use pci_settle::list::Lists;
+use pci_settle::table::{WindowRanges, nothing_told};
 use pci_stand::collect::regions;
 use pci_stand::pass::standing;
 use pci_stand::place::bridges_over;

@@ -9,8 +9,6 @@ ghost use Rattle.pci_grow.specs.Rows.{row_of};
 ghost use Rattle.pci_grow.specs.There.{tables_of, grown_of, range_told, class_told, there_of, there_of_class, in_row, holding, placed_ranges, is_past, later_of};
 
 use crate::beside::first_from;
-use pci_settle::place::Places;
-use pci_settle::table::{WindowRanges, told_of};
 use pci_base::memory::OutOfMemory;
 use pci_base::range::Range;
 use pci_base::window_kind::WindowKind;
@@ -18,6 +16,8 @@ use pci_function::record::Bridge;
 use pci_settle::bus::kept_by;
 use pci_settle::item::Item;
 use pci_settle::kept::{Kept, Part};
+use pci_settle::place::Places;
+use pci_settle::table::{WindowRanges, told_of};
 use pci_stand::place::window_for;
 use pci_stand::region::Region;
 use std::alloc::Allocator;

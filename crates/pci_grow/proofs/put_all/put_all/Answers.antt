@@ -2,7 +2,7 @@ use Rattle.std.proofs.Common.{◌≡◌, ◌+◌, ◌-◌, ◌<◌, length, get_
 use Rattle.std.proofs.lemmas.List.{get_or_default}
 use Rattle.pci_base.specs.WindowKinds.{kind_value}
 use Rattle.pci_grow.proofs.Putting.{ArePutFrom, no_item, put_none, put_more}
-use Rattle.pci_grow.proofs.putting.put_all.Goals as goal
+use Rattle.pci_grow.proofs.put_all.put_all.Goals as goal
 
 pub loop-done-init : goal.loop-done-init
 loop-done-init c = put_none (kind_value c.args.class) c.args.items.now c.args.places.now c.requires.count c.args.table.now (length c.args.items.now - 0) (omega arith)
