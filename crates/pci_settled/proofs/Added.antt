@@ -13,7 +13,6 @@ use Rattle.pci_settle.specs.declared.own.Terms.{Terms}
 use Rattle.pci_settle.specs.Turns.{HasExtent}
 use Rattle.pci_settle.specs.Buses.{bus_listing, AreInTurn}
 use Rattle.pci_settle.specs.NewWindows.{asking_of}
-use Rattle.settle_spec.specs.Items.{stays}
 use Rattle.pci_settled.specs.Staying.{setting, classing}
 use Rattle.pci_settled.specs.declared.candidate.Candidate.{Candidate}
 use Rattle.pci_settled.specs.declared.staying.Staying.{Staying}
@@ -35,10 +34,10 @@ module _ {X Y : Type 0} (f : X → Y) (old : List Y) (xs : List X) where
 module _ (s : System) (class : Class) (items : List Item) (old new : List Candidate) (added : new ≡ old ++ map (of_class class) items) where
   pub added_of : (roots : List ℕ) (t : Terms) (st : Staying) (windows : List (Option Extent)) (bus : ℕ) → AreInTurn (bus_listing (classing (setting roots s t st)) (kind_value class) bus windows st.left.kept.now) items
       → AreAddedOf (setting roots s t st) (kind_value class) windows bus old new
-  added_of roots t st windows bus turn q stay has =
+  added_of roots t st windows bus turn q keep stay has =
       ap (map (candidate_value s)) added
       ∙ map-append (candidate_value s) old (map (of_class class) items)
-      ∙ ap (λ ys. map (candidate_value s) old ++ ys) (map_twice (candidate_value s) (of_class class) items ∙ turn (asking_of q s (kind_value class) (stays q s)) record { left = stay.left; keeps_is = stay.keeps_is; behind = has.behind bus })
+      ∙ ap (λ ys. map (candidate_value s) old ++ ys) (map_twice (candidate_value s) (of_class class) items ∙ turn (asking_of q s (kind_value class) keep.stays) record { left = stay.left; keeps_is = stay.keeps_is.stays_are; behind = has.behind bus })
 
   pub added_lawful : All HasExtent items → All HasAddressAndAlignment old → All HasAddressAndAlignment new
   added_lawful lawful before =

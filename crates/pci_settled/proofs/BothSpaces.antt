@@ -8,8 +8,10 @@ use Rattle.std.proofs.lemmas.Option.{slice_get_within}
 use Rattle.pci_spec.specs.Window.{IoWindow, MemoryWindow, PrefetchWindow}
 use Rattle.pci_spec.specs.System.{System, Space, Io, Memory, Part, Bar, Rom, Window, space_of, window_space}
 use Rattle.settle_spec.specs.Lists.{Lists, Request}
-use Rattle.settle_spec.specs.Items.{Item as ItemValue, Placing, AllPlaced, Lacks, stays}
-use Rattle.settle_spec.specs.Places.{placing_on, first_lack, lacking_on}
+use Rattle.settle_spec.specs.Items.{Item as ItemValue, Placing, AllPlaced, Lacks}
+use Rattle.settle_spec.specs.Places.{first_lack}
+use Rattle.settle_spec.specs.Kept.{Kept}
+use Rattle.settle_spec.specs.Keeping.Places.{placing_on, lacking_on}
 use Rattle.pci_base.specs.declared.memory.Refused.{Refused}
 use Rattle.pci_base.specs.declared.memory.Refused.TheVariants as refused
 use Rattle.pci_base.specs.WindowKinds.{kind_value}
@@ -20,8 +22,8 @@ use Rattle.pci_settle.specs.Spots.{IsExtent}
 use Rattle.pci_settle.specs.Own.{AreTerms}
 use Rattle.pci_settle.specs.Buses.{AreWindows}
 use Rattle.pci_settle.specs.declared.over.Left.{Left}
-use Rattle.pci_settle.specs.Kept.{AreKeptParts}
 use Rattle.pci_settle.specs.Over.{AreOpenOver}
+use Rattle.pci_settle.specs.Keeping.{TellsKept}
 use Rattle.pci_settled.specs.declared.anew.Unplaced.{Unplaced}
 use Rattle.pci_settled.specs.declared.anew.Unplaced.TheVariants as unplaced
 use Rattle.pci_settled.specs.declared.candidate.Candidate.{Candidate}
@@ -46,13 +48,13 @@ first_some : (p : Placing) (other : Option ItemValue) (i : ItemValue) → first_
 first_some (AllPlaced placed) other i some = absurd (let no : ⊥ = cc in no)
 first_some (Lacks j) other i some = some
 
-lacking_memory : (q : Request) (s : System) (roots : List ℕ) → space_lack q s Io roots ≡ None → lacking_on q s roots ≡ space_lack q s Memory roots
-lacking_memory q s [] none = refl
-lacking_memory q s (root ∷ roots) none = first_none (placing_on q s Io root) (first_lack (placing_on q s Memory root) None) none
+lacking_memory : (q : Request) (s : System) (keep : Kept) (roots : List ℕ) → space_lack q s keep Io roots ≡ None → lacking_on q s keep roots ≡ space_lack q s keep Memory roots
+lacking_memory q s keep [] none = refl
+lacking_memory q s keep (root ∷ roots) none = first_none (placing_on q s keep Io root) (first_lack (placing_on q s keep Memory root) None) none
 
-lacking_io : (q : Request) (s : System) (roots : List ℕ) (i : ItemValue) → space_lack q s Io roots ≡ Some i → lacking_on q s roots ≡ Some i
-lacking_io q s [] i some = absurd (let no : ⊥ = cc in no)
-lacking_io q s (root ∷ roots) i some = first_some (placing_on q s Io root) (first_lack (placing_on q s Memory root) None) i some
+lacking_io : (q : Request) (s : System) (keep : Kept) (roots : List ℕ) (i : ItemValue) → space_lack q s keep Io roots ≡ Some i → lacking_on q s keep roots ≡ Some i
+lacking_io q s keep [] i some = absurd (let no : ⊥ = cc in no)
+lacking_io q s keep (root ∷ roots) i some = first_some (placing_on q s keep Io root) (first_lack (placing_on q s keep Memory root) None) i some
 
 -- ---- of one space
 
@@ -61,18 +63,18 @@ no_windows = All-replicate (λ (o : Option Extent). IfSome o IsExtent) 256 None 
 
 module _ (roots : List ℕ) (s : System) (space : Space) (l : Lists) (t : Terms) (st : Staying) where
   pub space_placed : (w : SpaceWindows) (table : List Places) → HasWindowsIn (pass roots s space t st w) → AreSpacePlacesIn (pass roots s space t st w) l table None → HasPlacesIn (setting roots s t st) space l table
-  space_placed w table windows are q stay same =
-      let placed = are q stay same (windows q stay) in
+  space_placed w table windows are q keep stay same =
+      let placed = are q keep stay same (windows q keep stay) in
       record { lack = placed.lack_is; places = placed.places }
 
   pub space_lacks : (w : SpaceWindows) (table : List Places) (c : Candidate) → HasWindowsIn (pass roots s space t st w) → AreSpacePlacesIn (pass roots s space t st w) l table (Some c)
-      → (q : Request) → IsStaying q (setting roots s t st) → q.lists ≡ l → space_lack q s space q.roots ≡ Some (candidate_value s c)
-  space_lacks w table c windows are q stay same = (are q stay same (windows q stay)).lack_is
+      → (q : Request) (keep : Kept) → IsStaying q keep (setting roots s t st) → q.lists ≡ l → space_lack q s keep space q.roots ≡ Some (candidate_value s c)
+  space_lacks w table c windows are q keep stay same = (are q keep stay same (windows q keep stay)).lack_is
 
   pub too_large : (e : Refused Unplaced) → IsSpaceTooLarge (setting roots s t st) space e → IsUnplacedIn (setting roots s t st) space l e
   too_large refused.Memory is = tt
   too_large (refused.Fault (unplaced.Lacks x)) is = absurd is
-  too_large (refused.Fault (unplaced.TooLarge class k)) (of, is) = (of, λ q stay same. is q stay)
+  too_large (refused.Fault (unplaced.TooLarge class k)) (of, is) = (of, λ q keep stay same. is q keep stay)
 
 -- ---- a table without any place
 
@@ -119,28 +121,28 @@ still_none s start table count none kept k f d part at there of =
     let inside = slice_get_within s k f at in
     kept.others k f d part at there (λ io. not_both (space_of f part) io of) ∙ none k d part (omega (arith, inside, count))
 
-module _ (roots : List ℕ) (s : System) (l : Lists) (t : Terms) (terms : AreTerms l t) (left : Left) (held : List Held) (are : AreHeldIn roots s l left.kept.now held) (st : Staying) (left_is : st.left ≡ left) (held_is : st.held.now ≡ held) where
-  stay_of : (q : Request) → IsLeaving q roots s l left → IsStaying q (setting roots s t st)
-  stay_of q leaving = record {
+module _ (roots : List ℕ) (s : System) (l : Lists) (t : Terms) (terms : AreTerms l t) (left : Left) (held : List Held) (are : AreHeldIn roots s l left.kept.now left.grown.now held) (st : Staying) (left_is : st.left ≡ left) (held_is : st.held.now ≡ held) where
+  stay_of : (q : Request) (keep : Kept) → IsLeaving q keep roots s l left → IsStaying q keep (setting roots s t st)
+  stay_of q keep leaving = record {
     left = record {
       rooted = leaving.rooted;
       terms = subst (λ x. AreTerms x t) (sym leaving.lists) terms;
       overs_are = subst (λ (x : Left). AreOpenOver q s x.over.now) (sym left_is) leaving.overs_are;
     };
-    keeps_is = subst (λ (x : Left). AreKeptParts s (stays q s) x.kept.now) (sym left_is) leaving.keeps_is;
-    held_is = subst (AreHeld q s) (sym held_is) (are q leaving.rooted leaving.lists leaving.keeps_is);
+    keeps_is = subst (TellsKept q s keep) (sym left_is) leaving.keeps_is;
+    held_is = subst (AreHeld q s keep) (sym held_is) (are q keep leaving.rooted leaving.lists leaving.keeps_is.stays_are leaving.keeps_is.ranges_are);
   }
 
   pub request_known : CanBeLeft roots s l left → KnowsRequest (setting roots s t st) l
-  request_known can = record { request = can.request; stay = stay_of can.request can.leaving; lists = can.leaving.lists }
+  request_known can = record { request = can.request; keep = can.keep; stay = stay_of can.request can.keep can.leaving; lists = can.leaving.lists }
 
   pub both_placed : (first table : List Places) → length table ≡ length s → HasPlacesIn (setting roots s t st) Io l first → KeepsOtherSpace s Memory first table → HasPlacesIn (setting roots s t st) Memory l table → ArePlacesOff roots s l left table
-  both_placed first table count io kept memory q leaving =
-      let placed = io q (stay_of q leaving) leaving.lists in
-      let other = memory q (stay_of q leaving) leaving.lists in
+  both_placed first table count io kept memory q keep leaving =
+      let placed = io q keep (stay_of q keep leaving) leaving.lists in
+      let other = memory q keep (stay_of q keep leaving) leaving.lists in
       record {
         count = count;
-        lack = lacking_memory q s q.roots placed.lack ∙ other.lack;
+        lack = lacking_memory q s keep q.roots placed.lack ∙ other.lack;
         each = λ k f d part at there. elim (cases_space (space_of f part)) [
           | inl of ↦ kept.others k f d part at there (λ is. not_both (space_of f part) of is) ∙ placed.places k f d part at there of
           | inr of ↦ other.places k f d part at there of
@@ -149,17 +151,17 @@ module _ (roots : List ℕ) (s : System) (l : Lists) (t : Terms) (terms : AreTer
 
   pub io_unplaced : (e : Refused Unplaced) → IsUnplacedIn (setting roots s t st) Io l e → IsUnplacedOff roots s l left e
   io_unplaced refused.Memory is = tt
-  io_unplaced (refused.Fault (unplaced.Lacks x)) is = λ q leaving. lacking_io q s q.roots (candidate_value s x) (is q (stay_of q leaving) leaving.lists)
-  io_unplaced (refused.Fault (unplaced.TooLarge class k)) (of, is) = λ q leaving. record {
-    large = is q (stay_of q leaving) leaving.lists;
+  io_unplaced (refused.Fault (unplaced.Lacks x)) is = λ q keep leaving. lacking_io q s keep q.roots (candidate_value s x) (is q keep (stay_of q keep leaving) leaving.lists)
+  io_unplaced (refused.Fault (unplaced.TooLarge class k)) (of, is) = λ q keep leaving. record {
+    large = is q keep (stay_of q keep leaving) leaving.lists;
     io = λ memory. absurd (not_both (window_space (kind_value class)) of memory);
   }
 
   pub memory_unplaced : (first : List Places) → HasPlacesIn (setting roots s t st) Io l first → (e : Refused Unplaced) → IsUnplacedIn (setting roots s t st) Memory l e → IsUnplacedOff roots s l left e
   memory_unplaced first io refused.Memory is = tt
-  memory_unplaced first io (refused.Fault (unplaced.Lacks x)) is = λ q leaving.
-      lacking_memory q s q.roots (io q (stay_of q leaving) leaving.lists).lack ∙ is q (stay_of q leaving) leaving.lists
-  memory_unplaced first io (refused.Fault (unplaced.TooLarge class k)) (of, is) = λ q leaving. record {
-    large = is q (stay_of q leaving) leaving.lists;
-    io = λ memory. (io q (stay_of q leaving) leaving.lists).lack;
+  memory_unplaced first io (refused.Fault (unplaced.Lacks x)) is = λ q keep leaving.
+      lacking_memory q s keep q.roots (io q keep (stay_of q keep leaving) leaving.lists).lack ∙ is q keep (stay_of q keep leaving) leaving.lists
+  memory_unplaced first io (refused.Fault (unplaced.TooLarge class k)) (of, is) = λ q keep leaving. record {
+    large = is q keep (stay_of q keep leaving) leaving.lists;
+    io = λ memory. (io q keep (stay_of q keep leaving) leaving.lists).lack;
   }

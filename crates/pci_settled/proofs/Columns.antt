@@ -8,15 +8,21 @@ use Rattle.pci_spec.specs.System.{System, Space, Io, Memory, IsSystem, window_sp
 use Rattle.pci_spec.specs.Bus.{is_root}
 use Rattle.pci_spec.specs.Decoded.{Range as DecodedRange}
 use Rattle.plan_spec.proofs.Planning.Safe.{slots_of}
-use Rattle.settle_spec.specs.FirstPlace.{is_high}
+use Rattle.settle_spec.specs.FirstPlace.{is_high, else_at, first_place}
 use Rattle.settle_spec.specs.Lists.{Lists, Request, class_ranges}
 use Rattle.settle_spec.specs.Parts.{bridge_over}
 use Rattle.settle_spec.specs.Items.{Placed}
-use Rattle.settle_spec.specs.Places.{root_ranges, window_ranges, wide_ranges}
-use Rattle.settle_spec.proofs.Buses.{of_space}
+use Rattle.settle_spec.specs.Places.{root_ranges, wide_ranges}
+use Rattle.settle_spec.specs.Kept.{Kept}
+use Rattle.settle_spec.specs.Keeping.Places.{place_behind}
+use Rattle.settle_laws.proofs.Keeping.Buses.{of_space}
 use Rattle.pci_base.specs.declared.range.Range.{Range}
-use Rattle.pci_settled.specs.Columns.{kind_number, list_at, had, AreColumn, HasColumn, HasRootColumns, AreListsFor}
+use Rattle.pci_settle.specs.declared.place.Places.{Places}
+use Rattle.pci_settle.specs.Tables.{untold}
+use Rattle.pci_settled.specs.Candidates.{candidate_value}
+use Rattle.pci_settled.specs.Columns.{kind_number, list_number, list_at, had, AreColumn, HasColumn, HasRootColumns, AreListsFor}
 use Rattle.pci_settled.proofs.Parts.{in_space}
+use Rattle.pci_settled.proofs.Told.{nothing_told}
 
 -- ---- one column after another
 
@@ -88,16 +94,19 @@ module _ (q : Request) (l : Lists) (same : q.lists ≡ l) (lists : List (List Ra
   column_gives Io is PrefetchWindow wide of = absurd (let no : ⊥ = cc in no)
   column_gives Memory is PrefetchWindow wide of = plain_alone (class_ranges q PrefetchWindow bus) wide ∙ had_is (λ x. had bus x.prefetch) ∙ sym is.prefetch_is
 
-pub root_lists_for : (q : Request) (s : System) (l : Lists) (space : Space) (root : ℕ) (lists : List (List Range)) (placed : ℕ → List Placed) → IsSystem s → is_root q.roots root ≡ true → q.lists ≡ l
-    → HasRootColumns q.roots l space 256 lists → AreListsFor q s space placed root lists
-root_lists_for q s l space root lists placed system is_one same are i listed =
-    let of = of_space q s space root i listed in
+pub root_lists_for : (q : Request) (s : System) (keep : Kept) (l : Lists) (space : Space) (root : ℕ) (lists : List (List Range)) (places : List Places) (placed : ℕ → List Placed) → IsSystem s → is_root q.roots root ≡ true → q.lists ≡ l
+    → HasRootColumns q.roots l space 256 lists → AreListsFor q s keep space placed root lists places untold
+root_lists_for q s keep l space root lists places placed system is_one same are c listed taken =
+    let i = candidate_value s c in
+    let of = of_space q s keep space root i listed in
     let on = i.region.function.slot.bus in
     let here : is_root q.roots on ≡ true = elim (or_cases (root == on) (is_root q.roots root && is_root q.roots on) of.beside) [
       | inl one ↦ subst (λ n. is_root q.roots n ≡ true) (eqb-true root on one) is_one
       | inr both ↦ (and_parts (is_root q.roots root) (is_root q.roots on) both).1
     ] in
     let low = (slots_of s system i.region.function of.listed).0 in
-    ap (λ b. cond b (root_ranges q i) (window_ranges q s placed i.class (bridge_over s on))) here
-    ∙ column_gives q l same lists on space (are.each on (omega (arith, low)) here) i.class (is_high i.extent) (in_space q s space root i listed)
-    ∙ ap (λ n. list_at lists (3 * n + kind_number i.class (is_high i.extent))) (sym (ap (λ b. cond b on 0) here))
+    ap (λ b. cond b (first_place (root_ranges q i) taken i.extent) (place_behind keep placed i taken (bridge_over s on))) here
+    ∙ ap (λ rs. first_place rs taken i.extent)
+    (column_gives q l same lists on space (are.each on (omega (arith, low)) here) i.class (is_high i.extent) (in_space q s keep space root i listed)
+    ∙ ap (λ n. list_at lists (3 * n + kind_number i.class (is_high i.extent))) (sym (ap (λ b. cond b on 0) here)))
+    ∙ sym (ap (λ o. else_at o (first_place (list_at lists (list_number q.roots i)) taken i.extent)) (nothing_told places c))

@@ -1,6 +1,7 @@
 pub mod Added
 pub mod Parts
 pub mod Notes
+pub mod Told
 pub mod Wanted
 pub mod Columns
 pub mod Reached

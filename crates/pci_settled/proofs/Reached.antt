@@ -11,13 +11,15 @@ use Rattle.pci_spec.specs.Decoded.{Range}
 use Rattle.pci_spec.proofs.Members.{in_nil, in_head, in_tail, in_cons_cases}
 use Rattle.plan_spec.proofs.Planning.Behind.{any_gives, any_from}
 use Rattle.plan_spec.proofs.Planning.Safe.{order_of}
-use Rattle.settle_spec.specs.FirstPlace.{first_place}
 use Rattle.settle_spec.specs.Lists.{Request}
 use Rattle.settle_spec.specs.Stands.{rank}
-use Rattle.settle_spec.specs.Items.{Item, Placed, Placing, AllPlaced, Lacks, and_placed, place_next, place_all, taken_by}
-use Rattle.settle_spec.specs.Places.{placed_of, place_among, space_items, taken_at, ranges_of_item, placing_on}
+use Rattle.settle_spec.specs.Items.{Item, Placed, Placing, AllPlaced, Lacks, and_placed, place_next, taken_by}
+use Rattle.settle_spec.specs.Growth.{place_each}
+use Rattle.settle_spec.specs.Places.{placed_of, place_among}
+use Rattle.settle_spec.specs.Kept.{Kept}
+use Rattle.settle_spec.specs.Keeping.Places.{space_items, taken_at, place_of_item, placing_on}
 use Rattle.settle_spec.proofs.Nested.{one_bridge, is_no_root, at_secondary}
-use Rattle.settle_spec.proofs.Buses.{of_space, placing_by_bus}
+use Rattle.settle_laws.proofs.Keeping.Buses.{of_space, placing_by_bus}
 use Rattle.pci_settle.proofs.NewWindows.{comes_later}
 use Rattle.pci_settled.proofs.Notes.{region, one_place}
 use Rattle.pci_settled.proofs.Parts.{rank_one, real_in}
@@ -36,11 +38,10 @@ placed_next : (i : Item) (o : Option ℕ) (items : List Item) (rest : ℕ → Pl
 placed_next i None items rest of p listed = absurd (in_nil p listed)
 placed_next i (Some a) items rest of p listed = placed_if i a items (rest a) (of a) p listed
 
-placed_in : (ranges : Item → List Range) (taken : List Range) (items : List Item) (p : Placed) → Contains (placed_of (place_all ranges taken items)) p → Contains items p.item
-placed_in ranges taken [] p listed = absurd (in_nil p listed)
-placed_in ranges taken (i ∷ items) p listed =
-    placed_next i (first_place (ranges i) taken i.extent) items (λ a. place_all ranges (taken_by i a ∷ taken) items)
-    (λ a q. placed_in ranges (taken_by i a ∷ taken) items q) p listed
+placed_in : (find : Item → List Range → Option ℕ) (taken : List Range) (items : List Item) (p : Placed) → Contains (placed_of (place_each find taken items)) p → Contains items p.item
+placed_in find taken [] p listed = absurd (in_nil p listed)
+placed_in find taken (i ∷ items) p listed =
+    placed_next i (find i taken) items (λ a. place_each find (taken_by i a ∷ taken) items) (λ a q. placed_in find (taken_by i a ∷ taken) items q) p listed
 
 none_found : {X : Type 0} (test : X → Bool) (xs : List X) → ((x : X) → Contains xs x → test x ≡ true → ⊥) → find test xs ≡ None
 none_found test [] off = refl
@@ -49,21 +50,21 @@ none_found test (x ∷ xs) off = elim (cases_Bool (test x)) [
   | inr fails ↦ ap (λ b. cond b (Some x) (find test xs)) fails ∙ none_found test xs (λ y listed. off y (in_tail x xs y listed))
 ]
 
-module _ (q : Request) (s : System) (system : IsSystem s) (nested : IsNested q.roots s) (space : Space) (bus : ℕ) (low : bus < 256) where
+module _ (q : Request) (s : System) (keep : Kept) (system : IsSystem s) (nested : IsNested q.roots s) (space : Space) (bus : ℕ) (low : bus < 256) where
   abbrev here : List Placed
-  here = placed_of (placing_on q s space bus)
+  here = placed_of (placing_on q s keep space bus)
 
-  pub item_here : (p : Placed) → Contains here p → Contains (space_items q s space bus) p.item
+  pub item_here : (p : Placed) → Contains here p → Contains (space_items q s keep space bus) p.item
   item_here p listed =
-      placed_in (ranges_of_item q s (λ over. placed_of (placing_on q s space over))) (taken_at q s space bus) (space_items q s space bus) p
-      (subst (λ r. Contains (placed_of r) p) (placing_by_bus q s system nested space bus low) listed)
+      placed_in (place_of_item q s keep (λ over. placed_of (placing_on q s keep space over))) (taken_at q s keep space bus) (space_items q s keep space bus) p
+      (subst (λ r. Contains (placed_of r) p) (placing_by_bus q s keep system nested space bus low) listed)
 
   is_other : (f : Function) (part : Part) → Contains s f → has_part f part ≡ true → (space_of f part ≡ space → are_siblings q.roots bus f.slot.bus ≡ true → ⊥)
       → (p : Placed) → Contains here p → (rank p.item.region == rank (region f part)) ≡ true → ⊥
   is_other f part listed there other p in_here hit =
       let item = item_here p in_here in
-      let real = real_in q s space bus p.item item in
-      let of = of_space q s space bus p.item item in
+      let real = real_in q s keep space bus p.item item in
+      let of = of_space q s keep space bus p.item item in
       let one = rank_one s system p.item.region.function f p.item.region.part part of.listed listed real.there there (eqb-true (rank p.item.region) (rank (region f part)) hit) in
       other (ap (λ g. space_of g part) (sym one.function) ∙ ap (space_of p.item.region.function) (sym one.part) ∙ real.of_space)
       (subst (λ (g : Function). are_siblings q.roots bus g.slot.bus ≡ true) one.function of.beside)

@@ -14,10 +14,14 @@ use Rattle.pci_spec.specs.Bus.{secondary, is_root, IsNested}
 use Rattle.pci_spec.proofs.BusRanges.{root_means}
 use Rattle.pci_spec.proofs.Members.{in_head, in_filter_to, in_range_to}
 use Rattle.settle_spec.specs.Lists.{Lists, Request}
-use Rattle.settle_spec.specs.Items.{Placing, place_all}
-use Rattle.settle_spec.specs.Places.{placed_of, first_lack, ranges_of_item, space_items, taken_at, placing_on}
-use Rattle.settle_spec.proofs.Buses.{placing_by_bus}
+use Rattle.settle_spec.specs.Items.{Placing}
+use Rattle.settle_spec.specs.Growth.{place_each}
+use Rattle.settle_spec.specs.Places.{placed_of, first_lack}
+use Rattle.settle_spec.specs.Kept.{Kept}
+use Rattle.settle_spec.specs.Keeping.Places.{place_of_item, space_items, taken_at, placing_on}
+use Rattle.settle_laws.proofs.Keeping.Buses.{placing_by_bus}
 use Rattle.pci_base.specs.declared.range.Range.{Range}
+use Rattle.pci_base.specs.declared.window_kind.ByKind.{ByKind}
 use Rattle.pci_base.specs.Ranges.{decoded_range_of}
 use Rattle.pci_image.specs.Windows.{window_of}
 use Rattle.pci_function.specs.declared.record.Bridge.{Bridge}
@@ -28,9 +32,10 @@ use Rattle.pci_tree.specs.Roots.{set_in}
 use Rattle.pci_tree.proofs.Lifting.{same_bridge}
 use Rattle.pci_tree.proofs.RegionParts.{same_bridge_of}
 use Rattle.pci_place.proofs.Records.{FunctionAt, function_at}
-use Rattle.pci_settle.specs.declared.kept.Kept.{Kept}
+use Rattle.pci_settle.specs.declared.kept.Kept.{Kept as CodeKept}
 use Rattle.pci_settle.specs.declared.own.Terms.{Terms}
 use Rattle.pci_settle.specs.Kept.{kept_of, nothing_kept}
+use Rattle.pci_settle.specs.Keeping.{told_of_kind}
 use Rattle.pci_settled.specs.declared.candidate.Candidate.{Candidate}
 use Rattle.pci_settled.specs.declared.candidate.SpaceWindows.{SpaceWindows}
 use Rattle.pci_settled.specs.declared.staying.Staying.{Staying}
@@ -38,10 +43,11 @@ use Rattle.pci_settled.specs.declared.places.Places.{Places}
 use Rattle.pci_settled.specs.Candidates.{candidate_value, HasSpaceWindows, HasWindowsIn, KnowsWindows, KnowsRequest, pass}
 use Rattle.pci_settled.specs.Staying.{IsStaying, setting}
 use Rattle.pci_settled.specs.Columns.{range_list}
-use Rattle.pci_settled.specs.Windows.{window_range_at, plain_of, prefetch_of}
-use Rattle.pci_settled.specs.BusPlaces.{ArePlacesIn}
+use Rattle.pci_settled.specs.Windows.{unless_grown, window_range_at, plain_of, prefetch_of}
+use Rattle.pci_settled.specs.BusPlaces.{AreToldEnding, ArePlacesIn}
 use Rattle.pci_settled.specs.Places.{place_range_in, NotesOf}
-use Rattle.pci_settled.specs.Spaces.{HasWindowsOver, windows_by, AreNotedFor, AreNotedOnRoots, AreNotedBehind, HasNone, KeepsOtherSpace, AreSpacePlaces, space_lack}
+use Rattle.pci_settled.specs.Spaces.{HasWindowsOver, grown_by, windows_by, AreNotedFor, AreNotedOnRoots, AreNotedBehind, HasNone, KeepsOtherSpace, AreSpacePlaces, space_lack}
+use Rattle.pci_settled.proofs.Buses.{behind_ending}
 use Rattle.pci_settled.proofs.SpacePlaces.{window_lists_for, IsPlacedTo, placed_roots, placed_nowhere, placed_same, no_root, windows_over, placed_more, placed_all, others_kept, others_same, others_more, lack_same}
 
 -- ---- roots
@@ -64,17 +70,17 @@ none_set flags off = by (set_in flags) refl
 -- ---- something that is asked for
 
 pub known_of : (roots : List ℕ) (s : System) (space : Space) (l : Lists) (t : Terms) (st : Staying) (w : SpaceWindows) → KnowsRequest (setting roots s t st) l → HasWindowsIn (pass roots s space t st w) → KnowsWindows (pass roots s space t st w)
-known_of roots s space l t st w known windows = record { request = known.request; stay = known.stay; has = windows known.request known.stay }
+known_of roots s space l t st w known windows = record { request = known.request; keep = known.keep; stay = known.stay; has = windows known.request known.keep known.stay }
 
 -- ---- on the roots
 
 -- what is placed on one of the roots is noted
 pub roots_noted : (roots : List ℕ) (s : System) (space : Space) (l : Lists) (t : Terms) (st : Staying) (w : SpaceWindows) (root : ℕ) → root < 256 → is_root roots root ≡ true → (old new : List Places) (lack : Option Candidate) (placing : Placing)
-    → ((q : Request) → IsStaying q (setting roots s t st) → q.lists ≡ l → HasSpaceWindows q s space t w → placing ≡ placing_on q s space root) → NotesOf s (placed_of placing) old new → option_map (candidate_value s) lack ≡ first_lack placing None → AreNotedOnRoots (pass roots s space t st w) l old new lack
+    → ((q : Request) (keep : Kept) → IsStaying q keep (setting roots s t st) → q.lists ≡ l → HasSpaceWindows q s space t w → placing ≡ placing_on q s keep space root) → NotesOf s (placed_of placing) old new → option_map (candidate_value s) lack ≡ first_lack placing None → AreNotedOnRoots (pass roots s space t st w) l old new lack
 roots_noted roots s space l t st w root low is_one old new lack placing are noted lacking = inr (
   root,
-  λ q stay same has. (
-      let is = are q stay same has in
+  λ q keep stay same has. (
+      let is = are q keep stay same has in
       record {
         small = low;
         on = subst (λ xs. is_root xs root ≡ true) (sym stay.left.rooted) is_one;
@@ -93,69 +99,74 @@ pub three_are : (a b c x y z : List Range) → a ≡ x → b ≡ y → c ≡ z �
 three_are a b c x y z e f g = ap (λ u. u ∷ (b ∷ (c ∷ []))) e ∙ ap (λ u. x ∷ (u ∷ (c ∷ []))) f ∙ ap (λ u. x ∷ (y ∷ (u ∷ []))) g
 
 pub behind_noted : (roots : List ℕ) (s : System) (space : Space) (t : Terms) (st : Staying) (w : SpaceWindows) (b : Bridge) → is_root roots b.secondary ≡ false → (k : ℕ) (old new : List Places) → k < length old → (e : Places)
-    → (own : Kept) → ((part : Part) → kept_of own part ≡ kept_of (get_or st.left.kept.now k nothing_kept) part)
-    → (plain prefetch : Option Range) → option_map decoded_range_of plain ≡ plain_of space (window_range_at own b (get_or old k e)) → option_map decoded_range_of prefetch ≡ prefetch_of space (window_range_at own b (get_or old k e))
+    → (own : CodeKept) → ((part : Part) → kept_of own part ≡ kept_of (get_or st.left.kept.now k nothing_kept) part) → (grown : ByKind (Option Range)) → grown ≡ grown_by st k
+    → (plain prefetch : Option Range) → option_map decoded_range_of plain ≡ plain_of space (window_range_at own grown b (get_or old k e)) → option_map decoded_range_of prefetch ≡ prefetch_of space (window_range_at own grown b (get_or old k e))
     → (lists : List (List Range)) → lists ≡ range_list plain ∷ (range_list plain ∷ (range_list prefetch ∷ []))
-    → (placing : Placing) → ArePlacesIn (pass roots s space t st w) b.secondary lists placing → (IsSystem s → NotesOf s (placed_of placing) old new) → AreNotedBehind (pass roots s space t st w) k b old new
-behind_noted roots s space t st w b off k old new within e own own_is plain prefetch plain_is prefetch_is lists lists_are placing are noted q placed d system stay has over =
+    → (placing : Placing) → ArePlacesIn (pass roots s space t st w) b.secondary lists grown placing → (IsSystem s → NotesOf s (placed_of placing) old new) → AreNotedBehind (pass roots s space t st w) k b old new
+behind_noted roots s space t st w b off k old new within e own own_is grown grown_is plain prefetch plain_is prefetch_is lists lists_are placing are noted q keep placed d system stay has over =
     let p = get_or old k e in
-    let windows = window_range_at own b p in
+    let windows = window_range_at own grown b p in
     let same : windows_by st old k d b ≡ windows =
-    fun_ext (λ c. ap (λ x. window_range_at (get_or st.left.kept.now k nothing_kept) b x c) (get_or_default old k d e within)
-    ∙ ap (λ on. cond on (passes.range_in (window_of b.windows c)) (option_map decoded_range_of (place_range_in p (Window c)))) (sym (own_is (Window c)))) in
-    let for = window_lists_for q s space placed b.secondary plain prefetch windows (ap (λ rs. is_root rs b.secondary) stay.left.rooted ∙ off) plain_is prefetch_is
-    (subst (HasWindowsOver q s space placed b.secondary) same over) in
-    subst (λ r. NotesOf s (placed_of r) old new) (subst (λ ls. ArePlacesIn (pass roots s space t st w) b.secondary ls placing) lists_are are q placed stay has for) (noted system)
+    fun_ext (λ c. ap (λ x. window_range_at (get_or st.left.kept.now k nothing_kept) (grown_by st k) b x c) (get_or_default old k d e within)
+    ∙ ap (λ x. window_range_at (get_or st.left.kept.now k nothing_kept) x b p c) (sym grown_is)
+    ∙ ap (λ on. cond on (unless_grown (told_of_kind grown c) (passes.range_in (window_of b.windows c))) (option_map decoded_range_of (place_range_in p (Window c)))) (sym (own_is (Window c)))) in
+    let places = st.left.places.now in
+    let for = window_lists_for q s keep space placed b.secondary plain prefetch places grown windows (ap (λ rs. is_root rs b.secondary) stay.left.rooted ∙ off) plain_is prefetch_is
+    (subst (λ x. HasWindowsOver q s keep space placed b.secondary places x windows) (sym grown_is) (subst (HasWindowsOver q s keep space placed b.secondary places (grown_by st k)) same over)) in
+    subst (λ r. NotesOf s (placed_of r) old new) (subst (λ ls. ArePlacesIn (pass roots s space t st w) b.secondary ls grown placing) lists_are are q keep placed stay has for) (noted system)
 
 -- ---- the table so far, whatever is asked for
 
 pub record IsSpaceTo (roots : List ℕ) (s : System) (space : Space) (l : Lists) (t : Terms) (st : Staying) (w : SpaceWindows) (n : ℕ) (start table : List Places) : Type 0 where
   pub count : length table ≡ length s
   pub others : KeepsOtherSpace s space start table
-  pub lacks : (q : Request) → IsStaying q (setting roots s t st) → q.lists ≡ l → HasSpaceWindows q s space t w → space_lack q s space q.roots ≡ None
-  pub placed : (q : Request) → IsStaying q (setting roots s t st) → q.lists ≡ l → HasSpaceWindows q s space t w → IsPlacedTo q s space n table
+  pub lacks : (q : Request) (keep : Kept) → IsStaying q keep (setting roots s t st) → q.lists ≡ l → HasSpaceWindows q s space t w → space_lack q s keep space q.roots ≡ None
+  pub placed : (q : Request) (keep : Kept) → IsStaying q keep (setting roots s t st) → q.lists ≡ l → HasSpaceWindows q s space t w → IsPlacedTo q s keep space n table
 
 module _ (roots : List ℕ) (s : System) (system : IsSystem s) (nested : IsNested roots s) (space : Space) (l : Lists) (t : Terms) (st : Staying) (w : SpaceWindows) (known : KnowsRequest (setting roots s t st) l) (windows : HasWindowsIn (pass roots s space t st w)) where
-  nested_for : (q : Request) → IsStaying q (setting roots s t st) → IsNested q.roots s
-  nested_for q stay = subst (λ xs. IsNested xs s) (sym stay.left.rooted) nested
+  nested_for : (q : Request) (keep : Kept) → IsStaying q keep (setting roots s t st) → IsNested q.roots s
+  nested_for q keep stay = subst (λ xs. IsNested xs s) (sym stay.left.rooted) nested
 
   abbrev q1 : Request
   q1 = known.request
 
+  abbrev k1 : Kept
+  k1 = known.keep
+
   -- ---- the roots
 
   abbrev OnRoots : List Places → List Places → Option Candidate → ℕ → Type 0
-  OnRoots old new lack root = (q : Request) → IsStaying q (setting roots s t st) → q.lists ≡ l → HasSpaceWindows q s space t w → AreNotedFor q (pass roots s space t st w) old new lack root
+  OnRoots old new lack root = (q : Request) (keep : Kept) → IsStaying q keep (setting roots s t st) → q.lists ≡ l → HasSpaceWindows q s space t w → AreNotedFor q keep (pass roots s space t st w) old new lack root
 
-  pub roots_lack : (old new : List Places) (lack : Option Candidate) → AreNotedOnRoots (pass roots s space t st w) l old new lack → (q : Request) → IsStaying q (setting roots s t st) → q.lists ≡ l → HasSpaceWindows q s space t w
-      → space_lack q s space q.roots ≡ option_map (candidate_value s) lack
-  roots_lack old new lack (inl none) q stay same has =
-      ap (space_lack q s space) (stay.left.rooted ∙ none.none) ∙ sym (ap (option_map (candidate_value s)) none.lacking)
-  roots_lack old new lack (inr (root, are)) q stay same has =
-      let noted = are q stay same has in
-      lack_same q s space root noted.on q.roots refl ∙ sym noted.lacking
+  pub roots_lack : (old new : List Places) (lack : Option Candidate) → AreNotedOnRoots (pass roots s space t st w) l old new lack → (q : Request) (keep : Kept) → IsStaying q keep (setting roots s t st) → q.lists ≡ l → HasSpaceWindows q s space t w
+      → space_lack q s keep space q.roots ≡ option_map (candidate_value s) lack
+  roots_lack old new lack (inl none) q keep stay same has =
+      ap (space_lack q s keep space) (stay.left.rooted ∙ none.none) ∙ sym (ap (option_map (candidate_value s)) none.lacking)
+  roots_lack old new lack (inr (root, are)) q keep stay same has =
+      let noted = are q keep stay same has in
+      lack_same q s keep space root noted.on q.roots refl ∙ sym noted.lacking
 
   pub roots_others : (old new : List Places) (lack : Option Candidate) → length new ≡ length old → AreNotedOnRoots (pass roots s space t st w) l old new lack → KeepsOtherSpace s space old new
   roots_others old new lack size (inl none) = subst (KeepsOtherSpace s space old) (sym none.same) (others_same s space old)
   roots_others old new lack size (inr (root, are)) =
-      let noted = are q1 known.stay known.lists (windows q1 known.stay) in
-      others_kept q1 s system (nested_for q1 known.stay) space root noted.small old new size noted.noted
+      let noted = are q1 k1 known.stay known.lists (windows q1 k1 known.stay) in
+      others_kept q1 s k1 system (nested_for q1 k1 known.stay) space root noted.small old new size noted.noted
 
   pub roots_placed : (old new : List Places) → length old ≡ length s → length new ≡ length old → HasNone s space old → AreNotedOnRoots (pass roots s space t st w) l old new None
       → IsSpaceTo roots s space l t st w 0 old new
   roots_placed old new count size none are = record {
     count = size ∙ count;
     others = roots_others old new None size are;
-    lacks = λ q stay same has. roots_lack old new None are q stay same has;
-    placed = λ q stay same has. by_roots q stay same has are;
+    lacks = λ q keep stay same has. roots_lack old new None are q keep stay same has;
+    placed = λ q keep stay same has. by_roots q keep stay same has are;
   }
     where
-      by_roots : (q : Request) → IsStaying q (setting roots s t st) → q.lists ≡ l → HasSpaceWindows q s space t w → AreNotedOnRoots (pass roots s space t st w) l old new None → IsPlacedTo q s space 0 new
-      by_roots q stay same has (inl nowhere) =
-          subst (IsPlacedTo q s space 0) (sym nowhere.same) (placed_nowhere q s system (nested_for q stay) space (stay.left.rooted ∙ nowhere.none) old none)
-      by_roots q stay same has (inr (root, are)) =
-          let noted = are q stay same has in
-          placed_roots q s system (nested_for q stay) space root noted.small noted.on old new none noted.noted
+      by_roots : (q : Request) (keep : Kept) → IsStaying q keep (setting roots s t st) → q.lists ≡ l → HasSpaceWindows q s space t w → AreNotedOnRoots (pass roots s space t st w) l old new None → IsPlacedTo q s keep space 0 new
+      by_roots q keep stay same has (inl nowhere) =
+          subst (IsPlacedTo q s keep space 0) (sym nowhere.same) (placed_nowhere q s keep system (nested_for q keep stay) space (stay.left.rooted ∙ nowhere.none) old none)
+      by_roots q keep stay same has (inr (root, are)) =
+          let noted = are q keep stay same has in
+          placed_roots q s keep system (nested_for q keep stay) space root noted.small noted.on old new none noted.noted
 
   -- ---- one record after another
 
@@ -169,7 +180,7 @@ module _ (roots : List ℕ) (s : System) (system : IsSystem s) (nested : IsNeste
       count = was.count;
       others = was.others;
       lacks = was.lacks;
-      placed = λ q stay same has. placed_same q s system (nested_for q stay) space n here.f here.at (sym (same_bridge r here.f here.is.value) ∙ ap is_some none) old (was.placed q stay same has);
+      placed = λ q keep stay same has. placed_same q s keep system (nested_for q keep stay) space n here.f here.at (sym (same_bridge r here.f here.is.value) ∙ ap is_some none) old (was.placed q keep stay same has);
     }
 
     module _ (b : Bridge) (there : r.bridge ≡ Some b) where
@@ -184,33 +195,38 @@ module _ (roots : List ℕ) (s : System) (system : IsSystem s) (nested : IsNeste
 
       -- the bus behind it is no root
       pub bus_off : is_root roots b.secondary ≡ false
-      bus_off = ap (λ rs. is_root rs b.secondary) (sym known.stay.left.rooted) ∙ ap (is_root q1.roots) leads_to ∙ no_root q1 s system (nested_for q1 known.stay) space n here.f here.at is_one
+      bus_off = ap (λ rs. is_root rs b.secondary) (sym known.stay.left.rooted) ∙ ap (is_root q1.roots) leads_to ∙ no_root q1 s k1 system (nested_for q1 k1 known.stay) space n here.f here.at is_one
+
+      -- so the places that are told behind it end in 64 bits
+      pub told_ends : AreToldEnding (pass roots s space t st w) b.secondary (grown_by st n)
+      told_ends = subst (λ bus. AreToldEnding (pass roots s space t st w) bus (grown_by st n)) (sym leads_to) (behind_ending roots s space t st w n here.f system here.at is_one)
 
       pub space_more : (new : List Places) → length new ≡ length old → AreNotedBehind (pass roots s space t st w) n b old new → IsSpaceTo roots s space l t st w (n + 1) start new
       space_more new size are = record {
         count = size ∙ was.count;
         others = others_more s space start old new was.others
-            (others_kept q1 s system (nested_for q1 known.stay) space (secondary here.f) small old new size (noted_for q1 known.stay known.lists (windows q1 known.stay)));
+            (others_kept q1 s k1 system (nested_for q1 k1 known.stay) space (secondary here.f) small old new size (noted_for q1 k1 known.stay known.lists (windows q1 k1 known.stay)));
         lacks = was.lacks;
-        placed = λ q stay same has. placed_more q s system (nested_for q stay) space n here.f here.at is_one small old new (was.placed q stay same has) (noted_for q stay same has);
+        placed = λ q keep stay same has. placed_more q s keep system (nested_for q keep stay) space n here.f here.at is_one small old new (was.placed q keep stay same has) (noted_for q keep stay same has);
       }
         where
-          noted_for : (q : Request) → IsStaying q (setting roots s t st) → q.lists ≡ l → HasSpaceWindows q s space t w → NotesOf s (placed_of (placing_on q s space (secondary here.f))) old new
-          noted_for q stay same has =
-              let placed = λ (over : ℕ). placed_of (placing_on q s space over) in
-              let over : HasWindowsOver q s space placed b.secondary (windows_by st old n no_places b) =
-              subst (λ bus. HasWindowsOver q s space placed bus (windows_by st old n no_places b)) (sym leads_to)
-              (windows_over q s system (nested_for q stay) space n here.f here.at is_one r b here.is there st.left.kept.now stay.keeps_is old (was.placed q stay same has) no_places) in
-              subst (λ r. NotesOf s (placed_of r) old new) (sym (placing_by_bus q s system (nested_for q stay) space (secondary here.f) small))
-              (subst (λ bus. NotesOf s (placed_of (place_all (ranges_of_item q s placed) (taken_at q s space bus) (space_items q s space bus))) old new) leads_to (are q placed no_places system stay has over))
+          noted_for : (q : Request) (keep : Kept) → IsStaying q keep (setting roots s t st) → q.lists ≡ l → HasSpaceWindows q s space t w → NotesOf s (placed_of (placing_on q s keep space (secondary here.f))) old new
+          noted_for q keep stay same has =
+              let placed = λ (over : ℕ). placed_of (placing_on q s keep space over) in
+              let places = st.left.places.now in
+              let over : HasWindowsOver q s keep space placed b.secondary places (grown_by st n) (windows_by st old n no_places b) =
+              subst (λ bus. HasWindowsOver q s keep space placed bus places (grown_by st n) (windows_by st old n no_places b)) (sym leads_to)
+              (windows_over q s keep system (nested_for q keep stay) space n here.f here.at is_one r b here.is there st.left stay.keeps_is old (was.placed q keep stay same has) no_places) in
+              subst (λ r. NotesOf s (placed_of r) old new) (sym (placing_by_bus q s keep system (nested_for q keep stay) space (secondary here.f) small))
+              (subst (λ bus. NotesOf s (placed_of (place_each (place_of_item q s keep placed) (taken_at q s keep space bus) (space_items q s keep space bus))) old new) leads_to (are q keep placed no_places system stay has over))
 
   -- ---- all of them
 
-  pub space_all : (n : ℕ) → length s ≤ n → (start table : List Places) → IsSpaceTo roots s space l t st w n start table → (q : Request) → IsStaying q (setting roots s t st) → q.lists ≡ l → HasSpaceWindows q s space t w
-      → AreSpacePlaces q s space table None
-  space_all n past start table is q stay same has = record {
-    lack_is = is.lacks q stay same has;
-    places = placed_all q s system (nested_for q stay) space n past table (is.placed q stay same has);
+  pub space_all : (n : ℕ) → length s ≤ n → (start table : List Places) → IsSpaceTo roots s space l t st w n start table → (q : Request) (keep : Kept) → IsStaying q keep (setting roots s t st) → q.lists ≡ l → HasSpaceWindows q s space t w
+      → AreSpacePlaces q s keep space table None
+  space_all n past start table is q keep stay same has = record {
+    lack_is = is.lacks q keep stay same has;
+    places = placed_all q s keep system (nested_for q keep stay) space n past table (is.placed q keep stay same has);
   }
 
 -- an answer that is there says nothing of the table

@@ -3,7 +3,8 @@ use Rattle.std.specs.Prelude.{◌≡◌, ℕ, IsTrue, List, Some, ⊤}
 use Rattle.pci_spec.specs.Window.{WindowKind}
 use Rattle.pci_spec.specs.System.{System}
 use Rattle.settle_spec.specs.Lists.{Lists, Request}
-use Rattle.settle_spec.specs.Places.{lacking}
+use Rattle.settle_spec.specs.Kept.{as_it_stands}
+use Rattle.settle_spec.specs.Keeping.Places.{lacking}
 use Rattle.pci_base.specs.declared.memory.Refused.{Refused}
 use Rattle.pci_base.specs.declared.memory.Refused.TheVariants as refused
 use Rattle.pci_base.specs.WindowKinds.{kind_value}
@@ -22,11 +23,11 @@ pub record IsAnewIn (q : Request) (roots : List ℕ) (l : Lists) : Type 0 where
 
 -- each part of a function has the place that it gets
 abbrev pub ArePlacedAnew : Request → System → List Places → Type 0
-ArePlacedAnew q s table = ArePartsPlaced q s table
+ArePlacedAnew q s table = ArePartsPlaced q s (as_it_stands q s) table
 
 -- a new window is too large, and where it is of memory, nothing lacks a place in I/O
 abbrev pub IsTooLargeAnew : Request → System → WindowKind → ℕ → Type 0
-IsTooLargeAnew q s c k = placed.IsFirstWindowTooLarge q s c k
+IsTooLargeAnew q s c k = placed.IsFirstWindowTooLarge q s (as_it_stands q s) c k
 
 abbrev pub AreNewPlaces : List ℕ → System → Lists → List Places → Type 0
 AreNewPlaces roots s l table = (q : Request) → IsAnewIn q roots l → ArePlacedAnew q s table
@@ -34,6 +35,6 @@ AreNewPlaces roots s l table = (q : Request) → IsAnewIn q roots l → ArePlace
 abbrev pub IsUnplaced : List ℕ → System → Lists → Refused Unplaced → Type 0
 IsUnplaced roots s l refused.Memory = ⊤
 IsUnplaced roots s l (refused.Fault (unplaced.Lacks x)) =
-    (q : Request) → IsAnewIn q roots l → lacking q s ≡ Some (candidate_value s x)
+    (q : Request) → IsAnewIn q roots l → lacking q s (as_it_stands q s) ≡ Some (candidate_value s x)
 IsUnplaced roots s l (refused.Fault (unplaced.TooLarge class k)) =
     (q : Request) → IsAnewIn q roots l → IsTooLargeAnew q s (kind_value class) k

@@ -1,16 +1,20 @@
 -- The places of the items of a bus.
-use Rattle.std.specs.Prelude.{◌≡◌, ℕ, ◌<◌, List, map, length, Option, IfSome, IfNone}
-use Rattle.std.specs.List.{All}
+use Rattle.std.specs.Prelude.{◌≡◌, ℕ, ◌<◌, ◌^◌, List, map, length, Option, IfSome, IfNone}
+use Rattle.std.specs.List.{All, Contains}
 use Rattle.pci_spec.specs.System.{System}
+use Rattle.plan_spec.specs.Place.{range_from}
 use Rattle.settle_spec.specs.Lists.{Request}
-use Rattle.settle_spec.specs.Items.{Placed, Placing, place_all}
-use Rattle.settle_spec.specs.Places.{space_items, taken_at, ranges_of_item}
+use Rattle.settle_spec.specs.Items.{Placed, Placing}
+use Rattle.settle_spec.specs.Growth.{place_each}
+use Rattle.settle_spec.specs.Kept.{Kept}
+use Rattle.settle_spec.specs.Keeping.Places.{space_items, taken_at, place_of_item}
 use Rattle.pci_base.specs.declared.range.Range.{Range}
+use Rattle.pci_base.specs.declared.window_kind.ByKind.{ByKind}
 use Rattle.pci_settle.specs.Placings.{placing_of}
 use Rattle.pci_settled.specs.declared.candidate.Candidate.{Candidate}
 use Rattle.pci_settled.specs.Staying.{IsStaying}
 use Rattle.pci_settled.specs.Candidates.{candidate_value, IsWithin, HasAddressAndAlignment, HasPart, Pass, HasAskedWindows}
-use Rattle.pci_settled.specs.Columns.{AreListsFor}
+use Rattle.pci_settled.specs.Columns.{told_place, AreListsFor}
 use Rattle.pci_settled.specs.Places.{AreEndingAt}
 
 -- items at their places, or the first one that has none
@@ -27,11 +31,19 @@ pub record AreInTable (s : System) (candidates : List Candidate) (places : List 
   pub lacking : IfSome lack (λ k. k < length candidates)
   pub ends : IfNone lack (AreEndingAt candidates places)
 
--- they are those in some lists of ranges, whatever is told of places on other buses
-abbrev pub ArePlacesIn : Pass → ℕ → List (List Range) → Placing → Type 0
-ArePlacesIn p bus lists placing =
-    (q : Request) (placed : ℕ → List Placed) → IsStaying q p.setting → HasAskedWindows q p
-    → AreListsFor q p.setting.system p.space placed bus lists
+-- the places that are told end in 64 bits
+abbrev pub AreToldEnding : Pass → ℕ → ByKind (Option Range) → Type 0
+AreToldEnding p bus grown =
+    (q : Request) (keep : Kept) → IsStaying q keep p.setting → HasAskedWindows q p
+    → (c : Candidate) → Contains (space_items q p.setting.system keep p.space bus) (candidate_value p.setting.system c)
+    → IfSome (told_place p.setting.staying.left.places.now grown c)
+    (λ a. (range_from a c.item.extent.size).last < 2 ^ 64)
+
+-- they are those that are told, or in some lists of ranges, whatever is told of places on other buses
+abbrev pub ArePlacesIn : Pass → ℕ → List (List Range) → ByKind (Option Range) → Placing → Type 0
+ArePlacesIn p bus lists grown placing =
+    (q : Request) (keep : Kept) (placed : ℕ → List Placed) → IsStaying q keep p.setting → HasAskedWindows q p
+    → AreListsFor q p.setting.system keep p.space placed bus lists p.setting.staying.left.places.now grown
     → placing
-    ≡ place_all (ranges_of_item q p.setting.system placed) (taken_at q p.setting.system p.space bus)
-    (space_items q p.setting.system p.space bus)
+    ≡ place_each (place_of_item q p.setting.system keep placed) (taken_at q p.setting.system keep p.space bus)
+    (space_items q p.setting.system keep p.space bus)

@@ -3,8 +3,9 @@ use Rattle.std.specs.Prelude.{◌≡◌, ℕ, ◌<◌, IsTrue, List, ◌++◌, m
 use Rattle.pci_spec.specs.Window.{WindowKind, IoWindow, MemoryWindow, PrefetchWindow}
 use Rattle.pci_spec.specs.System.{System, Space, Io, Memory, has_part}
 use Rattle.settle_spec.specs.Lists.{Lists, Request}
-use Rattle.settle_spec.specs.Items.{Item as ItemValue, bus_items, new_window, stays}
-use Rattle.settle_spec.specs.Places.{space_items}
+use Rattle.settle_spec.specs.Items.{Item as ItemValue, bus_items, new_window}
+use Rattle.settle_spec.specs.Kept.{Kept}
+use Rattle.settle_spec.specs.Keeping.Places.{space_items}
 use Rattle.pci_base.specs.declared.window_kind.WindowKind.{WindowKind as Class}
 use Rattle.pci_base.specs.Space.{space_of}
 use Rattle.pci_base.specs.WindowKinds.{kind_value}
@@ -46,10 +47,10 @@ HasPart s c =
 -- to some items those of a bus in a class are added, in turn
 abbrev pub AreAddedOf : Setting → WindowKind → List (Option Extent) → ℕ → List Candidate → List Candidate → Type 0
 AreAddedOf p c windows bus old new =
-    (q : Request) → IsStaying q p → HasNewWindows q p.system c p.terms windows
+    (q : Request) (keep : Kept) → IsStaying q keep p → HasNewWindows q p.system c p.terms windows
     → map (candidate_value p.system) new
     ≡ map (candidate_value p.system) old
-    ++ bus_items q p.system c (stays q p.system) (new_window q p.system c) bus
+    ++ bus_items q p.system c keep.stays (new_window q p.system c) bus
 
 -- ---- of a space
 
@@ -93,23 +94,25 @@ HasAskedWindows q p = HasSpaceWindows q p.setting.system p.space p.setting.terms
 
 -- they are the new windows, whatever is asked for in these terms
 abbrev pub HasWindowsIn : Pass → Type 0
-HasWindowsIn p = (q : Request) → IsStaying q p.setting → HasAskedWindows q p
+HasWindowsIn p = (q : Request) (keep : Kept) → IsStaying q keep p.setting → HasAskedWindows q p
 
 -- something can be asked for of which they are the new windows
 pub record KnowsWindows (p : Pass) : Type 0 where
   pub request : Request
-  pub stay : IsStaying request p.setting
+  pub keep : Kept
+  pub stay : IsStaying request keep p.setting
   pub has : HasAskedWindows request p
 
 -- something can be asked for in these lists of which this stays
 pub record KnowsRequest (p : Setting) (l : Lists) : Type 0 where
   pub request : Request
-  pub stay : IsStaying request p
+  pub keep : Kept
+  pub stay : IsStaying request keep p
   pub lists : request.lists ≡ l
 
 -- the items of a bus in a space
 abbrev pub AreCandidatesOf : Pass → ℕ → List Candidate → Type 0
 AreCandidatesOf p bus candidates =
-    (q : Request) → IsStaying q p.setting → HasAskedWindows q p
+    (q : Request) (keep : Kept) → IsStaying q keep p.setting → HasAskedWindows q p
     → map (candidate_value p.setting.system) candidates
-    ≡ space_items q p.setting.system p.space bus
+    ≡ space_items q p.setting.system keep p.space bus

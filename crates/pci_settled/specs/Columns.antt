@@ -1,17 +1,24 @@
--- Lists of ranges by number, three in each column: of what is plain, of what may lie above 4 GB, and of prefetchable memory.
+-- Lists of ranges by number, three in each column: of what is plain, of what may lie above 4 GB, and of prefetchable memory;
+-- and the places that are told instead.
 use Rattle.std.specs.Prelude.{◌≡◌, ℕ, ◌+◌, ◌*◌, ◌<◌, Bool, if◌then◌else◌, IsTrue, List, [], ◌∷◌, ◌++◌, map, length, slice_index_or, Option, None, Some}
 use Rattle.std.specs.List.{filter, Contains}
 use Rattle.pci_spec.specs.Decoded.{Range as DecodedRange}
 use Rattle.pci_spec.specs.Window.{WindowKind, IoWindow, MemoryWindow, PrefetchWindow}
 use Rattle.pci_spec.specs.System.{System, Space, Io, Memory}
 use Rattle.pci_spec.specs.Bus.{is_root}
-use Rattle.settle_spec.specs.FirstPlace.{is_high}
+use Rattle.settle_spec.specs.FirstPlace.{is_high, else_at, first_place}
 use Rattle.settle_spec.specs.Lists.{RootRange, Lists, Request, is_had_by}
 use Rattle.settle_spec.specs.Items.{Item as ItemValue, Placed}
-use Rattle.settle_spec.specs.Places.{space_items, ranges_of_item}
+use Rattle.settle_spec.specs.Kept.{Kept}
+use Rattle.settle_spec.specs.Keeping.Places.{space_items, place_of_item}
 use Rattle.pci_base.specs.declared.range.Range.{Range}
+use Rattle.pci_base.specs.declared.window_kind.ByKind.{ByKind}
 use Rattle.pci_base.specs.Ranges.{decoded_range_of}
+use Rattle.pci_base.specs.WindowKinds.{by_kind, kind_value}
+use Rattle.pci_settle.specs.declared.place.Places.{Places}
 use Rattle.pci_settle.specs.declared.placing.Wanted.{Wanted}
+use Rattle.pci_settle.specs.Own.{class_part}
+use Rattle.pci_settle.specs.PlaceTables.{placed}
 use Rattle.pci_settled.specs.declared.candidate.Candidate.{Candidate}
 use Rattle.pci_settled.specs.Candidates.{candidate_value}
 
@@ -31,18 +38,34 @@ abbrev pub list_number : List ℕ → ItemValue → ℕ
 list_number roots i =
     3 * column roots i.region.function.slot.bus + kind_number i.class (is_high i.extent)
 
-abbrev pub candidate_wanted : List ℕ → System → Candidate → Wanted
-candidate_wanted roots s c =
-    record { extent = c.item.extent; list = list_number roots (candidate_value s c) }
+-- the place of an item where its window grows, as tables tell it
+abbrev pub told_if : Option Range → Option ℕ → Option ℕ
+told_if None at = None
+told_if (Some r) at = at
+
+abbrev pub told_place : List Places → ByKind (Option Range) → Candidate → Option ℕ
+told_place places grown c =
+    told_if (by_kind grown c.class)
+    (placed places c.item.function (class_part (kind_value c.class) c.item.part))
+
+abbrev pub candidate_wanted : List ℕ → System → List Places → ByKind (Option Range) → Candidate → Wanted
+candidate_wanted roots s places grown c = record {
+  extent = c.item.extent;
+  list = list_number roots (candidate_value s c);
+  at = told_place places grown c;
+}
 
 abbrev pub list_at : List (List Range) → ℕ → List DecodedRange
 list_at lists n = map decoded_range_of (slice_index_or lists n [])
 
--- each item of a bus has the ranges of its list
-abbrev pub AreListsFor : Request → System → Space → (ℕ → List Placed) → ℕ → List (List Range) → Type 0
-AreListsFor q s space placed bus lists =
-    (i : ItemValue) → Contains (space_items q s space bus) i
-    → ranges_of_item q s placed i ≡ list_at lists (list_number q.roots i)
+-- each item of a bus has the place that is told, or else the first one in its list
+abbrev pub AreListsFor : Request → System → Kept → Space → (ℕ → List Placed) → ℕ → List (List Range) → List Places → ByKind (Option Range) → Type 0
+AreListsFor q s keep space placed bus lists places grown =
+    (c : Candidate) → Contains (space_items q s keep space bus) (candidate_value s c)
+    → (taken : List DecodedRange)
+    → place_of_item q s keep placed (candidate_value s c) taken
+    ≡ else_at (told_place places grown c)
+    (first_place (list_at lists (list_number q.roots (candidate_value s c))) taken (candidate_value s c).extent)
 
 -- ---- of roots
 

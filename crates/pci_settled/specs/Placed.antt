@@ -3,15 +3,15 @@ use Rattle.std.specs.Prelude.{◌≡◌, ℕ, ◌<◌, IsTrue, List, length, Opt
 use Rattle.pci_spec.specs.Window.{WindowKind}
 use Rattle.pci_spec.specs.System.{System, Function, Space, Io, Memory, Part, has_part, window_space}
 use Rattle.settle_spec.specs.Lists.{Lists, Request}
-use Rattle.settle_spec.specs.Items.{stays}
-use Rattle.settle_spec.specs.Places.{new_place, lacking}
+use Rattle.settle_spec.specs.Kept.{Kept}
+use Rattle.settle_spec.specs.Keeping.Places.{new_place, lacking}
 use Rattle.pci_base.specs.declared.memory.Refused.{Refused}
 use Rattle.pci_base.specs.declared.memory.Refused.TheVariants as refused
 use Rattle.pci_base.specs.WindowKinds.{kind_value}
 use Rattle.pci_settle.specs.declared.extent.Extent.{Extent}
 use Rattle.pci_settle.specs.declared.over.Left.{Left}
-use Rattle.pci_settle.specs.Kept.{AreKeptParts}
 use Rattle.pci_settle.specs.Over.{AreOpenOver}
+use Rattle.pci_settle.specs.Keeping.{TellsKept}
 use Rattle.pci_settle.specs.NewWindows.{HasNewWindows, IsTooLarge}
 use Rattle.pci_settled.specs.declared.places.Places.{Places}
 use Rattle.pci_settled.specs.declared.anew.Unplaced.{Unplaced}
@@ -25,42 +25,43 @@ use Rattle.pci_settled.specs.Spaces.{HasNewPlaces, space_lack}
 
 abbrev pub HasClassWindows : Setting → WindowKind → List (Option Extent) → Type 0
 HasClassWindows p c windows =
-    (q : Request) → IsStaying q p → HasNewWindows q p.system c p.terms windows
+    (q : Request) (keep : Kept) → IsStaying q keep p → HasNewWindows q p.system c p.terms windows
 
 -- a new window of a class is too large, or there was no memory
 abbrev pub IsClassTooLarge : Setting → WindowKind → Refused Unplaced → Type 0
 IsClassTooLarge p c refused.Memory = ⊤
 IsClassTooLarge p c (refused.Fault (unplaced.Lacks x)) = ⊥
 IsClassTooLarge p c (refused.Fault (unplaced.TooLarge class k)) =
-    (kind_value class ≡ c) × ((q : Request) → IsStaying q p → IsTooLarge q p.system c k)
+    (kind_value class ≡ c) × ((q : Request) (keep : Kept) → IsStaying q keep p → IsTooLarge q p.system c k)
 
 abbrev pub IsSpaceTooLarge : Setting → Space → Refused Unplaced → Type 0
 IsSpaceTooLarge p space refused.Memory = ⊤
 IsSpaceTooLarge p space (refused.Fault (unplaced.Lacks x)) = ⊥
 IsSpaceTooLarge p space (refused.Fault (unplaced.TooLarge class k)) =
     (window_space (kind_value class) ≡ space)
-    × ((q : Request) → IsStaying q p → IsTooLarge q p.system (kind_value class) k)
+    × ((q : Request) (keep : Kept) → IsStaying q keep p → IsTooLarge q p.system (kind_value class) k)
 
 -- ---- of a space
 
 -- nothing on the roots lacks a place in a space, and each part has its new one
-pub record IsSpacePlaced (q : Request) (s : System) (space : Space) (table : List Places) : Type 0 where
-  pub lack : space_lack q s space q.roots ≡ None
-  pub places : HasNewPlaces q s space table
+pub record IsSpacePlaced (q : Request) (s : System) (keep : Kept) (space : Space)
+    (table : List Places) : Type 0 where
+  pub lack : space_lack q s keep space q.roots ≡ None
+  pub places : HasNewPlaces q s keep space table
 
 abbrev pub HasPlacesIn : Setting → Space → Lists → List Places → Type 0
 HasPlacesIn p space l table =
-    (q : Request) → IsStaying q p → q.lists ≡ l → IsSpacePlaced q p.system space table
+    (q : Request) (keep : Kept) → IsStaying q keep p → q.lists ≡ l → IsSpacePlaced q p.system keep space table
 
 -- an item on the roots is the first that lacks a place, or a new window is too large, or there was no memory
 abbrev pub IsUnplacedIn : Setting → Space → Lists → Refused Unplaced → Type 0
 IsUnplacedIn p space l refused.Memory = ⊤
 IsUnplacedIn p space l (refused.Fault (unplaced.Lacks x)) =
-    (q : Request) → IsStaying q p → q.lists ≡ l
-    → space_lack q p.system space q.roots ≡ Some (candidate_value p.system x)
+    (q : Request) (keep : Kept) → IsStaying q keep p → q.lists ≡ l
+    → space_lack q p.system keep space q.roots ≡ Some (candidate_value p.system x)
 IsUnplacedIn p space l (refused.Fault (unplaced.TooLarge class k)) =
     (window_space (kind_value class) ≡ space)
-    × ((q : Request) → IsStaying q p → q.lists ≡ l → IsTooLarge q p.system (kind_value class) k)
+    × ((q : Request) (keep : Kept) → IsStaying q keep p → q.lists ≡ l → IsTooLarge q p.system (kind_value class) k)
 
 -- ---- of both
 
@@ -70,41 +71,45 @@ AreAllNone table =
     → place_range_in (slice_index_or table k d) part ≡ None
 
 -- nothing on the roots lacks a place, and each part of a function has the one that it gets: none for what stays
-pub record ArePartsPlaced (q : Request) (s : System) (table : List Places) : Type 0 where
+pub record ArePartsPlaced (q : Request) (s : System) (keep : Kept) (table : List Places) : Type 0 where
   pub count : length table ≡ length s
-  pub lack : lacking q s ≡ None
+  pub lack : lacking q s keep ≡ None
   pub each : (k : ℕ) (f : Function) (d : Places) (part : Part) → slice_get s k ≡ Some f
       → IsTrue (has_part f part)
       → place_range_in (slice_index_or table k d) part
-      ≡ placed_at (new_place q s record { function = f; part = part })
+      ≡ placed_at (new_place q s keep record { function = f; part = part })
 
 -- a new window is too large, and where it is of memory, nothing lacks a place in I/O
-pub record IsFirstWindowTooLarge (q : Request) (s : System) (c : WindowKind) (k : ℕ) : Type 0 where
+pub record IsFirstWindowTooLarge (q : Request) (s : System) (keep : Kept) (c : WindowKind) (k : ℕ) : Type 0 where
   pub large : IsTooLarge q s c k
-  pub io : window_space c ≡ Memory → space_lack q s Io q.roots ≡ None
+  pub io : window_space c ≡ Memory → space_lack q s keep Io q.roots ≡ None
 
 -- ---- whatever is asked for
 
--- what is asked for below these roots, in these lists, leaves these windows and parts where they stand
-pub record IsLeaving (q : Request) (roots : List ℕ) (s : System) (l : Lists) (left : Left) : Type 0 where
+-- what is asked for below these roots, in these lists, leaves these windows where they stand, and keeps this
+pub record IsLeaving (q : Request) (keep : Kept) (roots : List ℕ) (s : System) (l : Lists)
+    (left : Left) : Type 0 where
   pub rooted : q.roots ≡ roots
   pub lists : q.lists ≡ l
   pub overs_are : AreOpenOver q s left.over.now
-  pub keeps_is : AreKeptParts s (stays q s) left.kept.now
+  pub keeps_is : TellsKept q s keep left
 
 -- something can be asked for that leaves them
 pub record CanBeLeft (roots : List ℕ) (s : System) (l : Lists) (left : Left) : Type 0 where
   pub request : Request
-  pub leaving : IsLeaving request roots s l left
+  pub keep : Kept
+  pub leaving : IsLeaving request keep roots s l left
 
 -- all that doesn't stay has its place
 abbrev pub ArePlacesOff : List ℕ → System → Lists → Left → List Places → Type 0
-ArePlacesOff roots s l left table = (q : Request) → IsLeaving q roots s l left → ArePartsPlaced q s table
+ArePlacesOff roots s l left table =
+    (q : Request) (keep : Kept) → IsLeaving q keep roots s l left → ArePartsPlaced q s keep table
 
 -- an item on the roots is the first that lacks a place, or a new window is too large, or there was no memory
 abbrev pub IsUnplacedOff : List ℕ → System → Lists → Left → Refused Unplaced → Type 0
 IsUnplacedOff roots s l left refused.Memory = ⊤
 IsUnplacedOff roots s l left (refused.Fault (unplaced.Lacks x)) =
-    (q : Request) → IsLeaving q roots s l left → lacking q s ≡ Some (candidate_value s x)
+    (q : Request) (keep : Kept) → IsLeaving q keep roots s l left → lacking q s keep ≡ Some (candidate_value s x)
 IsUnplacedOff roots s l left (refused.Fault (unplaced.TooLarge class k)) =
-    (q : Request) → IsLeaving q roots s l left → IsFirstWindowTooLarge q s (kind_value class) k
+    (q : Request) (keep : Kept) → IsLeaving q keep roots s l left
+    → IsFirstWindowTooLarge q s keep (kind_value class) k

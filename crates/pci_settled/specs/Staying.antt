@@ -2,12 +2,12 @@
 use Rattle.std.specs.Prelude.{ℕ, List}
 use Rattle.pci_spec.specs.System.{System}
 use Rattle.settle_spec.specs.Lists.{Request}
-use Rattle.settle_spec.specs.Items.{stays}
+use Rattle.settle_spec.specs.Kept.{Kept}
 use Rattle.pci_tree.specs.Admission.{Admission}
 use Rattle.pci_place.specs.Above.{system_in}
 use Rattle.pci_settle.specs.declared.own.Terms.{Terms}
-use Rattle.pci_settle.specs.Kept.{AreKeptParts}
 use Rattle.pci_settle.specs.Buses.{Classing, TellsClasses}
+use Rattle.pci_settle.specs.Keeping.{TellsKept}
 use Rattle.pci_stand.specs.Held.{AreHeld}
 use Rattle.pci_settled.specs.declared.staying.Staying.{Staying}
 use Rattle.pci_settled.specs.declared.setting.Setting as declared
@@ -37,8 +37,8 @@ classing p = record {
   overs = p.staying.left.over.now;
 }
 
--- what is asked for below its roots, in lists that tell its terms, leaves these windows and parts where they stand
-pub record IsStaying (q : Request) (p : Setting) : Type 0 where
+-- what is asked for below its roots, in lists that tell its terms, leaves these windows where they stand, and keeps this
+pub record IsStaying (q : Request) (keep : Kept) (p : Setting) : Type 0 where
   pub left : TellsClasses (classing p) q
-  pub keeps_is : AreKeptParts p.system (stays q p.system) p.staying.left.kept.now
-  pub held_is : AreHeld q p.system p.staying.held.now
+  pub keeps_is : TellsKept q p.system keep p.staying.left
+  pub held_is : AreHeld q p.system keep p.staying.held.now

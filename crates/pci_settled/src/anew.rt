@@ -38,6 +38,8 @@ pub fn place_anew<A: Allocator + Copy, B: Allocator>(
     let nothing = Left {
         over: &[],
         kept: &[],
+        grown: &[],
+        places: &[],
     };
     place(alloc, admitted, lists, &nothing)
 }

@@ -1,4 +1,4 @@
-//! The places of the items of one bus, in lists of ranges.
+//! The places of the items of one bus: those that are told, or in lists of ranges.
 ghost use Rattle.std.specs.Prelude.{◌≡◌, ◌<◌, ◌≤◌, IfOk, IsTrue, map, length};
 ghost use Rattle.std.specs.List.{All};
 ghost use Rattle.pci_spec.specs.System.{System};
@@ -10,8 +10,8 @@ ghost use Rattle.pci_tree.specs.Roots.{buses_of};
 ghost use Rattle.pci_place.specs.Above.{AreAboves, system_in};
 ghost use Rattle.pci_settled.specs.Candidates.{AreSpaceWindows, KnowsWindows, IsWithin, pass_value};
 ghost use Rattle.pci_stand.specs.Held.{AreByLevel};
-ghost use Rattle.pci_settled.specs.Columns.{kind_number, column, candidate_wanted};
-ghost use Rattle.pci_settled.specs.BusPlaces.{bus_placing, ArePlacesIn, AreInTable};
+ghost use Rattle.pci_settled.specs.Columns.{kind_number, column, told_place, candidate_wanted};
+ghost use Rattle.pci_settled.specs.BusPlaces.{bus_placing, ArePlacesIn, AreToldEnding, AreInTable};
 
 use crate::candidate::{Candidate, candidates_on};
 use crate::setting::Pass;
@@ -20,7 +20,9 @@ use pci_base::range::Range;
 use pci_base::window_kind::WindowKind;
 use pci_function::record::Record;
 use pci_settle::list::is_root;
+use pci_settle::place::{Places, place_of};
 use pci_settle::placing::{Wanted, place_all};
+use pci_settle::table::WindowRanges;
 use pci_stand::collect::level;
 use pci_stand::held::taken_on;
 use pci_tree::roots::Roots;
@@ -60,37 +62,61 @@ fn column(roots: &Roots, bus: u8) -> usize
     }
 }
 
-/// What is wanted for each item: its extent in the list that is for it.
+/// The places that are told for the items of a bus.
+#[derive(Clone, Copy, Debug)]
+pub struct Told<'a> {
+    /// By function and part.
+    pub places: &'a [Places],
+    /// What the windows over the bus come to: of the items in one that grows the places are told.
+    pub grown: &'a WindowRanges,
+}
+
+/// The place of an item, where it is told.
+fn told_place(told: &Told, candidate: &Candidate) -> Option<u64>
+    ensures { result ≡ told_place told.now.places.now told.now.grown.now candidate.now }
+{
+    match told.grown.get(candidate.class) {
+        Some(_) => place_of(told.places, candidate.class, &candidate.item),
+        None => None,
+    }
+}
+
+/// What is wanted for each item: its extent at the place that is told, or in the list that is for it.
 fn wanted_of<A: Allocator>(
     alloc: A,
     roots: &Roots,
     records: &[Record],
+    told: &Told,
     candidates: &[Candidate],
 ) -> Result<Vec<Wanted, A>, OutOfMemory>
     requires { All (IsWithin (length records.now)) candidates.now }
     ensures { IfOk result (λ wanted. (s : System) → HasRecords s (map record_value records.now)
-        → wanted.items ≡ map (candidate_wanted (buses_of roots.now) s) candidates.now) }
+        → wanted.items ≡ map (candidate_wanted (buses_of roots.now) s told.now.places.now
+        told.now.grown.now) candidates.now) }
 {
     let mut wanted = Vec::new(alloc);
     for candidate in candidates {
         let item = candidate.item;
         let bus = records[item.function].slot.bus();
         let list = 3 * column(roots, bus) + kind_number(candidate.class, item.extent.is_high());
+        let at = told_place(told, candidate);
         wanted.push(Wanted {
             extent: item.extent,
             list,
+            at,
         })?;
     }
     Ok(wanted)
 }
 
-/// Gives each item of a bus its first place in its list, off what stays there: on the roots the lists are columns by bus,
-/// and elsewhere one column.
+/// Gives each item of a bus the place that is told, or else its first place in its list, off what stays there: on the roots
+/// the lists are columns by bus, and elsewhere one column. `grown` is what the windows over the bus come to.
 pub fn place_bus<A: Allocator + Copy, B: Allocator>(
     alloc: A,
     pass: &Pass<B>,
     bus: u8,
     lists: &[Vec<Range, A>],
+    grown: &WindowRanges,
 ) -> Result<BusPlaces<A>, OutOfMemory>
     // which windows lead to a BAR decides its class
     requires above { AreAboves (system_in pass.now.setting.now.admitted.now)
@@ -103,10 +129,12 @@ pub fn place_bus<A: Allocator + Copy, B: Allocator>(
     requires known { KnowsWindows (pass_value pass.now) }
     // a column has three lists: of plain ranges, of those above 4 GB too, and of prefetchable ones
     requires some { 3 ≤ length lists.now }
+    // the places that are told end in 64 bits
+    requires ending { AreToldEnding (pass_value pass.now) bus grown.now }
     // a root has a column of its own, found by its number
     requires roots { IsTrue (is_root pass.now.setting.now.admitted.now.roots bus) → length lists.now ≡ 768 }
     ensures placing { IfOk result (λ places. ArePlacesIn (pass_value pass.now)
-        bus (map (λ list. list.items) lists.now)
+        bus (map (λ list. list.items) lists.now) grown.now
         (bus_placing (system_in pass.now.setting.now.admitted.now) places.candidates.items
         places.places.items places.lack)) }
     // by it each place is noted where its function's record is
@@ -118,7 +146,11 @@ pub fn place_bus<A: Allocator + Copy, B: Allocator>(
     let outline = setting.admitted.outline();
     let roots = outline.roots();
     let records = outline.records();
-    let wanted = wanted_of(alloc, &roots, records, candidates.as_slice())?;
+    let told = Told {
+        places: setting.staying.left.places,
+        grown,
+    };
+    let wanted = wanted_of(alloc, &roots, records, &told, candidates.as_slice())?;
     let mut places = vec![in alloc; 0; candidates.len()]?;
     let level = level(&roots, bus);
     let mut taken = taken_on(alloc, setting.staying.held, level, pass.space)?;

@@ -135,7 +135,7 @@ fn no_places<A: Allocator>(alloc: A, functions: usize) -> Result<Vec<Places, A>,
 }
 
 /// The addresses that all parts get that don't stay where they are, by function in slot order, or what can't be placed: in I/O
-/// space, or else in memory. `left` is what stays, and by which windows BARs have their classes.
+/// space, or else in memory. `left` is what stays, to what it grows there, and by which windows BARs have their classes.
 ///
 /// A new window of 2^64 addresses or more is told also where its bridge keeps the one that it has.
 pub fn place<A: Allocator + Copy, B: Allocator>(
@@ -153,7 +153,7 @@ pub fn place<A: Allocator + Copy, B: Allocator>(
 {
     let aboves = aboves(admitted);
     let terms = Terms::of(lists);
-    let held = held_parts(alloc, admitted, lists, left.kept)?;
+    let held = held_parts(alloc, admitted, lists, left.kept, left.grown)?;
     let staying = Staying {
         left: *left,
         held: held.as_slice(),

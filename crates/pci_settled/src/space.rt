@@ -8,7 +8,8 @@ ghost use Rattle.pci_settle.specs.Lists.{lists_value};
 ghost use Rattle.pci_settle.specs.Own.{AreTerms};
 ghost use Rattle.pci_stand.specs.Held.{AreByLevel};
 ghost use Rattle.pci_settled.specs.Candidates.{AreSpaceWindows, HasWindowsIn, KnowsWindows, KnowsRequest, pass_value};
-ghost use Rattle.pci_settled.specs.Spaces.{IsFirstRoot, AreNotedOnRoots, AreNotedBehind, HasNone, KeepsOtherSpace, AreSpacePlacesIn};
+ghost use Rattle.pci_settled.specs.BusPlaces.{AreToldEnding};
+ghost use Rattle.pci_settled.specs.Spaces.{grown_by, IsFirstRoot, AreNotedOnRoots, AreNotedBehind, HasNone, KeepsOtherSpace, AreSpacePlacesIn};
 ghost use Rattle.pci_settled.specs.Staying.{setting_value};
 
 use crate::bus::place_bus;
@@ -16,12 +17,13 @@ use crate::candidate::Candidate;
 use crate::column::{add_column, column_behind, root_lists};
 use crate::places::{Places, note_bus};
 use crate::setting::Pass;
-use crate::window::{plain_window, prefetch_window};
+use crate::window::{BridgeWindows, plain_window, prefetch_window};
 use pci_base::memory::OutOfMemory;
 use pci_base::slot::BUSES;
 use pci_function::record::Bridge;
 use pci_settle::bus::kept_by;
 use pci_settle::list::{Lists, is_root};
+use pci_settle::table::{NONE, ranges_told};
 use pci_tree::roots::Roots;
 use std::alloc::Allocator;
 
@@ -63,11 +65,13 @@ fn place_on_roots<A: Allocator + Copy, B: Allocator>(
     };
     let all = root_lists(alloc, &roots, pass.space, lists)?;
     let columns = all.as_slice();
-    let places = place_bus(alloc, pass, root, columns)?;
+    // no window is over a root
+    let places = place_bus(alloc, pass, root, columns, &NONE)?;
     Ok(note_bus(&places, table))
 }
 
-/// Places what is on the bus behind a bridge in the windows that the bridge keeps or has in the table, and notes it.
+/// Places what is on the bus behind a bridge in the windows that the bridge keeps or has in the table, or where that is told,
+/// and notes it.
 fn place_behind<A: Allocator + Copy, B: Allocator>(
     alloc: A,
     pass: &Pass<B>,
@@ -84,20 +88,28 @@ fn place_behind<A: Allocator + Copy, B: Allocator>(
     requires lawful { AreSpaceWindows pass.now.windows.now }
     requires known { KnowsWindows (pass_value pass.now) }
     requires count { length table.old ≡ length (system_in pass.now.setting.now.admitted.now) }
+    // the places that are told end in 64 bits
+    requires ending { AreToldEnding (pass_value pass.now) bridge.now.secondary
+        (grown_by pass.now.setting.now.staying function) }
     ensures noted { OnOk result (AreNotedBehind (pass_value pass.now)
         function bridge.now table.old table.new) }
 {
     let places = &table[function];
     let setting = pass.setting;
-    let kept = kept_by(setting.staying.left.kept, function);
+    let left = setting.staying.left;
+    let grown = ranges_told(left.grown, function);
+    let staying = BridgeWindows {
+        kept: kept_by(left.kept, function),
+        grown,
+    };
     let column = column_behind(
         alloc,
-        plain_window(kept, bridge, places, pass.space),
-        prefetch_window(kept, bridge, places, pass.space),
+        plain_window(&staying, bridge, places, pass.space),
+        prefetch_window(&staying, bridge, places, pass.space),
     )?;
     let mut lists = Vec::new(alloc);
     add_column(&mut lists, column)?;
-    let places = place_bus(alloc, pass, bridge.secondary, lists.as_slice())?;
+    let places = place_bus(alloc, pass, bridge.secondary, lists.as_slice(), grown)?;
     // in a window that stays or is new all that is behind it has a place
     note_bus(&places, table);
     Ok(())

@@ -11,7 +11,7 @@ wanted_of-requires g c =
     let outline = c.outline-outline.ensures in
     let records = c.records-records.result.now in
     let has = lent s records c.records-records.ensures.value outline.records in
-    slice_within c.args.pass.now.setting.now.admitted.now.roots s outline.admitted.system (space_of c.args.pass.now.space) c.args.pass.now.setting.now.terms c.args.pass.now.setting.now.staying c.args.pass.now.windows.now c.args.bus c.in_ok-candidates.candidates.items c.in_ok-candidates.ensures.items
+    slice_within c.args.pass.now.setting.now.admitted.now.roots s outline.admitted.system (space_of c.args.pass.now.space) c.args.pass.now.setting.now.terms c.args.pass.now.setting.now.staying c.args.pass.now.windows.now c.args.bus c.args.grown.now c.in_ok-candidates.candidates.items c.in_ok-candidates.ensures.items
     _ (c.roots-roots.ensures ∙ outline.roots) _ c.as_slice.ensures.value _ refl c.requires.known (length records) (same_count s records has)
 
 pub place_all-requires-clause-wanted : goal.place_all-requires-clause-wanted
@@ -20,9 +20,9 @@ place_all-requires-clause-wanted g c =
     let outline = c.outline-outline.ensures in
     let records = c.records-records.result.now in
     let has = lent s records c.records-records.ensures.value outline.records in
-    all_lawful c.args.pass.now.setting.now.admitted.now.roots s outline.admitted.system (space_of c.args.pass.now.space) c.args.pass.now.setting.now.terms c.args.pass.now.setting.now.staying c.args.pass.now.windows.now c.args.bus c.in_ok-candidates.candidates.items c.in_ok-candidates.ensures.items
+    all_lawful c.args.pass.now.setting.now.admitted.now.roots s outline.admitted.system (space_of c.args.pass.now.space) c.args.pass.now.setting.now.terms c.args.pass.now.setting.now.staying c.args.pass.now.windows.now c.args.bus c.args.grown.now c.in_ok-candidates.candidates.items c.in_ok-candidates.ensures.items
     _ (c.roots-roots.ensures ∙ outline.roots) _ c.as_slice.ensures.value c.in_ok-wanted.wanted.items (c.in_ok-wanted.ensures s has) c.requires.known
-    _ c.as_slice-2.ensures.value (length c.args.lists.now) c.requires.some c.requires.roots (c.in_ok-candidates.ensures.lawful c.requires.lawful)
+    _ c.as_slice-2.ensures.value (length c.args.lists.now) c.requires.some c.requires.roots (c.in_ok-candidates.ensures.lawful c.requires.lawful) c.requires.ending
 
 pub returns-clause-placing : goal.returns-clause-placing
 returns-clause-placing g c =
@@ -31,7 +31,7 @@ returns-clause-placing g c =
     let records = c.records-records.result.now in
     let has = lent s records c.records-records.ensures.value outline.records in
     let long = c.in_ok-places.places.ok.0 in
-    places_in c.args.pass.now.setting.now.admitted.now.roots s outline.admitted.system (space_of c.args.pass.now.space) c.args.pass.now.setting.now.terms c.args.pass.now.setting.now.staying c.args.pass.now.windows.now c.args.bus c.in_ok-candidates.candidates.items c.in_ok-candidates.ensures.items
+    places_in c.args.pass.now.setting.now.admitted.now.roots s outline.admitted.system (space_of c.args.pass.now.space) c.args.pass.now.setting.now.terms c.args.pass.now.setting.now.staying c.args.pass.now.windows.now c.args.bus c.args.grown.now c.in_ok-candidates.candidates.items c.in_ok-candidates.ensures.items
     _ (c.roots-roots.ensures ∙ outline.roots) _ c.as_slice.ensures.value c.in_ok-wanted.wanted.items (c.in_ok-wanted.ensures s has) c.requires.known
     _ c.as_slice-2.ensures.value c.place_all.new.places c.in_ok-lack.lack _
     (slice_back c.in_ok-places.places.len c.place_all.new.places c.in_ok-places.places.items (c.place_all.auto.places ∙ ap length c.as_mut_slice.ensures.value) (omega (arith, long)))
@@ -48,7 +48,7 @@ returns-clause-within g c =
     let places = c.in_ok-places.ensures.len in
     let candidates = c.len.ensures in
     let listed = c.in_ok-candidates.candidates.ok.0 in
-    within_in c.args.pass.now.setting.now.admitted.now.roots s outline.admitted.system (space_of c.args.pass.now.space) c.args.pass.now.setting.now.terms c.args.pass.now.setting.now.staying c.args.pass.now.windows.now c.args.bus c.in_ok-candidates.candidates.items c.in_ok-candidates.ensures.items
+    within_in c.args.pass.now.setting.now.admitted.now.roots s outline.admitted.system (space_of c.args.pass.now.space) c.args.pass.now.setting.now.terms c.args.pass.now.setting.now.staying c.args.pass.now.windows.now c.args.bus c.args.grown.now c.in_ok-candidates.candidates.items c.in_ok-candidates.ensures.items
     _ (c.roots-roots.ensures ∙ outline.roots) _ c.as_slice.ensures.value c.in_ok-wanted.wanted.items (c.in_ok-wanted.ensures s has) c.requires.known
     _ c.as_slice-2.ensures.value c.place_all.new.places c.in_ok-lack.lack _
     (slice_back c.in_ok-places.places.len c.place_all.new.places c.in_ok-places.places.items (c.place_all.auto.places ∙ ap length c.as_mut_slice.ensures.value) (omega (arith, long)))

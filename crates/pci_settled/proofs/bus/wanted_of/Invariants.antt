@@ -7,4 +7,4 @@ use Rattle.pci_settled.specs.Columns.{candidate_wanted}
 use Rattle.pci_settled.proofs.bus.wanted_of.Given as goal
 
 abbrev pub invariant-loop-candidate : goal.invariant-loop-candidate
-invariant-loop-candidate g l = (s : System) → HasRecords s (map record_value l.records) → l.wanted.items ≡ take l.candidate-index (map (candidate_wanted (buses_of l.roots) s) l.candidates)
+invariant-loop-candidate g l = (s : System) → HasRecords s (map record_value l.records) → l.wanted.items ≡ take l.candidate-index (map (candidate_wanted (buses_of l.roots) s l.told.places.now l.told.grown.now) l.candidates)

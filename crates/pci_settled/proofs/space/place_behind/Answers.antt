@@ -18,7 +18,7 @@ returns g c =
     let column = c.in_ok-column.column in
     record {
       noted = behind_noted c.args.pass.now.setting.now.admitted.now.roots s (space_of c.args.pass.now.space) c.args.pass.now.setting.now.terms c.args.pass.now.setting.now.staying c.args.pass.now.windows.now c.args.bridge.now c.requires.behind c.args.function c.args.table.now c.note_bus.new.table c.requires.function _
-          c.kept_by-kept.result.now c.kept_by-kept.ensures
+          c.kept_by.result.now c.kept_by.ensures c.ranges_told-grown.result.now c.ranges_told-grown.ensures
           c.plain_window.result c.prefetch_window.result c.plain_window.ensures c.prefetch_window.ensures (map items c.as_slice.result.now)
           (ap (map items) c.as_slice.ensures.value
           ∙ c.in_ok-add_column.ensures

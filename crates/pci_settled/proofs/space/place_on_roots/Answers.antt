@@ -7,10 +7,14 @@ use Rattle.pci_place.specs.Above.{system_in}
 use Rattle.pci_settle.specs.Lists.{lists_value}
 use Rattle.pci_settled.specs.BusPlaces.{bus_placing}
 use Rattle.pci_settled.specs.Spaces.{IsFirstRoot}
-use Rattle.pci_settled.proofs.Buses.{root_places}
+use Rattle.pci_settled.proofs.Buses.{root_places, untold_ending}
 use Rattle.pci_settled.proofs.Notes.{notable}
 use Rattle.pci_settled.proofs.SpaceSteps.{roots_noted}
 use Rattle.pci_settled.proofs.space.place_on_roots.Goals as goal
+
+pub place_bus-requires-clause-ending : goal.place_bus-requires-clause-ending
+place_bus-requires-clause-ending g c =
+    untold_ending c.args.pass.now.setting.now.admitted.now.roots (system_in c.args.pass.now.setting.now.admitted.now) (space_of c.args.pass.now.space) c.args.pass.now.setting.now.terms c.args.pass.now.setting.now.staying c.args.pass.now.windows.now c.in-Some.root
 
 pub note_bus-requires : goal.note_bus-requires
 note_bus-requires g c =

@@ -6,7 +6,7 @@ use Rattle.pci_place.proofs.Records.{lent, same_count}
 use Rattle.pci_settle.specs.Lists.{lists_value}
 use Rattle.pci_settled.specs.Candidates.{pass_of}
 use Rattle.pci_settled.specs.Spaces.{AreNotedOnRoots}
-use Rattle.pci_settled.proofs.SpaceSteps.{IsSpaceTo, known_of, roots_lack, roots_others, roots_placed, bus_off, space_same, space_more, space_all, none_if_some, none_of}
+use Rattle.pci_settled.proofs.SpaceSteps.{IsSpaceTo, known_of, roots_lack, roots_others, roots_placed, bus_off, told_ends, space_same, space_more, space_all, none_if_some, none_of}
 use Rattle.pci_settled.proofs.space.place_space.Goals as goal
 use Rattle.pci_settled.proofs.space.place_space.Goals.{in-Some+in_ok-place_behind, in_default}
 
@@ -19,11 +19,11 @@ place_behind-requires-clause-known g c =
     known_of c.args.pass.now.setting.now.admitted.now.roots (system_in c.args.pass.now.setting.now.admitted.now) (space_of c.args.pass.now.space) (lists_value c.args.lists.now) c.args.pass.now.setting.now.terms c.args.pass.now.setting.now.staying c.args.pass.now.windows.now c.requires.known c.requires.windows
 
 pub returns-then-is_some-clause-placed : goal.returns-then-is_some-clause-placed
-returns-then-is_some-clause-placed g c = λ q anew same has. (
+returns-then-is_some-clause-placed g c = λ q keep anew same has. (
     let admitted = c.outline-outline.ensures.admitted in
     record {
       lack_is = roots_lack c.args.pass.now.setting.now.admitted.now.roots (system_in c.args.pass.now.setting.now.admitted.now) admitted.system admitted.nested (space_of c.args.pass.now.space) (lists_value c.args.lists.now) c.args.pass.now.setting.now.terms c.args.pass.now.setting.now.staying c.args.pass.now.windows.now c.requires.known c.requires.windows
-          c.args.table.now c.place_on_roots.new.table c.in_ok-lack.lack c.in_ok-lack.ensures.noted q anew same has;
+          c.args.table.now c.place_on_roots.new.table c.in_ok-lack.lack c.in_ok-lack.ensures.noted q keep anew same has;
       places = none_if_some c.in_ok-lack.lack _ (sym c.is_some.ensures ∙ c.if-is_some.true);
     })
 
@@ -50,6 +50,16 @@ place_behind-requires-clause-behind g c =
     let records = c.records-records.result.now in
     let has = lent s records c.records-records.ensures.value c.outline-outline.ensures.records in
     bus_off c.args.pass.now.setting.now.admitted.now.roots s admitted.system admitted.nested (space_of c.args.pass.now.space) (lists_value c.args.lists.now) c.args.pass.now.setting.now.terms c.args.pass.now.setting.now.staying c.args.pass.now.windows.now c.requires.known c.requires.windows
+    records has c.loop-function.function c.index-records-function.result c.loop-function-test.true c.index-records-function.is c.args.table.now c.loop-function.table c.loop-function.invariant
+    c.in-Some.bridge (ap (λ (x : Record). x.bridge) c.index-records-function.is ∙ c.in-Some.is)
+
+pub place_behind-requires-clause-ending : goal.place_behind-requires-clause-ending
+place_behind-requires-clause-ending g c =
+    let admitted = c.outline-outline.ensures.admitted in
+    let s = system_in c.args.pass.now.setting.now.admitted.now in
+    let records = c.records-records.result.now in
+    let has = lent s records c.records-records.ensures.value c.outline-outline.ensures.records in
+    told_ends c.args.pass.now.setting.now.admitted.now.roots s admitted.system admitted.nested (space_of c.args.pass.now.space) (lists_value c.args.lists.now) c.args.pass.now.setting.now.terms c.args.pass.now.setting.now.staying c.args.pass.now.windows.now c.requires.known c.requires.windows
     records has c.loop-function.function c.index-records-function.result c.loop-function-test.true c.index-records-function.is c.args.table.now c.loop-function.table c.loop-function.invariant
     c.in-Some.bridge (ap (λ (x : Record). x.bridge) c.index-records-function.is ∙ c.in-Some.is)
 
