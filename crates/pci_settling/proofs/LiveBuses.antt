@@ -13,9 +13,11 @@ use Rattle.pci_spec.specs.Decoded.{HasRecords}
 use Rattle.pci_spec.specs.Decoded as decoded
 use Rattle.plan_spec.proofs.Planning.Safe.{order_of}
 use Rattle.settle_spec.specs.Lists.{Request}
-use Rattle.settle_spec.specs.Registers.{has_own, is_enabled_in}
-use Rattle.settle_spec.specs.LiveLaws.{is_live, has_live_behind}
-use Rattle.settle_spec.proofs.Live.{live_by_bus}
+use Rattle.settle_spec.specs.Registers.{has_own}
+use Rattle.settle_spec.specs.LiveLaws.{has_live_behind}
+use Rattle.settle_spec.specs.Kept.{Kept}
+use Rattle.settle_spec.specs.Keeping.Registers.{is_enabled_in}
+use Rattle.settle_laws.proofs.Keeping.Live.{live_by_bus}
 use Rattle.pci_function.specs.declared.record.Bridge.{Bridge}
 use Rattle.pci_function.specs.declared.record.Record.{Record}
 use Rattle.pci_function.specs.Values.{record_value}
@@ -30,7 +32,7 @@ use Rattle.pci_settle.proofs.NewWindows.{comes_later}
 use Rattle.pci_settled.specs.declared.places.Places.{Places}
 use Rattle.pci_settling.specs.Images.{HasPartPlaces}
 use Rattle.pci_settling.specs.Claims.{has_kept}
-use Rattle.pci_settling.specs.Live.{IsRequestOfTerms, HasAllPlaces, AreLiveBuses, is_live_behind, is_live_by}
+use Rattle.pci_settling.specs.Live.{is_live, IsRequestOfTerms, HasAllPlaces, AreLiveBuses, is_live_behind, is_live_by}
 use Rattle.pci_settling.proofs.KeptClaims.{kept_are}
 use Rattle.pci_settling.proofs.PlacedClaims.{enabled_is}
 
@@ -42,17 +44,17 @@ any_drop p (suc n) (x ∷ xs) off =
     any_drop p n xs (λ j d less within. off (suc j) d (omega (arith, less)) (omega (arith, within)))
     ∙ sym (ap (λ b. b || list_any p xs) (off 0 x (omega arith) (omega arith)))
 
-abbrev pub live_on : System → Space → Request → ℕ → Function → Bool
-live_on s space q bus g = g.slot.bus == bus && is_live q s space g
+abbrev pub live_on : System → Space → Request → Kept → ℕ → Function → Bool
+live_on s space q keep bus g = g.slot.bus == bus && is_live q s keep space g
 
 -- the table has the buses of the functions from place n on
 pub record AreLiveFrom (roots : List ℕ) (s : System) (space : Space) (t : Terms) (table : List Places) (n : ℕ) (live : List Bool) : Type 0 where
   pub size : length live ≡ 256
-  pub each : (q : Request) (bus : ℕ) → IsRequestOfTerms q roots t → HasAllPlaces q s table → bus < 256 → get_or live bus false ≡ list_any (live_on s space q bus) (drop n s)
+  pub each : (q : Request) (keep : Kept) (bus : ℕ) → IsRequestOfTerms q roots t → HasAllPlaces q s keep table → bus < 256 → get_or live bus false ≡ list_any (live_on s space q keep bus) (drop n s)
 
 module _ (roots : List ℕ) (s : System) (system : IsSystem s) (nested : IsNested roots s) (space : Space) (t : Terms) (table : List Places) where
-  abbrev on : Request → ℕ → Function → Bool
-  on q bus g = live_on s space q bus g
+  abbrev on : Request → Kept → ℕ → Function → Bool
+  on q keep bus g = live_on s space q keep bus g
 
   abbrev AreLive : ℕ → List Bool → Type 0
   AreLive n live = AreLiveFrom roots s space t table n live
@@ -60,41 +62,41 @@ module _ (roots : List ℕ) (s : System) (system : IsSystem s) (nested : IsNeste
   pub live_none : (n : ℕ) → length s ≤ n → AreLive n (replicate 256 false)
   live_none n past = record {
     size = refl;
-    each = λ q bus of placed small. get_or-replicate 256 bus false false small ∙ sym (ap (list_any (on q bus)) (drop_all n s past));
+    each = λ q keep bus of placed small. get_or-replicate 256 bus false false small ∙ sym (ap (list_any (on q keep bus)) (drop_all n s past));
   }
 
   pub live_all : (live : List Bool) → AreLive 0 live → AreLiveBuses roots s space t table live
-  live_all live from q bus of placed small = from.each q bus of placed small
+  live_all live from q keep bus of placed small = from.each q keep bus of placed small
 
   -- where the table has the buses of all functions after a bridge, it has the one behind the bridge
-  pub behind_is : (k : ℕ) (f : Function) (r : Record) → slice_get s k ≡ Some f → IsRecordOf s f r → (live : List Bool) → (q : Request)
-      → ((bus : ℕ) → bus < 256 → get_or live bus false ≡ list_any (on q bus) (drop (k + 1) s)) → is_live_behind live r.bridge ≡ has_live_behind s (is_live q s space) f
-  behind_is k f r at is live q has = by r.bridge refl
+  pub behind_is : (k : ℕ) (f : Function) (r : Record) → slice_get s k ≡ Some f → IsRecordOf s f r → (live : List Bool) → (q : Request) (keep : Kept)
+      → ((bus : ℕ) → bus < 256 → get_or live bus false ≡ list_any (on q keep bus) (drop (k + 1) s)) → is_live_behind live r.bridge ≡ has_live_behind s (is_live q s keep space) f
+  behind_is k f r at is live q keep has = by r.bridge refl
     where
-      by : (o : Option Bridge) → r.bridge ≡ o → is_live_behind live o ≡ has_live_behind s (is_live q s space) f
+      by : (o : Option Bridge) → r.bridge ≡ o → is_live_behind live o ≡ has_live_behind s (is_live q s keep space) f
       by None e =
           let off : is_bridge f ≡ false = sym (same_bridge r f is.value) ∙ ap is_some e in
-          sym (ap (λ b. b && list_any (on q (secondary f)) s) off)
+          sym (ap (λ b. b && list_any (on q keep (secondary f)) s) off)
       by (Some b) e =
           let bridge : is_bridge f ≡ true = sym (same_bridge r f is.value) ∙ ap is_some e in
           let to : b.secondary ≡ secondary f = ap (λ (x : decoded.Bridge). x.secondary) (same_bridge_of r f b is.value e) in
           let small = (All-contains IsFunction s f system.each is.listed).image.bytes 0x19 in
           let up = order_of roots s nested f is.listed bridge in
           ap (λ n. get_or live n false) to ∙ has (secondary f) small
-          ∙ any_drop (on q (secondary f)) (k + 1) s (λ j d less within.
-          false_from_ne_true (on q (secondary f) (get_or s j d)) (λ fine.
+          ∙ any_drop (on q keep (secondary f)) (k + 1) s (λ j d less within.
+          false_from_ne_true (on q keep (secondary f) (get_or s j d)) (λ fine.
           let g = get_or s j d in
-          let bus = eqb-true g.slot.bus (secondary f) (and_parts (g.slot.bus == secondary f) (is_live q s space g) fine).0 in
+          let bus = eqb-true g.slot.bus (secondary f) (and_parts (g.slot.bus == secondary f) (is_live q s keep space g) fine).0 in
           let later = comes_later s system k j f g at (slice_get-get_or s j d within) (omega (arith, bus, up)) in
           (let no : ⊥ = omega (arith, later, less) in no)))
-          ∙ sym (ap (λ x. x && list_any (on q (secondary f)) s) bridge)
+          ∙ sym (ap (λ x. x && list_any (on q keep (secondary f)) s) bridge)
 
   -- a function of the system, its record and its place in the table
-  module _ (k : ℕ) (f : Function) (r : Record) (at : slice_get s k ≡ Some f) (is : IsRecordOf s f r) (d : Places) (above : Above) (over : IsAbove s f.slot.bus above) (q : Request) (of : IsRequestOfTerms q roots t) (placed : HasAllPlaces q s table) where
+  module _ (k : ℕ) (f : Function) (r : Record) (at : slice_get s k ≡ Some f) (is : IsRecordOf s f r) (d : Places) (above : Above) (over : IsAbove s f.slot.bus above) (q : Request) (keep : Kept) (of : IsRequestOfTerms q roots t) (placed : HasAllPlaces q s keep table) where
     nested_for : IsNested q.roots s
     nested_for = subst (λ xs. IsNested xs s) (sym of.rooted) nested
 
-    pub placed_here : HasPartPlaces q s f r (get_or table k d)
+    pub placed_here : HasPartPlaces q s keep f r (get_or table k d)
     placed_here = record {
       system = system;
       nested = nested_for;
@@ -102,12 +104,12 @@ module _ (roots : List ℕ) (s : System) (system : IsSystem s) (nested : IsNeste
       each = λ part there. placed.each k f d part at there;
     }
 
-    pub live_is : (behind : Bool) → behind ≡ has_live_behind s (is_live q s space) f → is_live_by space (get_or table k d) above t r behind ≡ is_live q s space f
+    pub live_is : (behind : Bool) → behind ≡ has_live_behind s (is_live q s keep space) f → is_live_by space (get_or table k d) above t r behind ≡ is_live q s keep space f
     live_is behind same =
-        ap (λ b. b && (has_kept space above t r || behind)) (enabled_is q s f r (get_or table k d) placed_here above over t of.terms space (is_live q s space) behind same)
-        ∙ ap (λ b. is_enabled_in q s space f && (b || behind)) (kept_are q s f r is above over t of.terms space)
-        ∙ ap (λ b. is_enabled_in q s space f && (has_own q s space f || b)) same
-        ∙ sym (live_by_bus q s space system nested_for f is.listed)
+        ap (λ b. b && (has_kept space above t r || behind)) (enabled_is q s keep f r (get_or table k d) placed_here above over t of.terms space (is_live q s keep space) behind same)
+        ∙ ap (λ b. is_enabled_in q s keep space f && (b || behind)) (kept_are q s f r is above over t of.terms space)
+        ∙ ap (λ b. is_enabled_in q s keep space f && (has_own q s space f || b)) same
+        ∙ sym (live_by_bus q s keep space system nested_for f is.listed)
 
   -- ---- the next function
 
@@ -160,11 +162,11 @@ module _ (roots : List ℕ) (s : System) (system : IsSystem s) (nested : IsNeste
         ] in
         subst (λ n. AreLive n new) next record {
           size = ap length new_is ∙ long;
-          each = λ q other of placed small.
-              let told = behind_read ∙ behind_is place f r here.at here.is old q (λ n less. before.each q n of placed less) in
-              let live = test_is ∙ live_is place f r here.at here.is d (get_or aboves bus a) over q of placed behind told in
+          each = λ q keep other of placed small.
+              let told = behind_read ∙ behind_is place f r here.at here.is old q keep (λ n less. before.each q keep n of placed less) in
+              let live = test_is ∙ live_is place f r here.at here.is d (get_or aboves bus a) over q keep of placed behind told in
               ap (λ xs. get_or xs other false) new_is ∙ shown other test
               ∙ ap (λ b. (f.slot.bus == other && b) || get_or old other false) live
-              ∙ ap (λ b. on q other f || b) (before.each q other of placed small)
-              ∙ sym (ap (list_any (on q other)) (drop_more s place f (slice_get_within s place f here.at)) ∙ ap (λ g. on q other g || list_any (on q other) (drop (place + 1) s)) (get_or_from_slice_get s place f f here.at));
+              ∙ ap (λ b. on q keep other f || b) (before.each q keep other of placed small)
+              ∙ sym (ap (list_any (on q keep other)) (drop_more s place f (slice_get_within s place f here.at)) ∙ ap (λ g. on q keep other g || list_any (on q keep other) (drop (place + 1) s)) (get_or_from_slice_get s place f f here.at));
         }

@@ -16,8 +16,9 @@ use Rattle.pci_spec.proofs.Records.{memory_window_there}
 use Rattle.settle_spec.specs.Lists.{Request}
 use Rattle.settle_spec.specs.Parts.{FunctionPart, is_part, is_left, header_bars, header_parts, are_same_space, has_left}
 use Rattle.settle_spec.specs.Items.{Placed}
-use Rattle.settle_spec.specs.Places.{new_place}
-use Rattle.settle_spec.specs.Registers.{got_place, is_enabled_if}
+use Rattle.settle_spec.specs.Kept.{Kept}
+use Rattle.settle_spec.specs.Keeping.Places.{new_place}
+use Rattle.settle_spec.specs.Keeping.Registers.{got_place, is_enabled_if}
 use Rattle.settle_spec.specs.LiveLaws.{has_live_behind}
 use Rattle.pci_base.specs.Space.{is_on}
 use Rattle.pci_image.specs.declared.bar.Bar.{Bar as CodeBar}
@@ -64,12 +65,12 @@ by_place None test other true both = and_false test ∙ sym (and_false other)
 by_place None test other false both = and_false test ∙ sym (and_false other)
 by_place (Some x) test other is both = ap (λ b. b && (is && true)) (both x refl).0 ∙ sym (ap (λ b. b && (is && true)) (both x refl).1)
 
-module _ (q : Request) (s : System) (f : Function) (r : Record) (p : Places) (placed : HasPartPlaces q s f r p) (above : Above) (over : IsAbove s f.slot.bus above) (t : Terms) (terms : AreTerms q.lists t) (space : Space) where
+module _ (q : Request) (s : System) (keep : Kept) (f : Function) (r : Record) (p : Places) (placed : HasPartPlaces q s keep f r p) (above : Above) (over : IsAbove s f.slot.bus above) (t : Terms) (terms : AreTerms q.lists t) (space : Space) where
   abbrev region : Part → FunctionPart
   region part = record { function = f; part = part }
 
   abbrev place : Part → Option Placed
-  place part = new_place q s (region part)
+  place part = new_place q s keep (region part)
 
   abbrev all : List ℕ
   all = range_with_len 0 (bar_count (layout f.image))
@@ -94,7 +95,7 @@ module _ (q : Request) (s : System) (f : Function) (r : Record) (p : Places) (pl
       ∙ ap (λ m. is_of (Bar n) && is_some (place_range_in p (Bar m))) (register_place bar.reg n (ap (λ (x : DecodedBar). x.register) e))
 
   is_there : (part : Part) → has_part f part ≡ true → is_window part ≡ false → (x : Placed) → place part ≡ Some x → is_part q s f part ≡ true
-  is_there part there plain x some = placed_is_part q s placed.system placed.nested f placed.is.listed (low_bus q s f r p placed) part there plain x some
+  is_there part there plain x some = placed_is_part q s keep placed.system placed.nested f placed.is.listed (low_bus q s keep f r p placed) part there plain x some
 
   got_bar : (n : ℕ) → Contains all n → (has_bar f.probe n && (is_of (Bar n) && is_some (place_range_in p (Bar n)))) ≡ got (Bar n)
   got_bar n listed =
@@ -141,7 +142,7 @@ module _ (q : Request) (s : System) (f : Function) (r : Record) (p : Places) (pl
       ∙ ap (λ x. got (Window IoWindow) || (x || (is_some w.pref && (are_same_space space Memory && is_some p.windows.prefetchable)))) memory
       ∙ ap (λ x. got (Window IoWindow) || (got (Window MemoryWindow) || x)) prefetch
 
-  placed_are : has_placed space p r ≡ got_place q s space f
+  placed_are : has_placed space p r ≡ got_place q s keep space f
   placed_are =
       ap (λ b. b || (has_placed_window space p r.bridge || (are_same_space space Memory && is_some p.rom)))
       (any_bar s f r placed.is (is_placed_bar space p) (λ n. is_of (Bar n) && is_some (place_range_in p (Bar n))) got placed_same got_bar)
@@ -149,14 +150,14 @@ module _ (q : Request) (s : System) (f : Function) (r : Record) (p : Places) (pl
       ∙ ap (λ b. list_any got (header_bars f) || (windows_got || b)) got_rom
       ∙ ap (λ b. list_any got (header_bars f) || b) (or_order (got (Window IoWindow)) (got (Window MemoryWindow)) (got (Window PrefetchWindow)) (got Rom))
       ∙ sym (list_any-append got (header_bars f) (Window IoWindow ∷ Window MemoryWindow ∷ Window PrefetchWindow ∷ Rom ∷ []))
-      ∙ sym (any_map (λ (x : FunctionPart). are_same_space space (space_of x.function x.part) && is_some (new_place q s x)) region (filter changes (header_parts f))
+      ∙ sym (any_map (λ (x : FunctionPart). are_same_space space (space_of x.function x.part) && is_some (new_place q s keep x)) region (filter changes (header_parts f))
       ∙ any_filter changes (λ part. is_of part && is_some (place part)) (header_parts f))
 
   -- ---- Command
 
-  pub enabled_is : (live : Function → Bool) (behind : Bool) → behind ≡ has_live_behind s live f → is_enabled_by space p above t r behind ≡ is_enabled_if q s space live f
+  pub enabled_is : (live : Function → Bool) (behind : Bool) → behind ≡ has_live_behind s live f → is_enabled_by space p above t r behind ≡ is_enabled_if q s keep space live f
   enabled_is live behind same =
       ap (λ b. not (are_same_space space Io && b) && (is_on r.command space || has_placed space p r || behind)) (left_are q s f r placed.is above over t terms)
       ∙ ap (λ b. not (are_same_space space Io && has_left q s f) && (b || has_placed space p r || behind)) (on_is s f r placed.is space)
       ∙ ap (λ b. not (are_same_space space Io && has_left q s f) && (is_space_on f space || b || behind)) placed_are
-      ∙ ap (λ b. not (are_same_space space Io && has_left q s f) && (is_space_on f space || got_place q s space f || b)) same
+      ∙ ap (λ b. not (are_same_space space Io && has_left q s f) && (is_space_on f space || got_place q s keep space f || b)) same

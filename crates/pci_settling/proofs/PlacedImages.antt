@@ -1,16 +1,16 @@
 -- The image with what is decoded of it at its places is the settled one.
 use Rattle.std.proofs.Common.{◌≡◌, ℕ, ◌+◌, ◌-◌, ◌/◌, ◌%◌, ◌^◌, ◌<◌, inl, inr, List, [], ◌∷◌, ◌++◌, map, Bool, true, false, cond, ◌&&◌, ◌||◌, not, arith, refl, sym, ◌∙◌, ap, Option, None, Some}
-use Rattle.std.specs.Bool.{if◌then◌else◌}
-use Rattle.std.specs.Option.{is_some}
+use Rattle.std.specs.Bool.{◌==◌, if◌then◌else◌}
+use Rattle.std.specs.Option.{is_some, option_map}
 use Rattle.std.specs.List.{Contains, filter, fold, range_with_len}
-use Rattle.std.proofs.lemmas.Bool.{cases_Bool, and_from, and_parts, eqb-true, lt-ltb}
+use Rattle.std.proofs.lemmas.Bool.{cases_Bool, and_from, and_parts, eqb-true, eq-eqb, lt-ltb}
 use Rattle.std.proofs.lemmas.List.Elements.{All-contains}
 use Rattle.std.proofs.lemmas.List.Folds.{fold-map}
 use Rattle.std.proofs.lemmas.List.Sums.{fold-append}
 use Rattle.pci_spec.specs.Number.{number_at}
 use Rattle.pci_spec.specs.Header.{layout, bar_count, bar_register, rom_place, rom_register}
 use Rattle.pci_spec.specs.Bar.{bar_at, bar_kind, is_wide, has_bar, first_bit}
-use Rattle.pci_spec.specs.Window.{WindowKind, IoWindow, MemoryWindow, PrefetchWindow, has_window, is_closed, closed_bounds}
+use Rattle.pci_spec.specs.Window.{WindowKind, IoWindow, MemoryWindow, PrefetchWindow, has_window, is_closed, bounds_for, closed_bounds}
 use Rattle.pci_spec.specs.Decoded.{DecodedBar, decoded_bar, decoded_window, optional_window, window_range}
 use Rattle.pci_spec.specs.Decoded as decoded
 use Rattle.pci_spec.specs.System.{System, Function, Part, Bar, Rom, Window, IsFunction, is_bridge, is_window, is_implemented, has_part}
@@ -20,10 +20,13 @@ use Rattle.plan_spec.specs.Plan.{is_open}
 use Rattle.plan_spec.specs.Planning.Showing.{bar_value, rom_value}
 use Rattle.plan_spec.proofs.Planning.LowBits.{low_bits}
 use Rattle.settle_spec.specs.Lists.{Request}
-use Rattle.settle_spec.specs.Parts.{FunctionPart, is_part, is_left, header_bars}
-use Rattle.settle_spec.specs.Items.{Placed, stays}
-use Rattle.settle_spec.specs.Places.{new_place}
-use Rattle.settle_spec.specs.Registers.{with_number, with_bounds, with_place, closed_if_open, shown, settled_image}
+use Rattle.settle_spec.specs.Parts.{FunctionPart, addresses, is_part, is_left, header_bars}
+use Rattle.settle_spec.specs.Stands.{window_part}
+use Rattle.settle_spec.specs.Items.{Placed}
+use Rattle.settle_spec.specs.Kept.{Kept, range_or}
+use Rattle.settle_spec.specs.Keeping.Places.{new_place}
+use Rattle.settle_spec.specs.Registers.{with_number, with_bounds, with_place, closed_if_open}
+use Rattle.settle_spec.specs.Keeping.Registers.{is_same_range, with_kept, shown, settled_image}
 use Rattle.pci_image.specs.declared.bar.Bar.{Bar as CodeBar}
 use Rattle.pci_image.specs.Bars.{decoded_kind_of, decoded_bar_of}
 use Rattle.pci_function.specs.declared.record.Bridge.{Bridge}
@@ -35,9 +38,11 @@ use Rattle.pci_place.proofs.ClassOf.{kind_wide}
 use Rattle.pci_place.proofs.Parts.{bars_in, bars_of}
 use Rattle.pci_base.specs.declared.range.Range.{Range}
 use Rattle.pci_base.specs.declared.window_kind.ByKind.{ByKind}
+use Rattle.pci_base.specs.Ranges.{decoded_range_of}
 use Rattle.pci_settled.specs.declared.places.Places.{Places}
 use Rattle.pci_settled.specs.Places.{place_range_in, placed_at}
-use Rattle.pci_settling.specs.Shown.{nibble, with_bar, with_closed, with_window, with_optional}
+use Rattle.pci_settle.specs.Keeping.{told_of_kind}
+use Rattle.pci_settling.specs.Shown.{nibble, with_bar, with_closed, has_range, with_grown, with_window, with_optional}
 use Rattle.pci_settling.specs.Images.{where_placed, with_placed_bar, with_bars, with_bridge, with_placed_rom, with_parts, is_window_kept, HasPartPlaces, HasPlacesAndWindows}
 use Rattle.pci_settling.proofs.PlacedParts.{placed_is_part}
 
@@ -83,9 +88,9 @@ register_place register n at = omega (arith, at)
 
 -- ---- tests
 
-or_nothing : (a : Bool) → (a || false) ≡ a
-or_nothing true = refl
-or_nothing false = refl
+not_closed : (closed : Bool) → not closed ≡ true → closed ≡ false
+not_closed true is = cc
+not_closed false is = refl
 
 pub window_changes : (a b c : Bool) → ((a && b && not c) || (a && b)) ≡ (a && b)
 window_changes true true true = refl
@@ -113,21 +118,25 @@ by_place None test some none any off on other first second = (elim test as (λ b
 by_place (Some x) test some none any off on other first second = ap (λ b. cond b (any (Some x)) none) (on x refl).1 ∙ (on x refl).0 ∙ sym (second x)
 
 -- its bus is one of 256
-pub low_bus : (q : Request) (s : System) (f : Function) (r : Record) (p : Places) → HasPartPlaces q s f r p → f.slot.bus < 256
-low_bus q s f r p has = (All-contains IsFunction s f has.system.each has.is.listed).slot.0
+pub low_bus : (q : Request) (s : System) (keep : Kept) (f : Function) (r : Record) (p : Places) → HasPartPlaces q s keep f r p → f.slot.bus < 256
+low_bus q s keep f r p has = (All-contains IsFunction s f has.system.each has.is.listed).slot.0
 
-module _ (q : Request) (s : System) (f : Function) (r : Record) (image : List ℕ) (p : Places) (kept : ByKind Bool) (image_is : image ≡ f.image) (placed : HasPlacesAndWindows q s f r p kept) where
-  abbrev has : HasPartPlaces q s f r p
+-- a range is itself
+same_itself : (r : decoded.Range) → is_same_range r r ≡ true
+same_itself r = and_from (r.first == r.first) (r.last == r.last) (eq-eqb r.first r.first refl) (eq-eqb r.last r.last refl)
+
+module _ (q : Request) (s : System) (keep : Kept) (f : Function) (r : Record) (image : List ℕ) (p : Places) (kept : ByKind Bool) (grown : ByKind (Option Range)) (image_is : image ≡ f.image) (placed : HasPlacesAndWindows q s keep f r p kept grown) where
+  abbrev has : HasPartPlaces q s keep f r p
   has = placed.places
 
   abbrev region : Part → FunctionPart
   region part = record { function = f; part = part }
 
   abbrev place : Part → Option Placed
-  place part = new_place q s (region part)
+  place part = new_place q s keep (region part)
 
   abbrev step : List ℕ → Part → List ℕ
-  step im part = shown q s (region part) (place part) im
+  step im part = shown keep (region part) (place part) im
 
   abbrev changes : Part → Bool
   changes part = is_part q s f part || (is_window part && is_implemented f part)
@@ -143,8 +152,14 @@ module _ (q : Request) (s : System) (f : Function) (r : Record) (image : List �
   at_place Rom place im = with_number 4 (rom_register (layout f.image)) (rom_value f.image place.first) im
   at_place (Window c) place im = im
 
-  own_none : (b : Bool) (part : Part) (im : List ℕ) → is_window part ≡ false → cond b im (closed_if_open f part im) ≡ im
-  own_none true part im plain = refl
+  either_same : (b : Bool) (im : List ℕ) → cond b im im ≡ im
+  either_same true im = refl
+  either_same false im = refl
+
+  own_none : (b : Bool) (part : Part) (im : List ℕ) → is_window part ≡ false → cond b (with_kept keep (region part) im) (closed_if_open f part im) ≡ im
+  own_none true (Bar n) im plain = either_same (is_same_range (keep.range (region (Bar n))) (addresses (region (Bar n)))) im
+  own_none true Rom im plain = either_same (is_same_range (keep.range (region Rom)) (addresses (region Rom))) im
+  own_none true (Window c) im plain = cc
   own_none false (Bar n) im plain = refl
   own_none false Rom im plain = refl
   own_none false (Window c) im plain = cc
@@ -157,9 +172,9 @@ module _ (q : Request) (s : System) (f : Function) (r : Record) (image : List �
   -- a part shows its place, where it has one
   own_step : (part : Part) → has_part f part ≡ true → is_window part ≡ false → (im : List ℕ) → step_if im part ≡ where_placed (at_place part) (place_range_in p part) im
   own_step part there plain im =
-      by_place (place part) (changes part) (λ x. with_place f part x im) im (λ o. shown q s (region part) o im)
-      (λ none. own_none (stays q s (region part)) part im plain)
-      (λ x some. (refl, ap (λ b. b || (is_window part && is_implemented f part)) (placed_is_part q s has.system has.nested f has.is.listed (low_bus q s f r p has) part there plain x some)))
+      by_place (place part) (changes part) (λ x. with_place f part x im) im (λ o. shown keep (region part) o im)
+      (λ none. own_none (keep.stays (region part)) part im plain)
+      (λ x some. (refl, ap (λ b. b || (is_window part && is_implemented f part)) (placed_is_part q s keep has.system has.nested f has.is.listed (low_bus q s keep f r p has) part there plain x some)))
       (λ o. where_placed (at_place part) (placed_at o) im) refl (λ x. sym (own_some part x im plain))
       ∙ ap (λ o. where_placed (at_place part) o im) (sym (has.each part there))
 
@@ -215,37 +230,75 @@ module _ (q : Request) (s : System) (f : Function) (r : Record) (image : List �
   window_off c off im =
       ap (λ b. cond b (step im (Window c)) im) (window_changes (is_bridge f) (has_window c f.probe) (is_closed c f.image) ∙ off)
 
-  window_on : (c : WindowKind) → is_implemented f (Window c) ≡ true → (im : List ℕ) → with_window c (is_window_kept kept c) (decoded_window c f.image f.probe) (place_range_in p (Window c)) im ≡ step_if im (Window c)
-  window_on c on im =
-      let there = (and_parts (is_bridge f) (has_window c f.probe) on).0 in
-      let w = decoded_window c f.image f.probe in
-      let opened : is_some (window_range c f.image) ≡ is_open f c =
-      some_range (is_closed c f.image) _ ∙ sym (open_by (is_bridge f) (has_window c f.probe) (is_closed c f.image) on) in
-      let each : (o : Option Placed) → with_window c (is_window_kept kept c) w (placed_at o) im ≡ shown q s (region (Window c)) o im = λ o.
-      elim o as (λ o. with_window c (is_window_kept kept c) w (placed_at o) im ≡ shown q s (region (Window c)) o im) [
-        | None ↦
-            ap (λ b. cond b im (with_closed c w im)) (placed.windows c there)
-            ∙ ap (λ b. cond (stays q s (region (Window c))) im (cond b (with_bounds c (closed_bounds c (nibble w.wide)) im) im)) opened
-        | Some x ↦ refl
-      ] in
-      ap (λ o. with_window c (is_window_kept kept c) w o im) (has.each (Window c) there)
-      ∙ each (place (Window c))
-      ∙ sym (ap (λ b. cond b (step im (Window c)) im) (window_changes (is_bridge f) (has_window c f.probe) (is_closed c f.image) ∙ on))
+  abbrev told : WindowKind → Option Range
+  told c = told_of_kind grown c
 
-  optional_is : (c : WindowKind) → is_bridge f ≡ true → (im : List ℕ) → with_optional c (is_window_kept kept c) (optional_window c f.image f.probe) (place_range_in p (Window c)) im ≡ step_if im (Window c)
+  module _ (c : WindowKind) (on : is_implemented f (Window c) ≡ true) where
+    there : is_bridge f ≡ true
+    there = (and_parts (is_bridge f) (has_window c f.probe) on).0
+
+    abbrev w : decoded.DecodedWindow
+    w = decoded_window c f.image f.probe
+
+    abbrev own : decoded.Range
+    own = addresses (window_part c f)
+
+    opened : is_some (window_range c f.image) ≡ is_open f c
+    opened = some_range (is_closed c f.image) _ ∙ sym (open_by (is_bridge f) (has_window c f.probe) (is_closed c f.image) on)
+
+    -- an open window has its addresses
+    range_is : is_open f c ≡ true → w.range ≡ Some own
+    range_is is =
+        let shut : is_closed c f.image ≡ false = not_closed (is_closed c f.image) (sym (open_by (is_bridge f) (has_window c f.probe) (is_closed c f.image) on) ∙ is) in
+        ap (λ b. if b then None else Some own) shut
+
+    -- a window that stays
+    grown_is : keep.stays (window_part c f) ≡ true → (im : List ℕ) → with_grown c w (told c) im ≡ with_kept keep (window_part c f) im
+    grown_is stays im = by (told c) refl
+      where
+        by : (o : Option Range) → told c ≡ o → with_grown c w (told c) im ≡ with_kept keep (window_part c f) im
+        by None none =
+            let range : keep.range (window_part c f) ≡ own = placed.ranges c there stays ∙ ap (λ o. range_or (option_map decoded_range_of o) own) none in
+            ap (λ o. with_grown c w o im) none
+            ∙ sym (ap (λ x. cond (is_same_range x own) im (with_bounds c (bounds_for c (nibble w.wide) x.first x.last) im)) range
+            ∙ ap (λ b. cond b im (with_bounds c (bounds_for c (nibble w.wide) own.first own.last) im)) (same_itself own))
+        by (Some x) some =
+            let range : keep.range (window_part c f) ≡ decoded_range_of x = placed.ranges c there stays ∙ ap (λ o. range_or (option_map decoded_range_of o) own) some in
+            ap (λ o. with_grown c w o im) some
+            ∙ ap (λ o. cond (has_range o x) im (with_bounds c (bounds_for c (nibble w.wide) x.first x.last) im)) (range_is (placed.opened c there stays))
+            ∙ sym (ap (λ x. cond (is_same_range x own) im (with_bounds c (bounds_for c (nibble w.wide) x.first x.last) im)) range)
+
+    none_is : (b : Bool) → keep.stays (window_part c f) ≡ b → (im : List ℕ) → cond b (with_grown c w (told c) im) (with_closed c w im) ≡ cond b (with_kept keep (window_part c f) im) (closed_if_open f (Window c) im)
+    none_is true stays im = grown_is stays im
+    none_is false stays im = ap (λ b. cond b (with_bounds c (closed_bounds c (nibble w.wide)) im) im) opened
+
+    window_on : (im : List ℕ) → with_window c (is_window_kept kept c) (told c) w (place_range_in p (Window c)) im ≡ step_if im (Window c)
+    window_on im =
+        let each : (o : Option Placed) → with_window c (is_window_kept kept c) (told c) w (placed_at o) im ≡ shown keep (region (Window c)) o im = λ o.
+        elim o as (λ o. with_window c (is_window_kept kept c) (told c) w (placed_at o) im ≡ shown keep (region (Window c)) o im) [
+          | None ↦
+              ap (λ b. cond b (with_grown c w (told c) im) (with_closed c w im)) (placed.windows c there)
+              ∙ none_is (keep.stays (window_part c f)) refl im
+          | Some x ↦ refl
+        ] in
+        ap (λ o. with_window c (is_window_kept kept c) (told c) w o im) (has.each (Window c) there)
+        ∙ each (place (Window c))
+        ∙ sym (ap (λ b. cond b (step im (Window c)) im) (window_changes (is_bridge f) (has_window c f.probe) (is_closed c f.image) ∙ on))
+
+  optional_is : (c : WindowKind) → is_bridge f ≡ true → (im : List ℕ) → with_optional c (is_window_kept kept c) (told c) (optional_window c f.image f.probe) (place_range_in p (Window c)) im ≡ step_if im (Window c)
   optional_is c bridge im = elim (cases_Bool (has_window c f.probe)) [
     | inl has ↦
-        ap (λ b. with_optional c (is_window_kept kept c) (if b then Some (decoded_window c f.image f.probe) else None) (place_range_in p (Window c)) im) has
+        ap (λ b. with_optional c (is_window_kept kept c) (told c) (if b then Some (decoded_window c f.image f.probe) else None) (place_range_in p (Window c)) im) has
         ∙ window_on c (and_from (is_bridge f) (has_window c f.probe) bridge has) im
     | inr none ↦
-        ap (λ b. with_optional c (is_window_kept kept c) (if b then Some (decoded_window c f.image f.probe) else None) (place_range_in p (Window c)) im) none
+        ap (λ b. with_optional c (is_window_kept kept c) (told c) (if b then Some (decoded_window c f.image f.probe) else None) (place_range_in p (Window c)) im) none
         ∙ sym (window_off c (ap (λ b. is_bridge f && b) none ∙ and_false (is_bridge f)) im)
   ]
 
   abbrev windows_step : List ℕ → List ℕ
   windows_step im = step_if (step_if (step_if im (Window IoWindow)) (Window MemoryWindow)) (Window PrefetchWindow)
 
-  windows_are : (o : Option Bridge) → r.bridge ≡ o → (im : List ℕ) → with_bridge p kept o im ≡ windows_step im
+  windows_are : (o : Option Bridge) → r.bridge ≡ o → (im : List ℕ) → with_bridge p kept grown o im ≡ windows_step im
   windows_are None e im =
       let off : is_bridge f ≡ false = sym (same_bridge r f has.is.value) ∙ ap is_some e in
       let none : (c : WindowKind) → is_implemented f (Window c) ≡ false = λ c. ap (λ b. b && has_window c f.probe) off in
@@ -261,14 +314,14 @@ module _ (q : Request) (s : System) (f : Function) (r : Record) (image : List �
       let memory_is : w.mem ≡ decoded_window MemoryWindow f.image f.probe = ap (λ (x : decoded.Bridge). x.windows.memory) value in
       let prefetch_is : w.pref ≡ optional_window PrefetchWindow f.image f.probe = ap (λ (x : decoded.Bridge). x.windows.prefetch) value in
       let memory_has = memory_window_there f.image f.probe (has.is.decodable.windows MemoryWindow (eqb-true (layout f.image) 1 bridge)) in
-      let first : (x : List ℕ) → with_optional IoWindow kept.io w.io p.windows.io x ≡ step_if x (Window IoWindow) = λ x.
-      ap (λ o. with_optional IoWindow kept.io o p.windows.io x) io_is ∙ optional_is IoWindow bridge x in
-      let second : (x : List ℕ) → with_optional MemoryWindow kept.memory (Some w.mem) p.windows.memory x ≡ step_if x (Window MemoryWindow) = λ x.
-      ap (λ o. with_window MemoryWindow kept.memory o p.windows.memory x) memory_is ∙ window_on MemoryWindow (and_from (is_bridge f) (has_window MemoryWindow f.probe) bridge memory_has) x in
-      let third : (x : List ℕ) → with_optional PrefetchWindow kept.prefetchable w.pref p.windows.prefetchable x ≡ step_if x (Window PrefetchWindow) = λ x.
-      ap (λ o. with_optional PrefetchWindow kept.prefetchable o p.windows.prefetchable x) prefetch_is ∙ optional_is PrefetchWindow bridge x in
-      ap (λ x. with_optional PrefetchWindow kept.prefetchable w.pref p.windows.prefetchable (with_optional MemoryWindow kept.memory (Some w.mem) p.windows.memory x)) (first im)
-      ∙ ap (λ x. with_optional PrefetchWindow kept.prefetchable w.pref p.windows.prefetchable x) (second (step_if im (Window IoWindow)))
+      let first : (x : List ℕ) → with_optional IoWindow kept.io grown.io w.io p.windows.io x ≡ step_if x (Window IoWindow) = λ x.
+      ap (λ o. with_optional IoWindow kept.io grown.io o p.windows.io x) io_is ∙ optional_is IoWindow bridge x in
+      let second : (x : List ℕ) → with_optional MemoryWindow kept.memory grown.memory (Some w.mem) p.windows.memory x ≡ step_if x (Window MemoryWindow) = λ x.
+      ap (λ o. with_window MemoryWindow kept.memory grown.memory o p.windows.memory x) memory_is ∙ window_on MemoryWindow (and_from (is_bridge f) (has_window MemoryWindow f.probe) bridge memory_has) x in
+      let third : (x : List ℕ) → with_optional PrefetchWindow kept.prefetchable grown.prefetchable w.pref p.windows.prefetchable x ≡ step_if x (Window PrefetchWindow) = λ x.
+      ap (λ o. with_optional PrefetchWindow kept.prefetchable grown.prefetchable o p.windows.prefetchable x) prefetch_is ∙ optional_is PrefetchWindow bridge x in
+      ap (λ x. with_optional PrefetchWindow kept.prefetchable grown.prefetchable w.pref p.windows.prefetchable (with_optional MemoryWindow kept.memory grown.memory (Some w.mem) p.windows.memory x)) (first im)
+      ∙ ap (λ x. with_optional PrefetchWindow kept.prefetchable grown.prefetchable w.pref p.windows.prefetchable x) (second (step_if im (Window IoWindow)))
       ∙ third (step_if (step_if im (Window IoWindow)) (Window MemoryWindow))
 
   -- ---- all of it
@@ -276,13 +329,13 @@ module _ (q : Request) (s : System) (f : Function) (r : Record) (image : List �
   abbrev others : List Part
   others = Window IoWindow ∷ Window MemoryWindow ∷ Window PrefetchWindow ∷ Rom ∷ []
 
-  same_parts : with_parts f.image p kept r ≡ settled_image q s f
+  same_parts : with_parts f.image p kept grown r ≡ settled_image q s keep f
   same_parts =
-      rom_is (with_bridge p kept r.bridge (with_bars f.image p r.bars.items f.image))
+      rom_is (with_bridge p kept grown r.bridge (with_bars f.image p r.bars.items f.image))
       ∙ ap (λ im. step_if im Rom) (windows_are r.bridge refl (with_bars f.image p r.bars.items f.image))
       ∙ ap (λ im. step_if (windows_step im) Rom) bars_are
       ∙ sym (fold-append step_if f.image (header_bars f) others)
-      ∙ sym (fold_kept (λ im (x : FunctionPart). shown q s x (new_place q s x) im) region changes f.image (header_bars f ++ others))
+      ∙ sym (fold_kept (λ im (x : FunctionPart). shown keep x (new_place q s keep x) im) region changes f.image (header_bars f ++ others))
 
-  pub images_are : with_parts image p kept r ≡ settled_image q s f
-  images_are = ap (λ im. with_parts im p kept r) image_is ∙ same_parts
+  pub images_are : with_parts image p kept grown r ≡ settled_image q s keep f
+  images_are = ap (λ im. with_parts im p kept grown r) image_is ∙ same_parts

@@ -10,10 +10,11 @@ use Rattle.settle_spec.specs.Lists.{Request}
 use Rattle.settle_spec.specs.Parts.{FunctionPart, is_part}
 use Rattle.settle_spec.specs.Stands.{rank}
 use Rattle.settle_spec.specs.Items.{Item, Placed}
-use Rattle.settle_spec.specs.Places.{placed_of, space_items, placing_on, new_place}
-use Rattle.settle_spec.proofs.ItemsOn.{each_in}
-use Rattle.settle_spec.proofs.Buses.{of_space}
-use Rattle.pci_settled.proofs.Parts.{real_in, rank_one}
+use Rattle.settle_spec.specs.Places.{placed_of}
+use Rattle.settle_spec.specs.Kept.{Kept}
+use Rattle.settle_spec.specs.Keeping.Places.{space_items, placing_on, new_place}
+use Rattle.settle_laws.proofs.Keeping.Buses.{of_space}
+use Rattle.pci_settled.proofs.Parts.{each_in, real_in, rank_one}
 use Rattle.pci_settled.proofs.Reached.{item_here}
 
 -- what a search finds is in the list, and passes its test
@@ -33,19 +34,19 @@ find_gives test (y ∷ xs) x e = elim (cases_Bool (test y)) [
 abbrev IsOfPart : Request → System → Item → Type 0
 IsOfPart q s i = is_window i.region.part ≡ false → is_part q s i.region.function i.region.part ≡ true
 
-part_in : (q : Request) (s : System) (space : Space) (bus : ℕ) (i : Item) → Contains (space_items q s space bus) i → IsOfPart q s i
-part_in q s space bus = each_in q s space bus (IsOfPart q s) (λ c of f on p is plain. is.part) (λ c of f on is plain. absurd (both_ways true plain refl))
+part_in : (q : Request) (s : System) (keep : Kept) (space : Space) (bus : ℕ) (i : Item) → Contains (space_items q s keep space bus) i → IsOfPart q s i
+part_in q s keep space bus = each_in q s keep space bus (IsOfPart q s) (λ c of f on p is plain. is.part) (λ c of f on is plain. absurd (both_ways true plain refl))
 
-module _ (q : Request) (s : System) (system : IsSystem s) (nested : IsNested q.roots s) (f : Function) (listed : Contains s f) (low : f.slot.bus < 256) where
-  pub placed_is_part : (part : Part) → has_part f part ≡ true → is_window part ≡ false → (p : Placed) → new_place q s record { function = f; part = part } ≡ Some p → is_part q s f part ≡ true
+module _ (q : Request) (s : System) (keep : Kept) (system : IsSystem s) (nested : IsNested q.roots s) (f : Function) (listed : Contains s f) (low : f.slot.bus < 256) where
+  pub placed_is_part : (part : Part) → has_part f part ≡ true → is_window part ≡ false → (p : Placed) → new_place q s keep record { function = f; part = part } ≡ Some p → is_part q s f part ≡ true
   placed_is_part part there plain p placed =
       let space = space_of f part in
       let bus = f.slot.bus in
       let region : FunctionPart = record { function = f; part = part } in
-      let found = find_gives (λ (x : Placed). rank x.item.region == rank region) (placed_of (placing_on q s space bus)) p placed in
-      let item = item_here q s system nested space bus low p found.0 in
-      let real = real_in q s space bus p.item item in
-      let of = of_space q s space bus p.item item in
+      let found = find_gives (λ (x : Placed). rank x.item.region == rank region) (placed_of (placing_on q s keep space bus)) p placed in
+      let item = item_here q s keep system nested space bus low p found.0 in
+      let real = real_in q s keep space bus p.item item in
+      let of = of_space q s keep space bus p.item item in
       let one = rank_one s system p.item.region.function f p.item.region.part part of.listed listed real.there there (eqb-true (rank p.item.region) (rank region) found.1) in
-      let own = part_in q s space bus p.item item (ap is_window one.part ∙ plain) in
+      let own = part_in q s keep space bus p.item item (ap is_window one.part ∙ plain) in
       subst (λ o. is_part q s f o ≡ true) one.part (subst (λ g. is_part q s g p.item.region.part ≡ true) one.function own)

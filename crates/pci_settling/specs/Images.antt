@@ -1,6 +1,6 @@
 -- The image of a function with its parts at the places that they get.
 use Rattle.std.specs.Prelude.{◌≡◌, ℕ, ◌-◌, ◌/◌, Bool, IsTrue, List, Option, None, Some}
-use Rattle.std.specs.Option.{is_some}
+use Rattle.std.specs.Option.{is_some, option_map}
 use Rattle.std.specs.List.{fold}
 use Rattle.pci_spec.specs.Number.{number_at}
 use Rattle.pci_spec.specs.Registers.{BASE_ADDRESS}
@@ -8,17 +8,21 @@ use Rattle.pci_spec.specs.Header.{rom_place}
 use Rattle.pci_spec.specs.Window.{WindowKind, IoWindow, MemoryWindow, PrefetchWindow}
 use Rattle.pci_spec.specs.System.{System, Function, Part, Bar, Window, IsSystem, has_part}
 use Rattle.pci_spec.specs.Bus.{IsNested}
+use Rattle.plan_spec.specs.Plan.{is_open}
 use Rattle.settle_spec.specs.Lists.{Request}
+use Rattle.settle_spec.specs.Parts.{addresses}
 use Rattle.settle_spec.specs.Stands.{window_part}
-use Rattle.settle_spec.specs.Items.{stays}
-use Rattle.settle_spec.specs.Places.{new_place}
+use Rattle.settle_spec.specs.Kept.{Kept, range_or}
+use Rattle.settle_spec.specs.Keeping.Places.{new_place}
 use Rattle.pci_base.specs.declared.range.Range.{Range}
 use Rattle.pci_base.specs.declared.window_kind.ByKind.{ByKind}
+use Rattle.pci_base.specs.Ranges.{decoded_range_of}
 use Rattle.pci_image.specs.declared.bar.Bar.{Bar as CodeBar}
 use Rattle.pci_image.specs.declared.window.Windows.{Windows}
 use Rattle.pci_function.specs.declared.record.Bridge.{Bridge}
 use Rattle.pci_function.specs.declared.record.Record.{Record}
 use Rattle.pci_place.specs.Records.{IsRecordOf}
+use Rattle.pci_settle.specs.Keeping.{told_of_kind}
 use Rattle.pci_settled.specs.declared.places.Places.{Places}
 use Rattle.pci_settled.specs.Places.{place_range_in, placed_at}
 use Rattle.pci_settling.specs.Shown.{with_bar, with_rom, with_optional}
@@ -38,35 +42,36 @@ with_placed_bar old p image bar =
 abbrev pub with_bars : List ℕ → Places → List CodeBar → List ℕ → List ℕ
 with_bars old p bars image = fold (with_placed_bar old p) image bars
 
-abbrev pub with_windows : Places → ByKind Bool → Windows → List ℕ → List ℕ
-with_windows p kept w image =
-    with_optional PrefetchWindow kept.prefetchable w.pref p.windows.prefetchable
-    (with_optional MemoryWindow kept.memory (Some w.mem) p.windows.memory
-    (with_optional IoWindow kept.io w.io p.windows.io image))
+abbrev pub with_windows : Places → ByKind Bool → ByKind (Option Range) → Windows → List ℕ → List ℕ
+with_windows p kept grown w image =
+    with_optional PrefetchWindow kept.prefetchable grown.prefetchable w.pref p.windows.prefetchable
+    (with_optional MemoryWindow kept.memory grown.memory (Some w.mem) p.windows.memory
+    (with_optional IoWindow kept.io grown.io w.io p.windows.io image))
 
-abbrev pub with_bridge : Places → ByKind Bool → Option Bridge → List ℕ → List ℕ
-with_bridge p kept None image = image
-with_bridge p kept (Some b) image = with_windows p kept b.windows image
+abbrev pub with_bridge : Places → ByKind Bool → ByKind (Option Range) → Option Bridge → List ℕ → List ℕ
+with_bridge p kept grown None image = image
+with_bridge p kept grown (Some b) image = with_windows p kept grown b.windows image
 
 abbrev pub with_placed_rom : List ℕ → Places → ℕ → List ℕ → List ℕ
 with_placed_rom old p register image =
     where_placed (with_rom (number_at old register 4) register) p.rom image
 
 -- BARs, windows and the ROM of a record
-abbrev pub with_parts : List ℕ → Places → ByKind Bool → Record → List ℕ
-with_parts old p kept r =
+abbrev pub with_parts : List ℕ → Places → ByKind Bool → ByKind (Option Range) → Record → List ℕ
+with_parts old p kept grown r =
     with_placed_rom old p (rom_place (is_some r.bridge))
-    (with_bridge p kept r.bridge (with_bars old p r.bars.items old))
+    (with_bridge p kept grown r.bridge (with_bars old p r.bars.items old))
 
 -- ---- by the definitions
 
 -- a function of a system, its record, and the places that its parts get: none for what stays
-pub record HasPartPlaces (q : Request) (s : System) (f : Function) (r : Record) (p : Places) : Type 0 where
+pub record HasPartPlaces (q : Request) (s : System) (keep : Kept) (f : Function) (r : Record)
+    (p : Places) : Type 0 where
   pub system : IsSystem s
   pub nested : IsNested q.roots s
   pub is : IsRecordOf s f r
   pub each : (part : Part) → IsTrue (has_part f part)
-      → place_range_in p part ≡ placed_at (new_place q s record { function = f; part = part })
+      → place_range_in p part ≡ placed_at (new_place q s keep record { function = f; part = part })
 
 -- whether the window of a kind is one of those that stay
 abbrev pub is_window_kept : ByKind Bool → WindowKind → Bool
@@ -74,9 +79,15 @@ is_window_kept kept IoWindow = kept.io
 is_window_kept kept MemoryWindow = kept.memory
 is_window_kept kept PrefetchWindow = kept.prefetchable
 
--- and the windows that stay
-pub record HasPlacesAndWindows (q : Request) (s : System) (f : Function) (r : Record) (p : Places)
-    (kept : ByKind Bool) : Type 0 where
-  pub places : HasPartPlaces q s f r p
+-- and the windows that stay: to what they grow
+pub record HasPlacesAndWindows (q : Request) (s : System) (keep : Kept) (f : Function) (r : Record)
+    (p : Places) (kept : ByKind Bool) (grown : ByKind (Option Range)) : Type 0 where
+  pub places : HasPartPlaces q s keep f r p
   pub windows : (c : WindowKind) → IsTrue (has_part f (Window c))
-      → is_window_kept kept c ≡ stays q s (window_part c f)
+      → is_window_kept kept c ≡ keep.stays (window_part c f)
+  pub opened : (c : WindowKind) → IsTrue (has_part f (Window c))
+      → IsTrue (keep.stays (window_part c f)) → IsTrue (is_open f c)
+  pub ranges : (c : WindowKind) → IsTrue (has_part f (Window c))
+      → IsTrue (keep.stays (window_part c f))
+      → keep.range (window_part c f)
+      ≡ range_or (option_map decoded_range_of (told_of_kind grown c)) (addresses (window_part c f))

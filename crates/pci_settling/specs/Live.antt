@@ -3,8 +3,9 @@ use Rattle.std.specs.Prelude.{◌≡◌, ℕ, ◌<◌, ◌==◌, Bool, false, �
 use Rattle.std.specs.List.{list_any}
 use Rattle.pci_spec.specs.System.{System, Function, Space, Part, has_part}
 use Rattle.settle_spec.specs.Lists.{Request}
-use Rattle.settle_spec.specs.Places.{new_place}
-use Rattle.settle_spec.specs.LiveLaws.{is_live}
+use Rattle.settle_spec.specs.Kept.{Kept}
+use Rattle.settle_spec.specs.Keeping.Places.{new_place}
+use Rattle.settle_spec.specs.Keeping.Registers.{is_live_within}
 use Rattle.pci_function.specs.declared.record.Bridge.{Bridge}
 use Rattle.pci_function.specs.declared.record.Record.{Record}
 use Rattle.pci_place.specs.declared.above.Above.{Above}
@@ -14,9 +15,13 @@ use Rattle.pci_settled.specs.declared.places.Places.{Places}
 use Rattle.pci_settled.specs.Places.{place_range_in, placed_at}
 use Rattle.pci_settling.specs.Claims.{has_kept, is_enabled_by}
 
+-- a function is live in a space, wherever it stands
+abbrev pub is_live : Request → System → Kept → Space → Function → Bool
+is_live q s keep space f = is_live_within q s keep space 256 f
+
 -- a function on a bus is live
-abbrev pub is_live_on : Request → System → Space → ℕ → Bool
-is_live_on q s space bus = list_any (λ g. g.slot.bus == bus && is_live q s space g) s
+abbrev pub is_live_on : Request → System → Kept → Space → ℕ → Bool
+is_live_on q s keep space bus = list_any (λ g. g.slot.bus == bus && is_live q s keep space g) s
 
 -- what is asked for has these roots, and lists that tell this
 pub record IsRequestOfTerms (q : Request) (roots : List ℕ) (t : Terms) : Type 0 where
@@ -24,18 +29,18 @@ pub record IsRequestOfTerms (q : Request) (roots : List ℕ) (t : Terms) : Type 
   pub terms : AreTerms q.lists t
 
 -- a table by function has the place that each part gets: none for what stays
-pub record HasAllPlaces (q : Request) (s : System) (table : List Places) : Type 0 where
+pub record HasAllPlaces (q : Request) (s : System) (keep : Kept) (table : List Places) : Type 0 where
   pub count : length table ≡ length s
   pub each : (k : ℕ) (f : Function) (d : Places) (part : Part) → slice_get s k ≡ Some f
       → IsTrue (has_part f part)
       → place_range_in (slice_index_or table k d) part
-      ≡ placed_at (new_place q s record { function = f; part = part })
+      ≡ placed_at (new_place q s keep record { function = f; part = part })
 
 -- the table says for each bus whether one is, at the places of another table
 abbrev pub AreLiveBuses : List ℕ → System → Space → Terms → List Places → List Bool → Type 0
 AreLiveBuses roots s space t table live =
-    (q : Request) (bus : ℕ) → IsRequestOfTerms q roots t → HasAllPlaces q s table → bus < 256
-    → slice_index_or live bus false ≡ is_live_on q s space bus
+    (q : Request) (keep : Kept) (bus : ℕ) → IsRequestOfTerms q roots t → HasAllPlaces q s keep table → bus < 256
+    → slice_index_or live bus false ≡ is_live_on q s keep space bus
 
 -- ---- of a record
 

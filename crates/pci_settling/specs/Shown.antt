@@ -1,12 +1,14 @@
 -- What registers show of places, by what is decoded of a function.
-use Rattle.std.specs.Prelude.{◌≡◌, ℕ, ◌+◌, ◌<◌, ◌%◌, ◌^◌, Bool, if◌then◌else◌, List, Option, None, Some}
+use Rattle.std.specs.Prelude.{◌≡◌, ℕ, ◌+◌, ◌<◌, ◌%◌, ◌^◌, Bool, false, if◌then◌else◌, List, Option, None, Some}
 use Rattle.std.specs.Option.{is_some}
 use Rattle.pci_spec.specs.Header.{bar_register}
 use Rattle.pci_spec.specs.Bar.{first_bit}
 use Rattle.pci_spec.specs.Window.{WindowKind, bounds_for, closed_bounds}
-use Rattle.pci_spec.specs.Decoded.{DecodedWindow}
+use Rattle.pci_spec.specs.Decoded.{DecodedWindow, Range as DecodedRange}
 use Rattle.settle_spec.specs.Registers.{with_number, with_bounds}
+use Rattle.settle_spec.specs.Keeping.Registers.{is_same_range}
 use Rattle.pci_base.specs.declared.range.Range.{Range}
+use Rattle.pci_base.specs.Ranges.{decoded_range_of}
 use Rattle.pci_image.specs.declared.bar.Bar.{Bar}
 use Rattle.pci_image.specs.Bars.{decoded_kind_of}
 use Rattle.pci_place.specs.Classes.{is_wide_kind}
@@ -33,13 +35,26 @@ abbrev pub with_closed : WindowKind → DecodedWindow → List ℕ → List ℕ
 with_closed c w image =
     if is_some w.range then with_bounds c (closed_bounds c (nibble w.wide)) image else image
 
--- a window at its place; one that has none stays as it is or is closed
-abbrev pub with_window : WindowKind → Bool → DecodedWindow → Option Range → List ℕ → List ℕ
-with_window c kept w None image = if kept then image else with_closed c w image
-with_window c kept w (Some place) image =
-    with_bounds c (bounds_for c (nibble w.wide) place.first place.last) image
+-- whether a window has these addresses
+abbrev pub has_range : Option DecodedRange → Range → Bool
+has_range None r = false
+has_range (Some own) r = is_same_range (decoded_range_of r) own
+
+abbrev pub with_range : WindowKind → DecodedWindow → Range → List ℕ → List ℕ
+with_range c w r image = with_bounds c (bounds_for c (nibble w.wide) r.first r.last) image
+
+-- a window that stays has the addresses to which it grows; where it has them, or doesn't grow, all bits stay
+abbrev pub with_grown : WindowKind → DecodedWindow → Option Range → List ℕ → List ℕ
+with_grown c w None image = image
+with_grown c w (Some r) image = if has_range w.range r then image else with_range c w r image
+
+-- a window at its place; one that has none stays or is closed
+abbrev pub with_window : WindowKind → Bool → Option Range → DecodedWindow → Option Range → List ℕ → List ℕ
+with_window c kept grown w None image =
+    if kept then with_grown c w grown image else with_closed c w image
+with_window c kept grown w (Some place) image = with_range c w place image
 
 -- one that may not be there
-abbrev pub with_optional : WindowKind → Bool → Option DecodedWindow → Option Range → List ℕ → List ℕ
-with_optional c kept None place image = image
-with_optional c kept (Some w) place image = with_window c kept w place image
+abbrev pub with_optional : WindowKind → Bool → Option Range → Option DecodedWindow → Option Range → List ℕ → List ℕ
+with_optional c kept grown None place image = image
+with_optional c kept grown (Some w) place image = with_window c kept grown w place image

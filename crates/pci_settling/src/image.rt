@@ -3,18 +3,20 @@ ghost use Rattle.std.specs.Prelude.{◌≡◌};
 ghost use Rattle.std.specs.List.{All};
 ghost use Rattle.pci_spec.specs.System.{System, Function};
 ghost use Rattle.settle_spec.specs.Lists.{Request};
-ghost use Rattle.settle_spec.specs.Registers.{settled_image};
+ghost use Rattle.settle_spec.specs.Kept.{Kept};
+ghost use Rattle.settle_spec.specs.Keeping.Registers.{settled_image};
 ghost use Rattle.pci_settling.specs.Shown.{HasRegister};
 ghost use Rattle.pci_settling.specs.Images.{with_placed_bar, with_bars, with_windows, with_parts, HasPlacesAndWindows};
 
 use crate::write::{write_bar, write_rom, write_window};
 use pci_base::image::{IMAGE_LEN, Image};
 use pci_base::offset::BASE_ADDRESS;
-use pci_base::window_kind::{ByKind, WindowKind};
+use pci_base::window_kind::WindowKind;
 use pci_function::record::Record;
 use pci_image::bar::Bar;
 use pci_image::window::Windows;
 use pci_settled::places::Places;
+use pci_settled::window::BridgeWindows;
 
 /// Writes a BAR at its place; where it has none it stays as it is.
 fn write_placed(bytes: &mut [u8; IMAGE_LEN], old: &Image, bar: &Bar, places: &Places)
@@ -41,27 +43,44 @@ fn write_windows(
     bytes: &mut [u8; IMAGE_LEN],
     windows: &Windows,
     places: &Places,
-    kept: &ByKind<bool>,
+    staying: &BridgeWindows,
 )
-    ensures { bytes.new ≡ with_windows places.now kept.now windows.now bytes.old }
+    ensures { bytes.new ≡ with_windows places.now staying.now.kept.now.windows staying.now.grown.now
+        windows.now bytes.old }
 {
-    let (io, memory) = (places.windows.io, places.windows.memory);
-    write_window(bytes, WindowKind::Io, windows.io, io, kept.io);
-    let class = WindowKind::Memory;
-    write_window(bytes, class, Some(windows.mem), memory, kept.memory);
+    let (kept, grown) = (&staying.kept.windows, staying.grown);
+    let (class, place) = (WindowKind::Io, places.windows.io);
+    write_window(bytes, class, windows.io, place, kept.io, grown.io);
+    let (class, place) = (WindowKind::Memory, places.windows.memory);
+    write_window(
+        bytes,
+        class,
+        Some(windows.mem),
+        place,
+        kept.memory,
+        grown.memory,
+    );
     let (class, place) = (WindowKind::Prefetchable, places.windows.prefetchable);
-    write_window(bytes, class, windows.pref, place, kept.prefetchable);
+    write_window(
+        bytes,
+        class,
+        windows.pref,
+        place,
+        kept.prefetchable,
+        grown.prefetchable,
+    );
 }
 
 /// The image with what is decoded of it at these places.
-fn with_parts(record: &Record, image: &Image, places: &Places, kept: &ByKind<bool>) -> Image
+fn with_parts(record: &Record, image: &Image, places: &Places, staying: &BridgeWindows) -> Image
     requires { All HasRegister «record».now.bars.items }
-    ensures { result.0 ≡ with_parts image.now.0 places.now kept.now «record».now }
+    ensures { result.0 ≡ with_parts image.now.0 places.now staying.now.kept.now.windows
+        staying.now.grown.now «record».now }
 {
     let mut placed = *image;
     write_bars(&mut placed.0, image, record.bars.as_slice(), places);
     if let Some(bridge) = &record.bridge {
-        write_windows(&mut placed.0, &bridge.windows, places, kept);
+        write_windows(&mut placed.0, &bridge.windows, places, staying);
     }
     if let Some(place) = places.rom {
         let register = record.rom_register();
@@ -70,14 +89,20 @@ fn with_parts(record: &Record, image: &Image, places: &Places, kept: &ByKind<boo
     placed
 }
 
-/// The image of a function whose parts get these places: BARs, ROM and windows show their places, a window that has none
-/// and isn't one of those that stay is closed, and all other bits stay.
-pub fn settled_image(record: &Record, image: &Image, places: &Places, kept: &ByKind<bool>) -> Image
+/// The image of a function whose parts get these places: BARs, ROM and windows show their places, a window that stays shows
+/// the addresses to which it grows, any other that has no place is closed, and all other bits stay.
+pub fn settled_image(
+    record: &Record,
+    image: &Image,
+    places: &Places,
+    staying: &BridgeWindows,
+) -> Image
     // places are told by the number of a BAR's register, so each has one
     requires { All HasRegister «record».now.bars.items }
-    ensures { (q : Request) (s : System) (f : Function)
-        → image.now.0 ≡ f.image → HasPlacesAndWindows q s f «record».now places.now kept.now
-        → result.0 ≡ settled_image q s f }
+    ensures { (q : Request) (s : System) (keep : Kept) (f : Function)
+        → image.now.0 ≡ f.image → HasPlacesAndWindows q s keep f «record».now places.now
+        staying.now.kept.now.windows staying.now.grown.now
+        → result.0 ≡ settled_image q s keep f }
 {
-    with_parts(record, image, places, kept)
+    with_parts(record, image, places, staying)
 }

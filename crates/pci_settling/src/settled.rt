@@ -3,7 +3,8 @@ ghost use Rattle.std.specs.Prelude.{◌≡◌};
 ghost use Rattle.std.specs.List.{All};
 ghost use Rattle.pci_spec.specs.System.{System, Function};
 ghost use Rattle.settle_spec.specs.Lists.{Request};
-ghost use Rattle.settle_spec.specs.Registers as registers;
+ghost use Rattle.settle_spec.specs.Kept.{Kept};
+ghost use Rattle.settle_spec.specs.Keeping.Registers as registers;
 ghost use Rattle.pci_settling.specs.Shown.{HasRegister};
 ghost use Rattle.pci_settling.specs.Images.{HasPlacesAndWindows};
 ghost use Rattle.pci_settling.specs.Settled.{command_by, IsCommandTold};
@@ -14,11 +15,11 @@ use crate::write::write;
 use pci_base::image::Image;
 use pci_base::offset::COMMAND;
 use pci_base::space::Space;
-use pci_base::window_kind::ByKind;
 use pci_function::record::Record;
 use pci_place::above::Above;
 use pci_settle::own::Terms;
 use pci_settled::places::Places;
+use pci_settled::window::BridgeWindows;
 
 /// Whether something live is behind a function.
 #[derive(Clone, Copy, Debug)]
@@ -44,25 +45,26 @@ fn settled_command(
     record.command / 4 * 4 + u16::from(io) + 2 * u16::from(memory)
 }
 
-/// The image of a function once all has its place: its registers show the places that its parts get, windows stay or are
-/// closed that get none, and Command enables what gets one, what was enabled, and what is needed for what is live behind it.
+/// The image of a function once all has its place: its registers show the places that its parts get, windows stay, grow or
+/// are closed that get none, and Command enables what gets one, what was enabled, and what is needed for what is live behind it.
 pub fn settled_function(
     record: &Record,
     image: &Image,
     places: &Places,
-    kept: &ByKind<bool>,
+    staying: &BridgeWindows,
     above: Above,
     terms: Terms,
     behind: Behind,
 ) -> Image
     // places are told by the number of a BAR's register, so each has one
     requires { All HasRegister «record».now.bars.items }
-    ensures { (q : Request) (s : System) (f : Function)
-        → image.now.0 ≡ f.image → HasPlacesAndWindows q s f «record».now places.now kept.now
-        → IsCommandTold q s f above terms behind
-        → result.0 ≡ (registers.settled_function q s f).image }
+    ensures { (q : Request) (s : System) (keep : Kept) (f : Function)
+        → image.now.0 ≡ f.image → HasPlacesAndWindows q s keep f «record».now places.now
+        staying.now.kept.now.windows staying.now.grown.now
+        → IsCommandTold q s keep f above terms behind
+        → result.0 ≡ (registers.settled_function q s keep f).image }
 {
-    let mut settled = settled_image(record, image, places, kept);
+    let mut settled = settled_image(record, image, places, staying);
     let command = settled_command(record, places, above, terms, behind);
     write(&mut settled.0, COMMAND, 2, command.into());
     settled

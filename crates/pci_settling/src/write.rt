@@ -5,7 +5,7 @@ ghost use Rattle.pci_spec.specs.Window.{bounds_for};
 ghost use Rattle.settle_spec.specs.Registers.{with_number, with_bounds};
 ghost use Rattle.pci_base.specs.WindowKinds.{kind_value};
 ghost use Rattle.pci_base.specs.Bounds.{spec_bounds_of};
-ghost use Rattle.pci_settling.specs.Shown.{HasRegister, with_bar, with_rom, with_optional};
+ghost use Rattle.pci_settling.specs.Shown.{HasRegister, with_bar, with_rom, with_closed, with_range, with_grown, with_optional};
 
 use pci_base::bounds::Bounds;
 use pci_base::image::{IMAGE_LEN, put};
@@ -115,23 +115,52 @@ fn bounds_at(class: WindowKind, nibble: u16, place: Range) -> Bounds
     }
 }
 
-/// Writes a window at its place; where it has none and isn't kept it is closed, if it was open.
+/// Writes a window with these addresses.
+fn write_range(bytes: &mut [u8; IMAGE_LEN], class: WindowKind, window: Window, range: Range)
+    ensures { bytes.new ≡ with_range (kind_value class) window range bytes.old }
+{
+    let nibble = u16::from(window.wide());
+    write_bounds(bytes, class, bounds_at(class, nibble, range));
+}
+
+/// Writes a window that stays: where it has the addresses to which it grows, or doesn't grow, all bits stay.
+fn write_grown(bytes: &mut [u8; IMAGE_LEN], class: WindowKind, window: Window, grown: Option<Range>)
+    ensures { bytes.new ≡ with_grown (kind_value class) window grown bytes.old }
+{
+    if let Some(range) = grown {
+        if window.range() != Some(range) {
+            write_range(bytes, class, window, range);
+        }
+    }
+}
+
+/// Closes a window, if it was open.
+fn write_closed(bytes: &mut [u8; IMAGE_LEN], class: WindowKind, window: Window)
+    ensures { bytes.new ≡ with_closed (kind_value class) window bytes.old }
+{
+    if window.range().is_some() {
+        let nibble = u16::from(window.wide());
+        write_bounds(bytes, class, Bounds::closed(class, nibble));
+    }
+}
+
+/// Writes a window at its place; where it has none it is written as it grows if it is kept, and else closed, if it was open.
 pub fn write_window(
     bytes: &mut [u8; IMAGE_LEN],
     class: WindowKind,
     window: Option<Window>,
     place: Option<Range>,
     kept: bool,
+    grown: Option<Range>,
 )
-    ensures { bytes.new ≡ with_optional (kind_value class) kept window place bytes.old }
+    ensures { bytes.new ≡ with_optional (kind_value class) kept grown window place bytes.old }
 {
     let Some(window) = window else {
         return;
     };
-    let nibble = u16::from(window.wide());
-    if let Some(place) = place {
-        write_bounds(bytes, class, bounds_at(class, nibble, place));
-    } else if !kept && window.range().is_some() {
-        write_bounds(bytes, class, Bounds::closed(class, nibble));
+    match place {
+        Some(place) => write_range(bytes, class, window, place),
+        None if kept => write_grown(bytes, class, window, grown),
+        None => write_closed(bytes, class, window),
     }
 }

@@ -3,4 +3,6 @@ use Rattle.pci_settling.proofs.PlacedImages.{images_are}
 use Rattle.pci_settling.proofs.image.settled_image.Goals as goal
 
 pub returns : goal.returns
-returns c = λ q s f shown placed. c.with_parts.ensures ∙ images_are q s f c.args.«record».now c.args.image.now.0 c.args.places.now c.args.kept.now shown placed
+returns c = λ q s keep f shown placed.
+    c.with_parts.ensures
+    ∙ images_are q s keep f c.args.«record».now c.args.image.now.0 c.args.places.now c.args.staying.now.kept.now.windows c.args.staying.now.grown.now shown placed
