@@ -49,6 +49,7 @@ pub mod Moves
 pub mod NewPlaces
 pub mod NoLarger
 pub mod NonePasses
+pub mod NothingGrows
 pub mod NothingSettled
 pub mod Numbers
 pub mod NumbersPut

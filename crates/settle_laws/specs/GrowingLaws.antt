@@ -7,9 +7,9 @@ use Rattle.pci_spec.specs.Bus.{IsNested}
 use Rattle.pci_spec.specs.Machine.{Write, system_after}
 use Rattle.pci_spec.specs.Sound.{IsInProfile, HasChains, IsSound}
 use Rattle.settle_spec.specs.Lists.{RootRange, Request}
-use Rattle.settle_spec.specs.Writes.{Settling, Settled, closings, settle}
-use Rattle.settle_spec.specs.Kept.{growing}
-use Rattle.settle_spec.specs.Keeping.Writes.{closings as closings_beside, settle_keeping}
+use Rattle.settle_spec.specs.Writes.{Settling, Settled}
+use Rattle.settle_spec.specs.Kept.{as_it_stands, growing}
+use Rattle.settle_spec.specs.Keeping.Writes.{closings, settle_keeping}
 use Rattle.settle_spec.specs.Growing.{settle_growing}
 use Rattle.settle_laws.specs.WriteLaws.{most_settle_writes}
 
@@ -27,14 +27,15 @@ SettledGrowingIsSound =
     (q : Request) (s : System) (writes : List Write) → CanBeAsked q s
     → settle_growing q s ≡ Settled writes → IsSound q.roots (system_after s writes)
 
--- the closing writes of settling with windows that grow, where it settles, else of settling without
+-- the closing writes of settling with windows that grow, where it settles, else of settling beside what stays as it stands
 abbrev pub closings_by : Settling → List Write → List Write → List Write
 closings_by (Settled writes) own other = own
 closings_by refused own other = other
 
 abbrev pub growing_closings : Request → System → List Write
 growing_closings q s =
-    closings_by (settle_keeping q s (growing q s)) (closings_beside q s (growing q s) s) (closings q s s)
+    closings_by (settle_keeping q s (growing q s)) (closings q s (growing q s) s)
+    (closings q s (as_it_stands q s) s)
 
 -- The writes can stop anywhere once the closing ones are made, and from a sound start anywhere at all.
 abbrev pub SettlingGrowingCanStop : Type 0
@@ -53,7 +54,8 @@ FewGrowingWritesEach =
 
 -- Where all is placed anew no window grows.
 abbrev pub AnewNothingGrows : Type 0
-AnewNothingGrows = (q : Request) (s : System) → IsTrue q.anew → settle_growing q s ≡ settle q s
+AnewNothingGrows =
+    (q : Request) (s : System) → IsTrue q.anew → settle_growing q s ≡ settle_keeping q s (as_it_stands q s)
 
 -- Settled again nothing is written.
 abbrev pub SettlingGrowingAgainWritesNothing : Type 0

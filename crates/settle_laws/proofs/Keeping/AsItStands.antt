@@ -1,10 +1,10 @@
--- Settling beside what stays as it stands is settling; so is settling where windows grow, if all is placed anew.
-use Rattle.std.proofs.Common.{◌≡◌, ℕ, zero, suc, ◌+◌, inl, inr, List, [], ◌∷◌, ◌++◌, length, map, Option, None, Some, Bool, true, false, cond, ◌&&◌, ◌||◌, not, ap, sym, ◌∙◌, refl}
+-- Settling beside what stays as it stands is settling.
+use Rattle.std.proofs.Common.{◌≡◌, ℕ, zero, suc, ◌+◌, inl, inr, List, [], ◌∷◌, ◌++◌, map, Option, None, Some, Bool, true, false, cond, ◌&&◌, ◌||◌, not, ap, sym, ◌∙◌, refl}
 use Rattle.std.specs.Bool.{◌==◌, if◌then◌else◌}
 use Rattle.std.specs.List.{Contains, filter, flat_map, fold, list_any}
 use Rattle.std.specs.Option.{is_some}
 use Rattle.std.proofs.Math.Path.{fun_ext}
-use Rattle.std.proofs.lemmas.Bool.{and_from, and_parts, and_right, both_ways, cases_Bool, eq-eqb, false_from_ne_true, or_parts}
+use Rattle.std.proofs.lemmas.Bool.{and_from, and_parts, and_right, cases_Bool, eq-eqb, or_parts}
 use Rattle.pci_spec.specs.Registers.{COMMAND}
 use Rattle.pci_spec.specs.Header.{command}
 use Rattle.pci_spec.specs.Window.{WindowKind, IoWindow, MemoryWindow, PrefetchWindow, bounds_at}
@@ -29,14 +29,10 @@ use Rattle.settle_spec.specs.Registers.{with_number, with_bounds, closed_if_open
 use Rattle.settle_spec.specs.Writes as writes
 use Rattle.settle_spec.specs.Writes.{differs_at, part_registers, is_cut_off_in, shut_bounds, closing_registers, setting_registers, Settling, BadLists, Fixed, NoRoom, Settled, fixed_without, fixed_write, or_fixed, or_lack, or_write, settle}
 use Rattle.settle_spec.specs.Growth.{place_each}
-use Rattle.settle_spec.specs.Kept.{Kept, place_in, as_it_stands, stays_growing, growing}
+use Rattle.settle_spec.specs.Kept.{Kept, place_in, as_it_stands}
 use Rattle.settle_spec.specs.Keeping.Places.{space_items, taken_at, place_behind, place_of_item, placing_within, placing_on, new_place, lacking_on, lacking}
 use Rattle.settle_spec.specs.Keeping.Registers.{is_same_range, with_range, with_kept, shown, settled_image, got_place, is_enabled_if, is_live_within, is_enabled_in, settled_command, settled_function, settled}
 use Rattle.settle_spec.specs.Keeping.Writes.{changes_at, changes_above, moves, has_moving, is_shut_itself, is_shut, is_left_on, closing_command, is_replaced, without_window, closed_function, closing_from, setting_from, opening_from, closings, settle_writes, settle_keeping}
-use Rattle.settle_spec.specs.Growing.{or_else}
-use Rattle.settle_spec.proofs.Anew.{none_stands, none_stays}
-use Rattle.stand_laws.proofs.GrowingKept.{growing_stands}
-use Rattle.settle_laws.specs.GrowingLaws.{AnewNothingGrows}
 use Rattle.settle_laws.specs.Keeping.StandingLaws.{SettledIsTheSame, WritesAreTheSame}
 use Rattle.settle_laws.proofs.EachPlaced.{each_same, each_all}
 use Rattle.settle_laws.proofs.ItemForms.{header_has}
@@ -56,8 +52,8 @@ map_in f g [] same = refl
 map_in f g (x ∷ xs) same = ap (λ y. y ∷ map f xs) (same x (in_head x xs)) ∙ ap (λ ys. g x ∷ ys) (map_in f g xs (λ y has. same y (in_tail x xs y has)))
 
 -- the same stays, with the addresses that it has
-record IsAsItStands (q : Request) (s : System) (k : Kept) : Type 0 where
-  same : (r : FunctionPart) → k.stays r ≡ stays q s r
+pub record IsAsItStands (q : Request) (s : System) (k : Kept) : Type 0 where
+  pub same : (r : FunctionPart) → k.stays r ≡ stays q s r
   range : (r : FunctionPart) → stays q s r ≡ true → k.range r ≡ addresses r
   place : (b : Function) (i : Item) (xs : List Range) → stays q s (window_part i.class b) ≡ true → k.place b i xs ≡ place_in (addresses (window_part i.class b)) i xs
 
@@ -131,7 +127,7 @@ module _ (q : Request) (s : System) (k : Kept) (like : IsAsItStands q s k) where
   new_place_same : new_place q s k ≡ old.new_place q s
   new_place_same = fun_ext (λ r. ap (λ p. place_among r (placed_of p)) (on_same (space_of r.function r.part) r.function.slot.bus))
 
-  lacking_same : lacking q s k ≡ old.lacking q s
+  pub lacking_same : lacking q s k ≡ old.lacking q s
   lacking_same = by q.roots
     where
       by : (roots : List ℕ) → lacking_on q s k roots ≡ old.lacking_on q s roots
@@ -319,16 +315,8 @@ module _ (q : Request) (s : System) (k : Kept) (like : IsAsItStands q s k) where
 
 -- ---- what is so
 
-standing_is : (q : Request) (s : System) → IsAsItStands q s (as_it_stands q s)
+pub standing_is : (q : Request) (s : System) → IsAsItStands q s (as_it_stands q s)
 standing_is q s = record { same = λ r. refl; range = λ r is. refl; place = λ b i xs is. refl }
-
--- where all is placed anew nothing stays
-growing_anew : (q : Request) (s : System) → q.anew ≡ true → IsAsItStands q s (growing q s)
-growing_anew q s anew = record {
-  same = λ r. false_from_ne_true (stays_growing q s r) (λ is. both_ways (stands q s r) (none_stands q s anew (length (system_parts q s)) r) (growing_stands q s r is)) ∙ sym (none_stays q s anew r);
-  range = λ r is. absurd (both_ways (stays q s r) (none_stays q s anew r) is);
-  place = λ b i xs is. absurd (both_ways (stays q s (window_part i.class b)) (none_stays q s anew (window_part i.class b)) is);
-}
 
 -- The law: what stays as it stands.
 pub standing_settles_the_same : SettledIsTheSame
@@ -339,13 +327,3 @@ standing_writes_the_same q s can =
     let like = standing_is q s in
     let rests = staying_rests q s can in
     (writes_same q s (as_it_stands q s) like rests, settling_same q s (as_it_stands q s) like rests)
-
--- The law: where all is placed anew no window grows.
-pub anew_nothing_grows : AnewNothingGrows
-anew_nothing_grows q s anew = ap (λ o. or_else o (settle q s)) (settling_same q s (growing q s) (growing_anew q s anew) (λ f p listed there is. absurd (both_ways (stays q s record { function = f; part = p }) (none_stays q s anew record { function = f; part = p }) is))) ∙ by (settle q s)
-  where
-    by : (o : Settling) → or_else o o ≡ o
-    by (Settled writes) = refl
-    by BadLists = refl
-    by (Fixed slot register) = refl
-    by (NoRoom class slot register size alignment) = refl

@@ -10,8 +10,8 @@ use Rattle.pci_spec.proofs.Members.{in_map_to, IsMade}
 use Rattle.settle_spec.specs.Lists.{Request, are_bad_lists}
 use Rattle.settle_spec.specs.Parts.{FunctionPart, system_parts, addresses, is_part, is_left, has_left}
 use Rattle.settle_spec.specs.Stands.{is_fixed_part, stands}
-use Rattle.settle_spec.specs.Writes.{BadLists, Settled, fixed_without, fixed_write, or_fixed, or_lack, or_write, settle}
-use Rattle.settle_spec.specs.Kept.{Kept, stays_growing, growing}
+use Rattle.settle_spec.specs.Writes.{BadLists, Settled, fixed_without, fixed_write, or_fixed, or_lack, or_write}
+use Rattle.settle_spec.specs.Kept.{Kept, as_it_stands, stays_growing, growing}
 use Rattle.settle_spec.specs.Keeping.Places.{lacking}
 use Rattle.settle_spec.specs.Keeping.Registers.{settled, settled_function, got_place}
 use Rattle.settle_spec.specs.Keeping.Writes.{settle_writes, settle_keeping}
@@ -72,7 +72,7 @@ module _ (q : Request) (t : System) (system : IsSystem t) (sound : IsSound q.roo
 
   -- The law: nothing is written.
   pub nothing_grows : settle_growing q t ≡ Settled []
-  nothing_grows = ap (λ o. or_else o (settle q t)) nothing_kept
+  nothing_grows = ap (λ o. or_else o (settle_keeping q t (as_it_stands q t))) nothing_kept
 
 -- ---- what is settled beside what is kept
 

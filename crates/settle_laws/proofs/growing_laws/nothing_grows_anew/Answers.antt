@@ -1,4 +1,4 @@
-use Rattle.settle_laws.proofs.Keeping.AsItStands.{anew_nothing_grows}
+use Rattle.settle_laws.proofs.NothingGrows.{anew_nothing_grows}
 use Rattle.settle_laws.proofs.growing_laws.nothing_grows_anew.Goals as goal
 
 pub returns : goal.returns
