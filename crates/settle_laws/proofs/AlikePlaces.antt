@@ -1,5 +1,5 @@
 -- In two systems that are alike everything gets the same place, where all is placed anew.
-use Rattle.std.proofs.Common.{◌≡◌, ℕ, zero, suc, List, [], ◌∷◌, ◌++◌, ◌&&◌, cond, refl, sym, ◌∙◌, ap, subst, Option, None, Some}
+use Rattle.std.proofs.Common.{◌≡◌, false, ℕ, zero, suc, List, [], ◌∷◌, ◌++◌, ◌&&◌, cond, refl, sym, ◌∙◌, ap, subst, Option, None, Some}
 use Rattle.std.specs.Bool.{IsTrue, ◌==◌, if◌then◌else◌}
 use Rattle.std.specs.List.{AllZip}
 use Rattle.pci_spec.specs.Window.{WindowKind, IoWindow, MemoryWindow, PrefetchWindow}
@@ -13,12 +13,13 @@ use Rattle.settle_spec.specs.Parts.{FunctionPart, addresses, bridge_over}
 use Rattle.settle_spec.specs.Stands.{rank, window_part}
 use Rattle.settle_spec.specs.Items.{Item, Placed, Placing, AllPlaced, Lacks, and_placed, place_next, place_all, taken_by, bus_items, new_window, stays}
 use Rattle.settle_spec.specs.FirstPlace.{is_high}
-use Rattle.settle_spec.specs.Places.{wide_ranges, root_ranges, space_items, taken_at, placed_of, place_among, placed_range, window_ranges, ranges_of_item, placing_within, placing_on, new_place, first_lack, lacking_on, lacking}
-use Rattle.settle_spec.proofs.Anew.{none_stays}
-use Rattle.settle_laws.proofs.Anew.{none_taken}
+use Rattle.settle_spec.specs.Places.{wide_ranges, root_ranges, placed_of, place_among, placed_range, first_lack}
+use Rattle.settle_spec.specs.Keeping.Places.{space_items, taken_at, placing_within, placing_on, new_place, lacking_on, lacking}
+use Rattle.settle_laws.proofs.Anew.{new_ranges, ranges_anew, placing_anew}
 use Rattle.settle_laws.proofs.Zipped.{BothOrNone, append_zip, find_zip}
 use Rattle.settle_laws.proofs.Alike.{IsAlike, IsAlikeRegion, bus_alike, of_bridges, space_alike}
 use Rattle.settle_laws.proofs.AlikeItems.{IsAlikeItem, rank_same, items_alike, windows_alike}
+use Rattle.settle_spec.specs.Kept.{Kept}
 
 pub record IsAlikePlaced (x y : Placed) : Type 0 where
   pub item : IsAlikeItem x.item y.item
@@ -78,70 +79,69 @@ among_alike r t is xs ys pairs =
     find_zip IsAlikePlaced (λ (p : Placed). rank p.item.region == rank r) (λ (p : Placed). rank p.item.region == rank t)
     (λ x y alike. let first = rank_same x.item.region y.item.region alike.item.region in let second = rank_same r t is in λ i. first i == second i) xs ys pairs
 
-module _ (q : Request) (anew : IsTrue q.anew) (s t : System) (pairs : AllZip IsAlike s t) where
+module _ (q : Request) (anew : IsTrue q.anew) (s t : System) (pairs : AllZip IsAlike s t) (k j : Kept) (none : (r : FunctionPart) → k.stays r ≡ false) (no_other : (r : FunctionPart) → j.stays r ≡ false) where
   -- ---- the ranges of an item
 
   module _ (placed others : ℕ → List Placed) (same : (bus : ℕ) → AllZip IsAlikePlaced (placed bus) (others bus)) where
-    window_alike : (c : WindowKind) (o p : Option Function) → BothOrNone IsAlike o p → window_ranges q s placed c o ≡ window_ranges q t others c p
+    window_alike : (c : WindowKind) (o p : Option Function) → BothOrNone IsAlike o p → new_ranges placed c o ≡ new_ranges others c p
     window_alike c None None both = refl
     window_alike c None (Some d) both = absurd both
     window_alike c (Some b) None both = absurd both
     window_alike c (Some b) (Some d) both =
-        ap (λ x. cond x (addresses (window_part c b) ∷ []) (placed_range (place_among (window_part c b) (placed b.slot.bus)))) (none_stays q s anew (window_part c b))
-        ∙ range_alike (place_among (window_part c b) (placed b.slot.bus)) (place_among (window_part c d) (others b.slot.bus))
+        range_alike (place_among (window_part c b) (placed b.slot.bus)) (place_among (window_part c d) (others b.slot.bus))
         (among_alike (window_part c b) (window_part c d) record { function = both; part = refl } (placed b.slot.bus) (others b.slot.bus) (same b.slot.bus))
         ∙ ap (λ bus. placed_range (place_among (window_part c d) (others bus))) (bus_alike b d both)
-        ∙ sym (ap (λ x. cond x (addresses (window_part c d) ∷ []) (placed_range (place_among (window_part c d) (others d.slot.bus)))) (none_stays q t anew (window_part c d)))
 
     over_alike : (bus : ℕ) → BothOrNone IsAlike (bridge_over s bus) (bridge_over t bus)
     over_alike bus = find_zip IsAlike (λ b. is_bridge b && secondary b == bus) (λ b. is_bridge b && secondary b == bus)
         (λ f g is. of_bridges f g is (secondary f == bus) (secondary g == bus) (λ bridge. ap (λ n. n == bus) (is.secondary bridge))) s t pairs
 
-    ranges_alike : (i j : Item) → IsAlikeItem i j → ranges_of_item q s placed i ≡ ranges_of_item q t others j
+    ranges_alike : (i j : Item) → IsAlikeItem i j → ranges_anew q s placed i ≡ ranges_anew q t others j
     ranges_alike i j is =
         let bus = bus_alike i.region.function j.region.function is.region.function in
         let class = is.class in
         let extent = is.extent in
         let over = window_alike i.class (bridge_over s i.region.function.slot.bus) (bridge_over t i.region.function.slot.bus) (over_alike i.region.function.slot.bus) in
-        let here : ranges_of_item q s placed i ≡ (if is_root q.roots i.region.function.slot.bus then root_ranges q i else window_ranges q t others i.class (bridge_over t i.region.function.slot.bus)) =
+        let here : ranges_anew q s placed i ≡ (if is_root q.roots i.region.function.slot.bus then root_ranges q i else new_ranges others i.class (bridge_over t i.region.function.slot.bus)) =
         ap (λ w. if is_root q.roots i.region.function.slot.bus then root_ranges q i else w) over in
         here ∙ (λ n. if is_root q.roots (bus n)
         then class_ranges q (class n) (bus n) ++ (if is_high (extent n) then wide_ranges q (class n) (bus n) else [])
-        else window_ranges q t others (class n) (bridge_over t (bus n)))
+        else new_ranges others (class n) (bridge_over t (bus n)))
 
   -- ---- the items of a space
 
-  of_class : (c : WindowKind) (bus : ℕ) → AllZip IsAlikeItem (bus_items q s c (stays q s) (new_window q s c) bus) (bus_items q t c (stays q t) (new_window q t c) bus)
-  of_class c bus = items_alike q anew s t pairs c (stays q s) (stays q t) (λ r u is. none_stays q s anew r ∙ sym (none_stays q t anew u)) (new_window q s c) (new_window q t c) (windows_alike q anew s t pairs c 256) bus
+  of_class : (c : WindowKind) (bus : ℕ) → AllZip IsAlikeItem (bus_items q s c k.stays (new_window q s c) bus) (bus_items q t c j.stays (new_window q t c) bus)
+  of_class c bus = items_alike q anew s t pairs c k.stays j.stays (λ r u is. none r ∙ sym (no_other u)) (new_window q s c) (new_window q t c) (windows_alike q anew s t pairs c 256) bus
 
-  space_items_alike : (space : Space) (bus : ℕ) → AllZip IsAlikeItem (space_items q s space bus) (space_items q t space bus)
+  space_items_alike : (space : Space) (bus : ℕ) → AllZip IsAlikeItem (space_items q s k space bus) (space_items q t j space bus)
   space_items_alike Io bus = of_class IoWindow bus
   space_items_alike Memory bus =
-      append_zip IsAlikeItem (bus_items q s MemoryWindow (stays q s) (new_window q s MemoryWindow) bus) (bus_items q s PrefetchWindow (stays q s) (new_window q s PrefetchWindow) bus)
-      (bus_items q t MemoryWindow (stays q t) (new_window q t MemoryWindow) bus) (bus_items q t PrefetchWindow (stays q t) (new_window q t PrefetchWindow) bus) (of_class MemoryWindow bus) (of_class PrefetchWindow bus)
+      append_zip IsAlikeItem (bus_items q s MemoryWindow k.stays (new_window q s MemoryWindow) bus) (bus_items q s PrefetchWindow k.stays (new_window q s PrefetchWindow) bus)
+      (bus_items q t MemoryWindow j.stays (new_window q t MemoryWindow) bus) (bus_items q t PrefetchWindow j.stays (new_window q t PrefetchWindow) bus) (of_class MemoryWindow bus) (of_class PrefetchWindow bus)
 
   -- ---- places
 
-  placing_alike : (space : Space) (depth bus : ℕ) → ArePlacedAlike (placing_within q s space depth bus) (placing_within q t space depth bus)
+  placing_alike : (space : Space) (depth bus : ℕ) → ArePlacedAlike (placing_within q s k space depth bus) (placing_within q t j space depth bus)
   unfolding placing_within
   placing_alike space zero bus = tt
   placing_alike space (suc depth) bus =
-      let placed = λ (over : ℕ). placed_of (placing_within q s space depth over) in
-      let others = λ (over : ℕ). placed_of (placing_within q t space depth over) in
-      let taken = none_taken q s anew space bus ∙ sym (none_taken q t anew space bus) in
-      subst (λ ts. ArePlacedAlike (place_all (ranges_of_item q s placed) (taken_at q s space bus) (space_items q s space bus)) (place_all (ranges_of_item q t others) ts (space_items q t space bus))) taken
-      (all_alike (ranges_of_item q s placed) (ranges_of_item q t others) (ranges_alike placed others (λ over. placed_alike (placing_within q s space depth over) (placing_within q t space depth over) (placing_alike space depth over)))
-      (taken_at q s space bus) (space_items q s space bus) (space_items q t space bus) (space_items_alike space bus))
+      let placed = λ (over : ℕ). placed_of (placing_within q s k space depth over) in
+      let others = λ (over : ℕ). placed_of (placing_within q t j space depth over) in
+      subst (λ x. ArePlacedAlike x (placing_within q t j space (suc depth) bus)) (sym (placing_anew q s k none space depth bus))
+      (subst (ArePlacedAlike (place_all (ranges_anew q s placed) [] (space_items q s k space bus))) (sym (placing_anew q t j no_other space depth bus))
+      (all_alike (ranges_anew q s placed) (ranges_anew q t others) (ranges_alike placed others (λ over. placed_alike (placing_within q s k space depth over) (placing_within q t j space depth over) (placing_alike space depth over)))
+      [] (space_items q s k space bus) (space_items q t j space bus) (space_items_alike space bus)))
 
-  pub new_places_alike : (r u : FunctionPart) → IsAlikeRegion r u → BothOrNone IsAlikePlaced (new_place q s r) (new_place q t u)
+  pub new_places_alike : (r u : FunctionPart) → IsAlikeRegion r u → BothOrNone IsAlikePlaced (new_place q s k r) (new_place q t j u)
   new_places_alike r u is =
       let bus = bus_alike r.function u.function is.function in
       let space = space_alike r.function u.function is.function r.part ∙ ap (space_of u.function) is.part in
-      let places = λ (v : System) (a : Space) (b : ℕ). placed_of (placing_on q v a b) in
-      let here = placed_alike (placing_on q s (space_of r.function r.part) r.function.slot.bus) (placing_on q t (space_of r.function r.part) r.function.slot.bus) (placing_alike (space_of r.function r.part) 256 r.function.slot.bus) in
-      let there : places t (space_of r.function r.part) r.function.slot.bus ≡ places t (space_of u.function u.part) u.function.slot.bus = λ i. places t (space i) (bus i) in
-      subst (λ ys. BothOrNone IsAlikePlaced (new_place q s r) (place_among u ys)) there
-      (among_alike r u is (places s (space_of r.function r.part) r.function.slot.bus) (places t (space_of r.function r.part) r.function.slot.bus) here)
+      let places = λ (a : Space) (b : ℕ). placed_of (placing_on q s k a b) in
+      let others = λ (a : Space) (b : ℕ). placed_of (placing_on q t j a b) in
+      let here = placed_alike (placing_on q s k (space_of r.function r.part) r.function.slot.bus) (placing_on q t j (space_of r.function r.part) r.function.slot.bus) (placing_alike (space_of r.function r.part) 256 r.function.slot.bus) in
+      let there : others (space_of r.function r.part) r.function.slot.bus ≡ others (space_of u.function u.part) u.function.slot.bus = λ i. others (space i) (bus i) in
+      subst (λ ys. BothOrNone IsAlikePlaced (new_place q s k r) (place_among u ys)) there
+      (among_alike r u is (places (space_of r.function r.part) r.function.slot.bus) (others (space_of r.function r.part) r.function.slot.bus) here)
 
   -- ---- and what lacks room
 
@@ -151,14 +151,14 @@ module _ (q : Request) (anew : IsTrue q.anew) (s t : System) (pairs : AllZip IsA
   lack_alike (Lacks i) (AllPlaced ys) alike o p both = absurd alike
   lack_alike (Lacks i) (Lacks j) alike o p both = alike
 
-  lacking_alike : (roots : List ℕ) → BothOrNone IsAlikeItem (lacking_on q s roots) (lacking_on q t roots)
+  lacking_alike : (roots : List ℕ) → BothOrNone IsAlikeItem (lacking_on q s k roots) (lacking_on q t j roots)
   lacking_alike [] = tt
   lacking_alike (root ∷ roots) =
-      lack_alike (placing_on q s Io root) (placing_on q t Io root) (placing_alike Io 256 root) (first_lack (placing_on q s Memory root) None) (first_lack (placing_on q t Memory root) None)
-      (lack_alike (placing_on q s Memory root) (placing_on q t Memory root) (placing_alike Memory 256 root) None None tt)
+      lack_alike (placing_on q s k Io root) (placing_on q t j Io root) (placing_alike Io 256 root) (first_lack (placing_on q s k Memory root) None) (first_lack (placing_on q t j Memory root) None)
+      (lack_alike (placing_on q s k Memory root) (placing_on q t j Memory root) (placing_alike Memory 256 root) None None tt)
 
-  pub none_lacks : lacking q s ≡ None → lacking q t ≡ None
-  none_lacks none = by (lacking q s) (lacking q t) none (lacking_alike q.roots)
+  pub none_lacks : lacking q s k ≡ None → lacking q t j ≡ None
+  none_lacks none = by (lacking q s k) (lacking q t j) none (lacking_alike q.roots)
     where
       by : (o p : Option Item) → o ≡ None → BothOrNone IsAlikeItem o p → p ≡ None
       by o None e both = refl

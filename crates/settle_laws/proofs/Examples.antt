@@ -14,30 +14,36 @@ use Rattle.plan_spec.proofs.Examples.Placed.{start}
 use Rattle.settle_spec.specs.Items.{stays, has_of, window_within, holds_within}
 use Rattle.settle_spec.specs.Lists.{RootRange, Request}
 use Rattle.settle_spec.specs.Parts.{FunctionPart, system_parts}
-use Rattle.settle_spec.specs.Places.{placing_within, lacking}
-use Rattle.settle_spec.specs.Registers.{settled, is_live_within}
+use Rattle.settle_spec.specs.Keeping.Places.{placing_within, lacking}
+use Rattle.settle_spec.specs.Keeping.Registers.{settled, is_live_within}
 use Rattle.settle_spec.specs.Stands.{stands_within}
-use Rattle.settle_spec.specs.Writes.{Settled, is_cut_off_in, settle}
+use Rattle.settle_spec.specs.Writes.{Settled, is_cut_off_in}
 use Rattle.settle_spec.proofs.Examples.Settlings.{all_roots, request, plain, over}
-use Rattle.settle_laws.specs.PlacesLaws.{CanSettle}
+use Rattle.settle_laws.specs.Keeping.PlacesLaws.{CanSettle}
 use Rattle.settle_laws.specs.RestLaws.{IsLeftAlone, KeepsParts}
 use Rattle.settle_laws.specs.StartLaws.{LieInPlace, OffLieApart}
-use Rattle.settle_laws.proofs.AgainKept.{all_stand}
-use Rattle.settle_laws.proofs.AgainSettled.{settled_again}
+use Rattle.settle_laws.proofs.Keeping.AgainKept.{all_stand}
+use Rattle.settle_laws.proofs.Keeping.AgainSettled.{settled_again}
 use Rattle.settle_laws.proofs.AllStand.{all_stay}
 use Rattle.settle_laws.proofs.InPlace.{standing_apart, standing_lies}
-use Rattle.settle_laws.proofs.Moves.{new_system, new_nested}
-use Rattle.settle_laws.proofs.SettledSound.{settled_sound}
+use Rattle.settle_laws.proofs.Keeping.Moves.{new_system, new_nested}
+use Rattle.settle_laws.proofs.Keeping.SettledSound.{settled_sound}
+use Rattle.settle_spec.specs.Kept.{Kept, as_it_stands}
+use Rattle.settle_spec.specs.Keeping.Writes.{settle_keeping}
+use Rattle.settle_laws.proofs.SoundKept.{standing_is_sound}
 
 abbrev asked : Bool → Request
 asked anew = record request { anew = anew }
 
-tree_has_room : (anew : Bool) → lacking (asked anew) start ≡ None
+abbrev standing : Bool → Kept
+standing anew = as_it_stands (asked anew) start
+
+tree_has_room : (anew : Bool) → lacking (asked anew) start (standing anew) ≡ None
 unfolding stands_within window_within holds_within placing_within
 tree_has_room true = refl
 tree_has_room false = refl
 
-tree_can_settle : (anew : Bool) → CanSettle (asked anew) start
+tree_can_settle : (anew : Bool) → CanSettle (asked anew) start (standing anew)
 tree_can_settle anew = record {
   lists = refl;
   high = λ r has. elim (in_cons_cases (all_roots 0x100000000 0x1ffffffff) [] r has) [
@@ -48,28 +54,30 @@ tree_can_settle anew = record {
   nested = tree_is_nested;
   profile = tree_is_in_profile;
   chains = tree_has_chains;
+  sound = standing_is_sound (asked anew) start tree_is_a_system tree_is_nested tree_is_in_profile;
   room = tree_has_room anew;
 }
 
-tree_is_settled : (anew : Bool) → IsSound host (settled (asked anew) start)
-tree_is_settled anew = settled_sound (asked anew) start (tree_can_settle anew)
+tree_is_settled : (anew : Bool) → IsSound host (settled (asked anew) start (standing anew))
+tree_is_settled anew = settled_sound (asked anew) start (standing anew) (tree_can_settle anew)
 
 -- settled once more it stays as it is,
-tree_stays : (anew : Bool) → settled (asked anew) (settled (asked anew) start) ≡ settled (asked anew) start
-tree_stays anew = settled_again (asked anew) start (tree_can_settle anew)
+tree_stays : (anew : Bool)
+    → settled (asked anew) (settled (asked anew) start (standing anew)) (as_it_stands (asked anew) (settled (asked anew) start (standing anew))) ≡ settled (asked anew) start (standing anew)
+tree_stays anew = settled_again (asked anew) start (standing anew) (tree_can_settle anew)
 
 -- and all of it stays, where not all is placed anew
-its_parts_stay : (r : FunctionPart) → Contains (system_parts request (settled request start)) r → IsTrue (stays request (settled request start) r)
+its_parts_stay : (r : FunctionPart) → Contains (system_parts request (settled request start (standing false))) r → IsTrue (stays request (settled request start (standing false)) r)
 its_parts_stay r listed =
     let can = tree_can_settle false in
-    all_stay request (settled request start) (new_system request start can) (new_nested request start can) (all_stand request start can refl) r listed
+    all_stay request (settled request start (standing false)) (new_system request start (standing false) can) (new_nested request start (standing false) can) (all_stand request start (standing false) can refl) r listed
 
 -- so the hypotheses of the laws of a sound start are met
-its_parts_lie : LieInPlace request (settled request start)
-its_parts_lie = standing_lies request (settled request start) (new_system request start (tree_can_settle false)) (tree_is_settled false) (all_stand request start (tree_can_settle false) refl)
+its_parts_lie : LieInPlace request (settled request start (standing false))
+its_parts_lie = standing_lies request (settled request start (standing false)) (new_system request start (standing false) (tree_can_settle false)) (tree_is_settled false) (all_stand request start (standing false) (tree_can_settle false) refl)
 
-what_is_off_lies_apart : OffLieApart request (settled request start)
-what_is_off_lies_apart = standing_apart request (settled request start) (new_system request start (tree_can_settle false)) (tree_is_settled false) (all_stand request start (tree_can_settle false) refl)
+what_is_off_lies_apart : OffLieApart request (settled request start (standing false))
+what_is_off_lies_apart = standing_apart request (settled request start (standing false)) (new_system request start (standing false) (tree_can_settle false)) (tree_is_settled false) (all_stand request start (standing false) (tree_can_settle false) refl)
 
 -- ---- what settling leaves alone
 
@@ -80,7 +88,7 @@ behind = plain (slot 1 0 0) 2 0xe0000000 0xfffff000
 abbrev board : System
 board = over 2 0xe000e000 ∷ plain (slot 0 2 0) 2 0xe0080000 0xfff80000 ∷ behind ∷ []
 
-one_moves : settle request board
+one_moves : settle_keeping request board (as_it_stands request board)
     ≡ Settled (write (slot 0 2 0) 0x04 2 0x0000 ∷ write (slot 0 2 0) 0x10 4 0xe0100000 ∷ write (slot 0 2 0) 0x04 2 0x0002 ∷ [])
 unfolding stands_within window_within holds_within placing_within is_live_within
 one_moves = refl

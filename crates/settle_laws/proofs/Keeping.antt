@@ -1,7 +1,12 @@
 pub mod After
 pub mod Again
+pub mod AgainCommand
+pub mod AgainEnds
+pub mod AgainImage
 pub mod AgainKept
 pub mod AgainParts
+pub mod AgainSettled
+pub mod AnewAgain
 pub mod AsItStands
 pub mod BusPlaced
 pub mod Buses
@@ -21,7 +26,6 @@ pub mod Live
 pub mod Lives
 pub mod Moves
 pub mod NewPlaces
-pub mod NothingSettled
 pub mod PartPlaces
 pub mod PassedAbove
 pub mod PlacedBus

@@ -1,18 +1,11 @@
 pub mod After
-pub mod Again
-pub mod AgainCommand
-pub mod AgainEnds
-pub mod AgainImage
 pub mod AgainKept
-pub mod AgainParts
-pub mod AgainSettled
 pub mod Alike
 pub mod AlikeItems
 pub mod AlikePlaces
 pub mod AllInPlace
 pub mod AllStand
 pub mod Anew
-pub mod AnewAgain
 pub mod BarReach
 pub mod BusPlaced
 pub mod Claimed
@@ -89,7 +82,7 @@ pub mod StageStops
 pub mod StageWindows
 pub mod Stages
 pub mod StandingAbove
-pub mod StandingStart
+pub mod StandingPlaces
 pub mod Staying
 pub mod StayingRests
 pub mod StillHeld

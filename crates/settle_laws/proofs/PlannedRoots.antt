@@ -38,22 +38,19 @@ use Rattle.settle_spec.specs.FirstPlace.{Extent, is_high}
 use Rattle.settle_spec.specs.Lists.{Request, class_ranges}
 use Rattle.settle_spec.specs.Parts.{class_in, bridge_over}
 use Rattle.settle_spec.specs.Items.{Item, Placed, Placing, AllPlaced, Lacks, place_all, are_placed, bus_items, new_window, stays}
-use Rattle.settle_spec.specs.Places.{wide_ranges, window_ranges, placed_of, ranges_of_item, space_items, taken_at, placing_within, placing_on, first_lack, root_lack}
+use Rattle.settle_spec.specs.Places.{wide_ranges, placed_of, first_lack}
+use Rattle.settle_spec.specs.Keeping.Places.{space_items, taken_at, placing_within, placing_on, root_lack}
 use Rattle.settle_spec.proofs.LaidOut.{greatest_more}
 use Rattle.settle_laws.specs.PlanLaws.{anew_in, IsNoLarger, WindowsAreNoLarger, SettlesWherePlanned}
-use Rattle.settle_laws.proofs.Anew.{none_taken}
+use Rattle.settle_spec.specs.Kept.{Kept, as_it_stands}
+use Rattle.settle_spec.proofs.Anew.{none_stays}
+use Rattle.settle_laws.proofs.Anew.{new_ranges, ranges_anew, placing_anew}
 use Rattle.settle_laws.proofs.ItemForms.{extent_by, item_by, IsPlaceable, IsOwnPart, IsNewWindow, IsItemOf, items_are}
 use Rattle.settle_laws.proofs.NoLarger.{window_fits, items_aside, item_aside}
 use Rattle.settle_laws.proofs.OneByOne.{IsSetAside, HasFirst, all_in_first}
 use Rattle.settle_laws.proofs.PlannedSizes.{planned, has_planned_behind, items_below}
 use Rattle.settle_laws.proofs.Powers.{below_greatest, greatest_power, multiple_below}
 use Rattle.settle_laws.proofs.WideWindows.{classes_planned, io_items, memory_items, prefetch_items, wide_items}
-
-placing_step : (q : Request) (s : System) (space : Space) (depth bus : ℕ)
-    → placing_within q s space (suc depth) bus
-    ≡ place_all (ranges_of_item q s (λ over. placed_of (placing_within q s space depth over))) (taken_at q s space bus) (space_items q s space bus)
-unfolding placing_within
-placing_step q s space depth bus = refl
 
 ranges_are : (roots : List ℕ) (pools : Pools) (c : WindowKind) (bus : ℕ) → class_ranges (anew_in roots pools) c bus ≡ pool_of pools c ∷ []
 ranges_are roots pools IoWindow bus = refl
@@ -98,6 +95,9 @@ module _ (roots : List ℕ) (s : System) (pools : Pools) (system : IsSystem s) (
   abbrev q : Request
   q = anew_in roots pools
 
+  abbrev k : Kept
+  k = as_it_stands q s
+
   abbrev new : WindowKind → Function → Extent
   new c b = new_window q s c b
 
@@ -112,7 +112,7 @@ module _ (roots : List ℕ) (s : System) (pools : Pools) (system : IsSystem s) (
     size i = planned s pools c i
 
     abbrev items : List Item
-    items = bus_items q s c (stays q s) (new_window q s c) root
+    items = bus_items q s c k.stays (new_window q s c) root
 
     below : pool.last < 2 ^ 64
     below = pool_below pools good top c
@@ -175,7 +175,7 @@ module _ (roots : List ℕ) (s : System) (pools : Pools) (system : IsSystem s) (
     windows b listed bridge beside = window_fits q s pools c system nested classes small b listed bridge
 
     item_is : (i : Item) → Contains items i → IsItemOf q s (new_window q s) c root i
-    item_is i has = items_are q s (new_window q s) c (stays q s) root i has
+    item_is i has = items_are q s (new_window q s) c k.stays root i has
 
     one_aside : (i : Item) → Contains items i → IsSetAside i.extent (size i)
     one_aside i has = item_aside q s pools c system nested classes small root i (item_is i has) windows
@@ -207,40 +207,40 @@ module _ (roots : List ℕ) (s : System) (pools : Pools) (system : IsSystem s) (
           | inr over ↦ (let high = wide_items q s pools system nested (λ f p. classes_planned roots s pools f p) over root i is in omega (arith, top, high))
         ]
 
-    has_first : (over : ℕ → List Placed) (i : Item) → Contains items i → HasFirst (ranges_of_item q s over) pool i
+    has_first : (over : ℕ → List Placed) (i : Item) → Contains items i → HasFirst (ranges_anew q s over) pool i
     has_first over i has =
         let is = item_is i has in
         let f = is.f in
         let e = extent_by (new_window q s) f is.p in
         let on_root : is_root roots f.slot.bus ≡ true = sym (beside_root roots root f.slot.bus is_one) ∙ is.beside in
         let more = cond (is_high e) (wide_ranges q c f.slot.bus) [] in
-        let begins : ranges_of_item q s over (item_by (new_window q s) c f is.p) ≡ pool ∷ more =
-        ap (λ b. cond b (class_ranges q c f.slot.bus ++ more) (window_ranges q s over c (bridge_over s f.slot.bus))) on_root
+        let begins : ranges_anew q s over (item_by (new_window q s) c f is.p) ≡ pool ∷ more =
+        ap (λ b. cond b (class_ranges q c f.slot.bus ++ more) (new_ranges over c (bridge_over s f.slot.bus))) on_root
         ∙ ap (λ rs. rs ++ more) (ranges_are roots pools c f.slot.bus) in
         record {
           more = more;
-          begins = ap (ranges_of_item q s over) (sym is.is) ∙ begins;
+          begins = ap (ranges_anew q s over) (sym is.is) ∙ begins;
           below = pool_in_reach i is;
         }
 
     -- so the items of a class have room in its pool, whatever is taken outside it
     pub class_placed : (over : ℕ → List Placed) (others : List Item) (taken : List Range)
         → ((t : Range) → Contains taken t → (t.last < pool.first) ⊎ (pool.last < t.first))
-        → ((later : List Range) → ((t : Range) → Contains later t → Contains taken t ⊎ IsInside t pool) → are_placed (place_all (ranges_of_item q s over) later others) ≡ true)
-        → are_placed (place_all (ranges_of_item q s over) taken (items ++ others)) ≡ true
+        → ((later : List Range) → ((t : Range) → Contains later t → Contains taken t ⊎ IsInside t pool) → are_placed (place_all (ranges_anew q s over) later others) ≡ true)
+        → are_placed (place_all (ranges_anew q s over) taken (items ++ others)) ≡ true
     class_placed over others taken off rest =
         let total = sum (root_items roots s pools c) in
-        let within = items_below q s pools c classes system nested small (stays q s) (new_window q s c) root in
+        let within = items_below q s pools c classes system nested small k.stays (new_window q s c) root in
         let same = sum_on_roots s pools c roots system nested root is_one rising in
         elim (cases_lt 0 total) [
           | inr none ↦
               let e = nothing_needed size items (λ i has. power_pos (size i) (one_aside i has).power) (omega (arith, within, same, none)) in
-              subst (λ xs. are_placed (place_all (ranges_of_item q s over) taken (xs ++ others)) ≡ true) (sym e) (rest taken (λ t has. inl has))
+              subst (λ xs. are_placed (place_all (ranges_anew q s over) taken (xs ++ others)) ≡ true) (sym e) (rest taken (λ t has. inl has))
           | inl some ↦
               let room = room_of_fit roots s pools c (can.room c) below some in
-              let aside = items_aside q s pools c system nested classes small (stays q s) start root windows (λ i has. (start_even i has).0) in
+              let aside = items_aside q s pools c system nested classes small k.stays start root windows (λ i has. (start_even i has).0) in
               let from = pool_from some in
-              all_in_first size (ranges_of_item q s over) pool others start taken items aside from (omega (arith, room, within, same))
+              all_in_first size (ranges_anew q s over) pool others start taken items aside from (omega (arith, room, within, same))
               (has_first over)
               (λ t has. elim (off t has) [ inl under ↦ inl (omega (arith, under, from)) | inr past ↦ inr past ])
               rest
@@ -253,24 +253,24 @@ module _ (roots : List ℕ) (s : System) (pools : Pools) (system : IsSystem s) (
   -- ---- the roots
 
   abbrev lower : Space → ℕ → List Placed
-  lower space over = placed_of (placing_within q s space 255 over)
+  lower space over = placed_of (placing_within q s k space 255 over)
 
-  placing_is : (space : Space) → placing_on q s space root ≡ place_all (ranges_of_item q s (lower space)) [] (space_items q s space root)
-  placing_is space = placing_step q s space 255 root ∙ ap (λ taken. place_all (ranges_of_item q s (lower space)) taken (space_items q s space root)) (none_taken q s refl space root)
+  placing_is : (space : Space) → placing_on q s k space root ≡ place_all (ranges_anew q s (lower space)) [] (space_items q s k space root)
+  placing_is space = placing_anew q s k (none_stays q s refl) space 255 root
 
   none_in : (t : Range) → Contains [] t → (A : Type 0) → A
   none_in t has A = absurd (in_nil t has)
 
-  pub io_placed : are_placed (placing_on q s Io root) ≡ true
+  pub io_placed : are_placed (placing_on q s k Io root) ≡ true
   io_placed =
       ap are_placed (placing_is Io)
-      ∙ ap (λ xs. are_placed (place_all (ranges_of_item q s (lower Io)) [] xs)) (sym (append-nil (space_items q s Io root)))
+      ∙ ap (λ xs. are_placed (place_all (ranges_anew q s (lower Io)) [] xs)) (sym (append-nil (space_items q s k Io root)))
       ∙ class_placed IoWindow (lower Io) [] [] (λ t has. none_in t has _) (λ later lie. refl)
 
   prefetch_placed : (later : List Range) → ((t : Range) → Contains later t → Contains [] t ⊎ IsInside t pools.memory)
-      → are_placed (place_all (ranges_of_item q s (lower Memory)) later (items PrefetchWindow)) ≡ true
+      → are_placed (place_all (ranges_anew q s (lower Memory)) later (items PrefetchWindow)) ≡ true
   prefetch_placed later lie =
-      ap (λ xs. are_placed (place_all (ranges_of_item q s (lower Memory)) later xs)) (sym (append-nil (items PrefetchWindow)))
+      ap (λ xs. are_placed (place_all (ranges_anew q s (lower Memory)) later xs)) (sym (append-nil (items PrefetchWindow)))
       ∙ class_placed PrefetchWindow (lower Memory) [] later
       (λ t has. elim (lie t has) [
         | inl none ↦ none_in t none _
@@ -284,15 +284,15 @@ module _ (roots : List ℕ) (s : System) (pools : Pools) (system : IsSystem s) (
       ])
       (λ more within. refl)
 
-  pub memory_placed : are_placed (placing_on q s Memory root) ≡ true
+  pub memory_placed : are_placed (placing_on q s k Memory root) ≡ true
   memory_placed =
       ap are_placed (placing_is Memory)
       ∙ class_placed MemoryWindow (lower Memory) (items PrefetchWindow) [] (λ t has. none_in t has _) prefetch_placed
 
-  pub root_has_room : root_lack q s root ≡ None
+  pub root_has_room : root_lack q s k root ≡ None
   root_has_room =
-      lacks_none (placing_on q s Io root) (first_lack (placing_on q s Memory root) None) io_placed
-      ∙ lacks_none (placing_on q s Memory root) None memory_placed
+      lacks_none (placing_on q s k Io root) (first_lack (placing_on q s k Memory root) None) io_placed
+      ∙ lacks_none (placing_on q s k Memory root) None memory_placed
 
 -- all roots are one bus
 pub settles_where_planned : SettlesWherePlanned

@@ -7,6 +7,7 @@ use Rattle.plan_spec.specs.Plan.{Pools, is_backward, are_bad}
 use Rattle.settle_spec.specs.Lists.{RootRange, is_bad_list, are_bad_lists, end_above}
 use Rattle.settle_laws.specs.PlanLaws.{pool_list, anew_in, CanSettleWherePlanned}
 use Rattle.settle_laws.proofs.PlannedRoots.{settles_where_planned}
+use Rattle.settle_laws.proofs.SoundKept.{standing_is_sound}
 
 neither : (x y : Bool) → x ≡ false → y ≡ false → (x || y) ≡ false
 neither x y no_x no_y = ap (λ b. b || y) no_x ∙ no_y
@@ -47,5 +48,6 @@ can_settle_where_planned roots s pools system nested profile chains rising top c
   nested = nested;
   profile = profile;
   chains = chains;
+  sound = standing_is_sound (anew_in roots pools) s system nested profile;
   room = settles_where_planned roots s pools system nested rising top can;
 }

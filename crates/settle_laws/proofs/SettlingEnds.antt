@@ -11,7 +11,6 @@ use Rattle.settle_spec.specs.Lists.{Request, are_bad_lists}
 use Rattle.settle_spec.specs.Parts.{FunctionPart}
 use Rattle.settle_spec.specs.Stands.{stands}
 use Rattle.settle_spec.specs.Items.{Item}
-use Rattle.settle_spec.specs.Registers.{settled}
 use Rattle.settle_spec.specs.Writes.{Settling, BadLists, Fixed, NoRoom, Settled, fixed_without, fixed_write, or_fixed, or_lack, or_write}
 use Rattle.settle_spec.specs.Kept.{Kept, as_it_stands, growing}
 use Rattle.settle_spec.specs.Keeping.Places.{lacking}
@@ -20,17 +19,18 @@ use Rattle.settle_spec.specs.Growing.{or_else, settle_growing}
 use Rattle.settle_laws.specs.GrowingLaws.{CanBeAsked, closings_by, growing_closings, SettledGrowingIsSound, SettlingGrowingCanStop, FewGrowingWritesEach, SettlingGrowingAgainWritesNothing}
 use Rattle.settle_laws.specs.KeptLaws.{IsSoundKept}
 use Rattle.settle_laws.specs.WriteLaws.{most_settle_writes}
-use Rattle.settle_laws.specs.PlacesLaws.{CanSettle as OldCanSettle}
 use Rattle.settle_laws.specs.Keeping.PlacesLaws.{CanSettle}
-use Rattle.settle_laws.proofs.AgainEnds.{can_again}
-use Rattle.settle_laws.proofs.AnewAgain.{anew_again}
 use Rattle.settle_laws.proofs.NothingGrows.{anew_nothing_grows}
 use Rattle.settle_laws.proofs.SoundKept.{standing_is_sound, growing_is_sound}
-use Rattle.settle_laws.proofs.Keeping.AsItStands.{standing_is, lacking_same, standing_settles_the_same, standing_writes_the_same}
 use Rattle.settle_laws.proofs.Keeping.Few.{few_each}
-use Rattle.settle_laws.proofs.Keeping.NothingSettled.{nothing_again}
 use Rattle.settle_laws.proofs.Keeping.SettledSound.{settled_sound}
 use Rattle.settle_laws.proofs.Keeping.Stopping.{stop_sound, writes_settle}
+use Rattle.settle_spec.specs.Keeping.Registers.{settled}
+use Rattle.settle_laws.proofs.NothingSettled.{nothing_grows}
+use Rattle.settle_laws.proofs.Keeping.AgainKept.{all_stand}
+use Rattle.settle_laws.proofs.Keeping.AgainSettled.{all_left_off}
+use Rattle.settle_laws.proofs.Keeping.AnewAgain.{anew_again}
+use Rattle.settle_laws.proofs.Keeping.Moves.{new_system}
 
 -- ---- how settling ends
 
@@ -97,7 +97,22 @@ module _ (q : Request) (s : System) (asked : CanBeAsked q s) (k : Kept) (sound :
   kept_again writes e kept =
       let can = kept_can writes e in
       subst (λ ws. settle_growing q (system_after s ws) ≡ Settled []) (kept_end writes e).same
-      (subst (λ t. settle_growing q t ≡ Settled []) (sym (writes_settle q s k can)) (nothing_again q s k can kept))
+      (subst (λ t. settle_growing q t ≡ Settled []) (sym (writes_settle q s k can))
+      (nothing_grows q (settled q s k) (new_system q s k can) (settled_sound q s k can) (all_stand q s k can kept) (all_left_off q s k can) can.lists))
+
+  kept_anew : (writes : List Write) → settle_keeping q s k ≡ Settled writes → q.anew ≡ true → settle_growing q (system_after s writes) ≡ Settled []
+  kept_anew writes e anew =
+      let can = kept_can writes e in
+      let end = kept_end writes e in
+      subst (λ ws. settle_growing q (system_after s ws) ≡ Settled []) end.same
+      (subst (λ t. settle_growing q t ≡ Settled []) (sym (writes_settle q s k can))
+      (anew_nothing_grows q (settled q s k) anew ∙ anew_again q s k can anew end.stand end.unwritten))
+
+  kept_nothing : (writes : List Write) → settle_keeping q s k ≡ Settled writes → settle_growing q (system_after s writes) ≡ Settled []
+  kept_nothing writes e = elim (cases_Bool q.anew) [
+    | inl anew ↦ kept_anew writes e anew
+    | inr kept ↦ kept_again writes e kept
+  ]
 
 -- ---- with windows that grow, or else beside what stays as it stands
 
@@ -142,33 +157,14 @@ module _ (q : Request) (s : System) (asked : CanBeAsked q s) where
       by (Fixed slot register) is e = kept_few q s asked j plain writes f listed e
       by (NoRoom class slot register size alignment) is e = kept_few q s asked j plain writes f listed e
 
-  -- ---- settled again
-
-  -- where all is placed anew
-  anew_nothing : (writes : List Write) → settle_keeping q s j ≡ Settled writes → q.anew ≡ true → settle_growing q (system_after s writes) ≡ Settled []
-  anew_nothing writes e anew =
-      let beside = kept_can q s asked j plain writes e in
-      let end = kept_end q s asked j plain writes e in
-      let can : OldCanSettle q s = record { lists = end.good; high = asked.high; system = asked.system; nested = asked.nested; profile = asked.profile; chains = asked.chains; room = sym (lacking_same q s j (standing_is q s)) ∙ end.room } in
-      let unwritten = ap (fixed_write q) (sym (standing_writes_the_same q s can).0) ∙ end.unwritten in
-      subst (λ ws. settle_growing q (system_after s ws) ≡ Settled []) end.same
-      (subst (λ t. settle_growing q t ≡ Settled []) (sym (writes_settle q s j beside ∙ standing_settles_the_same q s))
-      (anew_nothing_grows q (settled q s) anew ∙ (standing_writes_the_same q (settled q s) (can_again q s can)).1 ∙ anew_again q s can anew end.stand unwritten))
-
-  kept_nothing : (writes : List Write) → settle_growing q s ≡ Settled writes → q.anew ≡ false → settle_growing q (system_after s writes) ≡ Settled []
-  kept_nothing writes e kept = by (settle_keeping q s k) refl e
+  pub again_nothing : (writes : List Write) → settle_growing q s ≡ Settled writes → settle_growing q (system_after s writes) ≡ Settled []
+  again_nothing writes e = by (settle_keeping q s k) refl e
     where
       by : (o : Settling) → settle_keeping q s k ≡ o → or_else o (settle_keeping q s j) ≡ Settled writes → settle_growing q (system_after s writes) ≡ Settled []
-      by (Settled own) is e = kept_again q s asked k grown writes (is ∙ e) kept
-      by BadLists is e = kept_again q s asked j plain writes e kept
-      by (Fixed slot register) is e = kept_again q s asked j plain writes e kept
-      by (NoRoom class slot register size alignment) is e = kept_again q s asked j plain writes e kept
-
-  pub again_nothing : (writes : List Write) → settle_growing q s ≡ Settled writes → settle_growing q (system_after s writes) ≡ Settled []
-  again_nothing writes e = elim (cases_Bool q.anew) [
-    | inl anew ↦ anew_nothing writes (sym (anew_nothing_grows q s anew) ∙ e) anew
-    | inr kept ↦ kept_nothing writes e kept
-  ]
+      by (Settled own) is e = kept_nothing q s asked k grown writes (is ∙ e)
+      by BadLists is e = kept_nothing q s asked j plain writes e
+      by (Fixed slot register) is e = kept_nothing q s asked j plain writes e
+      by (NoRoom class slot register size alignment) is e = kept_nothing q s asked j plain writes e
 
 pub settled_growing_is_sound : SettledGrowingIsSound
 settled_growing_is_sound q s writes asked e = ends_sound q s asked writes e

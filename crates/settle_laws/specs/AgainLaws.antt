@@ -7,37 +7,42 @@ use Rattle.settle_spec.specs.Lists.{Request}
 use Rattle.settle_spec.specs.Parts.{FunctionPart, system_parts, has_left}
 use Rattle.settle_spec.specs.Stands.{stands}
 use Rattle.settle_spec.specs.Items.{stays}
-use Rattle.settle_spec.specs.Registers.{settled, settled_function}
-use Rattle.settle_spec.specs.Writes.{settle_writes}
-use Rattle.settle_laws.specs.PlacesLaws.{CanSettle, end_range}
+use Rattle.settle_spec.specs.Kept.{Kept, as_it_stands, growing}
+use Rattle.settle_spec.specs.Keeping.Registers.{settled, settled_function}
+use Rattle.settle_spec.specs.Keeping.Writes.{settle_writes}
+use Rattle.settle_laws.specs.Keeping.PlacesLaws.{CanSettle, end_range}
 
--- What can be settled can be settled again:
+-- What can be settled beside what is kept can be settled again beside what stays as it stands then:
 abbrev pub CanSettleAgain : Type 0
-CanSettleAgain = (q : Request) (s : System) → CanSettle q s → CanSettle q (settled q s)
+CanSettleAgain =
+    (q : Request) (s : System) (k : Kept) → CanSettle q s k
+    → CanSettle q (settled q s k) (as_it_stands q (settled q s k))
 
 -- each of its parts stays, unless all is placed anew,
 abbrev pub SettledPartsStay : Type 0
 SettledPartsStay =
-    (q : Request) (s : System) → CanSettle q s → IsFalse q.anew → (r : FunctionPart)
-    → Contains (system_parts q (settled q s)) r → IsTrue (stays q (settled q s) r)
+    (q : Request) (s : System) (k : Kept) → CanSettle q s k → IsFalse q.anew → (r : FunctionPart)
+    → Contains (system_parts q (settled q s k)) r → IsTrue (stays q (settled q s k) r)
 
 -- and in any case each part ends where it ended.
 abbrev pub PartsEndWhereTheyEnded : Type 0
 PartsEndWhereTheyEnded =
-    (q : Request) (s : System) → CanSettle q s → (f : Function) (p : Part) → Contains s f
+    (q : Request) (s : System) (k : Kept) → CanSettle q s k → (f : Function) (p : Part) → Contains s f
     → IsTrue (has_part f p)
-    → end_range q (settled q s) record { function = settled_function q s f; part = p }
-    ≡ end_range q s record { function = f; part = p }
+    → end_range q (settled q s k) (as_it_stands q (settled q s k)) record { function = settled_function q s k f; part = p }
+    ≡ end_range q s k record { function = f; part = p }
 
 -- So nothing changes,
 abbrev pub SettledStays : Type 0
 SettledStays =
-    (q : Request) (s : System) → CanSettle q s → settled q (settled q s) ≡ settled q s
+    (q : Request) (s : System) (k : Kept) → CanSettle q s k
+    → settled q (settled q s k) (as_it_stands q (settled q s k)) ≡ settled q s k
 
 -- and nothing is written.
 abbrev pub SettlingAgainWritesNothing : Type 0
 SettlingAgainWritesNothing =
-    (q : Request) (s : System) → CanSettle q s → settle_writes q (settled q s) ≡ []
+    (q : Request) (s : System) (k : Kept) → CanSettle q s k
+    → settle_writes q (settled q s k) (as_it_stands q (settled q s k)) ≡ []
 
 -- A sound start is settled already where each part of it stands, and I/O is off in each function with an I/O BAR that is left.
 abbrev pub StandingStartIsSettled : Type 0
@@ -45,4 +50,5 @@ StandingStartIsSettled =
     (q : Request) (s : System) → IsSystem s → IsSound q.roots s
     → ((r : FunctionPart) → Contains (system_parts q s) r → IsTrue (stands q s r))
     → ((f : Function) → Contains s f → IsTrue (has_left q s f) → IsFalse (is_space_on f Io))
-    → (settled q s ≡ s) × (settle_writes q s ≡ [])
+    → (settled q s (as_it_stands q s) ≡ s) × (settle_writes q s (as_it_stands q s) ≡ [])
+    × (settled q s (growing q s) ≡ s) × (settle_writes q s (growing q s) ≡ [])

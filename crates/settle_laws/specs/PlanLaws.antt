@@ -12,8 +12,9 @@ use Rattle.plan_spec.specs.PlanPromise.{CanBePlanned}
 use Rattle.settle_spec.specs.FirstPlace.{Extent}
 use Rattle.settle_spec.specs.Lists.{RootRange, Request}
 use Rattle.settle_spec.specs.Items.{new_window}
-use Rattle.settle_spec.specs.Places.{lacking}
-use Rattle.settle_laws.specs.PlacesLaws.{CanSettle}
+use Rattle.settle_spec.specs.Keeping.Places.{lacking}
+use Rattle.settle_laws.specs.Keeping.PlacesLaws.{CanSettle}
+use Rattle.settle_spec.specs.Kept.{as_it_stands}
 
 -- a pool that all roots have, as the one range of a list
 abbrev pub pool_list : Range → List RootRange
@@ -51,11 +52,11 @@ abbrev pub SettlesWherePlanned : Type 0
 SettlesWherePlanned =
     (roots : List ℕ) (s : System) (pools : Pools) → IsSystem s → IsNested roots s
     → IsStrictlyIncreasing roots → pools.prefetch.last < 2 ^ 64 → CanBePlanned roots s pools
-    → lacking (anew_in roots pools) s ≡ None
+    → lacking (anew_in roots pools) s (as_it_stands (anew_in roots pools) s) ≡ None
 
 -- So there it can all be settled: nothing lacks room on any bus, and the settled system is sound.
 abbrev pub CanSettleWherePlanned : Type 0
 CanSettleWherePlanned =
     (roots : List ℕ) (s : System) (pools : Pools) → IsSystem s → IsNested roots s
     → IsInProfile roots s → HasChains s → IsStrictlyIncreasing roots → pools.prefetch.last < 2 ^ 64
-    → CanBePlanned roots s pools → CanSettle (anew_in roots pools) s
+    → CanBePlanned roots s pools → CanSettle (anew_in roots pools) s (as_it_stands (anew_in roots pools) s)

@@ -9,7 +9,10 @@ use Rattle.settle_spec.specs.FirstPlace.{ranges_are_apart}
 use Rattle.settle_spec.specs.Lists.{Request, are_bad_lists}
 use Rattle.settle_spec.specs.Parts.{FunctionPart, system_parts, addresses, lies_within, class_in, has_left}
 use Rattle.settle_spec.specs.Stands.{rank, is_part_on, part_space, are_beside, is_in_lists, window_part, stands}
-use Rattle.settle_spec.specs.Writes.{Settled, settle}
+use Rattle.settle_spec.specs.Writes.{Settled}
+use Rattle.settle_spec.specs.Kept.{as_it_stands}
+use Rattle.settle_spec.specs.Keeping.Writes.{settle_keeping}
+use Rattle.settle_spec.specs.Growing.{settle_growing}
 
 -- Each part behind a bridge lies whole in the window of its class there, which is open.
 abbrev pub PartsLieInWindows : Request → System → Type 0
@@ -55,4 +58,5 @@ SoundInPlaceIsSettled =
     (q : Request) (s : System) → IsSystem s → IsSound q.roots s → IsFalse q.anew
     → LieInPlace q s → OffLieApart q s
     → ((f : Function) → Contains s f → IsTrue (has_left q s f) → IsFalse (is_space_on f Io))
-    → IsFalse (are_bad_lists q.roots q.lists) → settle q s ≡ Settled []
+    → IsFalse (are_bad_lists q.roots q.lists)
+    → (settle_keeping q s (as_it_stands q s) ≡ Settled []) × (settle_growing q s ≡ Settled [])

@@ -1,7 +1,8 @@
 -- What is kept stands, is apart on its bus, and lies in the window over it.
-use Rattle.std.proofs.Common.{◌≡◌, ◌≤◌, ℕ, true, false, arith, sym, ◌∙◌, ap, subst}
+use Rattle.std.proofs.Common.{◌≡◌, ◌≤◌, ℕ, true, false, length, arith, sym, ◌∙◌, ap, subst}
 use Rattle.std.specs.List.{Contains}
-use Rattle.std.proofs.lemmas.Bool.{and_from}
+use Rattle.std.specs.Bool.{IsTrue}
+use Rattle.std.proofs.lemmas.Bool.{and_from, both_ways, false_from_ne_true}
 use Rattle.pci_spec.specs.Window.{WindowKind}
 use Rattle.pci_spec.specs.System.{System, Function, Part, Window, is_bridge}
 use Rattle.pci_spec.specs.Bus.{is_root, are_siblings, secondary}
@@ -21,10 +22,15 @@ use Rattle.settle_laws.proofs.LowWindows.{windows_low}
 use Rattle.settle_laws.proofs.Kept.{in_regions, lie_apart, off_roots, siblings_through}
 use Rattle.plan_spec.specs.Plan.{bridges_above}
 use Rattle.settle_laws.proofs.Climbs.{climbs}
+use Rattle.settle_spec.proofs.Anew.{none_stands}
 
 module _ (q : Request) (s : System) (k : Kept) (can : CanSettle q s k) where
   pub stays_stands : (r : FunctionPart) → k.stays r ≡ true → stands q s r ≡ true
   stays_stands r is = can.sound.apart.stands r is
+
+  -- where all is placed anew nothing is kept
+  pub none_kept : IsTrue q.anew → (r : FunctionPart) → k.stays r ≡ false
+  none_kept anew r = false_from_ne_true (k.stays r) (λ is. both_ways (stands q s r) (none_stands q s anew (length (system_parts q s)) r) (stays_stands r is))
 
   pub stays_part : (r : FunctionPart) → Contains s r.function → k.stays r ≡ true → is_part q s r.function r.part ≡ true
   stays_part r listed is = (stands_by_itself q s can.nested).only r listed (stays_stands r is)

@@ -1,6 +1,5 @@
-use Rattle.settle_laws.proofs.AgainSettled.{settled_again, none_again}
-use Rattle.settle_laws.proofs.StandingStart.{start_stays}
-use Rattle.settle_laws.proofs.Unchanged.{no_write}
+use Rattle.settle_laws.proofs.NothingSettled.{start_stays, start_unwritten, grown_stays, grown_unwritten}
+use Rattle.settle_laws.proofs.Keeping.AgainSettled.{settled_again, none_again}
 use Rattle.settle_laws.proofs.again_laws.settled_stays.Goals as goal
 
 pub returns-clause-stays : goal.returns-clause-stays
@@ -11,5 +10,4 @@ returns-clause-none c = none_again
 
 pub returns-clause-start : goal.returns-clause-start
 returns-clause-start c = λ q s system sound all off.
-    let same = start_stays q s system sound all off in
-    (same, no_write q s system sound.nested same)
+    (start_stays q s system sound all off, start_unwritten q s system sound all off, grown_stays q s system sound all off, grown_unwritten q s system sound all off)

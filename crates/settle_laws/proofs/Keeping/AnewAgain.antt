@@ -12,21 +12,23 @@ use Rattle.settle_spec.specs.Lists.{Request}
 use Rattle.settle_spec.specs.Parts.{FunctionPart, system_parts, is_part}
 use Rattle.settle_spec.specs.Stands.{is_fixed_part, stands}
 use Rattle.settle_spec.specs.Items.{stays}
-use Rattle.settle_spec.specs.Places.{lacking}
-use Rattle.settle_spec.specs.Registers.{settled, settled_function}
-use Rattle.settle_spec.specs.Writes.{BadLists, Settled, fixed_without, fixed_write, or_fixed, or_lack, or_write, settle, settle_writes}
+use Rattle.settle_spec.specs.Keeping.Places.{lacking}
+use Rattle.settle_spec.specs.Keeping.Registers.{settled, settled_function}
+use Rattle.settle_spec.specs.Writes.{BadLists, Settled, fixed_without, fixed_write, or_fixed, or_lack, or_write}
+use Rattle.settle_spec.specs.Keeping.Writes.{settle_keeping, settle_writes}
 use Rattle.settle_spec.proofs.Anew.{none_stands}
-use Rattle.settle_laws.specs.PlacesLaws.{CanSettle}
-use Rattle.settle_laws.proofs.Again.{settled_alike, all_alike, room_again}
-use Rattle.settle_laws.proofs.AgainParts.{settled_part}
-use Rattle.settle_laws.proofs.AgainSettled.{none_again}
+use Rattle.settle_laws.specs.Keeping.PlacesLaws.{CanSettle}
+use Rattle.settle_laws.proofs.Keeping.Again.{settled_alike, all_alike, room_again}
+use Rattle.settle_laws.proofs.Keeping.AgainParts.{settled_part}
+use Rattle.settle_laws.proofs.Keeping.AgainSettled.{none_again}
 use Rattle.settle_laws.proofs.Alike.{part_alike}
 use Rattle.settle_laws.proofs.HeaderParts.{header_of}
 use Rattle.settle_laws.proofs.Kept.{in_regions}
-use Rattle.settle_laws.proofs.Moves.{new_profile}
+use Rattle.settle_laws.proofs.Keeping.Moves.{new_profile}
 use Rattle.settle_laws.proofs.NothingSettled.{find_none}
 use Rattle.settle_laws.proofs.StagePrefixes.{others_leave}
-use Rattle.settle_laws.proofs.Stopping.{writes_settle}
+use Rattle.settle_laws.proofs.Keeping.Stopping.{writes_settle}
+use Rattle.settle_spec.specs.Kept.{Kept, as_it_stands}
 
 -- functions that make the same list are alike on each of its members
 map_at : {X Y : Type 0} (g h : X → Y) (xs : List X) → map g xs ≡ map h xs → (x : X) → Contains xs x → g x ≡ h x
@@ -51,27 +53,30 @@ not_found test (y ∷ xs) none x has = elim (cases_Bool (test y)) [
       elim (in_cons_cases y xs x has) [ inl is ↦ ap test (sym is) ∙ off | inr later ↦ not_found test xs rest x later ]
 ]
 
-module _ (q : Request) (s : System) (can : CanSettle q s) (anew : q.anew ≡ true) (stand : fixed_without (stands q s) q s ≡ None) (unwritten : fixed_write q (settle_writes q s) ≡ None) where
+module _ (q : Request) (s : System) (k : Kept) (can : CanSettle q s k) (anew : q.anew ≡ true) (stand : fixed_without (stands q s) q s ≡ None) (unwritten : fixed_write q (settle_writes q s k) ≡ None) where
   abbrev now : Function → Function
-  now f = settled_function q s f
+  now f = settled_function q s k f
 
   abbrev t : System
-  t = settled q s
+  t = settled q s k
+
+  abbrev j : Kept
+  j = as_it_stands q t
 
   -- no write is to what is fixed
-  elsewhere : (f : Function) → list_any (same_slot f.slot) q.fixed ≡ true → (x : Write) → Contains (settle_writes q s) x → same_slot f.slot x.slot ≡ false
+  elsewhere : (f : Function) → list_any (same_slot f.slot) q.fixed ≡ true → (x : Write) → Contains (settle_writes q s k) x → same_slot f.slot x.slot ≡ false
   elsewhere f fixed x has = false_from_ne_true (same_slot f.slot x.slot) (λ here.
-      both_ways (list_any (same_slot x.slot) q.fixed) (not_found (λ (w : Write). list_any (same_slot w.slot) q.fixed) (settle_writes q s) unwritten x has)
+      both_ways (list_any (same_slot x.slot) q.fixed) (not_found (λ (w : Write). list_any (same_slot w.slot) q.fixed) (settle_writes q s k) unwritten x has)
       (ap (λ (z : Slot). list_any (same_slot z) q.fixed) (sym (same_fields f.slot x.slot here)) ∙ fixed))
 
   function_stays : (f : Function) → Contains s f → list_any (same_slot f.slot) q.fixed ≡ true → now f ≡ f
   function_stays f listed fixed =
-      sym (map_at (λ f. function_after f (settle_writes q s)) now s (sym (system_by_function s (settle_writes q s)) ∙ writes_settle q s can.system can.profile (new_profile q s can)) f listed)
-      ∙ others_leave f (settle_writes q s) (elsewhere f fixed)
+      sym (map_at (λ f. function_after f (settle_writes q s k)) now s (sym (system_by_function s (settle_writes q s k)) ∙ writes_settle q s k can) f listed)
+      ∙ others_leave f (settle_writes q s k) (elsewhere f fixed)
 
   part_before : (f : Function) (p : Part) → Contains s f → list_any (same_slot f.slot) q.fixed ≡ true → is_part q t (now f) p ≡ true → is_part q s f p ≡ true
   part_before f p listed fixed part = elim (cases_Bool (is_window p)) [
-    | inr plain ↦ part_alike q s t (all_alike q s can) f (now f) (settled_alike q s can f listed) p plain ∙ part
+    | inr plain ↦ part_alike q s t (all_alike q s k can) f (now f) (settled_alike q s k can f listed) p plain ∙ part
     | inl window ↦ by p window part
   ]
     where
@@ -83,7 +88,7 @@ module _ (q : Request) (s : System) (can : CanSettle q s) (anew : q.anew ≡ tru
   -- a part is not of what is fixed
   none_fixed : (r : FunctionPart) → Contains (system_parts q t) r → is_fixed_part q r ≡ false
   none_fixed r has = false_from_ne_true (is_fixed_part q r) (λ fixed.
-      let at = settled_part q s can r has in
+      let at = settled_part q s k can r has in
       let held : list_any (same_slot at.f.slot) q.fixed ≡ true = ap (is_fixed_part q) at.is ∙ fixed in
       let old : FunctionPart = record { function = at.f; part = at.p } in
       both_ways (is_fixed_part q old && not (stands q s old))
@@ -94,11 +99,11 @@ module _ (q : Request) (s : System) (can : CanSettle q s) (anew : q.anew ≡ tru
   none_without test = find_none (λ r. is_fixed_part q r && not (test r)) (system_parts q t) (λ r listed. ap (λ b. b && not (test r)) (none_fixed r listed))
 
   -- The law: nothing is written.
-  pub anew_again : settle q t ≡ Settled []
+  pub anew_again : settle_keeping q t j ≡ Settled []
   anew_again =
-      ap (λ b. cond b BadLists (or_fixed (fixed_without (stands q t) q t) (or_fixed (fixed_without (stays q t) q t)
-      (or_lack (lacking q t) (or_write (fixed_write q (settle_writes q t)) (Settled (settle_writes q t))))))) can.lists
-      ∙ ap (λ o. or_fixed o (or_fixed (fixed_without (stays q t) q t) (or_lack (lacking q t) (or_write (fixed_write q (settle_writes q t)) (Settled (settle_writes q t)))))) (none_without (stands q t))
-      ∙ ap (λ o. or_fixed o (or_lack (lacking q t) (or_write (fixed_write q (settle_writes q t)) (Settled (settle_writes q t))))) (none_without (stays q t))
-      ∙ ap (λ o. or_lack o (or_write (fixed_write q (settle_writes q t)) (Settled (settle_writes q t)))) (room_again q s can anew)
-      ∙ ap (λ ws. or_write (fixed_write q ws) (Settled ws)) (none_again q s can)
+      ap (λ b. cond b BadLists (or_fixed (fixed_without (stands q t) q t) (or_fixed (fixed_without j.stays q t)
+      (or_lack (lacking q t j) (or_write (fixed_write q (settle_writes q t j)) (Settled (settle_writes q t j))))))) can.lists
+      ∙ ap (λ o. or_fixed o (or_fixed (fixed_without j.stays q t) (or_lack (lacking q t j) (or_write (fixed_write q (settle_writes q t j)) (Settled (settle_writes q t j)))))) (none_without (stands q t))
+      ∙ ap (λ o. or_fixed o (or_lack (lacking q t j) (or_write (fixed_write q (settle_writes q t j)) (Settled (settle_writes q t j))))) (none_without j.stays)
+      ∙ ap (λ o. or_lack o (or_write (fixed_write q (settle_writes q t j)) (Settled (settle_writes q t j)))) (room_again q s k can anew)
+      ∙ ap (λ ws. or_write (fixed_write q ws) (Settled ws)) (none_again q s k can)
