@@ -1,24 +1,20 @@
 -- Where every part stands, everything stays, nothing gets a place, and registers are left as they are.
-use Rattle.std.proofs.Common.{◌≡◌, ◌&&◌, ℕ, zero, suc, ◌<◌, inl, inr, List, [], ◌∷◌, ◌++◌, Bool, true, false, cond, arith, refl, sym, ◌∙◌, ap, subst, None}
+use Rattle.std.proofs.Common.{◌≡◌, ◌&&◌, ℕ, zero, suc, ◌<◌, inl, inr, List, [], ◌∷◌, ◌++◌, Bool, true, false, arith, refl, sym, ◌∙◌, ap, subst}
 use Rattle.std.specs.List.{Contains}
-use Rattle.std.specs.Option.{is_some}
-use Rattle.std.proofs.lemmas.Bool.{and_from, and_right, both_ways, cases_Bool, cases_eq}
-use Rattle.pci_spec.specs.Window.{WindowKind, IoWindow, MemoryWindow, PrefetchWindow, closed_bounds}
-use Rattle.pci_spec.specs.System.{System, Function, IsSystem, Space, Io, Memory, Part, Bar, Rom, Window, space_of, is_bridge}
+use Rattle.std.proofs.lemmas.Bool.{and_from, both_ways, cases_eq}
+use Rattle.pci_spec.specs.Window.{WindowKind}
+use Rattle.pci_spec.specs.System.{System, Function, IsSystem, Part, Bar, Rom, Window, is_bridge}
 use Rattle.pci_spec.specs.Bus.{secondary, is_behind, IsNested}
 use Rattle.pci_spec.proofs.BusRanges.{root_means}
 use Rattle.pci_spec.proofs.Members.{in_head}
 use Rattle.plan_spec.specs.Plan.{bridges_above}
-use Rattle.plan_spec.specs.Place.{nibble_of}
 use Rattle.plan_spec.proofs.Planning.AboveBuses.{above_to, above_from, root_or_led}
 use Rattle.plan_spec.proofs.Planning.Behind.{behind_range, bridge_between}
 use Rattle.plan_spec.proofs.Planning.Safe.{order_of}
 use Rattle.settle_spec.specs.Lists.{Request}
-use Rattle.settle_spec.specs.Parts.{FunctionPart, system_parts, addresses, header_parts, is_part, class_in, are_same_space}
-use Rattle.settle_spec.specs.Stands.{window_part, part_space, stands}
-use Rattle.settle_spec.specs.Items.{Item, AllPlaced, place_all, are_placed, taken_on, bus_items, has_of, has_room, has_room_behind, stays, new_window}
-use Rattle.settle_spec.specs.Places.{placed_of, place_among, space_items, placing_within, placing_on, new_place, first_lack, lacking_on, lacking}
-use Rattle.settle_spec.specs.Registers.{with_bounds, closed_if_open, shown, changing, settled_image, got_place}
+use Rattle.settle_spec.specs.Parts.{FunctionPart, system_parts, addresses, class_in}
+use Rattle.settle_spec.specs.Stands.{window_part, stands}
+use Rattle.settle_spec.specs.Items.{Item, place_all, are_placed, taken_on, bus_items, has_of, has_room, has_room_behind, stays, new_window}
 use Rattle.settle_spec.proofs.Nested.{is_no_root, one_bridge}
 use Rattle.stand_laws.specs.Holding.{TellsRoom}
 use Rattle.stand_laws.proofs.Holding.{holds_alone, stays_on_root, stays_by_bus}
@@ -27,8 +23,6 @@ use Rattle.settle_laws.proofs.HeaderParts.{header_of}
 use Rattle.settle_laws.proofs.ItemForms.{IsItemOf, IsPlaceable, IsOwnPart, IsNewWindow, items_are, item_moves}
 use Rattle.settle_laws.proofs.Kept.{in_regions, window_listed, within_over}
 use Rattle.settle_laws.proofs.PartPlaces.{IsBehindOf, behind_of}
-use Rattle.settle_laws.proofs.Shown.{IsChanging, changing_is, fold_keeps}
-use Rattle.settle_laws.proofs.NonePasses.{none_by}
 
 none_in : (xs : List Item) → ((i : Item) → Contains xs i → ⊥) → xs ≡ []
 none_in [] none = refl
@@ -119,58 +113,5 @@ module _ (q : Request) (s : System) (system : IsSystem s) (nested : IsNested q.r
 
   pub all_stay : (r : FunctionPart) → Contains (system_parts q s) r → stays q s r ≡ true
   all_stay r listed = stays_within (suc r.function.slot.bus) r (omega arith) listed
-
   -- ---- and nothing gets a place
-
-  no_space_items : (space : Space) (bus : ℕ) → space_items q s space bus ≡ []
-  no_space_items Io bus = no_items (stays q s) all_stay IoWindow bus
-  no_space_items Memory bus =
-      ap (λ items. items ++ bus_items q s PrefetchWindow (stays q s) (new_window q s PrefetchWindow) bus) (no_items (stays q s) all_stay MemoryWindow bus)
-      ∙ no_items (stays q s) all_stay PrefetchWindow bus
-
-  none_placed : (space : Space) (bus : ℕ) → placing_on q s space bus ≡ AllPlaced []
-  unfolding placing_within
-  none_placed space bus = ap (place_all _ _) (no_space_items space bus)
-
-  pub no_place : (r : FunctionPart) → new_place q s r ≡ None
-  no_place r = ap (λ p. place_among r (placed_of p)) (none_placed (space_of r.function r.part) r.function.slot.bus)
-
-  pub none_lacks : lacking q s ≡ None
-  none_lacks = by q.roots
-    where
-      by : (roots : List ℕ) → lacking_on q s roots ≡ None
-      by [] = refl
-      by (root ∷ roots) =
-          ap (λ p. first_lack p (first_lack (placing_on q s Memory root) None)) (none_placed Io root)
-          ∙ ap (λ p. first_lack p None) (none_placed Memory root)
-
-  pub got_none : (space : Space) (f : Function) → got_place q s space f ≡ false
-  got_none space f = none_by (λ r. are_same_space space (part_space r) && is_some (new_place q s r)) (changing q s f)
-      (λ r has. and_right (are_same_space space (part_space r)) (is_some (new_place q s r)) (ap is_some (no_place r)))
-
   -- ---- registers
-
-  step_leaves : (f : Function) → Contains s f → (p : Part) → Contains (header_parts f) p → (image : List ℕ) → shown q s record { function = f; part = p } (new_place q s record { function = f; part = p }) image ≡ image
-  step_leaves f listed p there image =
-      let r : FunctionPart = record { function = f; part = p } in
-      ap (λ o. shown q s r o image) (no_place r)
-      ∙ elim (cases_Bool (is_part q s f p)) [
-        | inl part ↦ ap (λ t. cond t image (closed_if_open f p image)) (all_stay r (in_regions q s f p listed there part))
-        | inr none ↦ ap (cond (stays q s r) image) (not_open p none) ∙ cond_itself (stays q s r)
-      ]
-    where
-      not_open : (p : Part) → is_part q s f p ≡ false → closed_if_open f p image ≡ image
-      not_open (Bar n) none = refl
-      not_open Rom none = refl
-      not_open (Window c) none = ap (λ t. cond t (with_bounds c (closed_bounds c (nibble_of c f)) image) image) none
-
-      cond_itself : (b : Bool) → cond b image image ≡ image
-      cond_itself true = refl
-      cond_itself false = refl
-
-  pub image_stays : (f : Function) → Contains s f → settled_image q s f ≡ f.image
-  image_stays f listed =
-      fold_keeps (λ x. x ≡ f.image) (λ x r. shown q s r (new_place q s r) x) (changing q s f)
-      (λ r has x same.
-      let c : IsChanging q s f r = changing_is q s f r has in
-      subst (λ (t : FunctionPart). shown q s t (new_place q s t) x ≡ f.image) c.is (step_leaves f listed c.p c.there x ∙ same)) f.image refl

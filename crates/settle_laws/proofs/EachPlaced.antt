@@ -37,6 +37,23 @@ each_all ranges taken (i ∷ items) =
     next_same i (first_place (ranges i) taken i.extent) (λ a. place_each (λ i xs. first_place (ranges i) xs i.extent) (taken_by i a ∷ taken) items) (λ a. place_all ranges (taken_by i a ∷ taken) items)
     (λ a. each_all ranges (taken_by i a ∷ taken) items)
 
+-- what is placed are the items, in turn
+pub each_items : (find : Item → List Range → Option ℕ) (taken : List Range) (items : List Item) (placed : List Placed) → place_each find taken items ≡ AllPlaced placed → map (λ (p : Placed). p.item) placed ≡ items
+each_items find taken [] placed done = sym (ap (λ p. map (λ (x : Placed). x.item) (placed_of p)) done)
+each_items find taken (i ∷ items) placed done =
+    by (find i taken) done (λ a rest is. each_items find (taken_by i a ∷ taken) items rest is)
+  where
+    more : ℕ → Placing
+    more a = place_each find (taken_by i a ∷ taken) items
+
+    by_rest : (a : ℕ) (p : Placing) → more a ≡ p → and_placed i a p ≡ AllPlaced placed → ((rest : List Placed) → more a ≡ AllPlaced rest → map (λ (x : Placed). x.item) rest ≡ items) → map (λ (x : Placed). x.item) placed ≡ i ∷ items
+    by_rest a (AllPlaced rest) is done again = sym (ap (λ p. map (λ (x : Placed). x.item) (placed_of p)) done) ∙ ap (λ xs. i ∷ xs) (again rest is)
+    by_rest a (Lacks j) is done again = absurd (false≢true (ap are_placed done))
+
+    by : (o : Option ℕ) → place_next i o more ≡ AllPlaced placed → ((a : ℕ) (rest : List Placed) → more a ≡ AllPlaced rest → map (λ (x : Placed). x.item) rest ≡ items) → map (λ (x : Placed). x.item) placed ≡ i ∷ items
+    by None done again = absurd (false≢true (ap are_placed done))
+    by (Some a) done again = by_rest a (more a) refl done (again a)
+
 -- ---- places that are known beforehand
 
 pub looked_up : (find : Item → List Range → Option ℕ) (taken : List Range) (placed : List Placed) → ((p : Placed) (xs : List Range) → Contains placed p → find p.item xs ≡ Some p.at)

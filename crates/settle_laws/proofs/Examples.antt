@@ -108,34 +108,36 @@ needs_no_window IoWindow bridge has = has
 needs_no_window MemoryWindow bridge has = refl
 needs_no_window PrefetchWindow bridge has = has
 
-bridge_keeps_its_parts : KeepsParts request board (over 2 0xe000e000)
+bridge_keeps_its_parts : KeepsParts request board (as_it_stands request board) (over 2 0xe000e000)
 unfolding stands_within window_within holds_within
 bridge_keeps_its_parts = record {
   parts = only_part (λ p. IsTrue (stays request board record { function = over 2 0xe000e000; part = p })) (Window MemoryWindow) refl;
+  same = λ p has. refl;
   windows = needs_no_window;
   reached = nothing_cuts_off (over 2 0xe000e000) refl refl;
 }
 
-device_keeps_its_parts : KeepsParts request board behind
+device_keeps_its_parts : KeepsParts request board (as_it_stands request board) behind
 unfolding stands_within window_within holds_within
 device_keeps_its_parts = record {
   parts = only_part (λ p. IsTrue (stays request board record { function = behind; part = p })) (Bar 0) refl;
+  same = λ p has. refl;
   windows = λ c bridge. absurd (both_ways false refl bridge);
   reached = nothing_cuts_off behind refl refl;
 }
 
 -- so the hypothesis of the laws on what stays is met where something moves
-device_is_left_alone : IsLeftAlone request board behind
+device_is_left_alone : IsLeftAlone request board (as_it_stands request board) behind
 device_is_left_alone = record {
   itself = device_keeps_its_parts;
   above = λ b has. elim (in_cons_cases (over 2 0xe000e000) [] b has) [
-    | inl is ↦ subst (λ (x : Function). KeepsParts request board x) is bridge_keeps_its_parts
+    | inl is ↦ subst (KeepsParts request board (as_it_stands request board)) is bridge_keeps_its_parts
     | inr none ↦ absurd (in_nil b none)
   ];
   unleft = refl;
 }
 
 -- and it isn't of the device that moves: its BAR doesn't stay
-moved_one_is_not : IsLeftAlone request board (plain (slot 0 2 0) 2 0xe0080000 0xfff80000) → ⊥
+moved_one_is_not : IsLeftAlone request board (as_it_stands request board) (plain (slot 0 2 0) 2 0xe0080000 0xfff80000) → ⊥
 unfolding stands_within window_within holds_within
 moved_one_is_not alone = both_ways false refl (alone.itself.parts (Bar 0) (in_head (Bar 0) []))

@@ -8,18 +8,13 @@ use Rattle.std.proofs.lemmas.List.Sums.{sum_by-append, sum_by-cons, count_by-le-
 use Rattle.pci_spec.specs.Number.{number_at}
 use Rattle.pci_spec.specs.Slot.{Slot, same_slot, slot_number}
 use Rattle.pci_spec.specs.Header.{registers_by}
-use Rattle.pci_spec.specs.System.{System, Function, IsSystem, is_bridge}
+use Rattle.pci_spec.specs.System.{System, Function, is_bridge}
 use Rattle.pci_spec.specs.Machine.{Write}
 use Rattle.pci_spec.proofs.Members.{in_nil, in_cons_cases, in_head, in_tail, pairs_head, pairs_tail, IsInPiece, in_flat_map_to}
-use Rattle.plan_spec.specs.Planning.PlanWrites.{Change, register_write}
+use Rattle.plan_spec.specs.Planning.PlanWrites.{Change}
 use Rattle.plan_spec.proofs.Planning.Writes.{other_number}
-use Rattle.pci_spec.specs.Registers.{COMMAND}
-use Rattle.settle_spec.specs.Lists.{Request}
-use Rattle.settle_spec.specs.Registers.{settled_function}
-use Rattle.settle_spec.specs.Writes.{upper_halves, closing_registers, setting_registers, closed_function, closing_of, setting_of, closing_from, setting_from, opening_from, closings, settle_writes}
-use Rattle.settle_laws.specs.WriteLaws.{most_settle_writes}
-use Rattle.settle_laws.proofs.ClosedSame.{closed_layout}
-use Rattle.settle_laws.proofs.Pieces.{Lower, in_command, system_rises}
+use Rattle.settle_spec.specs.Writes.{upper_halves, setting_registers}
+use Rattle.settle_laws.proofs.Pieces.{Lower, in_command}
 
 abbrev pub count : Slot → List Write → ℕ
 count slot ws = count_by (λ w. same_slot w.slot slot) ws
@@ -106,46 +101,3 @@ setting_count c =
 pub most_is : (bridge : Bool) → (1 + (if bridge then 5 else 0)) + ((if bridge then 9 else 7) + 1) ≡ (if bridge then 16 else 9)
 most_is true = refl
 most_is false = refl
-
-module _ (q : Request) (s : System) (system : IsSystem s) where
-  -- a write between two states of a function goes to its slot
-  pub own_write : (c : Change) (r : ℕ × ℕ) (w : Write) → Contains (register_write c r) w → w.slot ≡ c.old.slot
-  own_write c r w has = in_one (number_at c.new.image r.0 r.1 == number_at c.old.image r.0 r.1) record { slot = c.old.slot; offset = r.0; width = r.1; value = number_at c.new.image r.0 r.1 } w has
-
-  pub own_writes : (c : Change) (registers : List (ℕ × ℕ)) (w : Write) → Contains (flat_map (register_write c) registers) w → w.slot ≡ c.old.slot
-  own_writes c registers w has =
-      let piece : IsInPiece (register_write c) registers w = in_flat_map_to (register_write c) registers w has in
-      own_write c piece.of w piece.piece
-
-  few_writes : (c : Change) (registers : List (ℕ × ℕ)) → length (flat_map (register_write c) registers) ≤ length registers
-  few_writes c registers = few_flat (register_write c) registers
-      (λ r. one (number_at c.new.image r.0 r.1 == number_at c.old.image r.0 r.1) record { slot = c.old.slot; offset = r.0; width = r.1; value = number_at c.new.image r.0 r.1 })
-
-  closings_as_flat : (slot : Slot) (t : System) → count slot (closings q s t) ≡ count slot (flat_map (closing_from q s) t)
-  closings_as_flat slot [] = refl
-  closings_as_flat slot (f ∷ t) =
-      let a = count_both slot (closings q s t) (closing_from q s f) in
-      let b = count_both slot (closing_from q s f) (flat_map (closing_from q s) t) in
-      let rest = closings_as_flat slot t in
-      omega (arith, a, b, rest)
-
-  -- The law: to a slot no more writes are made than there are registers to close and to set, and one that opens.
-  pub few_each : (f : Function) → Contains s f → count_by (λ w. same_slot w.slot f.slot) (settle_writes q s) ≤ most_settle_writes f
-  few_each f listed =
-      let rise = system_rises s system in
-      let settings = flat_map (setting_from q s) s in
-      let all = count_both f.slot (closings q s s) (settings ++ flat_map (opening_from q s) s) in
-      let later = count_both f.slot settings (flat_map (opening_from q s) s) in
-      let first = closings_as_flat f.slot s in
-      let a = count_flat (closing_from q s) (λ g w has. own_writes (closing_of q s g) (closing_registers g) w has) s rise f listed in
-      let b = count_flat (setting_from q s) (λ g w has. own_writes (setting_of q s g) (setting_registers (setting_of q s g)) w has) s rise f listed in
-      let c = count_flat (opening_from q s) (λ g w has. own_write (setting_of q s g) (COMMAND, 2) w has) s rise f listed in
-      let few_closed = few_writes (closing_of q s f) (closing_registers f) in
-      let few_set = few_writes (setting_of q s f) (setting_registers (setting_of q s f)) in
-      let few_opened = one (number_at (settled_function q s f).image 4 2 == number_at (closed_function q s f).image 4 2) record { slot = f.slot; offset = 4; width = 2; value = number_at (settled_function q s f).image 4 2 } in
-      let of_closing = closing_count (is_bridge f) in
-      let of_setting = setting_count (setting_of q s f) in
-      let kind : is_bridge (closed_function q s f) ≡ is_bridge f = ap (λ n. n == 1) (closed_layout q s f) in
-      let of_kind : ◌≡◌ {A = ℕ} (cond (is_bridge (closed_function q s f)) 9 7) (cond (is_bridge f) 9 7) = ap (λ t. cond t 9 7) kind in
-      let most = most_is (is_bridge f) in
-      omega (arith, all, later, first, a, b, c, few_closed, few_set, few_opened, of_closing, of_setting, of_kind, most)

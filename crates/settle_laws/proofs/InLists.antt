@@ -1,31 +1,14 @@
 -- What ends on a root lies in a range of the lists that the root has.
-use Rattle.std.proofs.Common.{◌≡◌, ℕ, inl, inr, List, [], Bool, true, false, cond, sym, ◌∙◌, ap, subst, Some}
+use Rattle.std.proofs.Common.{◌≡◌, ℕ, [], true, ◌∙◌}
 use Rattle.std.specs.Bool.{nat_le}
-use Rattle.std.specs.List.{Contains}
-use Rattle.std.proofs.lemmas.Bool.{and_from, and_parts, cases_Bool, le-leb, leb-true, or_left, or_right}
-use Rattle.std.proofs.lemmas.List.Elements.{Contains-append_cases}
+use Rattle.std.proofs.lemmas.Bool.{and_from, and_parts, le-leb, leb-true, or_left, or_right}
 use Rattle.pci_spec.specs.Decoded.{Range}
 use Rattle.pci_spec.specs.Window.{WindowKind, IoWindow, MemoryWindow, PrefetchWindow}
-use Rattle.pci_spec.specs.System.{System, Function, Memory, Part, has_part, space_of, window_space}
-use Rattle.pci_spec.specs.Bus.{is_root}
-use Rattle.pci_spec.proofs.Members.{in_nil}
+use Rattle.pci_spec.specs.System.{window_space}
 use Rattle.plan_spec.specs.Planning.Layout.{IsInside}
-use Rattle.plan_spec.proofs.Planning.Behind.{any_from}
-use Rattle.settle_spec.specs.FirstPlace.{is_high}
-use Rattle.settle_spec.specs.Lists.{Request, class_ranges}
-use Rattle.settle_spec.specs.Parts.{FunctionPart, addresses, lies_within, bridge_over}
+use Rattle.settle_spec.specs.Lists.{Request}
+use Rattle.settle_spec.specs.Parts.{lies_within}
 use Rattle.settle_spec.specs.Stands.{is_listed, is_in_lists}
-use Rattle.settle_spec.specs.Items.{Item, stays, taken_by}
-use Rattle.settle_spec.specs.Places.{placed_of, new_place, root_ranges, wide_ranges, window_ranges, taken_at}
-use Rattle.stand_laws.proofs.Apart.{in_root_lists}
-use Rattle.settle_laws.specs.PlacesLaws.{CanSettle, end_range}
-use Rattle.settle_laws.proofs.BusPlaced.{placed_bus}
-use Rattle.settle_laws.proofs.HeaderParts.{is_part_of}
-use Rattle.settle_laws.proofs.InWindows.{kept_range, placed_range, place_of_range, place_inside}
-use Rattle.settle_laws.proofs.Kept.{in_regions, stays_part, stays_stands}
-use Rattle.settle_laws.proofs.PartClasses.{space_of_class}
-use Rattle.settle_laws.proofs.PartPlaces.{new_place_is}
-use Rattle.settle_laws.proofs.PlacedBus.{places}
 
 pub within_from : (r w : Range) → IsInside r w → lies_within r w ≡ true
 within_from r w (from, end) = and_from (nat_le w.first r.first) (nat_le r.last w.last) (le-leb w.first r.first from) (le-leb r.last w.last end)
@@ -39,47 +22,3 @@ pub listed_in : (q : Request) (bus : ℕ) (r : Range) (c : WindowKind) → is_li
 listed_in q bus r IoWindow h = h
 listed_in q bus r MemoryWindow h = or_left (is_listed q bus r MemoryWindow) (is_listed q bus r PrefetchWindow) h
 listed_in q bus r PrefetchWindow h = or_right (is_listed q bus r MemoryWindow) (is_listed q bus r PrefetchWindow) h
-
-module _ (q : Request) (s : System) (can : CanSettle q s) where
-  in_range_list : (i : Item) (u r : Range) → Contains (root_ranges q i) u → IsInside r u → is_in_lists q i.region.function.slot.bus r (window_space i.class) ≡ true
-  in_range_list i u r has inside =
-      let bus = i.region.function.slot.bus in
-      let by = λ (c : WindowKind) (listed : Contains (class_ranges q c bus) u). listed_in q bus r c (any_from (lies_within r) (class_ranges q c bus) u listed (within_from r u inside)) in
-      elim (Contains-append_cases (class_ranges q i.class bus) (cond (is_high i.extent) (wide_ranges q i.class bus) []) u has) [
-        | inl own ↦ by i.class own
-        | inr more ↦ wide i.class (if_wide (is_high i.extent) (wide_ranges q i.class bus) more) (λ listed. by PrefetchWindow listed)
-      ]
-    where
-      if_wide : (w : Bool) (xs : List Range) → Contains (cond w xs []) u → Contains xs u
-      if_wide true xs listed = listed
-      if_wide false xs listed = absurd (in_nil u listed)
-
-      wide : (c : WindowKind) → Contains (wide_ranges q c i.region.function.slot.bus) u → (Contains (class_ranges q PrefetchWindow i.region.function.slot.bus) u → is_in_lists q i.region.function.slot.bus r Memory ≡ true)
-          → is_in_lists q i.region.function.slot.bus r (window_space c) ≡ true
-      wide IoWindow listed by = absurd (in_nil u listed)
-      wide MemoryWindow listed by = by listed
-      wide PrefetchWindow listed by = absurd (in_nil u listed)
-
-  -- The law: it lies in one of them.
-  pub on_root : (f : Function) (p : Part) (listed : Contains s f) (there : has_part f p ≡ true) → is_root q.roots f.slot.bus ≡ true → (u : Range) → end_range q s record { function = f; part = p } ≡ Some u → is_in_lists q f.slot.bus u (space_of f p) ≡ true
-  on_root f p listed there root u ends = elim (cases_Bool (stays q s r)) [
-    | inl keeps ↦
-        let is : Some (addresses r) ≡ Some u = sym (kept_range q s r keeps) ∙ ends in
-        let same : addresses r ≡ u = cc in
-        subst (λ w. is_in_lists q f.slot.bus w (space_of f p) ≡ true) same
-        (in_root_lists q s can.nested r (in_regions q s f p listed (is_part_of f p there).there (stays_part q s can.system can.nested r listed keeps)) (stays_stands q s can.system can.nested r listed keeps) root)
-    | inr moves_it ↦
-        let x = place_of_range q s (new_place q s r) u (sym (placed_range q s r moves_it) ∙ ends) in
-        let is = new_place_is q s can f p listed there x.0 x.1 in
-        let here = placed_bus q s can (space_of f p) f listed in
-        let own = here.are.each x.0 (subst (λ xs. Contains xs x.0) (ap placed_of here.is) is.listed) in
-        let bus : x.0.item.region.function.slot.bus ≡ f.slot.bus = ap (λ (i : Item). i.region.function.slot.bus) is.item in
-        let class : window_space x.0.item.class ≡ space_of f p = ap (λ (i : Item). window_space i.class) is.item ∙ space_of_class q s f p in
-        let in_list : Contains (root_ranges q x.0.item) own.0 = subst (λ rs. Contains rs own.0) (ap (λ b. cond b (root_ranges q x.0.item) (window_ranges q s (places q s can (space_of f p)) x.0.item.class (bridge_over s x.0.item.region.function.slot.bus))) (ap (is_root q.roots) bus ∙ root)) own.1 in
-        let in_it = in_range_list x.0.item own.0 (taken_by x.0.item x.0.at) in_list (place_inside own.0 (taken_at q s (space_of f p) f.slot.bus) x.0 own.2) in
-        subst (λ w. is_in_lists q f.slot.bus w (space_of f p) ≡ true) x.2
-        (subst (λ sp. is_in_lists q f.slot.bus (taken_by x.0.item x.0.at) sp ≡ true) class (subst (λ n. is_in_lists q n (taken_by x.0.item x.0.at) (window_space x.0.item.class) ≡ true) bus in_it))
-  ]
-    where
-      r : FunctionPart
-      r = record { function = f; part = p }

@@ -3,7 +3,7 @@ use Rattle.std.proofs.Common.{◌≡◌, ℕ, ◌<◌, inl, inr, List, [], ◌�
 use Rattle.std.specs.List.{Contains, filter, flat_map}
 use Rattle.std.specs.Bool.{if◌then◌else◌}
 use Rattle.std.proofs.lemmas.Bool.{and_from, both_ways, lt-ltb}
-use Rattle.std.proofs.lemmas.List.Elements.{Contains-append_cases, Contains-append_left, Contains-append_right}
+use Rattle.std.proofs.lemmas.List.Elements.{Contains-append_left, Contains-append_right}
 use Rattle.std.proofs.lemmas.List.Sorted.{Contains-permutation}
 use Rattle.pci_spec.specs.Number.{lowest_one}
 use Rattle.pci_spec.specs.Slot.{slot_number}
@@ -11,20 +11,19 @@ use Rattle.pci_spec.specs.Header.{layout, bar_count}
 use Rattle.pci_spec.specs.Bar.{bar_at, is_io, whole_bar}
 use Rattle.pci_spec.specs.Rom.{rom_at}
 use Rattle.pci_spec.specs.Window.{WindowKind, IoWindow, MemoryWindow, PrefetchWindow, page_size}
-use Rattle.pci_spec.specs.System.{System, Function, IsSystem, Space, Io, Memory, Part, Bar, Rom, Window, has_part, is_bridge, is_window, register_of, window_space}
+use Rattle.pci_spec.specs.System.{System, Function, IsSystem, Part, Bar, Rom, Window, has_part, is_bridge, is_window, register_of}
 use Rattle.pci_spec.specs.Bus.{are_siblings, secondary}
 use Rattle.pci_spec.proofs.Members.{in_nil, in_head, in_flat_map_from, in_map_to, in_map_from, IsMade, in_filter_from}
 use Rattle.pci_spec.proofs.Nesting.{one_function}
 use Rattle.pci_spec.proofs.Regions.{register_of-lt, part_same}
 use Rattle.plan_spec.specs.Plan.{same_class}
 use Rattle.plan_spec.specs.Planning.Placing.{IsPower}
-use Rattle.plan_spec.proofs.Planning.Placement.{step_power, power_pos}
+use Rattle.plan_spec.proofs.Planning.Placement.{step_power}
 use Rattle.settle_spec.specs.FirstPlace.{Extent}
 use Rattle.settle_spec.specs.Lists.{Request}
 use Rattle.settle_spec.specs.Parts.{FunctionPart, is_part, parts_of, header_parts, function_parts, class_in}
 use Rattle.settle_spec.specs.Stands.{rank, window_part}
-use Rattle.settle_spec.specs.Items.{Item, in_turn, own_extent, own_item, is_own, has_of, items_of, bus_items, window_around, window_within, new_window, stays}
-use Rattle.settle_spec.specs.Places.{space_items}
+use Rattle.settle_spec.specs.Items.{Item, in_turn, own_extent, own_item, is_own, has_of, items_of, bus_items, window_around, window_within, new_window}
 use Rattle.settle_spec.proofs.InTurn.{turn_same}
 use Rattle.settle_spec.proofs.ItemsOn.{each_on}
 use Rattle.settle_laws.proofs.HeaderParts.{part_cases}
@@ -182,26 +181,6 @@ module _ (q : Request) (s : System) where
 
   -- ---- the items of a space
 
-  pub record IsItemIn (space : Space) (bus : ℕ) (i : Item) : Type 0 where
-    pub c : WindowKind
-    pub of_space : window_space c ≡ space
-    pub of : IsItemOf q s (new_window q s) c bus i
-    pub has : Contains (bus_items q s c (stays q s) (new_window q s c) bus) i
-
-  pub space_items_are : (space : Space) (bus : ℕ) (i : Item) → Contains (space_items q s space bus) i → IsItemIn space bus i
-  space_items_are Io bus i has = record { c = IoWindow; of_space = refl; of = items_are q s (new_window q s) IoWindow (stays q s) bus i has; has = has }
-  space_items_are Memory bus i has =
-      elim (Contains-append_cases (bus_items q s MemoryWindow (stays q s) (new_window q s MemoryWindow) bus) (bus_items q s PrefetchWindow (stays q s) (new_window q s PrefetchWindow) bus) i has) [
-        | inl plain ↦ record { c = MemoryWindow; of_space = refl; of = items_are q s (new_window q s) MemoryWindow (stays q s) bus i plain; has = plain }
-        | inr prefetch ↦ record { c = PrefetchWindow; of_space = refl; of = items_are q s (new_window q s) PrefetchWindow (stays q s) bus i prefetch; has = prefetch }
-      ]
-
-  pub item_aligned : (space : Space) (bus : ℕ) (i : Item) → Contains (space_items q s space bus) i → IsPower i.extent.alignment
-  item_aligned space bus i has = let is = space_items_are space bus i has in item_power q s (new_window q s) is.c bus i (new_window_power is.c) is.of
-
-  pub item_positive : (space : Space) (bus : ℕ) (i : Item) → Contains (space_items q s space bus) i → 0 < i.extent.alignment
-  item_positive space bus i has = power_pos i.extent.alignment (item_aligned space bus i has)
-
   -- a rank names one item
   pub item_of_rank : IsSystem s → (c : WindowKind) (bus : ℕ) (i : Item) → IsItemOf q s (new_window q s) c bus i → (f : Function) (p : Part) → Contains s f → has_part f p ≡ true → rank i.region ≡ rank record { function = f; part = p }
       → i ≡ item_by (new_window q s) (class_in q s f p) f p
@@ -214,7 +193,3 @@ module _ (q : Request) (s : System) where
       let register : register_of o.f o.p ≡ register_of f p = omega (arith, own, slot) in
       let part : o.p ≡ p = part_same f o.p p (subst (λ g. has_part g o.p ≡ true) one o.there) there (sym (ap (λ g. register_of g o.p) one) ∙ register) in
       sym o.is ∙ sym (ap (λ c. item_by (new_window q s) c o.f o.p) o.class) ∙ ap (λ g. item_by (new_window q s) (class_in q s g o.p) g o.p) one ∙ ap (λ o. item_by (new_window q s) (class_in q s f o) f o) part
-
-  pub same_rank : IsSystem s → (space : Space) (bus : ℕ) (i : Item) → IsItemIn space bus i → (f : Function) (p : Part) → Contains s f → has_part f p ≡ true → rank i.region ≡ rank record { function = f; part = p }
-      → i ≡ item_by (new_window q s) (class_in q s f p) f p
-  same_rank system space bus i is f p listed there ranks = item_of_rank system is.c bus i is.of f p listed there ranks

@@ -7,7 +7,6 @@ pub mod AgainKept
 pub mod AgainParts
 pub mod AgainSettled
 pub mod AnewAgain
-pub mod AsItStands
 pub mod BusPlaced
 pub mod Buses
 pub mod Claimed

@@ -3,7 +3,7 @@ use Rattle.std.proofs.Common.{◌≡◌, ℕ, inl, inr, List, Bool, true, false,
 use Rattle.std.specs.Bool.{nat_le, nat_lt, ◌==◌}
 use Rattle.std.specs.List.{Contains, filter, list_all}
 use Rattle.std.proofs.lemmas.Bool.{and_parts, and_from, both_ways, eqb-true, false_from_ne_true, leb-true, ltb-true, or_cases, or_right}
-use Rattle.pci_spec.specs.Window.{WindowKind, IoWindow, MemoryWindow}
+use Rattle.pci_spec.specs.Window.{WindowKind}
 use Rattle.pci_spec.specs.Decoded.{Range}
 use Rattle.pci_spec.specs.System.{System, Function, IsSystem, Space, Io, Memory, Part, Window, is_bridge, register_of, window_space}
 use Rattle.pci_spec.specs.Bus.{is_root, are_siblings, secondary, IsNested}
@@ -16,7 +16,6 @@ use Rattle.settle_spec.specs.Lists.{Request}
 use Rattle.settle_spec.specs.Parts.{FunctionPart, system_parts, function_parts, parts_of, header_parts, addresses, is_part, lies_within, class_in, are_same_space}
 use Rattle.settle_spec.specs.Stands.{rank, window_part, part_space, stands}
 use Rattle.settle_spec.specs.Items.{has_room, has_room_behind, stays, taken_on}
-use Rattle.settle_spec.specs.Places.{taken_at}
 use Rattle.settle_spec.proofs.Nested.{at_secondary, is_no_root}
 use Rattle.stand_laws.proofs.Apart.{apart_where_beside, in_window_over}
 use Rattle.stand_laws.proofs.Holding.{holds_by_bus, stays_by_bus}
@@ -105,14 +104,6 @@ module _ (q : Request) (s : System) where
         (and_from (are_siblings q.roots bus r.function.slot.bus) (are_same_space (window_space c) (part_space r)) is.beside
         (ap (are_same_space (window_space c)) is.at ∙ same_itself (window_space c))) is.kept)))
 
-  pub at_is : (space : Space) (bus : ℕ) (t : Range) → Contains (taken_at q s space bus) t → IsTaken space (stays q s) bus t
-  at_is Io bus t has = taken_is IoWindow (stays q s) bus t has
-  at_is Memory bus t has = taken_is MemoryWindow (stays q s) bus t has
-
-  pub is_at : (space : Space) (bus : ℕ) (t : Range) → IsTaken space (stays q s) bus t → Contains (taken_at q s space bus) t
-  is_at Io bus t is = is_taken IoWindow (stays q s) bus t is
-  is_at Memory bus t is = is_taken MemoryWindow (stays q s) bus t is
-
   pub stays_holds : (r : FunctionPart) → stays q s r ≡ true → has_room_behind q s r ≡ true
   stays_holds r is = (and_parts (has_room_behind q s r) _ is).0
 
@@ -170,9 +161,6 @@ module _ (q : Request) (s : System) where
         -- what stays is told by the window over it
         pub stays_over : stays q s r ≡ (has_room_behind q s r && stays q s over)
         stays_over = stays_by_bus q s system nested r b (listed, bridge, at)
-
-        pub over_stays : stays q s r ≡ true → stays q s over ≡ true
-        over_stays is = (and_parts (has_room_behind q s r) (stays q s over) (sym stays_over ∙ is)).1
 
       -- what stands lies in the window of its class, which stands
       pub within_over : (r : FunctionPart) → Contains (system_parts q s) r → secondary b ≡ r.function.slot.bus → stands q s r ≡ true

@@ -10,9 +10,9 @@ use Rattle.plan_spec.specs.Plan.{IsMoved}
 use Rattle.plan_spec.proofs.Planning.Faults.{moved_profile}
 use Rattle.plan_spec.proofs.Planning.CommandFits.{command_by}
 use Rattle.settle_spec.specs.Lists.{Request}
-use Rattle.settle_spec.specs.Registers.{settled, settled_function, is_enabled_in}
-use Rattle.settle_laws.specs.WriteLaws.{IsKeptAside, SettledIsMoved, SettledStaysInProfile}
-use Rattle.settle_laws.proofs.SettledMoved.{byte_stays, listed_moves, new_command, new_image, settled_moves}
+use Rattle.settle_spec.specs.Keeping.Registers.{settled, settled_function, is_enabled_in}
+use Rattle.settle_laws.specs.WriteLaws.{IsKeptAside, SettledKeepsTheRest}
+use Rattle.settle_laws.proofs.Keeping.SettledMoved.{image_now, command_now, byte_now}
 
 pub each_by : (R : Function → Function → Type 0) (g : Function → Function) (t : System) → ((f : Function) → Contains t f → R f (g f)) → AllZip R t (map g t)
 each_by R g [] each = tt
@@ -24,20 +24,11 @@ enables_alone old true false = omega arith
 enables_alone old false true = omega arith
 enables_alone old false false = omega arith
 
-pub kept_aside : (q : Request) (s : System) → IsSystem s → IsInProfile q.roots s → AllZip IsKeptAside s (settled q s)
-kept_aside q s system profile = each_by IsKeptAside (settled_function q s) s (λ f listed. record {
+pub kept_aside : SettledKeepsTheRest
+kept_aside q s k system profile = each_by IsKeptAside (settled_function q s k) s (λ f listed. record {
   slot = refl;
   probe = refl;
-  image = new_image q s system profile f listed;
-  rest = λ place apart out. byte_stays q s system profile f listed place apart out;
-  enables = ap (without_low 4) (new_command q s system profile f listed) ∙ enables_alone (command f.image) (is_enabled_in q s Io f) (is_enabled_in q s Memory f);
+  image = image_now q s k system profile f listed;
+  rest = λ place apart out. byte_now q s k system profile f listed place apart out;
+  enables = ap (without_low 4) (command_now q s k system profile f listed) ∙ enables_alone (command f.image) (is_enabled_in q s k Io f) (is_enabled_in q s k Memory f);
 })
-
-pub listed_moved : SettledIsMoved
-listed_moved q s system profile lists = each_by IsMoved (settled_function q s) s (λ f listed. listed_moves q s system profile f listed lists.good lists.short)
-
-pub listed_profile : SettledStaysInProfile
-listed_profile q s system profile chains lists = moved_profile q.roots s (settled q s) system chains (listed_moved q s system profile lists) profile
-
-pub all_moved : (q : Request) (s : System) → IsSystem s → IsInProfile q.roots s → IsInProfile q.roots (settled q s) → AllZip IsMoved s (settled q s)
-all_moved q s system profile new_profile = each_by IsMoved (settled_function q s) s (λ f listed. settled_moves q s system profile f listed new_profile)

@@ -8,7 +8,6 @@ pub mod AllStand
 pub mod Anew
 pub mod BarReach
 pub mod BusPlaced
-pub mod Claimed
 pub mod Climbs
 pub mod ClosedImages
 pub mod ClosedMoves
@@ -18,7 +17,6 @@ pub mod EachPlaced
 pub mod Examples
 pub mod Few
 pub mod Finding
-pub mod Fits
 pub mod Fixed
 pub mod GrowingPlaces
 pub mod GrownAlready
@@ -36,9 +34,7 @@ pub mod Kept
 pub mod KeptAside
 pub mod KeptTaken
 pub mod Left
-pub mod Lives
 pub mod LowWindows
-pub mod Moves
 pub mod NewPlaces
 pub mod NoLarger
 pub mod NonePasses
@@ -52,7 +48,6 @@ pub mod Outside
 pub mod PartClaims
 pub mod PartClasses
 pub mod PartPlaces
-pub mod PassedAbove
 pub mod Pieces
 pub mod PlacedBus
 pub mod PlacesFit
@@ -67,7 +62,6 @@ pub mod SettledAlready
 pub mod SettledMoved
 pub mod SettledSound
 pub mod SettlingEnds
-pub mod SettlingStages
 pub mod Shown
 pub mod ShownKept
 pub mod ShownParts
@@ -86,7 +80,6 @@ pub mod StandingPlaces
 pub mod Staying
 pub mod StayingRests
 pub mod StillHeld
-pub mod StillShown
 pub mod Stopping
 pub mod TurnFalls
 pub mod Unchanged

@@ -25,11 +25,12 @@ use Rattle.plan_spec.proofs.Planning.Registers.{fits_by_number}
 use Rattle.plan_spec.proofs.Planning.Settled.{IsQuiet, IsSetting, function_after, function_moved, settled, system_by_function, untouched}
 use Rattle.plan_spec.proofs.Planning.Writes.{same_fields, write_elsewhere}
 use Rattle.settle_spec.specs.Lists.{Request}
-use Rattle.settle_spec.specs.Registers.{settled_function, settled_command, is_enabled_in}
-use Rattle.settle_spec.specs.Writes.{settle_writes}
+use Rattle.settle_spec.specs.Keeping.Registers.{settled_function, settled_command, is_enabled_in}
+use Rattle.settle_spec.specs.Keeping.Writes.{settle_writes}
 use Rattle.settle_laws.specs.WriteLaws.{KeepsRegisters}
-use Rattle.settle_laws.proofs.After.{AreSettling}
+use Rattle.settle_laws.proofs.Keeping.After.{AreSettling}
 use Rattle.settle_laws.proofs.OnlyOpened.{only_opened}
+use Rattle.settle_spec.specs.Kept.{Kept}
 
 -- writes to other slots leave it
 untouched_by : (f : Function) (p : List Write) → list_any (λ (x : Write). same_slot f.slot x.slot) p ≡ false → function_after f p ≡ f
@@ -38,28 +39,28 @@ untouched_by f (x ∷ p) none =
     let parts = or_parts (same_slot f.slot x.slot) (list_any (λ (y : Write). same_slot f.slot y.slot) p) none in
     ap (λ g. function_after g p) (write_elsewhere x f parts.0) ∙ untouched_by f p parts.1
 
-module _ (q : Request) (s : System) (are : AreSettling q s) (f : Function) (listed : Contains s f) (keeps : KeepsRegisters q s f) where
+module _ (q : Request) (s : System) (k : Kept) (are : AreSettling q s k) (f : Function) (listed : Contains s f) (keeps : KeepsRegisters q s k f) where
   is : IsImage f.image
   is = images_of s are.system f listed
 
   -- the write to Command fits
-  opening_fits : IsFitting (command_write f (settled_command q s f)) f
-  opening_fits = fits_by_number (command_write f (settled_command q s f)) f is (command_fits f (is_enabled_in q s Io f) (is_enabled_in q s Memory f))
+  opening_fits : IsFitting (command_write f (settled_command q s k f)) f
+  opening_fits = fits_by_number (command_write f (settled_command q s k f)) f is (command_fits f (is_enabled_in q s k Io f) (is_enabled_in q s k Memory f))
 
-  module _ (p : List Write) (sub : (x : Write) → Contains p x → Contains (settle_writes q s) x) where
+  module _ (p : List Write) (sub : (x : Write) → Contains p x → Contains (settle_writes q s k) x) where
     -- each write to its slot switches it on
-    switched : (x : Write) → Contains p x → same_slot f.slot x.slot ≡ true → x ≡ command_write f (settled_command q s f)
-    switched x has here = only_opened q s are.system f listed keeps x (sub x has) (sym (same_fields f.slot x.slot here))
+    switched : (x : Write) → Contains p x → same_slot f.slot x.slot ≡ true → x ≡ command_write f (settled_command q s k f)
+    switched x has here = only_opened q s k are.system f listed keeps x (sub x has) (sym (same_fields f.slot x.slot here))
 
     fit_here : (x : Write) → Contains p x → same_slot f.slot x.slot ≡ true → IsFitting x f
     fit_here x has here = subst (λ w. IsFitting w f) (sym (switched x has here)) opening_fits
 
-    is_setting : (x : Write) → Contains p x → same_slot f.slot x.slot ≡ true → IsSetting f.slot 4 2 (settled_command q s f) x
+    is_setting : (x : Write) → Contains p x → same_slot f.slot x.slot ≡ true → IsSetting f.slot 4 2 (settled_command q s k f) x
     is_setting x has here =
         let e = switched x has here in
         record { here = here; offset = ap (λ (w : Write). w.offset) e; width = ap (λ (w : Write). w.width) e; value = ap (λ (w : Write). w.value) e }
 
-    sets : (x : Write) → Contains p x → IsQuiet f.slot 4 2 x ⊎ IsSetting f.slot 4 2 (settled_command q s f) x
+    sets : (x : Write) → Contains p x → IsQuiet f.slot 4 2 x ⊎ IsSetting f.slot 4 2 (settled_command q s k f) x
     sets x has = elim (cases_Bool (same_slot f.slot x.slot)) [
       | inr other ↦ inl (inl other)
       | inl here ↦ inr (is_setting x has here)
@@ -89,50 +90,50 @@ module _ (q : Request) (s : System) (are : AreSettling q s) (f : Function) (list
     byte_kept place inside apart = sym (byte_number (function_after f p).image place) ∙ number_kept place 1 (omega (arith, inside)) apart ∙ byte_number f.image place
 
     -- a byte that isn't Command's shows what it does when all is settled
-    settled_byte : (place : ℕ) → place < 256 → 6 ≤ place → byte_at (settled_function q s f).image place ≡ byte_at f.image place
+    settled_byte : (place : ℕ) → place < 256 → 6 ≤ place → byte_at (settled_function q s k f).image place ≡ byte_at f.image place
     settled_byte place inside high = elim (cases_Bool (list_any (is_in_register place) (address_registers (layout f.image)))) [
       | inr out ↦ are.aside f place listed record { high = high; inside = inside; out = out }
       | inl there ↦
           let found : Passes (is_in_register place) (address_registers (layout f.image)) = any_gives (is_in_register place) (address_registers (layout f.image)) there in
           let r = found.x in
           let parts = and_parts (nat_le r.0 place) (nat_lt place (r.0 + r.1)) found.is in
-          byte_of_number (settled_function q s f).image f.image r.0 r.1 place (are.moved f listed).image is (keeps.same r found.listed)
+          byte_of_number (settled_function q s k f).image f.image r.0 r.1 place (are.moved f listed).image is (keeps.same r found.listed)
           (leb-true r.0 place parts.0) (ltb-true place (r.0 + r.1) parts.1)
     ]
 
-    as_settled : command (function_after f p).image ≡ settled_command q s f → function_after f p ≡ settled_function q s f
+    as_settled : command (function_after f p).image ≡ settled_command q s k f → function_after f p ≡ settled_function q s k f
     as_settled shows =
         let m = moved in
         let n = are.moved f listed in
         let full = m.image.full in
-        let commands : command (function_after f p).image ≡ command (settled_function q s f).image = shows ∙ sym (are.command_is f listed) in
-        let byte : (place : ℕ) → place < 256 → byte_at (function_after f p).image place ≡ byte_at (settled_function q s f).image place =
+        let commands : command (function_after f p).image ≡ command (settled_function q s k f).image = shows ∙ sym (are.command_is f listed) in
+        let byte : (place : ℕ) → place < 256 → byte_at (function_after f p).image place ≡ byte_at (settled_function q s k f).image place =
         λ place inside. elim (cases_lt place 6) [
           | inr high ↦ byte_kept place inside (inr high) ∙ sym (settled_byte place inside high)
           | inl low ↦ elim (cases_lt place 4) [
-            | inr from ↦ byte_of_number (function_after f p).image (settled_function q s f).image 4 2 place m.image n.image commands from low
+            | inr from ↦ byte_of_number (function_after f p).image (settled_function q s k f).image 4 2 place m.image n.image commands from low
             | inl below ↦
                 let other = ne_eqb place 4 (λ e. let no : ⊥ = omega (arith, e, below) in no) in
-                low_same f (function_after f p) m is place (omega (arith, below)) other ∙ sym (low_same f (settled_function q s f) n is place (omega (arith, below)) other)
+                low_same f (function_after f p) m is place (omega (arith, below)) other ∙ sym (low_same f (settled_function q s k f) n is place (omega (arith, below)) other)
           ]
         ] in
-        let image = ext_get_or 0 (function_after f p).image (settled_function q s f).image (full ∙ sym n.image.full) (λ place below. byte place (omega (arith, below, full))) in
+        let image = ext_get_or 0 (function_after f p).image (settled_function q s k f).image (full ∙ sym n.image.full) (λ place below. byte place (omega (arith, below, full))) in
         λ i. record { slot = m.slot i; image = image i; probe = m.probe i }
 
-    stays : (function_after f p ≡ f) ⊎ (function_after f p ≡ settled_function q s f)
+    stays : (function_after f p ≡ f) ⊎ (function_after f p ≡ settled_function q s k f)
     stays = elim (cases_Bool (list_any (λ (x : Write). same_slot f.slot x.slot) p)) [
       | inr none ↦ inl (untouched_by f p none)
       | inl some ↦
           let x : Passes (λ (x : Write). same_slot f.slot x.slot) p = any_gives (λ (x : Write). same_slot f.slot x.slot) p some in
-          inr (as_settled (settled f is f p 4 2 (settled_command q s f) (moved_itself f is) (omega arith) (command_small f is (is_enabled_in q s Io f) (is_enabled_in q s Memory f))
+          inr (as_settled (settled f is f p 4 2 (settled_command q s k f) (moved_itself f is) (omega arith) (command_small f is (is_enabled_in q s k Io f) (is_enabled_in q s k Memory f))
           fit_here sets (inr (x.x, x.listed, is_setting x.x x.listed x.is))))
     ]
 
-  pub stays_or_settles : (k : ℕ) → Contains (system_after s (take k (settle_writes q s))) f ⊎ Contains (system_after s (take k (settle_writes q s))) (settled_function q s f)
-  stays_or_settles k =
-      let p = take k (settle_writes q s) in
+  pub stays_or_settles : (n : ℕ) → Contains (system_after s (take n (settle_writes q s k))) f ⊎ Contains (system_after s (take n (settle_writes q s k))) (settled_function q s k f)
+  stays_or_settles n =
+      let p = take n (settle_writes q s k) in
       let after : Contains (system_after s p) (function_after f p) = subst (λ t. Contains t (function_after f p)) (sym (system_by_function s p)) (in_map_from (λ g. function_after g p) s f listed) in
-      elim (stays p (λ x has. (in_front_to k (settle_writes q s) x has).listed)) [
+      elim (stays p (λ x has. (in_front_to n (settle_writes q s k) x has).listed)) [
         | inl same ↦ inl (subst (Contains (system_after s p)) same after)
         | inr new ↦ inr (subst (Contains (system_after s p)) new after)
       ]

@@ -1,5 +1,5 @@
--- A BAR or ROM that stays shows what it shows, and so do the windows of its class above it: it doesn't move.
-use Rattle.std.proofs.Common.{◌≡◌, ℕ, ◌+◌, ◌*◌, ◌^◌, inl, inr, List, [], ◌∷◌, Bool, true, false, cond, not, ◌&&◌, arith, refl, sym, ◌∙◌, ap, subst}
+-- What stays with its addresses keeps its registers and doesn't move, and a function whose BARs and ROM stay isn't shut.
+use Rattle.std.proofs.Common.{◌≡◌, ℕ, ◌+◌, ◌*◌, ◌^◌, inl, inr, List, [], ◌∷◌, Bool, true, false, cond, not, ◌&&◌, arith, refl, sym, ◌∙◌, ap, subst, ◌||◌}
 use Rattle.std.specs.Bool.{◌==◌, if◌then◌else◌}
 use Rattle.std.specs.List.{Contains, list_any}
 use Rattle.std.proofs.lemmas.Bool.{and_parts, and_right, cases_Bool, eq-eqb, ltb-true, not-true, not_from_true, or_from}
@@ -8,21 +8,22 @@ use Rattle.pci_spec.specs.Header.{layout, bar_count, bar_register, rom_register}
 use Rattle.pci_spec.specs.Bar.{bar_at, is_wide, whole_bar}
 use Rattle.pci_spec.specs.Window.{WindowKind, IoWindow, MemoryWindow, PrefetchWindow, Bounds, bounds_at}
 use Rattle.pci_spec.specs.System.{System, Function, Space, Part, Bar, Rom, Window, has_part, is_window, space_of}
-use Rattle.pci_spec.proofs.Members.{in_nil, in_cons_cases, in_filter_to, IsMade, in_map_to}
+use Rattle.pci_spec.proofs.Members.{in_nil, in_cons_cases, IsMade, in_map_to}
 use Rattle.plan_spec.specs.Plan.{bridges_above}
-use Rattle.plan_spec.proofs.Planning.AboveBuses.{above_to}
 use Rattle.settle_spec.specs.Lists.{Request}
-use Rattle.settle_spec.specs.Parts.{FunctionPart, header_parts, parts_of, is_part, function_parts, class_in, are_same_space}
+use Rattle.settle_spec.specs.Parts.{FunctionPart, parts_of, function_parts, class_in, are_same_space, addresses}
 use Rattle.settle_spec.specs.Stands.{part_space}
 use Rattle.settle_spec.specs.Items.{stays}
-use Rattle.settle_spec.specs.Registers.{settled_function}
-use Rattle.settle_spec.specs.Writes.{differs_at, part_registers, changes_at, changes_above, moves, has_moving, is_cut_off_in, is_shut_itself, is_shut}
-use Rattle.settle_laws.specs.PlacesLaws.{CanSettle}
+use Rattle.settle_spec.specs.Keeping.Registers.{settled_function, is_same_range}
+use Rattle.settle_spec.specs.Writes.{differs_at, part_registers, is_cut_off_in}
+use Rattle.settle_spec.specs.Keeping.Writes.{changes_at, changes_above, moves, has_moving, is_shut_itself, is_shut}
+use Rattle.settle_laws.specs.Keeping.PlacesLaws.{CanSettle}
 use Rattle.settle_laws.specs.RestLaws.{KeepsOwn}
-use Rattle.settle_laws.proofs.ItemForms.{header_has}
-use Rattle.settle_laws.proofs.Kept.{above_stays, one_space}
-use Rattle.settle_laws.proofs.ShownKept.{bar_stays, rom_stays, window_stays}
+use Rattle.settle_laws.proofs.Kept.{one_space}
+use Rattle.settle_laws.proofs.Keeping.ShownKept.{bar_stays, rom_stays, window_stays}
 use Rattle.settle_laws.proofs.NonePasses.{none_by}
+use Rattle.settle_spec.specs.Kept.{Kept}
+use Rattle.settle_laws.proofs.Resting.{range_itself}
 
 -- ---- numbers of registers, by what a part shows
 
@@ -78,50 +79,47 @@ window_numbers f a b PrefetchWindow same =
     let limit_upper = ap (λ (v : Bounds). v.limit_upper) same in
     one_more a b 0x24 4 ((0x28, 4) ∷ (0x2c, 4) ∷ []) (omega (arith, base, limit)) (one_more a b 0x28 4 ((0x2c, 4) ∷ []) base_upper (one_more a b 0x2c 4 [] limit_upper (none_more a b)))
 
-module _ (q : Request) (s : System) (can : CanSettle q s) where
-  unchanged : (f : Function) (p : Part) → ShowSame (settled_function q s f).image f.image (part_registers f p) → changes_at q s f p ≡ false
-  unchanged f p same = none_by (differs_at f (settled_function q s f)) (part_registers f p)
-      (λ r has. not_from_true (number_at (settled_function q s f).image r.0 r.1 == number_at f.image r.0 r.1)
-      (eq-eqb (number_at (settled_function q s f).image r.0 r.1) (number_at f.image r.0 r.1) (same r has)))
+module _ (q : Request) (s : System) (k : Kept) (can : CanSettle q s k) where
+  unchanged : (f : Function) (p : Part) → ShowSame (settled_function q s k f).image f.image (part_registers f p) → changes_at q s k f p ≡ false
+  unchanged f p same = none_by (differs_at f (settled_function q s k f)) (part_registers f p)
+      (λ r has. not_from_true (number_at (settled_function q s k f).image r.0 r.1 == number_at f.image r.0 r.1)
+      (eq-eqb (number_at (settled_function q s k f).image r.0 r.1) (number_at f.image r.0 r.1) (same r has)))
 
-  part_rests : (f : Function) (p : Part) → Contains s f → has_part f p ≡ true → stays q s record { function = f; part = p } ≡ true → changes_at q s f p ≡ false
-  part_rests f (Bar n) listed there keeps = unchanged f (Bar n)
-      (one_more (settled_function q s f).image f.image (bar_register n) (if is_wide (bar_at f.probe n) then 8 else 4) []
-      (bar_number f.probe (settled_function q s f).image f.image n (is_wide (bar_at f.probe n)) refl
-      (bar_stays q s can f listed n (ltb-true n (bar_count (layout f.image)) there) there keeps)) (none_more (settled_function q s f).image f.image))
-  part_rests f Rom listed there keeps = unchanged f Rom
-      (one_more (settled_function q s f).image f.image (rom_register (layout f.image)) 4 [] (rom_stays q s can f listed keeps) (none_more (settled_function q s f).image f.image))
-  part_rests f (Window c) listed there keeps = unchanged f (Window c) (window_numbers f (settled_function q s f).image f.image c (window_stays q s can f listed c there keeps))
+  -- The law: a part that stays with the addresses that it has keeps its registers.
+  pub part_rests : (f : Function) (p : Part) → Contains s f → has_part f p ≡ true → k.stays record { function = f; part = p } ≡ true → k.range record { function = f; part = p } ≡ addresses record { function = f; part = p } → changes_at q s k f p ≡ false
+  part_rests f (Bar n) listed there keeps same = unchanged f (Bar n)
+      (one_more (settled_function q s k f).image f.image (bar_register n) (if is_wide (bar_at f.probe n) then 8 else 4) []
+      (bar_number f.probe (settled_function q s k f).image f.image n (is_wide (bar_at f.probe n)) refl
+      (bar_stays q s k can f listed n (ltb-true n (bar_count (layout f.image)) there) there keeps)) (none_more (settled_function q s k f).image f.image))
+  part_rests f Rom listed there keeps same = unchanged f Rom
+      (one_more (settled_function q s k f).image f.image (rom_register (layout f.image)) 4 [] (rom_stays q s k can f listed keeps) (none_more (settled_function q s k f).image f.image))
+  part_rests f (Window c) listed there keeps same = unchanged f (Window c) (window_numbers f (settled_function q s k f).image f.image c (window_stays q s k can f listed c there keeps (ap (λ t. is_same_range t (addresses record { function = f; part = Window c })) same ∙ range_itself (addresses record { function = f; part = Window c }))))
 
+module _ (q : Request) (s : System) (k : Kept) where
   -- The law: what stays doesn't move.
-  pub staying_rests : (f : Function) (p : Part) → Contains s f → has_part f p ≡ true → stays q s record { function = f; part = p } ≡ true → moves q s record { function = f; part = p } ≡ false
-  staying_rests f p listed there keeps =
-      let c = class_in q s f p in
-      or_from (changes_at q s f p) (changes_above q s c f.slot.bus) (part_rests f p listed there keeps)
-      (none_by (λ b. changes_at q s b (Window c)) (bridges_above s f.slot.bus)
-      (λ b has. let is = above_to s f.slot.bus b has in part_rests b (Window c) is.listed is.bridge (above_stays q s can.system can.nested record { function = f; part = p } b keeps has)))
+  pub staying_rests : (r : FunctionPart) → k.stays r ≡ true → moves q s k r ≡ false
+  staying_rests r keeps = ap (λ b. not b && (changes_at q s k r.function r.part || changes_above q s k (class_in q s r.function r.part) r.function.slot.bus)) keeps
 
-  none_moves : (space : Space) (f : Function) → Contains s f → KeepsOwn q s space f → has_moving q s space f ≡ false
-  none_moves space f listed keeps = none_by (λ r. are_same_space space (part_space r) && not (is_window r.part) && moves q s r) (function_parts q s f) (λ r has.
+  none_moves : (space : Space) (f : Function) → KeepsOwn q s k space f → has_moving q s k space f ≡ false
+  none_moves space f keeps = none_by (λ r. are_same_space space (part_space r) && not (is_window r.part) && moves q s k r) (function_parts q s f) (λ r has.
       let made : IsMade (λ p. record { function = f; part = p }) (parts_of q s f) r = in_map_to (λ p. record { function = f; part = p }) (parts_of q s f) r has in
       let p = made.from in
       let of_space = are_same_space space (space_of f p) && not (is_window p) in
-      subst (λ (t : FunctionPart). (are_same_space space (part_space t) && not (is_window t.part) && moves q s t) ≡ false) made.is
+      subst (λ (t : FunctionPart). (are_same_space space (part_space t) && not (is_window t.part) && moves q s k t) ≡ false) made.is
       (elim (cases_Bool of_space) [
-        | inr other ↦ ap (λ t. t && moves q s record { function = f; part = p }) other
+        | inr other ↦ ap (λ t. t && moves q s k record { function = f; part = p }) other
         | inl here ↦
             let two = and_parts (are_same_space space (space_of f p)) (not (is_window p)) here in
             let plain = not-true (is_window p) two.1 in
-            let there = (in_filter_to (is_part q s f) (header_parts f) p made.has).0 in
-            and_right of_space (moves q s record { function = f; part = p })
-            (staying_rests f p listed (header_has f p there plain) (keeps.parts p made.has plain (sym (one_space space (space_of f p) two.0))))
+            and_right of_space (moves q s k record { function = f; part = p })
+            (staying_rests record { function = f; part = p } (keeps.parts p made.has plain (sym (one_space space (space_of f p) two.0))))
       ]))
 
-  not_shut_itself : (space : Space) (f : Function) → Contains s f → KeepsOwn q s space f → is_shut_itself q s space f ≡ false
-  not_shut_itself space f listed keeps = or_from (has_moving q s space f) (is_cut_off_in q s f space) (none_moves space f listed keeps) keeps.reached
+  not_shut_itself : (space : Space) (f : Function) → KeepsOwn q s k space f → is_shut_itself q s k space f ≡ false
+  not_shut_itself space f keeps = or_from (has_moving q s k space f) (is_cut_off_in q s f space) (none_moves space f keeps) keeps.reached
 
   -- The law: with the bridges above it a function whose BARs and ROM stay isn't shut.
-  pub staying_unshut : (space : Space) (f : Function) → Contains s f → KeepsOwn q s space f → ((b : Function) → Contains (bridges_above s f.slot.bus) b → KeepsOwn q s space b) → is_shut q s space f ≡ false
-  staying_unshut space f listed keeps over =
-      or_from (is_shut_itself q s space f) (list_any (is_shut_itself q s space) (bridges_above s f.slot.bus)) (not_shut_itself space f listed keeps)
-      (none_by (is_shut_itself q s space) (bridges_above s f.slot.bus) (λ b has. not_shut_itself space b (above_to s f.slot.bus b has).listed (over b has)))
+  pub staying_unshut : (space : Space) (f : Function) → KeepsOwn q s k space f → ((b : Function) → Contains (bridges_above s f.slot.bus) b → KeepsOwn q s k space b) → is_shut q s k space f ≡ false
+  staying_unshut space f keeps over =
+      or_from (is_shut_itself q s k space f) (list_any (is_shut_itself q s k space) (bridges_above s f.slot.bus)) (not_shut_itself space f keeps)
+      (none_by (is_shut_itself q s k space) (bridges_above s f.slot.bus) (λ b has. not_shut_itself space b (over b has)))

@@ -1,5 +1,4 @@
 pub mod AgainLaws
 pub mod PlacesLaws
 pub mod SoundLaws
-pub mod StandingLaws
 pub mod WriteLaws

@@ -12,35 +12,45 @@ use Rattle.pci_spec.specs.Sound.{IsInProfile}
 use Rattle.plan_spec.specs.Plan.{bridges_above, is_open}
 use Rattle.plan_spec.specs.Planning.Building.{command_write}
 use Rattle.settle_spec.specs.Lists.{Request}
-use Rattle.settle_spec.specs.Parts.{parts_of, has_left}
+use Rattle.settle_spec.specs.Parts.{FunctionPart, addresses, parts_of, has_left}
 use Rattle.settle_spec.specs.Items.{has_of, stays}
-use Rattle.settle_spec.specs.Registers.{settled, settled_command}
-use Rattle.settle_spec.specs.Writes.{moves, is_cut_off_in, is_shut, settle_writes}
-use Rattle.settle_laws.specs.PlacesLaws.{CanSettle}
+use Rattle.settle_spec.specs.Keeping.Registers.{settled, settled_command}
+use Rattle.settle_spec.specs.Writes.{is_cut_off_in}
+use Rattle.settle_spec.specs.Keeping.Writes.{changes_at, moves, is_shut, settle_writes}
+use Rattle.settle_laws.specs.Keeping.PlacesLaws.{CanSettle}
+use Rattle.settle_spec.specs.Kept.{Kept}
+use Rattle.settle_spec.specs.Stands.{stands}
 
--- Each part of a function stays, and nothing cuts it off. As a bridge it needs no further window: one of each class of which
+-- Each part of a function stays with the addresses that it has, and nothing cuts it off. As a bridge it needs no further window: one of each class of which
 -- a BAR or ROM is behind it is open.
-pub record KeepsParts (q : Request) (s : System) (f : Function) : Type 0 where
+pub record KeepsParts (q : Request) (s : System) (k : Kept) (f : Function) : Type 0 where
   pub parts : (p : Part) → Contains (parts_of q s f) p
-      → IsTrue (stays q s record { function = f; part = p })
+      → IsTrue (k.stays record { function = f; part = p })
+  pub same : (p : Part) → Contains (parts_of q s f) p
+      → k.range record { function = f; part = p } ≡ addresses record { function = f; part = p }
   pub windows : (c : WindowKind) → IsTrue (is_bridge f) → IsTrue (has_of q s c f)
       → IsTrue (is_open f c)
   pub reached : (space : Space) → IsFalse (is_cut_off_in q s f space)
 
 -- So it is with a function and each bridge above it, and no I/O BAR of the function is left.
-pub record IsLeftAlone (q : Request) (s : System) (f : Function) : Type 0 where
-  pub itself : KeepsParts q s f
-  pub above : (b : Function) → Contains (bridges_above s f.slot.bus) b → KeepsParts q s b
+pub record IsLeftAlone (q : Request) (s : System) (k : Kept) (f : Function) : Type 0 where
+  pub itself : KeepsParts q s k f
+  pub above : (b : Function) → Contains (bridges_above s f.slot.bus) b → KeepsParts q s k b
   pub unleft : IsFalse (has_left q s f)
+
+-- What is kept stands.
+abbrev pub KeptStands : Request → System → Kept → Type 0
+KeptStands q s k = (r : FunctionPart) → IsTrue (k.stays r) → IsTrue (stands q s r)
 
 -- Then all that is written to the function is Command, and each bit of it that was set is written as set.
 abbrev pub LeftAloneIsOnlySwitchedOn : Type 0
 LeftAloneIsOnlySwitchedOn =
-    (q : Request) (s : System) → IsSystem s → IsNested q.roots s → (f : Function) → Contains s f
-    → IsLeftAlone q s f → (w : Write) → Contains (settle_writes q s) w → w.slot ≡ f.slot
-    → (w ≡ command_write f (settled_command q s f))
+    (q : Request) (s : System) (k : Kept) → IsSystem s → IsNested q.roots s → KeptStands q s k
+    → (f : Function) → Contains s f → IsLeftAlone q s k f → (w : Write)
+    → Contains (settle_writes q s k) w → w.slot ≡ f.slot
+    → (w ≡ command_write f (settled_command q s k f))
     × ((i : ℕ) → IsTrue (has_bit (command f.image) i)
-    → IsTrue (has_bit (settled_command q s f) i))
+    → IsTrue (has_bit (settled_command q s k f) i))
 
 -- A function has every byte of another but Command, and every bit of the other's Command: bits 0 and 1 may be set beside.
 pub record HasAllOf (old new : Function) : Type 0 where
@@ -55,28 +65,33 @@ pub record HasAllOf (old new : Function) : Type 0 where
 -- So it is at each stop: no space is off in which it was on, and each byte but those of Command is as it was.
 abbrev pub LeftAloneIsNeverOff : Type 0
 LeftAloneIsNeverOff =
-    (q : Request) (s : System) → IsSystem s → IsNested q.roots s → IsInProfile q.roots s
-    → IsInProfile q.roots (settled q s) → (f : Function) → Contains s f → IsLeftAlone q s f
-    → (k : ℕ)
-    → (g : Function) × Contains (system_after s (take k (settle_writes q s))) g × HasAllOf f g
+    (q : Request) (s : System) (k : Kept) → CanSettle q s k → (f : Function) → Contains s f
+    → IsLeftAlone q s k f → (n : ℕ)
+    → (g : Function) × Contains (system_after s (take n (settle_writes q s k))) g × HasAllOf f g
 
--- A BAR or ROM that stays doesn't move: its registers stay, and so do the windows of its class above it.
+-- A part that stays with the addresses that it has keeps its registers,
 abbrev pub StayingRests : Type 0
 StayingRests =
-    (q : Request) (s : System) → CanSettle q s → (f : Function) (p : Part) → Contains s f
-    → IsTrue (has_part f p) → IsTrue (stays q s record { function = f; part = p })
-    → IsFalse (moves q s record { function = f; part = p })
+    (q : Request) (s : System) (k : Kept) → CanSettle q s k → (f : Function) (p : Part) → Contains s f
+    → IsTrue (has_part f p) → IsTrue (k.stays record { function = f; part = p })
+    → k.range record { function = f; part = p } ≡ addresses record { function = f; part = p }
+    → IsFalse (changes_at q s k f p)
+
+-- and what stays doesn't move.
+abbrev pub StayingMovesNowhere : Type 0
+StayingMovesNowhere =
+    (q : Request) (s : System) (k : Kept) (r : FunctionPart) → IsTrue (k.stays r)
+    → IsFalse (moves q s k r)
 
 -- The BARs and ROM of a function in a space stay, whatever becomes of its windows, and it isn't cut off there.
-pub record KeepsOwn (q : Request) (s : System) (space : Space) (f : Function) : Type 0 where
+pub record KeepsOwn (q : Request) (s : System) (k : Kept) (space : Space) (f : Function) : Type 0 where
   pub parts : (p : Part) → Contains (parts_of q s f) p → IsFalse (is_window p)
-      → space_of f p ≡ space → IsTrue (stays q s record { function = f; part = p })
+      → space_of f p ≡ space → IsTrue (k.stays record { function = f; part = p })
   pub reached : IsFalse (is_cut_off_in q s f space)
 
 -- So it is with a function and each bridge above it: then it isn't shut in the space.
 abbrev pub StayingIsUnshut : Type 0
 StayingIsUnshut =
-    (q : Request) (s : System) → CanSettle q s → (space : Space) (f : Function) → Contains s f
-    → KeepsOwn q s space f
-    → ((b : Function) → Contains (bridges_above s f.slot.bus) b → KeepsOwn q s space b)
-    → IsFalse (is_shut q s space f)
+    (q : Request) (s : System) (k : Kept) (space : Space) (f : Function) → KeepsOwn q s k space f
+    → ((b : Function) → Contains (bridges_above s f.slot.bus) b → KeepsOwn q s k space b)
+    → IsFalse (is_shut q s k space f)

@@ -2,7 +2,6 @@
 
 ghost use Rattle.settle_laws.specs.Keeping.AgainLaws.{SettledPartsStand};
 ghost use Rattle.settle_laws.specs.Keeping.PlacesLaws.{EachBusIsPlaced, PartsGetPlaces, PlacesAreOfOthers, PlacesAreInLists, PlacesAreInWindows, PlacesAreApart};
-ghost use Rattle.settle_laws.specs.Keeping.StandingLaws.{SettledIsTheSame, WritesAreTheSame};
 ghost use Rattle.settle_laws.specs.Keeping.SoundLaws.{SettledShowsPlaces, SettledOpensPlaces, SettledClosesTheRest, SettlingMoves, SettledIsInProfile, BridgesAreEnabled, SettledIsSound, SettlingCanStop, SettlingSettles};
 ghost use Rattle.settle_laws.specs.Keeping.WriteLaws.{FewSettleWritesEach, UnshutIsNeverOff};
 
@@ -46,12 +45,6 @@ pub fn settling_is_sound()
 /// What is settled stands where it is.
 pub fn settled_parts_stand()
     ensures { SettledPartsStand }
-{}
-
-/// Beside what stays as it stands the same is settled as without growth, by the same writes.
-pub fn standing_settles_the_same()
-    ensures settled { SettledIsTheSame }
-    ensures writes { WritesAreTheSame }
 {}
 
 /// Each function is written a bounded number of times, and what isn't shut is never off.

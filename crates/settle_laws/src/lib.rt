@@ -12,6 +12,5 @@ pub mod kept_laws;
 pub mod places_laws;
 pub mod plan_laws;
 pub mod rest_laws;
-pub mod sound_laws;
 pub mod start_laws;
 pub mod write_laws;

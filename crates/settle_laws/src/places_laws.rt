@@ -1,20 +1,8 @@
 //! Laws of places. These functions do nothing: each contract is a law.
 
-ghost use Rattle.settle_laws.specs.PlacesLaws.{EachBusIsPlaced, PartsGetPlaces, NothingStaysAnew, PlacesAreOfOthers, PlacesAreInLists, PlacesAreInWindows, PlacesAreApart};
+ghost use Rattle.settle_laws.specs.PlacesLaws.{NothingStaysAnew};
 
-/// Where nothing lacks room on the roots, nothing does: each BAR and ROM that is looked at stays or gets a
-/// place, none does both, and none stays where all is placed anew.
-pub fn only_roots_lack_room()
-    ensures placed { EachBusIsPlaced }
-    ensures parts { PartsGetPlaces }
-    ensures anew { NothingStaysAnew }
-    ensures others { PlacesAreOfOthers }
-{}
-
-/// What stays or gets a place ends in the lists that its root has, or behind a bridge in the bridge's window
-/// of its class, and apart from what is beside it.
-pub fn places_are_in_windows_and_apart()
-    ensures listed { PlacesAreInLists }
-    ensures inside { PlacesAreInWindows }
-    ensures apart { PlacesAreApart }
+/// Where all is placed anew, nothing stays.
+pub fn nothing_stays_anew()
+    ensures { NothingStaysAnew }
 {}

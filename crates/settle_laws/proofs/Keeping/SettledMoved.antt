@@ -8,7 +8,7 @@ use Rattle.std.proofs.lemmas.List.Elements.{All-contains}
 use Rattle.pci_spec.specs.Number.{byte_at, IsImage}
 use Rattle.pci_spec.specs.Registers.{COMMAND}
 use Rattle.pci_spec.specs.Header.{command, layout, address_registers, is_in_register}
-use Rattle.pci_spec.specs.System.{System, Function, IsFunction, Io, Memory}
+use Rattle.pci_spec.specs.System.{System, Function, IsSystem, IsFunction, Io, Memory}
 use Rattle.pci_spec.specs.Machine.{in_fields, address_fields}
 use Rattle.pci_spec.specs.ToldAlike.{IsReadable}
 use Rattle.plan_spec.specs.Plan.{IsMoved}
@@ -24,6 +24,28 @@ use Rattle.settle_spec.specs.Kept.{Kept}
 use Rattle.settle_laws.specs.Keeping.PlacesLaws.{CanSettle}
 use Rattle.settle_laws.proofs.SettledMoved.{not_header}
 use Rattle.settle_laws.proofs.SettledMoved.{readable}
+use Rattle.pci_spec.specs.Sound.{IsInProfile}
+
+-- outside the address registers, whatever gets a place
+module _ (q : Request) (s : System) (k : Kept) (system : IsSystem s) (profile : IsInProfile q.roots s) (f : Function) (listed : Contains s f) where
+  abbrev now : Function
+  now = settled_function q s k f
+
+  was : IsFunction f
+  was = All-contains IsFunction s f system.each listed
+
+  image_was : IsImage (settled_image q s k f)
+  image_was = settled_image_is q s k f was.image
+
+  pub image_now : IsImage now.image
+  image_now = with_image 2 COMMAND (settled_command q s k f) (settled_image q s k f) image_was
+
+  pub command_now : command now.image ≡ settled_command q s k f
+  command_now = settled_is q s k f was.image image_was
+
+  -- a byte of no address register and not of Command stays
+  pub byte_now : (place : ℕ) → (place < 4) ⊎ (6 ≤ place) → list_any (is_in_register place) (address_registers (layout f.image)) ≡ false → byte_at now.image place ≡ byte_at f.image place
+  byte_now place apart out = with_elsewhere 2 COMMAND (settled_command q s k f) place (settled_image q s k f) apart ∙ settled_off q s k f (readable q.roots s profile f listed).decodable place out
 
 module _ (q : Request) (s : System) (k : Kept) (can : CanSettle q s k) (f : Function) (listed : Contains s f) where
   abbrev g : Function
@@ -35,18 +57,14 @@ module _ (q : Request) (s : System) (k : Kept) (can : CanSettle q s k) (f : Func
   reads : IsReadable f
   reads = readable q.roots s can.profile f listed
 
-  image_is : IsImage (settled_image q s k f)
-  image_is = settled_image_is q s k f is.image
-
   pub new_image : IsImage g.image
-  new_image = with_image 2 COMMAND (settled_command q s k f) (settled_image q s k f) image_is
+  new_image = image_now q s k can.system can.profile f listed
 
   pub new_command : command g.image ≡ settled_command q s k f
-  new_command = settled_is q s k f is.image image_is
+  new_command = command_now q s k can.system can.profile f listed
 
-  -- a byte of no address register and not of Command stays
   pub byte_stays : (place : ℕ) → (place < 4) ⊎ (6 ≤ place) → list_any (is_in_register place) (address_registers (layout f.image)) ≡ false → byte_at g.image place ≡ byte_at f.image place
-  byte_stays place apart out = with_elsewhere 2 COMMAND (settled_command q s k f) place (settled_image q s k f) apart ∙ settled_off q s k f reads.decodable place out
+  byte_stays = byte_now q s k can.system can.profile f listed
 
   pub kind_stays : layout g.image ≡ layout f.image
   kind_stays = ap (λ b. b % 128) (byte_stays 0x0e (inr (omega arith)) (not_header (layout f.image == 1)))

@@ -1,8 +1,8 @@
 -- The writes of settling can stop anywhere, and lead to the settled system.
-use Rattle.std.proofs.Common.{◌≡◌, ℕ, ◌≤◌, ◌⊎◌, inl, inr, sym, ◌∙◌, ap, subst, length, take}
+use Rattle.std.proofs.Common.{◌≡◌, ℕ, ◌≤◌, ◌⊎◌, inl, inr, sym, ◌∙◌, ap, subst, length, take, map}
 use Rattle.std.specs.List.{All}
 use Rattle.pci_spec.specs.System.{System, Function}
-use Rattle.pci_spec.specs.Machine.{system_after}
+use Rattle.pci_spec.specs.Machine.{after_writes, system_after, target_of}
 use Rattle.pci_spec.specs.Sound.{IsSound}
 use Rattle.plan_spec.specs.Planning.Fitting.{FitsAt, IsKept}
 use Rattle.plan_spec.specs.Planning.Safety.{IsSafe}
@@ -26,7 +26,7 @@ use Rattle.pci_spec.specs.Machine.{Write}
 use Rattle.pci_spec.proofs.Members.{in_head, in_map_from}
 use Rattle.plan_spec.specs.Plan.{IsMoved}
 use Rattle.plan_spec.proofs.Planning.Kept.{images_of}
-use Rattle.plan_spec.proofs.Planning.Fit.{moved_itself}
+use Rattle.plan_spec.proofs.Planning.Fit.{moved_itself, moved_start}
 use Rattle.plan_spec.proofs.Planning.Settled.{function_after, function_moved, function_parts, system_by_function}
 use Rattle.settle_spec.specs.Writes.{closing_registers}
 use Rattle.settle_spec.specs.Keeping.Writes.{is_left_on}
@@ -37,6 +37,7 @@ use Rattle.settle_laws.proofs.StageProgress.{after_closings, closing_progress, o
 use Rattle.settle_laws.proofs.Stages.{AreStates, all_closings, all_settings, all_openings}
 use Rattle.settle_laws.proofs.StageWindows.{either_shows}
 use Rattle.settle_laws.proofs.Stopping.{in_three, on_same}
+use Rattle.plan_spec.proofs.Planning.OwnMachine.{own_machine}
 
 module _ (q : Request) (s : System) (k : Kept) (can : CanSettle q s k) where
   abbrev closed : Function → Function
@@ -50,6 +51,12 @@ module _ (q : Request) (s : System) (k : Kept) (can : CanSettle q s k) where
 
   pub writes_fit : All (FitsAt s) (settle_writes q s k)
   writes_fit = subst (All (FitsAt s)) (sym (writes_same q s k)) (all_fit s can.system closed final (are_states q s k can))
+
+  -- on a machine
+  pub on_its_machine : (n : ℕ) → after_writes (map target_of s) (take n (settle_writes q s k)) ≡ map target_of (system_after s (take n (settle_writes q s k)))
+  on_its_machine n =
+      let images = images_of s can.system in
+      own_machine s images s (take n (settle_writes q s k)) (moved_start s images) (All-take (FitsAt s) n (settle_writes q s k) writes_fit)
 
 module _ (q : Request) (s : System) (k : Kept) (can : CanSettle q s k) where
   pub stop_sound : (n : ℕ) → (length (closings q s k s) ≤ n) ⊎ IsSound q.roots s → IsSound q.roots (system_after s (take n (settle_writes q s k)))

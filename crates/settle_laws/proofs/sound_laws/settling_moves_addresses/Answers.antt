@@ -1,8 +1,0 @@
-use Rattle.settle_laws.proofs.Moves.{all_move, new_profile}
-use Rattle.settle_laws.proofs.sound_laws.settling_moves_addresses.Goals as goal
-
-pub returns-clause-moved : goal.returns-clause-moved
-returns-clause-moved c = all_move
-
-pub returns-clause-profile : goal.returns-clause-profile
-returns-clause-profile c = new_profile
