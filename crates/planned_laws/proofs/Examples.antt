@@ -23,7 +23,10 @@ use Rattle.plan_spec.proofs.Examples.Plans.{pools}
 use Rattle.plan_spec.proofs.Examples.WholePlan.{tree_has_a_plan}
 use Rattle.settle_spec.specs.Lists.{Request}
 use Rattle.settle_spec.specs.Parts.{has_left}
-use Rattle.settle_spec.specs.Writes.{Settled, is_cut_off_in, settle}
+use Rattle.settle_spec.specs.Writes.{Settled, is_cut_off_in}
+use Rattle.settle_spec.specs.Kept.{as_it_stands}
+use Rattle.settle_spec.specs.Keeping.Writes.{settle_keeping}
+use Rattle.settle_spec.specs.Growing.{settle_growing}
 use Rattle.planned_laws.specs.SettledPlans.{just_in}
 use Rattle.planned_laws.specs.Switching.{IsStandingSystem, IsSwitched, IsUncut}
 use Rattle.planned_laws.proofs.JustPools.{has_just_pools, planned_is_settled_in_its_pools, planned_is_standing}
@@ -37,7 +40,8 @@ tree_is_plannable = record { system = tree_is_a_system; nested = tree_is_nested;
 one_root : IsStrictlyIncreasing host
 one_root k less = absurd (let no : ⊥ = omega (arith, less) in no)
 
-planned_tree_is_settled : settle (just_in host pools []) planned ≡ Settled []
+planned_tree_is_settled : (settle_keeping (just_in host pools []) planned (as_it_stands (just_in host pools []) planned) ≡ Settled [])
+    × (settle_growing (just_in host pools []) planned ≡ Settled [])
 planned_tree_is_settled = planned_is_settled_in_its_pools host start planned pools (plan_writes (changes_between start planned)) 0 [] tree_is_plannable one_root tree_has_a_plan
 
 -- ---- functions switched off

@@ -11,17 +11,20 @@ use Rattle.settle_laws.proofs.InLists.{within_from}
 use Rattle.settle_laws.proofs.PoolLists.{can_settle_where_planned}
 use Rattle.planned_laws.specs.SettledPlans.{HasPools, PlannedIsSettled, PlannedIsSettledInItsPools, just_in}
 use Rattle.planned_laws.specs.Switching.{PlannedIsStanding}
-use Rattle.settle_laws.proofs.NothingSettled.{nothing_settled}
+use Rattle.settle_laws.proofs.NothingSettled.{nothing_settled, nothing_grows}
 use Rattle.planned_laws.proofs.ShownPlaces.{plan_is_laid_out}
 use Rattle.planned_laws.proofs.Standing.{all_stand, leaves_nothing}
+use Rattle.pci_spec.specs.System.{Function, Io, is_space_on}
+use Rattle.std.specs.List.{Contains}
 
 pub planned_is_settled : PlannedIsSettled
 planned_is_settled q s t pools ws n plannable rising plan has fine =
     let system = moved_system s t plan.planned.moved plannable.system in
     let laid = plan_is_laid_out q.roots s t pools plannable rising plan.planned plan.placed in
     let none = leaves_nothing q t pools system plan.sound laid has in
-    nothing_settled q t system plan.sound fine (all_stand q t pools system plan.sound laid has plannable.can.good)
-    (λ f listed left. absurd (both_ways (has_left q t f) (none f listed) left))
+    let stand = all_stand q t pools system plan.sound laid has plannable.can.good in
+    let off : (f : Function) → Contains t f → has_left q t f ≡ true → is_space_on f Io ≡ false = λ f listed left. absurd (both_ways (has_left q t f) (none f listed) left) in
+    (nothing_settled q t system plan.sound stand off fine, nothing_grows q t system plan.sound stand off fine)
 
 pub planned_is_standing : PlannedIsStanding
 planned_is_standing q s t pools ws n plannable rising plan has =

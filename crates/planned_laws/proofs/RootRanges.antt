@@ -12,18 +12,17 @@ use Rattle.plan_spec.proofs.Planning.Safe.{order_of}
 use Rattle.settle_spec.specs.Lists.{Request}
 use Rattle.settle_spec.specs.Parts.{FunctionPart, system_parts, addresses, class_in}
 use Rattle.settle_spec.specs.Stands.{is_in_lists, is_listed, part_space, stands, window_part}
-use Rattle.settle_spec.specs.Registers.{settled}
+use Rattle.settle_spec.specs.Keeping.Registers.{settled}
 use Rattle.settle_spec.proofs.Nested.{at_secondary}
 use Rattle.stand_laws.proofs.Apart.{in_root_lists, in_window_over}
 use Rattle.stand_laws.proofs.Standing.{stands_by_itself}
-use Rattle.settle_laws.specs.PlacesLaws.{CanSettle}
 use Rattle.settle_laws.proofs.AllInPlace.{looked}
 use Rattle.settle_laws.proofs.HeaderParts.{header_of}
 use Rattle.settle_laws.proofs.Held.{above_above}
 use Rattle.settle_laws.proofs.InLists.{within_gives}
 use Rattle.settle_laws.proofs.Kept.{in_regions}
 use Rattle.settle_laws.proofs.PartClasses.{space_of_class}
-use Rattle.planned_laws.specs.InLists.{HasListedRange}
+use Rattle.planned_laws.specs.InLists.{HasListedRange, SettledIsListed}
 use Rattle.planned_laws.specs.Switching.{IsStandingSystem, keeping}
 use Rattle.planned_laws.proofs.SettledStands.{settled_is_standing}
 use Rattle.planned_laws.proofs.Standing.{listed_inside}
@@ -77,8 +76,8 @@ pub standing_is_listed : (q : Request) (s : System) (r : FunctionPart) → IsSys
 standing_is_listed q s r system nested in_r is = below q s system nested (suc r.function.slot.bus) r (omega arith) in_r is
 
 -- The law: so does each part of what settling comes to.
-pub settled_is_listed : (q : Request) (s : System) (r : FunctionPart) → CanSettle q s → Contains (system_parts q (settled q s)) r → HasListedRange q (settled q s) r
-settled_is_listed q s r can in_r =
-    let is : IsStandingSystem (keeping q []) (settled q s) = settled_is_standing q s can [] in
-    let listed = standing_is_listed (keeping q []) (settled q s) r is.system is.nested in_r (is.stand r in_r) in
+pub settled_is_listed : SettledIsListed
+settled_is_listed q s k r can in_r =
+    let is : IsStandingSystem (keeping q []) (settled q s k) = settled_is_standing q s k can [] in
+    let listed = standing_is_listed (keeping q []) (settled q s k) r is.system is.nested in_r (is.stand r in_r) in
     record { root = listed.root; over = listed.over; holds = listed.holds }

@@ -11,7 +11,10 @@ use Rattle.given_spec.specs.Sound as given
 use Rattle.settle_spec.specs.Lists.{RootRange, Request, is_had_by, are_bad_lists}
 use Rattle.settle_spec.specs.Parts.{FunctionPart, system_parts, addresses, has_left}
 use Rattle.settle_spec.specs.Stands.{is_part_on, part_space, is_in_lists}
-use Rattle.settle_spec.specs.Writes.{Settled, settle}
+use Rattle.settle_spec.specs.Writes.{Settled}
+use Rattle.settle_spec.specs.Kept.{as_it_stands}
+use Rattle.settle_spec.specs.Keeping.Writes.{settle_keeping}
+use Rattle.settle_spec.specs.Growing.{settle_growing}
 use Rattle.settle_laws.specs.StartLaws.{LieInPlace, OffLieApart, PartsLieInWindows}
 
 -- ---- the host's ranges are those of the lists
@@ -78,4 +81,5 @@ abbrev pub SoundForHostIsSettled : Type 0
 SoundForHostIsSettled =
     (q : Request) (s : System) → IsSystem s → given.IsSound (host_by q) q.roots s → HaveGaps q
     → RestLiesInPlace q s → OffLieApart q s → LeftIsOff q s → IsFalse q.anew
-    → IsFalse (are_bad_lists q.roots q.lists) → settle q s ≡ Settled []
+    → IsFalse (are_bad_lists q.roots q.lists)
+    → (settle_keeping q s (as_it_stands q s) ≡ Settled []) × (settle_growing q s ≡ Settled [])

@@ -7,8 +7,9 @@ use Rattle.plan_spec.specs.Plan.{bridges_above}
 use Rattle.settle_spec.specs.Lists.{Request}
 use Rattle.settle_spec.specs.Parts.{FunctionPart, system_parts, addresses}
 use Rattle.settle_spec.specs.Stands.{part_space, is_in_lists, stands}
-use Rattle.settle_spec.specs.Registers.{settled}
-use Rattle.settle_laws.specs.PlacesLaws.{CanSettle}
+use Rattle.settle_spec.specs.Keeping.Registers.{settled}
+use Rattle.settle_laws.specs.Keeping.PlacesLaws.{CanSettle}
+use Rattle.settle_spec.specs.Kept.{Kept}
 
 -- The root above a bus: the bus itself, or the one on which a bridge above it is.
 pub record IsRootOverBus (roots : List ℕ) (s : System) (bus root : ℕ) : Type 0 where
@@ -31,5 +32,5 @@ StandingIsListed =
 -- and for each part of what settling comes to, behind bridges too.
 abbrev pub SettledIsListed : Type 0
 SettledIsListed =
-    (q : Request) (s : System) (r : FunctionPart) → CanSettle q s → Contains (system_parts q (settled q s)) r
-    → HasListedRange q (settled q s) r
+    (q : Request) (s : System) (k : Kept) (r : FunctionPart) → CanSettle q s k
+    → Contains (system_parts q (settled q s k)) r → HasListedRange q (settled q s k) r

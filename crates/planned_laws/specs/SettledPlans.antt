@@ -14,7 +14,10 @@ use Rattle.plan_spec.specs.Planning.Plannable.{IsPlannable}
 use Rattle.settle_spec.specs.Lists.{Request, are_bad_lists}
 use Rattle.settle_spec.specs.Parts.{FunctionPart, system_parts, has_left}
 use Rattle.settle_spec.specs.Stands.{is_listed, stands}
-use Rattle.settle_spec.specs.Writes.{Settled, settle}
+use Rattle.settle_spec.specs.Writes.{Settled}
+use Rattle.settle_spec.specs.Kept.{as_it_stands}
+use Rattle.settle_spec.specs.Keeping.Writes.{settle_keeping}
+use Rattle.settle_spec.specs.Growing.{settle_growing}
 use Rattle.settle_laws.specs.PlanLaws.{anew_in}
 
 -- It is not asked that all be placed anew, and on each root each pool lies in a range of its class.
@@ -44,7 +47,8 @@ abbrev pub LaidOutIsSettled : Type 0
 LaidOutIsSettled =
     (q : Request) (t : System) (pools : Pools) → IsSystem t → IsSound q.roots t
     → IsLaidOut q.roots t pools → IsFalse (are_bad pools) → HasPools q pools
-    → IsFalse (are_bad_lists q.roots q.lists) → settle q t ≡ Settled []
+    → IsFalse (are_bad_lists q.roots q.lists)
+    → (settle_keeping q t (as_it_stands q t) ≡ Settled []) × (settle_growing q t ≡ Settled [])
 
 -- ---- plans
 
@@ -60,7 +64,8 @@ abbrev pub PlannedIsSettled : Type 0
 PlannedIsSettled =
     (q : Request) (s t : System) (pools : Pools) (ws : List Write) (n : ℕ)
     → IsPlannable q.roots s pools → IsStrictlyIncreasing q.roots → IsPlanOf q.roots s t pools ws n
-    → HasPools q pools → IsFalse (are_bad_lists q.roots q.lists) → settle q t ≡ Settled []
+    → HasPools q pools → IsFalse (are_bad_lists q.roots q.lists)
+    → (settle_keeping q t (as_it_stands q t) ≡ Settled []) × (settle_growing q t ≡ Settled [])
 
 -- as in lists that have just the pools, whatever is fixed.
 abbrev pub just_in : List ℕ → Pools → List Slot → Request
@@ -70,4 +75,5 @@ abbrev pub PlannedIsSettledInItsPools : Type 0
 PlannedIsSettledInItsPools =
     (roots : List ℕ) (s t : System) (pools : Pools) (ws : List Write) (n : ℕ) (fixed : List Slot)
     → IsPlannable roots s pools → IsStrictlyIncreasing roots → IsPlanOf roots s t pools ws n
-    → settle (just_in roots pools fixed) t ≡ Settled []
+    → (settle_keeping (just_in roots pools fixed) t (as_it_stands (just_in roots pools fixed) t) ≡ Settled [])
+    × (settle_growing (just_in roots pools fixed) t ≡ Settled [])

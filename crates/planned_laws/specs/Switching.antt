@@ -16,9 +16,12 @@ use Rattle.plan_spec.specs.Planning.Plannable.{IsPlannable}
 use Rattle.settle_spec.specs.Lists.{Request, are_bad_lists}
 use Rattle.settle_spec.specs.Parts.{FunctionPart, system_parts, has_left}
 use Rattle.settle_spec.specs.Stands.{part_space, stands}
-use Rattle.settle_spec.specs.Registers.{settled}
-use Rattle.settle_spec.specs.Writes.{Settled, is_cut_off_in, settle}
-use Rattle.settle_laws.specs.PlacesLaws.{CanSettle}
+use Rattle.settle_spec.specs.Writes.{Settled, is_cut_off_in}
+use Rattle.settle_spec.specs.Kept.{Kept, as_it_stands}
+use Rattle.settle_spec.specs.Keeping.Registers.{settled}
+use Rattle.settle_spec.specs.Keeping.Writes.{settle_keeping}
+use Rattle.settle_spec.specs.Growing.{settle_growing}
+use Rattle.settle_laws.specs.Keeping.PlacesLaws.{CanSettle}
 use Rattle.planned_laws.specs.SettledPlans.{HasPools}
 
 -- A system whose bus ranges nest, that is in the profile and whose capability lists end, and in which each part stands.
@@ -50,7 +53,8 @@ SoundIsUncut =
 abbrev pub StandingIsSettled : Type 0
 StandingIsSettled =
     (q : Request) (s : System) → IsStandingSystem q s → IsUncut q s
-    → IsFalse (are_bad_lists q.roots q.lists) → settle q s ≡ Settled []
+    → IsFalse (are_bad_lists q.roots q.lists)
+    → (settle_keeping q s (as_it_stands q s) ≡ Settled []) × (settle_growing q s ≡ Settled [])
 
 -- ---- other values of Command
 
@@ -94,11 +98,12 @@ keeping q fixed = record q { fixed = fixed; anew = false }
 -- and so is what settling comes to, whether all was placed anew or not.
 abbrev pub SettledIsStanding : Type 0
 SettledIsStanding =
-    (q : Request) (s : System) (fixed : List Slot) → CanSettle q s
-    → IsStandingSystem (keeping q fixed) (settled q s)
+    (q : Request) (s : System) (k : Kept) (fixed : List Slot) → CanSettle q s k
+    → IsStandingSystem (keeping q fixed) (settled q s k)
 
 -- So settling that once more, with what stands kept, writes nothing, whatever is fixed then.
 abbrev pub SettledAnewIsSettled : Type 0
 SettledAnewIsSettled =
-    (q : Request) (s : System) (fixed : List Slot) → CanSettle q s
-    → settle (keeping q fixed) (settled q s) ≡ Settled []
+    (q : Request) (s : System) (k : Kept) (fixed : List Slot) → CanSettle q s k
+    → (settle_keeping (keeping q fixed) (settled q s k) (as_it_stands (keeping q fixed) (settled q s k)) ≡ Settled [])
+    × (settle_growing (keeping q fixed) (settled q s k) ≡ Settled [])

@@ -1,5 +1,5 @@
 -- In two systems that are alike everything gets the same place, where all is placed anew.
-use Rattle.std.proofs.Common.{◌≡◌, false, ℕ, zero, suc, List, [], ◌∷◌, ◌++◌, ◌&&◌, cond, refl, sym, ◌∙◌, ap, subst, Option, None, Some}
+use Rattle.std.proofs.Common.{◌≡◌, false, ℕ, zero, suc, List, [], ◌∷◌, ◌++◌, ◌&&◌, refl, sym, ◌∙◌, ap, subst, Option, None, Some}
 use Rattle.std.specs.Bool.{IsTrue, ◌==◌, if◌then◌else◌}
 use Rattle.std.specs.List.{AllZip}
 use Rattle.pci_spec.specs.Window.{WindowKind, IoWindow, MemoryWindow, PrefetchWindow}
@@ -9,12 +9,12 @@ use Rattle.pci_spec.specs.Bus.{secondary, is_root}
 use Rattle.plan_spec.specs.Place.{range_from}
 use Rattle.settle_spec.specs.FirstPlace.{Extent, first_place}
 use Rattle.settle_spec.specs.Lists.{Request, class_ranges}
-use Rattle.settle_spec.specs.Parts.{FunctionPart, addresses, bridge_over}
+use Rattle.settle_spec.specs.Parts.{FunctionPart, bridge_over}
 use Rattle.settle_spec.specs.Stands.{rank, window_part}
-use Rattle.settle_spec.specs.Items.{Item, Placed, Placing, AllPlaced, Lacks, and_placed, place_next, place_all, taken_by, bus_items, new_window, stays}
+use Rattle.settle_spec.specs.Items.{Item, Placed, Placing, AllPlaced, Lacks, and_placed, place_next, place_all, taken_by, bus_items, new_window}
 use Rattle.settle_spec.specs.FirstPlace.{is_high}
 use Rattle.settle_spec.specs.Places.{wide_ranges, root_ranges, placed_of, place_among, placed_range, first_lack}
-use Rattle.settle_spec.specs.Keeping.Places.{space_items, taken_at, placing_within, placing_on, new_place, lacking_on, lacking}
+use Rattle.settle_spec.specs.Keeping.Places.{space_items, placing_within, placing_on, new_place, lacking_on, lacking}
 use Rattle.settle_laws.proofs.Anew.{new_ranges, ranges_anew, placing_anew}
 use Rattle.settle_laws.proofs.Zipped.{BothOrNone, append_zip, find_zip}
 use Rattle.settle_laws.proofs.Alike.{IsAlike, IsAlikeRegion, bus_alike, of_bridges, space_alike}

@@ -1,5 +1,5 @@
 -- Where all is placed anew nothing stays, so nothing is taken before, and each item has the first place in its ranges.
-use Rattle.std.proofs.Common.{◌≡◌, ◌&&◌, ℕ, suc, List, [], ◌∷◌, map, cond, Bool, true, false, ap, sym, ◌∙◌, refl, Option, None, Some}
+use Rattle.std.proofs.Common.{◌≡◌, ◌&&◌, ℕ, suc, List, [], ◌∷◌, map, cond, Bool, true, false, ap, ◌∙◌, refl, Option, None, Some}
 use Rattle.std.specs.Bool.{if◌then◌else◌}
 use Rattle.std.specs.List.{filter}
 use Rattle.std.proofs.lemmas.Bool.{and_right}
@@ -15,7 +15,8 @@ use Rattle.settle_spec.specs.Items.{Item, Placed, place_all}
 use Rattle.settle_spec.specs.Places.{root_ranges, placed_of, place_among, placed_range}
 use Rattle.settle_spec.specs.Kept.{Kept}
 use Rattle.settle_spec.specs.Keeping.Places.{space_items, taken_at, place_behind, place_of_item, placing_within}
-use Rattle.settle_laws.proofs.EachPlaced.{each_same, each_all}
+use Rattle.settle_spec.proofs.Buses.{each_same}
+use Rattle.settle_laws.proofs.EachPlaced.{each_all}
 use Rattle.settle_laws.proofs.Keeping.Buses.{placing_step}
 
 nowhere : {X : Type 0} (test : X → Bool) (xs : List X) → ((x : X) → test x ≡ false) → filter test xs ≡ []

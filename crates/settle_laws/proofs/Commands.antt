@@ -1,6 +1,6 @@
 -- Command of a function on the way: what a closing write leaves of its enables, and what settling makes of them.
-use Rattle.std.proofs.Common.{◌≡◌, ℕ, ◌*◌, ◌/◌, ◌%◌, refl, Bool, true, false, ◌&&◌, ◌||◌, arith, ◌∙◌}
-use Rattle.std.specs.Bool.{if◌then◌else◌, ◌==◌}
+use Rattle.std.proofs.Common.{◌≡◌, ℕ, ◌*◌, ◌/◌, ◌%◌, refl, Bool, true, false, arith}
+use Rattle.std.specs.Bool.{if◌then◌else◌}
 use Rattle.pci_spec.specs.Number.{has_bit}
 use Rattle.pci_spec.proofs.Bits.{digit, digit_of_bit}
 use Rattle.plan_spec.proofs.Planning.CommandFits.{command_by}

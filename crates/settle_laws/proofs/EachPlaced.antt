@@ -16,20 +16,9 @@ use Rattle.settle_spec.specs.Growth.{place_each}
 use Rattle.settle_spec.proofs.FirstSpot.{IsApart}
 use Rattle.settle_laws.proofs.Finding.{found, is_found}
 use Rattle.settle_laws.proofs.PlacedBus.{pairs_either}
+use Rattle.settle_spec.proofs.Buses.{next_same}
 
 -- ---- searches that agree
-
-next_same : (i : Item) (o : Option ℕ) (f g : ℕ → Placing) → ((a : ℕ) → f a ≡ g a) → place_next i o f ≡ place_next i o g
-next_same i None f g same = refl
-next_same i (Some a) f g same = ap (and_placed i a) (same a)
-
-pub each_same : (find other : Item → List Range → Option ℕ) (taken : List Range) (items : List Item) → ((i : Item) (xs : List Range) → Contains items i → find i xs ≡ other i xs)
-    → place_each find taken items ≡ place_each other taken items
-each_same find other taken [] same = refl
-each_same find other taken (i ∷ items) same =
-    ap (λ o. place_next i o (λ a. place_each find (taken_by i a ∷ taken) items)) (same i taken (in_head i items))
-    ∙ next_same i (other i taken) (λ a. place_each find (taken_by i a ∷ taken) items) (λ a. place_each other (taken_by i a ∷ taken) items)
-    (λ a. each_same find other (taken_by i a ∷ taken) items (λ j xs listed. same j xs (in_tail i items j listed)))
 
 pub each_all : (ranges : Item → List Range) (taken : List Range) (items : List Item) → place_each (λ i xs. first_place (ranges i) xs i.extent) taken items ≡ place_all ranges taken items
 each_all ranges taken [] = refl

@@ -1,6 +1,6 @@
 -- How many writes of settling are made to one slot.
 use Rattle.std.proofs.Common.{◌≡◌, ℕ, suc, ◌+◌, ◌≤◌, inl, inr, List, [], ◌∷◌, ◌++◌, refl, Bool, true, false, cond, arith, sym, ◌∙◌, ap, length}
-use Rattle.std.specs.Bool.{◌==◌, if◌then◌else◌, nat_lt}
+use Rattle.std.specs.Bool.{if◌then◌else◌, nat_lt}
 use Rattle.std.specs.List.{AllPairs, Contains, count_by, flat_map}
 use Rattle.std.proofs.lemmas.Bool.{cases_Bool}
 use Rattle.std.proofs.lemmas.List.{length-append}

@@ -1,5 +1,5 @@
 -- What claims an address and stays on through settling has bridges above it that stay on.
-use Rattle.std.proofs.Common.{◌≡◌, ℕ, ◌+◌, ◌*◌, ◌^◌, ◌<◌, inl, inr, List, [], ◌∷◌, refl, Bool, true, false, ◌&&◌, ◌||◌, not, arith, ◌∙◌, ap, subst, map}
+use Rattle.std.proofs.Common.{◌≡◌, ℕ, ◌+◌, ◌*◌, ◌^◌, ◌<◌, inl, inr, List, refl, Bool, true, false, ◌&&◌, ◌||◌, not, arith, ◌∙◌, ap, subst, map}
 use Rattle.std.specs.Bool.{◌==◌, if◌then◌else◌}
 use Rattle.std.specs.List.{Contains, list_any, filter, range_with_len}
 use Rattle.std.proofs.lemmas.Bool.{and_parts, and_from, and_cases, or_left, or_right, or_cases, both_ways, eqb-true, not_from_false, false_from_ne_true}

@@ -1,5 +1,5 @@
 -- What ends on a root lies in a range of the lists that the root has.
-use Rattle.std.proofs.Common.{◌≡◌, ℕ, [], true, ◌∙◌}
+use Rattle.std.proofs.Common.{◌≡◌, ℕ, true}
 use Rattle.std.specs.Bool.{nat_le}
 use Rattle.std.proofs.lemmas.Bool.{and_from, and_parts, le-leb, leb-true, or_left, or_right}
 use Rattle.pci_spec.specs.Decoded.{Range}

@@ -1,6 +1,6 @@
 -- A part ends behind a bridge in the bridge's window of its class, which stays or is placed, and apart from what is beside it.
-use Rattle.std.proofs.Common.{◌≡◌, ◌&&◌, List, ◌∙◌}
-use Rattle.std.specs.Bool.{IsTrue, nat_le, ◌==◌}
+use Rattle.std.proofs.Common.{List}
+use Rattle.std.specs.Bool.{IsTrue, nat_le}
 use Rattle.std.proofs.lemmas.Bool.{and_parts, leb-true}
 use Rattle.pci_spec.specs.Decoded.{Range}
 use Rattle.plan_spec.specs.Planning.Layout.{IsInside}

@@ -1,7 +1,7 @@
 -- What settling says of I/O hangs on no list of memory: it is the same with the lists of I/O alone, and then no part in memory stands.
 use Rattle.std.proofs.Common.{◌≡◌, ℕ, zero, suc, inl, inr, List, [], ◌∷◌, ◌++◌, ◌&&◌, map, not, length, refl, Bool, true, false, sym, ◌∙◌, ap, Option, None, Some}
 use Rattle.std.specs.Bool.{if◌then◌else◌}
-use Rattle.std.specs.List.{filter, flat_map, list_any, list_all}
+use Rattle.std.specs.List.{Contains, filter, flat_map, list_any, list_all}
 use Rattle.std.proofs.lemmas.Bool.{cases_Bool, and_parts, and_left, and_right}
 use Rattle.pci_spec.specs.Window.{WindowKind, IoWindow, MemoryWindow, PrefetchWindow}
 use Rattle.pci_spec.specs.Decoded.{Range}
@@ -9,15 +9,23 @@ use Rattle.pci_spec.specs.System.{System, Function, Space, Io, Memory, Part, Bar
 use Rattle.pci_spec.specs.Bus.{secondary, is_behind, is_root, are_siblings}
 use Rattle.plan_spec.specs.Plan.{bridges_above, same_class}
 use Rattle.plan_spec.proofs.Planning.PlacedItems.{same_class_is}
-use Rattle.settle_spec.specs.FirstPlace.{Extent, is_high, ranges_are_apart}
+use Rattle.settle_spec.specs.FirstPlace.{Extent, first_place, is_high, ranges_are_apart}
 use Rattle.settle_spec.specs.Lists.{Request, class_ranges}
 use Rattle.settle_spec.specs.Parts.{FunctionPart, addresses, is_part, header_parts, function_parts, system_parts, class_in, bridge_over, are_same_space}
 use Rattle.settle_spec.specs.Stands.{window_part, part_space, is_in_lists, is_in_window, is_in_place, takes_from, are_beside, part_precedes, stands_within, stands}
 use Rattle.settle_spec.specs.Items.{Item, Placed, in_turn, own_item, is_own, has_of, items_of, bus_items, window_around, window_within, new_window, nothing, are_placed, taken_on, place_all, has_places, has_room, holds_within, has_room_behind, stays}
-use Rattle.settle_spec.specs.Places.{wide_ranges, space_items, taken_at, placed_of, place_among, placed_range, window_ranges, ranges_of_item, placing_within, placing_on}
+use Rattle.settle_spec.specs.Places.{wide_ranges, placed_of, place_among, placed_range}
+use Rattle.settle_spec.specs.Keeping.Places.{place_behind, place_of_item, space_items, taken_at, placing_within, placing_on}
 use Rattle.settle_spec.proofs.ItemsOn.{each_in}
-use Rattle.settle_spec.proofs.Buses.{places_by}
+use Rattle.settle_spec.proofs.Buses.{each_same}
 use Rattle.settle_laws.proofs.PartClasses.{space_of_class}
+use Rattle.settle_spec.specs.Growth.{place_each}
+use Rattle.settle_spec.specs.Kept.{Kept, as_it_stands}
+use Rattle.pci_spec.proofs.Members.{in_head, in_tail, in_filter_to}
+
+map_in : {X Y : Type 0} (f g : X → Y) (xs : List X) → ((x : X) → Contains xs x → f x ≡ g x) → map f xs ≡ map g xs
+map_in f g [] same = refl
+map_in f g (x ∷ xs) same = ap (λ y. y ∷ map f xs) (same x (in_head x xs)) ∙ ap (λ ys. g x ∷ ys) (map_in f g xs (λ y has. same y (in_tail x xs y has)))
 
 -- the same, with the lists of I/O alone
 abbrev pub io_alone : Request → Request
@@ -215,38 +223,63 @@ module _ (q : Request) (s : System) where
   on_root bus wide MemoryWindow io = absurd (let no : ⊥ = cc in no)
   on_root bus wide PrefetchWindow io = absurd (let no : ⊥ = cc in no)
 
-  module _ (d e : ℕ → List Placed) (same : (bus : ℕ) → d bus ≡ e bus) where
-    behind_same : (c : WindowKind) → c ≡ IoWindow → (o : Option Function) → window_ranges p s d c o ≡ window_ranges q s e c o
-    behind_same c io None = refl
-    behind_same IoWindow io (Some b) =
-        let stay = stay_same (window_part IoWindow b) refl in
-        let placed = same b.slot.bus in
-        λ i. if stay i then addresses (window_part IoWindow b) ∷ [] else placed_range (place_among (window_part IoWindow b) (placed i))
-    behind_same MemoryWindow io (Some b) = absurd (let no : ⊥ = cc in no)
-    behind_same PrefetchWindow io (Some b) = absurd (let no : ⊥ = cc in no)
+  -- what is kept is the same in I/O
+  pub record AreAlikeInIo (k j : Kept) : Type 0 where
+    pub stays : (r : FunctionPart) → part_space r ≡ Io → k.stays r ≡ j.stays r
+    pub range : (r : FunctionPart) → part_space r ≡ Io → k.range r ≡ j.range r
+    pub place : (b : Function) (x : Item) (taken : List Range) → x.class ≡ IoWindow → k.place b x taken ≡ j.place b x taken
 
-    ranges_same : (x : Item) → x.class ≡ IoWindow → ranges_of_item p s d x ≡ ranges_of_item q s e x
-    ranges_same x io =
-        let bus = x.region.function.slot.bus in
-        let root = on_root bus (is_high x.extent) x.class io in
-        let behind = behind_same x.class io (bridge_over s bus) in
-        λ i. if is_root q.roots bus then root i else behind i
+  module _ (k j : Kept) (alike : AreAlikeInIo k j) where
+    abbrev is_taken : ℕ → FunctionPart → Bool
+    is_taken bus r = are_siblings q.roots bus r.function.slot.bus && are_same_space Io (part_space r) && j.stays r
 
-  place_same : (depth bus : ℕ) → placing_within p s Io depth bus ≡ placing_within q s Io depth bus
-  unfolding placing_within
-  place_same zero bus = refl
-  place_same (suc depth) bus =
-      let d = λ (over : ℕ). placed_of (placing_within p s Io depth over) in
-      let e = λ (over : ℕ). placed_of (placing_within q s Io depth over) in
-      let taken = taken_same (stays p s) (stays q s) stay_same bus in
-      let items = items_same (stays p s) (stays q s) stay_same (new_window p s IoWindow) (new_window q s IoWindow) (window_same 256) bus in
-      (λ i. place_all (ranges_of_item p s d) (taken i) (items i))
-      ∙ places_by (ranges_of_item p s d) (ranges_of_item q s e) (taken_at q s Io bus) (space_items q s Io bus)
-      (λ x listed. ranges_same d e (λ over. ap placed_of (place_same depth over)) x
-      (each_in q s Io bus (λ x. x.class ≡ IoWindow) (λ c of f on part is. io_class c of) (λ c of f on is. io_class c of) x listed))
+    taken_alike : (bus : ℕ) → taken_at p s k Io bus ≡ taken_at q s j Io bus
+    taken_alike bus =
+        let each = λ (r : FunctionPart). by_on (are_siblings q.roots bus r.function.slot.bus) (part_space r) (k.stays r) (j.stays r) (alike.stays r) in
+        (λ i. map k.range (filter (λ r. each r i) (regions_same i)))
+        ∙ map_in k.range j.range (filter (is_taken bus) (system_parts q s)) (λ r has.
+        let beside = and_parts (are_siblings q.roots bus r.function.slot.bus && are_same_space Io (part_space r)) (j.stays r) (in_filter_to (is_taken bus) (system_parts q s) r has).1 in
+        alike.range r (io_space (part_space r) (and_parts (are_siblings q.roots bus r.function.slot.bus) (are_same_space Io (part_space r)) beside.0).1))
+      where
+        io_space : (space : Space) → are_same_space Io space ≡ true → space ≡ Io
+        io_space Io same = refl
+        io_space Memory same = absurd (let no : ⊥ = cc in no)
 
-  pub placing_alone : (bus : ℕ) → placing_on p s Io bus ≡ placing_on q s Io bus
-  placing_alone bus = place_same 256 bus
+    module _ (d e : ℕ → List Placed) (same : (bus : ℕ) → d bus ≡ e bus) where
+      behind_alike : (x : Item) (xs : List Range) → x.class ≡ IoWindow → (o : Option Function) → place_behind k d x xs o ≡ place_behind j e x xs o
+      behind_alike x xs io None = refl
+      behind_alike x xs io (Some b) =
+          let stay = alike.stays (window_part x.class b) (ap window_space io) in
+          let place = alike.place b x xs io in
+          let placed = same b.slot.bus in
+          λ i. if stay i then place i else first_place (placed_range (place_among (window_part x.class b) (placed i))) xs x.extent
+
+      place_alike : (x : Item) (xs : List Range) → x.class ≡ IoWindow → place_of_item p s k d x xs ≡ place_of_item q s j e x xs
+      place_alike x xs io =
+          let bus = x.region.function.slot.bus in
+          let root = on_root bus (is_high x.extent) x.class io in
+          let behind = behind_alike x xs io (bridge_over s bus) in
+          λ i. if is_root q.roots bus then first_place (root i) xs x.extent else behind i
+
+    place_same : (depth bus : ℕ) → placing_within p s k Io depth bus ≡ placing_within q s j Io depth bus
+    unfolding placing_within
+    place_same zero bus = refl
+    place_same (suc depth) bus =
+        let d = λ (over : ℕ). placed_of (placing_within p s k Io depth over) in
+        let e = λ (over : ℕ). placed_of (placing_within q s j Io depth over) in
+        let taken = taken_alike bus in
+        let items = items_same k.stays j.stays alike.stays (new_window p s IoWindow) (new_window q s IoWindow) (window_same 256) bus in
+        (λ i. place_each (place_of_item p s k d) (taken i) (items i))
+        ∙ each_same (place_of_item p s k d) (place_of_item q s j e) (taken_at q s j Io bus) (space_items q s j Io bus)
+        (λ x xs listed. place_alike d e (λ over. ap placed_of (place_same depth over)) x xs
+        (each_in q s j Io bus (λ x. x.class ≡ IoWindow) (λ c of f on part is. io_class c of) (λ c of f on is. io_class c of) x listed))
+
+    pub placing_alone : (bus : ℕ) → placing_on p s k Io bus ≡ placing_on q s j Io bus
+    placing_alone bus = place_same 256 bus
+
+  -- so it is with what stays as it stands
+  pub standing_alike : AreAlikeInIo (as_it_stands p s) (as_it_stands q s)
+  standing_alike = record { stays = stay_same; range = λ r io. refl; place = λ b x taken io. refl }
 
   -- ---- nothing stands in memory
 

@@ -1,5 +1,5 @@
 -- What an item of a bus is: a BAR or ROM of a class, or a new window, and its region tells all of it.
-use Rattle.std.proofs.Common.{◌≡◌, ℕ, ◌<◌, inl, inr, List, [], ◌∷◌, map, Bool, true, false, cond, ◌&&◌, not, arith, refl, sym, ◌∙◌, ap, subst, zero, suc}
+use Rattle.std.proofs.Common.{◌≡◌, ℕ, inl, inr, List, [], ◌∷◌, map, Bool, true, false, cond, ◌&&◌, not, arith, refl, sym, ◌∙◌, ap, subst, zero, suc}
 use Rattle.std.specs.List.{Contains, filter, flat_map}
 use Rattle.std.specs.Bool.{if◌then◌else◌}
 use Rattle.std.proofs.lemmas.Bool.{and_from, both_ways, lt-ltb}

@@ -21,7 +21,6 @@ pub mod InLists
 pub mod InWindows
 pub mod Items
 pub mod Kept
-pub mod Live
 pub mod Lives
 pub mod Moves
 pub mod NewPlaces

@@ -2,15 +2,11 @@
 use Rattle.std.proofs.Common.{◌≡◌, ℕ, [], ◌∷◌, refl, Bool, true, false, arith, ◌∙◌, ap, map}
 use Rattle.std.specs.List.{AllZip, Contains}
 use Rattle.pci_spec.specs.Header.{command}
-use Rattle.pci_spec.specs.System.{System, Function, IsSystem, Io, Memory}
+use Rattle.pci_spec.specs.System.{System, Function, Io, Memory}
 use Rattle.pci_spec.specs.Machine.{without_low}
-use Rattle.pci_spec.specs.Sound.{IsInProfile}
 use Rattle.pci_spec.proofs.Members.{in_head, in_tail}
-use Rattle.plan_spec.specs.Plan.{IsMoved}
-use Rattle.plan_spec.proofs.Planning.Faults.{moved_profile}
 use Rattle.plan_spec.proofs.Planning.CommandFits.{command_by}
-use Rattle.settle_spec.specs.Lists.{Request}
-use Rattle.settle_spec.specs.Keeping.Registers.{settled, settled_function, is_enabled_in}
+use Rattle.settle_spec.specs.Keeping.Registers.{settled_function, is_enabled_in}
 use Rattle.settle_laws.specs.WriteLaws.{IsKeptAside, SettledKeepsTheRest}
 use Rattle.settle_laws.proofs.Keeping.SettledMoved.{image_now, command_now, byte_now}
 

@@ -25,7 +25,8 @@ use Rattle.stand_laws.specs.KeptApart.{IsKeptApart}
 use Rattle.stand_laws.proofs.Holding.{items_same_on}
 use Rattle.stand_laws.proofs.Standing.{part_of}
 use Rattle.settle_laws.specs.KeptLaws.{IsAside, IsAlikeIn, HavePlaces}
-use Rattle.settle_laws.proofs.EachPlaced.{each_same, each_all}
+use Rattle.settle_spec.proofs.Buses.{each_same}
+use Rattle.settle_laws.proofs.EachPlaced.{each_all}
 use Rattle.settle_laws.proofs.Held.{same_itself}
 use Rattle.settle_laws.proofs.ItemForms.{items_are, item_power, new_window_power}
 use Rattle.settle_laws.proofs.Kept.{IsTaken, taken_is, is_taken, one_space, lie_apart, outside_within, holding, stand_apart, off_roots, window_ranks, window_listed, within_over}

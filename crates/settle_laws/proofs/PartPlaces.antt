@@ -1,6 +1,5 @@
 -- The new places of parts: which parts have one, and that what they show of it can be shown.
 use Rattle.std.proofs.Common.{◌≡◌, ◌&&◌, true, false, not, ◌∙◌, ap}
-use Rattle.std.specs.Bool.{◌==◌}
 use Rattle.std.specs.List.{Contains, list_any}
 use Rattle.std.proofs.lemmas.Bool.{and_parts, not-true}
 use Rattle.pci_spec.specs.Window.{WindowKind}

@@ -1,6 +1,5 @@
 -- A bus whose items are placed: each has its place, and what stays and what is placed end apart.
-use Rattle.std.proofs.Common.{◌≡◌, ◌&&◌, ℕ, ◌<◌, ◌⊎◌, inl, inr, List, [], ◌∷◌, true, false, refl, sym, ◌∙◌, subst}
-use Rattle.std.specs.Bool.{◌==◌}
+use Rattle.std.proofs.Common.{◌≡◌, ◌⊎◌, inl, inr, List, [], ◌∷◌, true, false, refl, sym, ◌∙◌, subst}
 use Rattle.std.specs.List.{Contains, AllPairs}
 use Rattle.std.proofs.lemmas.Bool.{both_ways}
 use Rattle.pci_spec.proofs.Members.{in_nil, in_cons_cases, pairs_head, pairs_tail}

@@ -1,5 +1,5 @@
 -- Where everything fits planning's pools, placing all anew in them lacks room nowhere.
-use Rattle.std.proofs.Common.{◌≡◌, ◌&&◌, ℕ, suc, ◌%◌, ◌^◌, ◌<◌, ◌≤◌, ◌⊎◌, inl, inr, max, List, [], ◌∷◌, ◌++◌, true, false, cond, arith, refl, sym, ◌∙◌, ap, subst, append-nil, Option, None}
+use Rattle.std.proofs.Common.{◌≡◌, ◌&&◌, ℕ, ◌%◌, ◌^◌, ◌<◌, ◌≤◌, ◌⊎◌, inl, inr, max, List, [], ◌∷◌, ◌++◌, true, false, cond, arith, refl, sym, ◌∙◌, ap, subst, append-nil, Option, None}
 use Rattle.std.specs.Bool.{nat_lt, nat_le}
 use Rattle.std.specs.List.{Contains, sum, sum_by}
 use Rattle.std.specs.List.Sorted.{IsStrictlyIncreasing}
@@ -37,9 +37,9 @@ use Rattle.plan_spec.proofs.Planning.Tables.{class_itself}
 use Rattle.settle_spec.specs.FirstPlace.{Extent, is_high}
 use Rattle.settle_spec.specs.Lists.{Request, class_ranges}
 use Rattle.settle_spec.specs.Parts.{class_in, bridge_over}
-use Rattle.settle_spec.specs.Items.{Item, Placed, Placing, AllPlaced, Lacks, place_all, are_placed, bus_items, new_window, stays}
+use Rattle.settle_spec.specs.Items.{Item, Placed, Placing, AllPlaced, Lacks, place_all, are_placed, bus_items, new_window}
 use Rattle.settle_spec.specs.Places.{wide_ranges, placed_of, first_lack}
-use Rattle.settle_spec.specs.Keeping.Places.{space_items, taken_at, placing_within, placing_on, root_lack}
+use Rattle.settle_spec.specs.Keeping.Places.{space_items, placing_within, placing_on, root_lack}
 use Rattle.settle_spec.proofs.LaidOut.{greatest_more}
 use Rattle.settle_laws.specs.PlanLaws.{anew_in, IsNoLarger, WindowsAreNoLarger, SettlesWherePlanned}
 use Rattle.settle_spec.specs.Kept.{Kept, as_it_stands}

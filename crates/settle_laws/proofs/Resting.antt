@@ -23,15 +23,13 @@ use Rattle.settle_spec.specs.Lists.{Request}
 use Rattle.settle_spec.specs.Parts.{FunctionPart, addresses, header_parts, parts_of, function_parts, is_part, class_in, are_same_space}
 use Rattle.settle_spec.specs.Stands.{part_space}
 use Rattle.settle_spec.specs.Stands.{rank}
-use Rattle.settle_spec.specs.Items.{Item, Placed, Placing, AllPlaced, Lacks, new_window, stays}
-use Rattle.settle_spec.specs.Places.{placed_of, ranges_of_item}
+use Rattle.settle_spec.specs.Items.{Item, Placed, Placing, AllPlaced, Lacks, new_window}
+use Rattle.settle_spec.specs.Places.{placed_of}
 use Rattle.settle_spec.specs.Keeping.Places.{place_of_item, new_place, placing_on, placing_within, space_items, taken_at}
 use Rattle.settle_spec.specs.Registers.{closed_if_open, changing, with_bounds}
 use Rattle.settle_spec.specs.Keeping.Registers.{is_same_range, with_range, with_kept, is_enabled_in, settled_command, settled_function, settled_image, shown}
 use Rattle.settle_spec.specs.Writes.{differs_at, part_registers, is_cut_off_in}
 use Rattle.settle_spec.specs.Keeping.Writes.{changes_at, changes_above, moves, has_moving, is_shut_itself, is_shut}
-use Rattle.settle_spec.specs.PlacingLaws.{ArePlaced}
-use Rattle.settle_spec.proofs.Placed.{are_placed}
 use Rattle.settle_laws.specs.RestLaws.{HasAllOf, IsLeftAlone, KeepsParts, KeptStands}
 use Rattle.settle_laws.proofs.Keeping.Commands.{settled_is}
 use Rattle.settle_laws.specs.WriteLaws.{KeepsRegisters}

@@ -1,6 +1,5 @@
 -- A sound system is settled already where registers are as they are to be, and what gets a place is enabled.
-use Rattle.std.proofs.Common.{◌≡◌, ◌&&◌, ◌||◌, ℕ, ◌+◌, ◌≤◌, [], ◌∷◌, true, arith, ◌∙◌}
-use Rattle.std.specs.Bool.{◌==◌}
+use Rattle.std.proofs.Common.{◌≡◌, true, arith}
 use Rattle.pci_spec.specs.Number.{IsImage}
 use Rattle.pci_spec.specs.Decoded.{IsDecodable}
 use Rattle.pci_spec.specs.System.{System, Function, Part, Claims, has_part, is_space_on, space_of}

@@ -1,5 +1,5 @@
 -- A settled image differs in the bytes of address registers alone, and a ROM stays as it was switched.
-use Rattle.std.proofs.Common.{◌≡◌, ℕ, zero, suc, ◌+◌, ◌/◌, ◌%◌, ◌^◌, ◌<◌, ◌≤◌, ◌⊎◌, inl, inr, List, [], ◌∷◌, refl, Bool, true, false, cond, ◌&&◌, ◌||◌, not, arith, ◌∙◌}
+use Rattle.std.proofs.Common.{◌≡◌, ℕ, zero, suc, ◌+◌, ◌<◌, ◌≤◌, ◌⊎◌, inl, inr, List, [], ◌∷◌, refl, Bool, true, false, cond, ◌&&◌, ◌||◌, not, arith, ◌∙◌}
 use Rattle.std.specs.Bool.{◌==◌, if◌then◌else◌}
 use Rattle.std.specs.List.{Contains, fold}
 use Rattle.std.proofs.lemmas.Bool.{and_parts, and_from, cases_lt, cond_both, both_ways, eq-eqb, or_cases}

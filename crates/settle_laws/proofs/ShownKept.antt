@@ -1,6 +1,6 @@
 -- A settled function shows what stays where it was.
-use Rattle.std.proofs.Common.{◌≡◌, ◌&&◌, ℕ, ◌+◌, ◌-◌, ◌*◌, ◌/◌, ◌^◌, ◌<◌, Bool, ◌∙◌}
-use Rattle.std.specs.Bool.{nat_le, ◌==◌}
+use Rattle.std.proofs.Common.{◌+◌, ◌-◌, ◌*◌, ◌/◌, Bool}
+use Rattle.std.specs.Bool.{nat_le}
 use Rattle.pci_spec.specs.Window.{WindowKind, Bounds, lower_pages, page_size}
 use Rattle.pci_spec.specs.Decoded.{Range}
 

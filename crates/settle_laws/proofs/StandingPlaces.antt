@@ -1,5 +1,5 @@
 -- Where every part stands and stays as it stands, nothing gets a place, and registers are left as they are.
-use Rattle.std.proofs.Common.{◌≡◌, ℕ, refl, true, false, None}
+use Rattle.std.proofs.Common.{◌≡◌, refl, true, false, None}
 use Rattle.std.specs.List.{Contains}
 use Rattle.pci_spec.specs.System.{System, Function, IsSystem, Space}
 use Rattle.pci_spec.specs.Bus.{IsNested}

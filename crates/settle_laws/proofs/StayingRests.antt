@@ -13,7 +13,6 @@ use Rattle.plan_spec.specs.Plan.{bridges_above}
 use Rattle.settle_spec.specs.Lists.{Request}
 use Rattle.settle_spec.specs.Parts.{FunctionPart, parts_of, function_parts, class_in, are_same_space, addresses}
 use Rattle.settle_spec.specs.Stands.{part_space}
-use Rattle.settle_spec.specs.Items.{stays}
 use Rattle.settle_spec.specs.Keeping.Registers.{settled_function, is_same_range}
 use Rattle.settle_spec.specs.Writes.{differs_at, part_registers, is_cut_off_in}
 use Rattle.settle_spec.specs.Keeping.Writes.{changes_at, changes_above, moves, has_moving, is_shut_itself, is_shut}

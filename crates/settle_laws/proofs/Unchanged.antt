@@ -1,6 +1,5 @@
 -- What is settled already is neither shut nor written.
-use Rattle.std.proofs.Common.{◌≡◌, ℕ, ◌<◌, inl, inr, [], ◌∷◌, ◌++◌, ◌&&◌, ◌||◌, ◌∙◌, subst, map}
-use Rattle.std.specs.Bool.{◌==◌}
+use Rattle.std.proofs.Common.{◌≡◌, inl, inr, [], ◌∷◌, subst, map}
 use Rattle.std.specs.List.{Contains}
 use Rattle.pci_spec.specs.System.{System, Function}
 use Rattle.pci_spec.proofs.Members.{in_nil, in_cons_cases}

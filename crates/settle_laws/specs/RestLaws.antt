@@ -8,13 +8,12 @@ use Rattle.pci_spec.specs.Window.{WindowKind}
 use Rattle.pci_spec.specs.System.{System, Function, IsSystem, Space, Part, has_part, is_bridge, is_window, space_of}
 use Rattle.pci_spec.specs.Bus.{IsNested}
 use Rattle.pci_spec.specs.Machine.{Write, system_after, without_low}
-use Rattle.pci_spec.specs.Sound.{IsInProfile}
 use Rattle.plan_spec.specs.Plan.{bridges_above, is_open}
 use Rattle.plan_spec.specs.Planning.Building.{command_write}
 use Rattle.settle_spec.specs.Lists.{Request}
 use Rattle.settle_spec.specs.Parts.{FunctionPart, addresses, parts_of, has_left}
-use Rattle.settle_spec.specs.Items.{has_of, stays}
-use Rattle.settle_spec.specs.Keeping.Registers.{settled, settled_command}
+use Rattle.settle_spec.specs.Items.{has_of}
+use Rattle.settle_spec.specs.Keeping.Registers.{settled_command}
 use Rattle.settle_spec.specs.Writes.{is_cut_off_in}
 use Rattle.settle_spec.specs.Keeping.Writes.{changes_at, moves, is_shut, settle_writes}
 use Rattle.settle_laws.specs.Keeping.PlacesLaws.{CanSettle}

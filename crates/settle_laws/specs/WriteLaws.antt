@@ -1,22 +1,20 @@
 -- Laws of the writes of settling: where they lead, how many they are, and what they leave alone.
 use Rattle.std.specs.Prelude.{◌≡◌, ℕ, ◌+◌, ◌<◌, ◌≤◌, ◌⊎◌, IsTrue, IsFalse, if◌then◌else◌, [], map, take}
-use Rattle.std.specs.List.{AllZip, Contains, count_by}
+use Rattle.std.specs.List.{AllZip, Contains}
 use Rattle.pci_spec.specs.Number.{byte_at, number_at, IsImage}
-use Rattle.pci_spec.specs.Slot.{same_slot}
 use Rattle.pci_spec.specs.Registers.{COMMAND}
 use Rattle.pci_spec.specs.Header.{command, layout, address_registers}
 use Rattle.pci_spec.specs.System.{System, Function, IsSystem, Space, is_bridge, is_space_on}
 use Rattle.pci_spec.specs.Bus.{IsNested}
 use Rattle.pci_spec.specs.Fault.{is_in_address_register}
 use Rattle.pci_spec.specs.Machine.{Write, after_writes, system_after, target_of, without_low}
-use Rattle.pci_spec.specs.Sound.{IsInProfile, HasChains}
-use Rattle.plan_spec.specs.Plan.{IsMoved}
+use Rattle.pci_spec.specs.Sound.{IsInProfile}
 use Rattle.plan_spec.specs.Planning.Building.{command_write}
 use Rattle.settle_spec.specs.Lists.{Request, are_bad_lists, end_above}
 use Rattle.settle_spec.specs.Parts.{has_left}
 use Rattle.settle_spec.specs.Kept.{Kept}
 use Rattle.settle_spec.specs.Keeping.Registers.{settled, settled_command, settled_function}
-use Rattle.settle_spec.specs.Keeping.Writes.{is_shut, is_left_on, settle_writes}
+use Rattle.settle_spec.specs.Keeping.Writes.{is_shut, settle_writes}
 use Rattle.settle_laws.specs.Keeping.PlacesLaws.{CanSettle}
 
 -- Over a machine that is the system with its own writable bits, each beginning of the writes does what it does to the system.

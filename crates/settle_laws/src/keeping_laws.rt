@@ -1,9 +1,16 @@
 //! Laws of settling beside what is kept. These functions do nothing: each contract is a law.
 
 ghost use Rattle.settle_laws.specs.Keeping.AgainLaws.{SettledPartsStand};
+ghost use Rattle.settle_laws.specs.Keeping.BusLaws.{PlacingIsByBus, RootsAreOne};
 ghost use Rattle.settle_laws.specs.Keeping.PlacesLaws.{EachBusIsPlaced, PartsGetPlaces, PlacesAreOfOthers, PlacesAreInLists, PlacesAreInWindows, PlacesAreApart};
 ghost use Rattle.settle_laws.specs.Keeping.SoundLaws.{SettledShowsPlaces, SettledOpensPlaces, SettledClosesTheRest, SettlingMoves, SettledIsInProfile, BridgesAreEnabled, SettledIsSound, SettlingCanStop, SettlingSettles};
 ghost use Rattle.settle_laws.specs.Keeping.WriteLaws.{FewSettleWritesEach, UnshutIsNeverOff};
+
+/// Places are told by those on the bus of the bridge above, and all roots are one bus.
+pub fn places_are_told_bus_by_bus()
+    ensures bus { PlacingIsByBus }
+    ensures roots { RootsAreOne }
+{}
 
 /// Where nothing lacks room on the roots, nothing does: each BAR and ROM that is looked at stays or gets a
 /// place, and none does both.

@@ -15,9 +15,10 @@ use Rattle.settle_spec.specs.FirstPlace.{Extent}
 use Rattle.settle_spec.specs.Lists.{Request}
 use Rattle.settle_spec.specs.Parts.{FunctionPart, is_part, parts_of, header_parts, function_parts, class_in}
 use Rattle.settle_spec.specs.Stands.{window_part}
-use Rattle.settle_spec.specs.Items.{Item, in_turn, own_item, is_own, has_of, items_of, bus_items, new_window, stays}
-use Rattle.settle_spec.specs.Places.{space_items}
+use Rattle.settle_spec.specs.Items.{Item, in_turn, own_item, is_own, has_of, items_of, bus_items, new_window}
+use Rattle.settle_spec.specs.Keeping.Places.{space_items}
 use Rattle.settle_spec.proofs.InTurn.{turn_same}
+use Rattle.settle_spec.specs.Kept.{Kept}
 
 -- a function of the system, on the bus or on another root
 pub record IsBeside (q : Request) (s : System) (bus : ℕ) (f : Function) : Type 0 where
@@ -99,13 +100,13 @@ module _ (q : Request) (s : System) (c : WindowKind) (keeps : FunctionPart → B
       each_of piece.of P (own piece.of beside) (new piece.of beside) i split.1
 
 -- of each item of a bus in a space
-pub each_in : (q : Request) (s : System) (space : Space) (bus : ℕ) (P : Item → Type 0)
-    → ((c : WindowKind) → window_space c ≡ space → (f : Function) → IsBeside q s bus f → (p : Part) → IsPlacedPart q s c (stays q s) f p → P (own_item c record { function = f; part = p }))
-    → ((c : WindowKind) → window_space c ≡ space → (f : Function) → IsBeside q s bus f → IsOpened q s c (stays q s) f → P record { region = window_part c f; class = c; extent = new_window q s c f })
-    → (i : Item) → Contains (space_items q s space bus) i → P i
-each_in q s Io bus P own new i listed = each_on q s IoWindow (stays q s) (new_window q s IoWindow) bus P (own IoWindow refl) (new IoWindow refl) i listed
-each_in q s Memory bus P own new i listed =
-    elim (Contains-append_cases (bus_items q s MemoryWindow (stays q s) (new_window q s MemoryWindow) bus) (bus_items q s PrefetchWindow (stays q s) (new_window q s PrefetchWindow) bus) i listed) [
-      | inl plain ↦ each_on q s MemoryWindow (stays q s) (new_window q s MemoryWindow) bus P (own MemoryWindow refl) (new MemoryWindow refl) i plain
-      | inr prefetch ↦ each_on q s PrefetchWindow (stays q s) (new_window q s PrefetchWindow) bus P (own PrefetchWindow refl) (new PrefetchWindow refl) i prefetch
+pub each_in : (q : Request) (s : System) (k : Kept) (space : Space) (bus : ℕ) (P : Item → Type 0)
+    → ((c : WindowKind) → window_space c ≡ space → (f : Function) → IsBeside q s bus f → (p : Part) → IsPlacedPart q s c k.stays f p → P (own_item c record { function = f; part = p }))
+    → ((c : WindowKind) → window_space c ≡ space → (f : Function) → IsBeside q s bus f → IsOpened q s c k.stays f → P record { region = window_part c f; class = c; extent = new_window q s c f })
+    → (i : Item) → Contains (space_items q s k space bus) i → P i
+each_in q s k Io bus P own new i listed = each_on q s IoWindow k.stays (new_window q s IoWindow) bus P (own IoWindow refl) (new IoWindow refl) i listed
+each_in q s k Memory bus P own new i listed =
+    elim (Contains-append_cases (bus_items q s MemoryWindow k.stays (new_window q s MemoryWindow) bus) (bus_items q s PrefetchWindow k.stays (new_window q s PrefetchWindow) bus) i listed) [
+      | inl plain ↦ each_on q s MemoryWindow k.stays (new_window q s MemoryWindow) bus P (own MemoryWindow refl) (new MemoryWindow refl) i plain
+      | inr prefetch ↦ each_on q s PrefetchWindow k.stays (new_window q s PrefetchWindow) bus P (own PrefetchWindow refl) (new PrefetchWindow refl) i prefetch
     ]

@@ -10,7 +10,6 @@ pub mod Registers
 pub mod Writes
 pub mod WindowLaws
 pub mod ClassLaws
-pub mod BusLaws
 pub mod LiveLaws
 pub mod GrowthLaws
 pub mod LastPlace

@@ -4,11 +4,13 @@ use Rattle.std.specs.List.{list_any, Contains}
 use Rattle.pci_spec.specs.System.{System, Function, Space, IsSystem, is_bridge}
 use Rattle.pci_spec.specs.Bus.{secondary, IsNested}
 use Rattle.settle_spec.specs.Lists.{Request}
-use Rattle.settle_spec.specs.Registers.{has_own, is_live_within, is_enabled_in}
+use Rattle.settle_spec.specs.Registers.{has_own}
+use Rattle.settle_spec.specs.Keeping.Registers.{is_live_within, is_enabled_in}
+use Rattle.settle_spec.specs.Kept.{Kept}
 
 -- a function is live in a space, wherever it stands
-abbrev pub is_live : Request → System → Space → Function → Bool
-is_live q s space f = is_live_within q s space 256 f
+abbrev pub is_live : Request → System → Kept → Space → Function → Bool
+is_live q s k space f = is_live_within q s k space 256 f
 
 -- a function is a bridge with a live function on the bus behind it
 abbrev pub has_live_behind : System → (Function → Bool) → Function → Bool
@@ -18,8 +20,8 @@ has_live_behind s live f =
 -- A function is live where its space is enabled, for a BAR or ROM of its own or for what is live behind it.
 abbrev pub LiveIsByBus : Type 0
 LiveIsByBus =
-    (q : Request) (s : System) (space : Space) (f : Function) → IsSystem s → IsNested q.roots s
-    → Contains s f
-    → is_live q s space f
-    ≡ (is_enabled_in q s space f
-    && (has_own q s space f || has_live_behind s (is_live q s space) f))
+    (q : Request) (s : System) (k : Kept) (space : Space) (f : Function) → IsSystem s
+    → IsNested q.roots s → Contains s f
+    → is_live q s k space f
+    ≡ (is_enabled_in q s k space f
+    && (has_own q s space f || has_live_behind s (is_live q s k space) f))

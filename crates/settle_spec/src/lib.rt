@@ -6,7 +6,6 @@
 //! Bridge Architecture Specification 1.2.
 #![tactic(auto)]
 
-pub mod bus_laws;
 pub mod class_laws;
 pub mod growth_laws;
 pub mod live_laws;

@@ -9,7 +9,6 @@ use Rattle.pci_spec.specs.System.{System, Function, Part, Bar, Rom, Window, has_
 use Rattle.pci_spec.proofs.Members.{in_map_from}
 use Rattle.settle_spec.specs.Lists.{Request}
 use Rattle.settle_spec.specs.Parts.{FunctionPart, is_part}
-use Rattle.settle_spec.specs.Items.{stays}
 use Rattle.settle_spec.specs.Keeping.Places.{new_place}
 use Rattle.settle_spec.specs.Keeping.Registers.{settled, settled_function}
 use Rattle.settle_laws.specs.PlacesLaws.{place_range}

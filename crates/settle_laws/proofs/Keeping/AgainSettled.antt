@@ -6,8 +6,7 @@ use Rattle.pci_spec.specs.System.{System, Function, Space, Io, is_space_on}
 use Rattle.pci_spec.proofs.Members.{in_map_to, in_map_from, IsMade}
 use Rattle.settle_spec.specs.Lists.{Request}
 use Rattle.settle_spec.specs.Parts.{has_left, are_same_space}
-use Rattle.settle_spec.specs.LiveLaws.{has_live_behind}
-use Rattle.settle_laws.proofs.Keeping.Live.{is_live}
+use Rattle.settle_spec.specs.LiveLaws.{is_live, has_live_behind}
 use Rattle.settle_spec.specs.Keeping.Registers.{got_place, settled, settled_image, settled_function}
 use Rattle.settle_spec.specs.Keeping.Writes.{settle_writes}
 use Rattle.settle_laws.specs.Keeping.PlacesLaws.{CanSettle}

@@ -11,7 +11,6 @@ use Rattle.plan_spec.proofs.Planning.Writes.{same_fields}
 use Rattle.settle_spec.specs.Lists.{Request}
 use Rattle.settle_spec.specs.Parts.{FunctionPart, system_parts, is_part}
 use Rattle.settle_spec.specs.Stands.{is_fixed_part, stands}
-use Rattle.settle_spec.specs.Items.{stays}
 use Rattle.settle_spec.specs.Keeping.Places.{lacking}
 use Rattle.settle_spec.specs.Keeping.Registers.{settled, settled_function}
 use Rattle.settle_spec.specs.Writes.{BadLists, Settled, fixed_without, fixed_write, or_fixed, or_lack, or_write}
@@ -24,7 +23,6 @@ use Rattle.settle_laws.proofs.Keeping.AgainSettled.{none_again}
 use Rattle.settle_laws.proofs.Alike.{part_alike}
 use Rattle.settle_laws.proofs.HeaderParts.{header_of}
 use Rattle.settle_laws.proofs.Kept.{in_regions}
-use Rattle.settle_laws.proofs.Keeping.Moves.{new_profile}
 use Rattle.settle_laws.proofs.NothingSettled.{find_none}
 use Rattle.settle_laws.proofs.StagePrefixes.{others_leave}
 use Rattle.settle_laws.proofs.Keeping.Stopping.{writes_settle}

@@ -39,7 +39,8 @@ use Rattle.stand_laws.proofs.Holding.{items_same_on}
 use Rattle.settle_laws.specs.KeptLaws.{IsAside, IsAlikeIn, HavePlaces}
 use Rattle.settle_laws.specs.Keeping.PlacesLaws.{CanSettle}
 use Rattle.settle_laws.proofs.BusPlaced.{one_left, nothing_long, page_some, memory_no_prefetch}
-use Rattle.settle_laws.proofs.EachPlaced.{each_same, each_all}
+use Rattle.settle_spec.proofs.Buses.{each_same}
+use Rattle.settle_laws.proofs.EachPlaced.{each_all}
 use Rattle.settle_laws.proofs.HeaderParts.{window_of}
 use Rattle.settle_laws.proofs.ItemForms.{item_by, items_are, window_in, item_power, new_window_power}
 use Rattle.settle_laws.proofs.Kept.{outside_within, off_roots, window_ranks}

@@ -20,8 +20,7 @@ use Rattle.settle_spec.specs.Kept.{Kept}
 use Rattle.settle_spec.specs.Keeping.Places.{space_items, taken_at, place_behind, place_of_item, placing_within, placing_on}
 use Rattle.settle_spec.proofs.ItemsOn.{IsBeside, each_on}
 use Rattle.settle_spec.proofs.BridgeOver.{over_leads}
-use Rattle.settle_spec.proofs.Buses.{on_it, one_bus}
-use Rattle.settle_laws.proofs.EachPlaced.{each_same}
+use Rattle.settle_spec.proofs.Buses.{on_it, one_bus, each_same}
 
 module _ (q : Request) (s : System) (k : Kept) where
   -- ---- the items of a bus are of its functions

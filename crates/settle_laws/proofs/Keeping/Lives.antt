@@ -16,11 +16,11 @@ use Rattle.settle_spec.specs.Lists.{Request}
 use Rattle.settle_spec.specs.Parts.{FunctionPart, is_part, has_left, header_parts, class_in, are_same_space}
 use Rattle.settle_spec.specs.Stands.{part_space, window_part}
 use Rattle.settle_spec.specs.Items.{Placed}
-use Rattle.settle_spec.specs.LiveLaws.{has_live_behind}
+use Rattle.settle_spec.specs.LiveLaws.{is_live, has_live_behind}
 use Rattle.settle_spec.specs.Keeping.Places.{new_place}
 use Rattle.settle_spec.specs.Registers.{changing, has_own}
 use Rattle.settle_spec.specs.Keeping.Registers.{got_place, is_enabled_in}
-use Rattle.settle_laws.proofs.Keeping.Live.{is_live, live_by_bus}
+use Rattle.settle_spec.proofs.Live.{live_by_bus}
 use Rattle.settle_spec.proofs.Nested.{at_secondary, is_no_root, one_bridge}
 use Rattle.settle_laws.specs.Keeping.PlacesLaws.{CanSettle}
 use Rattle.settle_laws.proofs.HeaderParts.{header_of}

@@ -23,10 +23,10 @@ use Rattle.plan_spec.proofs.Planning.Safe.{slots_of, order_of}
 use Rattle.settle_spec.specs.Lists.{Request}
 use Rattle.settle_spec.specs.Parts.{FunctionPart, function_parts, is_part, header_parts, has_left, are_same_space}
 use Rattle.settle_spec.specs.Stands.{part_space}
-use Rattle.settle_spec.specs.LiveLaws.{has_live_behind}
+use Rattle.settle_spec.specs.LiveLaws.{is_live, has_live_behind}
 use Rattle.settle_spec.specs.Registers.{with_number, has_own}
 use Rattle.settle_spec.specs.Keeping.Registers.{got_place, is_enabled_in, settled, settled_image, settled_command, settled_function}
-use Rattle.settle_laws.proofs.Keeping.Live.{is_live, live_by_bus}
+use Rattle.settle_spec.proofs.Live.{live_by_bus}
 use Rattle.settle_spec.proofs.Nested.{at_secondary, behind_outer}
 use Rattle.settle_laws.proofs.Commands.{as_it_is}
 use Rattle.settle_laws.proofs.ItemForms.{header_has}

@@ -21,10 +21,10 @@ use Rattle.settle_spec.specs.Parts.{FunctionPart, parts_of, function_parts, clas
 use Rattle.settle_spec.specs.Stands.{part_space, window_part}
 use Rattle.settle_spec.specs.Registers.{has_own}
 use Rattle.settle_spec.specs.Keeping.Registers.{settled, settled_function, got_place, is_enabled_in}
-use Rattle.settle_spec.specs.LiveLaws.{has_live_behind}
+use Rattle.settle_spec.specs.LiveLaws.{is_live, has_live_behind}
 use Rattle.settle_spec.specs.Writes.{differs_at, part_registers, is_cut_off_in, closing_registers, setting_registers}
 use Rattle.settle_spec.specs.Keeping.Writes.{changes_at, changes_above, moves, has_moving, is_shut_itself, is_shut, is_left_on, is_replaced, closed_function, closing_of, setting_of, closing_from, setting_from, opening_from, closings, settle_writes}
-use Rattle.settle_laws.proofs.Keeping.Live.{is_live, live_by_bus}
+use Rattle.settle_spec.proofs.Live.{live_by_bus}
 use Rattle.settle_spec.proofs.Nested.{at_secondary}
 use Rattle.settle_laws.proofs.ClosedSame.{none_flat, no_difference}
 use Rattle.settle_laws.proofs.Keeping.ClosedSame.{closed_same}

@@ -1,14 +1,14 @@
 -- Lists of ranges: which are refused, which root has a range, and which range is used first.
 use Rattle.std.proofs.Common.{◌≡◌, List, [], ◌∷◌, refl}
 use Rattle.pci_spec.specs.System.{System}
-use Rattle.pci_spec.proofs.Examples.Samples.{slot, device, write}
-use Rattle.settle_spec.specs.Lists.{Lists, RootRange, Request}
+use Rattle.pci_spec.proofs.Examples.Samples.{slot, write}
+use Rattle.settle_spec.specs.Lists.{RootRange, Request}
 use Rattle.settle_spec.specs.Stands.{stands_within}
 use Rattle.settle_spec.specs.Items.{window_within, holds_within}
-use Rattle.settle_spec.specs.Places.{placing_within}
-use Rattle.settle_spec.specs.Registers.{is_live_within}
-use Rattle.settle_spec.specs.Writes.{Settled, BadLists, settle}
-use Rattle.settle_spec.proofs.Examples.Settlings.{all_roots, of_root, lists, request, with_memory, plain, refused}
+use Rattle.settle_spec.specs.Keeping.Places.{placing_within}
+use Rattle.settle_spec.specs.Keeping.Registers.{is_live_within}
+use Rattle.settle_spec.specs.Writes.{Settled, BadLists}
+use Rattle.settle_spec.proofs.Examples.Settlings.{settle, all_roots, of_root, lists, request, with_memory, plain, refused}
 
 -- ---- of one root alone
 

@@ -2,15 +2,21 @@
 use Rattle.std.proofs.Common.{◌≡◌, ℕ, List, [], ◌∷◌, refl, true, false, None, Some}
 use Rattle.pci_spec.specs.Slot.{Slot}
 use Rattle.pci_spec.specs.Window.{IoWindow, MemoryWindow}
-use Rattle.pci_spec.specs.System.{Function}
+use Rattle.pci_spec.specs.System.{System, Function}
 use Rattle.pci_spec.proofs.Examples.Samples.{slot, device, bridge, write, range, host}
 use Rattle.plan_spec.proofs.Examples.Placed.{start}
 use Rattle.settle_spec.specs.Lists.{Lists, RootRange, Request}
 use Rattle.settle_spec.specs.Stands.{stands_within}
 use Rattle.settle_spec.specs.Items.{window_within, holds_within}
-use Rattle.settle_spec.specs.Places.{placing_within}
-use Rattle.settle_spec.specs.Registers.{is_live_within}
-use Rattle.settle_spec.specs.Writes.{Settling, Settled, NoRoom, Fixed, BadLists, settle}
+use Rattle.settle_spec.specs.Keeping.Places.{placing_within}
+use Rattle.settle_spec.specs.Keeping.Registers.{is_live_within}
+use Rattle.settle_spec.specs.Writes.{Settling, Settled, NoRoom, Fixed, BadLists}
+use Rattle.settle_spec.specs.Kept.{as_it_stands}
+use Rattle.settle_spec.specs.Keeping.Writes.{settle_keeping}
+
+-- settling beside what stays as it stands
+abbrev pub settle : Request → System → Settling
+settle q s = settle_keeping q s (as_it_stands q s)
 
 abbrev pub all_roots : ℕ → ℕ → RootRange
 all_roots first last = record { root = None; range = range first last }

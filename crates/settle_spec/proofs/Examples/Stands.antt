@@ -4,10 +4,10 @@ use Rattle.pci_spec.proofs.Examples.Samples.{slot, device, bridge, write}
 use Rattle.settle_spec.specs.Lists.{Request}
 use Rattle.settle_spec.specs.Stands.{stands_within}
 use Rattle.settle_spec.specs.Items.{window_within, holds_within}
-use Rattle.settle_spec.specs.Places.{placing_within}
-use Rattle.settle_spec.specs.Registers.{is_live_within}
-use Rattle.settle_spec.specs.Writes.{Settled, settle}
-use Rattle.settle_spec.proofs.Examples.Settlings.{all_roots, lists, request, with_memory, with_prefetch, plain, over}
+use Rattle.settle_spec.specs.Keeping.Places.{placing_within}
+use Rattle.settle_spec.specs.Keeping.Registers.{is_live_within}
+use Rattle.settle_spec.specs.Writes.{Settled}
+use Rattle.settle_spec.proofs.Examples.Settlings.{settle, all_roots, lists, request, with_memory, with_prefetch, plain, over}
 
 -- ---- which comes first
 

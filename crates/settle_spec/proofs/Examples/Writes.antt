@@ -5,10 +5,10 @@ use Rattle.pci_spec.specs.System.{System}
 use Rattle.pci_spec.proofs.Examples.Samples.{slot, device, bridge, write}
 use Rattle.settle_spec.specs.Stands.{stands_within}
 use Rattle.settle_spec.specs.Items.{window_within, holds_within}
-use Rattle.settle_spec.specs.Places.{placing_within}
-use Rattle.settle_spec.specs.Registers.{is_live_within}
-use Rattle.settle_spec.specs.Writes.{Settled, NoRoom, Fixed, settle}
-use Rattle.settle_spec.proofs.Examples.Settlings.{all_roots, lists, request, with_io, plain, over}
+use Rattle.settle_spec.specs.Keeping.Places.{placing_within}
+use Rattle.settle_spec.specs.Keeping.Registers.{is_live_within}
+use Rattle.settle_spec.specs.Writes.{Settled, NoRoom, Fixed}
+use Rattle.settle_spec.proofs.Examples.Settlings.{settle, all_roots, lists, request, with_io, plain, over}
 
 -- ---- what is fixed
 

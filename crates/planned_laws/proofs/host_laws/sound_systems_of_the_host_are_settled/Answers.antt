@@ -1,5 +1,5 @@
 use Rattle.settle_laws.proofs.InPlace.{placed_stand}
-use Rattle.settle_laws.proofs.NothingSettled.{nothing_settled}
+use Rattle.settle_laws.proofs.NothingSettled.{nothing_settled, nothing_grows}
 use Rattle.planned_laws.proofs.HostSound.{lies_in_place, sound_with, sound_without}
 use Rattle.planned_laws.proofs.SentLists.{listed_sent, sent_listed}
 use Rattle.planned_laws.proofs.host_laws.sound_systems_of_the_host_are_settled.Goals as goal
@@ -17,4 +17,5 @@ pub returns-clause-settled : goal.returns-clause-settled
 returns-clause-settled c = λ q s system sound gaps rest apart left kept fine.
     let place = lies_in_place q s system sound gaps rest in
     let plain = sound_without q s system place left sound in
-    nothing_settled q s system plain fine (placed_stand q s system plain place apart kept) left
+    let stand = placed_stand q s system plain place apart kept in
+    (nothing_settled q s system plain stand left fine, nothing_grows q s system plain stand left fine)

@@ -1,4 +1,4 @@
-use Rattle.settle_laws.proofs.NothingSettled.{nothing_settled}
+use Rattle.settle_laws.proofs.NothingSettled.{nothing_settled, nothing_grows}
 use Rattle.planned_laws.proofs.StandingSound.{standing_sound}
 use Rattle.planned_laws.proofs.Uncut.{sound_is_uncut}
 use Rattle.planned_laws.proofs.switching_laws.standing_systems_are_sound.Goals as goal
@@ -10,4 +10,6 @@ pub returns-clause-uncut : goal.returns-clause-uncut
 returns-clause-uncut c = sound_is_uncut
 
 pub returns-clause-settled : goal.returns-clause-settled
-returns-clause-settled c = λ q s is uncut fine. nothing_settled q s is.system (standing_sound q s is uncut) fine is.stand uncut.left
+returns-clause-settled c = λ q s is uncut fine.
+    let sound = standing_sound q s is uncut in
+    (nothing_settled q s is.system sound is.stand uncut.left fine, nothing_grows q s is.system sound is.stand uncut.left fine)
