@@ -17,7 +17,7 @@ use Rattle.settle_spec.specs.Registers.{has_own}
 use Rattle.settle_spec.specs.LiveLaws.{has_live_behind}
 use Rattle.settle_spec.specs.Kept.{Kept}
 use Rattle.settle_spec.specs.Keeping.Registers.{is_enabled_in}
-use Rattle.settle_laws.proofs.Keeping.Live.{live_by_bus}
+use Rattle.settle_spec.proofs.Live.{live_by_bus}
 use Rattle.pci_function.specs.declared.record.Bridge.{Bridge}
 use Rattle.pci_function.specs.declared.record.Record.{Record}
 use Rattle.pci_function.specs.Values.{record_value}
