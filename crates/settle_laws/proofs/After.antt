@@ -1,4 +1,4 @@
--- What is asked of the settled functions for the laws of their writes.
+-- A byte of a function that is of no address register and not of Command.
 use Rattle.std.proofs.Common.{◌≡◌, ℕ, ◌<◌, ◌≤◌, false}
 use Rattle.std.specs.List.{list_any}
 use Rattle.pci_spec.specs.Header.{layout, address_registers, is_in_register}

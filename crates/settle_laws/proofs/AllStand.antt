@@ -1,4 +1,4 @@
--- Where every part stands, everything stays, nothing gets a place, and registers are left as they are.
+-- Where every part stands, each bus has no item to place, and everything stays.
 use Rattle.std.proofs.Common.{◌≡◌, ◌&&◌, ℕ, zero, suc, ◌<◌, inl, inr, List, [], ◌∷◌, Bool, true, false, arith, refl, sym, ◌∙◌, ap, subst}
 use Rattle.std.specs.List.{Contains}
 use Rattle.std.proofs.lemmas.Bool.{and_from, both_ways, cases_eq}
@@ -113,5 +113,3 @@ module _ (q : Request) (s : System) (system : IsSystem s) (nested : IsNested q.r
 
   pub all_stay : (r : FunctionPart) → Contains (system_parts q s) r → stays q s r ≡ true
   all_stay r listed = stays_within (suc r.function.slot.bus) r (omega arith) listed
-  -- ---- and nothing gets a place
-  -- ---- registers

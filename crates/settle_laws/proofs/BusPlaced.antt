@@ -1,4 +1,4 @@
--- Only roots can lack room: where they have it, each bus has a place for each of its items.
+-- Facts of lists of one range, of no items, of pages, and of the two classes of memory.
 use Rattle.std.proofs.Common.{◌≡◌, ◌<◌, inl, inr, List, [], ◌∷◌, length, false, arith, refl, ap}
 use Rattle.std.specs.Bool.{nat_lt}
 use Rattle.std.specs.List.{Contains}

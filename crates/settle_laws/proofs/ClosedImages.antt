@@ -1,4 +1,4 @@
--- The bytes of a function once it is closed: Command, and the windows that are replaced.
+-- The registers of a window, byte by byte, and what stays of them once it is shut.
 use Rattle.std.proofs.Common.{◌≡◌, ℕ, zero, suc, ◌+◌, ◌*◌, ◌%◌, ◌^◌, ◌<◌, ◌≤◌, inl, inr, [], ◌∷◌, false, arith, sym, ◌∙◌, ap, subst}
 use Rattle.std.specs.Bool.{◌==◌}
 use Rattle.std.specs.List.{Contains}

@@ -1,4 +1,4 @@
--- A function that no closing write changes is its own closed state.
+-- Where no register of a list differs, nothing is written.
 use Rattle.std.proofs.Common.{◌≡◌, ℕ, List, [], ◌∷◌, ◌++◌, cond, refl, ◌∙◌, ap}
 use Rattle.std.specs.List.{Contains, flat_map}
 use Rattle.std.proofs.lemmas.Bool.{eq-eqb}

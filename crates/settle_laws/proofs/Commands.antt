@@ -1,4 +1,4 @@
--- Command of a function on the way: what a closing write leaves of its enables, and what settling makes of them.
+-- Command with the enables that it has is Command.
 use Rattle.std.proofs.Common.{◌≡◌, ℕ, ◌*◌, ◌/◌, ◌%◌, refl, Bool, true, false, arith}
 use Rattle.std.specs.Bool.{if◌then◌else◌}
 use Rattle.pci_spec.specs.Number.{has_bit}

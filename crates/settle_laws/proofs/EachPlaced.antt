@@ -1,4 +1,4 @@
--- Places that are found one after another: by searches that agree, by first places, and where each is known beforehand.
+-- Places that are found one after another: by first places, and where each is known beforehand.
 use Rattle.std.proofs.Common.{◌≡◌, ℕ, ◌+◌, ◌-◌, ◌%◌, ◌≤◌, inl, inr, List, [], ◌∷◌, map, Option, None, Some, true, ap, sym, subst, ◌∙◌, refl}
 use Rattle.std.specs.List.{Contains, AllPairs}
 use Rattle.std.specs.Bool.{◌==◌, nat_lt}
@@ -18,7 +18,7 @@ use Rattle.settle_laws.proofs.Finding.{found, is_found}
 use Rattle.settle_laws.proofs.PlacedBus.{pairs_either}
 use Rattle.settle_spec.proofs.Buses.{next_same}
 
--- ---- searches that agree
+-- ---- by first places
 
 pub each_all : (ranges : Item → List Range) (taken : List Range) (items : List Item) → place_each (λ i xs. first_place (ranges i) xs i.extent) taken items ≡ place_all ranges taken items
 each_all ranges taken [] = refl

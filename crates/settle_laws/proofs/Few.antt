@@ -1,4 +1,4 @@
--- How many writes of settling are made to one slot.
+-- How many writes are made to one slot, and how many registers are closed and set.
 use Rattle.std.proofs.Common.{◌≡◌, ℕ, suc, ◌+◌, ◌≤◌, inl, inr, List, [], ◌∷◌, ◌++◌, refl, Bool, true, false, cond, arith, sym, ◌∙◌, ap, length}
 use Rattle.std.specs.Bool.{if◌then◌else◌, nat_lt}
 use Rattle.std.specs.List.{AllPairs, Contains, count_by, flat_map}

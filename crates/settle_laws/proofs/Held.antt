@@ -1,4 +1,4 @@
--- What claims an address and stays on through settling has bridges above it that stay on.
+-- What claims an address is a BAR or ROM of its space, and which bridges are above a bridge above.
 use Rattle.std.proofs.Common.{◌≡◌, ℕ, ◌+◌, ◌*◌, ◌^◌, ◌<◌, inl, inr, List, refl, Bool, true, false, ◌&&◌, ◌||◌, not, arith, ◌∙◌, ap, subst, map}
 use Rattle.std.specs.Bool.{◌==◌, if◌then◌else◌}
 use Rattle.std.specs.List.{Contains, list_any, filter, range_with_len}

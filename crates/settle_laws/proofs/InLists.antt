@@ -1,4 +1,4 @@
--- What ends on a root lies in a range of the lists that the root has.
+-- A range lies within another where it is inside, and in a list where a range of that holds it.
 use Rattle.std.proofs.Common.{◌≡◌, ℕ, true}
 use Rattle.std.specs.Bool.{nat_le}
 use Rattle.std.proofs.lemmas.Bool.{and_from, and_parts, le-leb, leb-true, or_left, or_right}

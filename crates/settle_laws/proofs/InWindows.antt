@@ -1,4 +1,4 @@
--- A part ends behind a bridge in the bridge's window of its class, which stays or is placed, and apart from what is beside it.
+-- What has a place in a range is inside.
 use Rattle.std.proofs.Common.{List}
 use Rattle.std.specs.Bool.{IsTrue, nat_le}
 use Rattle.std.proofs.lemmas.Bool.{and_parts, leb-true}

@@ -1,4 +1,4 @@
--- What gets a new place: which part it is of, how large it is, and by which address it ends.
+-- What is asked of a place: that it is of the size of its part, and by which address it ends.
 use Rattle.std.proofs.Common.{◌≡◌, ◌%◌, ◌<◌, ◌≤◌, refl, true, false}
 use Rattle.std.specs.Bool.{if◌then◌else◌}
 use Rattle.std.proofs.lemmas.Bool.{both_ways}
@@ -21,8 +21,6 @@ module _ (q : Request) (s : System) where
   size_some f (Bar n) plain = pow_pos (lowest_one (if is_io (bar_at f.probe n) then 2 else 4) (whole_bar f.probe f.probe n))
   size_some f Rom plain = pow_pos (lowest_one 0 (rom_at f.image f.probe))
   size_some f (Window c) plain = absurd (both_ways true plain refl)
-
-  -- ---- what is placed lies in a range that its item has
 
   -- ---- the place of a part
 

@@ -1,4 +1,4 @@
--- The new places of parts: which parts have one, and that what they show of it can be shown.
+-- A bridge that needs a window of a class has a BAR or ROM of that class behind it.
 use Rattle.std.proofs.Common.{◌≡◌, ◌&&◌, true, false, not, ◌∙◌, ap}
 use Rattle.std.specs.List.{Contains, list_any}
 use Rattle.std.proofs.lemmas.Bool.{and_parts, not-true}

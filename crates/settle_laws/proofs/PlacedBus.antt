@@ -1,4 +1,4 @@
--- A bus whose items are placed: each has its place, and what stays and what is placed end apart.
+-- Two members of a list of which each two are related are the same, or related one way.
 use Rattle.std.proofs.Common.{◌≡◌, ◌⊎◌, inl, inr, List, [], ◌∷◌, true, false, refl, sym, ◌∙◌, subst}
 use Rattle.std.specs.List.{Contains, AllPairs}
 use Rattle.std.proofs.lemmas.Bool.{both_ways}

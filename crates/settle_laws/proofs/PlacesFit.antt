@@ -1,4 +1,4 @@
--- Settling changes address bits alone in the address registers.
+-- An image that differs in address bits alone from another, register by register.
 use Rattle.std.proofs.Common.{◌≡◌, ℕ, ◌+◌, ◌-◌, ◌^◌, ◌<◌, ◌≤◌, inl, inr, List, refl, Bool, true, false, arith, sym, ◌∙◌, ap}
 use Rattle.std.specs.Bool.{if◌then◌else◌}
 use Rattle.std.specs.Int.{bit_at}

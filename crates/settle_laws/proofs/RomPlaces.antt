@@ -1,4 +1,4 @@
--- A new place of a ROM is a multiple of two: its size is one.
+-- A multiple of a power of two is even, and a ROM is a part of each header.
 use Rattle.std.proofs.Common.{◌≡◌, ℕ, ◌+◌, ◌*◌, ◌/◌, ◌%◌, ◌^◌, ◌<◌, [], ◌∷◌, refl, false, arith, sym, ◌∙◌, ap}
 use Rattle.std.specs.Int.{bit_at}
 use Rattle.std.proofs.lemmas.Bool.{both_ways}

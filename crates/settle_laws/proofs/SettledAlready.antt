@@ -1,4 +1,4 @@
--- A sound system is settled already where registers are as they are to be, and what gets a place is enabled.
+-- A part that is on claims its first address.
 use Rattle.std.proofs.Common.{◌≡◌, true, arith}
 use Rattle.pci_spec.specs.Number.{IsImage}
 use Rattle.pci_spec.specs.Decoded.{IsDecodable}

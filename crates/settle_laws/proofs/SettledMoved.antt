@@ -1,4 +1,4 @@
--- Where both systems are in the profile, settling moves functions: address bits and Command bits 0 and 1 alone change.
+-- A function of a system in the profile can be read, and the header type is in no address register.
 use Rattle.std.proofs.Common.{◌≡◌, ℕ, List, refl, Bool, true, false}
 use Rattle.std.specs.List.{Contains, list_any}
 use Rattle.std.proofs.lemmas.Bool.{false_from_ne_true}

@@ -1,4 +1,4 @@
--- What settling comes to is sound: at most one region claims an address, and each is reached.
+-- An access that passes a bridge by its windows: in I/O, in prefetchable memory, or in memory.
 use Rattle.std.proofs.Common.{◌≡◌, ◌&&◌, ℕ, inl, inr, Bool, true, false, refl, ap, subst}
 use Rattle.std.proofs.lemmas.Bool.{and_parts, and_from, both_ways, or_cases, or_left, or_right}
 use Rattle.pci_spec.specs.Window.{WindowKind, IoWindow, MemoryWindow, PrefetchWindow}

@@ -1,4 +1,4 @@
--- A settled image differs in the bytes of address registers alone, and a ROM stays as it was switched.
+-- Which bytes a part of a function shows, and which of its parts can change.
 use Rattle.std.proofs.Common.{◌≡◌, ℕ, zero, suc, ◌+◌, ◌<◌, ◌≤◌, ◌⊎◌, inl, inr, List, [], ◌∷◌, refl, Bool, true, false, cond, ◌&&◌, ◌||◌, not, arith, ◌∙◌}
 use Rattle.std.specs.Bool.{◌==◌, if◌then◌else◌}
 use Rattle.std.specs.List.{Contains, fold}
@@ -121,5 +121,3 @@ module _ (q : Request) (s : System) (f : Function) where
               absurd (both_ways (is_wide (bar_at f.probe n) && (n + 1 == bar_count (layout f.image))) pair
               (and_from (is_wide (bar_at f.probe n)) (n + 1 == bar_count (layout f.image)) wide (eq-eqb (n + 1) (bar_count (layout f.image)) last)))
         ]
-    -- ---- a byte of no address register
-    -- ---- the enable bit of a ROM

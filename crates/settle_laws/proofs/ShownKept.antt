@@ -1,4 +1,4 @@
--- A settled function shows what stays where it was.
+-- A window's addresses, and whether it is open, by its bounds.
 use Rattle.std.proofs.Common.{◌+◌, ◌-◌, ◌*◌, ◌/◌, Bool}
 use Rattle.std.specs.Bool.{nat_le}
 use Rattle.pci_spec.specs.Window.{WindowKind, Bounds, lower_pages, page_size}

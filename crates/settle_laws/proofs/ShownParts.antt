@@ -1,4 +1,4 @@
--- A settled function shows its new places: each part that has one is there, and a window that has none is closed.
+-- What one step of many sets is there at the end, and parts told apart by their kind.
 use Rattle.std.proofs.Common.{◌≡◌, ℕ, ◌+◌, ◌*◌, ◌/◌, ◌⊎◌, inl, inr, List, [], ◌∷◌, Bool, true, false, not, refl, sym, ◌∙◌, ap, subst}
 use Rattle.std.specs.Bool.{nat_le}
 use Rattle.std.specs.List.{Contains, fold}

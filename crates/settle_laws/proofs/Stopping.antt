@@ -1,4 +1,4 @@
--- The writes of settling can stop anywhere, and lead to the settled system.
+-- A beginning of three lists behind one another, and a space that is on where Command is the same.
 use Rattle.std.proofs.Common.{◌≡◌, ℕ, ◌+◌, ◌-◌, inl, inr, List, ◌++◌, true, arith, sym, ◌∙◌, ap, subst, length, take, drop}
 use Rattle.std.proofs.lemmas.Bool.{cases_lt}
 use Rattle.std.proofs.lemmas.List.{take-append-drop, take-append-le}
@@ -6,10 +6,6 @@ use Rattle.std.proofs.Math.Seq.{take-append-add}
 use Rattle.pci_spec.specs.Number.{has_bit}
 use Rattle.pci_spec.specs.Header.{command}
 use Rattle.pci_spec.specs.System.{Function, Space, Io, Memory, is_space_on}
-
--- ---- where they lead
-
--- ---- where they stop
 
 -- ---- what is never off
 

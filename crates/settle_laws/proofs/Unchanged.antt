@@ -1,4 +1,4 @@
--- What is settled already is neither shut nor written.
+-- What leaves a list as it is leaves each of its members.
 use Rattle.std.proofs.Common.{◌≡◌, inl, inr, [], ◌∷◌, subst, map}
 use Rattle.std.specs.List.{Contains}
 use Rattle.pci_spec.specs.System.{System, Function}
