@@ -17,11 +17,11 @@ use Rattle.settle_spec.specs.Keeping.Registers.{settled_command}
 use Rattle.settle_spec.specs.Writes.{is_cut_off_in}
 use Rattle.settle_spec.specs.Keeping.Writes.{changes_at, moves, is_shut, settle_writes}
 use Rattle.settle_laws.specs.Keeping.PlacesLaws.{CanSettle}
-use Rattle.settle_spec.specs.Kept.{Kept}
+use Rattle.settle_spec.specs.Kept.{Kept, as_it_stands, growing}
 use Rattle.settle_spec.specs.Stands.{stands}
 
--- Each part of a function stays with the addresses that it has, and nothing cuts it off. As a bridge it needs no further window: one of each class of which
--- a BAR or ROM is behind it is open.
+-- Each part of a function stays with the addresses that it has, and nothing cuts it off. As a bridge it needs no further
+-- window: one of each class of which a BAR or ROM is behind it is open.
 pub record KeepsParts (q : Request) (s : System) (k : Kept) (f : Function) : Type 0 where
   pub parts : (p : Part) → Contains (parts_of q s f) p
       → IsTrue (k.stays record { function = f; part = p })
@@ -40,6 +40,11 @@ pub record IsLeftAlone (q : Request) (s : System) (k : Kept) (f : Function) : Ty
 -- What is kept stands.
 abbrev pub KeptStands : Request → System → Kept → Type 0
 KeptStands q s k = (r : FunctionPart) → IsTrue (k.stays r) → IsTrue (stands q s r)
+
+-- So it is of any system, as it stands and where windows grow.
+abbrev pub WhatIsKeptStands : Type 0
+WhatIsKeptStands =
+    (q : Request) (s : System) → KeptStands q s (as_it_stands q s) × KeptStands q s (growing q s)
 
 -- Then all that is written to the function is Command, and each bit of it that was set is written as set.
 abbrev pub LeftAloneIsOnlySwitchedOn : Type 0

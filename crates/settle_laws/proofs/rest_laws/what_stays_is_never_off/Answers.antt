@@ -1,5 +1,7 @@
 use Rattle.std.proofs.Common.{inl, inr}
 use Rattle.settle_spec.specs.Keeping.Registers.{settled_function}
+use Rattle.settle_spec.proofs.Grown.{growth_keeps}
+use Rattle.stand_laws.proofs.GrowingKept.{growing_stands}
 use Rattle.settle_laws.proofs.OnlyOpened.{only_opened}
 use Rattle.settle_laws.proofs.Resting.{keeps_registers, written_on, has_all, has_itself}
 use Rattle.settle_laws.proofs.Staying.{stays_or_settles}
@@ -7,6 +9,9 @@ use Rattle.settle_laws.proofs.StayingRests.{part_rests, staying_rests, staying_u
 use Rattle.settle_laws.proofs.Keeping.Kept.{stays_stands}
 use Rattle.settle_laws.proofs.Keeping.Moves.{are_settling}
 use Rattle.settle_laws.proofs.rest_laws.what_stays_is_never_off.Goals as goal
+
+pub returns-clause-kept : goal.returns-clause-kept
+returns-clause-kept c = λ q s. (λ r is. growing_stands q s r (growth_keeps q s r is), growing_stands q s)
 
 pub returns-clause-writes : goal.returns-clause-writes
 returns-clause-writes c = λ q s k system nested kept f listed alone w has same. (only_opened q s k system f listed (keeps_registers q s k system nested kept f listed alone) w has same, written_on q s k system nested kept f listed alone)
