@@ -10,8 +10,9 @@ use Rattle.pci_spec.specs.Window.{WindowKind}
 use Rattle.pci_spec.specs.System.{System, Function, Space, IsSystem, Window, is_bridge}
 use Rattle.pci_spec.specs.Bus.{secondary, IsNested}
 use Rattle.settle_spec.specs.Lists.{Request}
-use Rattle.settle_spec.specs.Registers.{settled_function}
-use Rattle.settle_spec.specs.Writes.{changes_at, is_shut_itself, closing_command}
+use Rattle.settle_spec.specs.Kept.{Kept}
+use Rattle.settle_spec.specs.Keeping.Registers.{settled_function}
+use Rattle.settle_spec.specs.Keeping.Writes.{changes_at, is_shut_itself, closing_command}
 use Rattle.pci_base.specs.Space.{is_on}
 use Rattle.pci_function.specs.declared.record.Bridge.{Bridge}
 use Rattle.pci_function.specs.declared.record.Record.{Record}
@@ -30,17 +31,17 @@ use Rattle.pci_settle_writes.proofs.Ways.{no_way, on_root, behind_bridge}
 use Rattle.pci_settle_writes.proofs.Moving.{window_is, itself_is, shut_is, closing_is}
 
 -- the first k functions are passed
-pub record AreClosedTo (q : Request) (roots : List ℕ) (s : System) (k : ℕ) (ways : List Way)
+pub record AreClosedTo (q : Request) (roots : List ℕ) (s : System) (keep : Kept) (k : ℕ) (ways : List Way)
     (commands : List ℕ) : Type 0 where
-  pub marks : AreTo (IsWay q s) roots s k ways
-  pub values : commands ≡ map (closing_command q s) (take k s)
+  pub marks : AreTo (IsWay q s keep) roots s k ways
+  pub values : commands ≡ map (closing_command q s keep) (take k s)
 
-module _ (q : Request) (roots : List ℕ) (s : System) (system : IsSystem s) (nested : IsNested roots s) where
-  pub none_closed : AreClosedTo q roots s 0 (replicate 256 no_way) []
-  none_closed = record { marks = none_yet (IsWay q s) roots s system nested _ (λ bus root. on_root roots q s system nested bus root); values = refl }
+module _ (q : Request) (roots : List ℕ) (s : System) (keep : Kept) (system : IsSystem s) (nested : IsNested roots s) where
+  pub none_closed : AreClosedTo q roots s keep 0 (replicate 256 no_way) []
+  none_closed = record { marks = none_yet (IsWay q s keep) roots s system nested _ (λ bus root. on_root roots q s keep system nested bus root); values = refl }
 
-  pub all_closed : (k : ℕ) (ways : List Way) (commands : List ℕ) → AreClosedTo q roots s k ways commands → length s ≤ k → commands ≡ map (closing_command q s) s
-  all_closed k ways commands to done = to.values ∙ ap (map (closing_command q s)) (take_all k s done)
+  pub all_closed : (k : ℕ) (ways : List Way) (commands : List ℕ) → AreClosedTo q roots s keep k ways commands → length s ≤ k → commands ≡ map (closing_command q s keep) s
+  all_closed k ways commands to done = to.values ∙ ap (map (closing_command q s keep)) (take_all k s done)
 
   -- ---- the next function
 
@@ -50,43 +51,43 @@ module _ (q : Request) (roots : List ℕ) (s : System) (system : IsSystem s) (ne
       pub start_image : AreOf s start → b.image ≡ f.image
       start_image of = same_at (λ (x : Block). x.image) (λ (x : Function). x.image) start s of.images k b f (slice_get_within s k f at) b_at (sym (get_or_from_slice_get s k f f at))
 
-      pub settled_image : AreSettledBlocks q s settled → n.image ≡ (settled_function q s f).image
-      settled_image new = same_at (λ (x : Block). x.image) (λ (x : Function). (settled_function q s x).image) settled s new k n f (slice_get_within s k f at) n_at (sym (get_or_from_slice_get s k f f at))
+      pub settled_image : AreSettledBlocks q s keep settled → n.image ≡ (settled_function q s keep f).image
+      settled_image new = same_at (λ (x : Block). x.image) (λ (x : Function). (settled_function q s keep x).image) settled s new k n f (slice_get_within s k f at) n_at (sym (get_or_from_slice_get s k f f at))
 
     -- what is above its bus
-    pub way_at : (ways : List Way) (commands : List ℕ) → AreClosedTo q roots s k ways commands → (d : Way) → IsWay q s f.slot.bus (get_or ways f.slot.bus d)
-    way_at ways commands was d = of_bus (IsWay q s) roots s system nested k f at ways was.marks d
+    pub way_at : (ways : List Way) (commands : List ℕ) → AreClosedTo q roots s keep k ways commands → (d : Way) → IsWay q s keep f.slot.bus (get_or ways f.slot.bus d)
+    way_at ways commands was d = of_bus (IsWay q s keep) roots s system nested k f at ways was.marks d
 
-    module _ (o : Around) (around : IsAround q s f.slot.bus o) (old new : List ℕ) (old_is : old ≡ f.image) (new_is : new ≡ (settled_function q s f).image)
+    module _ (o : Around) (around : IsAround q s keep f o) (old new : List ℕ) (old_is : old ≡ f.image) (new_is : new ≡ (settled_function q s keep f).image)
         (itself shut : BySpace) (itself_by : (x : Space) → in_space itself x ≡ is_shut_by o x old new r) (shut_by : (x : Space) → in_space shut x ≡ (in_space itself x || not (in_space o.way.clear x)))
-        (ways : List Way) (commands cs : List ℕ) (was : AreClosedTo q roots s k ways commands) (cs_is : cs ≡ commands ++ closing_by o r shut ∷ []) where
-      itself_same : (x : Space) → in_space itself x ≡ is_shut_itself q s x f
-      itself_same x = itself_by x ∙ itself_is q s f r is o around old new old_is new_is x
+        (ways : List Way) (commands cs : List ℕ) (was : AreClosedTo q roots s keep k ways commands) (cs_is : cs ≡ commands ++ closing_by o r shut ∷ []) where
+      itself_same : (x : Space) → in_space itself x ≡ is_shut_itself q s keep x f
+      itself_same x = itself_by x ∙ itself_is q s keep f r is o around old new old_is new_is x
 
       -- its Command
-      values_more : cs ≡ map (closing_command q s) (take (k + 1) s)
+      values_more : cs ≡ map (closing_command q s keep) (take (k + 1) s)
       values_more =
           let here = get_or_from_slice_get s k f f at in
           cs_is ∙ ap (λ xs. xs ++ closing_by o r shut ∷ []) was.values
-          ∙ ap (λ c. map (closing_command q s) (take k s) ++ c ∷ []) (closing_is q s f r is o around shut (shut_is q s f r is o around itself shut itself_same shut_by))
-          ∙ sym (map-append (closing_command q s) (take k s) (f ∷ []))
-          ∙ ap (λ g. map (closing_command q s) (take k s ++ g ∷ [])) (sym here)
-          ∙ sym (ap (map (closing_command q s)) (take_more s k f (slice_get_within s k f at)))
+          ∙ ap (λ c. map (closing_command q s keep) (take k s) ++ c ∷ []) (closing_is q s keep f r is o around shut (shut_is q s keep f r is o around itself shut itself_same shut_by))
+          ∙ sym (map-append (closing_command q s keep) (take k s) (f ∷ []))
+          ∙ ap (λ g. map (closing_command q s keep) (take k s ++ g ∷ [])) (sym here)
+          ∙ sym (ap (map (closing_command q s keep)) (take_more s k f (slice_get_within s k f at)))
 
-      pub closed_same : r.bridge ≡ None → AreClosedTo q roots s (k + 1) ways cs
+      pub closed_same : r.bridge ≡ None → AreClosedTo q roots s keep (k + 1) ways cs
       closed_same none =
           let off : is_bridge f ≡ false = sym (same_bridge r f is.value) ∙ ap is_some none in
-          record { marks = same_after (IsWay q s) roots s system nested k f at ways was.marks off; values = values_more }
+          record { marks = same_after (IsWay q s keep) roots s system nested k f at ways was.marks off; values = values_more }
 
       pub closed_more : (b : Bridge) → r.bridge ≡ Some b → (to : ℕ) → to ≡ b.secondary → (same : ByClass) → ((c : WindowKind) → in_class same c ≡ not (is_window_changed c old new)) → (next : Way)
           → ((x : Space) → in_space next.on x ≡ (in_space o.way.on x && is_on r.command x)) → ((x : Space) → in_space next.clear x ≡ (in_space o.way.clear x && not (in_space itself x)))
-          → ((c : WindowKind) → in_class next.same c ≡ (in_class o.way.same c && in_class same c)) → AreClosedTo q roots s (k + 1) (set ways to next) cs
+          → ((c : WindowKind) → in_class next.same c ≡ (in_class o.way.same c && in_class same c)) → AreClosedTo q roots s keep (k + 1) (set ways to next) cs
       closed_more b some to to_is same same_by next on clear stay =
           let bridge : is_bridge f ≡ true = sym (same_bridge r f is.value) ∙ ap is_some some in
           let leads : to ≡ secondary f = to_is ∙ ap (λ (x : decoded.Bridge). x.secondary) (same_bridge_of r f b is.value some) in
-          let stays : (c : WindowKind) → in_class same c ≡ not (changes_at q s f (Window c)) = λ c. same_by c ∙ ap not (window_is q s f old new old_is new_is c) in
+          let stays : (c : WindowKind) → in_class same c ≡ not (changes_at q s keep f (Window c)) = λ c. same_by c ∙ ap not (window_is q s keep f old new old_is new_is c) in
           record {
-            marks = put_after (IsWay q s) roots s system nested k f at ways was.marks to next bridge leads
-                (behind_bridge roots q s system nested f r is bridge o.way next itself same around.way itself_same stays on clear stay);
+            marks = put_after (IsWay q s keep) roots s system nested k f at ways was.marks to next bridge leads
+                (behind_bridge roots q s keep system nested f r is bridge o.way next itself same around.way itself_same stays on clear stay);
             values = values_more;
           }

@@ -11,7 +11,8 @@ use Rattle.pci_spec.specs.Decoded as decoded
 use Rattle.settle_spec.specs.Lists.{Lists, Request}
 use Rattle.settle_spec.specs.Parts.{FunctionPart, system_parts}
 use Rattle.settle_spec.specs.Stands.{stands}
-use Rattle.settle_spec.specs.Items.{stays}
+use Rattle.settle_spec.specs.Items.{has_room_behind, stays}
+use Rattle.settle_spec.specs.Kept.{as_it_stands, is_kept, stays_growing, growing}
 use Rattle.settle_spec.proofs.Anew.{none_stands, none_stays}
 use Rattle.pci_function.specs.declared.record.Record.{Record}
 use Rattle.pci_function.specs.Values.{record_value}
@@ -19,11 +20,16 @@ use Rattle.pci_tree.specs.Admission.{Admission, IsAdmitted}
 use Rattle.pci_place.specs.Above.{system_in}
 use Rattle.pci_settle.specs.declared.kept.Kept.{Kept}
 use Rattle.pci_settle.specs.declared.over.Left.{Left}
+use Rattle.pci_settle.specs.declared.over.OpenWindows.{OpenWindows}
 use Rattle.pci_settle.specs.Kept.{kept_of, nothing_kept, AreNone}
+use Rattle.pci_settle.specs.Keeping.{TellsKept}
+use Rattle.pci_settle.specs.Over.{AreOpenOver}
+use Rattle.pci_settle.proofs.AsItStands.{stands_told}
+use Rattle.pci_grow.specs.Growing.{Grown, AreGrown}
 use Rattle.pci_stand.specs.Known.{asked}
 use Rattle.pci_stand.specs.Passing.{AreStanding}
 use Rattle.pci_stay.specs.Windows.{AreOpenFor}
-use Rattle.pci_stay.specs.Staying.{AreStaying}
+use Rattle.pci_stay.specs.Staying.{AreStaying, AreStayingBy, stays_by}
 use Rattle.pci_stay.proofs.Opened.{tree_of}
 use Rattle.pci_settled.specs.Placed.{IsLeaving, CanBeLeft}
 use Rattle.pci_settled.proofs.NothingLeft.{leaves}
@@ -44,14 +50,19 @@ table_of_none s test table never count none = record {
       none k d (subst (λ n. k < n) (sym count) within) part ∙ sym (never record { function = f; part = part });
 }
 
--- what stays, whatever a function beyond the table is taken to have
-table_of_staying : (q : Request) (s : System) (table : List Kept) → AreStaying q s table → IsTableOf s (stays q s) table
-table_of_staying q s table are = record {
+-- what stays by a test, whatever a function beyond the table is taken to have
+table_of_staying : (q : Request) (s : System) (holds : FunctionPart → Bool) (table : List Kept) → AreStayingBy q s holds table → IsTableOf s (stays_by q s holds) table
+table_of_staying q s holds table are = record {
   count = are.count;
   each = λ k f d part at there.
       let within = slice_get_within s k f at in
       ap (λ t. kept_of t part) (get_or_default table k d nothing_kept (subst (λ n. k < n) (sym are.count) within)) ∙ are.each k f part at there;
 }
+
+-- open windows of what is left are those that were found
+pub left_opened : {records : List Record} {overs windows : List OpenWindows} → ((q : Request) (s : System) → AreOpenFor q s records windows) → overs ≡ windows
+    → (q : Request) (s : System) → AreOpenFor q s records overs
+left_opened {records} opened same q s = subst (AreOpenFor q s records) (sym same) (opened q s)
 
 module _ (a : Admission) (l : Lists) where
   -- where all is placed anew
@@ -63,12 +74,13 @@ module _ (a : Admission) (l : Lists) where
     stay_anew = table_of_none (system_in a) (stays q (system_in a)) table (none_stays q (system_in a) anew) count none
 
     -- the table says no to nothing that is fixed
-    pub told_anew : (left : Left) → left.over.now ≡ [] → left.kept.now ≡ [] → ((test : FunctionPart → Bool) → IsTableOf (system_in a) test table → None ≡ option_map fixed_part (fixed_without test q (system_in a)))
-        → AreAskedFor q a l left table
-    told_anew left no_windows none_kept found = record {
+    pub told_anew : (left : Left) → left.over.now ≡ [] → left.kept.now ≡ [] → left.grown.now ≡ []
+        → ((test : FunctionPart → Bool) → IsTableOf (system_in a) test table → None ≡ option_map fixed_part (fixed_without test q (system_in a)))
+        → AreAskedFor q (as_it_stands q (system_in a)) a l left table
+    told_anew left no_windows none_kept none_grown found = record {
       asked = is;
-      leaving = leaves a.roots (system_in a) l left no_windows none_kept q record { rooted = is.roots_are; anew = anew; lists = is.lists_are };
-      kept = fixed_kept a q (found (stands q (system_in a)) stand_anew) (found (stays q (system_in a)) stay_anew);
+      leaving = leaves a.roots (system_in a) l left no_windows none_kept none_grown q record { rooted = is.roots_are; anew = anew; lists = is.lists_are };
+      kept = fixed_kept a q (as_it_stands q (system_in a)) (found (stands q (system_in a)) stand_anew) (found (stays q (system_in a)) stay_anew);
       stay = stay_anew;
     }
 
@@ -80,27 +92,52 @@ module _ (a : Admission) (l : Lists) where
     pub table_stand : AreStanding (asked a.roots l fixed) (system_in a) made → IsTableOf (system_in a) (stands (asked a.roots l fixed) (system_in a)) table
     table_stand stand = subst (IsTableOf (system_in a) (stands (asked a.roots l fixed) (system_in a))) (sym is) record { count = stand.count; each = stand.each }
 
-    pub table_stay : AreStaying (asked a.roots l fixed) (system_in a) made → IsTableOf (system_in a) (stays (asked a.roots l fixed) (system_in a)) table
-    table_stay stay = subst (IsTableOf (system_in a) (stays (asked a.roots l fixed) (system_in a))) (sym is) (table_of_staying (asked a.roots l fixed) (system_in a) made stay)
+    pub table_stay : (holds : FunctionPart → Bool) → AreStayingBy (asked a.roots l fixed) (system_in a) holds made
+        → IsTableOf (system_in a) (stays_by (asked a.roots l fixed) (system_in a) holds) table
+    table_stay holds stay =
+        subst (IsTableOf (system_in a) (stays_by (asked a.roots l fixed) (system_in a) holds)) (sym is) (table_of_staying (asked a.roots l fixed) (system_in a) holds made stay)
 
   module _ (fixed : List Slot) (admitted : IsAdmitted a) (records : List Record) {values : List decoded.Record} (same : map record_value records ≡ values) (has : HasRecords (system_in a) values)
-      (left : Left) (opened : (q : Request) (s : System) → AreOpenFor q s records left.over.now) (staying : List Kept) {stayed : List Kept} (stayed_is : staying ≡ stayed)
-      (kept_is : left.kept.now ≡ stayed) (stay : AreStaying (asked a.roots l fixed) (system_in a) stayed) where
-    pub leaving_rest : IsLeaving (asked a.roots l fixed) a.roots (system_in a) l left
-    leaving_rest = record {
-      rooted = refl;
-      lists = refl;
-      overs_are = opened (asked a.roots l fixed) (system_in a) (tree_of a l fixed admitted records same has);
-      keeps_is = λ k f part at there. ap (λ t. kept_of (slice_index_or t k nothing_kept) part) kept_is ∙ stay.each k f part at there;
-    }
+      (left : Left) (opened : (q : Request) (s : System) → AreOpenFor q s records left.over.now) (staying : List Kept) {stayed : List Kept} (stayed_is : staying ≡ stayed) where
+    overs : AreOpenOver (asked a.roots l fixed) (system_in a) left.over.now
+    overs = opened (asked a.roots l fixed) (system_in a) (tree_of a l fixed admitted records same has)
 
-    pub rest_can_be_left : CanBeLeft a.roots (system_in a) l left
-    rest_can_be_left = record { request = asked a.roots l fixed; leaving = leaving_rest }
+    -- as it stands
+    module _ (kept_is : left.kept.now ≡ stayed) (none_grown : left.grown.now ≡ []) (stay : AreStaying (asked a.roots l fixed) (system_in a) stayed) where
+      pub leaving_rest : IsLeaving (asked a.roots l fixed) (as_it_stands (asked a.roots l fixed) (system_in a)) a.roots (system_in a) l left
+      leaving_rest = record {
+        rooted = refl;
+        lists = refl;
+        overs_are = overs;
+        keeps_is = stands_told (asked a.roots l fixed) (system_in a) left none_grown
+            (λ k f part at there. ap (λ t. kept_of (slice_index_or t k nothing_kept) part) kept_is ∙ stay.each k f part at there);
+      }
 
-    pub told_rest : AreFixedKept (asked a.roots l fixed) (system_in a) → AreAskedFor (asked a.roots l fixed) a l left staying
-    told_rest kept = record {
-      asked = asked_is fixed;
-      leaving = leaving_rest;
-      kept = kept;
-      stay = table_stay fixed staying stayed_is stay;
-    }
+      pub rest_can_be_left : CanBeLeft a.roots (system_in a) l left
+      rest_can_be_left = record { request = asked a.roots l fixed; keep = as_it_stands (asked a.roots l fixed) (system_in a); leaving = leaving_rest }
+
+      pub told_rest : AreFixedKept (asked a.roots l fixed) (system_in a) (as_it_stands (asked a.roots l fixed) (system_in a))
+          → AreAskedFor (asked a.roots l fixed) (as_it_stands (asked a.roots l fixed) (system_in a)) a l left staying
+      told_rest kept = record {
+        asked = asked_is fixed;
+        leaving = leaving_rest;
+        kept = kept;
+        stay = table_stay fixed staying stayed_is (has_room_behind (asked a.roots l fixed) (system_in a)) stay;
+      }
+
+    -- where windows grow
+    module _ (grown : Grown) (stays_are : grown.stays ≡ stayed) (are : AreGrown (asked a.roots l fixed) (system_in a) grown)
+        (tells : TellsKept (asked a.roots l fixed) (system_in a) (growing (asked a.roots l fixed) (system_in a)) left) where
+      pub leaving_grown : IsLeaving (asked a.roots l fixed) (growing (asked a.roots l fixed) (system_in a)) a.roots (system_in a) l left
+      leaving_grown = record { rooted = refl; lists = refl; overs_are = overs; keeps_is = tells }
+
+      pub grown_can_be_left : CanBeLeft a.roots (system_in a) l left
+      grown_can_be_left = record { request = asked a.roots l fixed; keep = growing (asked a.roots l fixed) (system_in a); leaving = leaving_grown }
+
+      pub table_grown : IsTableOf (system_in a) (stays_growing (asked a.roots l fixed) (system_in a)) staying
+      table_grown = table_stay fixed staying stayed_is (is_kept (asked a.roots l fixed) (system_in a))
+          (subst (AreStayingBy (asked a.roots l fixed) (system_in a) (is_kept (asked a.roots l fixed) (system_in a))) stays_are are.stay)
+
+      pub told_grown : AreFixedKept (asked a.roots l fixed) (system_in a) (growing (asked a.roots l fixed) (system_in a))
+          → AreAskedFor (asked a.roots l fixed) (growing (asked a.roots l fixed) (system_in a)) a l left staying
+      told_grown kept = record { asked = asked_is fixed; leaving = leaving_grown; kept = kept; stay = table_grown }

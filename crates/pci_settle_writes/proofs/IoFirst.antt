@@ -11,9 +11,11 @@ use Rattle.plan_spec.proofs.Planning.PlacedItems.{same_class_is}
 use Rattle.settle_spec.specs.FirstPlace.{Extent}
 use Rattle.settle_spec.specs.Lists.{Request}
 use Rattle.settle_spec.specs.Items.{Item, Placing, AllPlaced, Lacks}
-use Rattle.settle_spec.specs.Places.{placing_on, space_items, first_lack, lacking_on, lacking}
-use Rattle.settle_spec.proofs.ItemsOn.{each_in}
-use Rattle.settle_laws.proofs.IoAlone.{io_alone, placing_alone, has_alone, window_alone}
+use Rattle.settle_spec.specs.Places.{first_lack}
+use Rattle.settle_spec.specs.Kept.{Kept, as_it_stands}
+use Rattle.settle_spec.specs.Keeping.Places.{placing_on, space_items, lacking_on, lacking}
+use Rattle.pci_settled.proofs.Parts.{each_in}
+use Rattle.settle_laws.proofs.IoAlone.{io_alone, placing_alone, standing_alike, has_alone, window_alone}
 use Rattle.pci_base.specs.declared.memory.Refused.{Refused}
 use Rattle.pci_base.specs.declared.memory.Refused.TheVariants as refused
 use Rattle.pci_base.specs.WindowKinds.{kind_value}
@@ -35,12 +37,12 @@ use Rattle.settle_spec.specs.Writes.{or_lack}
 use Rattle.pci_settled.specs.Spaces.{space_lack}
 use Rattle.pci_settle_writes.proofs.Lacking.{first_cases, space_has}
 
-of_space : (q : Request) (s : System) (space : Space) (bus : ℕ) (i : Item) → Contains (space_items q s space bus) i → window_space i.class ≡ space
-of_space q s space bus i listed = each_in q s space bus (λ x. window_space x.class ≡ space) (λ c of f on part is. of) (λ c of f on is. of) i listed
+of_space : (q : Request) (s : System) (keep : Kept) (space : Space) (bus : ℕ) (i : Item) → Contains (space_items q s keep space bus) i → window_space i.class ≡ space
+of_space q s keep space bus i listed = each_in q s keep space bus (λ x. window_space x.class ≡ space) (λ c of f on part is. of) (λ c of f on is. of) i listed
 
-lack_space : (q : Request) (s : System) (space : Space) (root : ℕ) (i : Item) → first_lack (placing_on q s space root) None ≡ Some i → window_space i.class ≡ space
-lack_space q s space root i e = elim (first_cases (placing_on q s space root) None i e) [
-  | inl lacks ↦ of_space q s space root i (space_has q s space root i lacks)
+lack_space : (q : Request) (s : System) (keep : Kept) (space : Space) (root : ℕ) (i : Item) → first_lack (placing_on q s keep space root) None ≡ Some i → window_space i.class ≡ space
+lack_space q s keep space root i e = elim (first_cases (placing_on q s keep space root) None i e) [
+  | inl lacks ↦ of_space q s keep space root i (space_has q s keep space root i lacks)
   | inr none ↦ absurd (none-some i none)
 ]
 
@@ -52,51 +54,57 @@ none_first : (p : Placing) (other : Option Item) → first_lack p other ≡ None
 none_first (AllPlaced placed) other none = refl
 none_first (Lacks j) other none = none
 
-module _ (q : Request) (s : System) where
-  io_lacks : (roots : List ℕ) (i : Item) → space_lack q s Io roots ≡ Some i → (lacking_on q s roots ≡ Some i) × (window_space i.class ≡ Io)
+module _ (q : Request) (s : System) (keep : Kept) where
+  io_lacks : (roots : List ℕ) (i : Item) → space_lack q s keep Io roots ≡ Some i → (lacking_on q s keep roots ≡ Some i) × (window_space i.class ≡ Io)
   io_lacks [] i e = absurd (none-some i e)
-  io_lacks (root ∷ roots) i e = (only (placing_on q s Io root) (first_lack (placing_on q s Memory root) None) i e, lack_space q s Io root i e)
+  io_lacks (root ∷ roots) i e = (only (placing_on q s keep Io root) (first_lack (placing_on q s keep Memory root) None) i e, lack_space q s keep Io root i e)
 
-  io_has : (roots : List ℕ) → lacking_on q s roots ≡ None → space_lack q s Io roots ≡ None
+  pub io_has : (roots : List ℕ) → lacking_on q s keep roots ≡ None → space_lack q s keep Io roots ≡ None
   io_has [] none = refl
-  io_has (root ∷ roots) none = none_first (placing_on q s Io root) (first_lack (placing_on q s Memory root) None) none
+  io_has (root ∷ roots) none = none_first (placing_on q s keep Io root) (first_lack (placing_on q s keep Memory root) None) none
 
   -- the first item that lacks a place is of I/O
-  io_is : (roots : List ℕ) (i : Item) → lacking_on q s roots ≡ Some i → window_space i.class ≡ Io → space_lack q s Io roots ≡ Some i
+  io_is : (roots : List ℕ) (i : Item) → lacking_on q s keep roots ≡ Some i → window_space i.class ≡ Io → space_lack q s keep Io roots ≡ Some i
   io_is [] i e io = absurd (none-some i e)
-  io_is (root ∷ roots) i e io = elim (first_cases (placing_on q s Io root) (first_lack (placing_on q s Memory root) None) i e) [
+  io_is (root ∷ roots) i e io = elim (first_cases (placing_on q s keep Io root) (first_lack (placing_on q s keep Memory root) None) i e) [
     | inl lacks ↦ ap (λ p. first_lack p None) lacks
-    | inr memory ↦ absurd (let both : Io ≡ Memory = sym io ∙ lack_space q s Memory root i memory in let no : ⊥ = cc in no)
+    | inr memory ↦ absurd (let both : Io ≡ Memory = sym io ∙ lack_space q s keep Memory root i memory in let no : ⊥ = cc in no)
   ]
 
   -- it isn't
-  io_free_by : (roots : List ℕ) (i : Item) → lacking_on q s roots ≡ Some i → (window_space i.class ≡ Io → ⊥) → (o : Option Item) → space_lack q s Io roots ≡ o → space_lack q s Io roots ≡ None
+  io_free_by : (roots : List ℕ) (i : Item) → lacking_on q s keep roots ≡ Some i → (window_space i.class ≡ Io → ⊥) → (o : Option Item) → space_lack q s keep Io roots ≡ o → space_lack q s keep Io roots ≡ None
   io_free_by roots i e memory None at = at
   io_free_by roots i e memory (Some j) at =
       let is = io_lacks roots j at in
       let same : i ≡ j = same_Some i j (sym e ∙ is.0) in
       absurd (memory (ap (λ (x : Item). window_space x.class) same ∙ is.1))
 
-  io_free : (roots : List ℕ) (i : Item) → lacking_on q s roots ≡ Some i → (window_space i.class ≡ Io → ⊥) → space_lack q s Io roots ≡ None
-  io_free roots i e memory = io_free_by roots i e memory (space_lack q s Io roots) refl
+  io_free : (roots : List ℕ) (i : Item) → lacking_on q s keep roots ≡ Some i → (window_space i.class ≡ Io → ⊥) → space_lack q s keep Io roots ≡ None
+  io_free roots i e memory = io_free_by roots i e memory (space_lack q s keep Io roots) refl
 
 module _ (q : Request) (s : System) where
-  space_alone : (roots : List ℕ) → space_lack (io_alone q) s Io roots ≡ space_lack q s Io roots
+  abbrev alone : Kept
+  alone = as_it_stands (io_alone q) s
+
+  abbrev all : Kept
+  all = as_it_stands q s
+
+  space_alone : (roots : List ℕ) → space_lack (io_alone q) s alone Io roots ≡ space_lack q s all Io roots
   space_alone [] = refl
-  space_alone (root ∷ roots) = ap (λ p. first_lack p None) (placing_alone q s root)
+  space_alone (root ∷ roots) = ap (λ p. first_lack p None) (placing_alone q s alone all (standing_alike q s) root)
 
   -- the same of all lists
-  pub alone_free : space_lack (io_alone q) s Io q.roots ≡ None → space_lack q s Io q.roots ≡ None
+  pub alone_free : space_lack (io_alone q) s alone Io q.roots ≡ None → space_lack q s all Io q.roots ≡ None
   alone_free none = sym (space_alone q.roots) ∙ none
 
-  pub alone_placed : lacking (io_alone q) s ≡ None → space_lack q s Io q.roots ≡ None
-  alone_placed none = alone_free (io_has (io_alone q) s q.roots none)
+  pub alone_placed : lacking (io_alone q) s alone ≡ None → space_lack q s all Io q.roots ≡ None
+  alone_placed none = alone_free (io_has (io_alone q) s alone q.roots none)
 
-  pub alone_memory : (i : Item) → lacking (io_alone q) s ≡ Some i → (window_space i.class ≡ Io → ⊥) → space_lack q s Io q.roots ≡ None
-  alone_memory i e memory = alone_free (io_free (io_alone q) s q.roots i e memory)
+  pub alone_memory : (i : Item) → lacking (io_alone q) s alone ≡ Some i → (window_space i.class ≡ Io → ⊥) → space_lack q s all Io q.roots ≡ None
+  alone_memory i e memory = alone_free (io_free (io_alone q) s alone q.roots i e memory)
 
-  pub alone_lacks : (i : Item) → lacking (io_alone q) s ≡ Some i → window_space i.class ≡ Io → lacking q s ≡ Some i
-  alone_lacks i e io = (io_lacks q s q.roots i (sym (space_alone q.roots) ∙ io_is (io_alone q) s q.roots i e io)).0
+  pub alone_lacks : (i : Item) → lacking (io_alone q) s alone ≡ Some i → window_space i.class ≡ Io → lacking q s all ≡ Some i
+  alone_lacks i e io = (io_lacks q s all q.roots i (sym (space_alone q.roots) ∙ io_is (io_alone q) s alone q.roots i e io)).0
 
 -- a new window of I/O is as large by all lists
 pub large_by_all : (q : Request) (s : System) (k : ℕ) → IsTooLarge (io_alone q) s IoWindow k → IsTooLarge q s IoWindow k
@@ -109,8 +117,8 @@ large_by_all q s k is = record {
 
 -- the first that can't be placed in the lists of I/O alone
 abbrev pub IsAlone : Request → System → Unplaced → Type 0
-IsAlone q s (unplaced.Lacks x) = lacking (io_alone q) s ≡ Some (candidate_value s x)
-IsAlone q s (unplaced.TooLarge class k) = IsFirstWindowTooLarge (io_alone q) s (kind_value class) k
+IsAlone q s (unplaced.Lacks x) = lacking (io_alone q) s (as_it_stands (io_alone q) s) ≡ Some (candidate_value s x)
+IsAlone q s (unplaced.TooLarge class k) = IsFirstWindowTooLarge (io_alone q) s (as_it_stands (io_alone q) s) (kind_value class) k
 
 pub class_io : (c : WindowKind) → same_class c IoWindow ≡ true → c ≡ IoWindow
 class_io c is = sym (same_class_is c IoWindow is)
@@ -124,12 +132,12 @@ no_io : (c : WindowKind) → window_space c ≡ Memory → window_space c ≡ Io
 no_io c memory io = let both : Io ≡ Memory = sym io ∙ memory in cc
 
 -- where it isn't of I/O, nothing of I/O lacks a place
-pub alone_room : (q : Request) (s : System) (u : Unplaced) → IsAlone q s u → window_space (kind_value (unplaced_class u)) ≡ Memory → space_lack q s Io q.roots ≡ None
+pub alone_room : (q : Request) (s : System) (u : Unplaced) → IsAlone q s u → window_space (kind_value (unplaced_class u)) ≡ Memory → space_lack q s (as_it_stands q s) Io q.roots ≡ None
 alone_room q s (unplaced.Lacks x) is memory = alone_memory q s (candidate_value s x) is (no_io (kind_value x.class) memory)
 alone_room q s (unplaced.TooLarge class k) is memory = alone_free q s (is.io memory)
 
 -- and where it is, it is what has no place
-pub alone_fault : (a : Admission) (q : Request) (u : Unplaced) (f : SettleFault) → IsAlone q (system_in a) u → kind_value (unplaced_class u) ≡ IoWindow → IsSettleFaultOf (system_in a) u f → IsLack a q (refused.Fault f)
+pub alone_fault : (a : Admission) (q : Request) (u : Unplaced) (f : SettleFault) → IsAlone q (system_in a) u → kind_value (unplaced_class u) ≡ IoWindow → IsSettleFaultOf (system_in a) u f → IsLack a q (as_it_stands q (system_in a)) (refused.Fault f)
 alone_fault a q (unplaced.Lacks x) fault.BadLists is io of = absurd of
 alone_fault a q (unplaced.Lacks x) (fault.Assumed slot reg) is io of = absurd of
 alone_fault a q (unplaced.Lacks x) (fault.TooLarge class slot) is io of = absurd of
@@ -148,7 +156,7 @@ alone_fault a q (unplaced.TooLarge class k) (fault.TooLarge name slot) is io of 
     )
 
 -- a new window of I/O is too large
-pub alone_large : (a : Admission) (q : Request) (e : Refused SettleFault) → IsLargeInIo a (io_alone q) e → IsLack a q e
+pub alone_large : (a : Admission) (q : Request) (e : Refused SettleFault) → IsLargeInIo a (io_alone q) e → IsLack a q (as_it_stands q (system_in a)) e
 alone_large a q refused.Memory is = tt
 alone_large a q (refused.Fault fault.BadLists) is = absurd is
 alone_large a q (refused.Fault (fault.Assumed slot reg)) is = absurd is
@@ -173,9 +181,9 @@ large_in_io a q w (fault.Fixed slot reg) is of = absurd of
 large_in_io a q w (fault.TooLarge name slot) is of = (ap kind_value of.0 ∙ is.0, record { function = w.function; is = of.1; large = is.1 })
 
 -- whatever leaves what stays by the lists of I/O alone
-pub is_alone : (q : Request) (s : System) (left : Left) → IsLeaving (io_alone q) q.roots s (io_alone q).lists left → (u : Unplaced) → IsUnplacedOff q.roots s (io_alone q).lists left (refused.Fault u) → IsAlone q s u
-is_alone q s left leaving (unplaced.Lacks x) is = is (io_alone q) leaving
-is_alone q s left leaving (unplaced.TooLarge class k) is = is (io_alone q) leaving
+pub is_alone : (q : Request) (s : System) (left : Left) → IsLeaving (io_alone q) (as_it_stands (io_alone q) s) q.roots s (io_alone q).lists left → (u : Unplaced) → IsUnplacedOff q.roots s (io_alone q).lists left (refused.Fault u) → IsAlone q s u
+is_alone q s left leaving (unplaced.Lacks x) is = is (io_alone q) (as_it_stands (io_alone q) s) leaving
+is_alone q s left leaving (unplaced.TooLarge class k) is = is (io_alone q) (as_it_stands (io_alone q) s) leaving
 
 pub empty_if : {X : Type 0} (xs : List X) → (length xs == 0) ≡ true → xs ≡ []
 empty_if [] is = refl

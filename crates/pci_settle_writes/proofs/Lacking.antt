@@ -10,12 +10,14 @@ use Rattle.pci_spec.specs.Slot.{Slot}
 use Rattle.pci_spec.specs.Header.{layout, bar_count, rom_place}
 use Rattle.pci_spec.specs.Decoded.{Range}
 use Rattle.pci_spec.specs.System.{System, Function, Space, Io, Memory, IsFunction, IsSystem, is_bridge, has_part, register_of}
-use Rattle.settle_spec.specs.FirstPlace.{first_place}
 use Rattle.settle_spec.specs.Lists.{Request}
-use Rattle.settle_spec.specs.Items.{Item, Placing, AllPlaced, Lacks, and_placed, place_next, place_all, taken_by}
-use Rattle.settle_spec.specs.Places.{placed_of, space_items, taken_at, ranges_of_item, placing_within, placing_on, first_lack, lacking_on, lacking}
+use Rattle.settle_spec.specs.Items.{Item, Placing, AllPlaced, Lacks, and_placed, place_next, taken_by}
+use Rattle.settle_spec.specs.Growth.{place_each}
+use Rattle.settle_spec.specs.Places.{placed_of, first_lack}
+use Rattle.settle_spec.specs.Kept.{Kept}
+use Rattle.settle_spec.specs.Keeping.Places.{space_items, taken_at, place_of_item, placing_within, placing_on, lacking_on, lacking}
 use Rattle.settle_spec.specs.Writes.{Settling, NoRoom, or_lack}
-use Rattle.settle_spec.proofs.Buses.{of_space}
+use Rattle.settle_laws.proofs.Keeping.Buses.{of_space, placing_step}
 use Rattle.pci_spec.proofs.Members.{in_head, in_tail}
 use Rattle.pci_base.specs.WindowKinds.{kind_value}
 use Rattle.pci_function.specs.declared.record.Record.{Record}
@@ -41,45 +43,42 @@ lacks_next : (i j : Item) (o : Option ℕ) (items : List Item) (rest : ℕ → P
 lacks_next i j None items rest of e = let same : i ≡ j = cc in subst (λ x. Contains (i ∷ items) x) same (in_head i items)
 lacks_next i j (Some a) items rest of e = lacks_if i j a items (rest a) (of a) e
 
-lacks_in : (ranges : Item → List Range) (taken : List Range) (items : List Item) (j : Item) → place_all ranges taken items ≡ Lacks j → Contains items j
-lacks_in ranges taken [] j e = absurd (let no : ⊥ = cc in no)
-lacks_in ranges taken (i ∷ items) j e =
-    lacks_next i j (first_place (ranges i) taken i.extent) items (λ a. place_all ranges (taken_by i a ∷ taken) items)
-    (λ a. lacks_in ranges (taken_by i a ∷ taken) items j) e
+lacks_in : (find : Item → List Range → Option ℕ) (taken : List Range) (items : List Item) (j : Item) → place_each find taken items ≡ Lacks j → Contains items j
+lacks_in find taken [] j e = absurd (let no : ⊥ = cc in no)
+lacks_in find taken (i ∷ items) j e =
+    lacks_next i j (find i taken) items (λ a. place_each find (taken_by i a ∷ taken) items)
+    (λ a. lacks_in find (taken_by i a ∷ taken) items j) e
 
 -- an item of a bus in a space
-pub record IsItem (q : Request) (s : System) (i : Item) : Type 0 where
+pub record IsItem (q : Request) (s : System) (keep : Kept) (i : Item) : Type 0 where
   pub space : Space
   pub bus : ℕ
-  pub has : Contains (space_items q s space bus) i
-
-placing_step : (q : Request) (s : System) (space : Space) (bus : ℕ)
-    → placing_on q s space bus ≡ place_all (ranges_of_item q s (λ over. placed_of (placing_within q s space 255 over))) (taken_at q s space bus) (space_items q s space bus)
-unfolding placing_within
-placing_step q s space bus = refl
+  pub has : Contains (space_items q s keep space bus) i
 
 pub first_cases : (p : Placing) (other : Option Item) (i : Item) → first_lack p other ≡ Some i → (p ≡ Lacks i) ⊎ (other ≡ Some i)
 first_cases (AllPlaced placed) other i e = inr e
 first_cases (Lacks j) other i e = inl cc
 
-module _ (q : Request) (s : System) where
-  pub space_has : (space : Space) (bus : ℕ) (i : Item) → placing_on q s space bus ≡ Lacks i → Contains (space_items q s space bus) i
-  space_has space bus i e = lacks_in (ranges_of_item q s (λ over. placed_of (placing_within q s space 255 over))) (taken_at q s space bus) (space_items q s space bus) i (sym (placing_step q s space bus) ∙ e)
+module _ (q : Request) (s : System) (keep : Kept) where
+  pub space_has : (space : Space) (bus : ℕ) (i : Item) → placing_on q s keep space bus ≡ Lacks i → Contains (space_items q s keep space bus) i
+  space_has space bus i e =
+      lacks_in (place_of_item q s keep (λ over. placed_of (placing_within q s keep space 255 over))) (taken_at q s keep space bus) (space_items q s keep space bus) i
+      (sym (placing_step q s keep space 255 bus) ∙ e)
 
-  on_bus : (space : Space) (bus : ℕ) (i : Item) → placing_on q s space bus ≡ Lacks i → IsItem q s i
+  on_bus : (space : Space) (bus : ℕ) (i : Item) → placing_on q s keep space bus ≡ Lacks i → IsItem q s keep i
   on_bus space bus i e = record { space = space; bus = bus; has = space_has space bus i e }
 
-  on_roots : (roots : List ℕ) (i : Item) → lacking_on q s roots ≡ Some i → IsItem q s i
+  on_roots : (roots : List ℕ) (i : Item) → lacking_on q s keep roots ≡ Some i → IsItem q s keep i
   on_roots [] i e = absurd (let no : ⊥ = cc in no)
-  on_roots (root ∷ roots) i e = elim (first_cases (placing_on q s Io root) (first_lack (placing_on q s Memory root) None) i e) [
+  on_roots (root ∷ roots) i e = elim (first_cases (placing_on q s keep Io root) (first_lack (placing_on q s keep Memory root) None) i e) [
     | inl io ↦ on_bus Io root i io
-    | inr rest ↦ elim (first_cases (placing_on q s Memory root) None i rest) [
+    | inr rest ↦ elim (first_cases (placing_on q s keep Memory root) None i rest) [
       | inl memory ↦ on_bus Memory root i memory
       | inr none ↦ absurd (let no : ⊥ = cc in no)
     ]
   ]
 
-  lack_is_item : (i : Item) → lacking q s ≡ Some i → IsItem q s i
+  lack_is_item : (i : Item) → lacking q s keep ≡ Some i → IsItem q s keep i
   lack_is_item i e = on_roots q.roots i e
 
 -- ---- it is of a function, and one of its parts
@@ -114,11 +113,11 @@ module _ (s : System) (system : IsSystem s) (x : Candidate) where
   part_by parts.Rom there = tt
   part_by parts.Window there = tt
 
-  pub lack_named : (q : Request) → lacking q s ≡ Some (candidate_value s x) → (x.item.function < length s) × IsPlacesPart x.item.part
-  lack_named q e =
-      let item = lack_is_item q s (candidate_value s x) e in
-      let listed = (of_space q s item.space item.bus (candidate_value s x) item.has).listed in
-      let real = real_in q s item.space item.bus (candidate_value s x) item.has in
+  pub lack_named : (q : Request) (keep : Kept) → lacking q s keep ≡ Some (candidate_value s x) → (x.item.function < length s) × IsPlacesPart x.item.part
+  lack_named q keep e =
+      let item = lack_is_item q s keep (candidate_value s x) e in
+      let listed = (of_space q s keep item.space item.bus (candidate_value s x) item.has).listed in
+      let real = real_in q s keep item.space item.bus (candidate_value s x) item.has in
       (within_by s system x.item.function listed, part_by x.item.part real.there)
 
 -- ---- how it is named

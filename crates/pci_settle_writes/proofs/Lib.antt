@@ -9,6 +9,7 @@ pub mod Lacking
 pub mod IoFirst
 pub mod Endings
 pub mod Refusals
+pub mod Outcomes
 pub mod HeldTables
 pub mod Firsts
 pub mod FixedParts

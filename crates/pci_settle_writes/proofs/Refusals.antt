@@ -7,12 +7,13 @@ use Rattle.std.proofs.lemmas.Option.{none-some, same_Some}
 use Rattle.pci_spec.specs.Machine.{Write}
 use Rattle.pci_spec.specs.Slot.{same_slot}
 use Rattle.pci_spec.specs.System.{System, IsSystem, Io, Memory, window_space}
-use Rattle.settle_spec.specs.Lists.{Lists, Request, are_bad_lists}
+use Rattle.settle_spec.specs.Lists.{Lists, Request}
 use Rattle.settle_spec.specs.Parts.{FunctionPart, system_parts}
 use Rattle.settle_spec.specs.Stands.{is_fixed_part, stands}
-use Rattle.settle_spec.specs.Items.{stays}
-use Rattle.settle_spec.specs.Places.{lacking}
-use Rattle.settle_spec.specs.Writes.{Settled, or_lack, fixed_without, fixed_write, settle_writes}
+use Rattle.settle_spec.specs.Writes.{Settled, or_lack, fixed_without, fixed_write}
+use Rattle.settle_spec.specs.Kept.{Kept, as_it_stands}
+use Rattle.settle_spec.specs.Keeping.Places.{lacking}
+use Rattle.settle_spec.specs.Keeping.Writes.{settle_writes}
 use Rattle.pci_base.specs.declared.memory.Refused.{Refused}
 use Rattle.pci_base.specs.declared.memory.Refused.TheVariants as refused
 use Rattle.pci_base.specs.WindowKinds.{kind_value}
@@ -30,14 +31,14 @@ use Rattle.pci_settle_writes.specs.declared.lack.SettleFault.{SettleFault}
 use Rattle.pci_settle_writes.specs.declared.lack.SettleFault.TheVariants as fault
 use Rattle.pci_settle_writes.specs.Lacks.{IsOfSystem, IsSettleFaultOf, too_large}
 use Rattle.pci_settle_writes.specs.Fixed.{fixed_part, fixed_register}
-use Rattle.pci_settle_writes.specs.Endings.{then_writes, after_lists, AreFixedKept, IsStayKnown, IsTooLargeAsked, IsLack, IsLackOff, IsEndedBy, IsRefusal, HasNoAssumed}
+use Rattle.pci_settle_writes.specs.Endings.{then_writes, after_lists, AreFixedKept, IsStayKnown, IsTooLargeAsked, IsLack, IsLackOff, IsEndedBy}
 use Rattle.pci_settle_writes.proofs.Lacking.{lack_named}
-use Rattle.pci_settle_writes.proofs.Endings.{ends_fine, ends_unstanding, ends_unstaying, ends_written, ends_settled, past_fixed}
+use Rattle.pci_settle_writes.proofs.Endings.{ends_unstanding, ends_unstaying, ends_written, ends_settled, past_fixed}
 
 module _ (roots : List ℕ) (l : Lists) (left : Left) where
   pub named : (s : System) → IsSystem s → CanBeLeft roots s l left → (u : Unplaced) → IsUnplacedOff roots s l left (refused.Fault u) → IsOfSystem s u
-  named s system can (unplaced.Lacks x) is = lack_named s system x can.request (is can.request can.leaving)
-  named s system can (unplaced.TooLarge class k) is = (is can.request can.leaving).large.within
+  named s system can (unplaced.Lacks x) is = lack_named s system x can.request can.keep (is can.request can.keep can.leaving)
+  named s system can (unplaced.TooLarge class k) is = (is can.request can.keep can.leaving).large.within
 
 -- what isn't found
 pub none_found : {X Z : Type 0} (f : X → Z) (o : Option X) → None ≡ option_map f o → o ≡ None
@@ -53,20 +54,20 @@ module _ (a : Admission) (l : Lists) (left : Left) where
       → IsLackOff a l left (refused.Fault f)
   lack_of_fault (unplaced.Lacks x) fault.BadLists is of = absurd of
   lack_of_fault (unplaced.Lacks x) (fault.Assumed slot reg) is of = absurd of
-  lack_of_fault (unplaced.Lacks x) (fault.NoRoom lack) is of = λ q leaving other. ap (λ o. or_lack o other) (is q leaving) ∙ of other
+  lack_of_fault (unplaced.Lacks x) (fault.NoRoom lack) is of = λ q keep leaving other. ap (λ o. or_lack o other) (is q keep leaving) ∙ of other
   lack_of_fault (unplaced.Lacks x) (fault.TooLarge class slot) is of = absurd of
   lack_of_fault (unplaced.Lacks x) (fault.Fixed slot reg) is of = absurd of
   lack_of_fault (unplaced.TooLarge class k) (fault.Fixed slot reg) is of = absurd of
   lack_of_fault (unplaced.TooLarge class k) fault.BadLists is of = absurd of
   lack_of_fault (unplaced.TooLarge class k) (fault.Assumed slot reg) is of = absurd of
   lack_of_fault (unplaced.TooLarge class k) (fault.NoRoom lack) is of = absurd of
-  lack_of_fault (unplaced.TooLarge class k) (fault.TooLarge name slot) is of = λ q leaving. (
+  lack_of_fault (unplaced.TooLarge class k) (fault.TooLarge name slot) is of = λ q keep leaving. (
     record {
       function = k;
       is = of.1;
-      large = subst (λ c. IsTooLarge q (system_in a) (kind_value c) k) (sym of.0) (is q leaving).large;
+      large = subst (λ c. IsTooLarge q (system_in a) (kind_value c) k) (sym of.0) (is q keep leaving).large;
     },
-    λ memory. (is q leaving).io (subst (λ c. window_space (kind_value c) ≡ Memory) of.0 memory),
+    λ memory. (is q keep leaving).io (subst (λ c. window_space (kind_value c) ≡ Memory) of.0 memory),
   )
 
 module _ (a : Admission) (q : Request) where
@@ -76,7 +77,7 @@ module _ (a : Admission) (q : Request) where
 
   -- a bridge whose new window is too large, and nothing is fixed only where nothing lacks a place in I/O
   pub asked_too_large : (w : TooLarge) (f : SettleFault) → IsTooLarge q (system_in a) (kind_value w.class) w.function → HasWholeWindow (system_in a)
-      → IsSettleFaultOf (system_in a) (too_large w) f → (q.fixed ≡ [] → space_lack q (system_in a) Io q.roots ≡ None) → IsTooLargeAsked a q (refused.Fault f)
+      → IsSettleFaultOf (system_in a) (too_large w) f → (q.fixed ≡ [] → space_lack q (system_in a) (as_it_stands q (system_in a)) Io q.roots ≡ None) → IsTooLargeAsked a q (refused.Fault f)
   asked_too_large w fault.BadLists large whole of room = absurd of
   asked_too_large w (fault.Assumed slot reg) large whole of room = absurd of
   asked_too_large w (fault.NoRoom lack) large whole of room = absurd of
@@ -91,7 +92,7 @@ module _ (a : Admission) (q : Request) where
   )
 
   -- where nothing is fixed, what lacks a place in I/O is named
-  pub asked_io : HasWholeWindow (system_in a) → q.fixed ≡ [] → (e : Refused SettleFault) → IsLack a q e → IsTooLargeAsked a q e
+  pub asked_io : HasWholeWindow (system_in a) → q.fixed ≡ [] → (e : Refused SettleFault) → IsLack a q (as_it_stands q (system_in a)) e → IsTooLargeAsked a q e
   asked_io whole none refused.Memory is = tt
   asked_io whole none (refused.Fault fault.BadLists) is = absurd is
   asked_io whole none (refused.Fault (fault.Assumed slot reg)) is = absurd is
@@ -100,13 +101,13 @@ module _ (a : Admission) (q : Request) where
   asked_io whole none (refused.Fault (fault.Fixed slot reg)) is = absurd is
 
   -- the same, where something may stay and each fixed part stands
-  pub ended_too_large : q.anew ≡ false → None ≡ option_map fixed_part (fixed_without (stands q (system_in a)) q (system_in a)) → (e : Refused SettleFault) → IsTooLargeAsked a q e → IsEndedBy a q e
+  pub ended_too_large : q.anew ≡ false → None ≡ option_map fixed_part (fixed_without (stands q (system_in a)) q (system_in a)) → (e : Refused SettleFault) → IsTooLargeAsked a q e → IsEndedBy a q (as_it_stands q (system_in a)) e
   ended_too_large left stand refused.Memory is = tt
   ended_too_large left stand (refused.Fault fault.BadLists) is = absurd is
   ended_too_large left stand (refused.Fault (fault.Assumed slot reg)) is = absurd is
   ended_too_large left stand (refused.Fault (fault.NoRoom lack)) is =
-      past_fixed q (system_in a) (none_found fixed_part (fixed_without (stands q (system_in a)) q (system_in a)) stand) (no_fixed (stays q (system_in a)) is.0)
-      ∙ is.1 (then_writes q (settle_writes q (system_in a)))
+      past_fixed q (system_in a) (as_it_stands q (system_in a)) (none_found fixed_part (fixed_without (stands q (system_in a)) q (system_in a)) stand) (no_fixed (as_it_stands q (system_in a)).stays is.0)
+      ∙ is.1 (then_writes q (settle_writes q (system_in a) (as_it_stands q (system_in a))))
   ended_too_large left stand (refused.Fault (fault.TooLarge class slot)) is = record {
     at = is.0;
     stand = none_found fixed_part (fixed_without (stands q (system_in a)) q (system_in a)) stand;
@@ -122,60 +123,52 @@ module _ (a : Admission) (q : Request) where
       unknown (inr narrow) = narrow is.1.0
   ended_too_large left stand (refused.Fault (fault.Fixed slot reg)) is = absurd is
 
+module _ (a : Admission) (q : Request) (keep : Kept) where
   -- something fixed is in the way
-  ended_fixed : (f : SettleFault) (r : FunctionPart) → Some f ≡ Some (fixed_part r) → IsEndedBy a q (refused.Fault (fixed_part r)) → IsEndedBy a q (refused.Fault f)
-  ended_fixed f r e is = subst (λ x. IsEndedBy a q (refused.Fault x)) (sym (same_Some f (fixed_part r) e)) is
+  ended_fixed : (f : SettleFault) (r : FunctionPart) → Some f ≡ Some (fixed_part r) → IsEndedBy a q keep (refused.Fault (fixed_part r)) → IsEndedBy a q keep (refused.Fault f)
+  ended_fixed f r e is = subst (λ x. IsEndedBy a q keep (refused.Fault x)) (sym (same_Some f (fixed_part r) e)) is
 
-  unstanding_by : (f : SettleFault) (o : Option FunctionPart) → fixed_without (stands q (system_in a)) q (system_in a) ≡ o → Some f ≡ option_map fixed_part o → IsEndedBy a q (refused.Fault f)
+  unstanding_by : (f : SettleFault) (o : Option FunctionPart) → fixed_without (stands q (system_in a)) q (system_in a) ≡ o → Some f ≡ option_map fixed_part o → IsEndedBy a q keep (refused.Fault f)
   unstanding_by f None at e = absurd (none-some f (sym e))
-  unstanding_by f (Some r) at e = ended_fixed f r e (ends_unstanding q (system_in a) r at)
+  unstanding_by f (Some r) at e = ended_fixed f r e (ends_unstanding q (system_in a) keep r at)
 
-  pub unstanding : (f : SettleFault) → Some f ≡ option_map fixed_part (fixed_without (stands q (system_in a)) q (system_in a)) → IsEndedBy a q (refused.Fault f)
+  pub unstanding : (f : SettleFault) → Some f ≡ option_map fixed_part (fixed_without (stands q (system_in a)) q (system_in a)) → IsEndedBy a q keep (refused.Fault f)
   unstanding f e = unstanding_by f (fixed_without (stands q (system_in a)) q (system_in a)) refl e
 
   module _ (stand : None ≡ option_map fixed_part (fixed_without (stands q (system_in a)) q (system_in a))) where
-    unstaying_by : (f : SettleFault) (o : Option FunctionPart) → fixed_without (stays q (system_in a)) q (system_in a) ≡ o → Some f ≡ option_map fixed_part o → IsEndedBy a q (refused.Fault f)
+    unstaying_by : (f : SettleFault) (o : Option FunctionPart) → fixed_without keep.stays q (system_in a) ≡ o → Some f ≡ option_map fixed_part o → IsEndedBy a q keep (refused.Fault f)
     unstaying_by f None at e = absurd (none-some f (sym e))
-    unstaying_by f (Some r) at e = ended_fixed f r e (ends_unstaying q (system_in a) (none_found fixed_part (fixed_without (stands q (system_in a)) q (system_in a)) stand) r at)
+    unstaying_by f (Some r) at e = ended_fixed f r e (ends_unstaying q (system_in a) keep (none_found fixed_part (fixed_without (stands q (system_in a)) q (system_in a)) stand) r at)
 
-    pub unstaying : (f : SettleFault) → Some f ≡ option_map fixed_part (fixed_without (stays q (system_in a)) q (system_in a)) → IsEndedBy a q (refused.Fault f)
-    unstaying f e = unstaying_by f (fixed_without (stays q (system_in a)) q (system_in a)) refl e
+    pub unstaying : (f : SettleFault) → Some f ≡ option_map fixed_part (fixed_without keep.stays q (system_in a)) → IsEndedBy a q keep (refused.Fault f)
+    unstaying f e = unstaying_by f (fixed_without keep.stays q (system_in a)) refl e
 
-    pub fixed_kept : None ≡ option_map fixed_part (fixed_without (stays q (system_in a)) q (system_in a)) → AreFixedKept q (system_in a)
+    pub fixed_kept : None ≡ option_map fixed_part (fixed_without keep.stays q (system_in a)) → AreFixedKept q (system_in a) keep
     fixed_kept stay = record {
       stand = none_found fixed_part (fixed_without (stands q (system_in a)) q (system_in a)) stand;
-      stay = none_found fixed_part (fixed_without (stays q (system_in a)) q (system_in a)) stay;
+      stay = none_found fixed_part (fixed_without keep.stays q (system_in a)) stay;
     }
 
   -- nothing fixed is
-  module _ (kept : AreFixedKept q (system_in a)) where
-    pub ended_of_lack : (e : Refused SettleFault) → IsLack a q e → IsEndedBy a q e
+  module _ (kept : AreFixedKept q (system_in a) keep) where
+    pub ended_of_lack : (e : Refused SettleFault) → IsLack a q keep e → IsEndedBy a q keep e
     ended_of_lack refused.Memory is = tt
     ended_of_lack (refused.Fault fault.BadLists) is = absurd is
     ended_of_lack (refused.Fault (fault.Assumed slot reg)) is = absurd is
     ended_of_lack (refused.Fault (fault.NoRoom lack)) is =
-        past_fixed q (system_in a) kept.stand kept.stay ∙ is (then_writes q (settle_writes q (system_in a)))
+        past_fixed q (system_in a) keep kept.stand kept.stay ∙ is (then_writes q (settle_writes q (system_in a) keep))
     ended_of_lack (refused.Fault (fault.TooLarge class slot)) is =
         record { at = is.0; stand = kept.stand; stay = λ known. kept.stay; io = λ either. is.1 }
     ended_of_lack (refused.Fault (fault.Fixed slot reg)) is = absurd is
 
-    module _ (room : lacking q (system_in a) ≡ None) (writes : List Write) (are : writes ≡ settle_writes q (system_in a)) where
-      written_by : (f : SettleFault) (o : Option Write) → fixed_write q writes ≡ o → Some f ≡ option_map fixed_register o → IsEndedBy a q (refused.Fault f)
+    module _ (room : lacking q (system_in a) keep ≡ None) (writes : List Write) (are : writes ≡ settle_writes q (system_in a) keep) where
+      written_by : (f : SettleFault) (o : Option Write) → fixed_write q writes ≡ o → Some f ≡ option_map fixed_register o → IsEndedBy a q keep (refused.Fault f)
       written_by f None at e = absurd (none-some f (sym e))
-      written_by f (Some w) at e = subst (λ x. IsEndedBy a q (refused.Fault x)) (sym (same_Some f (fixed_register w) e))
-          (ends_written q (system_in a) kept.stand kept.stay room writes are w at)
+      written_by f (Some w) at e = subst (λ x. IsEndedBy a q keep (refused.Fault x)) (sym (same_Some f (fixed_register w) e))
+          (ends_written q (system_in a) keep kept.stand kept.stay room writes are w at)
 
-      pub written : (f : SettleFault) → Some f ≡ option_map fixed_register (fixed_write q writes) → IsEndedBy a q (refused.Fault f)
+      pub written : (f : SettleFault) → Some f ≡ option_map fixed_register (fixed_write q writes) → IsEndedBy a q keep (refused.Fault f)
       written f e = written_by f (fixed_write q writes) refl e
 
-      pub ended_settled : None ≡ option_map fixed_register (fixed_write q writes) → after_lists q (system_in a) ≡ Settled writes
-      ended_settled none = ends_settled q (system_in a) kept.stand kept.stay room writes are (none_found fixed_register (fixed_write q writes) none)
-
-  -- where the lists are fine, and no read back is assumed
-  pub refusal_of_ended : are_bad_lists q.roots q.lists ≡ false → HasNoAssumed a → (e : Refused SettleFault) → IsEndedBy a q e → IsRefusal a q e
-  refusal_of_ended fine sized refused.Memory is = tt
-  refusal_of_ended fine sized (refused.Fault fault.BadLists) is = absurd is
-  refusal_of_ended fine sized (refused.Fault (fault.Assumed slot reg)) is = absurd is
-  refusal_of_ended fine sized (refused.Fault (fault.NoRoom lack)) is = (sized, ends_fine q (system_in a) fine ∙ is)
-  refusal_of_ended fine sized (refused.Fault (fault.TooLarge class slot)) is = (fine, sized, is)
-  refusal_of_ended fine sized (refused.Fault (fault.Fixed slot reg)) is = (sized, ends_fine q (system_in a) fine ∙ is)
+      pub ended_settled : None ≡ option_map fixed_register (fixed_write q writes) → after_lists q (system_in a) keep ≡ Settled writes
+      ended_settled none = ends_settled q (system_in a) keep kept.stand kept.stay room writes are (none_found fixed_register (fixed_write q writes) none)

@@ -1,21 +1,26 @@
 -- The settled dump, block by block.
 use Rattle.std.proofs.Common.{◌≡◌, ℕ, ◌+◌, ◌<◌, List, [], ◌∷◌, ◌++◌, Bool, true, false, ◌&&◌, map, length, get_or, arith, refl, sym, ◌∙◌, ap, subst, Option, None, Some}
-use Rattle.std.specs.Option.{is_some}
+use Rattle.std.specs.Option.{is_some, option_map}
 use Rattle.std.specs.List.{AllZip, slice_get}
 use Rattle.std.proofs.lemmas.List.{get_or_default}
 use Rattle.std.proofs.lemmas.List.Elements.{All-contains}
 use Rattle.pci_spec.specs.Slot.{Slot}
 use Rattle.pci_spec.specs.Text.{Block}
-use Rattle.pci_spec.specs.Window.{WindowKind, IoWindow, MemoryWindow, PrefetchWindow}
 use Rattle.pci_spec.specs.System.{System, Function, Space, Io, Memory, Window, IsFunction, IsSystem, function_of, is_bridge}
 use Rattle.pci_spec.specs.Bus.{secondary, IsNested}
 use Rattle.pci_spec.specs.Decoded.{HasRecords}
 use Rattle.pci_spec.specs.Decoded as decoded
 use Rattle.pci_spec.proofs.Pairing.{same_length}
 use Rattle.settle_spec.specs.Lists.{Request, Lists}
-use Rattle.settle_spec.specs.Items.{stays}
-use Rattle.settle_spec.specs.Registers.{settled_function}
-use Rattle.settle_spec.specs.LiveLaws.{is_live, has_live_behind}
+use Rattle.settle_spec.specs.Parts.{addresses}
+use Rattle.settle_spec.specs.Stands.{window_part}
+use Rattle.settle_spec.specs.LiveLaws.{has_live_behind}
+use Rattle.settle_spec.specs.Kept.{Kept as Keeping, range_or}
+use Rattle.settle_spec.specs.Keeping.Registers.{settled_function}
+use Rattle.stand_laws.proofs.Standing.{stands_by_itself}
+use Rattle.pci_base.specs.declared.range.Range.{Range}
+use Rattle.pci_base.specs.declared.window_kind.ByKind.{ByKind}
+use Rattle.pci_base.specs.Ranges.{decoded_range_of}
 use Rattle.pci_function.specs.declared.record.Bridge.{Bridge}
 use Rattle.pci_function.specs.declared.record.Record.{Record}
 use Rattle.pci_function.specs.Values.{record_value}
@@ -29,66 +34,66 @@ use Rattle.pci_settle.specs.declared.own.Terms.{Terms}
 use Rattle.pci_settle.specs.Own.{AreTerms}
 use Rattle.pci_settled.specs.declared.places.Places.{Places}
 use Rattle.pci_settled.specs.Places.{place_range_in}
-use Rattle.pci_settling.specs.Images.{is_window_kept, HasPlacesAndWindows}
-use Rattle.pci_settling.specs.Live.{IsRequestOfTerms, HasAllPlaces, AreLiveBuses, is_live_on, is_live_behind}
+use Rattle.pci_settling.specs.Images.{HasPlacesAndWindows}
+use Rattle.pci_settling.specs.Live.{is_live, IsRequestOfTerms, HasAllPlaces, AreLiveBuses, is_live_on, is_live_behind}
 use Rattle.pci_settling.specs.declared.settled.Behind.{Behind}
 use Rattle.pci_settling.specs.Settled.{IsCommandTold}
 use Rattle.pci_plan.proofs.PlannedDumps.{ArePlanned, next_planned, function_here}
 use Rattle.pci_settle.specs.declared.kept.Kept.{Kept}
 use Rattle.pci_settle.specs.Kept.{kept_of}
+use Rattle.pci_settle.specs.Tables.{untold}
+use Rattle.pci_settle.specs.Keeping.{told_of_kind}
 use Rattle.pci_settle_writes.specs.Requests.{IsAskedOf}
-use Rattle.pci_settle_writes.specs.Told.{IsTableOf}
+use Rattle.pci_settle_writes.specs.Told.{TellsKeeping}
+use Rattle.pci_settle_writes.proofs.StagedWrites.{kept_window}
 
 -- ---- what is asked for
 
 pub request_by : (q : Request) (roots : List ℕ) (l : Lists) (t : Terms) → IsAskedOf q roots l → AreTerms l t → IsRequestOfTerms q roots t
 request_by q roots l t asked terms = record { rooted = asked.roots_are; terms = subst (λ x. AreTerms x t) (sym asked.lists_are) terms }
 
--- ---- what stays
-
-kept_window : (t : Kept) (c : WindowKind) → is_window_kept t.windows c ≡ kept_of t (Window c)
-kept_window t IoWindow = refl
-kept_window t MemoryWindow = refl
-kept_window t PrefetchWindow = refl
-
 -- ---- what is told of a function
 
-module _ (roots : List ℕ) (s : System) (system : IsSystem s) (nested : IsNested roots s) (q : Request) (t : Terms) (table : List Places) (of : IsRequestOfTerms q roots t) (placed : HasAllPlaces q s table) where
+module _ (roots : List ℕ) (s : System) (system : IsSystem s) (nested : IsNested roots s) (q : Request) (keep : Keeping) (t : Terms) (table : List Places) (of : IsRequestOfTerms q roots t) (placed : HasAllPlaces q s keep table) where
   -- the table of buses with live functions says whether the bus behind a bridge is one
-  behind_now : (space : Space) (live : List Bool) → AreLiveBuses roots s space t table live → (f : Function) (r : Record) → IsRecordOf s f r → is_live_behind live r.bridge ≡ has_live_behind s (is_live q s space) f
+  behind_now : (space : Space) (live : List Bool) → AreLiveBuses roots s space t table live → (f : Function) (r : Record) → IsRecordOf s f r → is_live_behind live r.bridge ≡ has_live_behind s (is_live q s keep space) f
   behind_now space live has f r is = by r.bridge refl
     where
-      by : (o : Option Bridge) → r.bridge ≡ o → is_live_behind live o ≡ has_live_behind s (is_live q s space) f
+      by : (o : Option Bridge) → r.bridge ≡ o → is_live_behind live o ≡ has_live_behind s (is_live q s keep space) f
       by None e =
           let off : is_bridge f ≡ false = sym (same_bridge r f is.value) ∙ ap is_some e in
-          sym (ap (λ b. b && is_live_on q s space (secondary f)) off)
+          sym (ap (λ b. b && is_live_on q s keep space (secondary f)) off)
       by (Some b) e =
           let bridge : is_bridge f ≡ true = sym (same_bridge r f is.value) ∙ ap is_some e in
           let to : b.secondary ≡ secondary f = ap (λ (x : decoded.Bridge). x.secondary) (same_bridge_of r f b is.value e) in
           let small = (All-contains IsFunction s f system.each is.listed).image.bytes 0x19 in
-          ap (λ n. get_or live n false) to ∙ has q (secondary f) of placed small
-          ∙ sym (ap (λ x. x && is_live_on q s space (secondary f)) bridge)
+          ap (λ n. get_or live n false) to ∙ has q keep (secondary f) of placed small
+          ∙ sym (ap (λ x. x && is_live_on q s keep space (secondary f)) bridge)
 
   nested_for : IsNested q.roots s
   nested_for = subst (λ xs. IsNested xs s) (sym of.rooted) nested
 
-  -- the places of a function are right, and the windows that stay
-  pub placed_here : (staying : List Kept) → IsTableOf s (stays q s) staying → (k : ℕ) (f : Function) (r : Record) → slice_get s k ≡ Some f → IsRecordOf s f r
-      → (d p : Places) → p ≡ get_or table k d → (n h : Kept) → h ≡ get_or staying k n → HasPlacesAndWindows q s f r p h.windows
-  placed_here staying stay k f r at is d p p_is n h h_is = record {
+  -- the places of a function are right, and the windows that stay, and to what they grow
+  pub placed_here : (grown : List (ByKind (Option Range))) (staying : List Kept) → TellsKeeping q s keep grown staying → (k : ℕ) (f : Function) (r : Record) → slice_get s k ≡ Some f → IsRecordOf s f r
+      → (d p : Places) → p ≡ get_or table k d → (n h : Kept) → h ≡ get_or staying k n → (g : ByKind (Option Range)) → g ≡ get_or grown k untold → HasPlacesAndWindows q s keep f r p h.windows g
+  placed_here grown staying tells k f r at is d p p_is n h h_is g g_is = record {
     places = record {
       system = system;
       nested = nested_for;
       is = is;
       each = λ part there. ap (λ x. place_range_in x part) p_is ∙ placed.each k f d part at there;
     };
-    windows = λ c there. kept_window h c ∙ ap (λ x. kept_of x (Window c)) h_is ∙ stay.each k f n (Window c) at there;
+    windows = λ c there. kept_window h c ∙ ap (λ x. kept_of x (Window c)) h_is ∙ tells.stays_are.each k f n (Window c) at there;
+    opened = λ c there stays. (stands_by_itself q s nested_for).only (window_part c f) is.listed (tells.standing (window_part c f) stays);
+    ranges = λ c there stays.
+        tells.ranges_are k f (Window c) at there stays
+        ∙ ap (λ x. range_or (option_map decoded_range_of (told_of_kind x c)) (addresses (window_part c f))) (sym g_is);
   }
 
   -- and so is what tells its Command
   pub told_here : (io memory : List Bool) → AreLiveBuses roots s Io t table io → AreLiveBuses roots s Memory t table memory → (aboves : List Above) → AreAboves s aboves
       → (f : Function) (r : Record) → IsRecordOf s f r → (bus : ℕ) → bus ≡ f.slot.bus → (none : Above) (here : Behind) → here.io ≡ is_live_behind io r.bridge → here.memory ≡ is_live_behind memory r.bridge
-      → IsCommandTold q s f (get_or aboves bus none) t here
+      → IsCommandTold q s keep f (get_or aboves bus none) t here
   told_here io memory io_is memory_is aboves are f r is bus on_bus none here here_io_is here_memory_is = record {
     over = subst (λ n. IsAbove s f.slot.bus (get_or aboves n none)) (sym on_bus) (are f none is.listed);
     terms = of.terms;
@@ -99,14 +104,14 @@ module _ (roots : List ℕ) (s : System) (system : IsSystem s) (nested : IsNeste
 -- ---- block by block
 
 -- what is asked for, with the places that parts get and what stays by these tables
-pub record IsAskedBy (q : Request) (roots : List ℕ) (s : System) (l : Lists) (table : List Places) (staying : List Kept) : Type 0 where
+pub record IsAskedBy (q : Request) (keep : Keeping) (roots : List ℕ) (s : System) (l : Lists) (table : List Places) (grown : List (ByKind (Option Range))) (staying : List Kept) : Type 0 where
   pub asked : IsAskedOf q roots l
-  pub places : HasAllPlaces q s table
-  pub stay : IsTableOf s (stays q s) staying
+  pub places : HasAllPlaces q s keep table
+  pub tells : TellsKeeping q s keep grown staying
 
 -- a function is as it is to be, whatever is asked for
-abbrev pub IsSettledOf : List ℕ → System → Lists → List Places → List Kept → Function → Function → Type 0
-IsSettledOf roots s l table staying f g = (q : Request) → IsAskedBy q roots s l table staying → g ≡ settled_function q s f
+abbrev pub IsSettledOf : List ℕ → System → Lists → List Places → List (ByKind (Option Range)) → List Kept → Function → Function → Type 0
+IsSettledOf roots s l table grown staying f g = (q : Request) (keep : Keeping) → IsAskedBy q keep roots s l table grown staying → g ≡ settled_function q s keep f
 
 -- the function of a block, with its record and its read backs
 pub record IsHere (a : Admission) (k : ℕ) (b : Block) (r : Record) : Type 0 where
@@ -126,21 +131,21 @@ block_here a records is has k b r inside b_at r_at =
 abbrev made : Slot → List ℕ → List ℕ → Function
 made slot image probe = record { slot = slot; image = image; probe = probe }
 
-module _ (a : Admission) (is : IsAdmitted a) (l : Lists) (table : List Places) (staying : List Kept) where
+module _ (a : Admission) (is : IsAdmitted a) (l : Lists) (table : List Places) (grown : List (ByKind (Option Range))) (staying : List Kept) where
   abbrev P : Function → Function → Type 0
-  P f g = IsSettledOf a.roots (system_in a) l table staying f g
+  P f g = IsSettledOf a.roots (system_in a) l table grown staying f g
 
   pub next_settled : (k : ℕ) (found : List Block) → ArePlanned P a.dump a.probe k found → (b new : Block) (r : Record) (here : IsHere a k b r) → k < length a.dump → b ≡ get_or a.dump k b
-      → new.slot ≡ b.slot → new.title ≡ b.title → ((q : Request) → IsAskedBy q a.roots (system_in a) l table staying → new.image ≡ (settled_function q (system_in a) (function_of b here.probe)).image) → ArePlanned P a.dump a.probe (k + 1) (found ++ new ∷ [])
+      → new.slot ≡ b.slot → new.title ≡ b.title → ((q : Request) (keep : Keeping) → IsAskedBy q keep a.roots (system_in a) l table grown staying → new.image ≡ (settled_function q (system_in a) keep (function_of b here.probe)).image) → ArePlanned P a.dump a.probe (k + 1) (found ++ new ∷ [])
   next_settled k found so_far b new r here inside b_at slot title image =
       let p = here.probe in
-      let planned : P (function_of b p) (function_of new p) = λ q asked. ap (λ (x : Slot). made x new.image p.image) slot ∙ ap (λ (x : List ℕ). made b.slot x p.image) (image q asked) in
+      let planned : P (function_of b p) (function_of new p) = λ q keep asked. ap (λ (x : Slot). made x new.image p.image) slot ∙ ap (λ (x : List ℕ). made b.slot x p.image) (image q keep asked) in
       next_planned P a.dump a.probe is.slots k found so_far new b p inside b_at here.beside slot title planned
 
 -- once all are there, they and the probe are the settled system
-module _ (roots : List ℕ) (s : System) (l : Lists) (table : List Places) (staying : List Kept) (q : Request) (asked : IsAskedBy q roots s l table staying) where
-  pub all_settled : (xs ys : List Function) → AllZip (IsSettledOf roots s l table staying) xs ys → ys ≡ map (settled_function q s) xs
+module _ (roots : List ℕ) (s : System) (l : Lists) (table : List Places) (grown : List (ByKind (Option Range))) (staying : List Kept) (q : Request) (keep : Keeping) (asked : IsAskedBy q keep roots s l table grown staying) where
+  pub all_settled : (xs ys : List Function) → AllZip (IsSettledOf roots s l table grown staying) xs ys → ys ≡ map (settled_function q s keep) xs
   all_settled [] [] all = refl
   all_settled [] (y ∷ ys) all = absurd all
   all_settled (x ∷ xs) [] all = absurd all
-  all_settled (x ∷ xs) (y ∷ ys) all = ap (λ z. z ∷ ys) (all.0 q asked) ∙ ap (λ zs. settled_function q s x ∷ zs) (all_settled xs ys all.1)
+  all_settled (x ∷ xs) (y ∷ ys) all = ap (λ z. z ∷ ys) (all.0 q keep asked) ∙ ap (λ zs. settled_function q s keep x ∷ zs) (all_settled xs ys all.1)

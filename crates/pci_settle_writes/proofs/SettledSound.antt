@@ -5,26 +5,47 @@ use Rattle.std.proofs.lemmas.List.Elements.{All-contains, All-map}
 use Rattle.pci_spec.specs.Slot.{Slot}
 use Rattle.pci_spec.specs.Text.{Block}
 use Rattle.pci_spec.specs.Sound.{IsSound}
-use Rattle.pci_spec.specs.System.{system_of}
+use Rattle.pci_spec.specs.System.{System, system_of}
 use Rattle.pci_spec.specs.Machine.{Write, system_after}
-use Rattle.settle_spec.specs.Lists.{Lists, RootRange, are_bad_lists}
-use Rattle.settle_spec.specs.Places.{lacking}
-use Rattle.settle_spec.specs.Writes.{closings, settle_writes}
-use Rattle.settle_laws.specs.PlacesLaws.{CanSettle}
-use Rattle.settle_laws.proofs.Moves.{new_profile}
-use Rattle.settle_laws.proofs.SettledSound.{settled_sound}
-use Rattle.settle_laws.proofs.Stopping.{stop_sound, writes_settle}
+use Rattle.settle_spec.specs.Lists.{Lists, RootRange, Request, are_bad_lists}
+use Rattle.settle_spec.specs.Writes.{Settling, BadLists, Fixed, NoRoom, Settled}
+use Rattle.settle_spec.specs.Kept.{Kept, as_it_stands, growing}
+use Rattle.settle_spec.specs.Keeping.Places.{lacking}
+use Rattle.settle_spec.specs.Keeping.Writes.{closings, settle_writes}
+use Rattle.settle_spec.specs.Growing.{kept_by}
+use Rattle.settle_laws.specs.KeptLaws.{IsSoundKept}
+use Rattle.settle_laws.specs.Keeping.PlacesLaws.{CanSettle}
+use Rattle.settle_laws.proofs.Keeping.SettledSound.{settled_sound}
+use Rattle.settle_laws.proofs.Keeping.Stopping.{stop_sound, writes_settle}
+use Rattle.settle_laws.proofs.SoundKept.{standing_is_sound, growing_is_sound}
 use Rattle.pci_base.specs.declared.range.RootRange.{RootRange as CodeRange}
 use Rattle.pci_settle.specs.Lists.{root_range_value}
 use Rattle.pci_tree.specs.Admission.{Admission, IsAdmitted}
 use Rattle.pci_place.specs.Above.{system_in}
 use Rattle.pci_settle_writes.specs.Requests.{request}
 use Rattle.pci_settle_writes.specs.Dumps.{IsSettledDump}
+use Rattle.pci_settle_writes.specs.Endings.{after_lists, kept_after}
+
+-- whichever of two is kept
+kept_sound : (q : Request) (s : System) (o : Settling) → IsSoundKept q s (growing q s) → IsSoundKept q s (as_it_stands q s) → IsSoundKept q s (kept_by o (growing q s) (as_it_stands q s))
+kept_sound q s (Settled writes) own other = own
+kept_sound q s BadLists own other = other
+kept_sound q s (Fixed slot register) own other = other
+kept_sound q s (NoRoom class slot register size alignment) own other = other
 
 module _ (a : Admission) (admitted : IsAdmitted a) (l : Lists) (fine : are_bad_lists a.roots l ≡ false) (ranges : List CodeRange) (are_ranges : l.prefetch ≡ map root_range_value ranges)
     (small : All (λ r. r.range.last < 2 ^ 64) ranges) (fixed : List Slot) (anew : Bool)
-    (room : lacking (request a.roots l fixed anew) (system_in a) ≡ None) where
-  can : CanSettle (request a.roots l fixed anew) (system_in a)
+    (room : lacking (request a.roots l fixed anew) (system_in a) (kept_after (request a.roots l fixed anew) (system_in a)) ≡ None) where
+  abbrev q : Request
+  q = request a.roots l fixed anew
+
+  abbrev s : System
+  s = system_in a
+
+  abbrev keep : Kept
+  keep = kept_after q s
+
+  can : CanSettle q s keep
   can = record {
     lists = fine;
     high = λ r inside. All-contains (λ (x : RootRange). x.range.last < 2 ^ 64) (map root_range_value ranges) r
@@ -33,25 +54,23 @@ module _ (a : Admission) (admitted : IsAdmitted a) (l : Lists) (fine : are_bad_l
     nested = admitted.nested;
     profile = admitted.profile;
     chains = admitted.chains;
+    sound = kept_sound q s (after_lists q s (growing q s))
+        (growing_is_sound q s admitted.system admitted.nested admitted.profile)
+        (standing_is_sound q s admitted.system admitted.nested admitted.profile);
     room = room;
   }
 
-  module _ (dump : List Block) (is : IsSettledDump (request a.roots l fixed anew) a dump) where
+  module _ (dump : List Block) (is : IsSettledDump q keep a dump) where
     pub dump_sound : IsSound a.roots (system_of dump a.probe)
-    dump_sound = subst (IsSound a.roots) (sym is.system) (settled_sound (request a.roots l fixed anew) (system_in a) can)
+    dump_sound = subst (IsSound a.roots) (sym is.system) (settled_sound q s keep can)
 
-    module _ (writes : List Write) (are : writes ≡ settle_writes (request a.roots l fixed anew) (system_in a)) where
-      pub writes_reach : system_after (system_in a) writes ≡ system_of dump a.probe
-      writes_reach =
-          let q = request a.roots l fixed anew in
-          let s = system_in a in
-          ap (system_after s) are ∙ writes_settle q s can.system can.profile (new_profile q s can) ∙ sym is.system
+    module _ (writes : List Write) (are : writes ≡ settle_writes q s keep) where
+      pub writes_reach : system_after s writes ≡ system_of dump a.probe
+      writes_reach = ap (system_after s) are ∙ writes_settle q s keep can ∙ sym is.system
 
-      pub writes_stop : (count : ℕ) → count ≡ length (closings (request a.roots l fixed anew) (system_in a) (system_in a)) → (k : ℕ)
-          → (count ≤ k) ⊎ IsSound a.roots (system_in a) → IsSound a.roots (system_after (system_in a) (take k writes))
+      pub writes_stop : (count : ℕ) → count ≡ length (closings q s keep s) → (k : ℕ)
+          → (count ≤ k) ⊎ IsSound a.roots s → IsSound a.roots (system_after s (take k writes))
       writes_stop count counted k from =
-          let q = request a.roots l fixed anew in
-          let s = system_in a in
           subst (λ ws. IsSound a.roots (system_after s (take k ws))) (sym are)
-          (stop_sound q s can k
+          (stop_sound q s keep can k
           (subst (λ n. (n ≤ k) ⊎ IsSound a.roots s) counted from))

@@ -1,23 +1,31 @@
 -- The writes of settling, a function at a time.
-use Rattle.std.proofs.Common.{◌≡◌, ℕ, suc, ◌+◌, ◌-◌, ◌%◌, ◌<◌, ◌≤◌, List, [], ◌∷◌, ◌++◌, Bool, true, false, cond, map, length, get_or, take, drop, inl, inr, arith, refl, sym, ◌∙◌, ap}
+use Rattle.std.proofs.Common.{◌≡◌, ℕ, suc, ◌+◌, ◌-◌, ◌%◌, ◌<◌, ◌≤◌, List, [], ◌∷◌, ◌++◌, Bool, true, false, cond, map, length, get_or, take, drop, inl, inr, arith, refl, sym, ◌∙◌, ap, Some}
 use Rattle.std.specs.Bool.{◌==◌, nat_le, if◌then◌else◌}
 use Rattle.std.specs.List.{flat_map, list_all}
 use Rattle.std.proofs.lemmas.Bool.{cases_Bool, and_parts, leb-true}
 use Rattle.std.proofs.lemmas.List.{append_assoc, append-nil, get_or-map, get_or_default, length-map, take_more}
 use Rattle.std.proofs.lemmas.List.Elements.{All-contains, Contains-get_or}
+use Rattle.std.proofs.lemmas.Option.{slice_get-get_or}
 use Rattle.std.proofs.Math.Seq.{drop-cons}
 use Rattle.pci_spec.specs.Number.{number_at, IsImage}
 use Rattle.pci_spec.specs.Header.{command, layout, registers_by}
 use Rattle.pci_spec.specs.Slot.{Slot}
 use Rattle.pci_spec.specs.Text.{Block}
 use Rattle.pci_spec.specs.Machine.{Write}
-use Rattle.pci_spec.specs.System.{System, Function, IsFunction, is_bridge}
+use Rattle.pci_spec.specs.Window.{WindowKind, IoWindow, MemoryWindow, PrefetchWindow}
+use Rattle.pci_spec.specs.System.{System, Function, Window, IsFunction, is_bridge}
 use Rattle.plan_spec.specs.Planning.PlanWrites.{register_write}
 use Rattle.plan_spec.proofs.Planning.Behind.{all_gives}
 use Rattle.settle_spec.specs.Lists.{Request}
-use Rattle.settle_spec.specs.Registers.{settled_function}
-use Rattle.settle_spec.specs.Writes.{closing_command, closed_function, closing_of, setting_of, closing_from, setting_from, opening_from, closings}
-use Rattle.settle_laws.proofs.ClosedImages.{closed_low, closed_device, closed_command}
+use Rattle.settle_spec.specs.Stands.{window_part}
+use Rattle.settle_spec.specs.Kept.{Kept}
+use Rattle.settle_spec.specs.Keeping.Registers.{settled_function}
+use Rattle.settle_spec.specs.Keeping.Writes.{closing_command, closed_function, closing_of, setting_of, closing_from, setting_from, opening_from, closings}
+use Rattle.settle_laws.proofs.Keeping.ClosedImages.{closed_low, closed_device, closed_command}
+use Rattle.pci_base.specs.declared.window_kind.ByKind.{ByKind}
+use Rattle.pci_settle.specs.declared.kept.Kept.{Kept as CodeKept}
+use Rattle.pci_settle.specs.Kept.{kept_of, nothing_kept}
+use Rattle.pci_settling.specs.Images.{is_window_kept}
 use Rattle.settle_laws.proofs.Images.{same_number}
 use Rattle.pci_plan.proofs.WriteLists.{flat_map_more}
 use Rattle.pci_settle_writes.specs.declared.writes.Span.{Span}
@@ -38,6 +46,11 @@ same_at g h xs ys same k x y within x_at y_at =
 
 -- ---- of a function
 
+pub kept_window : (t : CodeKept) (c : WindowKind) → is_window_kept t.windows c ≡ kept_of t (Window c)
+kept_window t IoWindow = refl
+kept_window t MemoryWindow = refl
+kept_window t PrefetchWindow = refl
+
 -- writes of registers that are the same before, too
 same_writes : (f : Function) (old closed new : List ℕ) (rs : List (ℕ × ℕ)) → ((o w : ℕ) → 6 ≤ o → number_at closed o w ≡ number_at old o w) → list_all (λ r. nat_le 6 r.0) rs ≡ true
     → flat_map (register_write (images_change f.slot old new)) rs ≡ flat_map (register_write (images_change f.slot closed new)) rs
@@ -48,55 +61,55 @@ same_writes f old closed new ((o, w) ∷ rs) same past =
     ap (λ n. (if number_at new o w == n then [] else write ∷ []) ++ flat_map (register_write (images_change f.slot old new)) rs) (sym (same o w (leb-true 6 o parts.0)))
     ∙ ap (λ ws. (if number_at new o w == number_at closed o w then [] else write ∷ []) ++ ws) (same_writes f old closed new rs same parts.1)
 
-module _ (q : Request) (s : System) (f : Function) (is : IsImage f.image) where
+module _ (q : Request) (s : System) (keep : Kept) (f : Function) (is : IsImage f.image) (kept : ByKind Bool) (told : is_bridge f ≡ true → (c : WindowKind) → is_window_kept kept c ≡ keep.stays (window_part c f)) where
   abbrev value : ℕ
-  value = closing_command q s f
+  value = closing_command q s keep f
 
   abbrev closed : List ℕ
-  closed = (closed_function q s f).image
+  closed = (closed_function q s keep f).image
 
   abbrev new : List ℕ
-  new = (settled_function q s f).image
+  new = (settled_function q s keep f).image
 
-  pub closing_same : closing_at f.slot f.image f.probe new value ≡ closing_from q s f
+  pub closing_same : closing_at f.slot f.image f.probe new kept value ≡ closing_from q s keep f
   closing_same =
-      let windows = flat_map (register_write (images_change f.slot f.image (closed_image_by f.image f.probe new value))) bridge_closing in
+      let windows = flat_map (register_write (images_change f.slot f.image (closed_image_by f.image f.probe new kept value))) bridge_closing in
       let alone = command_at f.slot (command f.image) value in
-      let write = register_write (closing_of q s f) in
+      let write = register_write (closing_of q s keep f) in
       let all : Bool → List Write = λ b. flat_map write ((0x04, 2) ∷ (if b then (0x1c, 2) ∷ (0x30, 4) ∷ (0x20, 4) ∷ (0x24, 4) ∷ (0x2c, 4) ∷ [] else [])) in
       elim (cases_Bool (is_bridge f)) [
         | inl bridge ↦
             ap (λ b. cond b windows alone) bridge
-            ∙ ap (λ x. flat_map (register_write (images_change f.slot f.image x)) bridge_closing) (image_by q s f bridge)
+            ∙ ap (λ x. flat_map (register_write (images_change f.slot f.image x)) bridge_closing) (image_by q s keep f bridge kept (told bridge))
             ∙ sym (ap all bridge)
         | inr device ↦
             ap (λ b. cond b windows alone) device
-            ∙ ap (command_at f.slot (command f.image)) (sym (closed_command q s f is))
+            ∙ ap (command_at f.slot (command f.image)) (sym (closed_command q s keep f is))
             ∙ sym (append-nil (write (0x04, 2)))
             ∙ sym (ap all device)
       ]
 
-  pub setting_same : setting_at f.slot f.image f.probe new value ≡ setting_from q s f
+  pub setting_same : setting_at f.slot f.image f.probe new kept value ≡ setting_from q s keep f
   setting_same =
       let by : List ℕ → List Write = λ x. flat_map (register_write (images_change f.slot x new)) (bridge_settings x new) in
       let alone : Bool → List Write = λ b. flat_map (register_write (images_change f.slot f.image new)) (registers_by b) in
-      let all : Bool → List Write = λ b. flat_map (register_write (setting_of q s f)) (if b then bridge_settings closed new else registers_by (layout closed == 1)) in
-      let same : (layout closed == 1) ≡ is_bridge f = ap (λ n. n % 128 == 1) (closed_low q s f 0x0e (omega arith) (omega arith)) in
+      let all : Bool → List Write = λ b. flat_map (register_write (setting_of q s keep f)) (if b then bridge_settings closed new else registers_by (layout closed == 1)) in
+      let same : (layout closed == 1) ≡ is_bridge f = ap (λ n. n % 128 == 1) (closed_low q s keep f 0x0e (omega arith) (omega arith)) in
       elim (cases_Bool (is_bridge f)) [
         | inl bridge ↦
-            ap (λ b. cond b (by (closed_image_by f.image f.probe new value)) (alone (is_bridge f))) bridge
-            ∙ ap by (image_by q s f bridge)
+            ap (λ b. cond b (by (closed_image_by f.image f.probe new kept value)) (alone (is_bridge f))) bridge
+            ∙ ap by (image_by q s keep f bridge kept (told bridge))
             ∙ sym (ap all (same ∙ bridge))
         | inr device ↦
-            ap (λ b. cond b (by (closed_image_by f.image f.probe new value)) (alone (is_bridge f))) device
+            ap (λ b. cond b (by (closed_image_by f.image f.probe new kept value)) (alone (is_bridge f))) device
             ∙ ap alone device
             ∙ same_writes f f.image closed new (registers_by false)
-            (λ o w past. same_number closed f.image o w (λ j less. closed_device q s f device (o + j) (inr (omega (arith, past))))) refl
-            ∙ sym (ap all (same ∙ device) ∙ ap (λ b. flat_map (register_write (setting_of q s f)) (registers_by b)) (same ∙ device))
+            (λ o w past. same_number closed f.image o w (λ j less. closed_device q s keep f device (o + j) (inr (omega (arith, past))))) refl
+            ∙ sym (ap all (same ∙ device) ∙ ap (λ b. flat_map (register_write (setting_of q s keep f)) (registers_by b)) (same ∙ device))
       ]
 
-  pub opening_same : command_at f.slot value (command new) ≡ opening_from q s f
-  opening_same = ap (λ n. command_at f.slot n (command new)) (sym (closed_command q s f is))
+  pub opening_same : command_at f.slot value (command new) ≡ opening_from q s keep f
+  opening_same = ap (λ n. command_at f.slot n (command new)) (sym (closed_command q s keep f is))
 
 -- each register of a table is a lawful access
 pub access_at : (spans : List Span) → list_all is_access_of spans ≡ true → (i : ℕ) (d : Span) → i < length spans → is_access_of (get_or spans i d) ≡ true
@@ -123,13 +136,20 @@ function_of_place s k within =
     let none : Function = record { slot = record { bus = 0; device = 0; function = 0 }; image = []; probe = [] } in
     record { f = get_or s k none; within = within; is = get_or_default s k none (get_or s k none) within }
 
-module _ (q : Request) (s : System) (st : Stages) (are : AreStages q s st) where
+module _ (q : Request) (s : System) (keep : Kept) (st : Stages) (are : AreStages q s keep st) where
   image_at : (k : ℕ) (at : IsAt s k) → IsImage at.f.image
   image_at k at = (All-contains IsFunction s at.f are.system.each (k, at.within, sym at.is)).image
 
-  module _ (k : ℕ) (at : IsAt s k) (b p n : Block) (c : ℕ) (b_at : b ≡ get_or st.start.now k b) (p_at : p ≡ get_or st.probe.now k p) (n_at : n ≡ get_or st.settled.now k n) (c_at : c ≡ get_or st.commands.now k c) where
+  module _ (k : ℕ) (at : IsAt s k) (b p n : Block) (c : ℕ) (b_at : b ≡ get_or st.start.now k b) (p_at : p ≡ get_or st.probe.now k p) (n_at : n ≡ get_or st.settled.now k n) (c_at : c ≡ get_or st.commands.now k c)
+      (d h : CodeKept) (h_at : h ≡ get_or st.staying.now k d) where
     abbrev f : Function
     f = at.f
+
+    -- the windows that stay
+    kept_is : is_bridge f ≡ true → (c : WindowKind) → is_window_kept h.windows c ≡ keep.stays (window_part c f)
+    kept_is bridge c =
+        kept_window h c ∙ ap (λ x. kept_of x (Window c)) h_at
+        ∙ are.staying.each k f d (Window c) (slice_get-get_or s k f at.within ∙ ap Some (sym at.is)) bridge
 
     slot_is : b.slot ≡ f.slot
     slot_is = same_at (λ (x : Block). x.slot) (λ (x : Function). x.slot) st.start.now s are.start.slots k b f at.within b_at at.is
@@ -140,25 +160,26 @@ module _ (q : Request) (s : System) (st : Stages) (are : AreStages q s st) where
     probe_is : p.image ≡ f.probe
     probe_is = same_at (λ (x : Block). x.image) (λ (x : Function). x.probe) st.probe.now s are.probe k p f at.within p_at at.is
 
-    settled_is : n.image ≡ (settled_function q s f).image
-    settled_is = same_at (λ (x : Block). x.image) (λ (x : Function). (settled_function q s x).image) st.settled.now s are.settled k n f at.within n_at at.is
+    settled_is : n.image ≡ (settled_function q s keep f).image
+    settled_is = same_at (λ (x : Block). x.image) (λ (x : Function). (settled_function q s keep x).image) st.settled.now s are.settled k n f at.within n_at at.is
 
-    value_is : c ≡ closing_command q s f
-    value_is = c_at ∙ ap (λ cs. get_or cs k c) are.commands ∙ get_or-map (closing_command q s) s k f c at.within ∙ ap (closing_command q s) (sym at.is)
+    value_is : c ≡ closing_command q s keep f
+    value_is = c_at ∙ ap (λ cs. get_or cs k c) are.commands ∙ get_or-map (closing_command q s keep) s k f c at.within ∙ ap (closing_command q s keep) (sym at.is)
 
-    by_parts : (make : Slot → List ℕ → List ℕ → List ℕ → ℕ → List Write) → make b.slot b.image p.image n.image c ≡ make f.slot f.image f.probe (settled_function q s f).image (closing_command q s f)
+    by_parts : (make : Slot → List ℕ → List ℕ → List ℕ → ByKind Bool → ℕ → List Write)
+        → make b.slot b.image p.image n.image h.windows c ≡ make f.slot f.image f.probe (settled_function q s keep f).image h.windows (closing_command q s keep f)
     by_parts make =
-        ap (λ x. make x b.image p.image n.image c) slot_is ∙ ap (λ x. make f.slot x p.image n.image c) image_is ∙ ap (λ x. make f.slot f.image x n.image c) probe_is
-        ∙ ap (λ x. make f.slot f.image f.probe x c) settled_is ∙ ap (make f.slot f.image f.probe (settled_function q s f).image) value_is
+        ap (λ x. make x b.image p.image n.image h.windows c) slot_is ∙ ap (λ x. make f.slot x p.image n.image h.windows c) image_is ∙ ap (λ x. make f.slot f.image x n.image h.windows c) probe_is
+        ∙ ap (λ x. make f.slot f.image f.probe x h.windows c) settled_is ∙ ap (make f.slot f.image f.probe (settled_function q s keep f).image h.windows) value_is
 
-    closing_is : closing_at b.slot b.image p.image n.image c ≡ closing_from q s f
-    closing_is = by_parts closing_at ∙ closing_same q s f (image_at k at)
+    closing_is : closing_at b.slot b.image p.image n.image h.windows c ≡ closing_from q s keep f
+    closing_is = by_parts closing_at ∙ closing_same q s keep f (image_at k at) h.windows kept_is
 
-    setting_is : setting_at b.slot b.image p.image n.image c ≡ setting_from q s f
-    setting_is = by_parts setting_at ∙ setting_same q s f (image_at k at)
+    setting_is : setting_at b.slot b.image p.image n.image h.windows c ≡ setting_from q s keep f
+    setting_is = by_parts setting_at ∙ setting_same q s keep f (image_at k at) h.windows kept_is
 
-    opening_is : command_at b.slot c (command n.image) ≡ opening_from q s f
-    opening_is = by_parts (λ slot old probe new value. command_at slot value (command new)) ∙ opening_same q s f (image_at k at)
+    opening_is : command_at b.slot c (command n.image) ≡ opening_from q s keep f
+    opening_is = by_parts (λ slot old probe new kept value. command_at slot value (command new)) ∙ opening_same q s keep f (image_at k at) h.windows kept_is
 
   -- ---- one function more
 
@@ -169,11 +190,11 @@ module _ (q : Request) (s : System) (st : Stages) (are : AreStages q s st) where
       ∙ ap (λ ws. before ++ ws) (sym (ap (flat_map write) (take_more s k at.f at.within) ∙ flat_map_more write (take k s) (get_or s k at.f)))
 
   -- closing goes on from the end
-  closing_more : (before : List Write) (k : ℕ) (at : IsAt s k) → (before ++ closings q s (drop (suc k) s)) ++ closing_from q s at.f ≡ before ++ closings q s (drop k s)
+  closing_more : (before : List Write) (k : ℕ) (at : IsAt s k) → (before ++ closings q s keep (drop (suc k) s)) ++ closing_from q s keep at.f ≡ before ++ closings q s keep (drop k s)
   closing_more before k at =
-      append_assoc before (closings q s (drop (suc k) s)) (closing_from q s at.f)
-      ∙ ap (λ f. before ++ (closings q s (drop (suc k) s) ++ closing_from q s f)) at.is
-      ∙ ap (λ ws. before ++ ws) (sym (ap (closings q s) (drop-cons s k at.f at.within)))
+      append_assoc before (closings q s keep (drop (suc k) s)) (closing_from q s keep at.f)
+      ∙ ap (λ f. before ++ (closings q s keep (drop (suc k) s) ++ closing_from q s keep f)) at.is
+      ∙ ap (λ ws. before ++ ws) (sym (ap (closings q s keep) (drop-cons s k at.f at.within)))
 
   -- Command of a function once all is closed
   abbrev value_at : ℕ → ℕ
@@ -183,39 +204,39 @@ module _ (q : Request) (s : System) (st : Stages) (are : AreStages q s st) where
   value_is_at k at =
       let within = at.within in
       let l = ap length are.commands in
-      let m = length-map s (closing_command q s) in
+      let m = length-map s (closing_command q s keep) in
       get_or_default st.commands.now k 0 (value_at k) (omega (arith, within, l, m))
 
   pub closing_step : (done : ℕ) → done < length st.start.now → (b p n : Block) → (k : ℕ) → k ≡ length st.start.now - 1 - done → b ≡ get_or st.start.now k b → p ≡ get_or st.probe.now k p → n ≡ get_or st.settled.now k n
-      → (probe new : List ℕ) → probe ≡ p.image → new ≡ n.image → (before so_far all : List Write) → all ≡ so_far ++ closing_at b.slot b.image probe new (value_at k) → so_far ≡ before ++ closings q s (drop (length s - done) s)
-      → all ≡ before ++ closings q s (drop (length s - (done + 1)) s)
-  closing_step done less b p n k k_is b_at p_at n_at probe new probe_at new_at before so_far all all_is so_is =
+      → (d h : CodeKept) → h ≡ get_or st.staying.now k d → (probe new : List ℕ) → probe ≡ p.image → new ≡ n.image → (before so_far all : List Write) → all ≡ so_far ++ closing_at b.slot b.image probe new h.windows (value_at k) → so_far ≡ before ++ closings q s keep (drop (length s - done) s)
+      → all ≡ before ++ closings q s keep (drop (length s - (done + 1)) s)
+  closing_step done less b p n k k_is b_at p_at n_at d h h_at probe new probe_at new_at before so_far all all_is so_is =
       let count = count_of s st.start.now are.start in
       let at : IsAt s k = function_of_place s k (omega (arith, count, less, k_is)) in
       let next : suc k ≡ length s - done = omega (arith, count, less, k_is) in
       let last : k ≡ length s - (done + 1) = omega (arith, count, less, k_is) in
-      all_is ∙ ap (λ ws. ws ++ closing_at b.slot b.image probe new (value_at k)) so_is
-      ∙ ap (λ m. (before ++ closings q s (drop m s)) ++ closing_at b.slot b.image probe new (value_at k)) (sym next)
-      ∙ ap (λ x. (before ++ closings q s (drop (suc k) s)) ++ closing_at b.slot b.image x new (value_at k)) probe_at
-      ∙ ap (λ x. (before ++ closings q s (drop (suc k) s)) ++ closing_at b.slot b.image p.image x (value_at k)) new_at
-      ∙ ap (λ ws. (before ++ closings q s (drop (suc k) s)) ++ ws) (closing_is k at b p n (value_at k) b_at p_at n_at (value_is_at k at))
+      all_is ∙ ap (λ ws. ws ++ closing_at b.slot b.image probe new h.windows (value_at k)) so_is
+      ∙ ap (λ m. (before ++ closings q s keep (drop m s)) ++ closing_at b.slot b.image probe new h.windows (value_at k)) (sym next)
+      ∙ ap (λ x. (before ++ closings q s keep (drop (suc k) s)) ++ closing_at b.slot b.image x new h.windows (value_at k)) probe_at
+      ∙ ap (λ x. (before ++ closings q s keep (drop (suc k) s)) ++ closing_at b.slot b.image p.image x h.windows (value_at k)) new_at
+      ∙ ap (λ ws. (before ++ closings q s keep (drop (suc k) s)) ++ ws) (closing_is k at b p n (value_at k) b_at p_at n_at (value_is_at k at) d h h_at)
       ∙ closing_more before k at
-      ∙ ap (λ m. before ++ closings q s (drop m s)) last
+      ∙ ap (λ m. before ++ closings q s keep (drop m s)) last
 
   place : (k : ℕ) → k < length st.start.now → IsAt s k
   place k less = let count = count_of s st.start.now are.start in function_of_place s k (omega (arith, count, less))
 
   module _ (k : ℕ) (less : k < length st.start.now) (b n : Block) (b_at : b ≡ get_or st.start.now k b) (n_at : n ≡ get_or st.settled.now k n) (before so_far all : List Write) where
-    pub setting_step : (p : Block) → p ≡ get_or st.probe.now k p → (probe : List ℕ) → probe ≡ p.image → all ≡ so_far ++ setting_at b.slot b.image probe n.image (value_at k) → so_far ≡ before ++ flat_map (setting_from q s) (take k s)
-        → all ≡ before ++ flat_map (setting_from q s) (take (k + 1) s)
-    setting_step p p_at probe probe_at all_is so_is =
-        all_is ∙ ap (λ ws. ws ++ setting_at b.slot b.image probe n.image (value_at k)) so_is
-        ∙ ap (λ x. (before ++ flat_map (setting_from q s) (take k s)) ++ setting_at b.slot b.image x n.image (value_at k)) probe_at
-        ∙ ap (λ ws. (before ++ flat_map (setting_from q s) (take k s)) ++ ws) (setting_is k (place k less) b p n (value_at k) b_at p_at n_at (value_is_at k (place k less)))
-        ∙ flat_more (setting_from q s) before k (place k less)
+    pub setting_step : (p : Block) → p ≡ get_or st.probe.now k p → (d h : CodeKept) → h ≡ get_or st.staying.now k d → (probe : List ℕ) → probe ≡ p.image → all ≡ so_far ++ setting_at b.slot b.image probe n.image h.windows (value_at k) → so_far ≡ before ++ flat_map (setting_from q s keep) (take k s)
+        → all ≡ before ++ flat_map (setting_from q s keep) (take (k + 1) s)
+    setting_step p p_at d h h_at probe probe_at all_is so_is =
+        all_is ∙ ap (λ ws. ws ++ setting_at b.slot b.image probe n.image h.windows (value_at k)) so_is
+        ∙ ap (λ x. (before ++ flat_map (setting_from q s keep) (take k s)) ++ setting_at b.slot b.image x n.image h.windows (value_at k)) probe_at
+        ∙ ap (λ ws. (before ++ flat_map (setting_from q s keep) (take k s)) ++ ws) (setting_is k (place k less) b p n (value_at k) b_at p_at n_at (value_is_at k (place k less)) d h h_at)
+        ∙ flat_more (setting_from q s keep) before k (place k less)
 
-    pub opening_step : (slot : Slot) (new : ℕ) → all ≡ so_far ++ command_at slot (value_at k) new → slot ≡ b.slot → new ≡ command n.image → so_far ≡ before ++ flat_map (opening_from q s) (take k s)
-        → all ≡ before ++ flat_map (opening_from q s) (take (k + 1) s)
+    pub opening_step : (slot : Slot) (new : ℕ) → all ≡ so_far ++ command_at slot (value_at k) new → slot ≡ b.slot → new ≡ command n.image → so_far ≡ before ++ flat_map (opening_from q s keep) (take k s)
+        → all ≡ before ++ flat_map (opening_from q s keep) (take (k + 1) s)
     opening_step slot new all_is slot_at new_at so_is =
         let own = length-map st.probe.now (λ (x : Block). x.image) in
         let read = length-map s (λ (x : Function). x.probe) in
@@ -223,8 +244,9 @@ module _ (q : Request) (s : System) (st : Stages) (are : AreStages q s st) where
         let count = count_of s st.start.now are.start in
         let p = get_or st.probe.now k b in
         let p_at = get_or_default st.probe.now k b p (omega (arith, own, read, same, count, less)) in
+        let h = get_or st.staying.now k nothing_kept in
         all_is ∙ ap (λ ws. ws ++ command_at slot (value_at k) new) so_is
-        ∙ ap (λ x. (before ++ flat_map (opening_from q s) (take k s)) ++ command_at x (value_at k) new) slot_at
-        ∙ ap (λ x. (before ++ flat_map (opening_from q s) (take k s)) ++ command_at b.slot (value_at k) x) new_at
-        ∙ ap (λ ws. (before ++ flat_map (opening_from q s) (take k s)) ++ ws) (opening_is k (place k less) b p n (value_at k) b_at p_at n_at (value_is_at k (place k less)))
-        ∙ flat_more (opening_from q s) before k (place k less)
+        ∙ ap (λ x. (before ++ flat_map (opening_from q s keep) (take k s)) ++ command_at x (value_at k) new) slot_at
+        ∙ ap (λ x. (before ++ flat_map (opening_from q s keep) (take k s)) ++ command_at b.slot (value_at k) x) new_at
+        ∙ ap (λ ws. (before ++ flat_map (opening_from q s keep) (take k s)) ++ ws) (opening_is k (place k less) b p n (value_at k) b_at p_at n_at (value_is_at k (place k less)) nothing_kept h refl)
+        ∙ flat_more (opening_from q s keep) before k (place k less)

@@ -5,7 +5,8 @@ use Rattle.pci_spec.specs.Text.{Block}
 use Rattle.pci_spec.specs.System.{System, Function, system_of}
 use Rattle.pci_spec.proofs.Pairing.{same_length, slots-system_of}
 use Rattle.settle_spec.specs.Lists.{Request}
-use Rattle.settle_spec.specs.Registers.{settled_function}
+use Rattle.settle_spec.specs.Kept.{Kept}
+use Rattle.settle_spec.specs.Keeping.Registers.{settled_function}
 use Rattle.pci_tree.specs.Admission.{Admission, IsAdmitted}
 use Rattle.pci_place.specs.Above.{system_in}
 use Rattle.pci_place.proofs.Owned.{map_twice}
@@ -40,13 +41,13 @@ module _ (a : Admission) (is : IsAdmitted a) where
   pub probes_of : map (λ (b : Block). b.image) a.probe ≡ map (λ (f : Function). f.probe) (system_in a)
   probes_of = sym (probes_in a.dump a.probe (same_length a.dump a.probe is.slots))
 
-  module _ (q : Request) (settled : List Block) (to : IsSettledDump q a settled) where
+  module _ (q : Request) (keep : Kept) (settled : List Block) (to : IsSettledDump q keep a settled) where
     -- there are as many blocks
     settled_count : length settled ≡ length a.dump
     settled_count = same_length settled a.dump to.slots
 
-    pub settled_of : AreSettledBlocks q (system_in a) settled
+    pub settled_of : AreSettledBlocks q (system_in a) keep settled
     settled_of =
         sym (images_in settled a.probe (settled_count ∙ same_length a.dump a.probe is.slots))
         ∙ ap (λ (s : System). map (λ (f : Function). f.image) s) to.system
-        ∙ map_twice (λ (f : Function). f.image) (settled_function q (system_in a)) (system_in a)
+        ∙ map_twice (λ (f : Function). f.image) (settled_function q (system_in a) keep) (system_in a)

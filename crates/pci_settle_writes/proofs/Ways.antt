@@ -7,7 +7,8 @@ use Rattle.pci_spec.specs.Bus.{secondary, IsNested}
 use Rattle.plan_spec.specs.Plan.{bridges_above}
 use Rattle.plan_spec.proofs.Planning.AboveBuses.{all_above, all_above_root}
 use Rattle.settle_spec.specs.Lists.{Request}
-use Rattle.settle_spec.specs.Writes.{changes_at, is_shut_itself}
+use Rattle.settle_spec.specs.Kept.{Kept}
+use Rattle.settle_spec.specs.Keeping.Writes.{changes_at, is_shut_itself}
 use Rattle.pci_base.specs.Space.{is_on}
 use Rattle.pci_function.specs.declared.record.Record.{Record}
 use Rattle.pci_place.specs.Records.{IsRecordOf}
@@ -64,12 +65,12 @@ each_class PrefetchWindow = refl
 
 -- ---- the bus behind a bridge
 
-module _ (roots : List ℕ) (q : Request) (s : System) (system : IsSystem s) (nested : IsNested roots s) where
-  pub on_root : (bus : ℕ) → Contains roots bus → IsWay q s bus no_way
+module _ (roots : List ℕ) (q : Request) (s : System) (keep : Kept) (system : IsSystem s) (nested : IsNested roots s) where
+  pub on_root : (bus : ℕ) → Contains roots bus → IsWay q s keep bus no_way
   on_root bus root = record {
     on = λ x. each_space x ∙ sym (all_above_root roots s system nested (λ b. is_space_on b x) bus root);
-    clear = λ x. each_space x ∙ sym (all_above_root roots s system nested (λ b. not (is_shut_itself q s x b)) bus root);
-    same = λ c. each_class c ∙ sym (all_above_root roots s system nested (λ b. not (changes_at q s b (Window c))) bus root);
+    clear = λ x. each_space x ∙ sym (all_above_root roots s system nested (λ b. not (is_shut_itself q s keep x b)) bus root);
+    same = λ c. each_class c ∙ sym (all_above_root roots s system nested (λ b. not (changes_at q s keep b (Window c))) bus root);
   }
 
   one_more : (f : Function) → Contains s f → is_bridge f ≡ true → (test : Function → Bool) (old here all : Bool) → old ≡ list_all test (bridges_above s f.slot.bus) → here ≡ test f → all ≡ (old && here)
@@ -77,12 +78,12 @@ module _ (roots : List ℕ) (q : Request) (s : System) (system : IsSystem s) (ne
   one_more f listed bridge test old here all e_old e_here e_all =
       e_all ∙ ap (λ x. x && here) e_old ∙ ap (λ x. list_all test (bridges_above s f.slot.bus) && x) e_here ∙ sym (all_above roots s system nested test f listed bridge)
 
-  pub behind_bridge : (f : Function) (r : Record) (is : IsRecordOf s f r) → is_bridge f ≡ true → (way new : Way) (shut : BySpace) (same : ByClass) → IsWay q s f.slot.bus way
-      → ((x : Space) → in_space shut x ≡ is_shut_itself q s x f) → ((c : WindowKind) → in_class same c ≡ not (changes_at q s f (Window c)))
+  pub behind_bridge : (f : Function) (r : Record) (is : IsRecordOf s f r) → is_bridge f ≡ true → (way new : Way) (shut : BySpace) (same : ByClass) → IsWay q s keep f.slot.bus way
+      → ((x : Space) → in_space shut x ≡ is_shut_itself q s keep x f) → ((c : WindowKind) → in_class same c ≡ not (changes_at q s keep f (Window c)))
       → ((x : Space) → in_space new.on x ≡ (in_space way.on x && is_on r.command x)) → ((x : Space) → in_space new.clear x ≡ (in_space way.clear x && not (in_space shut x)))
-      → ((c : WindowKind) → in_class new.same c ≡ (in_class way.same c && in_class same c)) → IsWay q s (secondary f) new
+      → ((c : WindowKind) → in_class new.same c ≡ (in_class way.same c && in_class same c)) → IsWay q s keep (secondary f) new
   behind_bridge f r is bridge way new shut same at shut_is same_is on clear stay = record {
     on = λ x. one_more f is.listed bridge (λ b. is_space_on b x) (in_space way.on x) (is_on r.command x) (in_space new.on x) (at.on x) (on_is s f r is x) (on x);
-    clear = λ x. one_more f is.listed bridge (λ b. not (is_shut_itself q s x b)) (in_space way.clear x) (not (in_space shut x)) (in_space new.clear x) (at.clear x) (ap not (shut_is x)) (clear x);
-    same = λ c. one_more f is.listed bridge (λ b. not (changes_at q s b (Window c))) (in_class way.same c) (in_class same c) (in_class new.same c) (at.same c) (same_is c) (stay c);
+    clear = λ x. one_more f is.listed bridge (λ b. not (is_shut_itself q s keep x b)) (in_space way.clear x) (not (in_space shut x)) (in_space new.clear x) (at.clear x) (ap not (shut_is x)) (clear x);
+    same = λ c. one_more f is.listed bridge (λ b. not (changes_at q s keep b (Window c))) (in_class way.same c) (in_class same c) (in_class new.same c) (at.same c) (same_is c) (stay c);
   }

@@ -1,14 +1,17 @@
--- What settling comes to are its writes.
-use Rattle.std.proofs.Common.{◌≡◌, List, [], Bool, true, false, ap, Option, None, Some}
+-- What settling comes to are its writes, beside what is kept in the end.
+use Rattle.std.proofs.Common.{◌≡◌, List, [], Bool, true, false, refl, ◌∙◌, ap, Option, None, Some}
 use Rattle.std.specs.Bool.{if◌then◌else◌}
 use Rattle.pci_spec.specs.Machine.{Write}
 use Rattle.pci_spec.specs.System.{System}
 use Rattle.settle_spec.specs.Lists.{Request, are_bad_lists}
 use Rattle.settle_spec.specs.Parts.{FunctionPart}
 use Rattle.settle_spec.specs.Stands.{stands}
-use Rattle.settle_spec.specs.Items.{Item, stays}
-use Rattle.settle_spec.specs.Places.{lacking}
-use Rattle.settle_spec.specs.Writes.{Settling, BadLists, Fixed, NoRoom, Settled, or_fixed, or_lack, or_write, fixed_without, fixed_write, settle_writes, settle}
+use Rattle.settle_spec.specs.Items.{Item}
+use Rattle.settle_spec.specs.Writes.{Settling, BadLists, Fixed, NoRoom, Settled, or_fixed, or_lack, or_write, fixed_without, fixed_write}
+use Rattle.settle_spec.specs.Kept.{Kept, as_it_stands, growing}
+use Rattle.settle_spec.specs.Keeping.Places.{lacking}
+use Rattle.settle_spec.specs.Keeping.Writes.{settle_writes, settle_keeping}
+use Rattle.settle_spec.specs.Growing.{or_else, settle_growing, kept_by, finally_kept}
 use Rattle.pci_settle_writes.specs.Endings.{then_writes, after_lists}
 
 said : Settling → List Write
@@ -33,12 +36,23 @@ from_write : (o : Option Write) (other : Settling) (writes : List Write) → or_
 from_write None other writes is = is
 from_write (Some w) other writes is = cc
 
-pub settled_writes : (q : Request) (s : System) (writes : List Write) → settle q s ≡ Settled writes → settle_writes q s ≡ writes
+writes_beside : (q : Request) (s : System) (keep : Kept) (writes : List Write) → settle_keeping q s keep ≡ Settled writes → settle_writes q s keep ≡ writes
 unfolding said
-settled_writes q s writes is =
-    let all : List Write = settle_writes q s in
-    let lack : Settling = or_lack (lacking q s) (then_writes q all) in
-    let stay : Settling = or_fixed (fixed_without (stays q s) q s) lack in
-    ap said (from_write (fixed_write q all) (Settled all) writes (from_lack (lacking q s) (then_writes q all) writes
-    (from_fixed (fixed_without (stays q s) q s) lack writes (from_fixed (fixed_without (stands q s) q s) stay writes
-    (from_lists (are_bad_lists q.roots q.lists) (after_lists q s) writes is)))))
+writes_beside q s keep writes is =
+    let all : List Write = settle_writes q s keep in
+    let lack : Settling = or_lack (lacking q s keep) (then_writes q all) in
+    let stay : Settling = or_fixed (fixed_without keep.stays q s) lack in
+    ap said (from_write (fixed_write q all) (Settled all) writes (from_lack (lacking q s keep) (then_writes q all) writes
+    (from_fixed (fixed_without keep.stays q s) lack writes (from_fixed (fixed_without (stands q s) q s) stay writes
+    (from_lists (are_bad_lists q.roots q.lists) (after_lists q s keep) writes is)))))
+
+-- of what is kept in the end
+written_by : (q : Request) (s : System) (writes : List Write) (o : Settling) → settle_keeping q s (growing q s) ≡ o → or_else o (settle_keeping q s (as_it_stands q s)) ≡ Settled writes
+    → settle_writes q s (kept_by o (growing q s) (as_it_stands q s)) ≡ writes
+written_by q s writes (Settled own) e is = writes_beside q s (growing q s) writes (e ∙ is)
+written_by q s writes BadLists e is = writes_beside q s (as_it_stands q s) writes is
+written_by q s writes (Fixed slot register) e is = writes_beside q s (as_it_stands q s) writes is
+written_by q s writes (NoRoom class slot register size alignment) e is = writes_beside q s (as_it_stands q s) writes is
+
+pub settled_writes : (q : Request) (s : System) (writes : List Write) → settle_growing q s ≡ Settled writes → settle_writes q s (finally_kept q s) ≡ writes
+settled_writes q s writes is = written_by q s writes (settle_keeping q s (growing q s)) refl is

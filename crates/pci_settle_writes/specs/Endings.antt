@@ -10,10 +10,12 @@ use Rattle.pci_spec.specs.Machine.{Write}
 use Rattle.settle_spec.specs.Lists.{Lists, Request, are_bad_lists}
 use Rattle.settle_spec.specs.Assumed.{assumed_region}
 use Rattle.settle_spec.specs.Stands.{stands}
-use Rattle.settle_spec.specs.Items.{stays}
-use Rattle.settle_spec.specs.Places.{lacking}
-use Rattle.settle_spec.specs.Writes.{Settling, BadLists, Settled, or_fixed, or_lack, or_write, fixed_without, fixed_write, settle_writes, settle}
+use Rattle.settle_spec.specs.Writes.{Settling, BadLists, Settled, or_fixed, or_lack, or_write, fixed_without, fixed_write}
 use Rattle.settle_spec.specs.Writes as spec
+use Rattle.settle_spec.specs.Kept.{Kept as Keeping, as_it_stands, growing}
+use Rattle.settle_spec.specs.Keeping.Places.{lacking}
+use Rattle.settle_spec.specs.Keeping.Writes.{settle_writes, settle_keeping}
+use Rattle.settle_spec.specs.Growing.{settle_growing, kept_by}
 use Rattle.pci_base.specs.declared.memory.Refused.{Refused}
 use Rattle.pci_base.specs.declared.memory.Refused.TheVariants as refused
 use Rattle.pci_base.specs.WindowKinds.{kind_value}
@@ -34,21 +36,20 @@ use Rattle.pci_settle_writes.specs.Dumps.{IsSettledBy}
 use Rattle.pci_settle_writes.specs.Lacks.{no_room}
 use Rattle.pci_settle_writes.specs.Fixed.{assumed_part}
 
--- ---- once the lists are fine
-
 -- how it ends where nothing fixed is in the way: some writes are made, none to what is fixed
 abbrev pub then_writes : Request → List Write → Settling
 then_writes q writes = or_write (fixed_write q writes) (Settled writes)
 
-abbrev pub after_lists : Request → System → Settling
-after_lists q s =
-    or_fixed (fixed_without (stands q s) q s) (or_fixed (fixed_without (stays q s) q s)
-    (or_lack (lacking q s) (then_writes q (settle_writes q s))))
+-- how it ends beside what is kept
+abbrev pub after_lists : Request → System → Keeping → Settling
+after_lists q s keep =
+    or_fixed (fixed_without (stands q s) q s) (or_fixed (fixed_without keep.stays q s)
+    (or_lack (lacking q s keep) (then_writes q (settle_writes q s keep))))
 
 -- each fixed part stands and stays
-pub record AreFixedKept (q : Request) (s : System) : Type 0 where
+pub record AreFixedKept (q : Request) (s : System) (keep : Keeping) : Type 0 where
   pub stand : fixed_without (stands q s) q s ≡ None
-  pub stay : fixed_without (stays q s) q s ≡ None
+  pub stay : fixed_without keep.stays q s ≡ None
 
 -- the function at a slot has a new window of a class with 2^64 addresses or more
 pub record IsLargeAt (a : Admission) (q : Request) (c : WindowKind) (slot : Slot) : Type 0 where
@@ -57,8 +58,8 @@ pub record IsLargeAt (a : Admission) (q : Request) (c : WindowKind) (slot : Slot
   pub large : IsTooLarge q (system_in a) c function
 
 -- where a window is one of memory, nothing lacks a place in I/O
-abbrev pub IsAfterIo : Request → System → WindowKind → Type 0
-IsAfterIo q s c = window_space c ≡ Memory → space_lack q s Io q.roots ≡ None
+abbrev pub IsAfterIo : Request → System → Keeping → WindowKind → Type 0
+IsAfterIo q s keep c = window_space c ≡ Memory → space_lack q s keep Io q.roots ≡ None
 
 -- all is placed anew, or no open window has all addresses of 64 bits
 abbrev pub IsStayKnown : Request → System → Type 0
@@ -67,27 +68,33 @@ IsStayKnown q s = IsTrue q.anew ⊎ (HasWholeWindow s → ⊥)
 -- the function at a slot has such a window, and each fixed part stands; but beside an open window of all addresses, where not
 -- all is placed anew, each stays too; and where the window is one of memory, nothing lacks a place in I/O: there too, where
 -- nothing is fixed
-pub record IsTooLargeAt (a : Admission) (q : Request) (c : WindowKind) (slot : Slot) : Type 0 where
+pub record IsTooLargeAt (a : Admission) (q : Request) (keep : Keeping) (c : WindowKind) (slot : Slot) : Type 0 where
   pub at : IsLargeAt a q c slot
   pub stand : fixed_without (stands q (system_in a)) q (system_in a) ≡ None
-  pub stay : IsStayKnown q (system_in a)
-      → fixed_without (stays q (system_in a)) q (system_in a) ≡ None
-  pub io : IsStayKnown q (system_in a) ⊎ (q.fixed ≡ []) → IsAfterIo q (system_in a) c
+  pub stay : IsStayKnown q (system_in a) → fixed_without keep.stays q (system_in a) ≡ None
+  pub io : IsStayKnown q (system_in a) ⊎ (q.fixed ≡ []) → IsAfterIo q (system_in a) keep c
 
 -- something has no place
-abbrev pub IsLack : Admission → Request → Refused SettleFault → Type 0
-IsLack a q refused.Memory = ⊤
-IsLack a q (refused.Fault fault.BadLists) = ⊥
-IsLack a q (refused.Fault (fault.Assumed slot reg)) = ⊥
-IsLack a q (refused.Fault (fault.NoRoom lack)) =
-    (other : Settling) → or_lack (lacking q (system_in a)) other ≡ no_room lack
-IsLack a q (refused.Fault (fault.TooLarge class slot)) =
-    IsLargeAt a q (kind_value class) slot × IsAfterIo q (system_in a) (kind_value class)
-IsLack a q (refused.Fault (fault.Fixed slot reg)) = ⊥
+abbrev pub IsLack : Admission → Request → Keeping → Refused SettleFault → Type 0
+IsLack a q keep refused.Memory = ⊤
+IsLack a q keep (refused.Fault fault.BadLists) = ⊥
+IsLack a q keep (refused.Fault (fault.Assumed slot reg)) = ⊥
+IsLack a q keep (refused.Fault (fault.NoRoom lack)) =
+    (other : Settling) → or_lack (lacking q (system_in a) keep) other ≡ no_room lack
+IsLack a q keep (refused.Fault (fault.TooLarge class slot)) =
+    IsLargeAt a q (kind_value class) slot × IsAfterIo q (system_in a) keep (kind_value class)
+IsLack a q keep (refused.Fault (fault.Fixed slot reg)) = ⊥
 
--- and nothing is fixed
+-- something has no place of whatever leaves these windows and parts where they stand
+abbrev pub IsLackOff : Admission → Lists → Left → Refused SettleFault → Type 0
+IsLackOff a l left e =
+    (q : Request) (keep : Keeping) → IsLeaving q keep a.roots (system_in a) l left → IsLack a q keep e
+
+-- ---- beside what stays as it stands
+
+-- something has no place, and nothing is fixed
 abbrev pub IsUnfixedLack : Admission → Request → Refused SettleFault → Type 0
-IsUnfixedLack a q e = (q.fixed ≡ []) × IsLack a q e
+IsUnfixedLack a q e = (q.fixed ≡ []) × IsLack a q (as_it_stands q (system_in a)) e
 
 -- a new window of I/O is too large, or there was no memory
 abbrev pub IsLargeInIo : Admission → Request → Refused SettleFault → Type 0
@@ -107,42 +114,86 @@ IsTooLargeAsked a q (refused.Fault fault.BadLists) = ⊥
 IsTooLargeAsked a q (refused.Fault (fault.Assumed slot reg)) = ⊥
 IsTooLargeAsked a q (refused.Fault (fault.NoRoom lack)) =
     (q.fixed ≡ [])
-    × ((other : Settling) → or_lack (lacking q (system_in a)) other ≡ no_room lack)
+    × ((other : Settling) → or_lack (lacking q (system_in a) (as_it_stands q (system_in a))) other ≡ no_room lack)
 IsTooLargeAsked a q (refused.Fault (fault.TooLarge class slot)) =
     IsLargeAt a q (kind_value class) slot
-    × (HasWholeWindow (system_in a) × (q.fixed ≡ [] → IsAfterIo q (system_in a) (kind_value class)))
+    × (HasWholeWindow (system_in a)
+    × (q.fixed ≡ [] → IsAfterIo q (system_in a) (as_it_stands q (system_in a)) (kind_value class)))
 IsTooLargeAsked a q (refused.Fault (fault.Fixed slot reg)) = ⊥
 
--- something has no place of whatever leaves these windows and parts where they stand
-abbrev pub IsLackOff : Admission → Lists → Left → Refused SettleFault → Type 0
-IsLackOff a l left e = (q : Request) → IsLeaving q a.roots (system_in a) l left → IsLack a q e
+-- ---- with tables of what is kept
 
--- ---- with a table of what stays
-
--- it is that of what is asked for, and nothing fixed is in the way
-pub record AreAskedFor (q : Request) (a : Admission) (l : Lists) (left : Left)
+-- they are those of what is asked for, and nothing fixed is in the way
+pub record AreAskedFor (q : Request) (keep : Keeping) (a : Admission) (l : Lists) (left : Left)
     (staying : List Kept) : Type 0 where
   pub asked : IsAskedOf q a.roots l
-  pub leaving : IsLeaving q a.roots (system_in a) l left
-  pub kept : AreFixedKept q (system_in a)
-  pub stay : IsTableOf (system_in a) (stays q (system_in a)) staying
+  pub leaving : IsLeaving q keep a.roots (system_in a) l left
+  pub kept : AreFixedKept q (system_in a) keep
+  pub stay : IsTableOf (system_in a) keep.stays staying
 
 -- it ends with the writes to the dump, and nothing lacks a place
-pub record IsEnded (q : Request) (a : Admission) (dump : List Block) (writes : List Write)
-    (closings : ℕ) : Type 0 where
-  pub by : IsSettledBy q a dump writes closings
-  pub room : lacking q (system_in a) ≡ None
-  pub ends : after_lists q (system_in a) ≡ Settled writes
+pub record IsEnded (q : Request) (keep : Keeping) (a : Admission) (dump : List Block)
+    (writes : List Write) (closings : ℕ) : Type 0 where
+  pub by : IsSettledBy q keep a dump writes closings
+  pub room : lacking q (system_in a) keep ≡ None
+  pub ends : after_lists q (system_in a) keep ≡ Settled writes
 
 -- it ends so where the lists are fine, or a new window is too large, or there was no memory
-abbrev pub IsEndedBy : Admission → Request → Refused SettleFault → Type 0
-IsEndedBy a q refused.Memory = ⊤
-IsEndedBy a q (refused.Fault fault.BadLists) = ⊥
-IsEndedBy a q (refused.Fault (fault.Assumed slot reg)) = ⊥
-IsEndedBy a q (refused.Fault (fault.NoRoom lack)) = after_lists q (system_in a) ≡ no_room lack
-IsEndedBy a q (refused.Fault (fault.TooLarge class slot)) = IsTooLargeAt a q (kind_value class) slot
-IsEndedBy a q (refused.Fault (fault.Fixed slot reg)) =
-    after_lists q (system_in a) ≡ spec.Fixed slot reg
+abbrev pub IsEndedBy : Admission → Request → Keeping → Refused SettleFault → Type 0
+IsEndedBy a q keep refused.Memory = ⊤
+IsEndedBy a q keep (refused.Fault fault.BadLists) = ⊥
+IsEndedBy a q keep (refused.Fault (fault.Assumed slot reg)) = ⊥
+IsEndedBy a q keep (refused.Fault (fault.NoRoom lack)) =
+    after_lists q (system_in a) keep ≡ no_room lack
+IsEndedBy a q keep (refused.Fault (fault.TooLarge class slot)) =
+    IsTooLargeAt a q keep (kind_value class) slot
+IsEndedBy a q keep (refused.Fault (fault.Fixed slot reg)) =
+    after_lists q (system_in a) keep ≡ spec.Fixed slot reg
+
+-- ---- where windows grow
+
+-- nothing is settled
+abbrev pub IsRefused : Settling → Type 0
+IsRefused (Settled writes) = ⊥
+IsRefused refused = ⊤
+
+abbrev pub IsRefusedGrowing : Admission → Request → Type 0
+IsRefusedGrowing a q = IsRefused (after_lists q (system_in a) (growing q (system_in a)))
+
+-- some function has a new window of 2^64 addresses or more
+pub record HasLarge (a : Admission) (q : Request) : Type 0 where
+  pub class : WindowKind
+  pub slot : Slot
+  pub at : IsLargeAt a q class slot
+
+-- nothing is settled where windows grow, or a new window is too large, or there was no memory
+abbrev pub IsNotGrown : Admission → Request → Refused SettleFault → Type 0
+IsNotGrown a q refused.Memory = ⊤
+IsNotGrown a q (refused.Fault fault.BadLists) = ⊥
+IsNotGrown a q (refused.Fault (fault.Assumed slot reg)) = ⊥
+IsNotGrown a q (refused.Fault (fault.NoRoom lack)) = IsRefusedGrowing a q
+IsNotGrown a q (refused.Fault (fault.TooLarge class slot)) = IsLargeAt a q (kind_value class) slot
+IsNotGrown a q (refused.Fault (fault.Fixed slot reg)) = IsRefusedGrowing a q
+
+-- what is kept where the lists are fine: what grows, or else what stays as it stands
+abbrev pub kept_after : Request → System → Keeping
+kept_after q s = kept_by (after_lists q s (growing q s)) (growing q s) (as_it_stands q s)
+
+-- it ends so beside what stays as it stands, and nothing is settled where windows grow, or a new window is too large
+abbrev pub EndsAfter : Admission → Request → Settling → Type 0
+EndsAfter a q end =
+    (after_lists q (system_in a) (as_it_stands q (system_in a)) ≡ end)
+    × (IsRefusedGrowing a q ⊎ HasLarge a q)
+
+-- it ends so where the lists are fine, or a new window is too large, or there was no memory
+abbrev pub IsEndedAfter : Admission → Request → Refused SettleFault → Type 0
+IsEndedAfter a q refused.Memory = ⊤
+IsEndedAfter a q (refused.Fault fault.BadLists) = ⊥
+IsEndedAfter a q (refused.Fault (fault.Assumed slot reg)) = ⊥
+IsEndedAfter a q (refused.Fault (fault.NoRoom lack)) = EndsAfter a q (no_room lack)
+IsEndedAfter a q (refused.Fault (fault.TooLarge class slot)) =
+    IsTooLargeAt a q (as_it_stands q (system_in a)) (kind_value class) slot
+IsEndedAfter a q (refused.Fault (fault.Fixed slot reg)) = EndsAfter a q (spec.Fixed slot reg)
 
 -- ---- the whole
 
@@ -156,17 +207,23 @@ IsAssumedFirst a q fault =
     IsFalse (are_bad_lists q.roots q.lists)
     × (option_map assumed_part (assumed_region (all_named a.probe) (system_in a)) ≡ Some fault)
 
+-- settling ends so; where a new window is too large, it ends so beside what stays as it stands
+abbrev pub EndsWith : Admission → Request → Settling → Type 0
+EndsWith a q end =
+    (settle_growing q (system_in a) ≡ end)
+    ⊎ (HasLarge a q × (settle_keeping q (system_in a) (as_it_stands q (system_in a)) ≡ end))
+
 -- settling ends so, or a read back is assumed, or a new window is too large for the lists, which are fine, or there was no
 -- memory
 abbrev pub IsRefusal : Admission → Request → Refused SettleFault → Type 0
 IsRefusal a q refused.Memory = ⊤
-IsRefusal a q (refused.Fault fault.BadLists) = settle q (system_in a) ≡ BadLists
+IsRefusal a q (refused.Fault fault.BadLists) = settle_growing q (system_in a) ≡ BadLists
 IsRefusal a q (refused.Fault (fault.Assumed slot reg)) =
     IsAssumedFirst a q (fault.Assumed slot reg)
 IsRefusal a q (refused.Fault (fault.NoRoom lack)) =
-    HasNoAssumed a × (settle q (system_in a) ≡ no_room lack)
+    HasNoAssumed a × EndsWith a q (no_room lack)
 IsRefusal a q (refused.Fault (fault.TooLarge class slot)) =
     IsFalse (are_bad_lists q.roots q.lists) × HasNoAssumed a
-    × IsTooLargeAt a q (kind_value class) slot
+    × IsTooLargeAt a q (as_it_stands q (system_in a)) (kind_value class) slot
 IsRefusal a q (refused.Fault (fault.Fixed slot reg)) =
-    HasNoAssumed a × (settle q (system_in a) ≡ spec.Fixed slot reg)
+    HasNoAssumed a × EndsWith a q (spec.Fixed slot reg)

@@ -1,5 +1,5 @@
 -- What has no place, as the code names it.
-use Rattle.std.specs.Prelude.{◌≡◌, ℕ, ◌<◌, Bool, length, Some}
+use Rattle.std.specs.Prelude.{◌≡◌, ℕ, ◌<◌, Bool, true, false, length, Some}
 use Rattle.std.specs.Option.{is_some}
 use Rattle.pci_spec.specs.Header.{bar_register, rom_place}
 use Rattle.pci_spec.specs.Window.{WindowKind, window_register}
@@ -27,6 +27,11 @@ settle_fault_number (fault.Assumed slot reg) = 76
 settle_fault_number (fault.NoRoom lack) = 72
 settle_fault_number (fault.TooLarge class slot) = 72
 settle_fault_number (fault.Fixed slot reg) = 74
+
+-- a new window is too large
+abbrev pub is_too_large : SettleFault → Bool
+is_too_large (fault.TooLarge class slot) = true
+is_too_large other = false
 
 abbrev pub part_register : Bool → WindowKind → CodePart → ℕ
 part_register bridge c (parts.Bar n) = bar_register n

@@ -1,21 +1,23 @@
 -- Which functions are shut in a space, by what is decoded of each and by what is above its bus.
-use Rattle.std.specs.Prelude.{◌≡◌, ℕ, ◌+◌, ◌==◌, Bool, ◌&&◌, ◌||◌, not, if◌then◌else◌, List, [], ◌∷◌}
+use Rattle.std.specs.Prelude.{◌≡◌, ℕ, ◌+◌, ◌-◌, ◌/◌, ◌==◌, Bool, IsTrue, ◌&&◌, ◌||◌, not, if◌then◌else◌, List, [], ◌∷◌}
 use Rattle.std.specs.Option.{is_some}
 use Rattle.std.specs.List.{list_any, list_all}
 use Rattle.pci_spec.specs.Number.{number_at}
-use Rattle.pci_spec.specs.Registers.{IO_BASE, IO_BASE_UPPER, MEMORY_BASE, PREFETCHABLE_BASE, PREFETCHABLE_BASE_UPPER, PREFETCHABLE_LIMIT_UPPER}
+use Rattle.pci_spec.specs.Registers.{BASE_ADDRESS, IO_BASE, IO_BASE_UPPER, MEMORY_BASE, PREFETCHABLE_BASE, PREFETCHABLE_BASE_UPPER, PREFETCHABLE_LIMIT_UPPER}
 use Rattle.pci_spec.specs.Header.{rom_place}
 use Rattle.pci_spec.specs.Machine.{without_low}
 use Rattle.pci_spec.specs.Window.{WindowKind, IoWindow, MemoryWindow, PrefetchWindow}
-use Rattle.pci_spec.specs.System.{System, Space, Io, Memory, Window, is_space_on}
+use Rattle.pci_spec.specs.System.{System, Function, Space, Io, Memory, Part, Bar, Window, has_part, is_space_on}
 use Rattle.plan_spec.specs.Plan.{bridges_above}
 use Rattle.settle_spec.specs.Lists.{Request}
 use Rattle.settle_spec.specs.Parts.{are_same_space}
-use Rattle.settle_spec.specs.Writes.{changes_at, is_shut_itself}
+use Rattle.settle_spec.specs.Kept.{Kept}
+use Rattle.settle_spec.specs.Keeping.Writes.{changes_at, is_shut_itself}
 use Rattle.pci_base.specs.Space.{is_on}
-use Rattle.pci_image.specs.declared.bar.Bar.{Bar}
+use Rattle.pci_image.specs.declared.bar.Bar.{Bar as CodeBar}
 use Rattle.pci_function.specs.declared.record.Record.{Record}
 use Rattle.pci_place.specs.Classes.{is_wide_kind}
+use Rattle.pci_settle.specs.Kept.{kept_of}
 use Rattle.pci_settle.specs.Own.{AreTerms, is_left_bar, bar_class_of}
 use Rattle.pci_settle.specs.Over.{IsOverBus}
 use Rattle.pci_settling.specs.Claims.{is_bar_in, has_left_bar, is_rom_on, has_kept}
@@ -37,18 +39,20 @@ in_class b PrefetchWindow = b.prefetchable
 
 -- of the bridges between the host and a bus: which spaces all enable, in which none is shut itself, and of which classes no
 -- window changes
-pub record IsWay (q : Request) (s : System) (bus : ℕ) (way : Way) : Type 0 where
+pub record IsWay (q : Request) (s : System) (keep : Kept) (bus : ℕ) (way : Way) : Type 0 where
   pub on : (x : Space) → in_space way.on x ≡ list_all (λ b. is_space_on b x) (bridges_above s bus)
   pub clear : (x : Space) → in_space way.clear x
-      ≡ list_all (λ b. not (is_shut_itself q s x b)) (bridges_above s bus)
+      ≡ list_all (λ b. not (is_shut_itself q s keep x b)) (bridges_above s bus)
   pub same : (c : WindowKind) → in_class way.same c
-      ≡ list_all (λ b. not (changes_at q s b (Window c))) (bridges_above s bus)
+      ≡ list_all (λ b. not (changes_at q s keep b (Window c))) (bridges_above s bus)
 
--- what is around what stands on a bus
-pub record IsAround (q : Request) (s : System) (bus : ℕ) (o : Around) : Type 0 where
-  pub over : IsOverBus q s bus o.over
+-- what is around a function, and what of it stays
+pub record IsAround (q : Request) (s : System) (keep : Kept) (f : Function) (o : Around) : Type 0 where
+  pub over : IsOverBus q s f.slot.bus o.over
   pub terms : AreTerms q.lists o.terms
-  pub way : IsWay q s bus o.way
+  pub way : IsWay q s keep f.slot.bus o.way
+  pub kept : (part : Part) → IsTrue (has_part f part)
+      → kept_of o.kept.now part ≡ keep.stays record { function = f; part = part }
 
 -- ---- what changes
 
@@ -65,25 +69,27 @@ window_registers PrefetchWindow =
 abbrev pub is_window_changed : WindowKind → List ℕ → List ℕ → Bool
 is_window_changed c old new = list_any (differs_in old new) (window_registers c)
 
-abbrev pub is_bar_changed : List ℕ → List ℕ → Bar → Bool
+abbrev pub is_bar_changed : List ℕ → List ℕ → CodeBar → Bool
 is_bar_changed old new bar =
     differs_in old new (bar.reg, if is_wide_kind bar.kind then 8 else 4)
 
 -- ---- of a record
 
 -- no window of a BAR's class changes of the bridges above it
-abbrev pub is_same_above : Around → Bar → Bool
+abbrev pub is_same_above : Around → CodeBar → Bool
 is_same_above o bar = in_class o.way.same (bar_class_of bar o.over o.terms.prefetch_last)
 
-abbrev pub is_moving_bar : Around → Space → List ℕ → List ℕ → Bar → Bool
+abbrev pub is_moving_bar : Around → Space → List ℕ → List ℕ → CodeBar → Bool
 is_moving_bar o space old new bar =
     is_bar_in space bar && not (is_left_bar bar o.over.above o.terms.has_io)
-    && (is_bar_changed old new bar || not (is_same_above o bar))
+    && (not (kept_of o.kept.now (Bar ((bar.reg - BASE_ADDRESS) / 4)))
+    && (is_bar_changed old new bar || not (is_same_above o bar)))
 
 abbrev pub has_moving_rom : Around → List ℕ → List ℕ → Record → Bool
 has_moving_rom o old new r =
     is_rom_on r.rom
-    && (differs_in old new (rom_place (is_some r.bridge), 4) || not o.way.same.memory)
+    && (not o.kept.now.rom
+    && (differs_in old new (rom_place (is_some r.bridge), 4) || not o.way.same.memory))
 
 -- a BAR or ROM of a space moves
 abbrev pub has_moving_by : Around → Space → List ℕ → List ℕ → Record → Bool

@@ -1,4 +1,4 @@
-//! A bridge once all is closed: windows that change hold nothing.
+//! A bridge once all is closed: windows that change hold nothing, but for those that stay.
 ghost use Rattle.std.specs.Prelude.{◌≡◌, ◌<◌, ◌%◌, not};
 ghost use Rattle.pci_base.specs.Bounds.{spec_bounds_of};
 ghost use Rattle.pci_base.specs.WindowKinds.{kind_value};
@@ -14,7 +14,7 @@ use pci_base::offset::{
     COMMAND, IO_BASE, IO_BASE_UPPER, MEMORY_BASE, PREFETCHABLE_BASE, PREFETCHABLE_BASE_UPPER,
     PREFETCHABLE_LIMIT_UPPER,
 };
-use pci_base::window_kind::WindowKind;
+use pci_base::window_kind::{ByKind, WindowKind};
 use pci_settling::write::{write, write_bounds};
 
 /// Whether a register of four bytes of a window changes.
@@ -83,32 +83,41 @@ fn shut_bounds(class: WindowKind, nibble: u16, bounds: Bounds) -> Bounds
     }
 }
 
-/// Closes the window of a class, where it changes.
+/// Closes the window of a class, where it changes and doesn't stay.
 fn close_window(
     bytes: &mut [u8; IMAGE_LEN],
     class: WindowKind,
+    kept: bool,
     old: &Image,
     probe: &Image,
     new: &Image,
 )
     ensures { bytes.new
-        ≡ with_closed_window (kind_value class) old.now.0 probe.now.0 new.now.0 bytes.old }
+        ≡ with_closed_window (kind_value class) kept old.now.0 probe.now.0 new.now.0 bytes.old }
 {
-    if is_window_changed(class, old, new) {
+    if !kept && is_window_changed(class, old, new) {
         let bounds = shut_bounds(class, nibble_of(class, probe), class.bounds(old));
         write_bounds(bytes, class, bounds);
     }
 }
 
 /// The image of a bridge once all is closed, with this value of Command. `probe` holds what its registers read back, `new` is
-/// its image as it is to be.
-pub fn closed_image(old: &Image, probe: &Image, new: &Image, command: u16) -> Image
-    ensures { result.0 ≡ closed_image_by old.now.0 probe.now.0 new.now.0 command }
+/// its image as it is to be, and `kept` tells which of its windows stay.
+pub fn closed_image(
+    old: &Image,
+    probe: &Image,
+    new: &Image,
+    kept: &ByKind<bool>,
+    command: u16,
+) -> Image
+    ensures { result.0 ≡ closed_image_by old.now.0 probe.now.0 new.now.0 kept.now command }
 {
     let mut closed = *old;
-    close_window(&mut closed.0, WindowKind::Io, old, probe, new);
-    close_window(&mut closed.0, WindowKind::Memory, old, probe, new);
-    close_window(&mut closed.0, WindowKind::Prefetchable, old, probe, new);
+    let bytes = &mut closed.0;
+    close_window(bytes, WindowKind::Io, kept.io, old, probe, new);
+    close_window(bytes, WindowKind::Memory, kept.memory, old, probe, new);
+    let class = WindowKind::Prefetchable;
+    close_window(bytes, class, kept.prefetchable, old, probe, new);
     write(&mut closed.0, COMMAND, 2, command.into());
     closed
 }

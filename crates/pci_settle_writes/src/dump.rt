@@ -1,12 +1,12 @@
 //! The dump once all has its place.
 ghost use Rattle.std.specs.Prelude.{◌≡◌, IfOk, length, map};
 ghost use Rattle.settle_spec.specs.Lists.{Request};
-ghost use Rattle.settle_spec.specs.Items.{stays};
+ghost use Rattle.settle_spec.specs.Kept.{Kept as Keeping};
 ghost use Rattle.pci_place.specs.Above.{system_in};
 ghost use Rattle.pci_settle.specs.Lists.{lists_value};
 ghost use Rattle.pci_settling.specs.Live.{HasAllPlaces};
 ghost use Rattle.pci_settle_writes.specs.Requests.{IsAskedOf};
-ghost use Rattle.pci_settle_writes.specs.Told.{IsTableOf};
+ghost use Rattle.pci_settle_writes.specs.Told.{TellsKeeping};
 ghost use Rattle.pci_settle_writes.specs.Dumps.{IsSettledDump};
 
 use pci_base::memory::OutOfMemory;
@@ -17,14 +17,16 @@ use pci_place::above::aboves;
 use pci_settle::kept::Kept;
 use pci_settle::list::Lists;
 use pci_settle::own::Terms;
+use pci_settle::table::{WindowRanges, ranges_told};
 use pci_settled::places::Places;
+use pci_settled::window::BridgeWindows;
 use pci_settling::live::{is_live_behind, live_buses};
 use pci_settling::settled::{Behind, settled_function};
 use pci_tree::admitted::Admitted;
 use std::alloc::Allocator;
 
 /// The dump with each function as it is to be, slots and titles as they are: with the places that parts get, none for what
-/// stays, and with what stays, both by function in slot order.
+/// stays, with what stays, and with what the windows that grow come to, each by function in slot order.
 ///
 /// Errors: 2 `OutOfMemory` where a growth was refused.
 pub fn settled_dump<A: Allocator, B: Allocator>(
@@ -33,6 +35,7 @@ pub fn settled_dump<A: Allocator, B: Allocator>(
     lists: &Lists,
     table: &[Places],
     staying: &[Kept],
+    grown: &[WindowRanges],
 ) -> Result<Dump<A>, OutOfMemory>
     // a function's places stand where its record does
     requires places { length table.now ≡ length (system_in admitted.now) }
@@ -41,11 +44,11 @@ pub fn settled_dump<A: Allocator, B: Allocator>(
     // a title is the caller's own text, and no register
     ensures titles { IfOk result
         (λ dump. map (λ b. b.title) dump ≡ map (λ b. b.title) admitted.now.dump) }
-    ensures settled { IfOk result (λ dump. (q : Request)
+    ensures settled { IfOk result (λ dump. (q : Request) (keep : Keeping)
         → IsAskedOf q admitted.now.roots (lists_value lists.now)
-        → HasAllPlaces q (system_in admitted.now) table.now
-        → IsTableOf (system_in admitted.now) (stays q (system_in admitted.now)) staying.now
-        → IsSettledDump q admitted.now dump) }
+        → HasAllPlaces q (system_in admitted.now) keep table.now
+        → TellsKeeping q (system_in admitted.now) keep grown.now staying.now
+        → IsSettledDump q keep admitted.now dump) }
 {
     let aboves = aboves(admitted);
     let terms = Terms::of(lists);
@@ -63,11 +66,15 @@ pub fn settled_dump<A: Allocator, B: Allocator>(
             io: is_live_behind(&io, record),
             memory: is_live_behind(&memory, record),
         };
+        let staying = BridgeWindows {
+            kept: &staying[k],
+            grown: ranges_told(grown, k),
+        };
         let image = settled_function(
             record,
             &block.image,
             &table[k],
-            &staying[k].windows,
+            &staying,
             above,
             terms,
             behind,

@@ -3,6 +3,7 @@ ghost use Rattle.std.specs.Prelude.{◌≡◌, [], None, IfOk, IfErr, OnOk};
 ghost use Rattle.pci_spec.specs.Window.{IoWindow};
 ghost use Rattle.pci_spec.specs.System.{Io};
 ghost use Rattle.plan_spec.specs.Plan.{same_class};
+ghost use Rattle.settle_spec.specs.Kept.{as_it_stands};
 ghost use Rattle.pci_base.specs.WindowKinds.{kind_value};
 ghost use Rattle.pci_place.specs.Above.{system_in};
 ghost use Rattle.pci_settle.specs.Lists.{lists_value};
@@ -79,10 +80,13 @@ fn place_io<A: Allocator + Copy, B: Allocator>(
     fixed: &[Slot],
 ) -> Result<(), Refused<SettleFault>>
     ensures room { OnOk result (space_lack
-        (asked admitted.now.roots (lists_value lists.now) fixed.now) (system_in admitted.now) Io
-        admitted.now.roots ≡ None) }
+        (asked admitted.now.roots (lists_value lists.now) fixed.now) (system_in admitted.now)
+        (as_it_stands (asked admitted.now.roots (lists_value lists.now) fixed.now)
+        (system_in admitted.now)) Io admitted.now.roots ≡ None) }
     ensures fault { IfErr result (IsLack admitted.now
-        (asked admitted.now.roots (lists_value lists.now) fixed.now)) }
+        (asked admitted.now.roots (lists_value lists.now) fixed.now)
+        (as_it_stands (asked admitted.now.roots (lists_value lists.now) fixed.now)
+        (system_in admitted.now))) }
 {
     let outline = admitted.outline();
     let table = io_staying(alloc, admitted, lists.io, fixed)?;
@@ -90,6 +94,8 @@ fn place_io<A: Allocator + Copy, B: Allocator>(
     let left = Left {
         over: &over,
         kept: table.as_slice(),
+        grown: &[],
+        places: &[],
     };
     let alone = Lists {
         io: lists.io,
@@ -117,8 +123,9 @@ pub fn place_io_unfixed<A: Allocator + Copy, B: Allocator>(
     fixed: &[Slot],
 ) -> Result<(), Refused<SettleFault>>
     ensures room { OnOk result (fixed.now ≡ [] → space_lack
-        (asked admitted.now.roots (lists_value lists.now) fixed.now) (system_in admitted.now) Io
-        admitted.now.roots ≡ None) }
+        (asked admitted.now.roots (lists_value lists.now) fixed.now) (system_in admitted.now)
+        (as_it_stands (asked admitted.now.roots (lists_value lists.now) fixed.now)
+        (system_in admitted.now)) Io admitted.now.roots ≡ None) }
     ensures fault { IfErr result (IsUnfixedLack admitted.now
         (asked admitted.now.roots (lists_value lists.now) fixed.now)) }
 {

@@ -4,7 +4,7 @@ ghost use Rattle.std.specs.Option.{is_some};
 ghost use Rattle.pci_base.specs.WindowKinds.{kind_value};
 ghost use Rattle.pci_place.specs.Above.{system_in};
 ghost use Rattle.pci_settled.specs.Places.{IsPlacesPart};
-ghost use Rattle.pci_settle_writes.specs.Lacks.{settle_fault_number, part_register, lack_by, IsOfSystem, IsSettleFaultOf};
+ghost use Rattle.pci_settle_writes.specs.Lacks.{settle_fault_number, is_too_large, part_register, lack_by, IsOfSystem, IsSettleFaultOf};
 
 use pci_base::offset::BASE_ADDRESS;
 use pci_base::slot::Slot;
@@ -58,6 +58,19 @@ impl SettleFault {
             SettleFault::Assumed { .. } => 76,
             SettleFault::NoRoom(_) | SettleFault::TooLarge { .. } => 72,
             SettleFault::Fixed { .. } => 74,
+        }
+    }
+
+    /// Whether a new window would be too large.
+    pub fn is_too_large(&self) -> bool
+        ensures { result ≡ is_too_large self.now }
+    {
+        match self {
+            SettleFault::TooLarge { .. } => true,
+            SettleFault::BadLists
+            | SettleFault::Assumed { .. }
+            | SettleFault::NoRoom(_)
+            | SettleFault::Fixed { .. } => false,
         }
     }
 }

@@ -1,12 +1,15 @@
 //! Settling: the dump in which all has its place, and the writes that lead there.
-ghost use Rattle.std.specs.Prelude.{◌≡◌, ◌≤◌, ◌<◌, ◌^◌, ◌⊎◌, ℕ, IsTrue, IfOk, IfErr, OnOk, length, map, take};
+ghost use Rattle.std.specs.Prelude.{◌≡◌, ◌≤◌, ◌<◌, ◌^◌, ◌⊎◌, ℕ, IfOk, IfErr, OnOk, length, map, take};
 ghost use Rattle.std.specs.List.{All};
 ghost use Rattle.pci_spec.specs.Sound.{IsSound};
 ghost use Rattle.pci_spec.specs.System.{system_of};
 ghost use Rattle.pci_spec.specs.Machine.{system_after};
 ghost use Rattle.settle_spec.specs.Lists.{Request};
-ghost use Rattle.settle_spec.specs.Items.{stays};
 ghost use Rattle.settle_spec.specs.Writes as spec;
+ghost use Rattle.settle_spec.specs.Kept.{Kept as Keeping};
+ghost use Rattle.settle_spec.specs.Keeping.Writes.{closings};
+ghost use Rattle.settle_spec.specs.Growing.{settle_growing, finally_kept};
+ghost use Rattle.pci_base.specs.declared.memory.Refused.TheVariants as refused;
 ghost use Rattle.pci_place.specs.Above.{system_in};
 ghost use Rattle.pci_plan.specs.Writes.{write_value};
 ghost use Rattle.pci_settle.specs.Lists.{lists_value};
@@ -15,31 +18,28 @@ ghost use Rattle.pci_stand.specs.Flags.{AreFlags};
 ghost use Rattle.pci_stand.specs.Known.{asked};
 ghost use Rattle.pci_settled.specs.Placed.{CanBeLeft, ArePlacesOff};
 ghost use Rattle.pci_settling.specs.Live.{HasAllPlaces};
-ghost use Rattle.pci_stay.specs.Staying.{AreStaying};
 ghost use Rattle.pci_settle_writes.specs.Requests.{request, IsAskedOf};
-ghost use Rattle.pci_settle_writes.specs.Told.{IsTableOf};
+ghost use Rattle.pci_settle_writes.specs.Told.{TellsKeeping};
 ghost use Rattle.pci_settle_writes.specs.Dumps.{IsSettledDump, IsSettledBy};
-ghost use Rattle.pci_settle_writes.specs.Endings.{IsLackOff, IsTooLargeAsked, AreAskedFor, IsEnded, IsEndedBy, IsRefusal, HasNoAssumed};
+ghost use Rattle.pci_settle_writes.specs.Endings.{IsLackOff, AreAskedFor, IsEnded, IsEndedBy, IsNotGrown, kept_after, IsEndedAfter, IsRefusal, HasNoAssumed};
 
 use crate::assumed::first_assumed;
 use crate::dump::settled_dump;
-use crate::fixed::{fixed_without, fixed_write};
-use crate::io::{fault_of_window, place_io_unfixed};
+use crate::fixed::fixed_write;
+use crate::growth::settle_grown;
 use crate::lack::{SettleFault, fault_of};
+use crate::standing::{settle_all, settle_standing};
 use crate::writes::{Writes, writes_to};
 use pci_base::memory::{OutOfMemory, Refused};
 use pci_base::range::RootRange;
 use pci_base::slot::Slot;
 use pci_dump::dump::Dump;
-use pci_settle::kept::{Kept, nothing_kept};
+use pci_settle::kept::Kept;
 use pci_settle::list::Lists;
-use pci_settle::over::{Left, OpenWindows};
+use pci_settle::over::Left;
 use pci_settled::place::place;
 use pci_settled::places::Places;
 use pci_stand::fixed::flags_of;
-use pci_stand::pass::standing;
-use pci_stay::staying::staying;
-use pci_stay::windows::open_windows;
 use pci_tree::admitted::Admitted;
 use std::alloc::{Allocator, Global};
 
@@ -73,14 +73,15 @@ fn places<A: Allocator + Copy, B: Allocator>(
 }
 
 /// What settling comes to with the places that parts get, none for what stays, and with what stays, both by function in
-/// slot order. `overs` has the open windows over each bus, and is empty where all is placed anew.
+/// slot order. Of `left` the open windows over each bus count, which are none where all is placed anew, and what windows that
+/// grow come to.
 ///
 /// Errors: 2 `OutOfMemory` where a growth was refused.
 pub fn settled_at<A: Allocator + Copy, B: Allocator>(
     alloc: A,
     admitted: &Admitted<B>,
     lists: &Lists,
-    overs: &[OpenWindows],
+    left: &Left,
     table: &[Places],
     staying: &[Kept],
 ) -> Result<Settled<A>, OutOfMemory>
@@ -91,20 +92,22 @@ pub fn settled_at<A: Allocator + Copy, B: Allocator>(
     // a title is the caller's own text, and no register
     ensures titles { IfOk result
         (λ x. map (λ b. b.title) x.dump ≡ map (λ b. b.title) admitted.now.dump) }
-    ensures settled { IfOk result (λ x. (q : Request)
+    ensures settled { IfOk result (λ x. (q : Request) (keep : Keeping)
         → IsAskedOf q admitted.now.roots (lists_value lists.now)
-        → AreOpenOver q (system_in admitted.now) overs.now
-        → HasAllPlaces q (system_in admitted.now) table.now
-        → IsTableOf (system_in admitted.now) (stays q (system_in admitted.now)) staying.now
-        → IsSettledBy q admitted.now x.dump (map write_value x.writes.all.items) x.writes.closings) }
+        → AreOpenOver q (system_in admitted.now) left.now.over.now
+        → HasAllPlaces q (system_in admitted.now) keep table.now
+        → TellsKeeping q (system_in admitted.now) keep left.now.grown.now staying.now
+        → IsSettledBy q keep admitted.now x.dump (map write_value x.writes.all.items)
+        x.writes.closings) }
 {
-    let dump = settled_dump(alloc, admitted, lists, table, staying)?;
-    let writes = writes_to(alloc, admitted, lists, overs, dump.blocks())?;
+    let dump = settled_dump(alloc, admitted, lists, table, staying, left.grown)?;
+    let writes = writes_to(alloc, admitted, lists, left.over, dump.blocks(), staying)?;
     Ok(Settled { dump, writes })
 }
 
-/// Settles once it is known what stays, by function in slot order, where each fixed part stands and stays.
-fn settle_held<A: Allocator + Copy, B: Allocator>(
+/// Settles once it is known what is kept: which parts stay, by function in slot order, and what `left` tells of windows that
+/// grow. Each fixed part stands and stays.
+pub fn settle_held<A: Allocator + Copy, B: Allocator>(
     alloc: A,
     admitted: &Admitted<B>,
     lists: &Lists,
@@ -117,80 +120,55 @@ fn settle_held<A: Allocator + Copy, B: Allocator>(
     requires left { CanBeLeft admitted.now.roots (system_in admitted.now) (lists_value lists.now) left.now }
     ensures titles { IfOk result
         (λ x. map (λ b. b.title) x.dump ≡ map (λ b. b.title) admitted.now.dump) }
-    ensures ends { IfOk result (λ x. (q : Request)
+    ensures ends { IfOk result (λ x. (q : Request) (keep : Keeping)
         → AreFlags q.fixed fixed.now
-        → AreAskedFor q admitted.now (lists_value lists.now) left.now staying.now
-        → IsEnded q admitted.now x.dump (map write_value x.writes.all.items) x.writes.closings) }
-    ensures refusal { IfErr result (λ e. (q : Request)
+        → AreAskedFor q keep admitted.now (lists_value lists.now) left.now staying.now
+        → IsEnded q keep admitted.now x.dump (map write_value x.writes.all.items) x.writes.closings) }
+    ensures refusal { IfErr result (λ e. (q : Request) (keep : Keeping)
         → AreFlags q.fixed fixed.now
-        → AreAskedFor q admitted.now (lists_value lists.now) left.now staying.now
-        → IsEndedBy admitted.now q e) }
+        → AreAskedFor q keep admitted.now (lists_value lists.now) left.now staying.now
+        → IsEndedBy admitted.now q keep e) }
 {
     let table = places(alloc, admitted, lists, left)?;
-    let settled = settled_at(alloc, admitted, lists, left.over, table.as_slice(), staying)?;
+    let settled = settled_at(alloc, admitted, lists, left, table.as_slice(), staying)?;
     if let Some(fault) = fixed_write(fixed, settled.writes.all.as_slice()) {
         return Err(Refused::Fault(fault));
     }
     Ok(settled)
 }
 
-/// Settles where all is placed anew.
-fn settle_all<A: Allocator + Copy, B: Allocator>(
-    alloc: A,
-    admitted: &Admitted<B>,
-    lists: &Lists,
-    fixed: &[bool],
-) -> Result<Settled<A>, Refused<SettleFault>>
-    requires { length fixed.now ≡ 65536 }
-    ensures titles { IfOk result
-        (λ x. map (λ b. b.title) x.dump ≡ map (λ b. b.title) admitted.now.dump) }
-    ensures ends { IfOk result (λ x. (q : Request)
-        → IsAskedOf q admitted.now.roots (lists_value lists.now) → IsTrue q.anew
-        → AreFlags q.fixed fixed.now
-        → IsEnded q admitted.now x.dump (map write_value x.writes.all.items) x.writes.closings) }
-    ensures refusal { IfErr result (λ e. (q : Request)
-        → IsAskedOf q admitted.now.roots (lists_value lists.now) → IsTrue q.anew
-        → AreFlags q.fixed fixed.now → IsEndedBy admitted.now q e) }
-{
-    let outline = admitted.outline();
-    let none = nothing_kept(alloc, outline.records().len())?;
-    let kept = none.as_slice();
-    // what doesn't stand doesn't stay
-    if let Some(fault) = fixed_without(admitted, lists, fixed, kept) {
-        return Err(Refused::Fault(fault));
-    }
-    let left = Left {
-        over: &[],
-        kept: &[],
-    };
-    settle_held(alloc, admitted, lists, fixed, &left, kept)
-}
-
-/// Which parts stay. Beside an open window of all addresses the bridge is named whose new window would be too large; where nothing
-/// is fixed, what has no place in I/O is named before.
-fn staying_parts<A: Allocator + Copy, B: Allocator>(
+/// Settles beside what stays as it stands, once windows that grow were refused by this fault. A new window that is too large for
+/// these has no place beside what stands either.
+fn settle_ungrown<A: Allocator + Copy, B: Allocator>(
     alloc: A,
     admitted: &Admitted<B>,
     lists: &Lists,
     fixed: &[Slot],
-) -> Result<Vec<Kept, A>, Refused<SettleFault>>
-    ensures stay { IfOk result (λ table. AreStaying
-        (asked admitted.now.roots (lists_value lists.now) fixed.now) (system_in admitted.now)
-        table.items) }
-    ensures fault { IfErr result (IsTooLargeAsked admitted.now
+    flags: &[bool],
+    fault: SettleFault,
+) -> Result<Settled<A>, Refused<SettleFault>>
+    requires flags { AreFlags fixed.now flags.now }
+    // else windows would grow
+    requires fault { IsNotGrown admitted.now
+        (asked admitted.now.roots (lists_value lists.now) fixed.now) (refused.Fault fault) }
+    ensures titles { IfOk result
+        (λ x. map (λ b. b.title) x.dump ≡ map (λ b. b.title) admitted.now.dump) }
+    ensures ends { IfOk result (λ x. IsEnded
+        (asked admitted.now.roots (lists_value lists.now) fixed.now)
+        (kept_after (asked admitted.now.roots (lists_value lists.now) fixed.now)
+        (system_in admitted.now)) admitted.now x.dump
+        (map write_value x.writes.all.items) x.writes.closings) }
+    ensures refusal { IfErr result (IsEndedAfter admitted.now
         (asked admitted.now.roots (lists_value lists.now) fixed.now)) }
 {
-    match staying(alloc, admitted, lists, fixed) {
-        Ok(table) => Ok(table),
-        Err(Refused::Memory) => Err(Refused::Memory),
-        Err(Refused::Fault(window)) => {
-            place_io_unfixed(alloc, admitted, lists, fixed)?;
-            Err(Refused::Fault(fault_of_window(admitted, window)))
-        }
+    let settled = settle_standing(alloc, admitted, lists, fixed, flags)?;
+    if fault.is_too_large() {
+        return Err(Refused::Fault(fault));
     }
+    Ok(settled)
 }
 
-/// Settles what doesn't stay.
+/// Settles where windows grow, or else beside what stays as it stands.
 fn settle_rest<A: Allocator + Copy, B: Allocator>(
     alloc: A,
     admitted: &Admitted<B>,
@@ -202,27 +180,20 @@ fn settle_rest<A: Allocator + Copy, B: Allocator>(
     ensures titles { IfOk result
         (λ x. map (λ b. b.title) x.dump ≡ map (λ b. b.title) admitted.now.dump) }
     ensures ends { IfOk result (λ x. IsEnded
-        (asked admitted.now.roots (lists_value lists.now) fixed.now) admitted.now x.dump
+        (asked admitted.now.roots (lists_value lists.now) fixed.now)
+        (kept_after (asked admitted.now.roots (lists_value lists.now) fixed.now)
+        (system_in admitted.now)) admitted.now x.dump
         (map write_value x.writes.all.items) x.writes.closings) }
-    ensures refusal { IfErr result (IsEndedBy admitted.now
+    ensures refusal { IfErr result (IsEndedAfter admitted.now
         (asked admitted.now.roots (lists_value lists.now) fixed.now)) }
 {
-    let outline = admitted.outline();
-    let over = open_windows(outline.records());
-    let stand = standing(alloc, admitted, lists, fixed)?;
-    if let Some(fault) = fixed_without(admitted, lists, flags, stand.as_slice()) {
-        return Err(Refused::Fault(fault));
+    match settle_grown(alloc, admitted, lists, fixed, flags) {
+        Ok(settled) => Ok(settled),
+        Err(Refused::Memory) => Err(Refused::Memory),
+        Err(Refused::Fault(fault)) => {
+            settle_ungrown(alloc, admitted, lists, fixed, flags, fault)
+        }
     }
-    let table = staying_parts(alloc, admitted, lists, fixed)?;
-    let stay = table.as_slice();
-    if let Some(fault) = fixed_without(admitted, lists, flags, stay) {
-        return Err(Refused::Fault(fault));
-    }
-    let left = Left {
-        over: &over,
-        kept: stay,
-    };
-    settle_held(alloc, admitted, lists, flags, &left, stay)
 }
 
 /// Settles in lists that are fine.
@@ -236,9 +207,11 @@ fn settle_listed<A: Allocator + Copy, B: Allocator>(
     ensures titles { IfOk result
         (λ x. map (λ b. b.title) x.dump ≡ map (λ b. b.title) admitted.now.dump) }
     ensures ends { IfOk result (λ x. IsEnded
-        (request admitted.now.roots (lists_value lists.now) fixed.now anew) admitted.now x.dump
+        (request admitted.now.roots (lists_value lists.now) fixed.now anew)
+        (kept_after (request admitted.now.roots (lists_value lists.now) fixed.now anew)
+        (system_in admitted.now)) admitted.now x.dump
         (map write_value x.writes.all.items) x.writes.closings) }
-    ensures refusal { IfErr result (IsEndedBy admitted.now
+    ensures refusal { IfErr result (IsEndedAfter admitted.now
         (request admitted.now.roots (lists_value lists.now) fixed.now anew)) }
 {
     let flags = flags_of(alloc, fixed)?;
@@ -265,8 +238,9 @@ fn end_in_64_bits(list: &[RootRange])
     }
 }
 
-/// Settles: what stands with room for what is behind it stays where it is (nothing, where all is placed anew), all else is
-/// placed in the lists. Answers the dump that shows the places and the writes that lead there. That dump is sound, and so is
+/// Settles: what stands with room for what is behind it stays where it is (nothing, where all is placed anew), and a window
+/// that stands grows where it lacks that room and has it beside itself. All else is placed in the lists. Where that can't be
+/// done no window grows. Answers the dump that shows the places and the writes that lead there. That dump is sound, and so is
 /// what stands after the first writes, once all that close are made, and from a sound start at any time.
 ///
 /// Errors, the first of these that is there: 70 `BadLists` where the lists are refused; 76 `Assumed` with the first BAR, or
@@ -276,7 +250,9 @@ fn end_in_64_bits(list: &[RootRange])
 /// that has no place in memory; 74 `Fixed` with the first write to a function of `fixed`. 2 `Memory` where a growth was refused.
 ///
 /// Where an open window has all addresses of 64 bits, a function is fixed and not all is placed anew, 72 `TooLarge` comes right
-/// after 74 of what doesn't stand: such a window may have room for another of 2^64 addresses, so it isn't known what stays.
+/// after 74 of what doesn't stand: such a window may have room for another of 2^64 addresses, so it isn't known what stays. Nor
+/// is it known which windows would grow where one could grow to all addresses and a new window would have 2^64 or more: then
+/// none does.
 pub fn settle<A: Allocator + Copy, B: Allocator>(
     alloc: A,
     admitted: &Admitted<B>,
@@ -299,13 +275,17 @@ pub fn settle<A: Allocator + Copy, B: Allocator>(
     // what a guessed size would move is never moved
     ensures sized { OnOk result (HasNoAssumed admitted.now) }
     ensures dump { IfOk result (λ x. IsSettledDump
-        (request admitted.now.roots (lists_value lists.now) fixed.now anew) admitted.now x.dump) }
-    ensures settled { IfOk result (λ x. spec.settle
+        (request admitted.now.roots (lists_value lists.now) fixed.now anew)
+        (finally_kept (request admitted.now.roots (lists_value lists.now) fixed.now anew)
+        (system_in admitted.now)) admitted.now x.dump) }
+    ensures settled { IfOk result (λ x. settle_growing
         (request admitted.now.roots (lists_value lists.now) fixed.now anew) (system_in admitted.now)
         ≡ spec.Settled (map write_value x.writes.all.items)) }
-    ensures closings { IfOk result (λ x. x.writes.closings ≡ length (spec.closings
+    ensures closings { IfOk result (λ x. x.writes.closings ≡ length (closings
         (request admitted.now.roots (lists_value lists.now) fixed.now anew)
-        (system_in admitted.now) (system_in admitted.now))) }
+        (system_in admitted.now)
+        (finally_kept (request admitted.now.roots (lists_value lists.now) fixed.now anew)
+        (system_in admitted.now)) (system_in admitted.now))) }
     ensures refusal { IfErr result (IsRefusal admitted.now
         (request admitted.now.roots (lists_value lists.now) fixed.now anew)) }
 {

@@ -3,13 +3,15 @@ ghost use Rattle.std.specs.Prelude.{◌≡◌, ◌==◌, ◌||◌, IfOk, length,
 ghost use Rattle.std.specs.List.{All, list_any};
 ghost use Rattle.pci_spec.specs.System.{Io, Memory};
 ghost use Rattle.settle_spec.specs.Lists.{Request};
-ghost use Rattle.settle_spec.specs.Writes as writes;
+ghost use Rattle.settle_spec.specs.Kept.{Kept as Keeping};
+ghost use Rattle.settle_spec.specs.Keeping.Writes as writes;
 ghost use Rattle.pci_base.specs.Space.{space_of};
 ghost use Rattle.pci_place.specs.Above.{system_in};
 ghost use Rattle.pci_settle.specs.Lists.{lists_value};
 ghost use Rattle.pci_settle.specs.Over.{AreOpenOver};
 ghost use Rattle.pci_settling.specs.Shown.{HasRegister};
 ghost use Rattle.pci_settle_writes.specs.Requests.{IsAskedOf};
+ghost use Rattle.pci_settle_writes.specs.Told.{IsTableOf};
 ghost use Rattle.pci_settle_writes.specs.Dumps.{IsSettledDump};
 ghost use Rattle.pci_settle_writes.specs.Shut.{is_same_above, is_bar_changed, is_moving_bar, has_moving_rom, has_moving_by, is_cut_off_by, is_shut_by, closing_by};
 
@@ -17,12 +19,14 @@ use crate::closed::same_windows;
 use crate::way::{BySpace, Way};
 use pci_base::image::Image;
 use pci_base::memory::OutOfMemory;
+use pci_base::offset::BASE_ADDRESS;
 use pci_base::slot::BUSES;
 use pci_base::space::Space;
 use pci_dump::block::Block;
 use pci_function::record::Record;
 use pci_image::bar::{Bar, BarKind};
 use pci_place::above::aboves;
+use pci_settle::kept::Kept;
 use pci_settle::list::Lists;
 use pci_settle::over::{OpenWindows, Over, open_over};
 use pci_settle::own::{Terms, class_of, is_left_bar};
@@ -30,15 +34,16 @@ use pci_settling::claim::{has_kept, has_left_bar, is_bar_of, is_rom_on};
 use pci_tree::admitted::Admitted;
 use std::alloc::Allocator;
 
-/// What is around the functions on a bus.
+/// What is around a function, and what of it stays.
 #[derive(Clone, Copy)]
-struct Around {
+struct Around<'a> {
     over: Over,
     terms: Terms,
     way: Way,
+    kept: &'a Kept,
 }
 
-impl Around {
+impl Around<'_> {
     /// Whether no window of a BAR's class changes of the bridges above it.
     fn is_same_above(&self, bar: &Bar) -> bool
         ensures { result ≡ is_same_above self.now bar.now }
@@ -57,13 +62,14 @@ fn is_bar_changed(old: &Image, new: &Image, bar: &Bar) -> bool
 }
 
 /// Whether a BAR of a space moves: its register changes, or the window of its class of a bridge above it does. One that is
-/// left doesn't.
+/// left or stays doesn't.
 fn is_moving_bar(space: Space, around: &Around, old: &Image, new: &Image, bar: &Bar) -> bool
     requires { HasRegister bar.now }
     ensures { result ≡ is_moving_bar around.now (space_of space) old.now.0 new.now.0 bar.now }
 {
     is_bar_of(space, bar)
         && !is_left_bar(bar, around.over.above, around.terms)
+        && !around.kept.bar((bar.reg - BASE_ADDRESS) / 4)
         && (is_bar_changed(old, new, bar) || !around.is_same_above(bar))
 }
 
@@ -81,12 +87,14 @@ fn has_moving_bar(space: Space, around: &Around, old: &Image, new: &Image, bars:
     false
 }
 
-/// Whether a ROM that is on moves, which is of the class of memory.
+/// Whether a ROM that is on moves, which is of the class of memory. One that stays doesn't.
 fn has_moving_rom(around: &Around, old: &Image, new: &Image, record: &Record) -> bool
     ensures { result ≡ has_moving_rom around.now old.now.0 new.now.0 «record».now }
 {
     let register = record.rom_register();
-    is_rom_on(record.rom) && (new.u32(register) != old.u32(register) || !around.way.same.memory)
+    is_rom_on(record.rom)
+        && !around.kept.rom
+        && (new.u32(register) != old.u32(register) || !around.way.same.memory)
 }
 
 /// Whether a BAR or ROM of a space moves.
@@ -141,26 +149,31 @@ fn closing_command(around: &Around, record: &Record, shut: BySpace) -> u16
     record.command / 4 * 4 + enables
 }
 
-/// What Command of each function holds once all is closed, in slot order, where `settled` is the dump as it is to be and
-/// `overs` the open windows over each bus. What is shut and which windows change is known of each bridge above a function
-/// before the function itself, as a bridge has a lower slot than what is behind it.
+/// What Command of each function holds once all is closed, in slot order. `settled` is the dump as it is to be, `overs` has the
+/// open windows over each bus, and `staying` is what stays. What is shut and which windows change is known of each bridge above
+/// a function before the function itself, as a bridge has a lower slot than what is behind it.
 pub fn closing_commands<A: Allocator, B: Allocator>(
     alloc: A,
     admitted: &Admitted<B>,
     lists: &Lists,
     overs: &[OpenWindows],
     settled: &[Block],
+    staying: &[Kept],
 ) -> Result<Vec<u16, A>, OutOfMemory>
     // old and new of a function have one index
-    requires { length settled.now ≡ length admitted.now.dump }
+    requires settled { length settled.now ≡ length admitted.now.dump }
+    // what stays of a function stands where its record does
+    requires staying { length staying.now ≡ length (system_in admitted.now) }
     // a function's Command stands where its record does
     ensures count { IfOk result
         (λ commands. length commands.items ≡ length (system_in admitted.now)) }
-    ensures commands { IfOk result (λ commands. (q : Request)
+    ensures commands { IfOk result (λ commands. (q : Request) (keep : Keeping)
         → IsAskedOf q admitted.now.roots (lists_value lists.now)
         → AreOpenOver q (system_in admitted.now) overs.now
-        → IsSettledDump q admitted.now settled.now
-        → commands.items ≡ map (writes.closing_command q (system_in admitted.now)) (system_in admitted.now)) }
+        → IsTableOf (system_in admitted.now) keep.stays staying.now
+        → IsSettledDump q keep admitted.now settled.now
+        → commands.items
+        ≡ map (writes.closing_command q (system_in admitted.now) keep) (system_in admitted.now)) }
 {
     let aboves = aboves(admitted);
     let terms = Terms::of(lists);
@@ -177,7 +190,13 @@ pub fn closing_commands<A: Allocator, B: Allocator>(
             above: aboves[usize::from(bus)],
             windows: open_over(overs, bus),
         };
-        let around = Around { over, terms, way };
+        let kept = &staying[k];
+        let around = Around {
+            over,
+            terms,
+            way,
+            kept,
+        };
         let old = &start[k];
         let new = &settled[k];
         let itself = shut_itself(&around, &old.image, &new.image, record);

@@ -4,12 +4,14 @@ ghost use Rattle.std.specs.List.{list_all, flat_map};
 ghost use Rattle.pci_spec.specs.System.{System};
 ghost use Rattle.plan_spec.specs.Planning.PlanWrites.{register_write};
 ghost use Rattle.settle_spec.specs.Lists.{Request};
-ghost use Rattle.settle_spec.specs.Writes.{closings, setting_from, opening_from, settle_writes};
+ghost use Rattle.settle_spec.specs.Kept.{Kept as Keeping};
+ghost use Rattle.settle_spec.specs.Keeping.Writes.{closings, setting_from, opening_from, settle_writes};
 ghost use Rattle.pci_place.specs.Above.{system_in};
 ghost use Rattle.pci_plan.specs.Writes.{write_value};
 ghost use Rattle.pci_settle.specs.Lists.{lists_value};
 ghost use Rattle.pci_settle.specs.Over.{AreOpenOver};
 ghost use Rattle.pci_settle_writes.specs.Requests.{IsAskedOf};
+ghost use Rattle.pci_settle_writes.specs.Told.{IsTableOf};
 ghost use Rattle.pci_settle_writes.specs.Dumps.{IsSettledDump};
 ghost use Rattle.pci_settle_writes.specs.Stages.{pair_of, is_access_of, images_change, bridge_closing, bridge_settings, is_bridge_image, HasEachStage, AreStages, command_at, closing_at, setting_at};
 
@@ -22,10 +24,12 @@ use pci_base::offset::{
     PREFETCHABLE_BASE, PREFETCHABLE_BASE_UPPER, PREFETCHABLE_LIMIT_UPPER,
 };
 use pci_base::slot::Slot;
+use pci_base::window_kind::ByKind;
 use pci_dump::block::Block;
 use pci_image::layout::Layout;
 use pci_plan::write::Write;
 use pci_plan::writes::add_registers;
+use pci_settle::kept::Kept;
 use pci_settle::list::Lists;
 use pci_settle::over::OpenWindows;
 use pci_tree::admitted::Admitted;
@@ -170,6 +174,8 @@ struct Stages<'a> {
     /// What Command holds once all is closed.
     commands: &'a [u16],
     settled: &'a [Block],
+    /// What stays.
+    staying: &'a [Kept],
 }
 
 /// Whether a function is a bridge.
@@ -185,13 +191,14 @@ fn add_closing<A: Allocator>(
     old: &Block,
     probe: &Image,
     new: &Image,
+    kept: &ByKind<bool>,
     command: u16,
 ) -> Result<(), OutOfMemory>
     ensures { OnOk result (map write_value writes.new.items ≡ map write_value writes.old.items
-        ++ closing_at old.now.slot old.now.image probe.now.0 new.now.0 command) }
+        ++ closing_at old.now.slot old.now.image probe.now.0 new.now.0 kept.now command) }
 {
     if is_bridge(&old.image) {
-        let closed = closed_image(&old.image, probe, new, command);
+        let closed = closed_image(&old.image, probe, new, kept, command);
         add_changes(writes, old.slot, &old.image, &closed, closing_spans())
     } else {
         add_command(writes, old.slot, old.image.u16(COMMAND), command)
@@ -204,16 +211,17 @@ fn add_closings<A: Allocator>(
     stages: &Stages,
 ) -> Result<(), OutOfMemory>
     requires { HasEachStage stages.now }
-    ensures { OnOk result ((q : Request) (s : System) → AreStages q s stages.now
-        → map write_value writes.new.items ≡ map write_value writes.old.items ++ closings q s s) }
+    ensures { OnOk result ((q : Request) (s : System) (keep : Keeping) → AreStages q s keep stages.now
+        → map write_value writes.new.items ≡ map write_value writes.old.items ++ closings q s keep s) }
 {
     for done in 0..stages.start.len() {
         let k = stages.start.len() - 1 - done;
         let old = &stages.start[k];
         let probe = &stages.probe[k];
         let new = &stages.settled[k];
+        let kept = &stages.staying[k].windows;
         let command = stages.commands[k];
-        add_closing(writes, old, &probe.image, &new.image, command)?;
+        add_closing(writes, old, &probe.image, &new.image, kept, command)?;
     }
     Ok(())
 }
@@ -225,13 +233,14 @@ fn add_setting<A: Allocator>(
     old: &Block,
     probe: &Image,
     new: &Block,
+    kept: &ByKind<bool>,
     command: u16,
 ) -> Result<(), OutOfMemory>
     ensures { OnOk result (map write_value writes.new.items ≡ map write_value writes.old.items
-        ++ setting_at old.now.slot old.now.image probe.now.0 new.now.image command) }
+        ++ setting_at old.now.slot old.now.image probe.now.0 new.now.image kept.now command) }
 {
     if is_bridge(&old.image) {
-        let closed = closed_image(&old.image, probe, &new.image, command);
+        let closed = closed_image(&old.image, probe, &new.image, kept, command);
         let spans = setting_spans(&closed, &new.image);
         add_changes(writes, old.slot, &closed, &new.image, spans)
     } else {
@@ -245,15 +254,16 @@ fn add_settings<A: Allocator>(
     stages: &Stages,
 ) -> Result<(), OutOfMemory>
     requires { HasEachStage stages.now }
-    ensures { OnOk result ((q : Request) (s : System) → AreStages q s stages.now
+    ensures { OnOk result ((q : Request) (s : System) (keep : Keeping) → AreStages q s keep stages.now
         → map write_value writes.new.items
-        ≡ map write_value writes.old.items ++ flat_map (setting_from q s) s) }
+        ≡ map write_value writes.old.items ++ flat_map (setting_from q s keep) s) }
 {
     for k in 0..stages.start.len() {
         let old = &stages.start[k];
         let probe = &stages.probe[k];
         let new = &stages.settled[k];
-        add_setting(writes, old, &probe.image, new, stages.commands[k])?;
+        let kept = &stages.staying[k].windows;
+        add_setting(writes, old, &probe.image, new, kept, stages.commands[k])?;
     }
     Ok(())
 }
@@ -264,9 +274,9 @@ fn add_openings<A: Allocator>(
     stages: &Stages,
 ) -> Result<(), OutOfMemory>
     requires { HasEachStage stages.now }
-    ensures { OnOk result ((q : Request) (s : System) → AreStages q s stages.now
+    ensures { OnOk result ((q : Request) (s : System) (keep : Keeping) → AreStages q s keep stages.now
         → map write_value writes.new.items
-        ≡ map write_value writes.old.items ++ flat_map (opening_from q s) s) }
+        ≡ map write_value writes.old.items ++ flat_map (opening_from q s keep) s) }
 {
     for k in 0..stages.start.len() {
         let old = &stages.start[k];
@@ -280,10 +290,10 @@ fn add_openings<A: Allocator>(
 /// The writes that lead through the stages.
 fn writes_by<A: Allocator>(alloc: A, stages: &Stages) -> Result<Writes<A>, OutOfMemory>
     requires { HasEachStage stages.now }
-    ensures writes { IfOk result (λ writes. (q : Request) (s : System) → AreStages q s stages.now
-        → map write_value writes.all.items ≡ settle_writes q s) }
-    ensures closings { IfOk result (λ writes. (q : Request) (s : System) → AreStages q s stages.now
-        → writes.closings ≡ length (closings q s s)) }
+    ensures writes { IfOk result (λ writes. (q : Request) (s : System) (keep : Keeping) → AreStages q s keep stages.now
+        → map write_value writes.all.items ≡ settle_writes q s keep) }
+    ensures closings { IfOk result (λ writes. (q : Request) (s : System) (keep : Keeping) → AreStages q s keep stages.now
+        → writes.closings ≡ length (closings q s keep s)) }
 {
     let mut all = Vec::new(alloc);
     add_closings(&mut all, stages)?;
@@ -294,9 +304,9 @@ fn writes_by<A: Allocator>(alloc: A, stages: &Stages) -> Result<Writes<A>, OutOf
 }
 
 /// The writes that lead to the settled dump. First Command is written of functions that are shut in a space or have an I/O BAR
-/// that is left, and windows that change are closed, the highest slot first; then the address registers are set that change,
-/// and then functions are opened, both the lowest slot first. None of them would change nothing. `overs` has the open windows
-/// over each bus, and is empty where all is placed anew.
+/// that is left, and windows that change and don't stay are closed, the highest slot first. Then the address registers are set
+/// that change, and then functions are opened, both the lowest slot first. None of them would change nothing. `overs` has the
+/// open windows over each bus, and is empty where all is placed anew; `staying` is what stays.
 ///
 /// Errors: 2 `OutOfMemory` where a growth was refused.
 pub fn writes_to<A: Allocator + Copy, B: Allocator>(
@@ -305,28 +315,35 @@ pub fn writes_to<A: Allocator + Copy, B: Allocator>(
     lists: &Lists,
     overs: &[OpenWindows],
     settled: &[Block],
+    staying: &[Kept],
 ) -> Result<Writes<A>, OutOfMemory>
     // old and new of a function have one index
-    requires { length settled.now ≡ length admitted.now.dump }
-    ensures writes { IfOk result (λ writes. (q : Request)
+    requires settled { length settled.now ≡ length admitted.now.dump }
+    // what stays of a function stands where its record does
+    requires staying { length staying.now ≡ length (system_in admitted.now) }
+    ensures writes { IfOk result (λ writes. (q : Request) (keep : Keeping)
         → IsAskedOf q admitted.now.roots (lists_value lists.now)
         → AreOpenOver q (system_in admitted.now) overs.now
-        → IsSettledDump q admitted.now settled.now
-        → map write_value writes.all.items ≡ settle_writes q (system_in admitted.now)) }
-    ensures closings { IfOk result (λ writes. (q : Request)
+        → IsTableOf (system_in admitted.now) keep.stays staying.now
+        → IsSettledDump q keep admitted.now settled.now
+        → map write_value writes.all.items ≡ settle_writes q (system_in admitted.now) keep) }
+    ensures closings { IfOk result (λ writes. (q : Request) (keep : Keeping)
         → IsAskedOf q admitted.now.roots (lists_value lists.now)
         → AreOpenOver q (system_in admitted.now) overs.now
-        → IsSettledDump q admitted.now settled.now
-        → writes.closings ≡ length (closings q (system_in admitted.now) (system_in admitted.now))) }
+        → IsTableOf (system_in admitted.now) keep.stays staying.now
+        → IsSettledDump q keep admitted.now settled.now
+        → writes.closings
+        ≡ length (closings q (system_in admitted.now) keep (system_in admitted.now))) }
 {
     // What the dump was admitted by: the contract speaks of the system that it makes.
     let _outline = admitted.outline();
-    let commands = closing_commands(alloc, admitted, lists, overs, settled)?;
+    let commands = closing_commands(alloc, admitted, lists, overs, settled, staying)?;
     let stages = Stages {
         start: admitted.dump().blocks(),
         probe: admitted.probe().blocks(),
         commands: commands.as_slice(),
         settled,
+        staying,
     };
     writes_by(alloc, &stages)
 }

@@ -12,6 +12,7 @@ use Rattle.pci_tree.specs.Admission.{Admission, IsAdmitted}
 use Rattle.pci_tree.proofs.Lifting.{same_slot_of}
 use Rattle.pci_place.specs.Above.{system_in}
 use Rattle.pci_place.proofs.Records.{same_count}
+use Rattle.pci_settle.specs.Kept.{nothing_kept}
 use Rattle.pci_settle.specs.Lists.{lists_value}
 use Rattle.pci_settling.proofs.Registers.{have_registers}
 use Rattle.pci_plan.proofs.PlannedDumps.{ArePlanned, none_planned, found_count, next_above, all_planned}
@@ -28,7 +29,7 @@ module _ (g : Over) (c : After-empty-dump g) where
   l = lists_value c.args.lists.now
 
   abbrev P : Function → Function → Type 0
-  P = IsSettledOf a.roots (system_in a) l c.args.table.now c.args.staying.now
+  P = IsSettledOf a.roots (system_in a) l c.args.table.now c.args.grown.now c.args.staying.now
 
   admitted_is : IsAdmitted a
   admitted_is = c.outline-outline.ensures.admitted
@@ -110,12 +111,12 @@ loop-k-preserved g c =
     let new : Block = record { slot = c.push_next.inside.slot; title = c.push_next.inside.title; image = c.settled_function-image.result.0 } in
     let bus = c.from.ensures ∙ c.bus.ensures ∙ ap (λ (x : Slot). x.bus) (same_slot_of r f at.is.value) in
     subst (λ (found : List Block). ArePlanned (P g start) (a g start).dump (a g start).probe (k + 1) found) (sym c.in_ok-push_next.ensures)
-    (next_settled (a g start) (admitted_is g start) (l g start) c.args.table.now c.args.staying.now k c.loop-k.dump c.loop-k.invariant old new r at less b slot title
-    (λ q by.
+    (next_settled (a g start) (admitted_is g start) (l g start) c.args.table.now c.args.grown.now c.args.staying.now k c.loop-k.dump c.loop-k.invariant old new r at less b slot title
+    (λ q keep by.
     let of = request_by q (a g start).roots (l g start) c.of-terms.result by.asked c.of-terms.ensures in
-    c.settled_function-image.ensures q s f (ap (λ (x : Block). x.image) c.block.view_is)
-    (placed_here (a g start).roots s (admitted_is g start).system (admitted_is g start).nested q c.of-terms.result c.args.table.now of by.places c.args.staying.now by.stay k f r at.at at.is _ _ refl _ _ refl)
-    (told_here (a g start).roots s (admitted_is g start).system (admitted_is g start).nested q c.of-terms.result c.args.table.now of by.places
+    c.settled_function-image.ensures q s keep f (ap (λ (x : Block). x.image) c.block.view_is)
+    (placed_here (a g start).roots s (admitted_is g start).system (admitted_is g start).nested q keep c.of-terms.result c.args.table.now of by.places c.args.grown.now c.args.staying.now by.tells k f r at.at at.is _ _ refl nothing_kept (get_or c.args.staying.now k nothing_kept) refl _ c.ranges_told.ensures)
+    (told_here (a g start).roots s (admitted_is g start).system (admitted_is g start).nested q keep c.of-terms.result c.args.table.now of by.places
     c.live_buses-io.result c.live_buses-memory.result c.live_buses-io.ensures c.live_buses-memory.ensures c.aboves-aboves.result c.aboves-aboves.ensures
     f r at.is c.from.result bus _ record { io = c.is_live_behind.result; memory = c.is_live_behind-in-loop-k.result } c.is_live_behind.ensures c.is_live_behind-in-loop-k.ensures)))
 
@@ -150,7 +151,7 @@ returns-clause-settled g c =
     let e = ap length (blocks_are g start) in
     let done = c.loop-k-test.false in
     let all = all_planned (P g start) (a g start).dump (a g start).probe (admitted_is g start).slots c.loop-k.k c.loop-k.dump c.loop-k.invariant (omega (arith, e, done)) in
-    λ q asked places stay. record {
+    λ q keep asked places tells. record {
       slots = all.0;
-      system = all_settled (a g start).roots (system_in (a g start)) (l g start) c.args.table.now c.args.staying.now q (record { asked = asked; places = places; stay = stay }) (system_in (a g start)) _ all.2;
+      system = all_settled (a g start).roots (system_in (a g start)) (l g start) c.args.table.now c.args.grown.now c.args.staying.now q keep (record { asked = asked; places = places; tells = tells }) (system_in (a g start)) _ all.2;
     }

@@ -6,4 +6,4 @@ use Rattle.pci_settle_writes.proofs.dump.settled_dump.Given as goal
 
 abbrev pub invariant-loop-k : goal.invariant-loop-k
 invariant-loop-k g l =
-    ArePlanned (IsSettledOf l.admitted.roots (system_in l.admitted) (lists_value l.lists) l.table l.staying) l.admitted.dump l.admitted.probe l.k l.dump
+    ArePlanned (IsSettledOf l.admitted.roots (system_in l.admitted) (lists_value l.lists) l.table l.grown l.staying) l.admitted.dump l.admitted.probe l.k l.dump

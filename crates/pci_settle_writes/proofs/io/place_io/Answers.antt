@@ -1,4 +1,4 @@
-use Rattle.std.proofs.Common.{◌∙◌, map, [], sym, subst}
+use Rattle.std.proofs.Common.{◌∙◌, map, [], refl, sym, subst}
 use Rattle.std.proofs.lemmas.Result.{err_from_is_err_and}
 use Rattle.pci_base.specs.WindowKinds.{kind_value}
 use Rattle.pci_place.specs.Above.{system_in}
@@ -22,21 +22,21 @@ pub place-requires : goal.place-requires
 place-requires g c =
     let alone : Lists = record { io = map root_range_value c.args.lists.now.io.now; memory = []; prefetch = [] } in
     rest_can_be_left c.args.admitted.now alone c.args.fixed.now c.outline-outline.ensures.admitted c.records.result.now c.records.ensures.value c.outline-outline.ensures.records
-    _ c.open_windows-over.ensures c.as_slice.result.now c.as_slice.ensures.value c.as_slice.ensures.value c.in_ok-table.ensures.stay
+    _ c.open_windows-over.ensures c.as_slice.result.now c.as_slice.ensures.value c.as_slice.ensures.value refl c.in_ok-table.ensures.stay
 
 pub returns-in-Ok-clause-room : goal.returns-in-Ok-clause-room
 returns-in-Ok-clause-room g c =
     let q = asked c.args.admitted.now.roots (lists_value c.args.lists.now) c.args.fixed.now in
     let alone : Lists = record { io = map root_range_value c.args.lists.now.io.now; memory = []; prefetch = [] } in
     let leaving = leaving_rest c.args.admitted.now alone c.args.fixed.now c.outline-outline.ensures.admitted c.records.result.now c.records.ensures.value c.outline-outline.ensures.records
-    _ c.open_windows-over.ensures c.as_slice.result.now c.as_slice.ensures.value c.as_slice.ensures.value c.in_ok-table.ensures.stay in
-    alone_placed q (system_in c.args.admitted.now) (c.in-Ok.ensures.places _ leaving).lack
+    _ c.open_windows-over.ensures c.as_slice.result.now c.as_slice.ensures.value c.as_slice.ensures.value refl c.in_ok-table.ensures.stay in
+    alone_placed q (system_in c.args.admitted.now) (c.in-Ok.ensures.places _ _ leaving).lack
 
 pub fault_of-requires : goal.fault_of-requires
 fault_of-requires g c =
     let alone : Lists = record { io = map root_range_value c.args.lists.now.io.now; memory = []; prefetch = [] } in
     let can = rest_can_be_left c.args.admitted.now alone c.args.fixed.now c.outline-outline.ensures.admitted c.records.result.now c.records.ensures.value c.outline-outline.ensures.records
-    _ c.open_windows-over.ensures c.as_slice.result.now c.as_slice.ensures.value c.as_slice.ensures.value c.in_ok-table.ensures.stay in
+    _ c.open_windows-over.ensures c.as_slice.result.now c.as_slice.ensures.value c.as_slice.ensures.value refl c.in_ok-table.ensures.stay in
     named c.args.admitted.now.roots alone _ (system_in c.args.admitted.now) c.outline-outline.ensures.admitted.system can c.in-Err-Fault.unplaced
     (subst (IsUnplacedOff c.args.admitted.now.roots (system_in c.args.admitted.now) alone _) c.in-Err-Fault.field-0-is c.in-Err-Fault.ensures.fault)
 
@@ -45,7 +45,7 @@ returns-then-is_of_io-clause-fault g c =
     let q = asked c.args.admitted.now.roots (lists_value c.args.lists.now) c.args.fixed.now in
     let alone : Lists = record { io = map root_range_value c.args.lists.now.io.now; memory = []; prefetch = [] } in
     let leaving = leaving_rest c.args.admitted.now alone c.args.fixed.now c.outline-outline.ensures.admitted c.records.result.now c.records.ensures.value c.outline-outline.ensures.records
-    _ c.open_windows-over.ensures c.as_slice.result.now c.as_slice.ensures.value c.as_slice.ensures.value c.in_ok-table.ensures.stay in
+    _ c.open_windows-over.ensures c.as_slice.result.now c.as_slice.ensures.value c.as_slice.ensures.value refl c.in_ok-table.ensures.stay in
     alone_fault c.args.admitted.now q c.in-Err-Fault.unplaced c.fault_of.result
     (is_alone q (system_in c.args.admitted.now) _ leaving c.in-Err-Fault.unplaced
     (subst (IsUnplacedOff c.args.admitted.now.roots (system_in c.args.admitted.now) alone _) c.in-Err-Fault.field-0-is c.in-Err-Fault.ensures.fault))
@@ -56,7 +56,7 @@ returns-clause-room g c =
     let q = asked c.args.admitted.now.roots (lists_value c.args.lists.now) c.args.fixed.now in
     let alone : Lists = record { io = map root_range_value c.args.lists.now.io.now; memory = []; prefetch = [] } in
     let leaving = leaving_rest c.args.admitted.now alone c.args.fixed.now c.outline-outline.ensures.admitted c.records.result.now c.records.ensures.value c.outline-outline.ensures.records
-    _ c.open_windows-over.ensures c.as_slice.result.now c.as_slice.ensures.value c.as_slice.ensures.value c.in_ok-table.ensures.stay in
+    _ c.open_windows-over.ensures c.as_slice.result.now c.as_slice.ensures.value c.as_slice.ensures.value refl c.in_ok-table.ensures.stay in
     alone_room q (system_in c.args.admitted.now) c.in-Err-Fault.unplaced
     (is_alone q (system_in c.args.admitted.now) _ leaving c.in-Err-Fault.unplaced
     (subst (IsUnplacedOff c.args.admitted.now.roots (system_in c.args.admitted.now) alone _) c.in-Err-Fault.field-0-is c.in-Err-Fault.ensures.fault))

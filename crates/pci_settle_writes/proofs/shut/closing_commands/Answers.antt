@@ -5,7 +5,8 @@ use Rattle.pci_spec.specs.Text.{Block}
 use Rattle.pci_spec.specs.System.{Space}
 use Rattle.pci_spec.proofs.Pairing.{same_length, length-system_of}
 use Rattle.settle_spec.specs.Lists.{Request, Lists}
-use Rattle.settle_spec.specs.Registers.{settled_function}
+use Rattle.settle_spec.specs.Kept.{Kept as Keeping}
+use Rattle.settle_spec.specs.Keeping.Registers.{settled_function}
 use Rattle.pci_base.specs.Space.{is_on}
 use Rattle.pci_function.specs.declared.record.Record.{Record}
 use Rattle.pci_tree.specs.Admission.{Admission, IsAdmitted}
@@ -14,6 +15,7 @@ use Rattle.pci_place.specs.declared.above.Above.{Above}
 use Rattle.pci_place.specs.Above.{system_in, IsAbove}
 use Rattle.pci_place.proofs.Records.{lent, FunctionAt, same_count, function_read}
 use Rattle.pci_settle.specs.declared.over.Over.{Over}
+use Rattle.pci_settle.specs.Kept.{nothing_kept}
 use Rattle.pci_settle.specs.Lists.{lists_value}
 use Rattle.pci_settle.specs.Over.{AreClassWindows, no_windows}
 use Rattle.pci_settle.specs.Own.{AreTerms}
@@ -65,8 +67,8 @@ module _ (g : Outer) (c : After-blocks-start g) where
   start : AreOf (system_in a) c.blocks-start.result.now
   start = subst (λ (bs : List Block). AreOf (system_in a) bs) (sym blocks_are) (start_of a admitted_is)
 
-  settled : (q : Request) → IsSettledDump q a c.args.settled.now → AreSettledBlocks q (system_in a) c.args.settled.now
-  settled q to = settled_of a admitted_is q c.args.settled.now to
+  settled : (q : Request) (keep : Keeping) → IsSettledDump q keep a c.args.settled.now → AreSettledBlocks q (system_in a) keep c.args.settled.now
+  settled q keep to = settled_of a admitted_is q keep c.args.settled.now to
 
   terms : (q : Request) → IsAskedOf q a.roots l → AreTerms q.lists c.of-terms.result
   terms q asked = subst (λ lists. AreTerms lists c.of-terms.result) (sym asked.lists_are) c.of-terms.ensures
@@ -80,8 +82,8 @@ loop-k-init g c =
     let start = (goal.at.loop-k-init g c).After-blocks-start in
     record {
       count = ap length c.new-commands.ensures.items;
-      closed = λ q asked told to.
-          let none = none_closed q (a g start).roots (system_in (a g start)) (admitted_is g start).system (admitted_is g start).nested in
+      closed = λ q keep asked told stay to.
+          let none = none_closed q (a g start).roots (system_in (a g start)) keep (admitted_is g start).system (admitted_is g start).nested in
           record { marks = none.marks; values = c.new-commands.ensures.items };
     }
 
@@ -99,9 +101,17 @@ bounds-settled-k g c =
     let start = (goal.at.bounds-settled-k g c).After-blocks-start in
     let s = size g start in
     let n = count g start in
-    let e = c.requires in
+    let e = c.requires.settled in
     let more = c.loop-k-test.true in
     omega (arith, s, n, e, more)
+
+pub bounds-staying-k : goal.bounds-staying-k
+bounds-staying-k g c =
+    let start = (goal.at.bounds-staying-k g c).After-blocks-start in
+    let n = count g start in
+    let e = c.requires.staying in
+    let more = c.loop-k-test.true in
+    omega (arith, n, e, more)
 
 pub shut_itself-itself-requires : goal.shut_itself-itself-requires
 shut_itself-itself-requires g c =
@@ -123,36 +133,37 @@ loop-k-preserved g c =
     let way : Way = get_or c.loop-k.ways c.from.result no_way in
     let above : Above = get_or c.aboves-aboves.result c.from-in-loop-k.result no_above in
     let over : Over = record { above = above; windows = c.open_over.result } in
-    let around : Around = record { over = over; terms = c.of-terms.result; way = way } in
+    let around : Around = record { over = over; terms = c.of-terms.result; way = way; kept = record { ref_ptr = c.args.staying.ref_ptr; now = get_or c.args.staying.now k nothing_kept } } in
     let commands : c.push.new.self.items ≡ c.loop-k.commands.items ++ closing_by around r c.shut.result ∷ [] =
     c.in_ok-push.ensures.items ∙ ap (λ x. c.loop-k.commands.items ++ x ∷ []) c.closing_command.ensures in
     record {
       count = ap length commands ∙ length-append c.loop-k.commands.items _ ∙ ap (λ n. n + 1) c.loop-k.invariant.count;
-      closed = λ q asked told to.
-          let was = c.loop-k.invariant.closed q asked told to in
-          let is_around : IsAround q s f.slot.bus around = record {
+      closed = λ q keep asked told stay to.
+          let was = c.loop-k.invariant.closed q keep asked told stay to in
+          let is_around : IsAround q s keep f around = record {
             over = record {
               above = subst (λ n. IsAbove s f.slot.bus (get_or c.aboves-aboves.result n no_above)) (sym (c.from-in-loop-k.ensures ∙ bus)) (c.aboves-aboves.ensures f no_above here.is.listed);
               windows_are = subst (AreClassWindows q s f.slot.bus) (sym (c.open_over.ensures ∙ ap (λ n. get_or c.args.overs.now n no_windows) bus)) (told f here.is.listed);
             };
             terms = terms g first q asked;
-            way = subst (λ n. IsWay q s f.slot.bus (get_or c.loop-k.ways n no_way)) (sym (c.from.ensures ∙ bus)) (way_at q roots s admitted.system admitted.nested k f r here.at here.is c.loop-k.ways c.loop-k.commands.items was no_way);
+            way = subst (λ n. IsWay q s keep f.slot.bus (get_or c.loop-k.ways n no_way)) (sym (c.from.ensures ∙ bus)) (way_at q roots s keep admitted.system admitted.nested k f r here.at here.is c.loop-k.ways c.loop-k.commands.items was no_way);
+            kept = λ part there. stay.each k f nothing_kept part here.at there;
           } in
           let old : List ℕ = c.old.inside.image.0 in
           let new : List ℕ = c.new.inside.image.0 in
           let old_is : old ≡ f.image = ap (λ (x : Block). x.image) c.old.view_is
-          ∙ start_image q roots s admitted.system admitted.nested k f r here.at here.is c.blocks-start.result.now c.args.settled.now c.index-start-k.result c.index-settled-k.result c.index-start-k.is c.index-settled-k.is (start g first) in
-          let new_is : new ≡ (settled_function q s f).image = ap (λ (x : Block). x.image) c.new.view_is
-          ∙ settled_image q roots s admitted.system admitted.nested k f r here.at here.is c.blocks-start.result.now c.args.settled.now c.index-start-k.result c.index-settled-k.result c.index-start-k.is c.index-settled-k.is (settled g first q to) in
+          ∙ start_image q roots s keep admitted.system admitted.nested k f r here.at here.is c.blocks-start.result.now c.args.settled.now c.index-start-k.result c.index-settled-k.result c.index-start-k.is c.index-settled-k.is (start g first) in
+          let new_is : new ≡ (settled_function q s keep f).image = ap (λ (x : Block). x.image) c.new.view_is
+          ∙ settled_image q roots s keep admitted.system admitted.nested k f r here.at here.is c.blocks-start.result.now c.args.settled.now c.index-start-k.result c.index-settled-k.result c.index-start-k.is c.index-settled-k.is (settled g first q keep to) in
           let itself_by : (x : Space) → in_space c.shut_itself-itself.result x ≡ is_shut_by around x old new r =
           by_spaces (λ x. in_space c.shut_itself-itself.result x ≡ is_shut_by around x old new r) c.shut_itself-itself.ensures.io c.shut_itself-itself.ensures.memory in
           let shut_by : (x : Space) → in_space c.shut.result x ≡ (in_space c.shut_itself-itself.result x || not (in_space way.clear x)) =
           by_spaces (λ x. in_space c.shut.result x ≡ (in_space c.shut_itself-itself.result x || not (in_space way.clear x))) c.shut.ensures.io c.shut.ensures.memory in
-          let After : List Way → Type 0 = λ ways. AreClosedTo q roots s (k + 1) ways c.push.new.self.items in
+          let After : List Way → Type 0 = λ ways. AreClosedTo q roots s keep (k + 1) ways c.push.new.self.items in
           elim c.match-record.branch [
             | in-Some w ↦
                 subst After (sym w.ways-is)
-                (closed_more q roots s admitted.system admitted.nested k f r here.at here.is around is_around old new old_is new_is c.shut_itself-itself.result c.shut.result itself_by shut_by
+                (closed_more q roots s keep admitted.system admitted.nested k f r here.at here.is around is_around old new old_is new_is c.shut_itself-itself.result c.shut.result itself_by shut_by
                 c.loop-k.ways c.loop-k.commands.items c.push.new.self.items was commands w.in-Some.bridge w.in-Some.is w.from-in-Some.result w.from-in-Some.ensures w.same_windows-same.result
                 (by_classes (λ x. in_class w.same_windows-same.result x ≡ not (is_window_changed x old new)) w.same_windows-same.ensures.io w.same_windows-same.ensures.memory w.same_windows-same.ensures.prefetchable)
                 w.and.result
@@ -161,7 +172,7 @@ loop-k-preserved g c =
                 (by_classes (λ x. in_class w.and.result.same x ≡ (in_class way.same x && in_class w.same_windows-same.result x)) w.and.ensures.same_io w.and.ensures.same_memory w.and.ensures.same_prefetchable))
             | in_default w ↦
                 subst After (sym w.ways-is)
-                (closed_same q roots s admitted.system admitted.nested k f r here.at here.is around is_around old new old_is new_is c.shut_itself-itself.result c.shut.result itself_by shut_by
+                (closed_same q roots s keep admitted.system admitted.nested k f r here.at here.is around is_around old new old_is new_is c.shut_itself-itself.result c.shut.result itself_by shut_by
                 c.loop-k.ways c.loop-k.commands.items c.push.new.self.items was commands w.in_default.is)
           ];
     }
@@ -180,5 +191,5 @@ returns-clause-commands g c =
     let first = (goal.at.returns-clause-commands g c).After-blocks-start in
     let n = count g first in
     let done = c.loop-k-test.false in
-    λ q asked told to. all_closed q (a g first).roots (system_in (a g first)) (admitted_is g first).system (admitted_is g first).nested c.loop-k.k c.loop-k.ways c.loop-k.commands.items
-    (c.loop-k.invariant.closed q asked told to) (omega (arith, n, done))
+    λ q keep asked told stay to. all_closed q (a g first).roots (system_in (a g first)) keep (admitted_is g first).system (admitted_is g first).nested c.loop-k.k c.loop-k.ways c.loop-k.commands.items
+    (c.loop-k.invariant.closed q keep asked told stay to) (omega (arith, n, done))

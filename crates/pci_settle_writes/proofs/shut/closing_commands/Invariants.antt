@@ -1,16 +1,18 @@
 use Rattle.std.proofs.Common.{◌≡◌, length}
 use Rattle.settle_spec.specs.Lists.{Request}
+use Rattle.settle_spec.specs.Kept.{Kept}
 use Rattle.pci_place.specs.Above.{system_in}
 use Rattle.pci_settle.specs.Lists.{lists_value}
 use Rattle.pci_settle.specs.Over.{AreOpenOver}
 use Rattle.pci_settle_writes.specs.Requests.{IsAskedOf}
 use Rattle.pci_settle_writes.specs.Dumps.{IsSettledDump}
+use Rattle.pci_settle_writes.specs.Told.{IsTableOf}
 use Rattle.pci_settle_writes.proofs.Closings.{AreClosedTo}
 use Rattle.pci_settle_writes.proofs.shut.closing_commands.Given as goal
 
 abbrev pub invariant-loop-k : goal.invariant-loop-k
 invariant-loop-k g l = record {
   count : length l.commands.items ≡ l.k;
-  closed : (q : Request) → IsAskedOf q l.admitted.roots (lists_value l.lists) → AreOpenOver q (system_in l.admitted) l.overs
-      → IsSettledDump q l.admitted l.settled → AreClosedTo q l.admitted.roots (system_in l.admitted) l.k l.ways l.commands.items;
+  closed : (q : Request) (keep : Kept) → IsAskedOf q l.admitted.roots (lists_value l.lists) → AreOpenOver q (system_in l.admitted) l.overs
+      → IsTableOf (system_in l.admitted) keep.stays l.staying → IsSettledDump q keep l.admitted l.settled → AreClosedTo q l.admitted.roots (system_in l.admitted) keep l.k l.ways l.commands.items;
 }

@@ -5,7 +5,7 @@ use Rattle.pci_settle.specs.Lists.{lists_value}
 use Rattle.pci_stand.specs.Known.{asked}
 use Rattle.pci_stay.specs.Staying.{IsTooLargeFor}
 use Rattle.pci_settle_writes.proofs.Refusals.{asked_too_large, asked_io}
-use Rattle.pci_settle_writes.proofs.settle.staying_parts.Goals as goal
+use Rattle.pci_settle_writes.proofs.standing.staying_parts.Goals as goal
 
 pub fault_of_window-requires : goal.fault_of_window-requires
 fault_of_window-requires g c =

@@ -3,14 +3,18 @@ use Rattle.std.proofs.lemmas.Result.{IfOk-weaker, IfErr-weaker}
 use Rattle.pci_spec.specs.Decoded.{HasRecords}
 use Rattle.pci_function.specs.Values.{record_value}
 use Rattle.settle_spec.specs.Stands.{stands}
+use Rattle.settle_spec.specs.Kept.{as_it_stands}
+use Rattle.pci_base.specs.declared.memory.Refused.TheVariants as refused
 use Rattle.pci_place.specs.Above.{system_in}
 use Rattle.pci_place.proofs.Records.{same_count}
 use Rattle.pci_settle.specs.Lists.{lists_value}
 use Rattle.pci_settle.specs.Kept.{AreNone}
 use Rattle.pci_settled.proofs.NothingLeft.{can_be_left}
+use Rattle.pci_plan.specs.Writes.{write_value}
+use Rattle.pci_settle_writes.proofs.Outcomes.{ended_anew, after_anew}
 use Rattle.pci_settle_writes.proofs.HeldTables.{stand_anew, told_anew}
 use Rattle.pci_settle_writes.proofs.Refusals.{unstanding}
-use Rattle.pci_settle_writes.proofs.settle.settle_all.Goals as goal
+use Rattle.pci_settle_writes.proofs.standing.settle_all.Goals as goal
 
 pub returns-in-Some-clause-refusal : goal.returns-in-Some-clause-refusal
 returns-in-Some-clause-refusal g c = λ q is anew flags.
@@ -19,10 +23,10 @@ returns-in-Some-clause-refusal g c = λ q is anew flags.
     = subst (λ rs. HasRecords (system_in a) rs) (sym c.records.ensures.value) c.outline-outline.ensures.records in
     let count = ap length c.as_slice-kept.ensures.value ∙ c.in_ok-none.ensures.count ∙ sym (same_count (system_in a) c.records.result.now has) in
     let none = subst AreNone (sym c.as_slice-kept.ensures.value) c.in_ok-none.ensures.none in
-    unstanding a q c.in-Some.fault (c.in-Some.ensures q (stands q (system_in a)) is flags (stand_anew a (lists_value c.args.lists.now) c.as_slice-kept.result.now count none q is anew))
+    after_anew a q anew (refused.Fault c.in-Some.fault) (unstanding a q (as_it_stands q (system_in a)) c.in-Some.fault (c.in-Some.ensures q (stands q (system_in a)) is flags (stand_anew a (lists_value c.args.lists.now) c.as_slice-kept.result.now count none q is anew)))
 
 pub settle_held-requires-clause-left : goal.settle_held-requires-clause-left
-settle_held-requires-clause-left g c = can_be_left c.args.admitted.now.roots (system_in c.args.admitted.now) (lists_value c.args.lists.now) _ refl refl
+settle_held-requires-clause-left g c = can_be_left c.args.admitted.now.roots (system_in c.args.admitted.now) (lists_value c.args.lists.now) _ refl refl refl
 
 pub returns-clause-ends : goal.returns-clause-ends
 returns-clause-ends g c =
@@ -31,8 +35,9 @@ returns-clause-ends g c =
     let count = ap length c.as_slice-kept.ensures.value ∙ c.in_ok-none.ensures.count ∙ sym (same_count (system_in c.args.admitted.now) c.records.result.now has) in
     let none = subst AreNone (sym c.as_slice-kept.ensures.value) c.in_ok-none.ensures.none in
     IfOk-weaker c.settle_held.result _ _
-    (λ x ends q is anew flags. ends q flags (told_anew c.args.admitted.now (lists_value c.args.lists.now) c.as_slice-kept.result.now count none q is anew _ refl refl
-    (λ test told. c.in_default.ensures q test is flags told)))
+    (λ x ends q is anew flags. ended_anew c.args.admitted.now q x.dump (map write_value x.writes.all.items) x.writes.closings anew
+    (ends q (as_it_stands q (system_in c.args.admitted.now)) flags (told_anew c.args.admitted.now (lists_value c.args.lists.now) c.as_slice-kept.result.now count none q is anew _ refl refl refl
+    (λ test told. c.in_default.ensures q test is flags told))))
     c.settle_held.ensures.ends
 
 pub returns-clause-refusal : goal.returns-clause-refusal
@@ -42,6 +47,7 @@ returns-clause-refusal g c =
     let count = ap length c.as_slice-kept.ensures.value ∙ c.in_ok-none.ensures.count ∙ sym (same_count (system_in c.args.admitted.now) c.records.result.now has) in
     let none = subst AreNone (sym c.as_slice-kept.ensures.value) c.in_ok-none.ensures.none in
     IfErr-weaker c.settle_held.result _ _
-    (λ e ends q is anew flags. ends q flags (told_anew c.args.admitted.now (lists_value c.args.lists.now) c.as_slice-kept.result.now count none q is anew _ refl refl
-    (λ test told. c.in_default.ensures q test is flags told)))
+    (λ e ends q is anew flags. after_anew c.args.admitted.now q anew e
+    (ends q (as_it_stands q (system_in c.args.admitted.now)) flags (told_anew c.args.admitted.now (lists_value c.args.lists.now) c.as_slice-kept.result.now count none q is anew _ refl refl refl
+    (λ test told. c.in_default.ensures q test is flags told))))
     c.settle_held.ensures.refusal

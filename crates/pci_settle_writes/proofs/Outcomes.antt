@@ -1,0 +1,162 @@
+-- Settling where windows grow, or else beside what stays as it stands: which of the two it is, and how it ends.
+use Rattle.std.proofs.Common.{◌≡◌, ℕ, inl, List, [], ◌∷◌, Bool, true, false, cond, not, ◌&&◌, Option, None, Some, refl, sym, ◌∙◌, ap, subst}
+use Rattle.std.specs.List.{find}
+use Rattle.std.specs.Option.{option_map}
+use Rattle.std.proofs.lemmas.Bool.{and_parts, and_from, both_ways}
+use Rattle.std.proofs.lemmas.Option.{none-some}
+use Rattle.pci_spec.specs.Machine.{Write}
+use Rattle.pci_spec.specs.System.{System}
+use Rattle.pci_spec.specs.Text.{Block}
+use Rattle.settle_spec.specs.Lists.{Request, are_bad_lists}
+use Rattle.settle_spec.specs.Parts.{FunctionPart, system_parts}
+use Rattle.settle_spec.specs.Stands.{is_fixed_part, stands}
+use Rattle.settle_spec.specs.Writes.{Settling, BadLists, Fixed, NoRoom, Settled, or_fixed, or_lack, fixed_without}
+use Rattle.settle_spec.specs.Kept.{Kept, as_it_stands, growing}
+use Rattle.settle_spec.specs.Keeping.Places.{lacking}
+use Rattle.settle_spec.specs.Keeping.Writes.{settle_writes, settle_keeping}
+use Rattle.settle_spec.specs.Growing.{or_else, settle_growing, kept_by, finally_kept}
+use Rattle.settle_laws.proofs.NothingGrows.{growing_is_standing}
+use Rattle.stand_laws.proofs.GrowingKept.{growing_stands}
+use Rattle.pci_base.specs.declared.memory.Refused.{Refused}
+use Rattle.pci_base.specs.declared.memory.Refused.TheVariants as refused
+use Rattle.pci_base.specs.WindowKinds.{kind_value}
+use Rattle.pci_tree.specs.Admission.{Admission}
+use Rattle.pci_place.specs.Above.{system_in}
+use Rattle.pci_settle.specs.NewWindows.{IsTooLarge}
+use Rattle.pci_stay.specs.declared.windows.TooLarge.{TooLarge}
+use Rattle.pci_settle_writes.specs.declared.lack.SettleFault.{SettleFault}
+use Rattle.pci_settle_writes.specs.declared.lack.SettleFault.TheVariants as fault
+use Rattle.pci_settle_writes.specs.Lacks.{IsSettleFaultOf, too_large, no_room}
+use Rattle.pci_settle_writes.specs.Fixed.{fixed_part}
+use Rattle.pci_settle_writes.specs.Endings.{then_writes, after_lists, AreFixedKept, IsEnded, IsEndedBy, IsRefused, IsRefusedGrowing, IsNotGrown, kept_after, IsEndedAfter}
+use Rattle.pci_settle_writes.proofs.Endings.{ends_fine}
+use Rattle.pci_settle_writes.proofs.Refusals.{none_found}
+
+-- ---- what is fixed and stays also stands
+
+skip : {X : Type 0} (p : X → Bool) (x : X) (xs : List X) (b : Bool) → p x ≡ b → find p (x ∷ xs) ≡ None → (b ≡ false) × (find p xs ≡ None)
+skip p x xs true at none = absurd (none-some x (sym none ∙ ap (λ b. cond b (Some x) (find p xs)) at))
+skip p x xs false at none = (refl, sym (ap (λ b. cond b (Some x) (find p xs)) at) ∙ none)
+
+off : (b c : Bool) → (b ≡ true → c ≡ true) → c ≡ false → b ≡ false
+off true c gives out = absurd (both_ways c out (gives refl))
+off false c gives out = refl
+
+none_fewer : {X : Type 0} (p r : X → Bool) → ((x : X) → r x ≡ true → p x ≡ true) → (xs : List X) → find p xs ≡ None → find r xs ≡ None
+none_fewer p r gives [] none = refl
+none_fewer p r gives (x ∷ xs) none =
+    let first = skip p x xs (p x) refl none in
+    let out : r x ≡ false = off (r x) (p x) (gives x) first.0 in
+    ap (λ b. cond b (Some x) (find r xs)) out ∙ none_fewer p r gives xs first.1
+
+not_fewer : (b c : Bool) → (b ≡ true → c ≡ true) → not c ≡ true → not b ≡ true
+not_fewer true c gives out = sym (ap not (gives refl)) ∙ out
+not_fewer false c gives out = refl
+
+module _ (q : Request) (s : System) where
+  fixed_stand : (keeps : FunctionPart → Bool) → ((r : FunctionPart) → keeps r ≡ true → stands q s r ≡ true) → fixed_without keeps q s ≡ None → fixed_without (stands q s) q s ≡ None
+  fixed_stand keeps standing none =
+      none_fewer (λ r. is_fixed_part q r && not (keeps r)) (λ r. is_fixed_part q r && not (stands q s r))
+      (λ r is.
+      let both = and_parts (is_fixed_part q r) (not (stands q s r)) is in
+      and_from (is_fixed_part q r) (not (keeps r)) both.0 (not_fewer (keeps r) (stands q s r) (standing r) both.1))
+      (system_parts q s) none
+
+  pub growing_fixed : None ≡ option_map fixed_part (fixed_without (growing q s).stays q s) → AreFixedKept q s (growing q s)
+  growing_fixed found =
+      let none = none_found fixed_part (fixed_without (growing q s).stays q s) found in
+      record { stand = fixed_stand (growing q s).stays (growing_stands q s) none; stay = none }
+
+-- ---- what is refused
+
+refused_after : (o : Option FunctionPart) (x : Settling) → IsRefused x → IsRefused (or_fixed o x)
+refused_after None x is = is
+refused_after (Some r) x is = tt
+
+-- something that is fixed doesn't stay where windows grow
+pub refused_fixed : (a : Admission) (q : Request) (r : FunctionPart) → fixed_without (growing q (system_in a)).stays q (system_in a) ≡ Some r → IsRefusedGrowing a q
+refused_fixed a q r at =
+    let s = system_in a in
+    let keep = growing q s in
+    let rest : Settling = or_lack (lacking q s keep) (then_writes q (settle_writes q s keep)) in
+    refused_after (fixed_without (stands q s) q s) (or_fixed (fixed_without keep.stays q s) rest) (subst (λ o. IsRefused (or_fixed o rest)) (sym at) tt)
+
+pub refused_by : (a : Admission) (q : Request) (f : SettleFault) (o : Option FunctionPart) → fixed_without (growing q (system_in a)).stays q (system_in a) ≡ o → Some f ≡ option_map fixed_part o → IsRefusedGrowing a q
+refused_by a q f None at e = absurd (none-some f (sym e))
+refused_by a q f (Some r) at e = refused_fixed a q r at
+
+not_grown_by : (a : Admission) (q : Request) (f : SettleFault) (o : Option FunctionPart) → Some f ≡ option_map fixed_part o → IsRefusedGrowing a q → IsNotGrown a q (refused.Fault f)
+not_grown_by a q f None e is = absurd (none-some f (sym e))
+not_grown_by a q fault.BadLists (Some r) e is = absurd (let no : ⊥ = cc in no)
+not_grown_by a q (fault.Assumed slot reg) (Some r) e is = absurd (let no : ⊥ = cc in no)
+not_grown_by a q (fault.NoRoom lack) (Some r) e is = is
+not_grown_by a q (fault.TooLarge class slot) (Some r) e is = absurd (let no : ⊥ = cc in no)
+not_grown_by a q (fault.Fixed slot reg) (Some r) e is = is
+
+module _ (a : Admission) (q : Request) where
+  abbrev s : System
+  s = system_in a
+
+  pub unstaying_grown : (f : SettleFault) → Some f ≡ option_map fixed_part (fixed_without (growing q s).stays q s) → IsNotGrown a q (refused.Fault f)
+  unstaying_grown f e =
+      not_grown_by a q f (fixed_without (growing q s).stays q s) e (refused_by a q f (fixed_without (growing q s).stays q s) refl e)
+
+  pub not_grown : (e : Refused SettleFault) → IsEndedBy a q (growing q s) e → IsNotGrown a q e
+  not_grown refused.Memory is = tt
+  not_grown (refused.Fault fault.BadLists) is = absurd is
+  not_grown (refused.Fault (fault.Assumed slot reg)) is = absurd is
+  not_grown (refused.Fault (fault.NoRoom lack)) is = subst IsRefused (sym is) tt
+  not_grown (refused.Fault (fault.TooLarge class slot)) is = is.at
+  not_grown (refused.Fault (fault.Fixed slot reg)) is = subst IsRefused (sym is) tt
+
+  pub large_not_grown : (w : TooLarge) (f : SettleFault) → IsTooLarge q s (kind_value w.class) w.function → IsSettleFaultOf s (too_large w) f → IsNotGrown a q (refused.Fault f)
+  large_not_grown w fault.BadLists large of = absurd of
+  large_not_grown w (fault.Assumed slot reg) large of = absurd of
+  large_not_grown w (fault.NoRoom lack) large of = absurd of
+  large_not_grown w (fault.Fixed slot reg) large of = absurd of
+  large_not_grown w (fault.TooLarge name slot) large of =
+      record { function = w.function; is = of.1; large = subst (λ c. IsTooLarge q s (kind_value c) w.function) (sym of.0) large }
+
+  -- ---- which of the two is kept
+
+  module _ (dump : List Block) (writes : List Write) (count : ℕ) where
+    pub ended_growing : IsEnded q (growing q s) a dump writes count → IsEnded q (kept_after q s) a dump writes count
+    ended_growing is = subst (λ (k : Kept). IsEnded q k a dump writes count)
+        (sym (ap (λ o. kept_by o (growing q s) (as_it_stands q s)) is.ends)) is
+
+    pub ended_anew : q.anew ≡ true → IsEnded q (as_it_stands q s) a dump writes count → IsEnded q (kept_after q s) a dump writes count
+    ended_anew anew is = ended_growing (subst (λ (k : Kept). IsEnded q k a dump writes count) (sym (growing_is_standing q s anew)) is)
+
+  anew_refused : q.anew ≡ true → (end : Settling) → after_lists q s (as_it_stands q s) ≡ end → IsRefused end → IsRefusedGrowing a q
+  anew_refused anew end is refused = subst IsRefused (sym (ap (after_lists q s) (growing_is_standing q s anew) ∙ is)) refused
+
+  pub after_anew : q.anew ≡ true → (e : Refused SettleFault) → IsEndedBy a q (as_it_stands q s) e → IsEndedAfter a q e
+  after_anew anew refused.Memory is = tt
+  after_anew anew (refused.Fault fault.BadLists) is = absurd is
+  after_anew anew (refused.Fault (fault.Assumed slot reg)) is = absurd is
+  after_anew anew (refused.Fault (fault.NoRoom lack)) is = (is, inl (anew_refused anew (no_room lack) is tt))
+  after_anew anew (refused.Fault (fault.TooLarge class slot)) is = is
+  after_anew anew (refused.Fault (fault.Fixed slot reg)) is = (is, inl (anew_refused anew (Fixed slot reg) is tt))
+
+  -- ---- with lists that are fine
+
+  module _ (fine : are_bad_lists q.roots q.lists ≡ false) where
+    pub growing_ends : settle_growing q s ≡ or_else (after_lists q s (growing q s)) (after_lists q s (as_it_stands q s))
+    growing_ends = ap (λ o. or_else o (settle_keeping q s (as_it_stands q s))) (ends_fine q s (growing q s) fine)
+        ∙ ap (or_else (after_lists q s (growing q s))) (ends_fine q s (as_it_stands q s) fine)
+
+    same_kept : finally_kept q s ≡ kept_after q s
+    same_kept = ap (λ o. kept_by o (growing q s) (as_it_stands q s)) (ends_fine q s (growing q s) fine)
+
+    at_last : (f : Kept → Settling) (own other : Kept) (o : Settling) → f own ≡ o → or_else o (f other) ≡ f (kept_by o own other)
+    at_last f own other (Settled writes) e = sym e
+    at_last f own other BadLists e = refl
+    at_last f own other (Fixed slot register) e = refl
+    at_last f own other (NoRoom class slot register size alignment) e = refl
+
+    module _ (dump : List Block) (writes : List Write) (count : ℕ) (is : IsEnded q (kept_after q s) a dump writes count) where
+      pub settles : settle_growing q s ≡ Settled writes
+      settles = growing_ends ∙ at_last (after_lists q s) (growing q s) (as_it_stands q s) (after_lists q s (growing q s)) refl ∙ is.ends
+
+      pub ended : IsEnded q (finally_kept q s) a dump writes count
+      ended = subst (λ (k : Kept). IsEnded q k a dump writes count) (sym same_kept) is

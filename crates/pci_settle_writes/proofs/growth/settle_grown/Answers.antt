@@ -1,0 +1,57 @@
+use Rattle.std.proofs.Common.{refl}
+use Rattle.std.proofs.lemmas.Result.{IfOk-weaker, IfErr-weaker}
+use Rattle.settle_spec.specs.Kept.{is_kept, stays_growing, growing}
+use Rattle.pci_place.specs.Above.{system_in}
+use Rattle.pci_settle.specs.Lists.{lists_value}
+use Rattle.pci_stand.specs.Known.{asked}
+use Rattle.pci_grow.specs.Growing.{grown_value}
+use Rattle.pci_settle_writes.proofs.HeldTables.{asked_is, table_stay, left_opened, grown_can_be_left, told_grown}
+use Rattle.pci_settle_writes.proofs.Outcomes.{unstaying_grown, growing_fixed, not_grown}
+use Rattle.pci_settle_writes.proofs.growth.settle_grown.Goals as goal
+
+pub returns-in-Some-clause-refusal : goal.returns-in-Some-clause-refusal
+returns-in-Some-clause-refusal g c =
+    let a = c.args.admitted.now in
+    let l = lists_value c.args.lists.now in
+    let q = asked a.roots l c.args.fixed.now in
+    unstaying_grown a q c.in-Some.fault (c.in-Some.ensures q (stays_growing q (system_in a)) (asked_is a l c.args.fixed.now) c.requires
+    (table_stay a l c.args.fixed.now c.as_slice-stay.result.now c.as_slice-stay.ensures.value (is_kept q (system_in a)) c.in_ok-grown.ensures.grown.stay))
+
+pub settle_held-requires-clause-left : goal.settle_held-requires-clause-left
+settle_held-requires-clause-left g c =
+    let a = c.args.admitted.now in
+    let l = lists_value c.args.lists.now in
+    let q = asked a.roots l c.args.fixed.now in
+    let admitted = c.outline-outline.ensures.admitted in
+    grown_can_be_left a l c.args.fixed.now admitted c.records.result.now c.records.ensures.value c.outline-outline.ensures.records
+    c.left-left.result (left_opened c.open_windows-over.ensures c.left-left.ensures.over) c.as_slice-stay.result.now c.as_slice-stay.ensures.value
+    (grown_value c.in_ok-grown.grown) refl c.in_ok-grown.ensures.grown
+    (c.left-left.ensures.tells q (system_in a) admitted.system admitted.nested admitted.profile c.in_ok-grown.ensures.grown)
+
+pub returns-clause-ends : goal.returns-clause-ends
+returns-clause-ends g c =
+    let a = c.args.admitted.now in
+    let l = lists_value c.args.lists.now in
+    let q = asked a.roots l c.args.fixed.now in
+    let admitted = c.outline-outline.ensures.admitted in
+    let kept = growing_fixed q (system_in a) (c.in_default.ensures q (stays_growing q (system_in a)) (asked_is a l c.args.fixed.now) c.requires
+    (table_stay a l c.args.fixed.now c.as_slice-stay.result.now c.as_slice-stay.ensures.value (is_kept q (system_in a)) c.in_ok-grown.ensures.grown.stay)) in
+    IfOk-weaker c.settle_held.result _ _ (λ x ends. ends q (growing q (system_in a)) c.requires
+    (told_grown a l c.args.fixed.now admitted c.records.result.now c.records.ensures.value c.outline-outline.ensures.records
+    c.left-left.result (left_opened c.open_windows-over.ensures c.left-left.ensures.over) c.as_slice-stay.result.now c.as_slice-stay.ensures.value
+    (grown_value c.in_ok-grown.grown) refl c.in_ok-grown.ensures.grown
+    (c.left-left.ensures.tells q (system_in a) admitted.system admitted.nested admitted.profile c.in_ok-grown.ensures.grown) kept)) c.settle_held.ensures.ends
+
+pub returns-clause-refusal : goal.returns-clause-refusal
+returns-clause-refusal g c =
+    let a = c.args.admitted.now in
+    let l = lists_value c.args.lists.now in
+    let q = asked a.roots l c.args.fixed.now in
+    let admitted = c.outline-outline.ensures.admitted in
+    let kept = growing_fixed q (system_in a) (c.in_default.ensures q (stays_growing q (system_in a)) (asked_is a l c.args.fixed.now) c.requires
+    (table_stay a l c.args.fixed.now c.as_slice-stay.result.now c.as_slice-stay.ensures.value (is_kept q (system_in a)) c.in_ok-grown.ensures.grown.stay)) in
+    IfErr-weaker c.settle_held.result _ _ (λ e ends. not_grown a q e (ends q (growing q (system_in a)) c.requires
+    (told_grown a l c.args.fixed.now admitted c.records.result.now c.records.ensures.value c.outline-outline.ensures.records
+    c.left-left.result (left_opened c.open_windows-over.ensures c.left-left.ensures.over) c.as_slice-stay.result.now c.as_slice-stay.ensures.value
+    (grown_value c.in_ok-grown.grown) refl c.in_ok-grown.ensures.grown
+    (c.left-left.ensures.tells q (system_in a) admitted.system admitted.nested admitted.profile c.in_ok-grown.ensures.grown) kept))) c.settle_held.ensures.refusal

@@ -1,0 +1,73 @@
+//! Settling where windows grow.
+ghost use Rattle.std.specs.Prelude.{◌≡◌, IfOk, IfErr, map};
+ghost use Rattle.settle_spec.specs.Kept.{growing as growing_kept};
+ghost use Rattle.pci_place.specs.Above.{system_in};
+ghost use Rattle.pci_plan.specs.Writes.{write_value};
+ghost use Rattle.pci_settle.specs.Lists.{lists_value};
+ghost use Rattle.pci_stand.specs.Flags.{AreFlags};
+ghost use Rattle.pci_stand.specs.Known.{asked};
+ghost use Rattle.pci_grow.specs.Growing.{AreGrown, grown_value};
+ghost use Rattle.pci_settle_writes.specs.Endings.{IsEnded, IsNotGrown};
+
+use crate::fixed::fixed_without;
+use crate::io::fault_of_window;
+use crate::lack::SettleFault;
+use crate::settle::{Settled, settle_held};
+use pci_base::memory::Refused;
+use pci_base::slot::Slot;
+use pci_grow::growing::{Grown, growing};
+use pci_settle::list::Lists;
+use pci_stay::windows::open_windows;
+use pci_tree::admitted::Admitted;
+use std::alloc::Allocator;
+
+/// What is kept where windows grow. A bridge is named whose new window would be too large.
+fn grown_windows<A: Allocator + Copy, B: Allocator>(
+    alloc: A,
+    admitted: &Admitted<B>,
+    lists: &Lists,
+    fixed: &[Slot],
+) -> Result<Grown<A>, Refused<SettleFault>>
+    ensures grown { IfOk result (λ grown. AreGrown
+        (asked admitted.now.roots (lists_value lists.now) fixed.now) (system_in admitted.now)
+        (grown_value grown)) }
+    ensures fault { IfErr result (IsNotGrown admitted.now
+        (asked admitted.now.roots (lists_value lists.now) fixed.now)) }
+{
+    match growing(alloc, admitted, lists, fixed) {
+        Ok(grown) => Ok(grown),
+        Err(Refused::Memory) => Err(Refused::Memory),
+        Err(Refused::Fault(window)) => Err(Refused::Fault(fault_of_window(admitted, window))),
+    }
+}
+
+/// Settles where windows grow. The fault says that this can't be done, and need not be the first one.
+pub fn settle_grown<A: Allocator + Copy, B: Allocator>(
+    alloc: A,
+    admitted: &Admitted<B>,
+    lists: &Lists,
+    fixed: &[Slot],
+    flags: &[bool],
+) -> Result<Settled<A>, Refused<SettleFault>>
+    requires { AreFlags fixed.now flags.now }
+    ensures titles { IfOk result
+        (λ x. map (λ b. b.title) x.dump ≡ map (λ b. b.title) admitted.now.dump) }
+    ensures ends { IfOk result (λ x. IsEnded
+        (asked admitted.now.roots (lists_value lists.now) fixed.now)
+        (growing_kept (asked admitted.now.roots (lists_value lists.now) fixed.now)
+        (system_in admitted.now)) admitted.now x.dump
+        (map write_value x.writes.all.items) x.writes.closings) }
+    ensures refusal { IfErr result (IsNotGrown admitted.now
+        (asked admitted.now.roots (lists_value lists.now) fixed.now)) }
+{
+    let outline = admitted.outline();
+    let over = open_windows(outline.records());
+    let grown = grown_windows(alloc, admitted, lists, fixed)?;
+    let stay = grown.stays.as_slice();
+    // what stays stands, too
+    if let Some(fault) = fixed_without(admitted, lists, flags, stay) {
+        return Err(Refused::Fault(fault));
+    }
+    let left = grown.left(&over);
+    settle_held(alloc, admitted, lists, flags, &left, stay)
+}

@@ -1,0 +1,127 @@
+//! Settling where no window grows: where all is placed anew, and beside what stays as it stands.
+ghost use Rattle.std.specs.Prelude.{◌≡◌, IsTrue, IfOk, IfErr, length, map};
+ghost use Rattle.settle_spec.specs.Lists.{Request};
+ghost use Rattle.settle_spec.specs.Kept.{as_it_stands};
+ghost use Rattle.pci_place.specs.Above.{system_in};
+ghost use Rattle.pci_plan.specs.Writes.{write_value};
+ghost use Rattle.pci_settle.specs.Lists.{lists_value};
+ghost use Rattle.pci_stand.specs.Flags.{AreFlags};
+ghost use Rattle.pci_stand.specs.Known.{asked};
+ghost use Rattle.pci_stay.specs.Staying.{AreStaying};
+ghost use Rattle.pci_settle_writes.specs.Requests.{IsAskedOf};
+ghost use Rattle.pci_settle_writes.specs.Endings.{IsTooLargeAsked, IsEnded, IsEndedBy, kept_after, IsEndedAfter};
+
+use crate::fixed::fixed_without;
+use crate::io::{fault_of_window, place_io_unfixed};
+use crate::lack::SettleFault;
+use crate::settle::{Settled, settle_held};
+use pci_base::memory::Refused;
+use pci_base::slot::Slot;
+use pci_settle::kept::{Kept, nothing_kept};
+use pci_settle::list::Lists;
+use pci_settle::over::Left;
+use pci_stand::pass::standing;
+use pci_stay::staying::staying;
+use pci_stay::windows::open_windows;
+use pci_tree::admitted::Admitted;
+use std::alloc::Allocator;
+
+/// Settles where all is placed anew, so that no window grows.
+pub fn settle_all<A: Allocator + Copy, B: Allocator>(
+    alloc: A,
+    admitted: &Admitted<B>,
+    lists: &Lists,
+    fixed: &[bool],
+) -> Result<Settled<A>, Refused<SettleFault>>
+    requires { length fixed.now ≡ 65536 }
+    ensures titles { IfOk result
+        (λ x. map (λ b. b.title) x.dump ≡ map (λ b. b.title) admitted.now.dump) }
+    ensures ends { IfOk result (λ x. (q : Request)
+        → IsAskedOf q admitted.now.roots (lists_value lists.now) → IsTrue q.anew
+        → AreFlags q.fixed fixed.now
+        → IsEnded q (kept_after q (system_in admitted.now)) admitted.now x.dump
+        (map write_value x.writes.all.items) x.writes.closings) }
+    ensures refusal { IfErr result (λ e. (q : Request)
+        → IsAskedOf q admitted.now.roots (lists_value lists.now) → IsTrue q.anew
+        → AreFlags q.fixed fixed.now → IsEndedAfter admitted.now q e) }
+{
+    let outline = admitted.outline();
+    let none = nothing_kept(alloc, outline.records().len())?;
+    let kept = none.as_slice();
+    // what doesn't stand doesn't stay
+    if let Some(fault) = fixed_without(admitted, lists, fixed, kept) {
+        return Err(Refused::Fault(fault));
+    }
+    let left = Left {
+        over: &[],
+        kept: &[],
+        grown: &[],
+        places: &[],
+    };
+    settle_held(alloc, admitted, lists, fixed, &left, kept)
+}
+
+/// Which parts stay where no window grows. Beside an open window of all addresses the bridge is named whose new window would be
+/// too large; where nothing is fixed, what has no place in I/O is named before.
+fn staying_parts<A: Allocator + Copy, B: Allocator>(
+    alloc: A,
+    admitted: &Admitted<B>,
+    lists: &Lists,
+    fixed: &[Slot],
+) -> Result<Vec<Kept, A>, Refused<SettleFault>>
+    ensures stay { IfOk result (λ table. AreStaying
+        (asked admitted.now.roots (lists_value lists.now) fixed.now) (system_in admitted.now)
+        table.items) }
+    ensures fault { IfErr result (IsTooLargeAsked admitted.now
+        (asked admitted.now.roots (lists_value lists.now) fixed.now)) }
+{
+    match staying(alloc, admitted, lists, fixed) {
+        Ok(table) => Ok(table),
+        Err(Refused::Memory) => Err(Refused::Memory),
+        Err(Refused::Fault(window)) => {
+            place_io_unfixed(alloc, admitted, lists, fixed)?;
+            Err(Refused::Fault(fault_of_window(admitted, window)))
+        }
+    }
+}
+
+/// Settles beside what stays as it stands: no window grows.
+pub fn settle_standing<A: Allocator + Copy, B: Allocator>(
+    alloc: A,
+    admitted: &Admitted<B>,
+    lists: &Lists,
+    fixed: &[Slot],
+    flags: &[bool],
+) -> Result<Settled<A>, Refused<SettleFault>>
+    requires { AreFlags fixed.now flags.now }
+    ensures titles { IfOk result
+        (λ x. map (λ b. b.title) x.dump ≡ map (λ b. b.title) admitted.now.dump) }
+    ensures ends { IfOk result (λ x. IsEnded
+        (asked admitted.now.roots (lists_value lists.now) fixed.now)
+        (as_it_stands (asked admitted.now.roots (lists_value lists.now) fixed.now)
+        (system_in admitted.now)) admitted.now x.dump
+        (map write_value x.writes.all.items) x.writes.closings) }
+    ensures refusal { IfErr result (IsEndedBy admitted.now
+        (asked admitted.now.roots (lists_value lists.now) fixed.now)
+        (as_it_stands (asked admitted.now.roots (lists_value lists.now) fixed.now)
+        (system_in admitted.now))) }
+{
+    let outline = admitted.outline();
+    let over = open_windows(outline.records());
+    let stand = standing(alloc, admitted, lists, fixed)?;
+    if let Some(fault) = fixed_without(admitted, lists, flags, stand.as_slice()) {
+        return Err(Refused::Fault(fault));
+    }
+    let table = staying_parts(alloc, admitted, lists, fixed)?;
+    let stay = table.as_slice();
+    if let Some(fault) = fixed_without(admitted, lists, flags, stay) {
+        return Err(Refused::Fault(fault));
+    }
+    let left = Left {
+        over: &over,
+        kept: stay,
+        grown: &[],
+        places: &[],
+    };
+    settle_held(alloc, admitted, lists, flags, &left, stay)
+}
