@@ -5,7 +5,9 @@ use Rattle.pci_spec.specs.Machine as spec
 use Rattle.pci_spec.specs.Sound.{IsSound}
 use Rattle.pci_spec.specs.Slot.{Slot}
 use Rattle.settle_spec.specs.Lists.{Request}
-use Rattle.settle_spec.specs.Writes.{Settled, closings, settle}
+use Rattle.settle_spec.specs.Writes.{Settled}
+use Rattle.settle_spec.specs.Keeping.Writes.{closings}
+use Rattle.settle_spec.specs.Growing.{settle_growing, finally_kept}
 use Rattle.pci_base.specs.declared.memory.Refused.TheVariants as refused
 use Rattle.pci_base.specs.declared.range.RootRange.{RootRange}
 use Rattle.pci_tree.specs.Admission.{Admission, IsAdmitted}
@@ -83,7 +85,7 @@ stops_from a closing safe_from made (inr none) stops k past = let all = none.1 i
 pub are_settled : {A : Type 0} (roots dump probe : List ℕ) (words : SettleWords) (asked : Asked A) (a : Admission) (q : Request)
     (made : List spec.Write) (items : List RegisterWrite) (closing safe_from : ℕ)
     → AreTexts roots dump probe a → IsAdmitted a → IsAskedBy words asked → q ≡ asked_request a.roots asked
-    → HasNoAssumed a → settle q (system_in a) ≡ Settled made → closing ≡ length (closings q (system_in a) (system_in a))
+    → HasNoAssumed a → settle_growing q (system_in a) ≡ Settled made → closing ≡ length (closings q (system_in a) (finally_kept q (system_in a)) (system_in a))
     → AreStops a closing made → IsSettleSafeFrom a closing safe_from → map write_value_of items ≡ made
     → AreSettled roots dump probe words items safe_from
 are_settled roots dump probe words asked a q made items closing safe_from texts admitted by same sized is closes stops safe are = record {

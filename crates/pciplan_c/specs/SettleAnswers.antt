@@ -3,7 +3,9 @@ use Rattle.std.specs.Prelude.{◌≡◌, ◌≤◌, ◌⊎◌, ℕ, List, length
 use Rattle.pci_spec.specs.Machine.{system_after}
 use Rattle.pci_spec.specs.Sound.{IsSound}
 use Rattle.settle_spec.specs.Lists.{Request}
-use Rattle.settle_spec.specs.Writes.{Settled, closings, settle}
+use Rattle.settle_spec.specs.Writes.{Settled}
+use Rattle.settle_spec.specs.Keeping.Writes.{closings}
+use Rattle.settle_spec.specs.Growing.{settle_growing, finally_kept}
 use Rattle.pci_base.specs.declared.memory.Refused.TheVariants as refused
 use Rattle.pci_tree.specs.Admission.{Admission, IsAdmitted}
 use Rattle.pci_tree.specs.Roots.{IsRootList}
@@ -32,8 +34,9 @@ IsSettleSafeFrom a closing safe_from =
 pub record AreWritesFor (q : Request) (a : Admission) (writes : List RegisterWrite)
     (safe_from : ℕ) : Type 0 where
   pub sized : HasNoAssumed a
-  pub is : settle q (system_in a) ≡ Settled (map write_value_of writes)
-  pub safe : IsSettleSafeFrom a (length (closings q (system_in a) (system_in a))) safe_from
+  pub is : settle_growing q (system_in a) ≡ Settled (map write_value_of writes)
+  pub safe : IsSettleSafeFrom a
+      (length (closings q (system_in a) (finally_kept q (system_in a)) (system_in a))) safe_from
   pub stops : (k : ℕ) → safe_from ≤ k
       → IsSound a.roots (system_after (system_in a) (take k (map write_value_of writes)))
 

@@ -7,7 +7,8 @@ use Rattle.pci_spec.specs.Sound.{IsSound}
 use Rattle.pci_spec.specs.Machine.{Write}
 use Rattle.pci_spec.specs.Line.{write_line}
 use Rattle.settle_spec.specs.Lists.{Lists, Request}
-use Rattle.settle_spec.specs.Writes.{Settled, settle}
+use Rattle.settle_spec.specs.Writes.{Settled}
+use Rattle.settle_spec.specs.Growing.{settle_growing, finally_kept}
 use Rattle.pci_place.specs.Above.{system_in}
 use Rattle.pci_settle.specs.Lists.{root_range_value}
 use Rattle.pci_base.specs.declared.memory.Refused.TheVariants as refused
@@ -56,8 +57,8 @@ settle_admission asked dump probe = record {
 pub record IsSettled (q : Request) (a : Admission) (after : List Block) (writes : List Write) : Type 0 where
   pub sized : HasNoAssumed a
   pub titles : map (λ (b : Block). b.title) after ≡ map (λ (b : Block). b.title) a.dump
-  pub settled : IsSettledDump q a after
-  pub is : settle q (system_in a) ≡ Settled writes
+  pub settled : IsSettledDump q (finally_kept q (system_in a)) a after
+  pub is : settle_growing q (system_in a) ≡ Settled writes
 
 -- what is printed of it: the settled dump, a line for each write, or their script, which compares with the start
 abbrev pub settled_text : Printed → List Block → List Write → List Block → List ℕ
