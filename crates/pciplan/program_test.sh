@@ -256,7 +256,15 @@ case_of 'cleared: nothing is known of its BARs' 0 '' '' settle cleared.dump clea
 told 01:03.0 0 00000000000fffff 200 01:04.0 0 00000000000fffff 200 <cleared.sizes >cleared.told
 ./pciplan probe cleared.dump cleared.told >cleared.probe
 # shellcheck disable=SC2086
-case_of 'cleared: settled by the sizes of the log' 0 "01:01.0 04.2 0101
+case_of 'cleared: settled by the sizes of the log' 0 "00:05.0 20.4 feb0fe80
+01:03.0 10.4 fe900000
+01:04.0 10.4 fe800000
+01:03.0 04.2 0002
+01:04.0 04.2 0002$lf" '' settle cleared.dump cleared.probe $lists --writes
+# in ranges that touch a window doesn't grow beyond its own: it moves, and what is in it
+lists='--io 400-50f,51c-cf7,d00-afdf,afe4-ffff --mem 20000000-fe9fffff,fea00000-febfffff --pref 100000000-17fffffff'
+# shellcheck disable=SC2086
+case_of 'cleared: settled where its window has a range alone' 0 "01:01.0 04.2 0101
 00:05.0 20.4 0000fff0
 00:05.0 20.4 20302000
 01:01.0 10.4 20300000
@@ -267,6 +275,24 @@ case_of 'cleared: settled by the sizes of the log' 0 "01:01.0 04.2 0101
 01:02.0 04.2 0002
 01:03.0 04.2 0002
 01:04.0 04.2 0002$lf" '' settle cleared.dump cleared.probe $lists --writes
+
+# full: the windows of a switch have no room for a card of 16 KB and 4 KB that was plugged in. Two of them grow, in two
+# levels, and nothing is switched off.
+lists='--io 1000-adff,b200-ffff --mem 10000000-febfffff --pref 100000000-ffffffffff'
+case_of 'full: check' 0 "yes$lf" '' check full.dump full.probe
+# shellcheck disable=SC2086
+case_of 'full: settle' 0 "00:02.0 20.4 fe90fe30
+00:02.0 24.4 f041f001
+01:01.0 20.4 fe70fe30
+01:01.0 24.4 f041f001
+02:02.0 14.4 fe3ff000
+02:02.0 20.4 f040000c
+02:02.0 04.2 0002$lf" '' settle full.dump full.probe $lists --writes
+# shellcheck disable=SC2086
+./pciplan settle full.dump full.probe $lists >settled.txt
+case_of 'full: settle: check' 0 "yes$lf" '' check settled.txt full.probe
+# shellcheck disable=SC2086
+case_of 'full: settled again' 0 '' '' settle settled.txt full.probe $lists --writes
 case_of 'probe: nothing to derive' 0 '' '' probe empty.txt empty.txt
 case_of "probe: another machine's sizes" 1 "no 30 SlotsDiffer 00:01.0$lf" '' probe old.dump desk.sizes
 

@@ -129,10 +129,13 @@ sed '/^01:0[34].0/{n;s/.*/0x0000000000000000 0x00000000000fffff 0x00000000000002
 settled plugged "$here/data/plugged.txt" "$here/data/plugged_probe.txt" --io none --mem e0000000-e02fffff --pref none
 settled old "$machines/old.dump" "$machines/old.probe" --io 1000-ffff --mem 80000000-febfffff --pref 100000000-ffffffffff \
     --anew
-settled cleared "$machines/cleared.dump" probe.txt --io 400-50f,51c-cf7,d00-afdf,afe4-ffff --mem 20000000-febfffff \
-    --pref 100000000-17fffffff
+settled full "$machines/full.dump" "$machines/full.probe" --io 1000-adff,b200-ffff --mem 10000000-febfffff \
+    --pref 100000000-ffffffffff
+# the range of the window that lacks room begins and ends with it, so that the window moves
+settled cleared "$machines/cleared.dump" probe.txt --io 400-50f,51c-cf7,d00-afdf,afe4-ffff \
+    --mem 20000000-fe9fffff,fea00000-febfffff --pref 100000000-17fffffff
 
-for name in plugged old cleared; do
+for name in plugged old full cleared; do
     # all writes are made, in their order, and each is read back
     fresh
     run
