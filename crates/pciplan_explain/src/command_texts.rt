@@ -166,12 +166,13 @@ pciplan settle DUMP PROBE --io LIST --mem LIST --pref LIST [--root LIST]
   them; prints the settled dump, the register writes that lead there, or a
   script that makes them. A part stays where it lies in a range of its root, or
   in a window that stays itself, and shares no address with another part that
-  stays. A window goes where what has to be placed behind it has no room in it.
-  By the writes a function is off meanwhile only in the space in which a BAR or
-  ROM of it moves; a bridge stays on, and a window that moves is closed. A BAR,
-  or a ROM whose bit 0 is set, that the titles of the probe name as assumed is
-  refused: it may decode more addresses than the probe tells. Faults: 20 to 31,
-  50 to 58, 70, 72, 74 and 76.
+  stays. A window in which what has to be placed behind it has no room grows
+  where it stands, if addresses beside it are free, and else goes. By the writes
+  a function is off meanwhile only in the space in which a BAR or ROM of it
+  moves; a bridge stays on, a window that moves is closed, and one that grows is
+  open. A BAR, or a ROM whose bit 0 is set, that the titles of the probe name as
+  assumed is refused: it may decode more addresses than the probe tells. Faults:
+  20 to 31, 50 to 58, 70, 72, 74 and 76.
   --root LIST
     The buses on which the host's accesses start: two lower-case hex digits
     each, rising, with commas between them. 00 if it isn't said. On Linux they
@@ -187,8 +188,9 @@ pciplan settle DUMP PROBE --io LIST --mem LIST --pref LIST [--root LIST]
     a list is taken first.
   --fixed SLOTS
     settle writes no register of the functions at these slots, which are joined
-    by commas, each above the one before: 00:02.0,01:00.0. A slot that the dump
-    doesn't have says nothing.
+    by commas, each above the one before: 00:02.0,01:00.0. So the windows of a
+    bridge that is named don't grow. A slot that the dump doesn't have says
+    nothing.
   --anew
     settle leaves nothing where it stands.
   --writes

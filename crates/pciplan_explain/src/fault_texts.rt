@@ -363,8 +363,8 @@ pub const FIXED: &str = "\
   settle, with a list of fixed slots: This part of the function can't be left
   where it is, or the function would be written, at this offset first.
   Mostly: The part stands outside the lists, shares addresses with another fixed
-    one, or its window has to grow; at offset 04 a bridge above it, or the
-    function, has to be switched.
+    one, or a window lacks room and can't grow; at offset 04 a bridge above it,
+    or the function, has to be switched.
   Do: Give the lists the range that it stands in, or leave the slot out of
     --fixed.
 ";
