@@ -1,26 +1,25 @@
 #!/usr/bin/env python3
 """Slow models beside the program, on boards made by rule.
 
-Usage: slow.py KIND COUNT [FIRST [PROGRAM]] [--growth]
+Usage: slow.py KIND COUNT [FIRST [PROGRAM]]
        slow.py KIND show SEED
 
-KIND is `judge`, `plan`, `settle`, `growth`, or `all`, which is the first three. COUNT seeds are taken from FIRST on (0 if
-not said), of `all` a quarter of these for `plan` and `settle`, of which a seed has several boards. PROGRAM is the built
-program, by default crates/pciplan/out/pciplan. What is printed:
+KIND is `judge`, `plan`, `settle`, `growth`, or `all`, which is each of them. COUNT seeds are taken from FIRST on (0 if not
+said). Of `all` a quarter of these are for `plan` and `settle`, of which a seed has several boards, and an eighth
+for `growth`. PROGRAM is the built program, by default crates/pciplan/out/pciplan. What is printed:
 
 - a line for each board on which program and model differ, and below it what differs;
 - for each kind of how many seeds boards were of each sort, and of 1,000 seeds or more a line for each sort that lacks;
 - at last `N boards, M disagree`, counted by seeds.
 
-Of `growth` the program is asked nothing: laws are tried of what the slow settler does where windows grow, and the boards
-of growth_rows.py are settled. With `--growth` the program is taken to let windows grow, in `settle` too.
+Boards of `growth` have tight windows, of which some grow. Laws are tried of what the slow settler does there, and it
+settles the boards of growth_rows.py. The program is asked for the same writes, but not of `growth` without a PROGRAM.
 
 The status is 1 where boards disagree or a sort is lacking. `show` prints the board of a seed. RT_JOBS sets how many
 processes run at a time (as many as there are cores if not said).
 """
 
 import collections
-import functools
 import multiprocessing
 import os
 import shutil
@@ -33,7 +32,6 @@ sys.path.insert(0, os.path.join(HERE, 'slow'))
 import growth_laws  # noqa: E402  (the modules beside this file)
 import judged  # noqa: E402
 import moving  # noqa: E402
-from growing import settled_growing  # noqa: E402
 from growth_rows import row_faults  # noqa: E402
 
 # of each kind what compares the board of a seed, what prints it, and which sorts of boards there have to be among many
@@ -41,11 +39,11 @@ KINDS = {
     'judge': (judged.compare, judged.show, judged.SORTS),
     'plan': (moving.compare_plans, moving.show_plans, moving.PLAN_SORTS),
     'settle': (moving.compare_settling, moving.show_settling, moving.SETTLE_SORTS),
-    'growth': (growth_laws.compare_alone, growth_laws.show, growth_laws.SORTS),
+    'growth': (growth_laws.compare, growth_laws.show, growth_laws.SORTS),
 }
 MANY = 1000
 # of how many seeds for `all` each kind takes one, by what its boards cost
-SHARES = {'judge': 1, 'plan': 4, 'settle': 4}
+SHARES = {'judge': 1, 'plan': 4, 'settle': 4, 'growth': 8}
 
 
 class Task:
@@ -89,13 +87,6 @@ def lacking(kind, count, sorts):
     return len(missing)
 
 
-def let_windows_grow():
-    """Compares with a program that lets windows grow."""
-    compare = functools.partial(moving.compare_settling, settle=settled_growing)
-    KINDS['settle'] = (compare,) + KINDS['settle'][1:]
-    KINDS['growth'] = (growth_laws.compare,) + KINDS['growth'][1:]
-
-
 def rows_disagree():
     """Prints what is wrong on the boards of growth_rows.py; how many that are."""
     faults = row_faults()
@@ -106,9 +97,6 @@ def rows_disagree():
 
 def main(words):
     """Reads the words of the command line."""
-    if '--growth' in words:
-        let_windows_grow()
-        words = [word for word in words if word != '--growth']
     if len(words) < 2 or words[0] not in list(KINDS) + ['all']:
         print(__doc__)
         return 2
@@ -118,6 +106,8 @@ def main(words):
     count, first = int(words[1]), int(words[2]) if len(words) > 2 else 0
     built = os.path.join(HERE, '..', 'crates', 'pciplan', 'out', 'pciplan')
     program = os.path.abspath(words[3] if len(words) > 3 else built)
+    if words[0] == 'growth' and len(words) <= 3:
+        program = None
     counts = {kind: count // SHARES[kind] for kind in SHARES} if words[0] == 'all' else {words[0]: count}
     jobs = [(kind, seed) for kind, many in counts.items() for seed in range(first, first + many)]
     sorts = {kind: collections.Counter() for kind in counts}

@@ -1,9 +1,9 @@
 #!/bin/sh
-# The slow models of tests/slow.py beside the program, on boards made by rule: verdicts, lists of all faults, maps, plans and
-# what settles a board. Prints what differs, and at the end how many boards agreed.
+# The slow models of tests/slow.py beside the program, on boards made by rule: verdicts, lists of all faults, maps, plans,
+# what settles a board, and which windows grow then. Prints what differs, and at the end how many boards agreed.
 #
 # Usage: models_test.sh PROGRAM; BOARDS sets how many boards are judged (1600 if not said), a quarter as many seeds plan and
-# settle.
+# settle, and an eighth as many are of boards on which windows grow.
 set -u
 
 here=$(CDPATH='' cd -- "$(dirname -- "$0")" && pwd) || exit 1

@@ -3,15 +3,18 @@
 It is read off crates/settle_spec/specs (`Reach`, `Growth`, `Growing`), one bridge at a time.
 
 - `settled_growing(functions, request)`: as `settled` of settler.py, where a window that lacks room takes free addresses
-  beside it. Where that ends in 72 or 74, all is as without growth.
+  beside it. Where that ends in 72 or 74, all is as without growth. So it is where a new window would have 2^64 addresses
+  or more, and a window can grow to all addresses of 64 bits.
 """
 
 from model import page_size, put_window
 from planner import Fault, raised
-from settler import Settler, first_place, highest_in, place_all, settled
+from settler import Settler, TooLarge, first_place, highest_in, place_all, settled
 
 # so many addresses of a kind of window have one upper half
 HALF = {'io': 1 << 16, 'mem': 1 << 32, 'pref': 1 << 32}
+
+WHOLE = 0, (1 << 64) - 1
 
 
 def last_place(first, end, taken, extent):
@@ -74,6 +77,21 @@ class Grower(Settler):
             return self.reach(self.window_of(self.bridge_over(window.bus), kind))
         kinds = {'io': ['io'], 'mem': ['mem', 'pref'], 'pref': ['pref', 'mem']}[kind]
         return [of for kind in kinds for of in self.ranges(kind, window.bus) if window.is_within(*of)][0]
+
+    # ---- all addresses
+
+    def is_past_all(self):
+        """Whether a window can grow to all addresses of 64 bits, and a new one would have 2^64 or more."""
+        return any(r.is_window and self.stands(r) and self.reach(r) == WHOLE for r in self.regions) and any(
+            self.is_too_large(f, window.window) for f in self.functions for window in f.windows())
+
+    def is_too_large(self, bridge, kind):
+        """Whether the new window of a bridge would have 2^64 addresses or more."""
+        try:
+            self.new_window(bridge, kind)
+        except TooLarge:
+            return True
+        return False
 
     # ---- what is there, from the leaves up
 
@@ -177,7 +195,10 @@ class Grower(Settler):
 
 def settled_growing(functions, request):
     """The plan of settling where windows grow, or why there is none."""
-    plan = Grower(functions, request).answer()
+    grower = Grower(functions, request)
+    if grower.is_past_all():
+        return settled(functions, request)
+    plan = grower.answer()
     if isinstance(plan, Fault) and plan.text[:2] in ('72', '74'):
         return settled(functions, request)
     return plan

@@ -4,8 +4,8 @@ A board is settled anew, so that its windows are tight. Then functions are taken
 window is cut by a page. What is settled then has to be sound at each stop, to keep what stayed without growth, to leave
 on what stays, and to be left alone when it is settled again.
 
-- `compare(seed, program, folder)`: what doesn't hold, or None, and the sorts of boards; the program is asked for the
-  same writes. `compare_alone` asks it nothing.
+- `compare(seed, program, folder)`: what doesn't hold, or None, and the sorts of boards. A program is asked for the same
+  writes.
 - `show(seed)`: the board of a seed.
 - `SORTS`: the sorts that a run over many seeds has to meet.
 """
@@ -328,11 +328,6 @@ def compare(seed, program, folder):
     """What doesn't hold on the board of a seed, or none, and the sorts of boards."""
     asker = Asker(program, folder)
     return judge_growth(seed, asker), asker.sorts
-
-
-def compare_alone(seed, program, folder):
-    """The same, where no program is asked."""
-    return compare(seed, None, folder)
 
 
 def show(seed):

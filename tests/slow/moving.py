@@ -7,11 +7,12 @@
 """
 
 from early import decoding_lines, early_lines, identity_lines
+from growing import settled_growing
 from model import assumed, dump_text, probe_text, write_text
 from moving_boards import Rule
 from planner import Fault, assumed_lines, planned, sized
 from program import put_files, run
-from settler import TooLarge, settled
+from settler import TooLarge
 from stops import is_sound, stop_fault
 
 # how often a board is asked about, with a change between two times
@@ -55,15 +56,11 @@ def roots_words(roots):
 
 
 class Asker:
-    """Asks the program about boards, whose texts it puts into a folder, and notes which sorts of boards were met.
+    """Asks the program about boards, whose texts it puts into a folder, and notes which sorts of boards were met."""
 
-    `settle` is how boards are settled.
-    """
-
-    def __init__(self, program, folder, settle=settled):
+    def __init__(self, program, folder):
         self.program = program
         self.folder = folder
-        self.settle = settle
         self.sorts = set()
 
     def ask(self, task, functions, words):
@@ -240,7 +237,7 @@ def settle_differs(asker, rule, board, request):
     """Settles a board, which then is the settled one: what disagrees, or none."""
     words = roots_words(board.roots) + request_words(request)
     try:
-        plan = first_early(board) or asker.settle(board.functions, request)
+        plan = first_early(board) or settled_growing(board.functions, request)
     except TooLarge:
         # which fault comes before a window of 2^64 addresses is left to the proof
         asker.sorts.add('too large')
@@ -250,7 +247,7 @@ def settle_differs(asker, rule, board, request):
     if told or isinstance(plan, Fault):
         return told
     board.functions = plan.functions
-    again = asker.settle(board.functions, request._replace(anew=False))
+    again = settled_growing(board.functions, request._replace(anew=False))
     return None if not isinstance(again, Fault) and not again.writes else 'settled again it changes'
 
 
@@ -270,9 +267,9 @@ def ask_settling(seed, asker):
     return None
 
 
-def compare_settling(seed, program, folder, settle=settled):
+def compare_settling(seed, program, folder):
     """Compares the settling of a seed: what disagrees, or none, and the sorts of boards."""
-    asker = Asker(program, folder, settle)
+    asker = Asker(program, folder)
     return ask_settling(seed, asker), asker.sorts
 
 
