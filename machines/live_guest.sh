@@ -89,9 +89,25 @@ faulty() {
     told "$name" $#
 }
 
-# settled: makes the writes of `settle`, with the lists of this machine.
+# apart BRIDGE: gives the memory window of a bridge a range of its own in the words, so that it moves rather than grow.
+apart() {
+    window=$(bar "$1" 20)
+    base=${window#0x????}
+    first=$((0x${base}0000)) last=$((${window%????}0000 + 0xfffff))
+    mem=${words#*--mem }
+    for range in $(echo "${mem%% *}" | tr , ' '); do
+        from=0x${range%-*} to=0x${range#*-}
+        if [ $((from < first && last < to)) -eq 1 ]; then
+            parts=$(printf '%x-%x,%x-%x,%x-%x' $((from)) $((first - 1)) $first $last $((last + 1)) $((to)))
+            words=$(echo "$words" | sed "s/$range/$parts/")
+        fi
+    done
+    echo "$words"
+}
+
+# settled [BRIDGE]: makes the writes of `settle`, with the lists of this machine; a window of BRIDGE doesn't grow.
 settled() {
-    typed 'words=$(machines/lists.sh); echo "$words"' &&
+    typed 'words=$(machines/lists.sh); echo "$words"' && { [ $# -eq 0 ] || apart "$1"; } &&
         typed 'pciplan settle dump.txt probe.txt $words --writes > writes.txt; cat writes.txt' && [ -s writes.txt ]
     told 'settle has writes' $?
 }
@@ -239,10 +255,10 @@ beside() {
     unseen 01:03.0 0
     captured
     faulty 'faults lists its BAR, which is off and has no place' 'off 01:03.0 10 bar mem 0000000000000000-00000000000fffff 1M$'
-    settled
+    settled 00:05.0
 }
 
-# The window is made larger, and what is behind it moves. Linux takes that over.
+# The window moves as it is made larger, and what is behind it, too. Linux takes that over.
 made() {
     beside
     registers >before
@@ -252,7 +268,7 @@ made() {
         grep -v 01:01.0 before >others && registers | grep -v 01:01.0 | cmp -s - others
     told 'the driver changes Command as it is unbound: nothing is written' $?
     captured
-    settled
+    settled 00:05.0
     ends 0 'machines/apply.sh dump.txt writes.txt' && cmp -s out writes.txt
     told 'apply.sh prints the writes' $?
     ends 0 'machines/apply.sh --yes dump.txt writes.txt' && cmp -s out writes.txt
