@@ -1,5 +1,5 @@
 //! The text of a map.
-ghost use Rattle.std.specs.Prelude.{◌≡◌, ◌++◌, ◌<◌, [], ◌∷◌, IsTrue, IfOk, OnOk};
+ghost use Rattle.std.specs.Prelude.{◌++◌, ◌<◌, [], ◌∷◌, IsTrue, IfOk, OnOk};
 ghost use Rattle.std.specs.List.Sorted.{IsPermutation};
 ghost use Rattle.pci_picture.specs.Lines.{is_one_line, region_lines, told_line};
 ghost use Rattle.pci_picture.specs.Maps.{lines_read};

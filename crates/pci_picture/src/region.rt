@@ -1,5 +1,5 @@
 //! Lines of a map.
-ghost use Rattle.std.specs.Prelude.{◌≡◌, ◌+◌, ◌<◌, [], ◌∷◌, ℕ, IsTrue, MatchOption, is_some};
+ghost use Rattle.std.specs.Prelude.{◌≡◌, ◌+◌, ◌<◌, [], ◌∷◌, IsTrue, MatchOption, is_some};
 ghost use Rattle.pci_picture.specs.Lines.{is_one_line, is_part, is_region_line, names_register, region_line, words_of};
 
 use super::reading::{extent_of, hex_byte, region_key, slot_number, word};
