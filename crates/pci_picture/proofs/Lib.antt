@@ -9,5 +9,6 @@ pub mod Positions
 pub mod Titles
 pub mod Taken
 pub mod Sections
+pub mod HexDigits
 pub mod Ranges
 pub mod Examples

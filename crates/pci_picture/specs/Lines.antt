@@ -1,5 +1,5 @@
 -- The lines of a map that are regions.
-use Rattle.std.specs.Prelude.{ℕ, Bool, ◌==◌, ◌&&◌, ◌||◌, not, ◌+◌, ◌-◌, ◌*◌, ◌%◌, ◌^◌, List, [], ◌∷◌, take, drop, length, fold, slice_index, Option, Some, None, unwrap_or, nat_le, nat_lt, nat_eq, codes, if◌then◌else◌}
+use Rattle.std.specs.Prelude.{ℕ, Bool, ◌==◌, ◌&&◌, ◌||◌, not, ◌+◌, ◌-◌, ◌*◌, List, [], ◌∷◌, take, drop, length, fold, slice_index, Option, Some, None, unwrap_or, nat_le, nat_lt, nat_eq, codes, if◌then◌else◌}
 use Rattle.std.specs.List.{flat_map, filter, list_all, position_or_len, slice_get, slice_split, before_first, after_first}
 use Rattle.std.specs.Cmp.Lexicographic.{pointwise}
 
@@ -55,7 +55,7 @@ abbrev pub is_number : List ℕ → Bool
 is_number digits = is_word digits && nat_le (length digits) 16 && list_all is_digit digits
 
 abbrev pub next_value : ℕ → ℕ → ℕ
-next_value n b = (n * 16 + digit_value b) % 2 ^ 64
+next_value n b = n * 16 + digit_value b
 
 abbrev pub value_of : List ℕ → ℕ
 value_of digits = fold next_value 0 digits

@@ -1,5 +1,5 @@
 //! Words, numbers and slots of a line.
-ghost use Rattle.std.specs.Prelude.{◌≡◌, ◌≤◌, ◌<◌, length, is_some};
+ghost use Rattle.std.specs.Prelude.{◌≡◌, ◌≤◌, ◌<◌, length, is_some, IfSome};
 ghost use Rattle.pci_picture.specs.Lines.{indent_of, content_of, words_of, nth_word, digit_of, number_of, is_register, is_slot, is_range};
 
 /// The word of a line at an index, or nothing where it has fewer.
@@ -39,7 +39,8 @@ pub fn stripped(line: &[u8]) -> &[u8]
 
 /// The value of a hex digit in lower case.
 fn nibble(digit: u8) -> Option<u8>
-    ensures { result ≡ digit_of digit }
+    ensures exact { result ≡ digit_of digit }
+    ensures small { IfSome result (λ value. value < 16) }
 {
     match digit {
         b'0'..=b'9' => Some(digit - b'0'),
@@ -58,7 +59,7 @@ pub fn hex_number(digits: &[u8]) -> Option<u64>
     let mut number = 0u64;
     for digit in digits {
         let value = nibble(*digit)?;
-        number = number.wrapping_mul(16).wrapping_add(u64::from(value));
+        number = number * 16 + u64::from(value);
     }
     Some(number)
 }
