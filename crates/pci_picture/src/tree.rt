@@ -64,7 +64,56 @@ fn put_badges<A: Allocator + Copy>(
     Ok(())
 }
 
-/// Draws the row of a function.
+/// Draws the box of a function, whose look tells a bridge, and a function whose decode is on.
+fn draw_function<A: Allocator + Copy>(
+    canvas: &mut Canvas<A>,
+    function: &Function<'_>,
+    x: u64,
+    y: u64,
+) -> Result<(), OutOfMemory>
+    ensures { OnOk result (Adds [] canvas.old canvas.new) }
+{
+    let class: &[u8] = match function.buses {
+        Some(_) => b"window",
+        None if function.is_on => b"bar",
+        None => b"off",
+    };
+    let at = Frame {
+        x,
+        y,
+        width: 8,
+        height: 9,
+    };
+    let shape = Shape {
+        at,
+        class,
+        anchor: b"",
+    };
+    canvas.add_box(shape, function.slot)
+}
+
+/// Writes the slot of a function, the buses behind it where it is a bridge, and its name, cut to a width.
+fn write_function<A: Allocator + Copy>(
+    alloc: A,
+    canvas: &mut Canvas<A>,
+    function: &Function<'_>,
+    label: Label<'_>,
+    width: u64,
+) -> Result<(), OutOfMemory>
+    ensures { OnOk result (Adds [] canvas.old canvas.new) }
+{
+    let mut words = Words::of(alloc, function.slot)?;
+    words.put(b" ")?;
+    if function.buses.is_some() {
+        words.put(b"to ")?;
+        words.put_buses(function.buses)?;
+        words.put(b", ")?;
+    }
+    words.put_name(Some(*function))?;
+    canvas.add_cut(label, &mut words, width)
+}
+
+/// Draws the row of a function: its box, its words, and at the right the numbers of its faults.
 fn draw_row<A: Allocator + Copy>(
     alloc: A,
     canvas: &mut Canvas<A>,
@@ -76,52 +125,28 @@ fn draw_row<A: Allocator + Copy>(
     ensures { OnOk result (Adds [] canvas.old canvas.new) }
 {
     let x = LEFT + STEP * depth.min(DEEPEST);
-    let base = y.saturating_add(10);
     let mut badges = Words::new(alloc);
     put_badges(&mut badges, board, function)?;
     let taken = (badges.bytes.len() as u64).saturating_mul(7);
-    let class: &[u8] = match function.buses {
-        Some(_) => b"window",
-        None if function.is_on => b"bar",
-        None => b"off",
-    };
-    let at = Frame {
-        x,
-        y: y.saturating_add(2),
-        width: 8,
-        height: 9,
-    };
-    let shape = Shape {
-        at,
-        class,
-        anchor: b"",
-    };
-    canvas.add_box(shape, function.slot)?;
-    let mut words = Words::of(alloc, function.slot)?;
-    words.put(b" ")?;
-    if function.buses.is_some() {
-        words.put(b"to ")?;
-        words.put_buses(function.buses)?;
-        words.put(b", ")?;
-    }
-    words.put_name(Some(*function))?;
-    let look: &[u8] = if !badges.bytes.is_empty() {
+    draw_function(canvas, function, x, y.saturating_add(2))?;
+    let class: &[u8] = if !badges.bytes.is_empty() {
         b"alarm"
     } else if function.is_on {
         b""
     } else {
         b"quiet"
     };
+    let y = y.saturating_add(10);
     let label = Label {
         x: x + 14,
-        y: base,
-        class: look,
+        y,
+        class,
     };
     let room = (LEFT + TREE - 36).saturating_sub(x).saturating_sub(taken);
-    canvas.add_cut(label, &mut words, room)?;
+    write_function(alloc, canvas, function, label, room)?;
     let beside = Label {
         x: (LEFT + TREE - 16).saturating_sub(taken),
-        y: base,
+        y,
         class: b"alarm bold",
     };
     canvas.add_words(beside, badges.bytes.as_slice())
