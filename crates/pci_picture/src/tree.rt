@@ -152,6 +152,24 @@ fn draw_row<A: Allocator + Copy>(
     canvas.add_words(beside, badges.bytes.as_slice())
 }
 
+/// Puts the functions behind a bridge before what is left, unless those of their bus are drawn.
+fn push_behind<A: Allocator + Copy>(
+    rests: &mut Vec<Rest, A>,
+    board: &Board<'_, A>,
+    drawn: &mut [bool; 256],
+    function: &Function<'_>,
+    depth: u64,
+) -> Result<(), OutOfMemory> {
+    if let Some(buses) = function.buses {
+        let behind = buses.secondary as usize;
+        if !drawn[behind] {
+            drawn[behind] = true;
+            rests.push(on_bus(board, buses.secondary, depth.saturating_add(1)))?;
+        }
+    }
+    Ok(())
+}
+
 /// Draws a root bus and what is behind its bridges. Each bus is drawn once. Its answer is where the next row stands.
 fn draw_bus<A: Allocator + Copy>(
     alloc: A,
@@ -186,13 +204,7 @@ fn draw_bus<A: Allocator + Copy>(
             end: rest.end,
             depth: rest.depth,
         })?;
-        if let Some(buses) = function.buses {
-            let behind = buses.secondary as usize;
-            if !drawn[behind] {
-                drawn[behind] = true;
-                rests.push(on_bus(board, buses.secondary, rest.depth.saturating_add(1)))?;
-            }
-        }
+        push_behind(&mut rests, board, drawn, function, rest.depth)?;
     }
     Ok(y)
 }
