@@ -6,7 +6,7 @@ ghost use Rattle.pci_picture.specs.Maps.{lines_of, regions_of, regions_at};
 use super::board::Board;
 use super::canvas::{Canvas, Label, Shape};
 use super::elements::Frame;
-use super::faults::Faults;
+use super::faults::{Fault, Faults};
 use super::heights::{Heights, LINE, Run};
 use super::lanes::Width;
 use super::memory::OutOfMemory;
@@ -274,20 +274,29 @@ fn frame_of<A: Allocator + Copy>(heights: &Heights<A>, placed: &Placed<'_>) -> F
     }
 }
 
-/// Draws the range that two regions share, over both.
-#[tactic(auto, using(crate::proofs::Boxes::unchanged))]
-fn draw_shared<A: Allocator + Copy>(
+/// Draws a box that is about a fault. Its title is the lines that tell the fault.
+fn draw_fault<A: Allocator + Copy>(
     alloc: A,
     canvas: &mut Canvas<A>,
     board: &Board<'_, A>,
-    plan: &Plan<'_, A>,
-    range: &Told,
+    fault: &Fault,
+    at: Frame,
+    class: &[u8],
 ) -> Result<(), OutOfMemory>
     ensures { OnOk result (Adds [] canvas.old canvas.new) }
 {
-    let Some(fault) = board.faults.faults.get(range.fault) else {
-        return Ok(());
+    let title = board.fault_title(alloc, fault)?;
+    let lines = title.bytes.as_slice();
+    let shape = Shape {
+        at,
+        class,
+        anchor: b"",
     };
+    canvas.add_box(shape, lines)
+}
+
+/// The left end of the boxes of the regions that a fault names, and their right end; nothing where none is here.
+fn ends_of<A: Allocator + Copy>(plan: &Plan<'_, A>, fault: &Fault) -> Option<(u64, u64)> {
     let mut left = u64::MAX;
     let mut right = 0;
     for naming in [fault.keys.first(), fault.keys.last()] {
@@ -302,8 +311,29 @@ fn draw_shared<A: Allocator + Copy>(
         }
     }
     if left == u64::MAX {
-        return Ok(());
+        None
+    } else {
+        Some((left, right))
     }
+}
+
+/// Draws the range that two regions share, over both.
+#[tactic(auto, using(crate::proofs::Boxes::unchanged))]
+fn draw_shared<A: Allocator + Copy>(
+    alloc: A,
+    canvas: &mut Canvas<A>,
+    board: &Board<'_, A>,
+    plan: &Plan<'_, A>,
+    range: &Told,
+) -> Result<(), OutOfMemory>
+    ensures { OnOk result (Adds [] canvas.old canvas.new) }
+{
+    let Some(fault) = board.faults.faults.get(range.fault) else {
+        return Ok(());
+    };
+    let Some((left, right)) = ends_of(plan, fault) else {
+        return Ok(());
+    };
     let y = plan.heights.y(u128::from(range.first));
     let end = plan.heights.y(u128::from(range.last) + 1);
     let at = Frame {
@@ -312,17 +342,32 @@ fn draw_shared<A: Allocator + Copy>(
         width: right.saturating_sub(left).max(1),
         height: end.saturating_sub(y).saturating_sub(1).max(3),
     };
-    let title = board.fault_title(alloc, fault)?;
-    let lines = title.bytes.as_slice();
-    let shape = Shape {
-        at,
-        class: b"shared",
-        anchor: b"",
-    };
-    canvas.add_box(shape, lines)
+    draw_fault(alloc, canvas, board, fault, at, b"shared")
 }
 
-/// Draws where the region that a fault names would fit, over the first free line that has the range.
+/// The words `S r would fit` of the region that a fault names last.
+fn fit_words<A: Allocator + Copy>(
+    alloc: A,
+    plan: &Plan<'_, A>,
+    fault: &Fault,
+) -> Result<Words<A>, OutOfMemory> {
+    let mut words = Words::new(alloc);
+    if let Some(one) = fault
+        .keys
+        .last()
+        .and_then(|key| with_key(plan.keys.as_slice(), key).first())
+    {
+        if let Some(placed) = plan.placed.get(one.index) {
+            words.put(placed.region.slot)?;
+            words.put(b" ")?;
+            words.put(placed.region.register)?;
+        }
+    }
+    words.put(b" would fit")?;
+    Ok(words)
+}
+
+/// Draws where the region that a fault names last would fit, over the first free line that has the range.
 #[tactic(auto, using(crate::proofs::Boxes::unchanged))]
 fn draw_fits<A: Allocator + Copy>(
     alloc: A,
@@ -346,32 +391,13 @@ fn draw_fits<A: Allocator + Copy>(
         width: width.saturating_sub(92).max(1),
         height: end.saturating_sub(y).saturating_sub(3),
     };
-    let title = board.fault_title(alloc, fault)?;
-    let lines = title.bytes.as_slice();
-    let shape = Shape {
-        at,
-        class: b"fits",
-        anchor: b"",
-    };
-    canvas.add_box(shape, lines)?;
+    draw_fault(alloc, canvas, board, fault, at, b"fits")?;
     let label = Label {
         x: free.left.saturating_add(96),
         y: y.saturating_add(11),
         class: b"good",
     };
-    let mut words = Words::new(alloc);
-    if let Some(one) = fault
-        .keys
-        .last()
-        .and_then(|key| with_key(plan.keys.as_slice(), key).first())
-    {
-        if let Some(placed) = plan.placed.get(one.index) {
-            words.put(placed.region.slot)?;
-            words.put(b" ")?;
-            words.put(placed.region.register)?;
-        }
-    }
-    words.put(b" would fit")?;
+    let mut words = fit_words(alloc, plan, fault)?;
     canvas.add_cut(label, &mut words, width.saturating_sub(100))
 }
 

@@ -1,9 +1,6 @@
-use Rattle.std.proofs.Common.{[], ap, ◌∙◌}
-use Rattle.pci_picture.specs.Boxes.{titled_line}
-use Rattle.pci_picture.proofs.Boxes.{then_ok, adds_same}
+use Rattle.std.proofs.Common.{[]}
+use Rattle.pci_picture.proofs.Boxes.{then_ok}
 use Rattle.pci_picture.proofs.section.draw_fits.Goals as goal
 
 pub returns : goal.returns
-returns g c =
-    then_ok c.add_cut.result [] _ _ _
-    (adds_same [] _ _ _ (ap titled_line c.as_slice-lines.ensures.value ∙ c.in_ok-title.ensures) c.in_ok-add_box.ensures) c.add_cut.ensures
+returns g c = then_ok c.add_cut.result [] _ _ _ c.in_ok-draw_fault.ensures c.add_cut.ensures
