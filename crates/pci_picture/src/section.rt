@@ -186,6 +186,32 @@ fn draw_box<A: Allocator + Copy>(
     canvas.add_box(shape, lines)
 }
 
+/// Puts the words of a region's box there, and answers their class.
+fn put_words<A: Allocator + Copy>(
+    words: &mut Words<A>,
+    board: &Board<'_, A>,
+    region: &Region<'_>,
+) -> Result<&'static str, OutOfMemory> {
+    match region.part {
+        Part::Free => {
+            words.put(b"free ")?;
+            words.put_size(region.size)?;
+            Ok("quiet")
+        }
+        Part::Window => {
+            words.put_region(region)?;
+            Ok("bold")
+        }
+        _ => {
+            let is_marked = put_marks(words, &board.faults, region)?;
+            words.put_region(region)?;
+            words.put(b", ")?;
+            words.put_name(board.function(region))?;
+            Ok(if is_marked { "alarm" } else { "" })
+        }
+    }
+}
+
 /// Writes the words in the box of a region.
 fn write_region<A: Allocator + Copy>(
     alloc: A,
@@ -197,40 +223,19 @@ fn write_region<A: Allocator + Copy>(
     ensures { OnOk result (Adds [] canvas.old canvas.new) }
 {
     let region = &placed.region;
-    let mut words = Words::new(alloc);
     let width = placed.width;
-    let inner = if region.part == Part::Window {
-        width.inner
-    } else {
-        width.right
-    };
+    let is_window = region.part == Part::Window;
+    let inner = if is_window { width.inner } else { width.right };
     let room = inner.saturating_sub(width.left).saturating_sub(6);
-    let mut label = Label {
+    let mut words = Words::new(alloc);
+    let class = put_words(&mut words, board, region)?;
+    let label = Label {
         x: width.left.saturating_add(5),
         y: at.y.saturating_add(11),
-        class: b"",
+        class: class.as_bytes(),
     };
-    match region.part {
-        Part::Free => {
-            label.class = b"quiet";
-            words.put(b"free ")?;
-            words.put_size(region.size)?;
-        }
-        Part::Window => {
-            label.class = b"bold";
-            words.put_region(region)?;
-        }
-        _ => {
-            if put_marks(&mut words, &board.faults, region)? {
-                label.class = b"alarm";
-            }
-            words.put_region(region)?;
-            words.put(b", ")?;
-            words.put_name(board.function(region))?;
-        }
-    }
     canvas.add_cut(label, &mut words, room)?;
-    if region.part != Part::Window || at.height.saturating_add(1) < 2 * LINE {
+    if !is_window || at.height.saturating_add(1) < 2 * LINE {
         return Ok(());
     }
     write_buses(alloc, canvas, board, region, label, room)
