@@ -1,4 +1,4 @@
--- What comes to a canvas, one element behind the other.
+-- What is added to a canvas, one element behind the other.
 use Rattle.std.proofs.Common.{◌≡◌, ℕ, List, [], ◌∷◌, ◌++◌, refl, sym, ap, subst, ◌∙◌, Result, Ok, Err, IfOk}
 use Rattle.std.proofs.lemmas.List.{append_assoc, append-nil}
 use Rattle.std.proofs.lemmas.List.Concat.{flat_map-append}
@@ -115,7 +115,7 @@ added_words made bare before after empty element none is boxes words = record {
       };
 }
 
--- nothing comes to it
+-- nothing is added
 pub unchanged : {A : Type 0} (canvas : Canvas A) → Adds [] canvas canvas
 unchanged canvas = record {
   behind = λ lines drawn. subst (λ l. HasDrawn l canvas) (sym (append-nil lines)) drawn;
@@ -160,7 +160,7 @@ drawn_of (Ok t) bytes boxes words width height lines drawn is = record {
   says = is;
 }
 
--- ---- before the end of a function: what comes at its last step
+-- ---- at the end of a function: its last step is a call, which may fail
 
 pub then_ok : {A T E : Type 0} (result : Result T E) (lines : List (List ℕ)) (before between after : Canvas A)
     → Adds [] before between → IfOk result (λ _. Adds lines between after) → IfOk result (λ _. Adds lines before after)

@@ -269,7 +269,7 @@ height_below (run ∷ runs) bottom address (suc i) before all =
     subst (λ (y : ℕ). height_at (run ∷ runs) bottom address ≡ y) inner
     (passed run.begin address (height_at runs bottom address) run.y (ltb-true run.begin address h))
 
--- what a search by halves found in a list that is the runs
+-- what a binary search found in the runs
 pub stands_at : (runs first second : List Run) (bottom address i : ℕ) (run : Run) → first ≡ runs → second ≡ runs
     → IsPartitionPoint (λ (r : Run). ltb r.begin address ≡ true) (λ (r : Run). ltb r.begin address ≡ false) first i
     → i < length second → run ≡ slice_index_or second i run → run.y ≡ height_at runs bottom address

@@ -64,7 +64,7 @@ untold old told none =
 pub told_one : (old new told : List (List ℕ)) (line : List ℕ) → told ≡ line ∷ [] → IsPermutation (old ++ line ∷ []) new → IsPermutation (old ++ told) new
 told_one old new told line is moved = subst (λ t. IsPermutation (old ++ t) new) (sym is) moved
 
--- ---- a region more
+-- ---- one more region
 
 more_line : (lines : List Line) (line : Line) → lines_of (regions_under (lines ++ line ∷ [])) ≡ lines_of (regions_under lines) ++ line.region.line.now ∷ []
 more_line lines line =
@@ -87,7 +87,7 @@ put_off lines off new region is =
     subst (λ l. IsPermutation ((lines ++ lines_of off) ++ one) (lines ++ l)) (sym (ap lines_of is ∙ map-append (λ r. r.line.now) off (region ∷ [])))
     (subst (λ l. IsPermutation ((lines ++ lines_of off) ++ one) l) (append_assoc lines (lines_of off) one) (IsPermutation-refl _))
 
--- ---- a line more
+-- ---- one more line
 
 pub more_told : {X : Type 0} (now : X → List ℕ) (lines : List X) (line : X) (bytes : List ℕ) (old new : List (List ℕ)) → bytes ≡ now line
     → IsPermutation (flat_map told_line (map now lines)) old → IsPermutation (old ++ told_line bytes) new

@@ -20,6 +20,7 @@ pub data HasTitles : List (List ℕ) → List ℕ → Type 0 where
   a_gap : (x y to : ℕ) (rest : List ℕ) (titles : List (List ℕ)) → HasTitles titles rest
       → HasTitles titles (gap_text x y to ++ rest)
 
+-- the bytes before the first line feed
 abbrev pub first_line : List ℕ → List ℕ
 first_line [] = []
 first_line (b ∷ title) = if is_feed b then [] else b ∷ first_line title

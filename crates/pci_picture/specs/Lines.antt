@@ -31,7 +31,7 @@ is_word part = not (length part == 0)
 unfoldable pub words_of : List ℕ → List (List ℕ)
 words_of line = filter is_word (slice_split is_blank line)
 
--- the word behind so many words, or nothing
+-- the word at the index `n`, or nothing
 abbrev pub nth_word : List (List ℕ) → ℕ → List ℕ
 nth_word words n = unwrap_or (slice_get words n) []
 
@@ -96,11 +96,11 @@ is_part words =
 unfoldable pub is_region_line : List ℕ → Bool
 is_region_line line = is_range (nth_word (words_of line) 0) && is_part (words_of line)
 
--- the line itself where it is a region, else none
+-- the line itself where it is a region, else no line
 abbrev pub region_line : List ℕ → List (List ℕ)
 region_line line = if is_region_line line then line ∷ [] else []
 
--- the same of a line that begins with two blanks or more, without them
+-- the same of a line with at least two blanks before it, without these; no line where it has fewer
 abbrev pub told_line : List ℕ → List (List ℕ)
 told_line line = if nat_lt (indent_of line) 2 then [] else region_line (content_of line)
 

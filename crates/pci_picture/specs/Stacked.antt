@@ -20,7 +20,7 @@ pub record AreHeights (cuts : List Cut) (runs : List Run) (bottom : ℕ) : Type 
   pub rise : CutsRise cuts runs bottom
   pub sorted : IsNonDecreasingBy (λ (run : Run). run.begin) runs
 
--- a run that begins at an address and stands at a height; it has addresses, and is some units high
+-- a run that begins at an address and stands at a height; it has an address, and its height is not 0
 pub record IsRunAt (address height : ℕ) (run : Run) : Type 0 where
   pub begins : run.begin ≡ address
   pub stands : run.y ≡ height

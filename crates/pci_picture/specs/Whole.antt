@@ -37,7 +37,7 @@ svg_attributes width height =
     ++ (number_attribute (codes "width") width
     ++ (number_attribute (codes "height") height ++ view_box width height))
 
--- the white ground below all
+-- the white background
 unfoldable pub ground_text : ℕ → ℕ → List ℕ
 ground_text width height =
     empty_element (codes "rect")
@@ -52,7 +52,7 @@ style_text style = 10 ∷ (element (codes "style") [] style ++ 10 ∷ [])
 unfoldable pub line_text : List ℕ → List ℕ
 line_text text = text ++ 10 ∷ []
 
--- what stands before the boxes, in its order: the style sheet, the hatching and the ground
+-- what stands before the boxes, in its order: the style sheet, the hatching and the background
 unfoldable pub head_text : List ℕ → List ℕ → ℕ → ℕ → List ℕ
 head_text style hatch width height = style_text style ++ (line_text hatch ++ (ground_text width height ++ 10 ∷ []))
 

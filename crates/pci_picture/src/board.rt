@@ -1,4 +1,4 @@
-//! A board, as the three texts tell it, and how wide it is drawn.
+//! A board, read from the texts of three commands.
 ghost use Rattle.std.specs.Prelude.{◌≡◌, [], ◌∷◌, IfOk};
 ghost use Rattle.std.specs.List.Sorted.{IsPermutation};
 ghost use Rattle.pci_picture.specs.Boxes.{titled_line};
@@ -23,7 +23,7 @@ pub struct Texts<'a> {
     pub map: &'a str,
     /// What `faults --why` prints.
     pub faults: &'a str,
-    /// The slot lines of the dump that have a title. Other lines count for nothing.
+    /// The slot lines of the dump that have a title. Other lines are ignored.
     pub titles: &'a [u8],
 }
 
@@ -36,7 +36,7 @@ pub struct Board<'a, A: Allocator> {
 }
 
 impl<'a, A: Allocator + Copy> Board<'a, A> {
-    /// The board of the three texts.
+    /// Reads the board from the texts.
     pub fn read(alloc: A, texts: &Texts<'a>) -> Result<Board<'a, A>, OutOfMemory>
         ensures { IfOk result (λ board. IsPermutation
             (region_lines texts.entry.now.map.now) (lines_read board.map)) }
@@ -68,7 +68,7 @@ impl<'a, A: Allocator + Copy> Board<'a, A> {
         }
     }
 
-    /// Puts the lines that tell a fault there, with a line feed between two.
+    /// Appends the lines of a fault, with a line feed between two.
     fn put_fault(&self, words: &mut Words<A>, fault: &Fault) -> Result<(), OutOfMemory> {
         for index in fault.begin..fault.end {
             if index != fault.begin {
@@ -79,7 +79,7 @@ impl<'a, A: Allocator + Copy> Board<'a, A> {
         Ok(())
     }
 
-    /// The title of a box that is about a fault: the lines that tell it, the first of which begins with its number.
+    /// The title of a box that is about a fault: the lines of the fault, the first of which begins with its number.
     pub fn fault_title(&self, alloc: A, fault: &Fault) -> Result<Words<A>, OutOfMemory>
         ensures { IfOk result (λ title. titled_line title.bytes.items ≡ []) }
     {
@@ -92,7 +92,7 @@ impl<'a, A: Allocator + Copy> Board<'a, A> {
         Ok(title)
     }
 
-    /// Puts there what is known of a region of a function: its function, and its faults.
+    /// Appends the name of a region's function, the buses behind a window, and the lines of the region's faults.
     fn put_about(&self, words: &mut Words<A>, region: &Region<'_>) -> Result<(), OutOfMemory> {
         words.put_name(self.function(region))?;
         if region.part == Part::Window {
@@ -123,7 +123,7 @@ impl<'a, A: Allocator + Copy> Board<'a, A> {
         Ok(title)
     }
 
-    /// For each bus the root bus above it.
+    /// For each bus the root bus from which it is reached.
     pub fn roots(&self) -> [u8; 256] {
         let mut above = [0u8; 256];
         let mut is_root = [true; 256];

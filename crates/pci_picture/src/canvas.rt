@@ -32,7 +32,7 @@ pub struct Shape<'a> {
 pub struct Canvas<A: Allocator> {
     boxes: String<A>,
     words: String<A>,
-    /// An element while it is made.
+    /// The element that is being written.
     element: String<A>,
     ghost boxes_closed: { ∥ IsContent (string_bytes boxes) ∥₁ },
     ghost words_closed: { ∥ IsContent (string_bytes words) ∥₁ },
@@ -41,7 +41,7 @@ pub struct Canvas<A: Allocator> {
 impl<A: Allocator + Copy> Canvas<A> {
     ghost use Rattle.pci_picture.specs.Canvases.{HasDrawn, Adds};
 
-    /// Nothing is drawn.
+    /// A canvas with no element.
     pub fn new(alloc: A) -> Canvas<A>
         ensures { HasDrawn [] result }
     {
@@ -52,9 +52,9 @@ impl<A: Allocator + Copy> Canvas<A> {
         }
     }
 
-    /// Keeps an element that was made among the boxes.
+    /// Appends the finished element to the boxes.
     fn keep_box(&mut self) -> Result<(), OutOfMemory>
-        // nothing else is kept, so that no element is left open
+        // only whole elements are kept, so that none is left open
         requires { ∥ IsContent (string_bytes self.old.element) ∥₁ }
         ensures { OnOk result
             ((string_bytes self.new.boxes ≡ string_bytes self.old.boxes ++ string_bytes self.old.element)
@@ -64,9 +64,9 @@ impl<A: Allocator + Copy> Canvas<A> {
         Ok(())
     }
 
-    /// Keeps an element that was made among the words.
+    /// Appends the finished element to the words.
     fn keep_words(&mut self) -> Result<(), OutOfMemory>
-        // nothing else is kept, so that no element is left open
+        // only whole elements are kept, so that none is left open
         requires { ∥ IsContent (string_bytes self.old.element) ∥₁ }
         ensures { OnOk result
             ((string_bytes self.new.words ≡ string_bytes self.old.words ++ string_bytes self.old.element)

@@ -145,7 +145,7 @@ pub fn push_box<A: Allocator>(
     text.push_str("</rect>\n")
 }
 
-/// Appends the start of a line of words.
+/// Appends the attributes of the place of a line of words.
 #[tactic(auto, unfolding(crate::specs::Elements::place_attributes))]
 fn push_place<A: Allocator>(text: &mut String<A>, x: u64, y: u64) -> Result<(), AllocError>
     ensures { OnOk result (string_bytes text.new ≡ string_bytes text.old ++ place_attributes x y) }

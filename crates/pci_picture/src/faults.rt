@@ -30,7 +30,7 @@ impl Keys {
     }
 }
 
-/// A fault: its number, and which lines tell it.
+/// A fault: its number, and which lines of the text are its own.
 #[derive(Clone, Copy)]
 pub struct Fault {
     pub number: u8,
@@ -42,7 +42,7 @@ pub struct Fault {
 }
 
 impl Fault {
-    /// How many lines tell it.
+    /// How many lines it has.
     pub fn lines(&self) -> usize {
         self.end.saturating_sub(self.begin)
     }
@@ -76,7 +76,7 @@ pub struct Faults<'a, A: Allocator> {
     pub badges: Vec<Badge, A>,
 }
 
-/// The number of a line that tells a fault: two digits and a blank.
+/// The number with which the first line of a fault begins: two digits and a blank.
 fn fault_number(line: &[u8]) -> Option<u8> {
     match line {
         [tens @ b'0'..=b'9', ones @ b'0'..=b'9', b' ', ..] => {
@@ -116,7 +116,7 @@ fn first_slot(line: &[u8]) -> Option<u32> {
 }
 
 impl<'a, A: Allocator + Copy> Faults<'a, A> {
-    /// Takes the first line of a fault.
+    /// Adds a fault, by its first line.
     fn begin(&mut self, number: u8, line: &'a [u8]) -> Result<(), OutOfMemory> {
         let keys = keys_of(number, line);
         let fault = self.faults.len();
@@ -132,7 +132,7 @@ impl<'a, A: Allocator + Copy> Faults<'a, A> {
         self.mark(number, keys, line)
     }
 
-    /// Takes the regions that a fault is about.
+    /// Adds the regions that a fault is about.
     fn name(&mut self, keys: Keys, fault: usize) -> Result<(), OutOfMemory> {
         match keys {
             Keys::None => {}
@@ -145,7 +145,7 @@ impl<'a, A: Allocator + Copy> Faults<'a, A> {
         Ok(())
     }
 
-    /// Takes what the tree shows of a fault.
+    /// Adds what the tree shows of a fault.
     fn mark(&mut self, number: u8, keys: Keys, line: &[u8]) -> Result<(), OutOfMemory> {
         if number == 60 {
             let last = word(line, word_count(line).saturating_sub(1));
@@ -166,7 +166,7 @@ impl<'a, A: Allocator + Copy> Faults<'a, A> {
         }
     }
 
-    /// Takes one mark.
+    /// Adds one badge.
     fn badge(&mut self, slot: u32, number: u8, is_bridge: bool) -> Result<(), OutOfMemory> {
         self.badges.push(Badge {
             slot,
@@ -176,7 +176,7 @@ impl<'a, A: Allocator + Copy> Faults<'a, A> {
         Ok(())
     }
 
-    /// Takes a line behind a fault.
+    /// Adds a further line of the last fault.
     fn reason(&mut self, line: &'a [u8]) -> Result<(), OutOfMemory> {
         if let Some(fault) = self.faults.last_mut() {
             self.lines.push(line)?;
@@ -185,7 +185,7 @@ impl<'a, A: Allocator + Copy> Faults<'a, A> {
         Ok(())
     }
 
-    /// The faults of a list with reasons.
+    /// Reads the faults from what `faults --why` prints.
     pub fn read(alloc: A, text: &'a str) -> Result<Faults<'a, A>, OutOfMemory> {
         let mut faults = Faults {
             lines: Vec::new(alloc),

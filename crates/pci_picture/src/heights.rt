@@ -41,7 +41,7 @@ pub struct Heights<A: Allocator> {
     pub bottom: u64,
 }
 
-/// How many units so many addresses have that a line covers: a line, and one more for each doubling past 2^base.
+/// The height of `count` addresses that a line covers: that of a line of words, and 1 for each doubling past 2^base.
 fn covered_height(count: u128, base: u32) -> u64
     requires { base ≤ 12 }
     ensures least { 0 < result }
@@ -96,7 +96,7 @@ impl<A: Allocator + Copy> Heights<A> {
     /// The heights of a section that begins at `top`, of its cuts by rising address.
     pub fn of(alloc: A, cuts: &[Cut], base: u32, top: u64) -> Result<Heights<A>, OutOfMemory>
         requires { base ≤ 12 }
-        // no section is so high that a number of 64 bits has no room for it
+        // `top` and 142 units for each cut have to fit in 64 bits
         ensures { IsNonDecreasingBy (λ cut. cut.at) cuts.now → top + 142 * length cuts.now < 2 ^ 64
             → IfOk result (λ heights. AreHeights cuts.now heights.runs.items heights.bottom) }
     {
@@ -115,7 +115,7 @@ impl<A: Allocator + Copy> Heights<A> {
 
     /// Where an address stands.
     pub fn y(&self, address: u128) -> u64
-        // found by halving
+        // the runs are sorted, so a binary search finds it
         ensures { IsNonDecreasingBy (λ run. run.begin) self.now.runs.items
             → result ≡ height_at self.now.runs.items self.now.bottom address }
     {

@@ -46,7 +46,7 @@ struct Seats<A: Allocator> {
 impl<A: Allocator + Copy> Level<A> {
     /// Gives a line the least lane whose last line ended before it.
     fn seat(&mut self, first: u64, last: u64) -> Result<usize, OutOfMemory> {
-        // where all lanes reach so far none is looked at
+        // where no lane ended before `first`, none is searched
         let free = if first <= self.least {
             None
         } else {
@@ -70,8 +70,8 @@ impl<A: Allocator + Copy> Level<A> {
 }
 
 impl<A: Allocator + Copy> Seats<A> {
-    /// Begins a group of the lines of a parent, where one begins behind all before it. Its answer is the greatest last
-    /// address of the group.
+    /// Begins a group of the lines of a parent, where a line begins behind all lines before it. Its answer is the
+    /// greatest last address of the group.
     fn begin(&mut self, level: &mut Level<A>, first: u64, last: u64) -> Result<u64, OutOfMemory> {
         match level.until {
             Some(until) if first <= until => Ok(until.max(last)),
@@ -103,7 +103,7 @@ impl<A: Allocator + Copy> Seats<A> {
     }
 }
 
-/// The index of the line before so many, where lines stand inside it.
+/// The index of the line that the line after `count` lines stands inside: the last of these, or none at depth 1.
 fn parent_of(count: usize, depth: usize) -> Option<usize> {
     if depth <= 1 {
         None
@@ -140,7 +140,7 @@ fn seats_of<A: Allocator + Copy>(
     Ok(seats)
 }
 
-/// Where the lane with an index begins, of so many lanes between left and right.
+/// Where the lane with the index `lane` begins, of `lanes` lanes between left and right.
 fn lane_left(left: u64, right: u64, lane: usize, lanes: usize) -> u64 {
     let width = u128::from(right.saturating_sub(left));
     let lanes = if lanes == 0 { 1 } else { lanes };
@@ -156,7 +156,7 @@ fn outer_of(widths: &[Width], parent: Option<usize>, whole: Width) -> Width {
     }
 }
 
-/// The width of one of so many lanes inside another width.
+/// The width of a seat, in one of `lanes` lanes inside another width.
 fn width_of(outer: Width, seat: Seat, lanes: usize, column: u64) -> Width {
     let begin = lane_left(outer.inner, outer.right, seat.lane, lanes);
     let end = lane_left(outer.inner, outer.right, seat.lane.saturating_add(1), lanes);

@@ -57,7 +57,7 @@ impl Mark {
     /// The title of its box.
     #[tactic(auto, unfolding(crate::specs::Lines::is_region_line, crate::specs::Lines::is_range, crate::specs::Lines::words_of))]
     fn title(self) -> &'static str
-        // it is no region of a map
+        // it is no line of a region
         ensures { titled_line result.now ≡ [] }
     {
         match self {

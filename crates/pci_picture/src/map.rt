@@ -37,7 +37,7 @@ enum Heading {
     Off,
 }
 
-/// The number of a root bus and a space: the I/O space of a bus stands before its memory space.
+/// The number of the section of a root bus and a space. The I/O space of a bus stands before its memory space.
 pub fn section_number(bus: u8, is_io: bool) -> u16 {
     if is_io {
         2 * u16::from(bus)
@@ -46,7 +46,7 @@ pub fn section_number(bus: u8, is_io: bool) -> u16 {
     }
 }
 
-/// The heading that a line is.
+/// Which heading a line is.
 fn heading_of(line: &[u8]) -> Heading {
     match word(line, 0) {
         b"outside" | b"unreached" => Heading::Lost,
@@ -70,7 +70,7 @@ struct Reader<'a, A: Allocator> {
 }
 
 impl<'a, A: Allocator + Copy> Reader<'a, A> {
-    /// Takes a region.
+    /// Adds a region below the heading.
     fn put(&mut self, region: Region<'a>) -> Result<(), OutOfMemory>
         ensures { OnOk result (IsPermutation
             (lines_read self.old.map ++ region.entry.line.now ∷ []) (lines_read self.new.map)) }
@@ -89,7 +89,7 @@ impl<'a, A: Allocator + Copy> Reader<'a, A> {
         Ok(())
     }
 
-    /// Takes a line. One that is more than one step deeper than the one before counts as one step deeper.
+    /// Reads a line. One that is more than one step deeper than the one before counts as one step deeper.
     fn take(&mut self, line: &'a [u8]) -> Result<(), OutOfMemory>
         requires { IsTrue (is_one_line line.now) }
         ensures { OnOk result (IsPermutation
@@ -113,7 +113,7 @@ impl<'a, A: Allocator + Copy> Reader<'a, A> {
 }
 
 impl<'a, A: Allocator + Copy> Map<'a, A> {
-    /// The lines of a map.
+    /// Reads the lines of a map.
     pub fn read(alloc: A, text: &'a str) -> Result<Map<'a, A>, OutOfMemory>
         ensures { IfOk result (λ read. IsPermutation (region_lines text.entry.now) (lines_read read)) }
     {
@@ -156,7 +156,7 @@ impl<'a, A: Allocator + Copy> Map<'a, A> {
     }
 }
 
-/// At most one step deeper than the line before.
+/// The depth of a line, at most one step deeper than the line before.
 fn deeper(level: usize, depth: usize) -> usize {
     depth.min(level.saturating_add(1))
 }

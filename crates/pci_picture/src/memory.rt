@@ -1,4 +1,4 @@
-//! Want of memory.
+//! The error of a refused allocation.
 
 use std::alloc::{AllocError, AllocFailed};
 

@@ -32,7 +32,7 @@ const LEAF: u64 = 330;
 /// How many lines of faults a picture has, at most.
 const LINES: usize = 40;
 
-/// The margin around all.
+/// The margin at the right and at the bottom.
 const MARGIN: u64 = 16;
 
 /// Writes the title and how many functions, regions and faults there are.
@@ -130,7 +130,8 @@ fn write_faults<A: Allocator + Copy>(
     Ok(y)
 }
 
-/// The regions of all sections, each section one behind the other. A lost region is drawn in the section of its root.
+/// The regions of all sections, by section. One that is out of place or not reached is drawn in the section of its
+/// root bus.
 fn members<'a, A: Allocator + Copy>(
     alloc: A,
     board: &Board<'a, A>,
@@ -265,15 +266,15 @@ fn draw_off_row<A: Allocator + Copy>(
     canvas.add_cut(label, &mut words, site.width)
 }
 
-/// The picture of a board as SVG, of the texts that `show`, `map` and `faults --why` print of it. Lines that no answer has
-/// are left out.
+/// The picture of a board as SVG, of the texts that `show`, `map` and `faults --why` print of it. Lines that
+/// none of these commands prints are left out.
 pub fn picture_of<A: Allocator + Copy>(
     alloc: A,
     texts: &Texts<'_>,
 ) -> Result<String<A>, OutOfMemory>
-    // nothing of a title or another text becomes markup
+    // no byte of a title or of another text becomes markup
     ensures closed { IfOk result (λ text. IsPictureText (string_bytes text)) }
-    // each line of the map that is a region is the title of exactly one box
+    // each line of the map that is a region is the first line of the title of exactly one box
     ensures drawn { IfOk result (λ text. IsPictureOf texts.entry.now.map.now (string_bytes text)) }
 {
     let board = Board::read(alloc, texts)?;

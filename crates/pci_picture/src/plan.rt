@@ -1,4 +1,4 @@
-//! What of a section stands where: its heights, the widths of its lines, and what its faults say of addresses.
+//! Where each part of a section stands: its heights, the widths of its lines, and the ranges that its faults tell.
 
 ghost use Rattle.std.specs.Prelude.{◌≡◌, ◌++◌, IfOk, OnOk};
 ghost use Rattle.std.specs.List.Sorted.{IsNonDecreasingBy};
@@ -54,8 +54,8 @@ pub struct Member<'a> {
 }
 
 impl Member<'_> {
-    /// By what the regions of a section stand in order. Those below its heading stand in the order of the map, and those
-    /// that are lost by address and name.
+    /// The sort key of a region in its section. Those below the heading stay in the order of the map. Those that are
+    /// lost are sorted by address and key.
     pub fn rank(&self) -> (u64, u32) {
         if self.is_lost {
             (self.region.first, self.region.key)
@@ -65,7 +65,7 @@ impl Member<'_> {
     }
 }
 
-/// A range that a fault tells.
+/// A range that a line of a fault tells.
 #[derive(Clone, Copy)]
 pub struct Told {
     pub fault: usize,
@@ -73,7 +73,7 @@ pub struct Told {
     pub last: u64,
 }
 
-/// The faults of a section, and what they tell of addresses.
+/// The ranges that the faults of a section tell: shared ones, and those where a region would fit.
 #[derive(Drop)]
 pub struct Tellings<A: Allocator> {
     pub shared: Vec<Told, A>,
@@ -136,7 +136,7 @@ pub fn with_key(keys: &[Index], key: u32) -> &[Index] {
     keys.get(begin..end).unwrap_or(&[])
 }
 
-/// The range of a line `shared F-L N` or `fits F-L N`, where its addresses have so many digits.
+/// The range of a line `shared F-L N` or `fits F-L N`, where its addresses have `digits` digits.
 fn range_told(fault: usize, line: &[u8], digits: usize) -> Option<Told> {
     let range = extent_of(word(line, 1))?;
     if range.digits != digits {
@@ -149,7 +149,7 @@ fn range_told(fault: usize, line: &[u8], digits: usize) -> Option<Told> {
     })
 }
 
-/// What the faults that are about some regions tell of addresses.
+/// The ranges that the faults about some regions tell.
 fn tellings_of<A: Allocator + Copy>(
     alloc: A,
     faults: &Faults<'_, A>,
@@ -189,7 +189,7 @@ fn tellings_of<A: Allocator + Copy>(
     Ok(tellings)
 }
 
-/// Takes both ends of ranges as cuts that nothing covers.
+/// Adds both ends of each range as cuts. Such a range doesn't count as covered.
 fn push_cuts<A: Allocator + Copy>(
     cuts: &mut Vec<Cut, A>,
     ranges: &[Told],
@@ -323,7 +323,7 @@ fn placed_of<'a, A: Allocator + Copy>(
     Ok(placed)
 }
 
-/// Gives regions their places in a width, with so many units for the text of a window.
+/// Gives regions their places in a width, with `column` units for the text of a window.
 fn place<'a, A: Allocator + Copy>(
     alloc: A,
     placed: &mut Vec<Placed<'a>, A>,

@@ -96,12 +96,12 @@ pub fn bus_of(slot: u32) -> u8 {
     ((slot >> 12) % 256) as u8
 }
 
-/// The number by which a region is named: that of its slot, and its register.
+/// The key of a region: the number of its slot, and its register.
 pub fn region_key(slot: u32, register: u8) -> u32 {
     (slot << 8) | u32::from(register)
 }
 
-/// The region that two words of a line name: a slot and a register.
+/// The key of the region that two words of a line name: a slot and a register.
 pub fn key_at(line: &[u8], index: usize) -> Option<u32> {
     let slot = slot_number(word(line, index))?;
     let register = hex_byte(word(line, index.saturating_add(1)))?;

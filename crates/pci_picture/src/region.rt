@@ -28,7 +28,7 @@ pub struct Region<'a> {
     /// Its slot and its register, nothing where it is free.
     pub slot: &'a [u8],
     pub register: &'a [u8],
-    /// The number by which it is named, 0 where it is free.
+    /// Its key, 0 where it is free.
     pub key: u32,
     /// How deep it stands, from 1 on.
     pub depth: usize,

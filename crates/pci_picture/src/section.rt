@@ -1,4 +1,4 @@
-//! A section of a map: its axis, its boxes, and what its faults say of addresses.
+//! A section of a map: its axis, its boxes, and the ranges that its faults tell.
 ghost use Rattle.std.specs.Prelude.{[], ◌∷◌, IfOk, OnOk};
 ghost use Rattle.pci_picture.specs.Canvases.{Adds};
 ghost use Rattle.pci_picture.specs.Maps.{lines_of, regions_of, regions_at};
@@ -15,7 +15,7 @@ use super::region::{Part, Region};
 use super::words::Words;
 use std::alloc::Allocator;
 
-/// Draws a run that a line covers at the axis: its first address.
+/// Draws a run that a line covers at the axis: its first address, and a tick.
 fn draw_covered<A: Allocator + Copy>(
     alloc: A,
     canvas: &mut Canvas<A>,
@@ -39,7 +39,7 @@ fn draw_covered<A: Allocator + Copy>(
     canvas.add_tick(axis.saturating_sub(4), run.y)
 }
 
-/// Draws a run that no line covers at the axis: the last address before it.
+/// Draws a run that no line covers at the axis: the last address before it, and a line over the gap.
 fn draw_gap<A: Allocator + Copy>(
     alloc: A,
     canvas: &mut Canvas<A>,
@@ -75,7 +75,7 @@ fn draw_run<A: Allocator + Copy>(
     }
 }
 
-/// An address of 64 bits.
+/// The lower 64 bits of an address.
 fn low_bits(address: u128) -> u64 {
     (address % (1 << 64)) as u64
 }
@@ -111,7 +111,7 @@ fn draw_axis<A: Allocator + Copy>(
     canvas.add_heading(label, words.bytes.as_slice())
 }
 
-/// The classes of a region's box.
+/// Appends the classes of a region's box.
 fn class_of<A: Allocator + Copy>(
     words: &mut Words<A>,
     faults: &Faults<'_, A>,
@@ -134,7 +134,7 @@ fn class_of<A: Allocator + Copy>(
     Ok(())
 }
 
-/// Puts the numbers of a region's faults there, each once, with a colon behind them. Says whether there is one.
+/// Appends the numbers of a region's faults, each once, with a colon behind them. Its answer is whether there is one.
 fn put_marks<A: Allocator + Copy>(
     words: &mut Words<A>,
     faults: &Faults<'_, A>,
@@ -186,7 +186,7 @@ fn draw_box<A: Allocator + Copy>(
     canvas.add_box(shape, lines)
 }
 
-/// Puts the words of a region's box there, and answers their class.
+/// Appends the words of a region's box. Its answer is their class.
 fn put_words<A: Allocator + Copy>(
     words: &mut Words<A>,
     board: &Board<'_, A>,
@@ -279,7 +279,7 @@ fn frame_of<A: Allocator + Copy>(heights: &Heights<A>, placed: &Placed<'_>) -> F
     }
 }
 
-/// Draws a box that is about a fault. Its title is the lines that tell the fault.
+/// Draws a box that is about a fault, with the lines of the fault as its title.
 fn draw_fault<A: Allocator + Copy>(
     alloc: A,
     canvas: &mut Canvas<A>,
@@ -434,7 +434,7 @@ fn draw_regions<A: Allocator + Copy>(
     Ok(())
 }
 
-/// Draws what the faults of a section say of addresses.
+/// Draws the ranges that the faults of a section tell.
 fn draw_tellings<A: Allocator + Copy>(
     alloc: A,
     canvas: &mut Canvas<A>,

@@ -7,7 +7,7 @@ ghost use Rattle.pci_picture.specs.Whole.{svg_attributes, pair_text, view_value,
 use super::elements::{push_decimal, push_number};
 use std::alloc::{AllocError, Allocator};
 
-/// The colours and letters of the classes.
+/// The colours and fonts of the classes.
 pub const STYLE: &str = "\n\
 text{font:10px \"DejaVu Sans Mono\",Menlo,Consolas,monospace;fill:#222}\n\
 .title{font-size:16px;font-weight:bold}.head{font-size:13px;font-weight:bold}.bold{font-weight:bold}\n\
@@ -51,7 +51,7 @@ fn push_pair<A: Allocator>(text: &mut String<A>, width: u64, height: u64) -> Res
     push_decimal(text, height)
 }
 
-/// Appends the upper left corner of all, and its width and height.
+/// Appends the upper left corner of the picture, and its width and height.
 #[tactic(auto, unfolding(crate::specs::Whole::view_value))]
 fn push_corners<A: Allocator>(
     text: &mut String<A>,
@@ -64,7 +64,7 @@ fn push_corners<A: Allocator>(
     push_pair(text, width, height)
 }
 
-/// Appends which part of the plane is shown: all.
+/// Appends the attribute `viewBox`, which shows the whole picture.
 #[tactic(auto, unfolding(crate::specs::Whole::view_box))]
 fn push_view<A: Allocator>(text: &mut String<A>, width: u64, height: u64) -> Result<(), AllocError>
     ensures { OnOk result (string_bytes text.new ≡ string_bytes text.old ++ view_box width height) }
@@ -74,7 +74,7 @@ fn push_view<A: Allocator>(text: &mut String<A>, width: u64, height: u64) -> Res
     text.push('"')
 }
 
-/// Appends the white ground below all.
+/// Appends the white background.
 #[tactic(auto, unfolding(crate::specs::Whole::ground_text))]
 fn push_ground<A: Allocator>(
     text: &mut String<A>,

@@ -23,7 +23,7 @@ const STEP: u64 = 14;
 
 const DEEPEST: u64 = 12;
 
-/// What of a bus is left to be drawn: functions from an index up to another, so deep.
+/// What is left to be drawn of a bus: the functions from the index `next` up to `end`, and their depth in the tree.
 #[derive(Clone, Copy)]
 struct Rest {
     next: usize,
@@ -41,7 +41,7 @@ fn on_bus<A: Allocator + Copy>(board: &Board<'_, A>, bus: u8, depth: u64) -> Res
     }
 }
 
-/// Puts what the tree shows of the faults of a function there.
+/// Appends the numbers of the faults that the tree shows beside a function.
 fn put_badges<A: Allocator + Copy>(
     words: &mut Words<A>,
     board: &Board<'_, A>,
@@ -64,7 +64,7 @@ fn put_badges<A: Allocator + Copy>(
     Ok(())
 }
 
-/// Draws the box of a function, whose look tells a bridge, and a function whose decode is on.
+/// Draws the box of a function. Its class is `window` for a bridge, `bar` for a function that decodes, else `off`.
 fn draw_function<A: Allocator + Copy>(
     canvas: &mut Canvas<A>,
     function: &Function<'_>,
@@ -152,7 +152,8 @@ fn draw_row<A: Allocator + Copy>(
     canvas.add_words(beside, badges.bytes.as_slice())
 }
 
-/// Puts the functions behind a bridge before what is left, unless those of their bus are drawn.
+/// Appends the functions behind a bridge to what is left, so that they are drawn next. A bus that was drawn already is
+/// left out.
 fn push_behind<A: Allocator + Copy>(
     rests: &mut Vec<Rest, A>,
     board: &Board<'_, A>,
@@ -185,7 +186,7 @@ fn draw_bus<A: Allocator + Copy>(
     let mut rests = Vec::new(alloc);
     rests.push(on_bus(board, root, 0))?;
     drawn[root as usize] = true;
-    // each function is drawn once, and each bus ends once
+    // one step for each function that is drawn, and one for the end of each bus
     let steps = board.functions.len().saturating_add(256);
     for _ in 0..steps {
         let Some(rest) = rests.pop() else {

@@ -1,4 +1,4 @@
-//! A line of words while it is put together.
+//! A line of words that is being written.
 ghost use Rattle.std.specs.Prelude.{◌≡◌, ◌++◌, [], IfOk, OnOk};
 
 use super::function::{Buses, Function};
@@ -48,7 +48,7 @@ impl<A: Allocator + Copy> Words<A> {
         Ok(())
     }
 
-    /// Appends a number in so many hex digits, at most 16.
+    /// Appends the lowest `digits` hex digits of a number, at most 16.
     pub fn put_hex(&mut self, number: u64, digits: usize) -> Result<(), OutOfMemory> {
         let digits = digits.min(16) as u32;
         for done in 0..digits {
@@ -121,7 +121,7 @@ impl<A: Allocator + Copy> Words<A> {
         self.put_size(region.size)
     }
 
-    /// Cuts the words to what has room in a width. Words that are cut end in two dots.
+    /// Cuts the words so that they fit in a width. Words that are cut end in two dots.
     pub fn cut(&mut self, width: u64) -> Result<(), OutOfMemory> {
         let inside = width.saturating_sub(3);
         let room = (inside / 6).saturating_sub(inside / 1000);
@@ -137,7 +137,7 @@ impl<A: Allocator + Copy> Words<A> {
     }
 }
 
-/// What the functions of a base class are, or of a base class and a subclass.
+/// The name of a class, by its base class, or by its base class and subclass.
 fn class_name(class: &[u8]) -> Option<&'static str> {
     let base = hex_byte(class.get(..2)?)?;
     let below = hex_byte(class.get(2..4)?)?;
@@ -169,7 +169,7 @@ fn class_name(class: &[u8]) -> Option<&'static str> {
     }
 }
 
-/// The same of mass storage.
+/// The name of a subclass of mass storage.
 fn storage_name(below: u8) -> &'static str {
     match below {
         0x01 => "IDE controller",
@@ -181,7 +181,7 @@ fn storage_name(below: u8) -> &'static str {
     }
 }
 
-/// The same of bridges.
+/// The name of a subclass of bridges.
 fn bridge_name(below: u8) -> &'static str {
     match below {
         0x00 => "host bridge",
