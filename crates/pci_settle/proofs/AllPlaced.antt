@@ -14,7 +14,7 @@ use Rattle.pci_base.specs.declared.range.Range.{Range}
 use Rattle.pci_base.specs.Ranges.{decoded_range_of}
 use Rattle.pci_settle.specs.declared.placing.Wanted.{Wanted}
 use Rattle.pci_settle.specs.Spots.{extent_value, AreRisingRanges, extent_range, IsTakenAt}
-use Rattle.pci_settle.specs.Placings.{item_extent, at_places, lacks_first, placing_of, HasListAt, wanted_place, IsWanted, AreWanted}
+use Rattle.pci_settle.specs.Placings.{at_places, lacks_first, placing_of, HasListAt, wanted_place, IsWanted, AreWanted}
 
 -- ---- some items placed before others
 

@@ -1,5 +1,5 @@
 -- Where the search for an extent goes on stays so when more is taken.
-use Rattle.std.proofs.Common.{◌≡◌, ℕ, zero, suc, ◌+◌, ◌-◌, ◌^◌, ◌<◌, ◌≤◌, inl, inr, List, [], ◌∷◌, ◌++◌, map, length, set, get_or, arith, ap, sym, subst, ◌∙◌, refl, true, false, Bool, Option, None, Some}
+use Rattle.std.proofs.Common.{◌≡◌, ℕ, zero, suc, ◌+◌, ◌-◌, ◌^◌, ◌<◌, ◌≤◌, inl, inr, List, [], ◌∷◌, ◌++◌, map, length, set, get_or, arith, ap, sym, subst, ◌∙◌, refl, true, Bool, Some}
 use Rattle.std.specs.List.{All, Contains, insert}
 use Rattle.std.proofs.lemmas.Bool.{cases_eq}
 use Rattle.std.proofs.lemmas.List.{length-append, length-map, get_or-map, length-set, get_or-set_same, get_or-set_other, get_or_default}

@@ -10,8 +10,8 @@ use Rattle.std.proofs.lemmas.List.{length-take, get_or-take, length-drop, get_or
 use Rattle.std.proofs.lemmas.List.Edits.{split_between}
 use Rattle.std.proofs.lemmas.List.Elements.{filter-append, All-contains, Contains-get_or}
 use Rattle.std.proofs.lemmas.List.Sorted.{IsPermutation-sym, Contains-permutation}
-use Rattle.pci_spec.specs.Window.{WindowKind, IoWindow, MemoryWindow, has_window, is_closed}
-use Rattle.pci_spec.specs.System.{System, Function, Space, Io, Memory, Part, Bar, Rom, Window, is_bridge, has_part, window_space}
+use Rattle.pci_spec.specs.Window.{WindowKind, has_window, is_closed}
+use Rattle.pci_spec.specs.System.{System, Function, Space, Io, Memory, Part, Bar, Rom, Window, is_bridge, has_part}
 use Rattle.pci_spec.specs.Bus.{is_root, are_siblings}
 use Rattle.pci_spec.proofs.Members.{in_nil, in_head, in_tail, in_flat_map_to, IsInPiece, in_map_to, in_map_from, IsMade, in_filter_to, in_filter_from}
 use Rattle.settle_spec.specs.Lists.{Lists, Request}
@@ -22,7 +22,6 @@ use Rattle.settle_spec.specs.Keeping.Places.{taken_at}
 use Rattle.settle_spec.proofs.SameTaken.{HaveSame}
 use Rattle.stand_laws.specs.Order.{level}
 use Rattle.stand_laws.proofs.Standing.{one_level}
-use Rattle.pci_spec.specs.Decoded.{Range as DecodedRange}
 use Rattle.pci_base.specs.declared.range.Range.{Range}
 use Rattle.pci_base.specs.declared.window_kind.WindowKind.TheVariants as kinds
 use Rattle.pci_base.specs.declared.window_kind.ByKind.{ByKind}
@@ -34,7 +33,7 @@ use Rattle.pci_settle.specs.declared.kept.Kept.{Kept}
 use Rattle.pci_settle.specs.declared.kept.Part.{Part as CodePart}
 use Rattle.pci_settle.specs.declared.kept.Part.TheVariants as parts
 use Rattle.pci_settle.specs.Kept.{spec_part, AreKeptParts}
-use Rattle.pci_settle.specs.Tables.{untold, told, AreForward}
+use Rattle.pci_settle.specs.Tables.{told, AreForward}
 use Rattle.pci_settle.specs.Keeping.{grown_of, AreKeptRanges}
 use Rattle.pci_settle.specs.Spots.{FirstsRise, AreRisingRanges}
 use Rattle.pci_settle.proofs.Headers.{header_has}
