@@ -11,7 +11,7 @@ use std::alloc::Allocator;
 pub type WindowRanges = ByKind<Option<Range>>;
 
 /// Of no window.
-pub const NONE: WindowRanges = ByKind {
+pub const UNTOLD: WindowRanges = ByKind {
     io: None,
     memory: None,
     prefetchable: None,
@@ -28,7 +28,7 @@ pub fn nothing_told<A: Allocator>(
 {
     let mut table = Vec::new(alloc);
     for _ in 0..functions {
-        table.push(NONE)?;
+        table.push(UNTOLD)?;
     }
     Ok(table)
 }
@@ -39,7 +39,7 @@ pub fn ranges_told(table: &[WindowRanges], function: usize) -> &WindowRanges
 {
     match table.get(function) {
         Some(ranges) => ranges,
-        None => &NONE,
+        None => &UNTOLD,
     }
 }
 

@@ -23,7 +23,7 @@ use pci_base::slot::BUSES;
 use pci_function::record::Bridge;
 use pci_settle::bus::kept_by;
 use pci_settle::list::{Lists, is_root};
-use pci_settle::table::{NONE, ranges_told};
+use pci_settle::table::{UNTOLD, ranges_told};
 use pci_tree::roots::Roots;
 use std::alloc::Allocator;
 
@@ -66,7 +66,7 @@ fn place_on_roots<A: Allocator + Copy, B: Allocator>(
     let all = root_lists(alloc, &roots, pass.space, lists)?;
     let columns = all.as_slice();
     // no window is over a root
-    let places = place_bus(alloc, pass, root, columns, &NONE)?;
+    let places = place_bus(alloc, pass, root, columns, &UNTOLD)?;
     Ok(note_bus(&places, table))
 }
 
