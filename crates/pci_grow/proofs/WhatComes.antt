@@ -1,10 +1,8 @@
 -- What a window comes to by the code is what it comes to by what is told to be there.
 use Rattle.std.proofs.Common.{◌≡◌, ℕ, ◌+◌, ◌^◌, ◌<◌, ◌≤◌, ◌⊎◌, min, max, inl, inr, List, map, Bool, true, false, cond, arith, refl, ap, sym, subst, ◌∙◌, Option, None, Some}
-use Rattle.std.specs.Bool.{if◌then◌else◌}
 use Rattle.std.specs.List.{All, Contains, fold}
 use Rattle.std.specs.Option.{is_some, option_map}
-use Rattle.std.proofs.lemmas.Bool.{cases_Bool}
-use Rattle.pci_spec.specs.Window.{WindowKind, IoWindow, MemoryWindow, PrefetchWindow, is_wide_window}
+use Rattle.pci_spec.specs.Window.{WindowKind}
 use Rattle.pci_spec.proofs.Members.{IsMade, in_map_to}
 use Rattle.pci_spec.specs.Decoded.{Range as DecodedRange}
 use Rattle.pci_spec.specs.System.{System, Function, is_bridge, window_space}
@@ -13,11 +11,10 @@ use Rattle.plan_spec.specs.Plan.{same_class}
 use Rattle.plan_spec.proofs.Planning.PlacedItems.{same_class_is}
 use Rattle.settle_spec.specs.Lists.{Request}
 use Rattle.settle_spec.specs.Parts.{FunctionPart, system_parts, addresses, class_in, are_same_space}
-use Rattle.settle_spec.specs.Stands.{is_fixed_part, part_space, window_part}
+use Rattle.settle_spec.specs.Stands.{part_space, window_part}
 use Rattle.settle_spec.specs.Items.{AllPlaced, highest_in, bus_items, new_window}
-use Rattle.settle_spec.specs.Reach.{room_around, reach_in, reach_if, reach_within, reach}
+use Rattle.settle_spec.specs.Reach.{reach}
 use Rattle.settle_spec.specs.Growth.{grown_to, there_on, taken_around, window_comes_to}
-use Rattle.settle_spec.proofs.Reaching.{reach_step, reach_in_low}
 use Rattle.settle_spec.proofs.SameTaken.{HaveSame}
 use Rattle.settle_laws.proofs.PartClasses.{space_of_class}
 use Rattle.stand_laws.proofs.Reach.{reaches_are_around}
@@ -40,6 +37,7 @@ use Rattle.pci_settle.proofs.Marked.{told_is}
 use Rattle.pci_stand.specs.declared.region.Region.{Region}
 use Rattle.pci_stand.specs.Known.{region_value}
 use Rattle.pci_stay.specs.Windows.{IsWhole}
+use Rattle.pci_grow.proofs.LowReaches.{highest_below, reach_low}
 use Rattle.pci_grow.specs.declared.around.Around.{Around}
 use Rattle.pci_grow.specs.Arounds.{ArePlacesAround, HaveNoPlaces}
 use Rattle.pci_grow.specs.Rows.{row_number, row_of}
@@ -86,37 +84,15 @@ module _ (p : Setting) (t : Tables) (b : Bridge) (class : CodeKind) (a : Around)
 
     -- ---- its reach
 
-    high : (k : WindowKind) (probe : List ℕ) → highest_in k probe < 2 ^ 64
-    high IoWindow probe = elim (cases_Bool (is_wide_window IoWindow probe)) [
-      | inl wide ↦ (let e : highest_in IoWindow probe ≡ 0xffff_ffff = ap (λ x. if x then 0xffff_ffff else 0xffff) wide in omega (arith, e))
-      | inr narrow ↦ (let e : highest_in IoWindow probe ≡ 0xffff = ap (λ x. if x then 0xffff_ffff else 0xffff) narrow in omega (arith, e))
-    ]
-    high MemoryWindow probe = omega arith
-    high PrefetchWindow probe = elim (cases_Bool (is_wide_window PrefetchWindow probe)) [
-      | inl wide ↦ (let e : highest_in PrefetchWindow probe ≡ 0xffff_ffff_ffff_ffff = ap (λ x. if x then 0xffff_ffff_ffff_ffff else 0xffff_ffff) wide in omega (arith, e))
-      | inr narrow ↦ (let e : highest_in PrefetchWindow probe ≡ 0xffff_ffff = ap (λ x. if x then 0xffff_ffff_ffff_ffff else 0xffff_ffff) narrow in omega (arith, e))
-    ]
-
     -- it is no higher than the window may be
-    reach_low : (reach q s c f).last ≤ highest_in c f.probe
-    reach_low = subst (λ (r : DecodedRange). r.last ≤ highest_in c f.probe) (sym (reach_step q s c f (window_part c f))) (by (room_around q s c (reach_within q s c 255) f))
-      where
-        own : (addresses (window_part c f)).last ≤ highest_in c f.probe
-        own = growing.low c f listed window.stand
-
-        by : (o : Option DecodedRange) → (reach_if q s c f o).last ≤ highest_in c f.probe
-        by None = own
-        by (Some room) = by_fixed (is_fixed_part q (window_part c f))
-          where
-            by_fixed : (fixed : Bool) → (if fixed then addresses (window_part c f) else reach_in q s c f room).last ≤ highest_in c f.probe
-            by_fixed true = own
-            by_fixed false = reach_in_low q s c f room
+    low_reach : (reach q s c f).last ≤ highest_in c f.probe
+    low_reach = reach_low q s growing.low c f listed window.stand
 
     small : a.reach.last < 2 ^ 64
     small =
         let to : a.reach.last ≡ (reach q s c f).last = ap (λ (r : DecodedRange). r.last) window.reach_is in
-        let most = reach_low in
-        let top = high c f.probe in
+        let most = low_reach in
+        let top = highest_below c f.probe in
         omega (arith, to, most, top)
 
     part : Contains (system_parts q s) (window_part c f)
@@ -133,7 +109,7 @@ module _ (p : Setting) (t : Tables) (b : Bridge) (class : CodeKind) (a : Around)
         let forward = known.forward in
         let own : a.window.first ≡ (addresses (window_part c f)).first = ap (λ (r : DecodedRange). r.first) window.window in
         let most = growing.low c f listed window.stand in
-        let top = high c f.probe in
+        let top = highest_below c f.probe in
         omega (arith, first, last, forward, own, most, top)
 
     -- ---- the items

@@ -1,18 +1,14 @@
 //! What stands, row by row, and how far its windows can grow.
 ghost use Rattle.std.specs.Prelude.{◌≡◌, ◌⊎◌, None, Some, IsTrue, IsFalse, IfSome, IfOk};
 ghost use Rattle.std.specs.List.{All};
-ghost use Rattle.std.specs.Option.{option_map};
-ghost use Rattle.pci_base.specs.Ranges.{decoded_range_of};
 ghost use Rattle.pci_place.specs.Above.{system_in};
 ghost use Rattle.pci_settle.specs.Lists.{lists_value};
 ghost use Rattle.pci_stand.specs.Known.{asked};
-ghost use Rattle.pci_stay.specs.Windows.{is_whole_range};
 ghost use Rattle.pci_grow.specs.Reaching.{reaching_value, IsReaching, tells_whole, TellsWhole};
 
 use crate::beside::standing_in_rows;
 use crate::reach::{Board, find_reaches};
 use pci_base::memory::OutOfMemory;
-use pci_base::range::Range;
 use pci_base::slot::Slot;
 use pci_settle::kept::Kept;
 use pci_settle::list::Lists;
@@ -21,7 +17,7 @@ use pci_stand::collect::regions;
 use pci_stand::pass::standing;
 use pci_stand::place::bridges_over;
 use pci_stand::region::Region;
-use pci_stay::windows::TooLarge;
+use pci_stay::windows::{TooLarge, is_whole_range};
 use pci_tree::admitted::Admitted;
 use std::alloc::Allocator;
 
@@ -68,21 +64,13 @@ pub fn all_reaches<A: Allocator + Copy, B: Allocator>(
     })
 }
 
-/// Whether what is told of a window has all addresses of 64 bits.
-fn is_whole(range: Option<Range>) -> bool
-    ensures { result ≡ is_whole_range (option_map decoded_range_of range) }
-{
-    match range {
-        Some(range) => range.first == 0 && range.last == u64::MAX,
-        None => false,
-    }
-}
-
-/// Whether something told of the windows of a function has.
+/// Whether something told of the windows of a function has all addresses of 64 bits.
 fn tells_whole(ranges: &WindowRanges) -> bool
     ensures { result ≡ tells_whole ranges.now }
 {
-    is_whole(ranges.io) || is_whole(ranges.memory) || is_whole(ranges.prefetchable)
+    is_whole_range(ranges.io)
+        || is_whole_range(ranges.memory)
+        || is_whole_range(ranges.prefetchable)
 }
 
 /// Whether something that a table tells has.

@@ -122,7 +122,7 @@ pub fn all_windows<A: Allocator + Copy, B: Allocator>(
 }
 
 /// Whether a range has all addresses of 64 bits.
-fn is_whole_range(range: Option<Range>) -> bool
+pub fn is_whole_range(range: Option<Range>) -> bool
     ensures { result ≡ is_whole_range (option_map decoded_range_of range) }
 {
     match range {
