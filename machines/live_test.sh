@@ -126,7 +126,7 @@ guest() {
     : >"$room/log"
     : >"$room/runs"
     asked | {
-        timeout 900 "$qemu" -accel tcg -smp 1 -m 512 -nodefaults -display none -no-reboot -kernel "$kernel" \
+        timeout 900 "$qemu" -accel tcg -cpu max -smp 1 -m 512 -nodefaults -display none -no-reboot -kernel "$kernel" \
             -initrd "$room/initrd" -append "console=ttyS0 quiet loglevel=3 machine=$name $options" \
             -serial "file:$room/log" -monitor stdio "$@" >"$room/monitor" 2>&1
         rm "$room/runs"
