@@ -1,37 +1,30 @@
--- What applying a plan leaves, by what comparing and making leave.
-use Rattle.std.proofs.Common.{◌≡◌, ℕ, zero, suc, ◌+◌, ◌-◌, ◌^◌, ◌<◌, ◌≤◌, ◌⊎◌, inl, inr, List, [], ◌∷◌, ◌++◌, refl, Bool, true, false, ◌&&◌, ◌||◌, Some, arith, sym, ◌∙◌, ap, subst, map, length, take, get_or}
+-- What applying leaves, by what comparing and making leave.
+use Rattle.std.proofs.Common.{◌≡◌, ℕ, zero, suc, ◌+◌, ◌-◌, ◌^◌, ◌≤◌, ◌⊎◌, inl, inr, List, [], ◌∷◌, ◌++◌, refl, Bool, true, false, ◌&&◌, ◌||◌, Some, arith, sym, ◌∙◌, ap, subst, map, length, take, get_or}
 use Rattle.std.specs.List.{All, AllZip, Contains, slice_get}
 use Rattle.std.specs.Result.{OnOk, IfErr, IsOk}
 use Rattle.std.specs.declared.result.Result.{Result}
 use Rattle.std.specs.declared.result.Result.TheVariants.{Ok, Err}
-use Rattle.std.proofs.lemmas.Bool.{cases_Bool, both_ways, and_from, and_parts, lt-ltb, ltb-true, cond-true, cond-false}
+use Rattle.std.proofs.lemmas.Bool.{cases_Bool, both_ways, and_from, lt-ltb, cond-true, cond-false}
 use Rattle.std.proofs.lemmas.List.{take_more, take_all, length-map}
-use Rattle.std.proofs.lemmas.List.Elements.{All-contains, Contains-append_cases, Contains-get_or}
+use Rattle.std.proofs.lemmas.List.Elements.{All-contains, All-take, Contains-get_or}
 use Rattle.std.proofs.lemmas.Option.{same_Some, slice_get_cases, slice_get_within, get_or_from_slice_get}
 use Rattle.pci_spec.specs.Number.{number_at, IsImage}
 use Rattle.pci_spec.specs.Slot.{Slot, same_slot, slot_number}
-use Rattle.pci_spec.specs.Header.{command, layout, address_registers}
 use Rattle.pci_spec.specs.Text.{Block, slots_of}
 use Rattle.pci_spec.specs.System.{System, Function, IsSystem, function_of, system_of}
 use Rattle.pci_spec.specs.Sound.{IsSound}
 use Rattle.pci_spec.specs.Machine.{Target, Write, target_of, after_writes, write_targets, write_function, write_system, system_after}
 use Rattle.plan_spec.specs.Plan.{IsMoved}
-use Rattle.plan_spec.specs.PlanPromise.{changes_between}
 use Rattle.plan_spec.specs.Planning.Fitting.{FitsAt, IsFitting}
-use Rattle.plan_spec.specs.Planning.PlanWrites.{Change, olds, closed_command, closing_writes, register_writes, opening_writes, plan_writes}
-use Rattle.plan_spec.specs.Planning.Laws.{AreChanges}
 use Rattle.pci_spec.proofs.Members.{in_nil, in_cons_cases, in_head, in_tail, in_map_to, in_map_from, IsMade}
 use Rattle.pci_spec.proofs.Nesting.{one_function}
 use Rattle.pci_spec.proofs.Rising.{pairs_of_rising}
-use Rattle.plan_spec.proofs.Planning.Registers.{number_below}
 use Rattle.plan_spec.proofs.Planning.Kept.{images_of}
 use Rattle.pci_spec.proofs.Pairs.{member_back}
 use Rattle.plan_spec.proofs.Planning.Fit.{after_moved, moved_start, fitting_later}
 use Rattle.plan_spec.proofs.Planning.Settled.{write_shows}
-use Rattle.plan_spec.proofs.Planning.Staging.{IsClosingOf, closing_to, IsRegisterOf, register_to, IsOpeningOf, opening_to, fits}
-use Rattle.plan_spec.proofs.Planning.Reached.{moves, image_of, old_listed, slot_itself, closed_le}
-use Rattle.plan_spec.proofs.Planning.OnMachine.{plan_on_its_machine}
-use Rattle.plan_spec.proofs.Planning.PlanStands.{are_changes, olds_of}
+use Rattle.plan_spec.proofs.Planning.Reached.{slot_itself}
+use Rattle.plan_spec.proofs.Planning.OwnMachine.{own_machine}
 use Rattle.pci_spec.specs.Port as port
 use Rattle.pci_spec.specs.Port.{target_at, has_function, is_access, ShowsNumber}
 use Rattle.pci_machine.proofs.Targets.{slot_of_test}
@@ -40,13 +33,14 @@ use Rattle.pci_plan.specs.declared.apply_fault.ApplyFault.{ApplyFault}
 use Rattle.pci_plan.specs.declared.apply_fault.ApplyFault.TheVariants.{Changed, Port, Stuck}
 use Rattle.pci_plan.specs.Writes.{write_value}
 use Rattle.pci_place.specs.Above.{system_in}
-use Rattle.pci_plan.specs.Plans.{PlanValue, IsPlanValue, final_of}
+use Rattle.pci_plan.specs.Plans.{PlanValue, final_of}
+use Rattle.pci_plan.specs.Moves.{IsRegisterWrite, IsMove}
 use Rattle.pci_plan.specs.Comparing.{ShowsAll, IsChangedAt, StartsAs, IsStartFault, moment}
 use Rattle.pci_plan.specs.Making.{IsAccessible, AreReadBack, AreWritesMade, IsApplyStop}
 use Rattle.pci_plan.specs.Applying.{ShowsSystem, AreSoundTargets, writes_before, writes_made, AreReadBackUntil, ReadBackBy, HasImages, AreSoundWhileReadBack, IsApplyFault}
 use Rattle.pci_plan.proofs.Compares.{register_access}
 use Rattle.plan_spec.proofs.Planning.Whole.{moved_system}
-use Rattle.pci_plan.proofs.Ended.{plan_ends}
+use Rattle.pci_plan.proofs.Ended.{writes_end}
 use Rattle.pci_plan.proofs.Makes.{fold_more}
 use Rattle.pci_plan.proofs.OtherBits.{numbers, images_after}
 
@@ -73,66 +67,12 @@ function_of_block (c ∷ dump) (q ∷ probe) slots b listed =
       | inr later ↦ let found = function_of_block dump probe rest b later in (found.0, in_tail g (system_of dump probe) found.0 found.1, found.2, found.3)
     ]
 
--- ---- the writes of a plan
+-- ---- a write
 
--- a write is of a function of the start, and a port takes it
-record IsOfPlan (changes : List Change) (x : Write) : Type 0 where
-  c : Change
-  listed : Contains changes c
-  slot : c.old.slot ≡ x.slot
-  access : (is_access x.offset x.width && port.fits x.width x.value) ≡ true
-
-command_access : (n : ℕ) → n < 2 ^ 16 → (is_access 4 2 && port.fits 2 n) ≡ true
-command_access n small = lt-ltb n (2 ^ 16) small
-
-module _ (changes : List Change) (system : IsSystem (olds changes)) (moved : All (λ (c : Change). IsMoved c.old c.new) changes) where
-  of_closing : (x : Write) → Contains (closing_writes changes) x → IsOfPlan changes x
-  of_closing x has =
-      let k : IsClosingOf changes x = closing_to changes x has in
-      let image = image_of changes system moved k.c k.listed in
-      let below = number_below k.c.old.image 4 image 2 in
-      let less = closed_le (command k.c.old.image) in
-      record {
-        c = k.c;
-        listed = k.listed;
-        slot = ap (λ (w : Write). w.slot) k.is;
-        access = subst (λ (w : Write). (is_access w.offset w.width && port.fits w.width w.value) ≡ true) k.is (command_access (closed_command k.c.old) (omega (arith, below, less)));
-      }
-
-  of_register : (x : Write) → Contains (register_writes changes) x → IsOfPlan changes x
-  of_register x has =
-      let k : IsRegisterOf changes x = register_to changes x has in
-      let m = moves changes system moved k.c k.listed in
-      let n = number_at k.c.new.image k.r.0 k.r.1 in
-      let lawful = register_access k.c.old.image k.r (in_tail (0x04, 2) (address_registers (layout k.c.old.image)) k.r k.register) in
-      record {
-        c = k.c;
-        listed = k.listed;
-        slot = ap (λ (w : Write). w.slot) k.is;
-        access = subst (λ (w : Write). (is_access w.offset w.width && port.fits w.width w.value) ≡ true) k.is
-            (and_from (is_access k.r.0 k.r.1) (port.fits k.r.1 n) lawful (lt-ltb n (256 ^ k.r.1) (number_below k.c.new.image k.r.0 m.image k.r.1)));
-      }
-
-  of_opening : (x : Write) → Contains (opening_writes changes) x → IsOfPlan changes x
-  of_opening x has =
-      let k : IsOpeningOf changes x = opening_to changes x has in
-      let m = moves changes system moved k.c k.listed in
-      let below = number_below k.c.new.image 4 m.image 2 in
-      record {
-        c = k.c;
-        listed = k.listed;
-        slot = ap (λ (w : Write). w.slot) k.is;
-        access = subst (λ (w : Write). (is_access w.offset w.width && port.fits w.width w.value) ≡ true) k.is (command_access (command k.c.new.image) (omega (arith, below)));
-      }
-
-  of_plan : (x : Write) → Contains (plan_writes changes) x → IsOfPlan changes x
-  of_plan x has = elim (Contains-append_cases (closing_writes changes) (register_writes changes ++ opening_writes changes) x has) [
-    | inl closing ↦ of_closing x closing
-    | inr later ↦ elim (Contains-append_cases (register_writes changes) (opening_writes changes) x later) [
-      | inl one ↦ of_register x one
-      | inr opening ↦ of_opening x opening
-    ]
-  ]
+-- a port takes it
+access_of : (s : System) (x : Write) → IsRegisterWrite s x → (is_access x.offset x.width && port.fits x.width x.value) ≡ true
+access_of s x is =
+    and_from (is_access x.offset x.width) (port.fits x.width x.value) (register_access is.f.image (x.offset, x.width) is.register) (lt-ltb x.value (256 ^ x.width) is.small)
 
 -- ---- the machine of a system
 
@@ -169,29 +109,17 @@ system_more : (s : System) (ws : List Write) (w : Write) → system_after s (ws 
 system_more s [] w = refl
 system_more s (x ∷ ws) w = system_more (write_system s x) ws w
 
--- ---- a plan
+-- ---- a move
 
-module _ (p : PlanValue) (is : IsPlanValue p) where
+module _ (p : PlanValue) (is : IsMove p) where
   abbrev s : System
   s = system_in p.start
-
-  abbrev changes : List Change
-  changes = changes_between s (final_of p)
-
-  changes_are : AreChanges changes
-  changes_are = are_changes s (final_of p) is.admitted.system is.moved
-
-  same_olds : olds changes ≡ s
-  same_olds = olds_of s (final_of p) is.moved
-
-  write_of : (x : Write) → Contains p.writes x → IsOfPlan changes x
-  write_of x has = of_plan changes changes_are.system changes_are.moved x (subst (λ ws. Contains ws x) is.writes has)
 
   -- a port takes each write
   pub accesses : (items : List CodeWrite) → map write_value items ≡ p.writes → All IsAccessible items
   accesses items same k d less =
       let x = get_or items k d in
-      (write_of (write_value x) (subst (λ ws. Contains ws (write_value x)) same (in_map_from write_value items x (Contains-get_or items k d less)))).access
+      access_of s (write_value x) (is.registers (write_value x) (subst (λ ws. Contains ws (write_value x)) same (in_map_from write_value items x (Contains-get_or items k d less))))
 
   -- ---- comparing
 
@@ -246,8 +174,8 @@ module _ (p : PlanValue) (is : IsPlanValue p) where
     cause = elim stop.cause [
       | inl rose ↦ inl rose
       | inr (w, has, none) ↦
-          let of = write_of w has in
-          inr (of.c.old, subst (λ (u : System). Contains u of.c.old) same_olds (old_listed changes changes_are.system changes_are.moved of.c of.listed), ap (has_function before) of.slot ∙ none)
+          let of : IsRegisterWrite s w = is.registers w has in
+          inr (of.f, of.listed, ap (has_function before) of.slot ∙ none)
     ];
   }
   stop_fault before failures after failures_after (Stuck done) shows stop = record {
@@ -281,22 +209,18 @@ module _ (p : PlanValue) (is : IsPlanValue p) where
 
   pub shows_final : (before after : List Target) → ShowsSystem before s → AreWritesMade before p.writes (length p.writes) after → ShowsSystem after (final_of p)
   shows_final before after shows made =
-      plan_ends s (final_of p) is.admitted.system is.moved before after shows (subst (λ ws. AreWritesMade before ws (length ws) after) is.writes made)
+      subst (ShowsSystem after) is.reached (writes_end s is.admitted.system p.writes is.fits is.registers before after shows made)
 
-  -- ---- on the machine that the plan starts from
-
-  on_machine : (k : ℕ) → after_writes (map target_of s) (take k p.writes) ≡ map target_of (system_after s (take k p.writes))
-  on_machine k =
-      subst (λ ws. after_writes (map target_of s) (take k ws) ≡ map target_of (system_after s (take k ws))) (sym is.writes) (plan_on_its_machine s changes changes_are same_olds k)
+  -- ---- on the machine that the writes start from
 
   images : (f : Function) → Contains s f → IsImage f.image
   images = images_of s is.admitted.system
 
-  all_fit : All (FitsAt s) p.writes
-  all_fit = subst (λ ws. All (FitsAt s) ws) (sym is.writes) (subst (λ (u : System). All (FitsAt u) (plan_writes changes)) same_olds (fits changes changes_are.system changes_are.moved))
+  on_machine : (k : ℕ) → after_writes (map target_of s) (take k p.writes) ≡ map target_of (system_after s (take k p.writes))
+  on_machine k = own_machine s images s (take k p.writes) (moved_start s images) (All-take (FitsAt s) k p.writes is.fits)
 
   moved_after : (k : ℕ) → AllZip IsMoved s (system_after s (take k p.writes))
-  moved_after k = after_moved s s p.writes images all_fit (moved_start s images) k
+  moved_after k = after_moved s s p.writes images is.fits (moved_start s images) k
 
   -- each write sets its register
   sets : (k : ℕ) (w : Write) → slice_get p.writes k ≡ Some w → (g : Function) → Contains (system_after s (take k p.writes)) g → same_slot g.slot w.slot ≡ true
@@ -307,9 +231,8 @@ module _ (p : PlanValue) (is : IsPlanValue p) where
       let f = back.0 in
       let m = back.2 in
       let fit : IsFitting w g =
-      fitting_later w f g (images f back.1) m (All-contains (FitsAt s) p.writes w all_fit has f back.1 (ap (λ x. same_slot x w.slot) (sym m.slot) ∙ here)) in
-      let small = ltb-true w.value (256 ^ w.width) (and_parts (is_access w.offset w.width) (port.fits w.width w.value) (write_of w has).access).1 in
-      write_shows g w m.image fit small here
+      fitting_later w f g (images f back.1) m (All-contains (FitsAt s) p.writes w is.fits has f back.1 (ap (λ x. same_slot x w.slot) (sym m.slot) ∙ here)) in
+      write_shows g w m.image fit (is.registers w has).small here
 
   -- each write reads back as it was made
   reads_back : (last : ℕ) (w : Write) (after : List Target) (shows : ℕ) → slice_get p.writes last ≡ Some w → after ≡ after_writes (map target_of s) (take (last + 1) p.writes)
@@ -350,14 +273,10 @@ module _ (p : PlanValue) (is : IsPlanValue p) where
       reason.otherwise.differs (reads_back reason.last w after reason.otherwise.shows reason.listed from reason.otherwise.shown)
 
   -- and a stop leaves a sound system
-  past_safe : (k : ℕ) → IsSound p.start.roots s ⊎ (p.safe_from ≤ k) → p.safe_from ≤ k
-  past_safe k (inl sound) = let none = is.safe.at_once.1 sound in omega (arith, none)
-  past_safe k (inr past) = past
-
   pub left_sound : (k : ℕ) (before after : List Target) → before ≡ map target_of s → after ≡ after_writes before (take k p.writes)
       → IsSound p.start.roots s ⊎ (p.safe_from ≤ k) → AreSoundTargets p.start.roots after
   left_sound k before after start made from =
-      (system_after s (take k p.writes), is.stops k (past_safe k from), made ∙ ap (λ ts. after_writes ts (take k p.writes)) start ∙ on_machine k)
+      (system_after s (take k p.writes), is.stops k from, made ∙ ap (λ ts. after_writes ts (take k p.writes)) start ∙ on_machine k)
 
   -- ---- over functions of which other bits can be written
 
@@ -384,7 +303,7 @@ module _ (p : PlanValue) (is : IsPlanValue p) where
       ]
 
   pub sound_while_read_back : (before : List Target) → HasImages before s → AreSoundWhileReadBack p.start.roots s p.writes p.safe_from before
-  sound_while_read_back before same k back from = record { images = images_stay before same k back; sound = is.stops k (past_safe k from) }
+  sound_while_read_back before same k back from = record { images = images_stay before same k back; sound = is.stops k from }
 
   -- ---- by the answer
 

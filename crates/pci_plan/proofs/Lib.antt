@@ -16,4 +16,5 @@ pub mod PlanFaults
 pub mod Ended
 pub mod OtherBits
 pub mod Applied
+pub mod PlanMoves
 pub mod Examples

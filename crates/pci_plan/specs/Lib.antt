@@ -4,5 +4,6 @@ pub mod Comparing
 pub mod Making
 pub mod ApplyText
 pub mod Plans
+pub mod Moves
 pub mod Applying
 pub mod Numbered

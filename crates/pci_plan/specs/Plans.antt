@@ -18,7 +18,7 @@ use Rattle.pci_place.specs.declared.pools.Pools.{Pools}
 use Rattle.pci_plan.specs.declared.plan_fault.PlanFault.{PlanFault}
 use Rattle.pci_plan.specs.declared.plan_fault.PlanFault.TheVariants.{BadPools, NoWindow, NoRoom, NotAccepted}
 
--- what was planned for, the dump after all writes, the writes, and from which on a stop is safe
+-- what the writes start from, the dump after all of them, the writes, and from which on a stop is safe
 pub record PlanValue : Type 0 where
   pub start : Admission
   pub dump : List Block

@@ -12,7 +12,7 @@
 //! for write in plan.writes() {
 //!     println!(rt; "{write}")?;
 //! }
-//! apply::apply(&mut port, &plan)?; // compares, then writes; stops at the first failure
+//! apply::apply(&mut port, &plan.as_move())?; // compares, then writes; stops at the first failure
 //! ```
 #![tactic(auto)]
 
@@ -20,6 +20,7 @@ pub mod apply;
 pub mod apply_fault;
 mod compare;
 mod make;
+pub mod moving;
 pub mod numbered;
 pub mod numbers;
 pub mod plan;
@@ -30,6 +31,7 @@ pub mod write;
 pub mod writes;
 
 pub use apply_fault::ApplyFault;
+pub use moving::Move;
 pub use pci_place::pools::{Class, Pools};
 pub use plan::Plan;
 pub use plan_fault::PlanFault;

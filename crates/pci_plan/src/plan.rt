@@ -2,6 +2,7 @@
 ghost use Rattle.std.specs.Prelude.{◌≡◌, map};
 ghost use Rattle.pci_plan.specs.Writes.{write_value};
 
+use super::moving::Move;
 use super::write::Write;
 use pci_dump::dump::Dump;
 use pci_tree::admitted::Admitted;
@@ -86,6 +87,18 @@ impl<'a, A: Allocator> Plan<'a, A> {
         ensures plan { IsPlanValue self.now }
     {
         self.start
+    }
+
+    /// The plan as `apply` takes it.
+    pub fn as_move(&self) -> Move<'_, A>
+        ensures { result ≡ self.now }
+    {
+        Move::of(
+            self.start(),
+            self.dump().blocks(),
+            self.writes(),
+            self.safe_from(),
+        )
     }
 
     /// The dump after all writes: with the probe it makes a sound system, also where ROMs are switched on.

@@ -16,4 +16,5 @@ pub mod FixedParts
 pub mod FixedFunctions
 pub mod AssumedParts
 pub mod Written
+pub mod RegisterWrites
 pub mod SettledSound

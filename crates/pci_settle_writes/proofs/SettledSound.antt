@@ -1,5 +1,5 @@
 -- What settling comes to is sound, and its writes may stop, as the laws have it of what was placed.
-use Rattle.std.proofs.Common.{◌≡◌, ◌≤◌, ◌⊎◌, ◌<◌, ◌^◌, ℕ, List, Bool, false, None, map, take, length, sym, ◌∙◌, ap, subst}
+use Rattle.std.proofs.Common.{◌≡◌, ◌≤◌, ◌⊎◌, inl, inr, ◌<◌, ◌^◌, ℕ, List, Bool, false, None, map, take, length, sym, ◌∙◌, ap, subst}
 use Rattle.std.specs.List.{All, Contains}
 use Rattle.std.proofs.lemmas.List.Elements.{All-contains, All-map}
 use Rattle.pci_spec.specs.Slot.{Slot}
@@ -7,6 +7,7 @@ use Rattle.pci_spec.specs.Text.{Block}
 use Rattle.pci_spec.specs.Sound.{IsSound}
 use Rattle.pci_spec.specs.System.{System, system_of}
 use Rattle.pci_spec.specs.Machine.{Write, system_after}
+use Rattle.plan_spec.specs.Planning.Fitting.{FitsAt}
 use Rattle.settle_spec.specs.Lists.{Lists, RootRange, Request, are_bad_lists}
 use Rattle.settle_spec.specs.Writes.{Settling, BadLists, Fixed, NoRoom, Settled}
 use Rattle.settle_spec.specs.Kept.{Kept, as_it_stands, growing}
@@ -16,15 +17,17 @@ use Rattle.settle_spec.specs.Growing.{kept_by}
 use Rattle.settle_laws.specs.KeptLaws.{IsSoundKept}
 use Rattle.settle_laws.specs.Keeping.PlacesLaws.{CanSettle}
 use Rattle.settle_laws.proofs.Keeping.SettledSound.{settled_sound}
-use Rattle.settle_laws.proofs.Keeping.Stopping.{stop_sound, writes_settle}
+use Rattle.settle_laws.proofs.Keeping.Stopping.{stop_sound, writes_fit, writes_settle}
 use Rattle.settle_laws.proofs.SoundKept.{standing_is_sound, growing_is_sound}
 use Rattle.pci_base.specs.declared.range.RootRange.{RootRange as CodeRange}
 use Rattle.pci_settle.specs.Lists.{root_range_value}
 use Rattle.pci_tree.specs.Admission.{Admission, IsAdmitted}
 use Rattle.pci_place.specs.Above.{system_in}
+use Rattle.pci_plan.specs.Moves.{IsMove}
 use Rattle.pci_settle_writes.specs.Requests.{request}
 use Rattle.pci_settle_writes.specs.Dumps.{IsSettledDump}
 use Rattle.pci_settle_writes.specs.Endings.{after_lists, kept_after}
+use Rattle.pci_settle_writes.proofs.RegisterWrites.{of_settling}
 
 -- whichever of two is kept
 kept_sound : (q : Request) (s : System) (o : Settling) → IsSoundKept q s (growing q s) → IsSoundKept q s (as_it_stands q s) → IsSoundKept q s (kept_by o (growing q s) (as_it_stands q s))
@@ -74,3 +77,14 @@ module _ (a : Admission) (admitted : IsAdmitted a) (l : Lists) (fine : are_bad_l
           subst (λ ws. IsSound a.roots (system_after s (take k ws))) (sym are)
           (stop_sound q s keep can k
           (subst (λ n. (n ≤ k) ⊎ IsSound a.roots s) counted from))
+
+      -- so they are what can be put onto a machine
+      pub settled_moves : (count : ℕ) → count ≡ length (closings q s keep s) → IsMove record { start = a; dump = dump; writes = writes; safe_from = count }
+      settled_moves count counted = record {
+        admitted = admitted;
+        registers = λ w has. of_settling q s keep can w (subst (λ ws. Contains ws w) are has);
+        fits = subst (All (FitsAt s)) (sym are) (writes_fit q s keep can);
+        reached = writes_reach;
+        sound = dump_sound;
+        stops = λ k from. writes_stop count counted k (elim from [ inl sound ↦ inr sound | inr past ↦ inl past ]);
+      }

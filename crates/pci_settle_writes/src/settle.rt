@@ -11,6 +11,7 @@ ghost use Rattle.settle_spec.specs.Keeping.Writes.{closings};
 ghost use Rattle.settle_spec.specs.Growing.{settle_growing, finally_kept};
 ghost use Rattle.pci_base.specs.declared.memory.Refused.TheVariants as refused;
 ghost use Rattle.pci_place.specs.Above.{system_in};
+ghost use Rattle.pci_plan.specs.Moves.{IsMove};
 ghost use Rattle.pci_plan.specs.Writes.{write_value};
 ghost use Rattle.pci_settle.specs.Lists.{lists_value};
 ghost use Rattle.pci_settle.specs.Over.{AreOpenOver};
@@ -34,6 +35,7 @@ use pci_base::memory::{OutOfMemory, Refused};
 use pci_base::range::RootRange;
 use pci_base::slot::Slot;
 use pci_dump::dump::Dump;
+use pci_plan::moving::Move;
 use pci_settle::kept::Kept;
 use pci_settle::list::Lists;
 use pci_settle::over::Left;
@@ -49,6 +51,31 @@ pub struct Settled<A: Allocator = Global> {
     /// The dump after all writes.
     pub dump: Dump<A>,
     pub writes: Writes<A>,
+}
+
+impl<A: Allocator> Settled<A> {
+    /// The settling as `apply` of `pci_plan` takes it. `settle` answers one from the dump that it was given.
+    pub fn as_move<'a, B: Allocator>(&'a self, admitted: &'a Admitted<B>) -> Move<'a, B>
+        requires { IsMove record {
+          start = admitted.now;
+          dump = self.now.dump;
+          writes = map write_value self.now.writes.all.items;
+          safe_from = self.now.writes.closings;
+        } }
+        ensures { result ≡ record {
+          start = admitted.entry.now;
+          dump = self.entry.now.dump;
+          writes = map write_value self.entry.now.writes.all.items;
+          safe_from = self.entry.now.writes.closings;
+        } }
+    {
+        Move::of(
+            admitted,
+            self.dump.blocks(),
+            self.writes.all.as_slice(),
+            self.writes.closings,
+        )
+    }
 }
 
 /// The new places of all parts that don't stay, or the fault where something has none.
@@ -269,6 +296,13 @@ pub fn settle<A: Allocator + Copy, B: Allocator>(
     ensures reached { IfOk result
         (λ x. system_after (system_in admitted.now) (map write_value x.writes.all.items)
         ≡ system_of x.dump admitted.now.probe) }
+    // by it `as_move` can be asked for
+    ensures moves { IfOk result (λ x. IsMove record {
+      start = admitted.now;
+      dump = x.dump;
+      writes = map write_value x.writes.all.items;
+      safe_from = x.writes.closings;
+    }) }
     // a title is the caller's own text, and no register
     ensures titles { IfOk result
         (λ x. map (λ b. b.title) x.dump ≡ map (λ b. b.title) admitted.now.dump) }

@@ -1,4 +1,4 @@
--- What steps leave of a plan, by its words.
+-- What steps leave, by the words of a move.
 use Rattle.std.proofs.Common.{◌≡◌, ℕ, ◌≤◌, ◌⊎◌, inl, inr, List, length, map, take, subst, OnOk, IfErr, IsOk}
 use Rattle.std.specs.declared.result.Result.{Result}
 use Rattle.std.specs.declared.result.Result.TheVariants.{Ok, Err}
@@ -11,7 +11,8 @@ use Rattle.pci_place.specs.Above.{system_in}
 use Rattle.pci_plan.specs.declared.write.Write.{Write as CodeWrite}
 use Rattle.pci_plan.specs.declared.apply_fault.ApplyFault.{ApplyFault}
 use Rattle.pci_plan.specs.Writes.{write_value}
-use Rattle.pci_plan.specs.Plans.{PlanValue, IsPlanValue, final_of}
+use Rattle.pci_plan.specs.Plans.{PlanValue, final_of}
+use Rattle.pci_plan.specs.Moves.{IsMove}
 use Rattle.pci_plan.specs.Comparing.{IsStartFault, moment}
 use Rattle.pci_plan.specs.Making.{IsAccessible, AreWritesMade, IsApplyStop}
 use Rattle.pci_plan.specs.Applying.{ShowsSystem, AreSoundTargets, writes_made, ReadBackBy, IsApplyFault}
@@ -20,8 +21,8 @@ use Rattle.pci_steps.specs.Steps.{all_shown}
 use Rattle.pci_steps.specs.Going.{IsWritable, AreAllShown, IsCompareStop, AreStopped}
 use Rattle.pci_steps.proofs.Starts.{starts_as, start_fault_of}
 
--- the writes of a plan are of registers that a port takes
-pub all_writable : (p : PlanValue) → IsPlanValue p → (items : List CodeWrite) → map write_value items ≡ p.writes → (w : Write) → Contains (map write_value items) w → IsWritable w
+-- the writes are of registers that a port takes
+pub all_writable : (p : PlanValue) → IsMove p → (items : List CodeWrite) → map write_value items ≡ p.writes → (w : Write) → Contains (map write_value items) w → IsWritable w
 all_writable p is items same w has =
     let made : IsMade write_value items w = in_map_to write_value items w has in
     subst IsWritable made.is (All-contains IsAccessible items made.from (accesses p is items same) made.has)
@@ -33,7 +34,7 @@ pub record IsRun (compares : List Write) (items : List CodeWrite) (before : List
   pub made : OnOk r (AreWritesMade before (map write_value items) (length items) after)
   pub stopped : IfErr r (AreStopped (moment before failures) compares (map write_value items) (moment after failures_after))
 
-module _ (p : PlanValue) (is : IsPlanValue p) (compares : List Write) (start : compares ≡ all_shown p.start.dump) (items : List CodeWrite) (same : map write_value items ≡ p.writes)
+module _ (p : PlanValue) (is : IsMove p) (compares : List Write) (start : compares ≡ all_shown p.start.dump) (items : List CodeWrite) (same : map write_value items ≡ p.writes)
     (before : List Target) (failures : ℕ) (after : List Target) (failures_after : ℕ) where
   abbrev Ran : Result (Unit {0}) ApplyFault → Type 0
   Ran r = IsRun compares items before failures after failures_after r

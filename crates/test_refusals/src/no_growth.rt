@@ -175,7 +175,7 @@ fn is_applied<'a>(
     machine: &mut Machine<&'a Refusing<Global>>,
     plan: &Plan<'_, &'a Refusing<Global>>,
 ) -> bool {
-    if apply(machine, plan) != Ok(()) || plan.writes().len() < plan.safe_from() {
+    if apply(machine, &plan.as_move()) != Ok(()) || plan.writes().len() < plan.safe_from() {
         return false;
     }
     for block in plan.dump().blocks() {

@@ -1,6 +1,9 @@
-//! Tests of the places that all parts get where nothing stands, of the writes that lead there, and of what stays.
+//! Tests of the places that all parts get where nothing stands, of the writes that lead there, of what stays, and of
+//! settled boards that are put onto machines.
 #![tactic(auto)]
 
+#[cfg(test)]
+mod applied;
 #[cfg(test)]
 mod boards;
 #[cfg(test)]

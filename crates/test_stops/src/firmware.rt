@@ -111,7 +111,7 @@ pub enum Next {
 
 /// Puts a plan onto the functions of a firmware.
 pub fn set_up<H: Hardware>(firmware: &mut Firmware<H>, plan: &Plan<'_>) -> Next {
-    match apply(firmware, plan) {
+    match apply(firmware, &plan.as_move()) {
         Ok(()) => Next::Start,
         // written since the dump was taken; nothing was written now
         Err(ApplyFault::Changed(_, _)) => Next::PlanAnew,

@@ -38,7 +38,7 @@ fn stop_at(plan: &Plan<'_>, n: u64) -> (Result<(), ApplyFault>, usize) {
 
 /// What putting a plan onto a port answers.
 pub fn put_onto(port: &mut impl ConfigPort, plan: &Plan<'_>) -> Result<(), ApplyFault> {
-    apply(port, plan)
+    apply(port, &plan.as_move())
 }
 
 /// What a plan answers on the machine that it starts from where access `n` fails, and the machine that is left.

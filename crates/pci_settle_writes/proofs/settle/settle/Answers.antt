@@ -4,7 +4,7 @@ use Rattle.pci_plan.specs.Writes.{write_value}
 use Rattle.pci_settle.specs.Lists.{lists_value}
 use Rattle.pci_settle_writes.specs.Requests.{request}
 use Rattle.pci_settle_writes.proofs.Outcomes.{settles, ended}
-use Rattle.pci_settle_writes.proofs.SettledSound.{dump_sound, writes_reach, writes_stop}
+use Rattle.pci_settle_writes.proofs.SettledSound.{dump_sound, settled_moves, writes_reach, writes_stop}
 use Rattle.pci_settle_writes.proofs.settle.settle.Goals as goal
 
 pub returns-clause-sound : goal.returns-clause-sound
@@ -31,6 +31,15 @@ returns-clause-stops g c =
     let fine : are_bad_lists a.roots l ≡ false = sym (c.are_bad.ensures ∙ ap (λ rs. are_bad_lists rs l) (c.roots-roots.ensures ∙ c.outline.ensures.roots)) ∙ c.if-are_bad.false in
     let ended = c.in_ok-settled.ensures.ends in
     writes_stop a c.outline.ensures.admitted l fine c.args.lists.now.pref.now refl c.end_in_64_bits.ensures c.args.fixed.now c.args.anew ended.room c.in_ok-settled.settled.dump ended.by.settled _
+    ended.by.writes_are c.in_ok-settled.settled.writes.closings ended.by.closing
+
+pub returns-clause-moves : goal.returns-clause-moves
+returns-clause-moves g c =
+    let a = c.args.admitted.now in
+    let l = lists_value c.args.lists.now in
+    let fine : are_bad_lists a.roots l ≡ false = sym (c.are_bad.ensures ∙ ap (λ rs. are_bad_lists rs l) (c.roots-roots.ensures ∙ c.outline.ensures.roots)) ∙ c.if-are_bad.false in
+    let ended = c.in_ok-settled.ensures.ends in
+    settled_moves a c.outline.ensures.admitted l fine c.args.lists.now.pref.now refl c.end_in_64_bits.ensures c.args.fixed.now c.args.anew ended.room c.in_ok-settled.settled.dump ended.by.settled _
     ended.by.writes_are c.in_ok-settled.settled.writes.closings ended.by.closing
 
 pub returns-clause-dump : goal.returns-clause-dump
