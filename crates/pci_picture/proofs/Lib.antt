@@ -1,5 +1,6 @@
 pub mod Contents
 pub mod Escapes
+pub mod Plain
 pub mod Drawn
 pub mod Head
 pub mod Kept

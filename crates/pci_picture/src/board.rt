@@ -53,7 +53,7 @@ impl<'a, A: Allocator + Copy> Board<'a, A> {
     }
 
     /// The function of a region.
-    pub fn function(&self, region: &Region<'_>) -> Option<Function<'a>> {
+    pub fn function(&self, region: &Region<'_>) -> Option<&Function<'a>> {
         if region.part == Part::Free {
             return None;
         }

@@ -1,5 +1,5 @@
 //! The elements of a picture, at the end of a text.
-ghost use Rattle.std.specs.Prelude.{◌≡◌, ◌++◌, OnOk};
+ghost use Rattle.std.specs.Prelude.{◌≡◌, ◌++◌, codes, IsTrue, OnOk};
 ghost use Rattle.std.specs.Fmt.{decimal};
 ghost use Rattle.std.specs.String.{string_bytes};
 ghost use Rattle.pci_picture.specs.Xml.{attribute};
@@ -15,6 +15,18 @@ pub struct Frame {
     pub width: u64,
     pub height: u64,
 }
+
+/// 0 for each byte that a picture shows as itself, else 1.
+static MARKS: [u8; 256] = [
+    1, 1, 1, 1, 1, 1, 1, 1, 1, 1, 0, 1, 1, 1, 1, 1, 1, 1, 1, 1, 1, 1, 1, 1, 1, 1, 1, 1, 1, 1, 1, 1,
+    0, 0, 1, 0, 0, 0, 1, 1, 0, 0, 0, 0, 0, 0, 0, 0, 0, 0, 0, 0, 0, 0, 0, 0, 0, 0, 0, 0, 1, 0, 1, 0,
+    0, 0, 0, 0, 0, 0, 0, 0, 0, 0, 0, 0, 0, 0, 0, 0, 0, 0, 0, 0, 0, 0, 0, 0, 0, 0, 0, 0, 0, 0, 0, 0,
+    0, 0, 0, 0, 0, 0, 0, 0, 0, 0, 0, 0, 0, 0, 0, 0, 0, 0, 0, 0, 0, 0, 0, 0, 0, 0, 0, 0, 0, 0, 0, 1,
+    1, 1, 1, 1, 1, 1, 1, 1, 1, 1, 1, 1, 1, 1, 1, 1, 1, 1, 1, 1, 1, 1, 1, 1, 1, 1, 1, 1, 1, 1, 1, 1,
+    1, 1, 1, 1, 1, 1, 1, 1, 1, 1, 1, 1, 1, 1, 1, 1, 1, 1, 1, 1, 1, 1, 1, 1, 1, 1, 1, 1, 1, 1, 1, 1,
+    1, 1, 1, 1, 1, 1, 1, 1, 1, 1, 1, 1, 1, 1, 1, 1, 1, 1, 1, 1, 1, 1, 1, 1, 1, 1, 1, 1, 1, 1, 1, 1,
+    1, 1, 1, 1, 1, 1, 1, 1, 1, 1, 1, 1, 1, 1, 1, 1, 1, 1, 1, 1, 1, 1, 1, 1, 1, 1, 1, 1, 1, 1, 1, 1,
+];
 
 /// Appends a byte as a picture shows it.
 fn push_byte<A: Allocator>(text: &mut String<A>, byte: u8) -> Result<(), AllocError>
@@ -37,8 +49,8 @@ fn push_byte<A: Allocator>(text: &mut String<A>, byte: u8) -> Result<(), AllocEr
     }
 }
 
-/// Appends bytes as a picture shows them.
-pub fn push_escaped<A: Allocator>(text: &mut String<A>, bytes: &[u8]) -> Result<(), AllocError>
+/// Appends bytes one by one as a picture shows them.
+fn push_each<A: Allocator>(text: &mut String<A>, bytes: &[u8]) -> Result<(), AllocError>
     ensures { OnOk result (string_bytes text.new ≡ string_bytes text.old ++ escaped bytes.now) }
 {
     for byte in bytes {
@@ -47,11 +59,36 @@ pub fn push_escaped<A: Allocator>(text: &mut String<A>, bytes: &[u8]) -> Result<
     Ok(())
 }
 
+/// Whether a picture shows each of these bytes as itself.
+fn are_plain(bytes: &[u8]) -> bool
+    ensures { IsTrue result → escaped bytes.now ≡ bytes.now }
+{
+    let mut marks = 0;
+    for byte in bytes {
+        marks |= MARKS[*byte as usize];
+    }
+    marks == 0
+}
+
+/// Appends bytes as a picture shows them.
+pub fn push_escaped<A: Allocator>(text: &mut String<A>, bytes: &[u8]) -> Result<(), AllocError>
+    ensures { OnOk result (string_bytes text.new ≡ string_bytes text.old ++ escaped bytes.now) }
+{
+    // most texts hold no such byte, and are appended as a whole
+    if are_plain(bytes) {
+        if let Ok(plain) = std::str::from_utf8(bytes) {
+            return text.push_str(plain);
+        }
+    }
+    push_each(text, bytes)
+}
+
 /// Appends a number.
 pub fn push_decimal<A: Allocator>(text: &mut String<A>, number: u64) -> Result<(), AllocError>
     ensures { OnOk result (string_bytes text.new ≡ string_bytes text.old ++ decimal number) }
 {
-    write!(text, "{number}")
+    let mut digits = itoa::Buffer::new();
+    text.push_str(digits.format(number))
 }
 
 /// Appends an attribute whose value is a number.
@@ -89,16 +126,27 @@ fn push_bytes<A: Allocator>(
     text.push('"')
 }
 
+/// Appends the attributes of a width and a height.
+#[tactic(auto, unfolding(crate::specs::Elements::number_attribute))]
+fn push_size<A: Allocator>(text: &mut String<A>, width: u64, height: u64) -> Result<(), AllocError>
+    ensures { OnOk result (string_bytes text.new ≡ string_bytes text.old
+        ++ (number_attribute (codes "width") width ++ number_attribute (codes "height") height)) }
+{
+    text.push_str(" width=\"")?;
+    push_decimal(text, width)?;
+    text.push_str("\" height=\"")?;
+    push_decimal(text, height)?;
+    text.push('"')
+}
+
 /// Appends the attributes of a rectangle.
-#[tactic(auto, unfolding(crate::specs::Elements::frame_attributes))]
+#[tactic(auto, unfolding(crate::specs::Elements::frame_attributes, crate::specs::Elements::place_attributes))]
 fn push_frame<A: Allocator>(text: &mut String<A>, at: Frame) -> Result<(), AllocError>
     ensures { OnOk result (string_bytes text.new
         ≡ string_bytes text.old ++ frame_attributes at.x at.y at.width at.height) }
 {
-    push_number(text, "x", at.x)?;
-    push_number(text, "y", at.y)?;
-    push_number(text, "width", at.width)?;
-    push_number(text, "height", at.height)
+    push_place(text, at.x, at.y)?;
+    push_size(text, at.width, at.height)
 }
 
 /// Appends the attributes of a rectangle, and of its look.
@@ -146,12 +194,15 @@ pub fn push_box<A: Allocator>(
 }
 
 /// Appends the attributes of the place of a line of words.
-#[tactic(auto, unfolding(crate::specs::Elements::place_attributes))]
+#[tactic(auto, unfolding(crate::specs::Elements::place_attributes, crate::specs::Elements::number_attribute))]
 fn push_place<A: Allocator>(text: &mut String<A>, x: u64, y: u64) -> Result<(), AllocError>
     ensures { OnOk result (string_bytes text.new ≡ string_bytes text.old ++ place_attributes x y) }
 {
-    push_number(text, "x", x)?;
-    push_number(text, "y", y)
+    text.push_str(" x=\"")?;
+    push_decimal(text, x)?;
+    text.push_str("\" y=\"")?;
+    push_decimal(text, y)?;
+    text.push('"')
 }
 
 /// Appends a line of words, and a line feed.
@@ -220,7 +271,12 @@ pub fn push_axis<A: Allocator>(
 pub fn push_tick<A: Allocator>(text: &mut String<A>, x: u64, y: u64) -> Result<(), AllocError>
     ensures { OnOk result (string_bytes text.new ≡ string_bytes text.old ++ tick_text x y) }
 {
-    write!(text, "<path d=\"M{x} {y}h4\" class=\"tick\"/>\n")
+    text.push_str("<path d=\"M")?;
+    push_decimal(text, x)?;
+    text.push(' ')?;
+    push_decimal(text, y)?;
+    text.push_str("h4")?;
+    text.push_str("\" class=\"tick\"/>\n")
 }
 
 /// Appends a line over a gap up to `to`, and a line feed.
@@ -232,5 +288,11 @@ pub fn push_gap<A: Allocator>(
 ) -> Result<(), AllocError>
     ensures { OnOk result (string_bytes text.new ≡ string_bytes text.old ++ gap_text x y to) }
 {
-    write!(text, "<path d=\"M{x} {y}H{to}\" class=\"gap\"/>\n")
+    text.push_str("<path d=\"M")?;
+    push_decimal(text, x)?;
+    text.push(' ')?;
+    push_decimal(text, y)?;
+    text.push('H')?;
+    push_decimal(text, to)?;
+    text.push_str("\" class=\"gap\"/>\n")
 }

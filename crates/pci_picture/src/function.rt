@@ -35,13 +35,19 @@ pub struct Function<'a> {
 fn function_of(line: &[u8]) -> Option<Function<'_>> {
     let slot = line.get(..7)?;
     let number = slot_number(slot)?;
-    let command = hex_number(word(line, 10))?;
+    let mut words = line
+        .split(|byte| *byte == b' ')
+        .filter(|word| !word.is_empty());
+    let vendor = words.nth(4)?;
+    let device = words.nth(1)?;
+    let class = words.nth(1)?;
+    let command = hex_number(words.nth(1)?)?;
     Some(Function {
         slot,
         number,
-        vendor: word(line, 4),
-        device: word(line, 6),
-        class: word(line, 8),
+        vendor,
+        device,
+        class,
         is_on: command & 3 != 0,
         buses: None,
         title: &[],
@@ -60,10 +66,10 @@ fn buses_of(line: &[u8]) -> Option<Buses> {
 }
 
 /// The function of a slot's number, of functions by rising slot.
-pub fn find<'a>(functions: &[Function<'a>], number: u32) -> Option<Function<'a>> {
+pub fn find<'f, 'a>(functions: &'f [Function<'a>], number: u32) -> Option<&'f Function<'a>> {
     let index = functions.partition_point(|function| function.number < number);
     match functions.get(index) {
-        Some(function) if function.number == number => Some(*function),
+        Some(function) if function.number == number => Some(function),
         _ => None,
     }
 }

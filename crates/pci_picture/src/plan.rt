@@ -113,12 +113,16 @@ fn faults_about<A: Allocator + Copy>(
     Ok(about)
 }
 
-/// The keys of some regions, by rising key.
+/// The keys of some regions, by rising key; none where no fault is about a region, as then nobody asks for them.
 fn keys_of<A: Allocator + Copy>(
     alloc: A,
+    faults: &Faults<'_, A>,
     regions: &[Region<'_>],
 ) -> Result<Vec<Index, A>, OutOfMemory> {
     let mut keys = Vec::new(alloc);
+    if faults.namings.is_empty() {
+        return Ok(keys);
+    }
     for (index, region) in regions.iter().enumerate() {
         keys.push(Index {
             key: region.key,
@@ -251,7 +255,7 @@ impl<'a, A: Allocator + Copy> Plan<'a, A> {
     {
         let regions = regions_of(alloc, members)?;
         let every = regions.as_slice();
-        let keys = keys_of(alloc, every)?;
+        let keys = keys_of(alloc, faults, every)?;
         let tellings = tellings_of(alloc, faults, every, keys.as_slice())?;
         let cuts = cuts_of(alloc, every, &tellings)?;
         let base = if site.is_io() { 4 } else { 12 };

@@ -12,12 +12,11 @@ use super::lanes::Width;
 use super::memory::OutOfMemory;
 use super::plan::{AXIS, Member, Placed, Plan, Site, Told, with_key};
 use super::region::{Part, Region};
-use super::words::Words;
+use super::words::{Words, hex_digits};
 use std::alloc::Allocator;
 
 /// Draws a run that a line covers at the axis: its first address, and a tick.
 fn draw_covered<A: Allocator + Copy>(
-    alloc: A,
     canvas: &mut Canvas<A>,
     site: &Site,
     digits: usize,
@@ -26,9 +25,8 @@ fn draw_covered<A: Allocator + Copy>(
     ensures { OnOk result (Adds [] canvas.old canvas.new) }
 {
     let axis = site.x.saturating_add(AXIS);
-    let mut words = Words::new(alloc);
-    words.put_hex(low_bits(run.begin), digits)?;
-    let bytes = words.bytes.as_slice();
+    let all = hex_digits(low_bits(run.begin));
+    let bytes = &all[16 - digits.min(16)..];
     let zeros = bytes
         .iter()
         .position(|byte| *byte != b'0')
@@ -69,7 +67,7 @@ fn draw_run<A: Allocator + Copy>(
     ensures { OnOk result (Adds [] canvas.old canvas.new) }
 {
     if run.is_covered {
-        draw_covered(alloc, canvas, site, digits, run)
+        draw_covered(canvas, site, digits, run)
     } else {
         draw_gap(alloc, canvas, site, digits, run)
     }
@@ -111,27 +109,26 @@ fn draw_axis<A: Allocator + Copy>(
     canvas.add_heading(label, words.bytes.as_slice())
 }
 
-/// Appends the classes of a region's box.
+/// The classes of a region's box.
 fn class_of<A: Allocator + Copy>(
-    words: &mut Words<A>,
     faults: &Faults<'_, A>,
     region: &Region<'_>,
     is_lost: bool,
-) -> Result<(), OutOfMemory> {
-    words.put(match region.part {
-        Part::Bar => b"bar",
-        Part::Prefetchable => b"pref",
-        Part::Rom => b"rom",
-        Part::Window => b"window",
-        Part::Free => b"free",
-    })?;
-    if faults.has(region.key, 61, 62) {
-        words.put(b" clash")?;
+) -> &'static str {
+    let [plain, clash, lost, both] = match region.part {
+        Part::Bar => ["bar", "bar clash", "bar lost", "bar clash lost"],
+        Part::Prefetchable => ["pref", "pref clash", "pref lost", "pref clash lost"],
+        Part::Rom => ["rom", "rom clash", "rom lost", "rom clash lost"],
+        Part::Window => ["window", "window clash", "window lost", "window clash lost"],
+        Part::Free => ["free", "free clash", "free lost", "free clash lost"],
+    };
+    let is_lost = is_lost || faults.has(region.key, 60, 63);
+    match (faults.has(region.key, 61, 62), is_lost) {
+        (false, false) => plain,
+        (true, false) => clash,
+        (false, true) => lost,
+        (true, true) => both,
     }
-    if is_lost || faults.has(region.key, 60, 63) {
-        words.put(b" lost")?;
-    }
-    Ok(())
 }
 
 /// Appends the numbers of a region's faults, each once, with a colon behind them. Its answer is whether there is one.
@@ -167,8 +164,7 @@ fn draw_box<A: Allocator + Copy>(
     ensures { OnOk result (Adds (placed.entry.now.region.line.now ∷ []) canvas.old canvas.new) }
 {
     let region = &placed.region;
-    let mut class = Words::new(alloc);
-    class_of(&mut class, &board.faults, region, placed.is_lost)?;
+    let class = class_of(&board.faults, region, placed.is_lost);
     let mut anchor = Words::new(alloc);
     if region.part != Part::Free {
         anchor.put(b"r")?;
@@ -178,7 +174,7 @@ fn draw_box<A: Allocator + Copy>(
     }
     let shape = Shape {
         at,
-        class: class.bytes.as_slice(),
+        class: class.as_bytes(),
         anchor: anchor.bytes.as_slice(),
     };
     let title = board.title(alloc, region)?;

@@ -109,7 +109,7 @@ fn write_function<A: Allocator + Copy>(
         words.put_buses(function.buses)?;
         words.put(b", ")?;
     }
-    words.put_name(Some(*function))?;
+    words.put_name(Some(function))?;
     canvas.add_cut(label, &mut words, width)
 }
 

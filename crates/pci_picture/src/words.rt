@@ -7,13 +7,20 @@ use super::reading::hex_byte;
 use super::region::Region;
 use std::alloc::Allocator;
 
-/// The hex digit of a number below 16.
-fn digit(number: u8) -> u8 {
-    match number % 16 {
-        small @ 0..=9 => b'0' + small,
-        large => b'a' + (large - 10),
+static DIGITS: [u8; 16] = *b"0123456789abcdef";
+
+/// The 16 hex digits of a number.
+pub fn hex_digits(number: u64) -> [u8; 16] {
+    let mut digits = [b'0'; 16];
+    for index in 0..16u32 {
+        let shifted = number >> (60 - 4 * index);
+        digits[index as usize] = DIGITS[(shifted % 16) as usize];
     }
+    digits
 }
+
+/// How many bytes there is room for behind the first bytes of a line.
+const ROOM: usize = 120;
 
 /// A line of words.
 #[derive(Drop)]
@@ -44,18 +51,18 @@ impl<A: Allocator + Copy> Words<A> {
     pub fn put(&mut self, bytes: &[u8]) -> Result<(), OutOfMemory>
         ensures { OnOk result (self.new.bytes.items ≡ self.old.bytes.items ++ bytes.now) }
     {
+        // so that few lines grow again
+        if self.bytes.is_empty() {
+            self.bytes.reserve(bytes.len().saturating_add(ROOM))?;
+        }
         self.bytes.extend_from_slice(bytes)?;
         Ok(())
     }
 
     /// Appends the lowest `digits` hex digits of a number, at most 16.
     pub fn put_hex(&mut self, number: u64, digits: usize) -> Result<(), OutOfMemory> {
-        let digits = digits.min(16) as u32;
-        for done in 0..digits {
-            let shifted = number >> (4 * (digits - 1 - done));
-            self.bytes.push(digit((shifted % 16) as u8))?;
-        }
-        Ok(())
+        let all = hex_digits(number);
+        self.put(&all[16 - digits.min(16)..])
     }
 
     /// Appends a number in decimal digits.
@@ -92,7 +99,7 @@ impl<A: Allocator + Copy> Words<A> {
     }
 
     /// Appends the title of a function, else what its class is and its two identifiers.
-    pub fn put_name(&mut self, function: Option<Function<'_>>) -> Result<(), OutOfMemory> {
+    pub fn put_name(&mut self, function: Option<&Function<'_>>) -> Result<(), OutOfMemory> {
         let Some(function) = function else {
             return Ok(());
         };
