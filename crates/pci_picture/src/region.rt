@@ -1,6 +1,6 @@
 //! Lines of a map.
-ghost use Rattle.std.specs.Prelude.{◌≡◌, ◌+◌, ◌<◌, [], ◌∷◌, IsTrue, MatchOption, is_some};
-ghost use Rattle.pci_picture.specs.Lines.{is_one_line, is_part, is_region_line, names_register, region_line, words_of};
+ghost use Rattle.std.specs.Prelude.{◌≡◌, ◌&&◌, [], ◌∷◌, IsTrue, MatchOption, is_some};
+ghost use Rattle.pci_picture.specs.Lines.{is_one_line, is_part, is_region_line, is_register, is_slot, region_line, words_of};
 
 use super::reading::{extent_of, hex_byte, region_key, slot_number, word};
 
@@ -45,13 +45,10 @@ struct Named<'a> {
     key: u32,
 }
 
-/// The part whose slot and register are the words at an index and behind it.
-fn named_at(line: &[u8], part: Part, index: usize) -> Option<Named<'_>>
-    requires { index < 8 }
-    ensures { is_some result ≡ names_register (words_of line.now) index }
+/// The part that a slot and a register name.
+fn named_by<'a>(part: Part, slot: &'a [u8], register: &'a [u8]) -> Option<Named<'a>>
+    ensures { is_some result ≡ (is_slot slot.now && is_register register.now) }
 {
-    let slot = word(line, index);
-    let register = word(line, index + 1);
     let number = slot_number(slot)?;
     let offset = hex_byte(register)?;
     Some(Named {
@@ -69,15 +66,16 @@ fn named_of(line: &[u8]) -> Option<Named<'_>>
 {
     let part = word(line, 2);
     if part == b"bar".as_slice() {
-        if word(line, 3) == b"pref".as_slice() {
-            named_at(line, Part::Prefetchable, 4)
+        let next = word(line, 3);
+        if next == b"pref".as_slice() {
+            named_by(Part::Prefetchable, word(line, 4), word(line, 5))
         } else {
-            named_at(line, Part::Bar, 3)
+            named_by(Part::Bar, next, word(line, 4))
         }
     } else if part == b"rom".as_slice() {
-        named_at(line, Part::Rom, 3)
+        named_by(Part::Rom, word(line, 3), word(line, 4))
     } else if part == b"window".as_slice() {
-        named_at(line, Part::Window, 3)
+        named_by(Part::Window, word(line, 3), word(line, 4))
     } else if part == b"free".as_slice() {
         Some(Named {
             part: Part::Free,
