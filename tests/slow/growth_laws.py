@@ -37,10 +37,13 @@ LARGE = [0x40000, 0x80000, 0x100000, 0x100000, 0x200000, 0x400000]
 
 # ---- boards
 
-def tight_board(seed):
-    """The rule of a seed, a board that was settled anew and then changed, and what is asked; or none."""
+def tight_board(seed, made=None):
+    """The rule of a seed, a board that was settled anew and then changed, and what is asked; or none.
+
+    `made` makes the board that is settled, of the rule: by default some bridges and what is beside and behind them.
+    """
     rule = Rule(seed)
-    board = tree(rule)
+    board = (made or tree)(rule)
     request = rule.request(board)._replace(fixed=[], anew=True)
     if not rule.one_in(5):
         request = request._replace(lists={kind: rule.one_of(ROOMY[kind]) for kind in ROOMY})
