@@ -15,11 +15,11 @@ use Rattle.settle_spec.specs.Items.{Item, in_turn, own_item, is_own, has_of, ite
 use Rattle.settle_spec.proofs.Nested.{on_it}
 
 window_step : (q : Request) (s : System) (c : WindowKind) (depth : ℕ) (b : Function)
-    → window_within q s c (suc depth) b ≡ window_around c b (bus_items q s c nothing (window_within q s c depth) (secondary b))
+    → window_within q s c (suc depth) b ≡ window_around q c b (bus_items q s c nothing (window_within q s c depth) (secondary b))
 unfolding window_within
 window_step q s c depth b = refl
 
-window_none : (q : Request) (s : System) (c : WindowKind) (b : Function) → window_within q s c 0 b ≡ window_around c b []
+window_none : (q : Request) (s : System) (c : WindowKind) (b : Function) → window_within q s c 0 b ≡ window_around q c b []
 unfolding window_within
 window_none q s c b = refl
 
@@ -76,20 +76,20 @@ module _ (q : Request) (s : System) (c : WindowKind) where
     enough : (d e : ℕ) (b : Function) → Contains s b → is_bridge b ≡ true → 256 ≤ secondary b + d → 256 ≤ secondary b + e → window_within q s c d b ≡ window_within q s c e b
     enough zero zero b listed bridge hd he = refl
     enough zero (suc e) b listed bridge hd he =
-        window_none q s c b ∙ sym (window_step q s c e b ∙ ap (window_around c b) (none_on (window_within q s c e) b listed bridge (omega (arith, hd))))
+        window_none q s c b ∙ sym (window_step q s c e b ∙ ap (window_around q c b) (none_on (window_within q s c e) b listed bridge (omega (arith, hd))))
     enough (suc d) zero b listed bridge hd he =
-        window_step q s c d b ∙ ap (window_around c b) (none_on (window_within q s c d) b listed bridge (omega (arith, he))) ∙ sym (window_none q s c b)
+        window_step q s c d b ∙ ap (window_around q c b) (none_on (window_within q s c d) b listed bridge (omega (arith, he))) ∙ sym (window_none q s c b)
     enough (suc d) (suc e) b listed bridge hd he =
         window_step q s c d b
-        ∙ ap (window_around c b) (same_on (window_within q s c d) (window_within q s c e) (secondary b) (λ f in_f beside is_f.
+        ∙ ap (window_around q c b) (same_on (window_within q s c d) (window_within q s c e) (secondary b) (λ f in_f beside is_f.
         let at = on_it q.roots s system nested b f.slot.bus listed bridge beside in
         let up = order_of q.roots s nested f in_f is_f in
         enough d e f in_f is_f (omega (arith, hd, at, up)) (omega (arith, he, at, up))))
         ∙ sym (window_step q s c e b)
 
-    pub window_is_around : (b : Function) → Contains s b → is_bridge b ≡ true → new_window q s c b ≡ window_around c b (bus_items q s c nothing (new_window q s c) (secondary b))
+    pub window_is_around : (b : Function) → Contains s b → is_bridge b ≡ true → new_window q s c b ≡ window_around q c b (bus_items q s c nothing (new_window q s c) (secondary b))
     window_is_around b listed bridge =
         window_step q s c 255 b
-        ∙ ap (window_around c b) (same_on (window_within q s c 255) (window_within q s c 256) (secondary b) (λ f in_f beside is_f.
+        ∙ ap (window_around q c b) (same_on (window_within q s c 255) (window_within q s c 256) (secondary b) (λ f in_f beside is_f.
         let up = order_of q.roots s nested f in_f is_f in
         enough 255 256 f in_f is_f (omega (arith, up)) (omega arith)))

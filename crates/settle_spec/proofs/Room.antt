@@ -1,5 +1,5 @@
 -- What is laid out from 0 on is placed in the same way from any multiple of its alignments on.
-use Rattle.std.proofs.Common.{◌≡◌, ℕ, ◌+◌, ◌-◌, ◌*◌, ◌%◌, ◌<◌, ◌≤◌, inl, inr, List, [], ◌∷◌, map, cond, arith, ap, sym, subst, ◌∙◌, refl, true, None, Some}
+use Rattle.std.proofs.Common.{◌≡◌, ℕ, ◌+◌, ◌-◌, ◌*◌, ◌%◌, ◌<◌, ◌≤◌, inl, inr, List, [], ◌∷◌, map, cond, arith, ap, sym, subst, ◌∙◌, refl, true, Option, None, Some}
 use Rattle.std.specs.Bool.{IsTrue, nat_le}
 use Rattle.std.specs.List.{Contains}
 use Rattle.std.proofs.lemmas.Bool.{and_from, le-leb, cases_lt}
@@ -10,10 +10,11 @@ use Rattle.plan_spec.specs.Place.{range_from}
 use Rattle.plan_spec.proofs.Planning.Placement.{IsMultiple, mod_of_multiple, multiple_of_mod, multiple_add}
 use Rattle.plan_spec.proofs.Planning.Room.{raised}
 use Rattle.settle_spec.specs.FirstPlace.{Extent, is_spot, ends_by, first_spot, first_place, else_at}
+use Rattle.settle_spec.specs.Spares.{with_spare}
 use Rattle.settle_spec.specs.Items.{Item, Placing, AllPlaced, Lacks, and_placed, place_next, place_all, are_placed, taken_by, laid_out, end_of}
 use Rattle.settle_spec.specs.WindowLaws.{CanBeIn}
 use Rattle.settle_spec.proofs.FirstSpot.{IsApart, spot_gives, spot_from, least_spot, only_least}
-use Rattle.settle_spec.proofs.LaidOut.{laid_keeps, end_behind}
+use Rattle.settle_spec.proofs.LaidOut.{laid_keeps, laid_before, end_behind, end_more}
 
 multiple_less : (a b c : ℕ) → a ≤ b → IsMultiple a c → IsMultiple b c → IsMultiple (b - a) c
 multiple_less a b c up (r, f) (q, e) = elim (cases_lt q r) [
@@ -110,8 +111,10 @@ module _ (a size : ℕ) where
       ∙ ap (λ (t : Range). are_placed (place_all inside (t ∷ map (further a) taken) items)) (sym (same_range a f e.size))
       ∙ have_room (here ∷ taken) items within (λ j listed. can j (in_tail i items j listed))
 
-pub window_has_room : (page : ℕ) (items : List Item) (a size : ℕ) → 0 < page → size ≡ raised_to page (end_of (laid_out [] (map (λ (i : Item). i.extent) items)))
+pub window_has_room : (page : ℕ) (spare : Option Extent) (items : List Item) (a size : ℕ) → 0 < page → size ≡ raised_to page (end_of (laid_out [] (with_spare spare (map (λ (i : Item). i.extent) items))))
     → ((i : Item) → Contains items i → CanBeIn a size i) → are_placed (place_all (λ i. range_from a size ∷ []) [] items) ≡ true
-window_has_room page items a size pos is can =
-    let from = (raised page (end_of (laid_out [] (map (λ (i : Item). i.extent) items))) pos).from in
-    have_room a size [] items (omega (arith, is, from)) can
+window_has_room page spare items a size pos is can =
+    let extents = map (λ (i : Item). i.extent) items in
+    let from = (raised page (end_of (laid_out [] (with_spare spare extents))) pos).from in
+    let end = end_more (laid_out [] extents) (laid_out [] (with_spare spare extents)) (laid_before [] extents spare) in
+    have_room a size [] items (omega (arith, is, from, end)) can

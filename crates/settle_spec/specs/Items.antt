@@ -10,6 +10,7 @@ use Rattle.plan_spec.specs.Plan.{bridges_above, greatest, raised_to, same_class,
 use Rattle.plan_spec.specs.Place.{range_from}
 use Rattle.settle_spec.specs.FirstPlace.{Extent, least_number, first_spot, first_place}
 use Rattle.settle_spec.specs.Lists.{Request}
+use Rattle.settle_spec.specs.Spares.{spare_below, with_spare}
 use Rattle.settle_spec.specs.Parts.{FunctionPart, system_parts, function_parts, addresses, bridge_over, class_in, are_same_space}
 use Rattle.settle_spec.specs.Stands.{rank, window_part, part_space, stands}
 
@@ -139,20 +140,24 @@ highest_in MemoryWindow probe = 0xffff_ffff
 highest_in PrefetchWindow probe =
     if is_wide_window PrefetchWindow probe then 0xffff_ffff_ffff_ffff else 0xffff_ffff
 
--- a new window of a bridge around items
-abbrev pub window_around : WindowKind → Function → List Item → Extent
-window_around c b items =
+-- the spare of a class behind a bridge with a slot
+abbrev pub spare_of : Request → WindowKind → Function → Option Extent
+spare_of q c b = spare_below q c b (highest_in c b.probe)
+
+-- a new window of a bridge around items: over a slot it has the spare behind them
+abbrev pub window_around : Request → WindowKind → Function → List Item → Extent
+window_around q c b items =
     extent_around (page_size c) (highest_in c b.probe)
-    (map (λ (i : Item). i.extent) items)
+    (with_spare (spare_of q c b) (map (λ (i : Item). i.extent) items))
 
 abbrev pub nothing : FunctionPart → Bool
 nothing r = false
 
 -- the new window of a bridge, where at most `depth` buses are behind one another
 unfoldable pub window_within : Request → System → WindowKind → ℕ → Function → Extent
-window_within q s c zero b = window_around c b []
+window_within q s c zero b = window_around q c b []
 window_within q s c (suc depth) b =
-    window_around c b (bus_items q s c nothing (window_within q s c depth) (secondary b))
+    window_around q c b (bus_items q s c nothing (window_within q s c depth) (secondary b))
 
 -- buses rise on the way down, so 256 of them are all
 abbrev pub new_window : Request → System → WindowKind → Function → Extent

@@ -1,6 +1,7 @@
 pub mod FirstPlace
 pub mod PlacingLaws
 pub mod Lists
+pub mod Spares
 pub mod Parts
 pub mod Assumed
 pub mod Stands

@@ -1,4 +1,5 @@
--- What is asked for: lists of ranges of addresses, of all roots or of one, functions that stay, and whether all is placed anew.
+-- What is asked for: lists of ranges of addresses, of all roots or of one, functions that stay, whether all is placed anew, and room
+-- behind slots.
 use Rattle.std.specs.Prelude.{ℕ, ◌==◌, nat_lt, Bool, true, false, ◌||◌, not, List, [], ◌∷◌, map, Option, None, Some}
 use Rattle.std.specs.List.{list_any, filter}
 use Rattle.pci_spec.specs.Slot.{Slot}
@@ -24,6 +25,17 @@ list_of lists IoWindow = lists.io
 list_of lists MemoryWindow = lists.memory
 list_of lists PrefetchWindow = lists.prefetch
 
+-- how many addresses of each class are wanted behind a slot: 0 where none are
+pub record Spares : Type 0 where
+  pub io : ℕ
+  pub memory : ℕ
+  pub prefetch : ℕ
+
+abbrev pub wanted_in : Spares → WindowKind → ℕ
+wanted_in spares IoWindow = spares.io
+wanted_in spares MemoryWindow = spares.memory
+wanted_in spares PrefetchWindow = spares.prefetch
+
 pub record Request : Type 0 where
   -- the root buses
   pub roots : List ℕ
@@ -32,6 +44,9 @@ pub record Request : Type 0 where
   pub fixed : List Slot
   -- nothing is left where it stands
   pub anew : Bool
+  -- the bridges with a slot, and what is wanted behind each
+  pub slots : List Slot
+  pub spares : Spares
 
 -- whether a root has a range
 abbrev pub is_had_by : Option ℕ → ℕ → Bool

@@ -1,6 +1,6 @@
 -- Laws of new windows where nothing stays: what is behind bridges can be gone over from the highest bus down, and has its
 -- places in the windows; and of windows that are as large as all of memory.
-use Rattle.std.specs.Prelude.{◌≡◌, ℕ, ◌+◌, ◌-◌, ◌%◌, ◌^◌, ◌<◌, ◌≤◌, nat_lt, IsTrue, List, [], ◌∷◌, map, length}
+use Rattle.std.specs.Prelude.{◌≡◌, ℕ, ◌+◌, ◌-◌, ◌%◌, ◌^◌, ◌<◌, ◌≤◌, nat_lt, IsTrue, List, [], ◌∷◌, map, length, Option}
 use Rattle.std.specs.List.{Contains}
 use Rattle.pci_spec.specs.Window.{WindowKind}
 use Rattle.pci_spec.specs.System.{System, Function, IsSystem, is_bridge}
@@ -9,6 +9,7 @@ use Rattle.plan_spec.specs.Place.{range_from}
 use Rattle.pci_spec.specs.Decoded.{Range}
 use Rattle.settle_spec.specs.FirstPlace.{Extent, is_place}
 use Rattle.settle_spec.specs.Lists.{Request}
+use Rattle.settle_spec.specs.Spares.{with_spare}
 use Rattle.settle_spec.specs.Items.{Item, place_all, are_placed, has_of, bus_items, nothing, extent_around, window_around, new_window}
 
 -- A new window is that around the items of the bus behind its bridge, whose windows are new ones in turn.
@@ -17,7 +18,7 @@ WindowIsAround =
     (q : Request) (s : System) (c : WindowKind) (b : Function) → IsSystem s → IsNested q.roots s
     → Contains s b → IsTrue (is_bridge b)
     → new_window q s c b
-    ≡ window_around c b (bus_items q s c nothing (new_window q s c) (secondary b))
+    ≡ window_around q c b (bus_items q s c nothing (new_window q s c) (secondary b))
 
 -- A BAR or ROM of a class is behind a bridge exactly where the bus behind it has an item.
 abbrev pub ItemsAreBehind : Type 0
@@ -34,11 +35,11 @@ pub record CanBeIn (a size : ℕ) (i : Item) : Type 0 where
   pub multiple : a % i.extent.alignment ≡ 0
   pub below : a + (size - 1) ≤ i.extent.highest
 
--- Wherever a new window is placed, all that it was made around has a place in it.
+-- Wherever a new window is placed, all that it was made around has a place in it, with a spare or without.
 abbrev pub NewWindowHasRoom : Type 0
 NewWindowHasRoom =
-    (page highest : ℕ) (items : List Item) (a size : ℕ) → 0 < page
-    → size ≡ (extent_around page highest (map (λ (i : Item). i.extent) items)).size
+    (page highest : ℕ) (spare : Option Extent) (items : List Item) (a size : ℕ) → 0 < page
+    → size ≡ (extent_around page highest (with_spare spare (map (λ (i : Item). i.extent) items))).size
     → ((i : Item) → Contains items i → CanBeIn a size i)
     → IsTrue (are_placed (place_all (λ i. range_from a size ∷ []) [] items))
 

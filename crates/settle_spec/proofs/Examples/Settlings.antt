@@ -5,7 +5,7 @@ use Rattle.pci_spec.specs.Window.{IoWindow, MemoryWindow}
 use Rattle.pci_spec.specs.System.{System, Function}
 use Rattle.pci_spec.proofs.Examples.Samples.{slot, device, bridge, write, range, host}
 use Rattle.plan_spec.proofs.Examples.Placed.{start}
-use Rattle.settle_spec.specs.Lists.{Lists, RootRange, Request}
+use Rattle.settle_spec.specs.Lists.{Lists, RootRange, Spares, Request}
 use Rattle.settle_spec.specs.Stands.{stands_within}
 use Rattle.settle_spec.specs.Items.{window_within, holds_within}
 use Rattle.settle_spec.specs.Keeping.Places.{placing_within}
@@ -27,8 +27,12 @@ of_root root first last = record { root = Some root; range = range first last }
 abbrev pub lists : Lists
 lists = record { io = all_roots 0x1000 0xffff ∷ []; memory = all_roots 0xe0000000 0xe02fffff ∷ []; prefetch = all_roots 0x100000000 0x1ffffffff ∷ [] }
 
+-- no room is wanted
+abbrev pub no_spares : Spares
+no_spares = record { io = 0; memory = 0; prefetch = 0 }
+
 abbrev pub request : Request
-request = record { roots = host; lists = lists; fixed = []; anew = false }
+request = record { roots = host; lists = lists; fixed = []; anew = false; slots = []; spares = no_spares }
 
 -- with other lists
 abbrev pub with_io : List RootRange → Request
