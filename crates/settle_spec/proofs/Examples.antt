@@ -6,4 +6,5 @@ pub mod Stands
 pub mod Places
 pub mod Writes
 pub mod Growth
+pub mod Spares
 pub mod Assumed

@@ -18,6 +18,15 @@ pub record Kept : Type 0 where
   pub range : FunctionPart → Range
   -- the place in the window of a bridge that stays for an item on its secondary bus, beside what is taken there
   pub place : Function → Item → List Range → Option ℕ
+  -- the addresses of a window in which room is kept free, where these aren't those of its place
+  pub wished : FunctionPart → Option Range
+
+abbrev pub no_wish : FunctionPart → Option Range
+no_wish r = None
+
+-- the same without that room
+abbrev pub unwished : Kept → Kept
+unwished k = record k { wished = no_wish }
 
 abbrev pub place_in : Range → Item → List Range → Option ℕ
 place_in r i taken = first_place (r ∷ []) taken i.extent
@@ -28,6 +37,7 @@ as_it_stands q s = record {
   stays = stays q s;
   range = addresses;
   place = λ b i taken. place_in (addresses (window_part i.class b)) i taken;
+  wished = no_wish;
 }
 
 -- ---- where windows grow
@@ -68,4 +78,5 @@ growing q s = record {
   stays = stays_growing q s;
   range = range_growing q s;
   place = place_growing q s;
+  wished = no_wish;
 }

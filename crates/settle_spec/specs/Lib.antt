@@ -19,3 +19,5 @@ pub mod Growth
 pub mod Kept
 pub mod Keeping
 pub mod Growing
+pub mod Wishes
+pub mod Sparing

@@ -41,9 +41,14 @@ abbrev pub shown : Kept → FunctionPart → Option Placed → List ℕ → List
 shown k r None image = without_place k r image
 shown k r (Some p) image = with_place r.function r.part p image
 
+-- a window in which room is kept free shows that, whatever its place
+abbrev pub with_wish : FunctionPart → Option Range → List ℕ → List ℕ
+with_wish r None image = image
+with_wish r (Some range) image = with_range r.function r.part range image
+
 abbrev pub settled_image : Request → System → Kept → Function → List ℕ
 settled_image q s k f =
-    fold (λ image r. shown k r (new_place q s k r) image) f.image (changing q s f)
+    fold (λ image r. with_wish r (k.wished r) (shown k r (new_place q s k r) image)) f.image (changing q s f)
 
 -- ---- Command
 

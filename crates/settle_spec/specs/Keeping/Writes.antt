@@ -6,7 +6,7 @@ use Rattle.pci_spec.specs.Header.{command}
 use Rattle.pci_spec.specs.Window.{WindowKind, IoWindow, MemoryWindow, PrefetchWindow, bounds_at}
 use Rattle.pci_spec.specs.System.{System, Function, Space, Io, Memory, Part, Window, is_bridge, is_space_on, is_window}
 use Rattle.pci_spec.specs.Machine.{Write, without_low}
-use Rattle.plan_spec.specs.Plan.{bridges_above}
+use Rattle.plan_spec.specs.Plan.{bridges_above, is_open}
 use Rattle.plan_spec.specs.Place.{nibble_of}
 use Rattle.plan_spec.specs.Planning.PlanWrites.{Change, register_write}
 use Rattle.settle_spec.specs.Lists.{Request, are_bad_lists}
@@ -14,7 +14,7 @@ use Rattle.settle_spec.specs.Parts.{FunctionPart, function_parts, has_left, clas
 use Rattle.settle_spec.specs.Stands.{part_space, window_part, stands}
 use Rattle.settle_spec.specs.Registers.{with_bounds, with_number}
 use Rattle.settle_spec.specs.Writes.{differs_at, part_registers, is_cut_off_in, shut_bounds, closing_registers, setting_registers, Settling, BadLists, Settled, fixed_without, fixed_write, or_fixed, or_lack, or_write}
-use Rattle.settle_spec.specs.Kept.{Kept}
+use Rattle.settle_spec.specs.Kept.{Kept, unwished}
 use Rattle.settle_spec.specs.Keeping.Places.{lacking}
 use Rattle.settle_spec.specs.Keeping.Registers.{settled_function}
 
@@ -24,9 +24,14 @@ use Rattle.settle_spec.specs.Keeping.Registers.{settled_function}
 abbrev pub changes_at : Request → System → Kept → Function → Part → Bool
 changes_at q s k f p = list_any (differs_at f (settled_function q s k f)) (part_registers f p)
 
--- the window of a class of a bridge above a bus changes
+-- the window of a class of a bridge changes: one that was open for more than room that is kept free
+abbrev pub changes_window : Request → System → Kept → WindowKind → Function → Bool
+changes_window q s k c b =
+    changes_at q s k b (Window c) && (not (is_open b c) || changes_at q s (unwished k) b (Window c))
+
+-- that of a bridge above a bus does
 abbrev pub changes_above : Request → System → Kept → WindowKind → ℕ → Bool
-changes_above q s k c bus = list_any (λ b. changes_at q s k b (Window c)) (bridges_above s bus)
+changes_above q s k c bus = list_any (changes_window q s k c) (bridges_above s bus)
 
 -- a BAR or ROM moves where it doesn't stay, and its register changes or the window of its class of a bridge above it does
 abbrev pub moves : Request → System → Kept → FunctionPart → Bool
@@ -69,7 +74,7 @@ closing_command q s k f =
 -- a window is replaced where it doesn't stay and its registers change: what grows is none of these
 abbrev pub is_replaced : Request → System → Kept → Function → WindowKind → Bool
 is_replaced q s k f c =
-    is_bridge f && not (k.stays (window_part c f)) && changes_at q s k f (Window c)
+    is_bridge f && not (k.stays (window_part c f)) && changes_window q s k c f
 
 abbrev pub without_window : Request → System → Kept → Function → WindowKind → List ℕ → List ℕ
 without_window q s k f c image =
