@@ -21,3 +21,4 @@ pub mod Keeping
 pub mod Growing
 pub mod Wishes
 pub mod Sparing
+pub mod SpareLaws
