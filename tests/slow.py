@@ -4,9 +4,9 @@
 Usage: slow.py KIND COUNT [FIRST [PROGRAM]]
        slow.py KIND show SEED
 
-KIND is `judge`, `plan`, `settle`, `growth`, or `all`, which is each of them. COUNT seeds are taken from FIRST on (0 if not
-said). Of `all` a quarter of these are for `plan` and `settle`, of which a seed has several boards, and an eighth for
-`growth`. PROGRAM is the built program, by default crates/pciplan/out/pciplan. What is printed:
+KIND is `judge`, `plan`, `settle`, `growth`, `spare`, or `all`, which is each of them but `spare`. COUNT seeds are taken
+from FIRST on (0 if not said). Of `all` a quarter of these are for `plan` and `settle`, of which a seed has several
+boards, and an eighth for `growth`. PROGRAM is the built program, by default crates/pciplan/out/pciplan. What is printed:
 
 - a line for each board on which program and model differ, and below it what differs;
 - for each kind of how many seeds boards were of each sort, and of 1,000 seeds or more a line for each sort that lacks;
@@ -14,6 +14,8 @@ said). Of `all` a quarter of these are for `plan` and `settle`, of which a seed 
 
 Boards of `growth` have tight windows, of which some grow. Laws are tried of what the slow settler does there, and it
 settles the boards of growth_rows.py. The program is asked for the same writes, but not of `growth` without a PROGRAM.
+Boards of `spare` have slots behind which room is wanted. The same is done there, with those of spare_rows.py, but the
+program is never asked.
 
 The status is 1 where boards disagree or a sort is lacking. `show` prints the board of a seed. RT_JOBS sets how many
 processes run at a time (as many as there are cores if not said).
@@ -30,9 +32,11 @@ HERE = os.path.dirname(os.path.abspath(__file__))
 sys.path.insert(0, os.path.join(HERE, 'slow'))
 
 import growth_laws  # noqa: E402  (the modules beside this file)
+import growth_rows  # noqa: E402
 import judged  # noqa: E402
 import moving  # noqa: E402
-from growth_rows import row_faults  # noqa: E402
+import spare_laws  # noqa: E402
+import spare_rows  # noqa: E402
 
 # of each kind what compares the board of a seed, what prints it, and which sorts of boards there have to be among many
 KINDS = {
@@ -40,8 +44,11 @@ KINDS = {
     'plan': (moving.compare_plans, moving.show_plans, moving.PLAN_SORTS),
     'settle': (moving.compare_settling, moving.show_settling, moving.SETTLE_SORTS),
     'growth': (growth_laws.compare, growth_laws.show, growth_laws.SORTS),
+    'spare': (spare_laws.compare, spare_laws.show, spare_laws.SORTS),
 }
 MANY = 1000
+# boards that were worked out by hand
+ROWS = {'growth': growth_rows, 'spare': spare_rows}
 # of how many seeds for `all` each kind takes one, by what its boards cost
 SHARES = {'judge': 1, 'plan': 4, 'settle': 4, 'growth': 8}
 
@@ -87,11 +94,11 @@ def lacking(kind, count, sorts):
     return len(missing)
 
 
-def rows_disagree():
-    """Prints what is wrong on the boards of growth_rows.py; how many that are."""
-    faults = row_faults()
+def rows_disagree(kind):
+    """Prints what is wrong on the boards of a kind that were worked out by hand; how many that are."""
+    faults = ROWS[kind].row_faults() if kind in ROWS else []
     for fault in faults:
-        print('growth_rows.py, ' + fault)
+        print('%s_rows.py, %s' % (kind, fault))
     return len(faults)
 
 
@@ -112,7 +119,7 @@ def main(words):
     jobs = [(kind, seed) for kind, many in counts.items() for seed in range(first, first + many)]
     sorts = {kind: collections.Counter() for kind in counts}
     disagree = compare_all(jobs, program, sorts)
-    disagree += rows_disagree() if 'growth' in counts else 0
+    disagree += sum(rows_disagree(kind) for kind in counts)
     missing = sum(lacking(kind, many, sorts[kind]) for kind, many in counts.items())
     print('%d boards, %d disagree' % (len(jobs), disagree))
     return 1 if disagree or missing else 0
