@@ -21,4 +21,5 @@ pub mod Classes
 pub mod Buses
 pub mod Live
 pub mod Anew
+pub mod NoSlots
 pub mod Examples

@@ -40,6 +40,12 @@ SparesRefuseNothing =
     → IsFalse (is_settled (settle_sparing q s))
     → settle_sparing q s ≡ settle_growing (without_slots q) s
 
+-- Without slots all is settled as it is where no room is wanted.
+abbrev pub NoSlotsNoSpares : Type 0
+NoSlotsNoSpares =
+    (q : Request) (s : System)
+    → settle_sparing (without_slots q) s ≡ settle_growing (without_slots q) s
+
 -- ---- nothing goes
 
 -- What stays without slots stays with them,
