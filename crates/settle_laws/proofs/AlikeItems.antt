@@ -1,18 +1,20 @@
 -- In two systems that are alike the items of each bus are, where a test says alike what keeps its place; and so are new windows.
-use Rattle.std.proofs.Common.{◌≡◌, ℕ, zero, suc, List, [], ◌∷◌, ◌&&◌, ◌||◌, map, cond, not, refl, Bool, true, ◌∙◌, ap}
-use Rattle.std.specs.Bool.{IsTrue, ◌==◌, nat_lt}
-use Rattle.std.specs.List.{AllZip, filter, flat_map}
+use Rattle.std.proofs.Common.{◌≡◌, ℕ, zero, suc, List, [], ◌∷◌, ◌&&◌, ◌||◌, map, cond, not, refl, Bool, true, ◌∙◌, ap, None, Some}
+use Rattle.std.specs.Bool.{IsTrue, ◌==◌, nat_lt, if◌then◌else◌}
+use Rattle.std.specs.List.{AllZip, filter, flat_map, list_any}
 use Rattle.std.proofs.lemmas.Bool.{and_parts}
+use Rattle.pci_spec.specs.Slot.{same_slot}
 use Rattle.pci_spec.specs.Window.{WindowKind, page_size}
 use Rattle.pci_spec.specs.System.{System, Function, is_bridge}
 use Rattle.pci_spec.specs.Bus.{secondary, are_siblings}
 use Rattle.settle_spec.specs.FirstPlace.{Extent}
-use Rattle.settle_spec.specs.Lists.{Request}
+use Rattle.settle_spec.specs.Lists.{Request, wanted_in}
+use Rattle.settle_spec.specs.Spares.{spare_extent, with_spare}
 use Rattle.settle_spec.specs.Parts.{FunctionPart, function_parts}
 use Rattle.settle_spec.specs.Stands.{rank, window_part}
-use Rattle.settle_spec.specs.Items.{Item, item_precedes, put_in, in_turn, own_extent, own_item, is_own, has_of, items_of, bus_items, extent_around, highest_in, window_within, nothing}
+use Rattle.settle_spec.specs.Items.{Item, item_precedes, put_in, in_turn, own_extent, own_item, is_own, has_of, items_of, bus_items, extent_around, highest_in, spare_of, window_within, nothing}
 use Rattle.settle_laws.proofs.Zipped.{cond_zip, append_zip, map_zip, map_same, flat_zip}
-use Rattle.settle_laws.proofs.Alike.{IsAlike, IsAlikeRegion, bus_alike, of_bridges, size_alike, highest_alike, rank_alike, has_of_alike, own_parts_alike}
+use Rattle.settle_laws.proofs.Alike.{IsAlike, IsAlikeRegion, bus_alike, bridge_alike, of_bridges, size_alike, highest_alike, rank_alike, has_of_alike, own_parts_alike}
 
 pub record IsAlikeItem (i j : Item) : Type 0 where
   pub region : IsAlikeRegion i.region j.region
@@ -93,9 +95,20 @@ module _ (q : Request) (anew : IsTrue q.anew) (s t : System) (pairs : AllZip IsA
 
   -- ---- new windows
 
+  spare_same : (f g : Function) → IsAlike f g → spare_of q c f ≡ spare_of q c g
+  spare_same f g is =
+      let slot = is.slot in
+      let bridge = bridge_alike f g is in
+      let probe = is.probe in
+      λ i. if list_any (same_slot (slot i)) q.slots && bridge i && nat_lt 0 (wanted_in q.spares c)
+      then Some (spare_extent c (wanted_in q.spares c) (highest_in c (probe i))) else None
+
   around_same : (f g : Function) → IsAlike f g → (xs ys : List Extent) → xs ≡ ys
-      → extent_around (page_size c) (highest_in c f.probe) xs ≡ extent_around (page_size c) (highest_in c g.probe) ys
-  around_same f g is xs ys same = (let probe = is.probe in λ i. extent_around (page_size c) (highest_in c (probe i)) (same i))
+      → extent_around (page_size c) (highest_in c f.probe) (with_spare (spare_of q c f) xs) ≡ extent_around (page_size c) (highest_in c g.probe) (with_spare (spare_of q c g) ys)
+  around_same f g is xs ys same =
+      let probe = is.probe in
+      let spare = spare_same f g is in
+      λ i. extent_around (page_size c) (highest_in c (probe i)) (with_spare (spare i) (same i))
 
   pub windows_alike : (depth : ℕ) (f g : Function) → IsAlike f g → is_bridge f ≡ true → window_within q s c depth f ≡ window_within q t c depth g
   unfolding window_within

@@ -114,6 +114,7 @@ bridge_keeps_its_parts = record {
   parts = only_part (λ p. IsTrue (stays request board record { function = over 2 0xe000e000; part = p })) (Window MemoryWindow) refl;
   same = λ p has. refl;
   windows = needs_no_window;
+  unwished = λ c. refl;
   reached = nothing_cuts_off (over 2 0xe000e000) refl refl;
 }
 
@@ -123,6 +124,7 @@ device_keeps_its_parts = record {
   parts = only_part (λ p. IsTrue (stays request board record { function = behind; part = p })) (Bar 0) refl;
   same = λ p has. refl;
   windows = λ c bridge. absurd (both_ways false refl bridge);
+  unwished = λ c. refl;
   reached = nothing_cuts_off behind refl refl;
 }
 

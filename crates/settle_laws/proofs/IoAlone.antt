@@ -34,6 +34,8 @@ io_alone q = record {
   lists = record { io = q.lists.io; memory = []; prefetch = [] };
   fixed = q.fixed;
   anew = q.anew;
+  slots = q.slots;
+  spares = q.spares;
 }
 
 io_class : (c : WindowKind) → window_space c ≡ Io → c ≡ IoWindow
@@ -133,7 +135,7 @@ module _ (q : Request) (s : System) where
   window_same : (depth : ℕ) (b : Function) → window_within p s IoWindow depth b ≡ window_within q s IoWindow depth b
   unfolding window_within
   window_same zero b = refl
-  window_same (suc depth) b = ap (window_around IoWindow b)
+  window_same (suc depth) b = ap (window_around q IoWindow b)
       (items_same nothing nothing (λ r io. refl) (window_within p s IoWindow depth) (window_within q s IoWindow depth) (window_same depth) (secondary b))
 
   pub has_alone : (b : Function) → has_of p s IoWindow b ≡ has_of q s IoWindow b

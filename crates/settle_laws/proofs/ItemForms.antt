@@ -1,9 +1,10 @@
 -- What an item of a bus is: a BAR or ROM of a class, or a new window, and its region tells all of it.
-use Rattle.std.proofs.Common.{◌≡◌, ℕ, inl, inr, List, [], ◌∷◌, map, Bool, true, false, cond, ◌&&◌, not, arith, refl, sym, ◌∙◌, ap, subst, zero, suc}
+use Rattle.std.proofs.Common.{◌≡◌, ℕ, ◌*◌, ◌%◌, ◌⊎◌, inl, inr, List, [], ◌∷◌, map, Bool, true, false, cond, ◌&&◌, not, arith, refl, sym, ◌∙◌, ap, subst, zero, suc, Option, None, Some}
 use Rattle.std.specs.List.{Contains, filter, flat_map}
-use Rattle.std.specs.Bool.{if◌then◌else◌}
-use Rattle.std.proofs.lemmas.Bool.{and_from, both_ways, lt-ltb}
-use Rattle.std.proofs.lemmas.List.Elements.{Contains-append_left, Contains-append_right}
+use Rattle.std.specs.Bool.{◌==◌, nat_lt, if◌then◌else◌}
+use Rattle.std.proofs.lemmas.Bool.{and_from, both_ways, cond_both, lt-ltb}
+use Rattle.std.proofs.lemmas.List.Elements.{Contains-append_cases, Contains-append_left, Contains-append_right}
+use Rattle.std.proofs.Math.Nat.{pow-succ'}
 use Rattle.std.proofs.lemmas.List.Sorted.{Contains-permutation}
 use Rattle.pci_spec.specs.Number.{lowest_one}
 use Rattle.pci_spec.specs.Slot.{slot_number}
@@ -13,17 +14,18 @@ use Rattle.pci_spec.specs.Rom.{rom_at}
 use Rattle.pci_spec.specs.Window.{WindowKind, IoWindow, MemoryWindow, PrefetchWindow, page_size}
 use Rattle.pci_spec.specs.System.{System, Function, IsSystem, Part, Bar, Rom, Window, has_part, is_bridge, is_window, register_of}
 use Rattle.pci_spec.specs.Bus.{are_siblings, secondary}
-use Rattle.pci_spec.proofs.Members.{in_nil, in_head, in_flat_map_from, in_map_to, in_map_from, IsMade, in_filter_from}
+use Rattle.pci_spec.proofs.Members.{in_nil, in_cons_cases, in_head, in_flat_map_from, in_map_to, in_map_from, IsMade, in_filter_from}
 use Rattle.pci_spec.proofs.Nesting.{one_function}
 use Rattle.pci_spec.proofs.Regions.{register_of-lt, part_same}
-use Rattle.plan_spec.specs.Plan.{same_class}
+use Rattle.plan_spec.specs.Plan.{raised_to, same_class}
 use Rattle.plan_spec.specs.Planning.Placing.{IsPower}
 use Rattle.plan_spec.proofs.Planning.Placement.{step_power}
 use Rattle.settle_spec.specs.FirstPlace.{Extent}
-use Rattle.settle_spec.specs.Lists.{Request}
+use Rattle.settle_spec.specs.Lists.{Request, wanted_in}
+use Rattle.settle_spec.specs.Spares.{has_slot, doubled_in, spare_extent, with_spare}
 use Rattle.settle_spec.specs.Parts.{FunctionPart, is_part, parts_of, header_parts, function_parts, class_in}
 use Rattle.settle_spec.specs.Stands.{rank, window_part}
-use Rattle.settle_spec.specs.Items.{Item, in_turn, own_extent, own_item, is_own, has_of, items_of, bus_items, window_around, window_within, new_window}
+use Rattle.settle_spec.specs.Items.{Item, in_turn, own_extent, own_item, is_own, has_of, items_of, bus_items, highest_in, spare_of, window_around, window_within, new_window}
 use Rattle.settle_spec.proofs.InTurn.{turn_same}
 use Rattle.settle_spec.proofs.ItemsOn.{each_on}
 use Rattle.settle_laws.proofs.HeaderParts.{part_cases}
@@ -158,13 +160,63 @@ item_power q s new c bus i power is = subst (λ (j : Item). IsPower j.extent.ali
     by (IsOwnPart plain part) = own_power new is.f is.p plain
     by (IsNewWindow window bridge has) = subst (λ o. IsPower (extent_by new is.f o).alignment) (sym window) (power is.f)
 
+-- that of a spare
+doubled_power : (n times size : ℕ) → IsPower size → IsPower (doubled_in n times size)
+unfolding doubled_in
+doubled_power n zero size power = power
+doubled_power n (suc times) size (k, is) =
+    cond_both (n % (2 * size) == 0) (doubled_in n times (2 * size)) size IsPower
+    (λ even. doubled_power n times (2 * size) (suc k, ap (λ m. 2 * m) is ∙ sym (pow-succ' 2 k))) (λ odd. (k, is))
+
+abbrev alignment_or : Option Extent → ℕ
+alignment_or None = 1
+alignment_or (Some e) = e.alignment
+
+spare_power : (q : Request) (c : WindowKind) (b : Function) → IsPower (alignment_or (spare_of q c b))
+spare_power q c b =
+    let spare = spare_extent c (wanted_in q.spares c) (highest_in c b.probe) in
+    cond_both (has_slot q b && nat_lt 0 (wanted_in q.spares c)) (Some spare) None (λ o. IsPower (alignment_or o))
+    (λ some. doubled_power (raised_to (page_size c) (wanted_in q.spares c)) 64 1 (0, refl)) (λ none. (0, refl))
+
+-- and its highest address is the window's
+abbrev pub highest_or : ℕ → Option Extent → ℕ
+highest_or other None = other
+highest_or other (Some e) = e.highest
+
+pub spare_highest : (q : Request) (c : WindowKind) (b : Function) → highest_or (highest_in c b.probe) (spare_of q c b) ≡ highest_in c b.probe
+spare_highest q c b =
+    cond_both (has_slot q b && nat_lt 0 (wanted_in q.spares c)) (Some (spare_extent c (wanted_in q.spares c) (highest_in c b.probe))) None
+    (λ o. highest_or (highest_in c b.probe) o ≡ highest_in c b.probe) (λ some. refl) (λ none. refl)
+
+-- what is laid out is an extent, or the spare behind all
+pub with_spare_cases : (o : Option Extent) (extents : List Extent) (e : Extent) → Contains (with_spare o extents) e → Contains extents e ⊎ (o ≡ Some e)
+with_spare_cases None extents e has = inl has
+with_spare_cases (Some x) extents e has = elim (Contains-append_cases extents (x ∷ []) e has) [
+  | inl before ↦ inl before
+  | inr last ↦ elim (in_cons_cases x [] e last) [
+    | inl is ↦ inr (ap Some is)
+    | inr none ↦ absurd (in_nil e none)
+  ]
+]
+
+pub in_with_spare : (o : Option Extent) (extents : List Extent) (e : Extent) → Contains extents e → Contains (with_spare o extents) e
+in_with_spare None extents e has = has
+in_with_spare (Some x) extents e has = Contains-append_left extents (x ∷ []) e has
+
 module _ (q : Request) (s : System) where
-  around_power : (c : WindowKind) (b : Function) (items : List Item) → ((i : Item) → Contains items i → IsPower i.extent.alignment) → IsPower (window_around c b items).alignment
-  around_power c b items each = greatest_power (page_size c) (map (λ (e : Extent). e.alignment) (map (λ (i : Item). i.extent) items)) (step_power c)
+  around_power : (c : WindowKind) (b : Function) (items : List Item) → ((i : Item) → Contains items i → IsPower i.extent.alignment) → IsPower (window_around q c b items).alignment
+  around_power c b items each =
+      let extents = map (λ (i : Item). i.extent) items in
+      let all = with_spare (spare_of q c b) extents in
+      greatest_power (page_size c) (map (λ (e : Extent). e.alignment) all) (step_power c)
       (λ x has.
-      let e : IsMade (λ (e : Extent). e.alignment) (map (λ (i : Item). i.extent) items) x = in_map_to (λ (e : Extent). e.alignment) (map (λ (i : Item). i.extent) items) x has in
-      let i : IsMade (λ (i : Item). i.extent) items e.from = in_map_to (λ (i : Item). i.extent) items e.from e.has in
-      subst IsPower (ap (λ (e : Extent). e.alignment) i.is ∙ e.is) (each i.from i.has))
+      let e : IsMade (λ (e : Extent). e.alignment) all x = in_map_to (λ (e : Extent). e.alignment) all x has in
+      elim (with_spare_cases (spare_of q c b) extents e.from e.has) [
+        | inl own ↦
+            let i : IsMade (λ (i : Item). i.extent) items e.from = in_map_to (λ (i : Item). i.extent) items e.from own in
+            subst IsPower (ap (λ (e : Extent). e.alignment) i.is ∙ e.is) (each i.from i.has)
+        | inr spare ↦ subst IsPower (ap alignment_or spare ∙ e.is) (spare_power q c b)
+      ])
 
   window_power : (c : WindowKind) (keeps : FunctionPart → Bool) (depth : ℕ) (b : Function) → IsPower (window_within q s c depth b).alignment
   unfolding window_within

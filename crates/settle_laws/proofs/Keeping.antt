@@ -9,6 +9,7 @@ pub mod AgainSettled
 pub mod AnewAgain
 pub mod BusPlaced
 pub mod Buses
+pub mod ChangedWindows
 pub mod Claimed
 pub mod ClosedImages
 pub mod ClosedMoves

@@ -1,6 +1,8 @@
 -- A new window is no larger than planning's, and its alignment divides that.
-use Rattle.std.proofs.Common.{◌≡◌, ℕ, zero, suc, ◌+◌, ◌*◌, ◌%◌, ◌^◌, ◌≤◌, List, [], map, Bool, true, false, cond, arith, refl, sym, ◌∙◌, ap, subst}
-use Rattle.std.specs.List.{Contains, flat_map, sum_by}
+use Rattle.std.proofs.Common.{◌≡◌, ◌&&◌, ℕ, zero, suc, ◌+◌, ◌*◌, ◌%◌, ◌^◌, ◌≤◌, List, [], map, Bool, true, false, cond, arith, refl, sym, ◌∙◌, ap, subst, None, Some}
+use Rattle.std.specs.Bool.{nat_lt}
+use Rattle.std.specs.List.{Contains, flat_map, list_any, sum_by}
+use Rattle.pci_spec.specs.Slot.{same_slot}
 use Rattle.std.proofs.lemmas.Bool.{false_from_ne_true, both_ways}
 use Rattle.std.proofs.lemmas.List.Sums.{sum-map}
 use Rattle.pci_spec.specs.Window.{WindowKind, page_size}
@@ -17,9 +19,10 @@ use Rattle.plan_spec.proofs.Planning.Safe.{slots_of, order_of}
 use Rattle.plan_spec.proofs.Planning.Sizes.{sum_on_bus}
 use Rattle.plan_spec.proofs.Planning.Tallies.{greatest_least}
 use Rattle.settle_spec.specs.FirstPlace.{Extent}
-use Rattle.settle_spec.specs.Lists.{Request}
+use Rattle.settle_spec.specs.Lists.{Request, wanted_in}
+use Rattle.settle_spec.specs.Spares.{spare_extent, with_spare}
 use Rattle.settle_spec.specs.Parts.{FunctionPart, class_in}
-use Rattle.settle_spec.specs.Items.{Item, items_of, bus_items, nothing, laid_out, end_of, window_around, new_window}
+use Rattle.settle_spec.specs.Items.{Item, items_of, bus_items, nothing, laid_out, end_of, highest_in, extent_around, window_around, new_window}
 use Rattle.settle_spec.proofs.Nested.{at_secondary, is_no_root, on_it}
 use Rattle.settle_spec.proofs.NewWindows.{window_is_around}
 use Rattle.settle_laws.proofs.ItemForms.{extent_by, IsPlaceable, IsOwnPart, IsNewWindow, IsItemOf, items_are, own_power, new_window_power}
@@ -59,9 +62,13 @@ module _ (q : Request) (s : System) (pools : Pools) (c : WindowKind) (system : I
     falling = turn_falls (flat_map (λ f. cond (are_siblings q.roots bus f.slot.bus) (items_of q s c keeps (new_window q s c) f) []) s);
   }
 
-  -- a window around items that are set aside
+  -- a window around items without a spare
+  abbrev around_items : Function → List Item → Extent
+  around_items b items = extent_around (page_size c) (highest_in c b.probe) (map (λ (i : Item). i.extent) items)
+
+  -- one around items that are set aside
   around_aside : (b : Function) (items : List Item) → AreSetAside size 0 items → sum_by size items ≤ need_behind s pools c b → need_behind s pools c b ≤ 2 ^ 65
-      → IsPower (window_around c b items).alignment → IsSetAside (window_around c b items) (size_in s pools c b (Window c))
+      → IsPower (around_items b items).alignment → IsSetAside (around_items b items) (size_in s pools c b (Window c))
   around_aside b items aside within less power =
       let least = window_least c (need_behind s pools c b) less in
       let n = size_in s pools c b (Window c) in
@@ -89,29 +96,37 @@ module _ (q : Request) (s : System) (pools : Pools) (c : WindowKind) (system : I
   no_rest : (m : ℕ) → 0 % m ≡ 0
   no_rest m = mod_of_multiple 0 m (0, let none : 0 ≡ 0 * m = omega arith in none)
 
-  fits_by : (b : Function) → Contains s b → is_bridge b ≡ true
-      → ((d : Function) → Contains s d → is_bridge d ≡ true → are_siblings q.roots (secondary b) d.slot.bus ≡ true → IsSetAside (new_window q s c d) (size_in s pools c d (Window c)))
-      → IsSetAside (new_window q s c b) (size_in s pools c b (Window c))
-  fits_by b listed bridge inner =
-      let bus = secondary b in
-      let items = bus_items q s c nothing (new_window q s c) bus in
-      let around = window_is_around q s c system nested b listed bridge in
-      let off : is_root q.roots bus ≡ false = false_from_ne_true (is_root q.roots bus) (is_no_root q.roots s system nested b bus listed bridge (at_secondary q.roots s system nested b bus listed bridge refl)) in
-      let below = items_below q s pools c classes system nested small nothing (new_window q s c) bus in
-      let same = sum_on_bus s pools c q.roots system nested bus off in
-      let aside = items_aside nothing 0 bus inner (λ i has. no_rest i.extent.alignment) in
-      subst (λ e. IsSetAside e (size_in s pools c b (Window c))) (sym around)
-      (around_aside b items aside (omega (arith, below, same)) (small b listed bridge) (subst (λ (e : Extent). IsPower e.alignment) around (new_window_power q s c b)))
+  -- without slots no window has a spare
+  module _ (none : q.slots ≡ []) where
+    without_spare : (b : Function) (items : List Item) → window_around q c b items ≡ around_items b items
+    without_spare b items = ap
+        (λ slots. extent_around (page_size c) (highest_in c b.probe)
+        (with_spare (cond (list_any (same_slot b.slot) slots && is_bridge b && nat_lt 0 (wanted_in q.spares c)) (Some (spare_extent c (wanted_in q.spares c) (highest_in c b.probe))) None)
+        (map (λ (i : Item). i.extent) items))) none
 
-  windows_fit : (n : ℕ) (b : Function) → Contains s b → is_bridge b ≡ true → 256 ≤ secondary b + n → IsSetAside (new_window q s c b) (size_in s pools c b (Window c))
-  windows_fit zero b listed bridge far = fits_by b listed bridge (λ d in_d is_d beside.
-      let at = on_it q.roots s system nested b d.slot.bus listed bridge beside in
-      let low = (slots_of s system d in_d).0 in
-      absurd (let no : ⊥ = omega (arith, at, low, far) in no))
-  windows_fit (suc n) b listed bridge far = fits_by b listed bridge (λ d in_d is_d beside.
-      let at = on_it q.roots s system nested b d.slot.bus listed bridge beside in
-      let up = order_of q.roots s nested d in_d is_d in
-      windows_fit n d in_d is_d (omega (arith, at, up, far)))
+    fits_by : (b : Function) → Contains s b → is_bridge b ≡ true
+        → ((d : Function) → Contains s d → is_bridge d ≡ true → are_siblings q.roots (secondary b) d.slot.bus ≡ true → IsSetAside (new_window q s c d) (size_in s pools c d (Window c)))
+        → IsSetAside (new_window q s c b) (size_in s pools c b (Window c))
+    fits_by b listed bridge inner =
+        let bus = secondary b in
+        let items = bus_items q s c nothing (new_window q s c) bus in
+        let around = window_is_around q s c system nested b listed bridge ∙ without_spare b items in
+        let off : is_root q.roots bus ≡ false = false_from_ne_true (is_root q.roots bus) (is_no_root q.roots s system nested b bus listed bridge (at_secondary q.roots s system nested b bus listed bridge refl)) in
+        let below = items_below q s pools c classes system nested small nothing (new_window q s c) bus in
+        let same = sum_on_bus s pools c q.roots system nested bus off in
+        let aside = items_aside nothing 0 bus inner (λ i has. no_rest i.extent.alignment) in
+        subst (λ e. IsSetAside e (size_in s pools c b (Window c))) (sym around)
+        (around_aside b items aside (omega (arith, below, same)) (small b listed bridge) (subst (λ (e : Extent). IsPower e.alignment) around (new_window_power q s c b)))
 
-  pub window_fits : (b : Function) → Contains s b → is_bridge b ≡ true → IsSetAside (new_window q s c b) (size_in s pools c b (Window c))
-  window_fits b listed bridge = windows_fit 256 b listed bridge (omega arith)
+    windows_fit : (n : ℕ) (b : Function) → Contains s b → is_bridge b ≡ true → 256 ≤ secondary b + n → IsSetAside (new_window q s c b) (size_in s pools c b (Window c))
+    windows_fit zero b listed bridge far = fits_by b listed bridge (λ d in_d is_d beside.
+        let at = on_it q.roots s system nested b d.slot.bus listed bridge beside in
+        let low = (slots_of s system d in_d).0 in
+        absurd (let no : ⊥ = omega (arith, at, low, far) in no))
+    windows_fit (suc n) b listed bridge far = fits_by b listed bridge (λ d in_d is_d beside.
+        let at = on_it q.roots s system nested b d.slot.bus listed bridge beside in
+        let up = order_of q.roots s nested d in_d is_d in
+        windows_fit n d in_d is_d (omega (arith, at, up, far)))
+
+    pub window_fits : (b : Function) → Contains s b → is_bridge b ≡ true → IsSetAside (new_window q s c b) (size_in s pools c b (Window c))
+    window_fits b listed bridge = windows_fit 256 b listed bridge (omega arith)

@@ -14,7 +14,7 @@ use Rattle.settle_spec.specs.Items.{Item, stays}
 use Rattle.settle_spec.specs.Places.{placed_of, place_among}
 use Rattle.settle_spec.specs.Growth.{taken_around, window_comes_to, part_comes_to, is_clear, takes, there, comes_to, has_grown}
 use Rattle.settle_spec.specs.Writes.{Settling, BadLists, Fixed, NoRoom, Settled}
-use Rattle.settle_spec.specs.Kept.{place_in, as_it_stands, stays_growing, range_or, range_growing, place_of, place_growing, growing}
+use Rattle.settle_spec.specs.Kept.{no_wish, place_in, as_it_stands, stays_growing, range_or, range_growing, place_of, place_growing, growing}
 use Rattle.settle_spec.specs.Keeping.Writes.{settle_keeping}
 use Rattle.settle_spec.specs.Growing.{or_else}
 use Rattle.settle_spec.proofs.Anew.{none_stands, none_stays}
@@ -47,9 +47,9 @@ module _ (q : Request) (s : System) (anew : IsTrue q.anew) where
   -- the same is kept
   pub growing_is_standing : growing q s ≡ as_it_stands q s
   growing_is_standing =
-      ap (λ x. record { stays = x; range = range_growing q s; place = place_growing q s }) (fun_ext same_stays)
-      ∙ ap (λ x. record { stays = stays q s; range = x; place = place_growing q s }) (fun_ext same_range)
-      ∙ ap (λ x. record { stays = stays q s; range = addresses; place = x }) (fun_ext (λ b. fun_ext (λ i. fun_ext (same_place b i))))
+      ap (λ x. record { stays = x; range = range_growing q s; place = place_growing q s; wished = no_wish }) (fun_ext same_stays)
+      ∙ ap (λ x. record { stays = stays q s; range = x; place = place_growing q s; wished = no_wish }) (fun_ext same_range)
+      ∙ ap (λ x. record { stays = stays q s; range = addresses; place = x; wished = no_wish }) (fun_ext (λ b. fun_ext (λ i. fun_ext (same_place b i))))
 
 itself : (o : Settling) → or_else o o ≡ o
 itself (Settled writes) = refl

@@ -23,6 +23,7 @@ use Rattle.settle_laws.proofs.GrownAlready.{none_grows}
 use Rattle.settle_laws.proofs.Kept.{stays_part}
 use Rattle.settle_laws.proofs.Keeping.SettledAlready.{settled_already}
 use Rattle.settle_laws.proofs.Keeping.Standing.{none_lacks, got_none, image_stays}
+use Rattle.settle_laws.specs.KeptLaws.{WishesNothing}
 use Rattle.settle_laws.proofs.Keeping.Unchanged.{no_write}
 
 pub find_none : {X : Type 0} (test : X → Bool) (xs : List X) → ((x : X) → Contains xs x → test x ≡ false) → find test xs ≡ None
@@ -36,12 +37,12 @@ module _ (q : Request) (t : System) (system : IsSystem t) (sound : IsSound q.roo
 
   -- beside what stays so
   module _ (k : Kept) (keeps : (r : FunctionPart) → Contains (system_parts q t) r → k.stays r ≡ true) (same : (r : FunctionPart) → Contains (system_parts q t) r → k.range r ≡ addresses r)
-      (only : (r : FunctionPart) → Contains t r.function → k.stays r ≡ true → is_part q t r.function r.part ≡ true) where
+      (only : (r : FunctionPart) → Contains t r.function → k.stays r ≡ true → is_part q t r.function r.part ≡ true) (wishless : WishesNothing k) where
     stays_as_it_is : settled q t k ≡ t
     stays_as_it_is =
         settled_already q t k system sound off
-        (λ space f listed fine got. absurd (both_ways (got_place q t k space f) (got_none q t k system sound.nested all keeps same only space f) got))
-        (image_stays q t k system sound.nested all keeps same only)
+        (λ space f listed fine got. absurd (both_ways (got_place q t k space f) (got_none q t k system sound.nested all keeps same only wishless space f) got))
+        (image_stays q t k system sound.nested all keeps same only wishless)
 
     no_writes : settle_writes q t k ≡ []
     no_writes = no_write q t k system sound.nested stays_as_it_is
@@ -52,7 +53,7 @@ module _ (q : Request) (t : System) (system : IsSystem t) (sound : IsSound q.roo
         (or_lack (lacking q t k) (or_write (fixed_write q (settle_writes q t k)) (Settled (settle_writes q t k))))))) fine
         ∙ ap (λ o. or_fixed o (or_fixed (fixed_without k.stays q t) (or_lack (lacking q t k) (or_write (fixed_write q (settle_writes q t k)) (Settled (settle_writes q t k)))))) (none_without (stands q t) all)
         ∙ ap (λ o. or_fixed o (or_lack (lacking q t k) (or_write (fixed_write q (settle_writes q t k)) (Settled (settle_writes q t k))))) (none_without k.stays keeps)
-        ∙ ap (λ o. or_lack o (or_write (fixed_write q (settle_writes q t k)) (Settled (settle_writes q t k)))) (none_lacks q t k system sound.nested all keeps same only)
+        ∙ ap (λ o. or_lack o (or_write (fixed_write q (settle_writes q t k)) (Settled (settle_writes q t k)))) (none_lacks q t k system sound.nested all keeps same only wishless)
         ∙ ap (λ ws. or_write (fixed_write q ws) (Settled ws)) no_writes
 
   -- ---- as it stands
@@ -62,14 +63,14 @@ module _ (q : Request) (t : System) (system : IsSystem t) (sound : IsSound q.roo
 
   -- what stands is a start that stays
   pub start_stays : settled q t (as_it_stands q t) ≡ t
-  start_stays = stays_as_it_is (as_it_stands q t) keeps_standing (λ r listed. refl) (stays_part q t system sound.nested)
+  start_stays = stays_as_it_is (as_it_stands q t) keeps_standing (λ r listed. refl) (stays_part q t system sound.nested) refl
 
   pub start_unwritten : settle_writes q t (as_it_stands q t) ≡ []
-  start_unwritten = no_writes (as_it_stands q t) keeps_standing (λ r listed. refl) (stays_part q t system sound.nested)
+  start_unwritten = no_writes (as_it_stands q t) keeps_standing (λ r listed. refl) (stays_part q t system sound.nested) refl
 
   -- The law: nothing is written.
   pub nothing_settled : are_bad_lists q.roots q.lists ≡ false → settle_keeping q t (as_it_stands q t) ≡ Settled []
-  nothing_settled = nothing_kept (as_it_stands q t) keeps_standing (λ r listed. refl) (stays_part q t system sound.nested)
+  nothing_settled = nothing_kept (as_it_stands q t) keeps_standing (λ r listed. refl) (stays_part q t system sound.nested) refl
 
   -- ---- where windows grow
 
@@ -80,11 +81,11 @@ module _ (q : Request) (t : System) (system : IsSystem t) (sound : IsSound q.roo
   only_growing r listed is = (stands_by_itself q t sound.nested).only r listed (growing_stands q t r is)
 
   pub grown_stays : settled q t (growing q t) ≡ t
-  grown_stays = stays_as_it_is (growing q t) keeps_growing (none_grows q t system sound.nested all) only_growing
+  grown_stays = stays_as_it_is (growing q t) keeps_growing (none_grows q t system sound.nested all) only_growing refl
 
   pub grown_unwritten : settle_writes q t (growing q t) ≡ []
-  grown_unwritten = no_writes (growing q t) keeps_growing (none_grows q t system sound.nested all) only_growing
+  grown_unwritten = no_writes (growing q t) keeps_growing (none_grows q t system sound.nested all) only_growing refl
 
   -- The law: nothing is written.
   pub nothing_grows : are_bad_lists q.roots q.lists ≡ false → settle_growing q t ≡ Settled []
-  nothing_grows fine = ap (λ o. or_else o (settle_keeping q t (as_it_stands q t))) (nothing_kept (growing q t) keeps_growing (none_grows q t system sound.nested all) only_growing fine)
+  nothing_grows fine = ap (λ o. or_else o (settle_keeping q t (as_it_stands q t))) (nothing_kept (growing q t) keeps_growing (none_grows q t system sound.nested all) only_growing refl fine)

@@ -20,9 +20,10 @@ use Rattle.settle_spec.specs.Lists.{Request}
 use Rattle.settle_spec.specs.Parts.{has_left, are_same_space}
 use Rattle.settle_spec.specs.Keeping.Registers.{settled_function, settled_command}
 use Rattle.settle_spec.specs.Writes.{differs_at, part_registers, closing_registers, setting_registers, upper_halves}
-use Rattle.settle_spec.specs.Keeping.Writes.{changes_at, is_left_on, is_replaced, closed_function, closing_of, setting_of, closing_from, setting_from, opening_from, closings, settle_writes}
+use Rattle.settle_spec.specs.Keeping.Writes.{changes_window, is_left_on, is_replaced, closed_function, closing_of, setting_of, closing_from, setting_from, opening_from, closings, settle_writes}
 use Rattle.settle_laws.specs.WriteLaws.{KeepsRegisters}
 use Rattle.settle_laws.proofs.ClosedSame.{none_flat, no_difference}
+use Rattle.settle_laws.proofs.Keeping.ChangedWindows.{no_window_changes}
 use Rattle.settle_laws.proofs.Keeping.ClosedSame.{closed_same, closed_layout}
 use Rattle.settle_laws.proofs.Keeping.Commands.{left_by, left_is_enabled, on_settled, settled_is}
 use Rattle.settle_laws.proofs.Keeping.Few.{own_writes, own_write}
@@ -89,12 +90,12 @@ module _ (q : Request) (s : System) (k : Kept) where
 module _ (q : Request) (s : System) (k : Kept) (system : IsSystem s) (f : Function) (listed : Contains s f) (keeps : KeepsRegisters q s k f) where
   unreplaced : (c : WindowKind) → is_replaced q s k f c ≡ false
   unreplaced c = elim (cases_Bool (is_bridge f)) [
-    | inr device ↦ ap (λ t. t && not (k.stays (window_part c f)) && changes_at q s k f (Window c)) device
+    | inr device ↦ ap (λ t. t && not (k.stays (window_part c f)) && changes_window q s k c f) device
     | inl bridge ↦
-        and_right (is_bridge f && not (k.stays (window_part c f))) (changes_at q s k f (Window c)) (none_by (differs_at f (settled_function q s k f)) (part_registers f (Window c))
+        and_right (is_bridge f && not (k.stays (window_part c f))) (changes_window q s k c f) (no_window_changes q s k c f (none_by (differs_at f (settled_function q s k f)) (part_registers f (Window c))
         (λ r has. not_from_true (number_at (settled_function q s k f).image r.0 r.1 == number_at f.image r.0 r.1)
         (eq-eqb (number_at (settled_function q s k f).image r.0 r.1) (number_at f.image r.0 r.1)
-        (keeps.same r (subst (λ t. Contains (registers_by t) r) (sym bridge) (window_registers_are f c r has))))))
+        (keeps.same r (subst (λ t. Contains (registers_by t) r) (sym bridge) (window_registers_are f c r has)))))))
   ]
 
   unleft_in : (space : Space) → not (are_same_space space Io && has_left q s f) ≡ true

@@ -172,7 +172,7 @@ module _ (roots : List ℕ) (s : System) (pools : Pools) (system : IsSystem s) (
         same_item f (Window kind) = refl
 
     windows : (b : Function) → Contains s b → is_bridge b ≡ true → are_siblings roots root b.slot.bus ≡ true → IsSetAside (new c b) (size_in s pools c b (Window c))
-    windows b listed bridge beside = window_fits q s pools c system nested classes small b listed bridge
+    windows b listed bridge beside = window_fits q s pools c system nested classes small refl b listed bridge
 
     item_is : (i : Item) → Contains items i → IsItemOf q s (new_window q s) c root i
     item_is i has = items_are q s (new_window q s) c k.stays root i has
@@ -303,7 +303,7 @@ settles_where_planned (root ∷ roots) s pools system nested rising top can =
 pub windows_are_no_larger : WindowsAreNoLarger
 windows_are_no_larger roots s pools c b system nested below fit listed bridge =
     let small = small_needs roots s pools c system nested fit below in
-    let fits = window_fits (anew_in roots pools) s pools c system nested (λ f p. classes_planned roots s pools f p) small b listed bridge in
+    let fits = window_fits (anew_in roots pools) s pools c system nested (λ f p. classes_planned roots s pools f p) small refl b listed bridge in
     let less = small b listed bridge in
     let same : window_size c (need_behind s pools c b) ≡ window_size c (need_of s pools c (secondary b)) = ap (window_size c) (let e : need_behind s pools c b ≡ limited (need_behind s pools c b) = omega (arith, less) in e) in
     let holds = fits.holds in

@@ -29,7 +29,7 @@ use Rattle.settle_spec.specs.Keeping.Places.{place_of_item, new_place, placing_o
 use Rattle.settle_spec.specs.Registers.{closed_if_open, changing, with_bounds}
 use Rattle.settle_spec.specs.Keeping.Registers.{is_same_range, with_range, with_kept, is_enabled_in, settled_command, settled_function, settled_image, shown}
 use Rattle.settle_spec.specs.Writes.{differs_at, part_registers, is_cut_off_in}
-use Rattle.settle_spec.specs.Keeping.Writes.{changes_at, changes_above, moves, has_moving, is_shut_itself, is_shut}
+use Rattle.settle_spec.specs.Keeping.Writes.{changes_at, changes_window, changes_above, moves, has_moving, is_shut_itself, is_shut}
 use Rattle.settle_laws.specs.RestLaws.{HasAllOf, IsLeftAlone, KeepsParts, KeptStands}
 use Rattle.settle_laws.proofs.Keeping.Commands.{settled_is}
 use Rattle.settle_laws.specs.WriteLaws.{KeepsRegisters}
@@ -46,7 +46,8 @@ use Rattle.pci_spec.specs.Decoded.{Range}
 use Rattle.settle_laws.proofs.KeptAside.{enables_alone}
 use Rattle.settle_laws.proofs.Numbers.{with_elsewhere}
 use Rattle.settle_laws.proofs.Shown.{fold_keeps}
-use Rattle.settle_laws.proofs.Keeping.Shown.{IsChanging, can_change, changing_is, settled_image_is, window_bridge}
+use Rattle.settle_laws.proofs.Keeping.ChangedWindows.{no_window_changes}
+use Rattle.settle_laws.proofs.Keeping.Shown.{IsChanging, can_change, changing_is, step, step_plain, step_unwished, settled_image_is, window_bridge}
 use Rattle.settle_laws.proofs.WindowBytes.{number_elsewhere}
 use Rattle.settle_laws.proofs.NonePasses.{none_by}
 use Rattle.settle_spec.specs.Kept.{Kept}
@@ -127,9 +128,9 @@ module _ (q : Request) (s : System) (k : Kept) (system : IsSystem s) (nested : I
     goes p none = false_from_ne_true (k.stays (region p)) (λ is. both_ways (is_part q s f p) none (only (region p) listed is))
 
     -- a step of the settled image
-    step_leaves : (p : Part) → Contains (header_parts f) p → has_part f p ≡ true → (image : List ℕ) → shown k (region p) (new_place q s k (region p)) image ≡ image
+    step_leaves : (p : Part) → Contains (header_parts f) p → has_part f p ≡ true → (image : List ℕ) → step q s k f image (region p) ≡ image
     step_leaves p there has image =
-        ap (λ o. shown k (region p) o image) (no_place p there has)
+        unwished p image ∙ ap (λ o. shown k (region p) o image) (no_place p there has)
         ∙ elim (cases_Bool (is_part q s f p)) [
           | inl part ↦
               ap (λ t. cond t (with_kept k (region p) image) (closed_if_open f p image)) (part_stays p there part)
@@ -138,6 +139,11 @@ module _ (q : Request) (s : System) (k : Kept) (system : IsSystem s) (nested : I
           | inr none ↦ not_open p none
         ]
       where
+        unwished : (p : Part) (image : List ℕ) → step q s k f image (region p) ≡ shown k (region p) (new_place q s k (region p)) image
+        unwished (Bar n) image = step_plain q s k f (Bar n) refl image
+        unwished Rom image = step_plain q s k f Rom refl image
+        unwished (Window c) image = step_unwished q s k f (region (Window c)) (keeps.unwished c) image
+
         one_of : (b : Bool) (x : List ℕ) → cond b x x ≡ x
         one_of true x = refl
         one_of false x = refl
@@ -151,10 +157,10 @@ module _ (q : Request) (s : System) (k : Kept) (system : IsSystem s) (nested : I
             ∙ ap (λ t. cond t (with_bounds c (closed_bounds c (nibble_of c f)) image) image) none
 
     image_rests : settled_image q s k f ≡ f.image
-    image_rests = fold_keeps (λ x. x ≡ f.image) (λ x r. shown k r (new_place q s k r) x) (changing q s f)
+    image_rests = fold_keeps (λ x. x ≡ f.image) (step q s k f) (changing q s f)
         (λ r has x same.
         let c : IsChanging q s k f r = changing_is q s k f r has in
-        subst (λ (t : FunctionPart). shown k t (new_place q s k t) x ≡ f.image) c.is (step_leaves c.p c.there (changing_part f r c) x ∙ same)) f.image refl
+        subst (λ (t : FunctionPart). step q s k f x t ≡ f.image) c.is (step_leaves c.p c.there (changing_part f r c) x ∙ same)) f.image refl
 
     first_above : (x : ℕ × ℕ) (more : List (ℕ × ℕ)) → 6 ≤ x.0 → ((r : ℕ × ℕ) → Contains more r → 6 ≤ r.0) → (r : ℕ × ℕ) → Contains (x ∷ more) r → 6 ≤ r.0
     first_above x more first rest r has = elim (in_cons_cases x more r has) [
@@ -195,7 +201,8 @@ module _ (q : Request) (s : System) (k : Kept) (system : IsSystem s) (nested : I
     moves_nowhere p =
         and_right (not (k.stays record { function = f; part = p })) (changes_at q s k f p || changes_above q s k (class_in q s f p) f.slot.bus)
         (or_from (changes_at q s k f p) (changes_above q s k (class_in q s f p) f.slot.bus) (changes_nowhere f listed keeps p)
-        (none_by (λ b. changes_at q s k b (Window (class_in q s f p))) (bridges_above s f.slot.bus) (λ b has. changes_nowhere b (above_to s f.slot.bus b has).listed (over b has) (Window (class_in q s f p)))))
+        (none_by (changes_window q s k (class_in q s f p)) (bridges_above s f.slot.bus)
+        (λ b has. no_window_changes q s k (class_in q s f p) b (changes_nowhere b (above_to s f.slot.bus b has).listed (over b has) (Window (class_in q s f p))))))
 
     none_moves : has_moving q s k space f ≡ false
     none_moves = none_by (λ r. are_same_space space (part_space r) && not (is_window r.part) && moves q s k r) (function_parts q s f)

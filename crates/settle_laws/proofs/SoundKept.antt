@@ -47,6 +47,7 @@ module _ (q : Request) (s : System) (system : IsSystem s) (nested : IsNested q.r
         (λ t beside class is. refl)
         (λ i xs class. ap (λ d. place_in (addresses (window_part d b)) i xs) class)
         taken to back;
+    none = refl;
   }
     where
       and_true : (x : Bool) → (x && true) ≡ x
@@ -60,4 +61,5 @@ module _ (q : Request) (s : System) (system : IsSystem s) (nested : IsNested q.r
     plain = only_windows_grow q s;
     grown = growing_grown q s system nested low;
     places = growing_places q s system nested low;
+    none = refl;
   }

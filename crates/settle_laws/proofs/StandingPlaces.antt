@@ -28,13 +28,13 @@ module _ (q : Request) (s : System) (system : IsSystem s) (nested : IsNested q.r
   same r listed = refl
 
   pub no_place : (r : FunctionPart) → new_place q s k r ≡ None
-  no_place = standing.no_place q s k system nested all keeps same only
+  no_place = standing.no_place q s k system nested all keeps same only refl
 
   pub none_lacks : lacking q s k ≡ None
-  none_lacks = standing.none_lacks q s k system nested all keeps same only
+  none_lacks = standing.none_lacks q s k system nested all keeps same only refl
 
   pub got_none : (space : Space) (f : Function) → got_place q s k space f ≡ false
-  got_none = standing.got_none q s k system nested all keeps same only
+  got_none = standing.got_none q s k system nested all keeps same only refl
 
   pub image_stays : (f : Function) → Contains s f → settled_image q s k f ≡ f.image
-  image_stays = standing.image_stays q s k system nested all keeps same only
+  image_stays = standing.image_stays q s k system nested all keeps same only refl

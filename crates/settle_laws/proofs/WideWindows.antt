@@ -15,14 +15,15 @@ use Rattle.plan_spec.proofs.Planning.Safe.{slots_of, order_of}
 use Rattle.settle_spec.specs.FirstPlace.{Extent, least_number}
 use Rattle.settle_spec.specs.Parts.{class_in, prefetchable_class}
 use Rattle.settle_spec.specs.Lists.{Request}
-use Rattle.settle_spec.specs.Items.{Item, highest_of, highest_in, has_of, bus_items, nothing, new_window}
+use Rattle.settle_spec.specs.Spares.{with_spare}
+use Rattle.settle_spec.specs.Items.{Item, highest_of, highest_in, has_of, bus_items, nothing, spare_of, new_window}
 use Rattle.settle_spec.proofs.Classes.{class_planned}
 use Rattle.settle_spec.proofs.FirstSpot.{least_from}
 use Rattle.settle_spec.proofs.Nested.{on_it}
 use Rattle.settle_spec.proofs.NewWindows.{window_is_around}
 use Rattle.settle_laws.specs.PlanLaws.{anew_in}
 use Rattle.settle_laws.proofs.BarReach.{highest_by, io_high, memory_high}
-use Rattle.settle_laws.proofs.ItemForms.{extent_by, IsPlaceable, IsOwnPart, IsNewWindow, IsItemOf, items_are}
+use Rattle.settle_laws.proofs.ItemForms.{highest_or, spare_highest, with_spare_cases, extent_by, IsPlaceable, IsOwnPart, IsNewWindow, IsItemOf, items_are}
 use Rattle.settle_laws.proofs.PlannedSizes.{IsPlannedBehind, planned_behind}
 
 -- pools that end at an address
@@ -67,13 +68,19 @@ module _ (q : Request) (s : System) (system : IsSystem s) (nested : IsNested q.r
       → low ≤ (new_window q s c b).highest
   window_high b listed bridge has inner =
       let items = bus_items q s c nothing (new_window q s c) (secondary b) in
-      let extents = map (λ (i : Item). i.extent) items in
+      let own = map (λ (i : Item). i.extent) items in
+      let extents = with_spare (spare_of q c b) own in
       let around : (new_window q s c b).highest ≡ least_number (highest_in c b.probe ∷ map (λ (e : Extent). e.highest) extents) = ap (λ (e : Extent). e.highest) (window_is_around q s c system nested b listed bridge) in
       let all = least_from (highest_in c b.probe) (map (λ (e : Extent). e.highest) extents) low (over b listed bridge has) (λ x in_x.
       let of : IsMade (λ (e : Extent). e.highest) extents x = in_map_to (λ (e : Extent). e.highest) extents x in_x in
-      let made : IsMade (λ (i : Item). i.extent) items of.from = in_map_to (λ (i : Item). i.extent) items of.from of.has in
-      let here = item_high (secondary b) made.from (items_are q s (new_window q s) c nothing (secondary b) made.from made.has) inner in
-      subst (λ n. low ≤ n) of.is (subst (λ (e : Extent). low ≤ e.highest) made.is here)) in
+      subst (λ n. low ≤ n) of.is (elim (with_spare_cases (spare_of q c b) own of.from of.has) [
+        | inl here ↦
+            let made : IsMade (λ (i : Item). i.extent) items of.from = in_map_to (λ (i : Item). i.extent) items of.from here in
+            subst (λ (e : Extent). low ≤ e.highest) made.is (item_high (secondary b) made.from (items_are q s (new_window q s) c nothing (secondary b) made.from made.has) inner)
+        | inr spare ↦
+            let same = sym (spare_highest q c b) ∙ ap (highest_or (highest_in c b.probe)) spare in
+            subst (λ n. low ≤ n) same (over b listed bridge has)
+      ])) in
       omega (arith, around, all)
 
   high_within : (n : ℕ) (b : Function) → Contains s b → is_bridge b ≡ true → has_of q s c b ≡ true → 256 ≤ secondary b + n → low ≤ (new_window q s c b).highest

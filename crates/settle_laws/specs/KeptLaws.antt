@@ -13,7 +13,7 @@ use Rattle.settle_spec.specs.Items.{Item, Placed, AllPlaced, bus_items, highest_
 use Rattle.settle_spec.specs.PlacingLaws.{ArePlaced}
 use Rattle.settle_spec.specs.Growth.{place_each}
 use Rattle.settle_spec.specs.GrowthLaws.{MoveOut}
-use Rattle.settle_spec.specs.Kept.{Kept, as_it_stands, growing}
+use Rattle.settle_spec.specs.Kept.{Kept, no_wish, as_it_stands, growing}
 use Rattle.settle_spec.specs.Keeping.Places.{taken_at}
 use Rattle.stand_laws.specs.KeptApart.{IsKeptApart}
 
@@ -39,8 +39,13 @@ pub record IsGrown (c : WindowKind) (b : Function) (r : Range) : Type 0 where
   pub outward : (n : ℕ) → MoveOut (bounds_for c n (addresses (window_part c b)).first (addresses (window_part c b)).last)
       (bounds_for c n r.first r.last)
 
+-- Nothing is wished: no window has room that is kept free.
+abbrev pub WishesNothing : Kept → Type 0
+WishesNothing k = k.wished ≡ no_wish
+
 -- What stays is apart, in its lists or in the window over it, and has all addresses that it had; a BAR or ROM has the same ones.
 -- A window that stays has such pages, and a place for each item of its class behind it, whatever else is taken outside it.
+-- Nothing is wished.
 pub record IsSoundKept (q : Request) (s : System) (k : Kept) : Type 0 where
   pub apart : IsKeptApart q s k
   pub holds : (r : FunctionPart) → IsTrue (lies_within (addresses r) (k.range r))
@@ -53,6 +58,7 @@ pub record IsSoundKept (q : Request) (s : System) (k : Kept) : Type 0 where
       → IsAlikeIn (k.range (window_part c b)) (taken_at q s k (window_space c) (secondary b)) taken
       → HavePlaces (k.range (window_part c b)) (k.place b) taken
       (bus_items q s c k.stays (new_window q s c) (secondary b))
+  pub none : WishesNothing k
 
 -- So it is with what stays as it stands,
 abbrev pub StandingIsSound : Type 0

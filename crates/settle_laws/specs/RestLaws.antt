@@ -1,5 +1,5 @@
 -- Laws of what settling leaves alone: a function whose parts stay, below bridges whose parts stay, is only switched on.
-use Rattle.std.specs.Prelude.{◌≡◌, ℕ, ◌+◌, ◌<◌, ◌≤◌, ◌⊎◌, IsTrue, IsFalse, take}
+use Rattle.std.specs.Prelude.{◌≡◌, ℕ, ◌+◌, ◌<◌, ◌≤◌, ◌⊎◌, IsTrue, IsFalse, take, None}
 use Rattle.std.specs.List.{Contains}
 use Rattle.pci_spec.specs.Number.{byte_at, has_bit}
 use Rattle.pci_spec.specs.Registers.{COMMAND}
@@ -18,10 +18,10 @@ use Rattle.settle_spec.specs.Writes.{is_cut_off_in}
 use Rattle.settle_spec.specs.Keeping.Writes.{changes_at, moves, is_shut, settle_writes}
 use Rattle.settle_laws.specs.Keeping.PlacesLaws.{CanSettle}
 use Rattle.settle_spec.specs.Kept.{Kept, as_it_stands, growing}
-use Rattle.settle_spec.specs.Stands.{stands}
+use Rattle.settle_spec.specs.Stands.{window_part, stands}
 
 -- Each part of a function stays with the addresses that it has, and nothing cuts it off. As a bridge it needs no further
--- window: one of each class of which a BAR or ROM is behind it is open.
+-- window: one of each class of which a BAR or ROM is behind it is open. No room is kept free in its windows.
 pub record KeepsParts (q : Request) (s : System) (k : Kept) (f : Function) : Type 0 where
   pub parts : (p : Part) → Contains (parts_of q s f) p
       → IsTrue (k.stays record { function = f; part = p })
@@ -29,6 +29,7 @@ pub record KeepsParts (q : Request) (s : System) (k : Kept) (f : Function) : Typ
       → k.range record { function = f; part = p } ≡ addresses record { function = f; part = p }
   pub windows : (c : WindowKind) → IsTrue (is_bridge f) → IsTrue (has_of q s c f)
       → IsTrue (is_open f c)
+  pub unwished : (c : WindowKind) → k.wished (window_part c f) ≡ None
   pub reached : (space : Space) → IsFalse (is_cut_off_in q s f space)
 
 -- So it is with a function and each bridge above it, and no I/O BAR of the function is left.

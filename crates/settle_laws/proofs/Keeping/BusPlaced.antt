@@ -18,9 +18,10 @@ use Rattle.plan_spec.proofs.Planning.Placement.{power_pos}
 use Rattle.plan_spec.proofs.Planning.Safe.{order_of}
 use Rattle.settle_spec.specs.FirstPlace.{Extent, ranges_are_apart, least_number, first_place, is_spot, ends_by, is_place}
 use Rattle.settle_spec.specs.Lists.{Request}
+use Rattle.settle_spec.specs.Spares.{with_spare}
 use Rattle.settle_spec.specs.Parts.{FunctionPart, bridge_over, class_in, header_parts}
 use Rattle.settle_spec.specs.Stands.{window_part}
-use Rattle.settle_spec.specs.Items.{Item, Placed, Placing, AllPlaced, Lacks, and_placed, place_next, are_placed, place_all, taken_by, has_of, bus_items, nothing, highest_in, window_around, new_window}
+use Rattle.settle_spec.specs.Items.{Item, Placed, Placing, AllPlaced, Lacks, and_placed, place_next, are_placed, place_all, taken_by, has_of, bus_items, nothing, highest_in, spare_of, window_around, new_window}
 use Rattle.settle_spec.specs.Places.{placed_of, place_among, placed_range, root_ranges, first_lack}
 use Rattle.settle_spec.specs.PlacingLaws.{ArePlaced, PlacesAreApart}
 use Rattle.settle_spec.specs.WindowLaws.{CanBeIn}
@@ -42,7 +43,7 @@ use Rattle.settle_laws.proofs.BusPlaced.{one_left, nothing_long, page_some, memo
 use Rattle.settle_spec.proofs.Buses.{each_same}
 use Rattle.settle_laws.proofs.EachPlaced.{each_all}
 use Rattle.settle_laws.proofs.HeaderParts.{window_of}
-use Rattle.settle_laws.proofs.ItemForms.{item_by, items_are, window_in, item_power, new_window_power}
+use Rattle.settle_laws.proofs.ItemForms.{item_by, items_are, in_with_spare, window_in, item_power, new_window_power}
 use Rattle.settle_laws.proofs.Kept.{outside_within, off_roots, window_ranks}
 use Rattle.settle_laws.proofs.KeptTaken.{IsKeptThere, kept_there, items_aligned}
 use Rattle.settle_laws.proofs.Outside.{same_outside, with_taken, with_taken_is, with_taken_keeps}
@@ -253,15 +254,16 @@ module _ (q : Request) (s : System) (k : Kept) (can : CanSettle q s k) where
               below = subst (λ (d : Extent). x.at + (d.size - 1) ≤ d.highest) same (leb-true (x.at + (e.size - 1)) e.highest end.1);
             }
 
-        around : new_window q s c b ≡ window_around c b (items q s k can c bus)
-        around = window_is_around q s c can.system can.nested b listed bridge ∙ ap (window_around c b) (sym items_all)
+        around : new_window q s c b ≡ window_around q c b (items q s k can c bus)
+        around = window_is_around q s c can.system can.nested b listed bridge ∙ ap (window_around q c b) (sym items_all)
 
         -- each item behind can be in the window
         can_be : (i : Item) → Contains (items q s k can c bus) i → CanBeIn window_place.at.at (new_window q s c b).size i
         can_be i has_i =
             let law = lawful_place in
-            let extents = map (λ (j : Item). j.extent) (items q s k can c bus) in
-            let in_e : Contains extents i.extent = in_map_from (λ (j : Item). j.extent) (items q s k can c bus) i has_i in
+            let own = map (λ (j : Item). j.extent) (items q s k can c bus) in
+            let extents = with_spare (spare_of q c b) own in
+            let in_e : Contains extents i.extent = in_with_spare (spare_of q c b) own i.extent (in_map_from (λ (j : Item). j.extent) (items q s k can c bus) i has_i) in
             let less : i.extent.alignment ≤ greatest (map (λ (e : Extent). e.alignment) extents) = below_greatest (map (λ (e : Extent). e.alignment) extents) i.extent.alignment (in_map_from (λ (e : Extent). e.alignment) extents i.extent in_e) in
             let whole : (new_window q s c b).alignment ≡ max (page_size c) (greatest (map (λ (e : Extent). e.alignment) extents)) = ap (λ (e : Extent). e.alignment) around in
             let power = item_power q s (new_window q s) c bus i (new_window_power q s c) (items_are q s (new_window q s) c k.stays bus i has_i) in
@@ -277,7 +279,7 @@ module _ (q : Request) (s : System) (k : Kept) (can : CanSettle q s k) where
         new_room : are_placed (place_all (λ i. new_range ∷ []) [] (items q s k can c bus)) ≡ true
         new_room =
             ap (λ n. are_placed (place_all (λ i. range_from window_place.at.at n ∷ []) [] (items q s k can c bus))) (ap (λ (i : Item). i.extent.size) window_place.item)
-            ∙ window_has_room (page_size c) (items q s k can c bus) window_place.at.at (new_window q s c b).size (page_some c) (ap (λ (e : Extent). e.size) around) can_be
+            ∙ window_has_room (page_size c) (spare_of q c b) (items q s k can c bus) window_place.at.at (new_window q s c b).size (page_some c) (ap (λ (e : Extent). e.size) around) can_be
 
         new_ends : EndsIn q s k can over.placed (window_part c b) new_range
         new_ends = Gets moves window_place.at window_place.found_there window_place.listed (ap (λ (i : Item). i.region) window_place.item) refl

@@ -9,7 +9,7 @@ use Rattle.pci_spec.specs.Registers.{COMMAND}
 use Rattle.pci_spec.specs.Header.{command, layout, bar_count, rom_register}
 use Rattle.pci_spec.specs.Bar.{bar_at, has_bar, is_wide}
 use Rattle.pci_spec.specs.Window.{WindowKind, IoWindow, MemoryWindow, PrefetchWindow, Bounds, bounds_at, upper_bits, has_window}
-use Rattle.pci_spec.specs.Decoded.{IsDecodable}
+use Rattle.pci_spec.specs.Decoded.{Range, IsDecodable}
 use Rattle.pci_spec.specs.System.{System, Function, IsSystem, IsFunction, Io, Memory, Part, Bar, Window, is_bridge}
 use Rattle.pci_spec.specs.Sound.{IsInProfile}
 use Rattle.pci_spec.proofs.ReadBacks.{IsLawful}
@@ -27,16 +27,18 @@ use Rattle.settle_spec.specs.Stands.{window_part}
 use Rattle.settle_spec.specs.Items.{Placed}
 use Rattle.settle_spec.specs.Keeping.Places.{new_place}
 use Rattle.settle_spec.specs.Registers.{with_number, with_bounds, closed_if_open, changing}
-use Rattle.settle_spec.specs.Keeping.Registers.{is_same_range, with_kept, shown, settled_image, settled_function, settled_command}
+use Rattle.settle_spec.specs.Keeping.Registers.{is_same_range, with_kept, shown, with_wish, settled_image, settled_function, settled_command}
 use Rattle.settle_spec.specs.Writes.{part_registers, differs_at, shut_bounds}
-use Rattle.settle_spec.specs.Keeping.Writes.{changes_at, is_left_on, closing_command, is_replaced, without_window, closed_image, closed_function}
+use Rattle.settle_spec.specs.Keeping.Writes.{changes_window, is_left_on, closing_command, is_replaced, without_window, closed_image, closed_function}
 use Rattle.settle_laws.proofs.Held.{and_second_false}
+use Rattle.settle_laws.specs.KeptLaws.{WishesNothing}
+use Rattle.settle_laws.proofs.Keeping.ChangedWindows.{changes_alike, window_changes}
 use Rattle.settle_laws.proofs.HeaderParts.{part_cases}
 use Rattle.settle_laws.proofs.Images.{same_number}
 use Rattle.settle_laws.proofs.Numbers.{with_elsewhere, with_image, command_with}
 use Rattle.settle_laws.proofs.NumbersPut.{reads_four}
 use Rattle.settle_laws.proofs.Shown.{IsOff, fold_keeps, bounds_image}
-use Rattle.settle_laws.proofs.Keeping.Shown.{IsChanging, can_change, changing_is, window_there, can_bar, upper_there, shown_off}
+use Rattle.settle_laws.proofs.Keeping.Shown.{IsChanging, can_change, changing_is, window_there, can_bar, upper_there, step, step_off}
 use Rattle.settle_laws.proofs.Shown.{either}
 use Rattle.settle_laws.proofs.Stages.{ShowsSame}
 use Rattle.settle_laws.proofs.WindowBytes.{IsOf, one_window, window_bytes, bounds_elsewhere, bounds_by_bytes, bounds_shown, number_elsewhere}
@@ -47,17 +49,17 @@ use Rattle.settle_laws.proofs.ClosedImages.{are_low, no_kind, register_bytes, up
 module _ (q : Request) (s : System) (k : Kept) (f : Function) where
   -- a device has no window that is replaced
   pub device_unreplaced : is_bridge f ≡ false → (c : WindowKind) → is_replaced q s k f c ≡ false
-  device_unreplaced device c = ap (λ b. b && not (k.stays (window_part c f)) && changes_at q s k f (Window c)) device
+  device_unreplaced device c = ap (λ b. b && not (k.stays (window_part c f)) && changes_window q s k c f) device
 
   -- nor has one a window that stays
   pub staying_unreplaced : (c : WindowKind) → k.stays (window_part c f) ≡ true → is_replaced q s k f c ≡ false
-  staying_unreplaced c keeps = ap (λ b. is_bridge f && not b && changes_at q s k f (Window c)) keeps ∙ ap (λ b. b && changes_at q s k f (Window c)) (and_right (is_bridge f) false refl)
+  staying_unreplaced c keeps = ap (λ b. is_bridge f && not b && changes_window q s k c f) keeps ∙ ap (λ b. b && changes_window q s k c f) (and_right (is_bridge f) false refl)
 
-  -- the registers of a window that doesn't stay and isn't replaced show the same once settled
-  pub unreplaced_same : is_bridge f ≡ true → (c : WindowKind) → k.stays (window_part c f) ≡ false → is_replaced q s k f c ≡ false → ShowsSame f (settled_function q s k f) (Window c)
-  unreplaced_same bridge c goes same r has =
+  -- where nothing is wished, the registers of a window that doesn't stay and isn't replaced show the same once settled
+  pub unreplaced_same : WishesNothing k → is_bridge f ≡ true → (c : WindowKind) → k.stays (window_part c f) ≡ false → is_replaced q s k f c ≡ false → ShowsSame f (settled_function q s k f) (Window c)
+  unreplaced_same wishless bridge c goes same r has =
       let g = settled_function q s k f in
-      let none = and_second_false (is_bridge f && not (k.stays (window_part c f))) (changes_at q s k f (Window c)) (and_from (is_bridge f) (not (k.stays (window_part c f))) bridge (ap not goes)) same in
+      let none = sym (changes_alike q s k wishless c f) ∙ and_second_false (is_bridge f && not (k.stays (window_part c f))) (changes_window q s k c f) (and_from (is_bridge f) (not (k.stays (window_part c f))) bridge (ap not goes)) same in
       eqb-true (number_at g.image r.0 r.1) (number_at f.image r.0 r.1)
       (not-false (number_at g.image r.0 r.1 == number_at f.image r.0 r.1) (none_passes (differs_at f g) (part_registers f (Window c)) none r has))
 
@@ -221,32 +223,42 @@ module _ (q : Request) (s : System) (k : Kept) (f : Function) where
       window_leaves d there (Some x) image =
           bounds_elsewhere d _ image place (λ its. both_ways (has_window d f.probe) (ap (λ k. has_window k f.probe) (one_window d c place its mine) ∙ absent) there)
 
-      part_leaves : (p : Part) → Contains (header_parts f) p → can_change q s k f p ≡ true → (image : List ℕ) → byte_at (shown k (region p) (new_place q s k (region p)) image) place ≡ byte_at image place
+      wish_leaves : (d : WindowKind) → has_window d f.probe ≡ true → (w : Option Range) (image : List ℕ) → byte_at (with_wish (region (Window d)) w image) place ≡ byte_at image place
+      wish_leaves d there None image = refl
+      wish_leaves d there (Some w) image =
+          bounds_elsewhere d _ image place (λ its. both_ways (has_window d f.probe) (ap (λ k. has_window k f.probe) (one_window d c place its mine) ∙ absent) there)
+
+      part_leaves : (p : Part) → Contains (header_parts f) p → can_change q s k f p ≡ true → (image : List ℕ) → byte_at (step q s k f image (region p)) place ≡ byte_at image place
       part_leaves p there can image = elim (part_cases f p there) [
-        | inl bar ↦ shown_off q s k f p (new_place q s k (region p)) image place (subst (λ o. IsOff f o place) bar.is (bar_under bar.n bar.inside (can_bar q s k f bar.n (ap (can_change q s k f) bar.is ∙ can))))
-        | inr (inl window) ↦ subst (λ o. byte_at (shown k (region o) (new_place q s k (region o)) image) place ≡ byte_at image place) window.is
-            (window_leaves window.kind (window_there q s k f window.kind (ap (can_change q s k f) window.is ∙ can)) (new_place q s k (region (Window window.kind))) image)
+        | inl bar ↦ step_off q s k f p image place (subst (λ o. IsOff f o place) bar.is (bar_under bar.n bar.inside (can_bar q s k f bar.n (ap (can_change q s k f) bar.is ∙ can))))
+        | inr (inl window) ↦
+            let d = window.kind in
+            let there = window_there q s k f d (ap (can_change q s k f) window.is ∙ can) in
+            let place_d = new_place q s k (region (Window d)) in
+            subst (λ o. byte_at (step q s k f image (region o)) place ≡ byte_at image place) window.is
+            (wish_leaves d there (k.wished (region (Window d))) (shown k (region (Window d)) place_d image) ∙ window_leaves d there place_d image)
         | inr (inr rom) ↦
             let at : rom_register (layout f.image) ≡ 0x38 = ap (λ t. cond t 0x38 0x30) bridge in
             let high = (window_bytes c place mine).1 in
-            shown_off q s k f p (new_place q s k (region p)) image place (subst (λ o. IsOff f o place) rom (inl (omega (arith, at, high))))
+            step_off q s k f p image place (subst (λ o. IsOff f o place) rom (inl (omega (arith, at, high))))
       ]
 
       absent_stays : byte_at (settled_function q s k f).image place ≡ byte_at f.image place
       absent_stays =
           let low = (window_bytes c place mine).0 in
           with_elsewhere 2 COMMAND (settled_command q s k f) place (settled_image q s k f) (inr (omega (arith, low)))
-          ∙ fold_keeps (λ (x : List ℕ). byte_at x place ≡ byte_at f.image place) (λ image r. shown k r (new_place q s k r) image) (changing q s f)
+          ∙ fold_keeps (λ (x : List ℕ). byte_at x place ≡ byte_at f.image place) (step q s k f) (changing q s f)
           (λ r has image same.
           let p : IsChanging q s k f r = changing_is q s k f r has in
-          subst (λ (t : FunctionPart). byte_at (shown k t (new_place q s k t) image) place ≡ byte_at f.image place) p.is (part_leaves p.p p.there p.can image ∙ same)) f.image refl
+          subst (λ (t : FunctionPart). byte_at (step q s k f image t) place ≡ byte_at f.image place) p.is (part_leaves p.p p.there p.can image ∙ same)) f.image refl
 
     pub replaced_there : (c : WindowKind) → is_replaced q s k f c ≡ true → has_window c f.probe ≡ true
     replaced_there c replaced = elim (cases_Bool (has_window c f.probe)) [
       | inl there ↦ there
       | inr absent ↦
           let g = settled_function q s k f in
-          let found : Passes (differs_at f g) (part_registers f (Window c)) = any_gives (differs_at f g) (part_registers f (Window c)) (and_parts (is_bridge f && not (k.stays (window_part c f))) (changes_at q s k f (Window c)) replaced).1 in
+          let found : Passes (differs_at f g) (part_registers f (Window c)) = any_gives (differs_at f g) (part_registers f (Window c))
+          (window_changes q s k c f (and_parts (is_bridge f && not (k.stays (window_part c f))) (changes_window q s k c f) replaced).1) in
           let r = found.x in
           let same : number_at g.image r.0 r.1 ≡ number_at f.image r.0 r.1 = same_number g.image f.image r.0 r.1 (λ j less. absent_stays c absent (r.0 + j) (register_bytes f c r found.listed j less)) in
           absurd (both_ways (number_at g.image r.0 r.1 == number_at f.image r.0 r.1) (not-true (number_at g.image r.0 r.1 == number_at f.image r.0 r.1) found.is) (eq-eqb (number_at g.image r.0 r.1) (number_at f.image r.0 r.1) same))

@@ -202,7 +202,7 @@ module _ (q : Request) (s : System) (k : Kept) (can : CanSettle q s k) where
       | inr goes ↦
           same_out (bounds_at c f.image) (bounds_at c (settled_function q s k f).image)
           (window_same f (settled_function q s k f) c (is f listed) (with_image 2 COMMAND (settled_command q s k f) (settled_image q s k f) (settled_image_is q s k f (is f listed)))
-          (unreplaced_same q s k f bridge c goes other))
+          (unreplaced_same q s k f can.sound.none bridge c goes other))
       | inl keeps ↦ elim (cases_Bool (keeps_range q s k can f listed c)) [
         | inl same ↦ same_out (bounds_at c f.image) (bounds_at c (settled_function q s k f).image) (window_stays q s k can f listed c bridge keeps same)
         | inr grows ↦

@@ -20,12 +20,13 @@ use Rattle.plan_spec.proofs.Planning.Room.{raised}
 use Rattle.plan_spec.proofs.Planning.WindowFits.{PartsFit}
 use Rattle.settle_spec.specs.FirstPlace.{Extent, first_spot}
 use Rattle.settle_spec.specs.Lists.{RootRange, Request, end_above}
+use Rattle.settle_spec.specs.Spares.{with_spare}
 use Rattle.settle_spec.specs.Parts.{is_empty, is_left, is_part, class_in}
 use Rattle.settle_spec.specs.Stands.{window_part}
-use Rattle.settle_spec.specs.Items.{Item, Placed, highest_of_bar, has_of, bus_items, laid_out, end_of, nothing, window_around, new_window}
+use Rattle.settle_spec.specs.Items.{Item, Placed, highest_of_bar, has_of, bus_items, laid_out, end_of, nothing, spare_of, window_around, new_window}
 use Rattle.settle_spec.specs.Keeping.Places.{new_place}
 use Rattle.settle_spec.proofs.ItemsBehind.{items_are_behind}
-use Rattle.settle_spec.proofs.LaidOut.{laid_keeps, end_behind}
+use Rattle.settle_spec.proofs.LaidOut.{laid_keeps, laid_before, end_behind, end_more}
 use Rattle.settle_spec.proofs.NewWindows.{window_is_around}
 use Rattle.settle_laws.specs.Keeping.PlacesLaws.{CanSettle}
 use Rattle.settle_laws.specs.WriteLaws.{AreLists}
@@ -87,9 +88,9 @@ module _ (q : Request) (s : System) (k : Kept) (can : CanSettle q s k) where
     behind = bus_items q s c nothing (new_window q s c) (secondary b)
 
     abbrev extents : List Extent
-    extents = map (λ (i : Item). i.extent) behind
+    extents = with_spare (spare_of q c b) (map (λ (i : Item). i.extent) behind)
 
-    around : new_window q s c b ≡ window_around c b behind
+    around : new_window q s c b ≡ window_around q c b behind
     around = window_is_around q s c can.system can.nested b listed bridge
 
     -- pages of a window
@@ -111,10 +112,12 @@ module _ (q : Request) (s : System) (k : Kept) (can : CanSettle q s k) where
     some_size : has_of q s c b ≡ true → 0 < (new_window q s c b).size
     some_size has =
         let long = ltb-true 0 (length behind) (sym (items_are_behind q s c (new_window q s c) can.system can.nested b listed bridge) ∙ has) in
+        let own = map (λ (i : Item). i.extent) behind in
         let end = some_end behind long in
+        let more = end_more (laid_out [] own) (laid_out [] extents) (laid_before [] own (spare_of q c b)) in
         let from = (raised (page_size c) (end_of (laid_out [] extents)) (page_some c)).from in
         let e : (new_window q s c b).size ≡ raised_to (page_size c) (end_of (laid_out [] extents)) = ap (λ (e : Extent). e.size) around in
-        omega (arith, end, from, e)
+        omega (arith, end, more, from, e)
 
   -- ---- what a new place has to be
 

@@ -25,8 +25,9 @@ use Rattle.plan_spec.proofs.Planning.RomFits.{rom_there, rom_number_fits}
 use Rattle.plan_spec.proofs.Planning.WindowFits.{PartsFit, by_closed, few_nibbles, kept_fit, lawful_nibbles, window_fits}
 use Rattle.settle_spec.specs.FirstPlace.{Extent}
 use Rattle.settle_spec.specs.Lists.{Request}
+use Rattle.settle_spec.specs.Spares.{with_spare}
 use Rattle.settle_spec.specs.Parts.{FunctionPart, addresses, header_parts}
-use Rattle.settle_spec.specs.Items.{Item, Placed, highest_of_bar, highest_in, bus_items, nothing, new_window, window_within, taken_by}
+use Rattle.settle_spec.specs.Items.{Item, Placed, highest_of_bar, highest_in, bus_items, nothing, spare_of, new_window, window_within, taken_by}
 use Rattle.settle_spec.specs.Keeping.Places.{new_place}
 use Rattle.settle_spec.specs.Registers.{with_number, with_bounds, closed_if_open, changing}
 use Rattle.settle_spec.specs.Keeping.Registers.{is_same_range, with_kept, shown, settled_image}
@@ -37,7 +38,7 @@ use Rattle.settle_laws.proofs.NewPlaces.{HasPlace, size_some}
 use Rattle.settle_laws.proofs.Keeping.NewPlaces.{new_place_is}
 use Rattle.settle_laws.proofs.RomPlaces.{rom_part}
 use Rattle.settle_laws.proofs.Shown.{fold_keeps}
-use Rattle.settle_laws.proofs.Keeping.Shown.{IsChanging, can_change, changing_is, can_bar, can_rom, window_bridge, window_there, upper_there}
+use Rattle.settle_laws.proofs.Keeping.Shown.{IsChanging, can_change, changing_is, step, step_unwished, can_bar, can_rom, window_bridge, window_there, upper_there}
 use Rattle.settle_spec.specs.Kept.{Kept}
 use Rattle.settle_laws.specs.Keeping.PlacesLaws.{CanSettle}
 use Rattle.settle_laws.proofs.Keeping.Kept.{kept_forward}
@@ -134,7 +135,7 @@ module _ (q : Request) (s : System) (k : Kept) (can : CanSettle q s k) (f : Func
   no_higher : (c : WindowKind) → (new_window q s c f).highest ≤ highest_in c f.probe
   unfolding window_within
   no_higher c =
-      let extents = map (λ (i : Item). i.extent) (bus_items q s c nothing (window_within q s c 255) (secondary f)) in
+      let extents = with_spare (spare_of q c f) (map (λ (i : Item). i.extent) (bus_items q s c nothing (window_within q s c 255) (secondary f))) in
       least_in (highest_in c f.probe ∷ map (λ (e : Extent). e.highest) extents) (highest_in c f.probe) (in_head (highest_in c f.probe) (map (λ (e : Extent). e.highest) extents))
 
   window_low : (c : WindowKind) (p : Placed) → HasPlace q s (space_of f (Window c)) f (Window c) p → (taken_by p.item p.at).last ≤ highest_in c f.probe
@@ -202,8 +203,10 @@ module _ (q : Request) (s : System) (k : Kept) (can : CanSettle q s k) (f : Func
 
   -- The law: what is no address bit of an address register stays.
   pub image_has_bits : HasBits f (settled_image q s k f)
-  image_has_bits = fold_keeps (HasBits f) (λ image r. shown k r (new_place q s k r) image) (changing q s f)
+  image_has_bits = fold_keeps (HasBits f) (step q s k f) (changing q s f)
       (λ r has image h.
       let c : IsChanging q s k f r = changing_is q s k f r has in
-      subst (λ (t : FunctionPart). HasBits f (shown k t (new_place q s k t) image)) c.is (part_shown c.p (part_of c.p c.there c.can) c.can (new_place q s k (region c.p)) refl image h)) f.image
+      subst (λ (t : FunctionPart). HasBits f (step q s k f image t)) c.is
+      (subst (HasBits f) (sym (step_unwished q s k f (region c.p) (ap (λ wished. wished (region c.p)) can.sound.none) image))
+      (part_shown c.p (part_of c.p c.there c.can) c.can (new_place q s k (region c.p)) refl image h))) f.image
       record { whole = is.image; bits = λ place i inside small plain. refl }

@@ -9,7 +9,7 @@ use Rattle.pci_spec.specs.Header.{layout, bar_count, bar_register, rom_register,
 use Rattle.pci_spec.specs.Bar.{bar_at, has_bar, is_wide}
 use Rattle.pci_spec.specs.Rom.{rom_at, has_rom, rom_is_on}
 use Rattle.pci_spec.specs.Window.{WindowKind, has_window, is_closed}
-use Rattle.pci_spec.specs.Decoded.{IsDecodable}
+use Rattle.pci_spec.specs.Decoded.{Range, IsDecodable}
 use Rattle.pci_spec.specs.System.{System, Function, Part, Bar, Rom, Window, is_bridge, is_implemented, is_window}
 use Rattle.pci_spec.proofs.Members.{in_filter_to, IsMade, in_map_to}
 use Rattle.pci_spec.proofs.Ranges.{lawful_bar}
@@ -21,7 +21,7 @@ use Rattle.settle_spec.specs.Parts.{FunctionPart, addresses, is_left, is_part, h
 use Rattle.settle_spec.specs.Items.{Placed}
 use Rattle.settle_spec.specs.Keeping.Places.{new_place}
 use Rattle.settle_spec.specs.Registers.{closed_if_open, changing}
-use Rattle.settle_spec.specs.Keeping.Registers.{is_same_range, with_kept, shown, settled_image}
+use Rattle.settle_spec.specs.Keeping.Registers.{is_same_range, with_kept, shown, with_wish, settled_image}
 use Rattle.settle_laws.proofs.HeaderParts.{part_cases, few_bars, rom_at_end}
 use Rattle.settle_laws.proofs.Numbers.{with_elsewhere, with_first, with_image}
 use Rattle.settle_laws.proofs.Keeping.RomPlaces.{rom_is_even}
@@ -59,6 +59,46 @@ module _ (q : Request) (s : System) (k : Kept) (f : Function) where
   shown_image (Bar n) (Some p) image is = with_image (if is_wide (bar_at f.probe n) then 8 else 4) (bar_register n) _ image is
   shown_image Rom (Some p) image is = with_image 4 (rom_register (layout f.image)) (rom_value f.image p.at) image is
   shown_image (Window c) (Some p) image is = bounds_image c _ image is
+
+  -- ---- a wish
+
+  wish_off : (p : Part) (w : Option Range) (image : List ℕ) (place : ℕ) → IsOff f p place → byte_at (with_wish (region p) w image) place ≡ byte_at image place
+  wish_off p None image place off = refl
+  wish_off (Bar n) (Some w) image place off = refl
+  wish_off Rom (Some w) image place off = refl
+  wish_off (Window c) (Some w) image place off = bounds_off c _ image place off
+
+  wish_image : (p : Part) (w : Option Range) (image : List ℕ) → IsImage image → IsImage (with_wish (region p) w image)
+  wish_image p None image is = is
+  wish_image (Bar n) (Some w) image is = is
+  wish_image Rom (Some w) image is = is
+  wish_image (Window c) (Some w) image is = bounds_image c _ image is
+
+  -- a BAR or ROM has none
+  plain_wish : (p : Part) → is_window p ≡ false → (w : Option Range) (image : List ℕ) → with_wish (region p) w image ≡ image
+  plain_wish p plain None image = refl
+  plain_wish (Bar n) plain (Some w) image = refl
+  plain_wish Rom plain (Some w) image = refl
+  plain_wish (Window c) plain (Some w) image = absurd (both_ways true plain refl)
+
+  -- ---- a step of the settled image
+
+  abbrev pub step : List ℕ → FunctionPart → List ℕ
+  step image r = with_wish r (k.wished r) (shown k r (new_place q s k r) image)
+
+  pub step_off : (p : Part) (image : List ℕ) (place : ℕ) → IsOff f p place → byte_at (step image (region p)) place ≡ byte_at image place
+  step_off p image place off =
+      wish_off p (k.wished (region p)) (shown k (region p) (new_place q s k (region p)) image) place off ∙ shown_off p (new_place q s k (region p)) image place off
+
+  pub step_image : (p : Part) (image : List ℕ) → IsImage image → IsImage (step image (region p))
+  step_image p image is = wish_image p (k.wished (region p)) (shown k (region p) (new_place q s k (region p)) image) (shown_image p (new_place q s k (region p)) image is)
+
+  pub step_plain : (p : Part) → is_window p ≡ false → (image : List ℕ) → step image (region p) ≡ shown k (region p) (new_place q s k (region p)) image
+  step_plain p plain image = plain_wish p plain (k.wished (region p)) (shown k (region p) (new_place q s k (region p)) image)
+
+  -- where nothing is wished
+  pub step_unwished : (r : FunctionPart) → k.wished r ≡ None → (image : List ℕ) → step image r ≡ shown k r (new_place q s k r) image
+  step_unwished r none image = ap (λ o. with_wish r o (shown k r (new_place q s k r) image)) none
 
   -- ---- what changes is a part of the function's header
 
@@ -158,17 +198,17 @@ module _ (q : Request) (s : System) (k : Kept) (f : Function) where
       ]
 
       pub settled_off : byte_at (settled_image q s k f) place ≡ byte_at f.image place
-      settled_off = fold_keeps (λ (x : List ℕ). byte_at x place ≡ byte_at f.image place) (λ image r. shown k r (new_place q s k r) image) (changing q s f)
+      settled_off = fold_keeps (λ (x : List ℕ). byte_at x place ≡ byte_at f.image place) step (changing q s f)
           (λ r has image same.
           let c : IsChanging r = changing_is r has in
-          subst (λ (t : FunctionPart). byte_at (shown k t (new_place q s k t) image) place ≡ byte_at f.image place) c.is
-          (shown_off c.p (new_place q s k (region c.p)) image place (part_off c.p c.there c.can) ∙ same)) f.image refl
+          subst (λ (t : FunctionPart). byte_at (step image t) place ≡ byte_at f.image place) c.is
+          (step_off c.p image place (part_off c.p c.there c.can) ∙ same)) f.image refl
 
   pub settled_image_is : IsImage f.image → IsImage (settled_image q s k f)
-  settled_image_is is = fold_keeps IsImage (λ image r. shown k r (new_place q s k r) image) (changing q s f)
+  settled_image_is is = fold_keeps IsImage step (changing q s f)
       (λ r has image was.
       let c : IsChanging r = changing_is r has in
-      subst (λ (t : FunctionPart). IsImage (shown k t (new_place q s k t) image)) c.is (shown_image c.p (new_place q s k (region c.p)) image was)) f.image is
+      subst (λ (t : FunctionPart). IsImage (step image t)) c.is (step_image c.p image was)) f.image is
 
   -- ---- the enable bit of a ROM
 
@@ -212,23 +252,24 @@ module _ (q : Request) (s : System) (k : Kept) (f : Function) where
         ] in
         elim (rom_at_end f) [ inl a ↦ omega (arith, end, a) | inr a ↦ omega (arith, end, a) ]
 
-    step_switched : (p : Part) → Contains (header_parts f) p → can_change p ≡ true → (image : List ℕ) → IsSwitched image → IsSwitched (shown k (region p) (new_place q s k (region p)) image)
+    step_switched : (p : Part) → Contains (header_parts f) p → can_change p ≡ true → (image : List ℕ) → IsSwitched image → IsSwitched (step image (region p))
     step_switched p there can image h =
-        let off : IsOff f p rom → IsSwitched (shown k (region p) (new_place q s k (region p)) image) = λ is. record { is = shown_image p (new_place q s k (region p)) image h.is; same = ap (λ n. bit_at n 0) (shown_off p (new_place q s k (region p)) image rom is) ∙ h.same } in
+        let off : IsOff f p rom → IsSwitched (step image (region p)) = λ is. record { is = step_image p image h.is; same = ap (λ n. bit_at n 0) (step_off p image rom is) ∙ h.same } in
         elim (part_cases f p there) [
           | inl bar ↦ off (subst (λ x. IsOff f x rom) bar.is (inr (bar_below bar.n bar.inside (can_bar bar.n (ap can_change bar.is ∙ can)))))
           | inr (inl window) ↦ off (subst (λ x. IsOff f x rom) window.is
               (let bridge = window_bridge window.kind (ap can_change window.is ∙ can) in
               let at : rom ≡ 0x38 = ap (λ t. cond t 0x38 0x30) bridge in
               (inr (omega (arith, at)), inr (omega (arith, at)))))
-          | inr (inr is) ↦ subst (λ x. IsSwitched (shown k (region x) (new_place q s k (region x)) image)) is (rom_shown (can_rom (ap can_change is ∙ can)) (new_place q s k (region Rom)) refl image h)
+          | inr (inr is) ↦ subst (λ x. IsSwitched (step image (region x))) is
+              (subst IsSwitched (sym (step_plain Rom refl image)) (rom_shown (can_rom (ap can_change is ∙ can)) (new_place q s k (region Rom)) refl image h))
         ]
 
     switched : IsSwitched (settled_image q s k f)
-    switched = fold_keeps IsSwitched (λ image r. shown k r (new_place q s k r) image) (changing q s f)
+    switched = fold_keeps IsSwitched step (changing q s f)
         (λ r has image h.
         let c : IsChanging r = changing_is r has in
-        subst (λ (t : FunctionPart). IsSwitched (shown k t (new_place q s k t) image)) c.is (step_switched c.p c.there c.can image h)) f.image record { is = image_is; same = refl }
+        subst (λ (t : FunctionPart). IsSwitched (step image t)) c.is (step_switched c.p c.there c.can image h)) f.image record { is = image_is; same = refl }
 
     pub rom_stays_switched : bit_at (byte_at (settled_image q s k f) rom) 0 ≡ bit_at (byte_at f.image rom) 0
     rom_stays_switched = switched.same

@@ -23,8 +23,8 @@ use Rattle.settle_laws.proofs.Keeping.Kept.{stays_part}
 use Rattle.settle_laws.proofs.Keeping.PartPlaces.{kept_unplaced}
 use Rattle.settle_laws.proofs.Keeping.SettledMoved.{kind_stays}
 use Rattle.settle_laws.proofs.Shown.{fold_keeps}
-use Rattle.settle_laws.proofs.Keeping.Shown.{IsChanging, changing_is, shown_off}
-use Rattle.settle_laws.proofs.Keeping.ShownParts.{aside, off_bar, keeps_whole, keeps_rom, rom_aside, keeps_range, bounds_stay, grown_shown, grown_open}
+use Rattle.settle_laws.proofs.Keeping.Shown.{IsChanging, changing_is, step, step_off, step_plain}
+use Rattle.settle_laws.proofs.Keeping.ShownParts.{aside, off_bar, keeps_whole, keeps_rom, rom_aside, keeps_range, leaves_wish, bounds_stay, grown_shown, grown_open}
 use Rattle.settle_laws.proofs.ShownParts.{bar_or_not, rom_or_not}
 use Rattle.settle_spec.specs.Kept.{Kept}
 use Rattle.pci_spec.specs.Registers.{COMMAND}
@@ -48,13 +48,15 @@ module _ (q : Request) (s : System) (k : Kept) (can : CanSettle q s k) (f : Func
   plain_kept Rom plain image = one_of (is_same_range (k.range (region Rom)) (addresses (region Rom))) image
   plain_kept (Window c) plain image = absurd (both_ways true plain refl)
 
-  leaves_by : (p : Part) → k.stays (region p) ≡ true → new_place q s k (region p) ≡ None → ((image : List ℕ) → with_kept k (region p) image ≡ image) → (image : List ℕ) → shown k (region p) (new_place q s k (region p)) image ≡ image
-  leaves_by p keeps none same image =
-      ap (λ o. shown k (region p) o image) none ∙ ap (λ t. cond t (with_kept k (region p) image) (closed_if_open f p image)) keeps ∙ same image
+  leaves_by : (p : Part) → k.stays (region p) ≡ true → new_place q s k (region p) ≡ None → ((image : List ℕ) → step q s k f image (region p) ≡ shown k (region p) (new_place q s k (region p)) image)
+      → ((image : List ℕ) → with_kept k (region p) image ≡ image) → (image : List ℕ) → step q s k f image (region p) ≡ image
+  leaves_by p keeps none unwished same image =
+      unwished image ∙ ap (λ o. shown k (region p) o image) none ∙ ap (λ t. cond t (with_kept k (region p) image) (closed_if_open f p image)) keeps ∙ same image
 
   module _ (p : Part) (there : has_part f p ≡ true) (keeps : k.stays (region p) ≡ true) where
-    leaves : ((image : List ℕ) → with_kept k (region p) image ≡ image) → (image : List ℕ) → shown k (region p) (new_place q s k (region p)) image ≡ image
-    leaves same = leaves_by p keeps (kept_unplaced q s k can f p listed there keeps) same
+    leaves : ((image : List ℕ) → step q s k f image (region p) ≡ shown k (region p) (new_place q s k (region p)) image)
+        → ((image : List ℕ) → with_kept k (region p) image ≡ image) → (image : List ℕ) → step q s k f image (region p) ≡ image
+    leaves unwished same = leaves_by p keeps (kept_unplaced q s k can f p listed there keeps) unwished same
 
     looked_at : is_part q s f p ≡ true
     looked_at = stays_part q s k can (region p) listed keeps
@@ -64,11 +66,11 @@ module _ (q : Request) (s : System) (k : Kept) (can : CanSettle q s k) (f : Func
       let v = whole_bar f.probe f.image n in
       let has = (and_parts (has_bar f.probe n) (not (is_left q s f (Bar n))) (looked_at (Bar n) there keeps)).0 in
       whole_aside g.image (settled_image q s k f) (aside q s k can f listed) f.probe n (few_bars f n inside)
-      ∙ fold_keeps (λ image. whole_bar f.probe image n ≡ v) (λ image r. shown k r (new_place q s k r) image) (changing q s f)
+      ∙ fold_keeps (λ image. whole_bar f.probe image n ≡ v) (step q s k f) (changing q s f)
       (λ r in_r image same.
       let c : IsChanging q s k f r = changing_is q s k f r in_r in
-      subst (λ (t : FunctionPart). whole_bar f.probe (shown k t (new_place q s k t) image) n ≡ v) c.is (elim (bar_or_not n c.p) [
-        | inl here ↦ subst (λ o. whole_bar f.probe (shown k (region o) (new_place q s k (region o)) image) n ≡ v) here (ap (λ x. whole_bar f.probe x n) (leaves (Bar n) there keeps (plain_kept (Bar n) refl) image) ∙ same)
+      subst (λ (t : FunctionPart). whole_bar f.probe (step q s k f image t) n ≡ v) c.is (elim (bar_or_not n c.p) [
+        | inl here ↦ subst (λ o. whole_bar f.probe (step q s k f image (region o)) n ≡ v) here (ap (λ x. whole_bar f.probe x n) (leaves (Bar n) there keeps (step_plain q s k f (Bar n) refl) (plain_kept (Bar n) refl) image) ∙ same)
         | inr other ↦ keeps_whole q s k can f listed n inside has c.p c.there c.can other image ∙ same
       ])) f.image refl
 
@@ -80,14 +82,14 @@ module _ (q : Request) (s : System) (k : Kept) (can : CanSettle q s k) (f : Func
       let v : ℕ = number_at f.image o w in
       let there = lt-ltb n (bar_count (layout f.image)) inside in
       same_number g.image (settled_image q s k f) o w (λ j less. with_elsewhere 2 COMMAND (settled_command q s k f) (o + j) (settled_image q s k f) (inr (omega arith)))
-      ∙ fold_keeps (λ image. number_at image o w ≡ v) (λ image r. shown k r (new_place q s k r) image) (changing q s f)
+      ∙ fold_keeps (λ image. number_at image o w ≡ v) (step q s k f) (changing q s f)
       (λ r in_r image same.
       let c : IsChanging q s k f r = changing_is q s k f r in_r in
-      subst (λ (t : FunctionPart). number_at (shown k t (new_place q s k t) image) o w ≡ v) c.is (elim (bar_or_not n c.p) [
-        | inl here ↦ subst (λ x. number_at (shown k (region x) (new_place q s k (region x)) image) o w ≡ v) here (ap (λ x. number_at x o w) (leaves (Bar n) there keeps (plain_kept (Bar n) refl) image) ∙ same)
+      subst (λ (t : FunctionPart). number_at (step q s k f image t) o w ≡ v) c.is (elim (bar_or_not n c.p) [
+        | inl here ↦ subst (λ x. number_at (step q s k f image (region x)) o w ≡ v) here (ap (λ x. number_at x o w) (leaves (Bar n) there keeps (step_plain q s k f (Bar n) refl) (plain_kept (Bar n) refl) image) ∙ same)
         | inr other ↦
-            same_number (shown k (region c.p) (new_place q s k (region c.p)) image) image o w
-            (λ j less. shown_off q s k f c.p (new_place q s k (region c.p)) image (o + j) (off_bar q s k can f listed n inside has c.p c.there c.can other (o + j) (omega arith) (omega (arith, less)))) ∙ same
+            same_number (step q s k f image (region c.p)) image o w
+            (λ j less. step_off q s k f c.p image (o + j) (off_bar q s k can f listed n inside has c.p c.there c.can other (o + j) (omega arith) (omega (arith, less)))) ∙ same
       ])) f.image refl
 
   pub rom_stays : k.stays (region Rom) ≡ true → number_at g.image (rom_register (layout f.image)) 4 ≡ number_at f.image (rom_register (layout f.image)) 4
@@ -95,18 +97,18 @@ module _ (q : Request) (s : System) (k : Kept) (can : CanSettle q s k) (f : Func
       let rom = rom_register (layout f.image) in
       let v = number_at f.image rom 4 in
       rom_aside q s k can f listed
-      ∙ fold_keeps (λ image. number_at image rom 4 ≡ v) (λ image r. shown k r (new_place q s k r) image) (changing q s f)
+      ∙ fold_keeps (λ image. number_at image rom 4 ≡ v) (step q s k f) (changing q s f)
       (λ r in_r image same.
       let c : IsChanging q s k f r = changing_is q s k f r in_r in
-      subst (λ (t : FunctionPart). number_at (shown k t (new_place q s k t) image) rom 4 ≡ v) c.is (elim (rom_or_not c.p) [
-        | inl here ↦ subst (λ o. number_at (shown k (region o) (new_place q s k (region o)) image) rom 4 ≡ v) here (ap (λ x. number_at x rom 4) (leaves Rom refl keeps (plain_kept Rom refl) image) ∙ same)
+      subst (λ (t : FunctionPart). number_at (step q s k f image t) rom 4 ≡ v) c.is (elim (rom_or_not c.p) [
+        | inl here ↦ subst (λ o. number_at (step q s k f image (region o)) rom 4 ≡ v) here (ap (λ x. number_at x rom 4) (leaves Rom refl keeps (step_plain q s k f Rom refl) (plain_kept Rom refl) image) ∙ same)
         | inr other ↦ keeps_rom q s k can f listed c.p c.there c.can other image ∙ same
       ])) f.image refl
 
   -- a window that keeps its addresses keeps its registers
   pub window_stays : (c : WindowKind) → is_bridge f ≡ true → k.stays (region (Window c)) ≡ true → keeps_range q s k can f listed c ≡ true → bounds_at c g.image ≡ bounds_at c f.image
   window_stays c bridge keeps same =
-      bounds_stay q s k can f listed c bridge (leaves (Window c) bridge keeps (λ image. ap (λ t. cond t image (with_range f (Window c) (k.range (region (Window c))) image)) same))
+      bounds_stay q s k can f listed c bridge (leaves (Window c) bridge keeps (leaves_wish q s k can f listed c) (λ image. ap (λ t. cond t image (with_range f (Window c) (k.range (region (Window c))) image)) same))
 
   same_range : (r t : Range) → is_same_range r t ≡ true → r ≡ t
   same_range r t same =

@@ -30,7 +30,7 @@ use Rattle.settle_spec.specs.Parts.{FunctionPart, addresses, is_part, header_par
 use Rattle.settle_spec.specs.Items.{Placed, highest_of_bar, taken_by}
 use Rattle.settle_spec.specs.Keeping.Places.{new_place}
 use Rattle.settle_spec.specs.Registers.{with_number, with_bounds, closed_if_open, changing}
-use Rattle.settle_spec.specs.Keeping.Registers.{is_same_range, with_kept, shown, settled_image, settled_function, settled_command}
+use Rattle.settle_spec.specs.Keeping.Registers.{is_same_range, with_kept, shown, with_wish, settled_image, settled_function, settled_command}
 use Rattle.settle_laws.specs.Keeping.PlacesLaws.{CanSettle}
 use Rattle.settle_laws.proofs.BarReach.{size_is, top_here, bar_shows, highest_by}
 use Rattle.settle_laws.proofs.Keeping.Fits.{was, decodable, window_there, window_has, size_of_place, bar_room, rom_room, window_room, shown_fit, more_fit, none_fit}
@@ -43,7 +43,7 @@ use Rattle.settle_laws.proofs.NumbersPut.{reads_four, reads_low, reads_high}
 use Rattle.settle_laws.proofs.Keeping.PartPlaces.{new_place_is}
 use Rattle.settle_laws.proofs.Keeping.SettledMoved.{kind_stays}
 use Rattle.settle_laws.proofs.Shown.{IsOff, fold_keeps}
-use Rattle.settle_laws.proofs.Keeping.Shown.{IsChanging, can_change, changing_is, window_bridge, can_bar, upper_there, shown_off, shown_image, bar_below}
+use Rattle.settle_laws.proofs.Keeping.Shown.{IsChanging, can_change, changing_is, window_bridge, can_bar, upper_there, step_off, step_image, step_plain, step_unwished, bar_below}
 use Rattle.settle_laws.proofs.Shown.{either}
 use Rattle.settle_laws.proofs.WindowBytes.{IsOf, one_window, window_bytes, bounds_elsewhere, bounds_by_bytes, bounds_shown}
 use Rattle.settle_spec.specs.Kept.{Kept}
@@ -61,15 +61,15 @@ module _ (q : Request) (s : System) (k : Kept) (can : CanSettle q s k) (f : Func
   region p = record { function = f; part = p }
 
   abbrev step : List ℕ → FunctionPart → List ℕ
-  step image r = shown k r (new_place q s k r) image
+  step image r = with_wish r (k.wished r) (shown k r (new_place q s k r) image)
 
   image_is : IsImage f.image
   image_is = (was q s k can f listed).image
 
-  step_image : (r : FunctionPart) → Contains (changing q s f) r → (image : List ℕ) → IsImage image → IsImage (step image r)
-  step_image r has image is =
+  stepped_image : (r : FunctionPart) → Contains (changing q s f) r → (image : List ℕ) → IsImage image → IsImage (step image r)
+  stepped_image r has image is =
       let c : IsChanging q s k f r = changing_is q s k f r has in
-      subst (λ t. IsImage (step image t)) c.is (shown_image q s k f c.p (new_place q s k (region c.p)) image is)
+      subst (λ t. IsImage (step image t)) c.is (step_image q s k f c.p image is)
 
   pub in_changing : (p : Part) → Contains (header_parts f) p → can_change q s k f p ≡ true → Contains (changing q s f) (region p)
   in_changing p there can_p = in_map_from region (filter (can_change q s k f) (header_parts f)) p (in_filter_from (can_change q s k f) (header_parts f) p there can_p)
@@ -91,12 +91,25 @@ module _ (q : Request) (s : System) (k : Kept) (can : CanSettle q s k) (f : Func
   keeps_range c = is_same_range (k.range (region (Window c))) (addresses (region (Window c)))
 
   -- a window changes no byte but its own
-  window_off : (c : WindowKind) (o : Option Placed) (image : List ℕ) (place : ℕ) → (IsOf c place → ⊥) → byte_at (shown k (region (Window c)) o image) place ≡ byte_at image place
-  window_off c None image place out =
+  shown_elsewhere : (c : WindowKind) (o : Option Placed) (image : List ℕ) (place : ℕ) → (IsOf c place → ⊥) → byte_at (shown k (region (Window c)) o image) place ≡ byte_at image place
+  shown_elsewhere c None image place out =
       either (λ x. byte_at x place ≡ byte_at image place) (k.stays (region (Window c))) (with_kept k (region (Window c)) image) (closed_if_open f (Window c) image)
       (either (λ x. byte_at x place ≡ byte_at image place) (keeps_range c) image _ refl (bounds_elsewhere c _ image place out))
       (either (λ x. byte_at x place ≡ byte_at image place) (is_open f c) _ image (bounds_elsewhere c _ image place out) refl)
-  window_off c (Some x) image place out = bounds_elsewhere c _ image place out
+  shown_elsewhere c (Some x) image place out = bounds_elsewhere c _ image place out
+
+  wish_elsewhere : (c : WindowKind) (w : Option Range) (image : List ℕ) (place : ℕ) → (IsOf c place → ⊥) → byte_at (with_wish (region (Window c)) w image) place ≡ byte_at image place
+  wish_elsewhere c None image place out = refl
+  wish_elsewhere c (Some w) image place out = bounds_elsewhere c _ image place out
+
+  window_off : (c : WindowKind) (image : List ℕ) (place : ℕ) → (IsOf c place → ⊥) → byte_at (step image (region (Window c))) place ≡ byte_at image place
+  window_off c image place out =
+      wish_elsewhere c (k.wished (region (Window c))) (shown k (region (Window c)) (new_place q s k (region (Window c))) image) place out
+      ∙ shown_elsewhere c (new_place q s k (region (Window c))) image place out
+
+  -- where nothing is wished, a step shows the window's place
+  pub leaves_wish : (c : WindowKind) (image : List ℕ) → step image (region (Window c)) ≡ shown k (region (Window c)) (new_place q s k (region (Window c))) image
+  leaves_wish c image = step_unwished q s k f (region (Window c)) (ap (λ wished. wished (region (Window c))) can.sound.none) image
 
   -- ---- which bytes are whose
 
@@ -173,7 +186,7 @@ module _ (q : Request) (s : System) (k : Kept) (can : CanSettle q s k) (f : Func
     -- no other part has a byte of it
     pub keeps_whole : (p : Part) → Contains (header_parts f) p → can_change q s k f p ≡ true → (Bar n ≡ p → ⊥) → (image : List ℕ) → whole_bar f.probe (step image (region p)) n ≡ whole_bar f.probe image n
     keeps_whole p in_p can_p other image =
-        whole_by_bytes (step image (region p)) image (λ place from to. shown_off q s k f p (new_place q s k (region p)) image place (off_bar p in_p can_p other place from to))
+        whole_by_bytes (step image (region p)) image (λ place from to. step_off q s k f p image place (off_bar p in_p can_p other place from to))
 
     -- where a number is put there, it is the BAR's
     whole_shown : (v : ℕ) → (is_wide (bar_at f.probe n) ≡ true → v < 2 ^ 64) → (is_wide (bar_at f.probe n) ≡ false → v < 2 ^ 32) → (image : List ℕ) → IsImage image
@@ -225,12 +238,12 @@ module _ (q : Request) (s : System) (k : Kept) (can : CanSettle q s k) (f : Func
       sets_bar image is =
           let far = value_reach in
           let by = highest_by (bar_at f.probe n) in
-          ap (λ o. whole_bar f.probe (shown k (region (Bar n)) o image) n) placed
+          ap (λ x. whole_bar f.probe x n) (step_plain q s k f (Bar n) refl image ∙ ap (λ o. shown k (region (Bar n)) o image) placed)
           ∙ whole_shown value (λ wide. let most = by.0 wide in omega (arith, far, most))
           (λ narrow. let most = by.1 narrow in omega (arith, far, most)) image is
 
       bar_set : whole_bar f.probe (settled_image q s k f) n ≡ value
-      bar_set = reaches IsImage (λ image. whole_bar f.probe image n ≡ value) step (changing q s f) (region (Bar n)) step_image sets_bar
+      bar_set = reaches IsImage (λ image. whole_bar f.probe image n ≡ value) step (changing q s f) (region (Bar n)) stepped_image sets_bar
           (λ r has image is same.
           let c : IsChanging q s k f r = changing_is q s k f r has in
           subst (λ t. whole_bar f.probe (step image t) n ≡ value) c.is (elim (bar_or_not n c.p) [
@@ -266,7 +279,7 @@ module _ (q : Request) (s : System) (k : Kept) (can : CanSettle q s k) (f : Func
 
   pub keeps_rom : (p : Part) → Contains (header_parts f) p → can_change q s k f p ≡ true → (Rom ≡ p → ⊥) → (image : List ℕ) → number_at (step image (region p)) rom 4 ≡ number_at image rom 4
   keeps_rom p in_p can_p other image =
-      same_number (step image (region p)) image rom 4 (λ j less. shown_off q s k f p (new_place q s k (region p)) image (rom + j) (off_rom p in_p can_p other (rom + j) (omega arith)))
+      same_number (step image (region p)) image rom 4 (λ j less. step_off q s k f p image (rom + j) (off_rom p in_p can_p other (rom + j) (omega arith)))
 
   pub rom_aside : number_at (settled_function q s k f).image rom 4 ≡ number_at (settled_image q s k f) rom 4
   rom_aside =
@@ -289,11 +302,11 @@ module _ (q : Request) (s : System) (k : Kept) (can : CanSettle q s k) (f : Func
     sets_rom : (image : List ℕ) → IsImage image → number_at (step image (region Rom)) rom 4 ≡ rom_number
     sets_rom image is =
         let full = is.full in
-        ap (λ o. number_at (shown k (region Rom) o image) rom 4) placed
+        ap (λ x. number_at x rom 4) (step_plain q s k f Rom refl image ∙ ap (λ o. shown k (region Rom) o image) placed)
         ∙ reads_four rom rom_number image (elim (rom_at_end f) [ inl a ↦ omega (arith, a, full) | inr a ↦ omega (arith, a, full) ]) small_rom
 
     rom_set : number_at (settled_image q s k f) rom 4 ≡ rom_number
-    rom_set = reaches IsImage (λ image. number_at image rom 4 ≡ rom_number) step (changing q s f) (region Rom) step_image sets_rom
+    rom_set = reaches IsImage (λ image. number_at image rom 4 ≡ rom_number) step (changing q s f) (region Rom) stepped_image sets_rom
         (λ r has image is same.
         let c : IsChanging q s k f r = changing_is q s k f r has in
         subst (λ t. number_at (step image t) rom 4 ≡ rom_number) c.is (elim (rom_or_not c.p) [
@@ -326,15 +339,15 @@ module _ (q : Request) (s : System) (k : Kept) (can : CanSettle q s k) (f : Func
           let end = bridge_bar bar.n bar.inside (can_bar q s k f bar.n (ap (can_change q s k f) bar.is ∙ can_p)) bridge in
           bounds_by_bytes c (step image (region p)) image (λ place mine.
           let low = (window_bytes c place mine).0 in
-          shown_off q s k f p (new_place q s k (region p)) image place (subst (λ o. IsOff f o place) bar.is (inr (omega (arith, end, low)))))
+          step_off q s k f p image place (subst (λ o. IsOff f o place) bar.is (inr (omega (arith, end, low)))))
       | inr (inl window) ↦ subst (λ o. bounds_at c (step image (region o)) ≡ bounds_at c image) window.is
           (bounds_by_bytes c (step image (region (Window window.kind))) image (λ place mine.
-          window_off window.kind (new_place q s k (region (Window window.kind))) image place (λ its. other (ap Window (one_window c window.kind place mine its) ∙ window.is))))
+          window_off window.kind image place (λ its. other (ap Window (one_window c window.kind place mine its) ∙ window.is))))
       | inr (inr rom) ↦
           let at : rom_register (layout f.image) ≡ 0x38 = ap (λ t. cond t 0x38 0x30) bridge in
           bounds_by_bytes c (step image (region p)) image (λ place mine.
           let high = (window_bytes c place mine).1 in
-          shown_off q s k f p (new_place q s k (region p)) image place (subst (λ o. IsOff f o place) rom (inl (omega (arith, at, high)))))
+          step_off q s k f p image place (subst (λ o. IsOff f o place) rom (inl (omega (arith, at, high)))))
     ]
 
     pub in_window : has_window c f.probe ≡ true → Contains (changing q s f) (region (Window c))
@@ -360,10 +373,10 @@ module _ (q : Request) (s : System) (k : Kept) (can : CanSettle q s k) (f : Func
       there_now = window_there q s k can c f listed bridge (window_has q s k can f c listed bridge x placed)
 
       sets_window : (image : List ℕ) → IsImage image → bounds_at c (step image (region (Window c))) ≡ bounds
-      sets_window image is = ap (λ o. bounds_at c (shown k (region (Window c)) o image)) placed ∙ bounds_shown f c bounds (shown_fit q s k can f c listed bridge there_now x placed) image is
+      sets_window image is = ap (bounds_at c) (leaves_wish c image ∙ ap (λ o. shown k (region (Window c)) o image) placed) ∙ bounds_shown f c bounds (shown_fit q s k can f c listed bridge there_now x placed) image is
 
       window_set : bounds_at c (settled_image q s k f) ≡ bounds
-      window_set = reaches IsImage (λ image. bounds_at c image ≡ bounds) step (changing q s f) (region (Window c)) step_image sets_window
+      window_set = reaches IsImage (λ image. bounds_at c image ≡ bounds) step (changing q s f) (region (Window c)) stepped_image sets_window
           (keeps_or_sets bounds (λ image is same. sets_window image is)) f.image image_is (in_window there_now)
 
       opened : (range_of (settled_function q s k f) (Window c) ≡ taken_by x.item x.at) × (is_closed c (settled_function q s k f).image ≡ false)
@@ -387,7 +400,7 @@ module _ (q : Request) (s : System) (k : Kept) (can : CanSettle q s k) (f : Func
         let v = bounds_at c f.image in
         let kept = λ (image : List ℕ) (is : IsImage image) (same : bounds_at c image ≡ v). ap (bounds_at c) (leaves image) ∙ same in
         same_bounds
-        ∙ (fold_keeps (λ image. IsImage image × (bounds_at c image ≡ v)) step (changing q s f) (λ r has image now. (step_image r has image now.0, keeps_or_sets v kept r has image now.0 now.1)) f.image (image_is, refl)).1
+        ∙ (fold_keeps (λ image. IsImage image × (bounds_at c image ≡ v)) step (changing q s f) (λ r has image now. (stepped_image r has image now.0, keeps_or_sets v kept r has image now.0 now.1)) f.image (image_is, refl)).1
 
     -- one that stays and grows shows what it comes to
     module _ (keeps : k.stays (region (Window c)) ≡ true) (none : new_place q s k (region (Window c)) ≡ None) (grows : keeps_range c ≡ false) where
@@ -402,7 +415,7 @@ module _ (q : Request) (s : System) (k : Kept) (can : CanSettle q s k) (f : Func
 
       sets_grown : (image : List ℕ) → IsImage image → bounds_at c (step image (region (Window c))) ≡ grown_bounds
       sets_grown image is =
-          ap (λ o. bounds_at c (shown k (region (Window c)) o image)) none
+          ap (bounds_at c) (leaves_wish c image ∙ ap (λ o. shown k (region (Window c)) o image) none)
           ∙ ap (λ t. bounds_at c (cond t (with_kept k (region (Window c)) image) (closed_if_open f (Window c) image))) keeps
           ∙ ap (λ t. bounds_at c (cond t image (with_bounds c grown_bounds image))) grows
           ∙ bounds_shown f c grown_bounds (more_fit q s k can f c listed bridge grown_there keeps) image is
@@ -411,7 +424,7 @@ module _ (q : Request) (s : System) (k : Kept) (can : CanSettle q s k) (f : Func
       pub window_grown : bounds_at c (settled_function q s k f).image ≡ grown_bounds
       window_grown =
           same_bounds
-          ∙ reaches IsImage (λ image. bounds_at c image ≡ grown_bounds) step (changing q s f) (region (Window c)) step_image sets_grown
+          ∙ reaches IsImage (λ image. bounds_at c image ≡ grown_bounds) step (changing q s f) (region (Window c)) stepped_image sets_grown
           (keeps_or_sets grown_bounds (λ image is same. sets_grown image is)) f.image image_is (in_window grown_there)
 
       grown_opened : (range_of (settled_function q s k f) (Window c) ≡ grown) × (is_closed c (settled_function q s k f).image ≡ false)
@@ -437,7 +450,7 @@ module _ (q : Request) (s : System) (k : Kept) (can : CanSettle q s k) (f : Func
     module _ (there : has_window c f.probe ≡ true) (moves : k.stays (region (Window c)) ≡ false) (none : new_place q s k (region (Window c)) ≡ None) where
       step_none : (image : List ℕ) → step image (region (Window c)) ≡ closed_if_open f (Window c) image
       step_none image =
-          ap (λ o. shown k (region (Window c)) o image) none
+          leaves_wish c image ∙ ap (λ o. shown k (region (Window c)) o image) none
           ∙ ap (λ t. cond t (with_kept k (region (Window c)) image) (closed_if_open f (Window c) image)) moves
 
       pub window_closed : is_closed c (settled_function q s k f).image ≡ true
@@ -448,7 +461,7 @@ module _ (q : Request) (s : System) (k : Kept) (can : CanSettle q s k) (f : Func
             ap (bounds_at c) (step_none image ∙ ap (λ t. cond t (with_bounds c v image) image) open_then) ∙ bounds_shown f c v (none_fit q s k can f c listed bridge there) image is in
             ap (closed_by c) same_bounds
             ∙ closed_shows c (settled_image q s k f) (nibble_of c f) (few_nibbles f bridge c)
-            (reaches IsImage (λ image. bounds_at c image ≡ v) step (changing q s f) (region (Window c)) step_image sets
+            (reaches IsImage (λ image. bounds_at c image ≡ v) step (changing q s f) (region (Window c)) stepped_image sets
             (keeps_or_sets v (λ image is same. sets image is)) f.image image_is (in_window there))
         | inr closed_then ↦
             ap (closed_by c) (bounds_stay (λ image. step_none image ∙ ap (λ t. cond t (with_bounds c (closed_bounds c (nibble_of c f)) image) image) closed_then))

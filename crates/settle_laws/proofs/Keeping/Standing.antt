@@ -23,11 +23,12 @@ use Rattle.settle_laws.proofs.AllStand.{no_items}
 use Rattle.settle_laws.proofs.Kept.{in_regions}
 use Rattle.settle_laws.proofs.NonePasses.{none_by}
 use Rattle.settle_laws.proofs.Shown.{fold_keeps}
-use Rattle.settle_laws.proofs.Keeping.Shown.{IsChanging, changing_is}
+use Rattle.settle_laws.specs.KeptLaws.{WishesNothing}
+use Rattle.settle_laws.proofs.Keeping.Shown.{IsChanging, changing_is, step, step_unwished}
 
 module _ (q : Request) (s : System) (k : Kept) (system : IsSystem s) (nested : IsNested q.roots s) (all : (r : FunctionPart) → Contains (system_parts q s) r → stands q s r ≡ true)
     (keeps : (r : FunctionPart) → Contains (system_parts q s) r → k.stays r ≡ true) (same : (r : FunctionPart) → Contains (system_parts q s) r → k.range r ≡ addresses r)
-    (only : (r : FunctionPart) → Contains s r.function → k.stays r ≡ true → is_part q s r.function r.part ≡ true) where
+    (only : (r : FunctionPart) → Contains s r.function → k.stays r ≡ true → is_part q s r.function r.part ≡ true) (wishless : WishesNothing k) where
   -- ---- nothing gets a place
 
   no_space_items : (space : Space) (bus : ℕ) → space_items q s k space bus ≡ []
@@ -58,10 +59,10 @@ module _ (q : Request) (s : System) (k : Kept) (system : IsSystem s) (nested : I
 
   -- ---- registers
 
-  step_leaves : (f : Function) → Contains s f → (p : Part) → Contains (header_parts f) p → (image : List ℕ) → shown k record { function = f; part = p } (new_place q s k record { function = f; part = p }) image ≡ image
+  step_leaves : (f : Function) → Contains s f → (p : Part) → Contains (header_parts f) p → (image : List ℕ) → step q s k f image record { function = f; part = p } ≡ image
   step_leaves f listed p there image =
       let r : FunctionPart = record { function = f; part = p } in
-      ap (λ o. shown k r o image) (no_place r)
+      step_unwished q s k f r (ap (λ wished. wished r) wishless) image ∙ ap (λ o. shown k r o image) (no_place r)
       ∙ elim (cases_Bool (is_part q s f p)) [
         | inl part ↦
             let has = in_regions q s f p listed there part in
@@ -90,7 +91,7 @@ module _ (q : Request) (s : System) (k : Kept) (system : IsSystem s) (nested : I
 
   pub image_stays : (f : Function) → Contains s f → settled_image q s k f ≡ f.image
   image_stays f listed =
-      fold_keeps (λ x. x ≡ f.image) (λ x r. shown k r (new_place q s k r) x) (changing q s f)
+      fold_keeps (λ x. x ≡ f.image) (step q s k f) (changing q s f)
       (λ r has x now.
       let c : IsChanging q s k f r = changing_is q s k f r has in
-      subst (λ (t : FunctionPart). shown k t (new_place q s k t) x ≡ f.image) c.is (step_leaves f listed c.p c.there x ∙ now)) f.image refl
+      subst (λ (t : FunctionPart). step q s k f x t ≡ f.image) c.is (step_leaves f listed c.p c.there x ∙ now)) f.image refl

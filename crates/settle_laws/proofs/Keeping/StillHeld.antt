@@ -13,7 +13,7 @@ use Rattle.plan_spec.proofs.Planning.LaidOut.{place_of_claim}
 use Rattle.settle_spec.specs.Lists.{Request}
 use Rattle.settle_spec.specs.Parts.{is_part, addresses, class_in}
 use Rattle.settle_spec.specs.Keeping.Registers.{is_enabled_in, settled_function}
-use Rattle.settle_spec.specs.Keeping.Writes.{changes_at, is_left_on, is_replaced, closed_function}
+use Rattle.settle_spec.specs.Keeping.Writes.{changes_window, is_left_on, is_replaced, closed_function}
 use Rattle.settle_laws.specs.Keeping.PlacesLaws.{CanSettle}
 use Rattle.settle_laws.proofs.Keeping.Claimed.{new_decodable, claimed_part, claimed}
 use Rattle.settle_laws.proofs.Keeping.ClosedMoves.{kept_window}
@@ -34,6 +34,7 @@ use Rattle.settle_spec.specs.Stands.{window_part}
 use Rattle.settle_spec.proofs.Reaching.{within_gives}
 use Rattle.pci_spec.proofs.WindowLaws.{window_holds_its_pages}
 use Rattle.settle_laws.proofs.StandingAbove.{standing_above}
+use Rattle.settle_laws.proofs.Keeping.ChangedWindows.{changes_alike}
 use Rattle.settle_laws.proofs.Keeping.ClosedImages.{staying_unreplaced}
 use Rattle.settle_laws.proofs.Keeping.Fits.{was, decodable}
 use Rattle.settle_laws.proofs.Keeping.Kept.{stays_stands, stays_listed, above_stays}
@@ -127,8 +128,8 @@ module _ (q : Request) (s : System) (k : Kept) (can : CanSettle q s k) where
       kept_by : Rests q s k (record { function = f; part = p }) → is_replaced q s k b class ≡ false
       kept_by (Stays keeps) = staying_unreplaced q s k b class (above_stays q s k can f p listed (header_of f p part.0) keeps b above)
       kept_by (Unchanged itself still) = false_from_ne_true (is_replaced q s k b class) (λ h.
-          both_ways (changes_at q s k b (Window class)) (none_passes (λ d. changes_at q s k d (Window class)) (bridges_above s f.slot.bus) still b above)
-          (and_parts (is_bridge b && not (k.stays (window_part class b))) (changes_at q s k b (Window class)) h).1)
+          both_ways (changes_window q s k class b) (none_passes (changes_window q s k class) (bridges_above s f.slot.bus) still b above)
+          (and_parts (is_bridge b && not (k.stays (window_part class b))) (changes_window q s k class b) h).1)
 
       window : IsKeptWindow b (closed b) (final b) class
       window = kept_window q s k can b class in_b bridge_b (kept_by rest)
@@ -159,7 +160,7 @@ module _ (q : Request) (s : System) (k : Kept) (can : CanSettle q s k) where
           (window_holds_its_pages class b.image b.probe a over.there).1 (omega (arith, first, from), omega (arith, last, to))
       held_by_rest (Unchanged itself still) = unchanged_holds
           (window_same b (final b) class (was q s k can b in_b).image (new_image q s k can b in_b)
-          (unchanged q s k b (Window class) (none_passes (λ d. changes_at q s k d (Window class)) (bridges_above s f.slot.bus) still b above)))
+          (unchanged q s k b (Window class) (sym (changes_alike q s k can.sound.none class b) ∙ none_passes (changes_window q s k class) (bridges_above s f.slot.bus) still b above)))
 
       held_by : IsHeldBy b (closed b) (final b) (is_prefetchable_part f p) space a
       held_by = record {

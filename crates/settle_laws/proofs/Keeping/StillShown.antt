@@ -13,9 +13,8 @@ use Rattle.plan_spec.proofs.Planning.Reached.{byte_of_number}
 use Rattle.settle_spec.specs.Lists.{Request}
 use Rattle.settle_spec.specs.Parts.{FunctionPart, is_left, is_part, header_parts, function_parts, class_in, are_same_space}
 use Rattle.settle_spec.specs.Stands.{part_space}
-use Rattle.settle_spec.specs.Keeping.Places.{new_place}
 use Rattle.settle_spec.specs.Registers.{changing}
-use Rattle.settle_spec.specs.Keeping.Registers.{shown, settled_function}
+use Rattle.settle_spec.specs.Keeping.Registers.{settled_function}
 use Rattle.settle_spec.specs.Writes.{part_registers, differs_at}
 use Rattle.settle_spec.specs.Keeping.Writes.{changes_at, changes_above, moves, is_left_on, closed_function}
 use Rattle.settle_laws.specs.Keeping.PlacesLaws.{CanSettle}
@@ -30,7 +29,7 @@ use Rattle.settle_laws.proofs.Held.{and_second_false}
 use Rattle.settle_laws.proofs.Images.{same_number}
 use Rattle.settle_laws.proofs.Keeping.SettledMoved.{new_image, kind_stays}
 use Rattle.settle_laws.proofs.Shown.{fold_keeps}
-use Rattle.settle_laws.proofs.Keeping.Shown.{IsChanging, can_change, changing_is}
+use Rattle.settle_laws.proofs.Keeping.Shown.{IsChanging, can_change, changing_is, step}
 use Rattle.settle_laws.proofs.Keeping.ShownParts.{bridge_bar, whole_by_bytes, keeps_rom, rom_aside}
 use Rattle.settle_laws.proofs.ShownParts.{rom_or_not}
 use Rattle.settle_laws.proofs.Stages.{ShowsSame}
@@ -175,10 +174,10 @@ module _ (q : Request) (s : System) (k : Kept) (can : CanSettle q s k) where
     rom_untouched off =
         let v = number_at f.image rom 4 in
         rom_aside q s k can f listed
-        ∙ fold_keeps (λ image. number_at image rom 4 ≡ v) (λ image r. shown k r (new_place q s k r) image) (changing q s f)
+        ∙ fold_keeps (λ image. number_at image rom 4 ≡ v) (step q s k f) (changing q s f)
         (λ r in_r image same.
         let c : IsChanging q s k f r = changing_is q s k f r in_r in
-        subst (λ (t : FunctionPart). number_at (shown k t (new_place q s k t) image) rom 4 ≡ v) c.is (elim (rom_or_not c.p) [
+        subst (λ (t : FunctionPart). number_at (step q s k f image t) rom 4 ≡ v) c.is (elim (rom_or_not c.p) [
           | inl here ↦ elim (or_cases (is_part q s f Rom) false (ap (can_change q s k f) here ∙ c.can)) [
             | inl part ↦ absurd (both_ways (is_part q s f Rom) off part)
             | inr other ↦ absurd (both_ways false refl other)

@@ -23,10 +23,11 @@ use Rattle.settle_spec.specs.Registers.{has_own}
 use Rattle.settle_spec.specs.Keeping.Registers.{settled, settled_function, got_place, is_enabled_in}
 use Rattle.settle_spec.specs.LiveLaws.{is_live, has_live_behind}
 use Rattle.settle_spec.specs.Writes.{differs_at, part_registers, is_cut_off_in, closing_registers, setting_registers}
-use Rattle.settle_spec.specs.Keeping.Writes.{changes_at, changes_above, moves, has_moving, is_shut_itself, is_shut, is_left_on, is_replaced, closed_function, closing_of, setting_of, closing_from, setting_from, opening_from, closings, settle_writes}
+use Rattle.settle_spec.specs.Keeping.Writes.{changes_at, changes_window, changes_above, moves, has_moving, is_shut_itself, is_shut, is_left_on, is_replaced, closed_function, closing_of, setting_of, closing_from, setting_from, opening_from, closings, settle_writes}
 use Rattle.settle_spec.proofs.Live.{live_by_bus}
 use Rattle.settle_spec.proofs.Nested.{at_secondary}
 use Rattle.settle_laws.proofs.ClosedSame.{none_flat, no_difference}
+use Rattle.settle_laws.proofs.Keeping.ChangedWindows.{no_window_changes}
 use Rattle.settle_laws.proofs.Keeping.ClosedSame.{closed_same}
 use Rattle.settle_laws.proofs.Keeping.Commands.{on_settled, settled_is, enabled_unleft}
 use Rattle.settle_laws.proofs.Keeping.Held.{above_above}
@@ -53,7 +54,8 @@ module _ (q : Request) (s : System) (k : Kept) (system : IsSystem s) (nested : I
   moves_nowhere f listed p =
       and_right (not (k.stays record { function = f; part = p })) (changes_at q s k f p || changes_above q s k (class_in q s f p) f.slot.bus)
       (or_from (changes_at q s k f p) (changes_above q s k (class_in q s f p) f.slot.bus) (changes_nowhere f listed p)
-      (none_by (λ b. changes_at q s k b (Window (class_in q s f p))) (bridges_above s f.slot.bus) (λ b has. changes_nowhere b (above_to s f.slot.bus b has).listed (Window (class_in q s f p)))))
+      (none_by (changes_window q s k (class_in q s f p)) (bridges_above s f.slot.bus)
+      (λ b has. no_window_changes q s k (class_in q s f p) b (changes_nowhere b (above_to s f.slot.bus b has).listed (Window (class_in q s f p))))))
 
   none_moves : (space : Space) (f : Function) → Contains s f → has_moving q s k space f ≡ false
   none_moves space f listed = none_by (λ r. are_same_space space (part_space r) && not (is_window r.part) && moves q s k r) (function_parts q s f)
@@ -124,7 +126,7 @@ module _ (q : Request) (s : System) (k : Kept) (system : IsSystem s) (nested : I
 
   -- so its closed state is itself
   not_replaced : (f : Function) → Contains s f → (c : WindowKind) → is_replaced q s k f c ≡ false
-  not_replaced f listed c = and_right (is_bridge f && not (k.stays (window_part c f))) (changes_at q s k f (Window c)) (changes_nowhere f listed (Window c))
+  not_replaced f listed c = and_right (is_bridge f && not (k.stays (window_part c f))) (changes_window q s k c f) (no_window_changes q s k c f (changes_nowhere f listed (Window c)))
 
   closed_is : (f : Function) → Contains s f → closed_function q s k f ≡ f
   closed_is f listed = closed_same q s k f (images_of s system f listed) (not_replaced f listed) (left_as_on f listed)
