@@ -64,7 +64,7 @@ tree_is_settled anew = settled_sound (asked anew) start (standing anew) (tree_ca
 -- settled once more it stays as it is,
 tree_stays : (anew : Bool)
     → settled (asked anew) (settled (asked anew) start (standing anew)) (as_it_stands (asked anew) (settled (asked anew) start (standing anew))) ≡ settled (asked anew) start (standing anew)
-tree_stays anew = settled_again (asked anew) start (standing anew) (tree_can_settle anew)
+tree_stays anew = settled_again (asked anew) start (standing anew) (tree_can_settle anew) (λ all. refl)
 
 -- and all of it stays, where not all is placed anew
 its_parts_stay : (r : FunctionPart) → Contains (system_parts request (settled request start (standing false))) r → IsTrue (stays request (settled request start (standing false)) r)

@@ -15,6 +15,7 @@ pub mod ClosedImages
 pub mod ClosedMoves
 pub mod ClosedSame
 pub mod Commands
+pub mod Ends
 pub mod Few
 pub mod Fits
 pub mod Held
@@ -42,3 +43,4 @@ pub mod StillHeld
 pub mod StillShown
 pub mod Stopping
 pub mod Unchanged
+pub mod Wishless

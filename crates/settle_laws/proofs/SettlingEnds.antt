@@ -17,7 +17,7 @@ use Rattle.settle_spec.specs.Keeping.Places.{lacking}
 use Rattle.settle_spec.specs.Keeping.Writes.{closings, settle_writes, settle_keeping}
 use Rattle.settle_spec.specs.Growing.{or_else, settle_growing}
 use Rattle.settle_laws.specs.GrowingLaws.{CanBeAsked, closings_by, growing_closings, SettledGrowingIsSound, SettlingGrowingCanStop, FewGrowingWritesEach, SettlingGrowingAgainWritesNothing}
-use Rattle.settle_laws.specs.KeptLaws.{IsSoundKept}
+use Rattle.settle_laws.specs.KeptLaws.{IsSoundKept, WishesNothing}
 use Rattle.settle_laws.specs.WriteLaws.{most_settle_writes}
 use Rattle.settle_laws.specs.Keeping.PlacesLaws.{CanSettle}
 use Rattle.settle_laws.proofs.NothingGrows.{anew_nothing_grows}
@@ -100,17 +100,17 @@ module _ (q : Request) (s : System) (asked : CanBeAsked q s) (k : Kept) (sound :
       (subst (λ t. settle_growing q t ≡ Settled []) (sym (writes_settle q s k can))
       (nothing_grows q (settled q s k) (new_system q s k can) (settled_sound q s k can) (all_stand q s k can kept) (all_left_off q s k can) can.lists))
 
-  kept_anew : (writes : List Write) → settle_keeping q s k ≡ Settled writes → q.anew ≡ true → settle_growing q (system_after s writes) ≡ Settled []
-  kept_anew writes e anew =
+  kept_anew : WishesNothing k → (writes : List Write) → settle_keeping q s k ≡ Settled writes → q.anew ≡ true → settle_growing q (system_after s writes) ≡ Settled []
+  kept_anew wishless writes e anew =
       let can = kept_can writes e in
       let end = kept_end writes e in
       subst (λ ws. settle_growing q (system_after s ws) ≡ Settled []) end.same
       (subst (λ t. settle_growing q t ≡ Settled []) (sym (writes_settle q s k can))
-      (anew_nothing_grows q (settled q s k) anew ∙ anew_again q s k can anew end.stand end.unwritten))
+      (anew_nothing_grows q (settled q s k) anew ∙ anew_again q s k can anew end.stand end.unwritten wishless))
 
-  kept_nothing : (writes : List Write) → settle_keeping q s k ≡ Settled writes → settle_growing q (system_after s writes) ≡ Settled []
-  kept_nothing writes e = elim (cases_Bool q.anew) [
-    | inl anew ↦ kept_anew writes e anew
+  kept_nothing : WishesNothing k → (writes : List Write) → settle_keeping q s k ≡ Settled writes → settle_growing q (system_after s writes) ≡ Settled []
+  kept_nothing wishless writes e = elim (cases_Bool q.anew) [
+    | inl anew ↦ kept_anew wishless writes e anew
     | inr kept ↦ kept_again writes e kept
   ]
 
@@ -161,10 +161,10 @@ module _ (q : Request) (s : System) (asked : CanBeAsked q s) where
   again_nothing writes e = by (settle_keeping q s k) refl e
     where
       by : (o : Settling) → settle_keeping q s k ≡ o → or_else o (settle_keeping q s j) ≡ Settled writes → settle_growing q (system_after s writes) ≡ Settled []
-      by (Settled own) is e = kept_nothing q s asked k grown writes (is ∙ e)
-      by BadLists is e = kept_nothing q s asked j plain writes e
-      by (Fixed slot register) is e = kept_nothing q s asked j plain writes e
-      by (NoRoom class slot register size alignment) is e = kept_nothing q s asked j plain writes e
+      by (Settled own) is e = kept_nothing q s asked k grown refl writes (is ∙ e)
+      by BadLists is e = kept_nothing q s asked j plain refl writes e
+      by (Fixed slot register) is e = kept_nothing q s asked j plain refl writes e
+      by (NoRoom class slot register size alignment) is e = kept_nothing q s asked j plain refl writes e
 
 pub settled_growing_is_sound : SettledGrowingIsSound
 settled_growing_is_sound q s writes asked e = ends_sound q s asked writes e

@@ -18,6 +18,7 @@ use Rattle.stand_laws.proofs.StandingKept.{standing_kept}
 use Rattle.settle_laws.specs.KeptLaws.{IsGrown, IsSoundKept}
 use Rattle.settle_laws.proofs.GrowingPlaces.{growing_places, growing_grown}
 use Rattle.settle_laws.proofs.Kept.{stays_holds, stays_over}
+use Rattle.settle_laws.proofs.Keeping.Wishless.{none_wished}
 use Rattle.settle_laws.proofs.LowWindows.{windows_low}
 use Rattle.settle_laws.proofs.KeptTaken.{items_aligned, on_bus, standing_places}
 
@@ -47,7 +48,7 @@ module _ (q : Request) (s : System) (system : IsSystem s) (nested : IsNested q.r
         (λ t beside class is. refl)
         (λ i xs class. ap (λ d. place_in (addresses (window_part d b)) i xs) class)
         taken to back;
-    none = refl;
+    wished = none_wished q s (as_it_stands q s) refl;
   }
     where
       and_true : (x : Bool) → (x && true) ≡ x
@@ -61,5 +62,5 @@ module _ (q : Request) (s : System) (system : IsSystem s) (nested : IsNested q.r
     plain = only_windows_grow q s;
     grown = growing_grown q s system nested low;
     places = growing_places q s system nested low;
-    none = refl;
+    wished = none_wished q s (growing q s) refl;
   }

@@ -1,5 +1,5 @@
 -- What stays with its addresses keeps its registers and doesn't move, and a function whose BARs and ROM stay isn't shut.
-use Rattle.std.proofs.Common.{◌≡◌, ℕ, ◌+◌, ◌*◌, ◌^◌, inl, inr, List, [], ◌∷◌, Bool, true, false, cond, not, ◌&&◌, arith, refl, sym, ◌∙◌, ap, subst, ◌||◌}
+use Rattle.std.proofs.Common.{◌≡◌, ℕ, ◌+◌, ◌*◌, ◌^◌, inl, inr, List, [], ◌∷◌, Bool, true, false, cond, not, ◌&&◌, arith, refl, sym, ◌∙◌, ap, subst, ◌||◌, None}
 use Rattle.std.specs.Bool.{◌==◌, if◌then◌else◌}
 use Rattle.std.specs.List.{Contains, list_any}
 use Rattle.std.proofs.lemmas.Bool.{and_parts, and_right, cases_Bool, eq-eqb, ltb-true, not-true, not_from_true, or_from}
@@ -85,14 +85,14 @@ module _ (q : Request) (s : System) (k : Kept) (can : CanSettle q s k) where
       (eq-eqb (number_at (settled_function q s k f).image r.0 r.1) (number_at f.image r.0 r.1) (same r has)))
 
   -- The law: a part that stays with the addresses that it has keeps its registers.
-  pub part_rests : (f : Function) (p : Part) → Contains s f → has_part f p ≡ true → k.stays record { function = f; part = p } ≡ true → k.range record { function = f; part = p } ≡ addresses record { function = f; part = p } → changes_at q s k f p ≡ false
-  part_rests f (Bar n) listed there keeps same = unchanged f (Bar n)
+  pub part_rests : (f : Function) (p : Part) → Contains s f → has_part f p ≡ true → k.stays record { function = f; part = p } ≡ true → k.range record { function = f; part = p } ≡ addresses record { function = f; part = p } → k.wished record { function = f; part = p } ≡ None → changes_at q s k f p ≡ false
+  part_rests f (Bar n) listed there keeps same unwished = unchanged f (Bar n)
       (one_more (settled_function q s k f).image f.image (bar_register n) (if is_wide (bar_at f.probe n) then 8 else 4) []
       (bar_number f.probe (settled_function q s k f).image f.image n (is_wide (bar_at f.probe n)) refl
       (bar_stays q s k can f listed n (ltb-true n (bar_count (layout f.image)) there) there keeps)) (none_more (settled_function q s k f).image f.image))
-  part_rests f Rom listed there keeps same = unchanged f Rom
+  part_rests f Rom listed there keeps same unwished = unchanged f Rom
       (one_more (settled_function q s k f).image f.image (rom_register (layout f.image)) 4 [] (rom_stays q s k can f listed keeps) (none_more (settled_function q s k f).image f.image))
-  part_rests f (Window c) listed there keeps same = unchanged f (Window c) (window_numbers f (settled_function q s k f).image f.image c (window_stays q s k can f listed c there keeps (ap (λ t. is_same_range t (addresses record { function = f; part = Window c })) same ∙ range_itself (addresses record { function = f; part = Window c }))))
+  part_rests f (Window c) listed there keeps same unwished = unchanged f (Window c) (window_numbers f (settled_function q s k f).image f.image c (window_stays q s k can f listed c unwished there keeps (ap (λ t. is_same_range t (addresses record { function = f; part = Window c })) same ∙ range_itself (addresses record { function = f; part = Window c }))))
 
 module _ (q : Request) (s : System) (k : Kept) where
   -- The law: what stays doesn't move.

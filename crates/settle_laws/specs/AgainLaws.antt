@@ -10,6 +10,7 @@ use Rattle.settle_spec.specs.Items.{stays}
 use Rattle.settle_spec.specs.Kept.{Kept, as_it_stands, growing}
 use Rattle.settle_spec.specs.Keeping.Registers.{settled, settled_function}
 use Rattle.settle_spec.specs.Keeping.Writes.{settle_writes}
+use Rattle.settle_laws.specs.KeptLaws.{WishesNothing}
 use Rattle.settle_laws.specs.Keeping.PlacesLaws.{CanSettle, end_range}
 
 -- What can be settled beside what is kept can be settled again beside what stays as it stands then:
@@ -24,10 +25,10 @@ SettledPartsStay =
     (q : Request) (s : System) (k : Kept) → CanSettle q s k → IsFalse q.anew → (r : FunctionPart)
     → Contains (system_parts q (settled q s k)) r → IsTrue (stays q (settled q s k) r)
 
--- and in any case each part ends where it ended.
+-- and each part ends where it ended: where all is placed anew, this is asked only if nothing is wished.
 abbrev pub PartsEndWhereTheyEnded : Type 0
 PartsEndWhereTheyEnded =
-    (q : Request) (s : System) (k : Kept) → CanSettle q s k → (f : Function) (p : Part) → Contains s f
+    (q : Request) (s : System) (k : Kept) → CanSettle q s k → (IsTrue q.anew → WishesNothing k) → (f : Function) (p : Part) → Contains s f
     → IsTrue (has_part f p)
     → end_range q (settled q s k) (as_it_stands q (settled q s k)) record { function = settled_function q s k f; part = p }
     ≡ end_range q s k record { function = f; part = p }
@@ -35,13 +36,13 @@ PartsEndWhereTheyEnded =
 -- So nothing changes,
 abbrev pub SettledStays : Type 0
 SettledStays =
-    (q : Request) (s : System) (k : Kept) → CanSettle q s k
+    (q : Request) (s : System) (k : Kept) → CanSettle q s k → (IsTrue q.anew → WishesNothing k)
     → settled q (settled q s k) (as_it_stands q (settled q s k)) ≡ settled q s k
 
 -- and nothing is written.
 abbrev pub SettlingAgainWritesNothing : Type 0
 SettlingAgainWritesNothing =
-    (q : Request) (s : System) (k : Kept) → CanSettle q s k
+    (q : Request) (s : System) (k : Kept) → CanSettle q s k → (IsTrue q.anew → WishesNothing k)
     → settle_writes q (settled q s k) (as_it_stands q (settled q s k)) ≡ []
 
 -- A sound start is settled already where each part of it stands, and I/O is off in each function with an I/O BAR that is left.

@@ -1,20 +1,22 @@
 -- Laws of what is kept as a system is settled: a window that stays has a place for each item of its class behind it.
-use Rattle.std.specs.Prelude.{◌≡◌, ◌+◌, ◌%◌, ◌<◌, ◌≤◌, ◌⊎◌, ℕ, IsTrue, IsFalse, Option, List, [], ◌∷◌}
+use Rattle.std.specs.Prelude.{◌≡◌, ◌≢◌, ◌+◌, ◌%◌, ◌<◌, ◌≤◌, ◌⊎◌, ℕ, IsTrue, IsFalse, Option, None, Some, List, [], ◌∷◌}
 use Rattle.std.specs.List.{Contains}
-use Rattle.pci_spec.specs.Window.{WindowKind, bounds_for, page_size}
+use Rattle.pci_spec.specs.Window.{WindowKind, bounds_for, has_window, page_size}
 use Rattle.pci_spec.specs.Decoded.{Range}
-use Rattle.pci_spec.specs.System.{System, Function, IsSystem, is_bridge, is_window, window_space}
-use Rattle.pci_spec.specs.Bus.{secondary, IsNested}
+use Rattle.pci_spec.specs.System.{System, Function, IsSystem, has_part, is_bridge, is_window, window_space}
+use Rattle.pci_spec.specs.Bus.{is_root, secondary, IsNested, LeadsTo}
 use Rattle.pci_spec.specs.Sound.{IsInProfile}
+use Rattle.plan_spec.specs.Planning.Layout.{IsInside, LieApart}
 use Rattle.settle_spec.specs.Lists.{Request}
 use Rattle.settle_spec.specs.Parts.{FunctionPart, addresses, lies_within}
-use Rattle.settle_spec.specs.Stands.{window_part}
+use Rattle.settle_spec.specs.Stands.{is_fixed_part, rank, are_beside, is_in_lists, window_part}
 use Rattle.settle_spec.specs.Items.{Item, Placed, AllPlaced, bus_items, highest_in, new_window}
 use Rattle.settle_spec.specs.PlacingLaws.{ArePlaced}
 use Rattle.settle_spec.specs.Growth.{place_each}
 use Rattle.settle_spec.specs.GrowthLaws.{MoveOut}
 use Rattle.settle_spec.specs.Kept.{Kept, no_wish, as_it_stands, growing}
 use Rattle.settle_spec.specs.Keeping.Places.{taken_at}
+use Rattle.settle_spec.specs.Wishes.{place_then, range_then}
 use Rattle.stand_laws.specs.KeptApart.{IsKeptApart}
 
 -- a range shares no address with another
@@ -43,9 +45,36 @@ pub record IsGrown (c : WindowKind) (b : Function) (r : Range) : Type 0 where
 abbrev pub WishesNothing : Kept → Type 0
 WishesNothing k = k.wished ≡ no_wish
 
+-- A window of a bridge keeps room free up to such addresses. They are whole pages that the window can hold, with all that it
+-- has else, and no half of its bounds is further in. They are off all other parts on the bridge's bus, and in the lists of the
+-- root or in the window above, with its room. The bridge isn't fixed.
+pub record IsWishedWindow (q : Request) (s : System) (k : Kept) (c : WindowKind) (b : Function) (w : Range) : Type 0 where
+  pub there : IsTrue (has_window c b.probe)
+  pub unfixed : IsFalse (is_fixed_part q (window_part c b))
+  pub forward : w.first ≤ w.last
+  pub first : w.first % page_size c ≡ 0
+  pub last : (w.last + 1) % page_size c ≡ 0
+  pub low : w.last ≤ highest_in c b.probe
+  pub holds : (t : Range) → place_then q s k (window_part c b) ≡ Some t → IsInside t w
+  pub outward : (t : Range) → place_then q s k (window_part c b) ≡ Some t → (n : ℕ)
+      → MoveOut (bounds_for c n t.first t.last) (bounds_for c n w.first w.last)
+  pub apart : (r : FunctionPart) (t : Range) → Contains s r.function → IsTrue (has_part r.function r.part)
+      → IsTrue (are_beside q (window_part c b) r) → rank r ≢ rank (window_part c b)
+      → range_then q s k r ≡ Some t → LieApart w t
+  pub lists : IsTrue (is_root q.roots b.slot.bus) → IsTrue (is_in_lists q b.slot.bus w (window_space c))
+  pub over : (d : Function) → LeadsTo s d b.slot.bus
+      → (v : Range) × (range_then q s k (window_part c d) ≡ Some v) × IsInside w v
+
+-- So it is with each window that keeps room free. No BAR or ROM does.
+pub record IsWished (q : Request) (s : System) (k : Kept) : Type 0 where
+  pub windows : (c : WindowKind) (b : Function) (w : Range) → Contains s b → IsTrue (is_bridge b)
+      → k.wished (window_part c b) ≡ Some w → IsWishedWindow q s k c b w
+  pub plain : (r : FunctionPart) → Contains s r.function → IsTrue (has_part r.function r.part)
+      → IsFalse (is_window r.part) → k.wished r ≡ None
+
 -- What stays is apart, in its lists or in the window over it, and has all addresses that it had; a BAR or ROM has the same ones.
 -- A window that stays has such pages, and a place for each item of its class behind it, whatever else is taken outside it.
--- Nothing is wished.
+-- Room that is kept free is so, too.
 pub record IsSoundKept (q : Request) (s : System) (k : Kept) : Type 0 where
   pub apart : IsKeptApart q s k
   pub holds : (r : FunctionPart) → IsTrue (lies_within (addresses r) (k.range r))
@@ -58,7 +87,7 @@ pub record IsSoundKept (q : Request) (s : System) (k : Kept) : Type 0 where
       → IsAlikeIn (k.range (window_part c b)) (taken_at q s k (window_space c) (secondary b)) taken
       → HavePlaces (k.range (window_part c b)) (k.place b) taken
       (bus_items q s c k.stays (new_window q s c) (secondary b))
-  pub none : WishesNothing k
+  pub wished : IsWished q s k
 
 -- So it is with what stays as it stands,
 abbrev pub StandingIsSound : Type 0

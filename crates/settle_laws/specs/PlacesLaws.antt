@@ -1,5 +1,6 @@
 -- Laws of places: where all is placed anew, nothing stays.
-use Rattle.std.specs.Prelude.{IsTrue, IsFalse, Option, Some, None}
+use Rattle.std.specs.Prelude.{IsTrue, IsFalse, Option}
+use Rattle.std.specs.Option.{option_map}
 use Rattle.pci_spec.specs.Decoded.{Range}
 use Rattle.pci_spec.specs.System.{System}
 use Rattle.settle_spec.specs.Lists.{Request}
@@ -12,5 +13,4 @@ NothingStaysAnew = (q : Request) (s : System) → IsTrue q.anew → (r : Functio
 
 -- the addresses of a place
 abbrev pub place_range : Option Placed → Option Range
-place_range None = None
-place_range (Some x) = Some (taken_by x.item x.at)
+place_range o = option_map (λ (x : Placed). taken_by x.item x.at) o

@@ -74,13 +74,13 @@ LeftAloneIsNeverOff =
     → IsLeftAlone q s k f → (n : ℕ)
     → (g : Function) × Contains (system_after s (take n (settle_writes q s k))) g × HasAllOf f g
 
--- A part that stays with the addresses that it has keeps its registers,
+-- A part that stays with the addresses that it has, and keeps no room free, keeps its registers,
 abbrev pub StayingRests : Type 0
 StayingRests =
     (q : Request) (s : System) (k : Kept) → CanSettle q s k → (f : Function) (p : Part) → Contains s f
     → IsTrue (has_part f p) → IsTrue (k.stays record { function = f; part = p })
     → k.range record { function = f; part = p } ≡ addresses record { function = f; part = p }
-    → IsFalse (changes_at q s k f p)
+    → k.wished record { function = f; part = p } ≡ None → IsFalse (changes_at q s k f p)
 
 -- and what stays doesn't move.
 abbrev pub StayingMovesNowhere : Type 0

@@ -1,5 +1,5 @@
 -- What is settled is alike to what it was, so where all is placed anew everything gets the place that it got.
-use Rattle.std.proofs.Common.{◌≡◌, refl, sym, ◌∙◌, Option, None, Some}
+use Rattle.std.proofs.Common.{◌≡◌, refl, sym, ◌∙◌, Option, None, Some, ap}
 use Rattle.std.specs.Bool.{IsTrue}
 use Rattle.std.specs.List.{AllZip, Contains}
 use Rattle.pci_spec.specs.System.{System, Function, Part}
@@ -21,6 +21,8 @@ use Rattle.settle_laws.proofs.KeptAside.{each_by}
 use Rattle.settle_laws.proofs.Zipped.{BothOrNone}
 use Rattle.settle_laws.proofs.Keeping.Claimed.{rom_switch}
 use Rattle.settle_laws.proofs.Keeping.Fits.{was}
+use Rattle.settle_laws.specs.KeptLaws.{WishesNothing}
+use Rattle.settle_laws.proofs.Keeping.Ends.{unwished_end}
 use Rattle.settle_laws.proofs.Keeping.InWindows.{placed_range}
 use Rattle.settle_laws.proofs.Keeping.Kept.{none_kept}
 use Rattle.settle_laws.proofs.Keeping.Moves.{moves}
@@ -61,13 +63,13 @@ module _ (q : Request) (s : System) (k : Kept) (can : CanSettle q s k) (anew : I
       new_places_alike q anew s t (all_alike q s k can) k j (none_kept q s k can anew) (none_stays q t anew) record { function = f; part = p } record { function = settled_function q s k f; part = p } record { function = settled_alike q s k can f listed; part = refl }
 
   -- so it ends where it ended
-  pub ends_again : (f : Function) (p : Part) → Contains s f → end_range q t j record { function = settled_function q s k f; part = p } ≡ end_range q s k record { function = f; part = p }
-  ends_again f p listed =
+  pub ends_again : WishesNothing k → (f : Function) (p : Part) → Contains s f → end_range q t j record { function = settled_function q s k f; part = p } ≡ end_range q s k record { function = f; part = p }
+  ends_again wishless f p listed =
       let r : FunctionPart = record { function = f; part = p } in
       let u : FunctionPart = record { function = settled_function q s k f; part = p } in
       placed_range q t j u (none_stays q t anew u)
       ∙ sym (by (new_place q s k r) (new_place q t j u) (again_alike f p listed))
-      ∙ sym (placed_range q s k r (none_kept q s k can anew r))
+      ∙ sym (unwished_end q s k r (ap (λ wish. wish r) wishless) ∙ placed_range q s k r (none_kept q s k can anew r))
     where
       by : (o n : Option Placed) → BothOrNone IsAlikePlaced o n → place_range o ≡ place_range n
       by None None both = refl

@@ -1,5 +1,5 @@
 -- What is settled can be settled again, and each part ends where it ended.
-use Rattle.std.proofs.Common.{◌≡◌, inl, inr, true, refl, sym, ◌∙◌, ap, Option, None, Some, false}
+use Rattle.std.proofs.Common.{◌≡◌, inl, inr, true, refl, sym, ◌∙◌, ap, Option, None, Some, false, IsTrue}
 use Rattle.std.specs.Bool.{nat_lt}
 use Rattle.std.specs.List.{Contains}
 use Rattle.std.proofs.lemmas.Bool.{both_ways, cases_Bool, false_from_ne_true}
@@ -21,6 +21,8 @@ use Rattle.settle_laws.proofs.AllStand.{all_stay}
 use Rattle.settle_laws.proofs.StandingPlaces.{no_place, none_lacks}
 use Rattle.settle_laws.proofs.Keeping.Claimed.{bridge_stays, ends_open}
 use Rattle.settle_laws.proofs.HeaderParts.{header_of}
+use Rattle.settle_laws.specs.KeptLaws.{WishesNothing}
+use Rattle.settle_laws.proofs.Keeping.Ends.{plain_end}
 use Rattle.settle_laws.proofs.Keeping.InWindows.{kept_range, placed_range, place_of_range}
 use Rattle.settle_laws.proofs.Kept.{in_regions, stays_part as stays_part_of}
 use Rattle.settle_laws.proofs.Keeping.Kept.{stays_part}
@@ -57,7 +59,7 @@ module _ (q : Request) (s : System) (k : Kept) (can : CanSettle q s k) where
     own_part plain u ends = elim (cases_Bool (k.stays before)) [
       | inl keeps ↦ stays_part q s k can before listed keeps
       | inr moves ↦
-          let x = place_of_range q s k (new_place q s k before) u (sym (placed_range q s k before moves) ∙ ends) in
+          let x = place_of_range q s k (new_place q s k before) u (sym (placed_range q s k before moves) ∙ sym (plain_end q s k can f p listed there plain) ∙ ends) in
           own_placed q s k can f listed p plain there x.0 x.1
     ]
 
@@ -97,9 +99,9 @@ module _ (q : Request) (s : System) (k : Kept) (can : CanSettle q s k) where
 
   -- ---- in either case
 
-  pub ends_stay : (f : Function) (p : Part) → Contains s f → has_part f p ≡ true → end_range q t j record { function = now f; part = p } ≡ end_range q s k record { function = f; part = p }
-  ends_stay f p listed there = elim (cases_Bool q.anew) [
-    | inl anew ↦ ends_again q s k can anew f p listed
+  pub ends_stay : (IsTrue q.anew → WishesNothing k) → (f : Function) (p : Part) → Contains s f → has_part f p ≡ true → end_range q t j record { function = now f; part = p } ≡ end_range q s k record { function = f; part = p }
+  ends_stay rests f p listed there = elim (cases_Bool q.anew) [
+    | inl anew ↦ ends_again q s k can anew (rests anew) f p listed
     | inr kept ↦ ends_kept kept f p listed there
   ]
 

@@ -30,6 +30,8 @@ use Rattle.settle_laws.proofs.BarReach.{size_is, top_here}
 use Rattle.settle_laws.proofs.Keeping.Claimed.{bridge_stays, rest_closed}
 use Rattle.settle_laws.proofs.Keeping.Fits.{was, decodable}
 use Rattle.settle_laws.proofs.HeaderParts.{part_cases}
+use Rattle.settle_laws.specs.KeptLaws.{WishesNothing}
+use Rattle.settle_laws.proofs.Keeping.Ends.{unwished_end}
 use Rattle.settle_laws.proofs.Keeping.InWindows.{placed_range}
 use Rattle.settle_laws.proofs.Reput.{put_bar, put_four, put_bounds}
 use Rattle.settle_laws.proofs.Keeping.RomPlaces.{rom_is_even}
@@ -46,7 +48,7 @@ low_stays : (a w e : ℕ) → 0 < e → IsMultiple a e → (a + w % e) % e ≡ w
 low_stays a w e some (k, is) =
     ap (λ n. (n + w % e) % e) is ∙ mul-add-mod_self_right k e (w % e) ∙ mod-eq_of_lt (mod_below w e some)
 
-module _ (q : Request) (s : System) (k : Kept) (can : CanSettle q s k) (anew : IsTrue q.anew) (f : Function) (listed : Contains s f) where
+module _ (q : Request) (s : System) (k : Kept) (can : CanSettle q s k) (anew : IsTrue q.anew) (wishless : WishesNothing k) (f : Function) (listed : Contains s f) where
   abbrev t : System
   t = settled q s k
 
@@ -117,13 +119,13 @@ module _ (q : Request) (s : System) (k : Kept) (can : CanSettle q s k) (anew : I
     window_again : (o p : Option Placed) → new_place q s k (before (Window c)) ≡ o → BothOrNone IsAlikePlaced o p → shown j (after (Window c)) p g.image ≡ g.image
     window_again None None placed both =
         ap (λ b. cond b (with_kept j (after (Window c)) g.image) (closed_if_open g (Window c) g.image)) (none_stays q t anew (after (Window c)))
-        ∙ ap (λ b. cond b (with_bounds c (closed_bounds c (nibble_of c g)) g.image) g.image) (rest_closed q s k can f c listed (placed_range q s k (before (Window c)) (none_kept q s k can anew (before (Window c))) ∙ ap place_range placed))
+        ∙ ap (λ b. cond b (with_bounds c (closed_bounds c (nibble_of c g)) g.image) g.image) (rest_closed q s k can f c listed (unwished_end q s k (before (Window c)) (ap (λ wish. wish (before (Window c))) wishless) ∙ placed_range q s k (before (Window c)) (none_kept q s k can anew (before (Window c))) ∙ ap place_range placed))
     window_again None (Some y) placed both = absurd both
     window_again (Some x) None placed both = absurd both
     window_again (Some x) (Some y) placed both =
         let at = both.at in
         let extent = both.item.extent in
-        let now = window_now q s k can f listed c bridge x placed in
+        let now = window_now q s k can f listed c bridge (ap (λ wish. wish (before (Window c))) wishless) x placed in
         let same : bounds_for c (nibble_of c f) y.at (y.at + (y.item.extent.size - 1)) ≡ bounds_at c g.image =
         (λ i. bounds_for c (nibble_of c f) (sym at i) (sym at i + ((sym extent i).size - 1))) ∙ sym now in
         ap (λ v. with_bounds c v g.image) same ∙ put_bounds g.image image c

@@ -28,8 +28,7 @@ use Rattle.settle_laws.proofs.AllInPlace.{all_in_place, apart_from, beside_of, l
 use Rattle.settle_laws.proofs.Keeping.Claimed.{HasEnd, bridge_stays, ends_open, part_shown}
 use Rattle.settle_laws.proofs.Keeping.Fits.{was}
 use Rattle.settle_laws.proofs.InLists.{within_from, within_gives}
-use Rattle.settle_laws.proofs.Keeping.InLists.{on_root}
-use Rattle.settle_laws.proofs.Keeping.InWindows.{IsInWindow, in_window, are_apart as ends_apart}
+use Rattle.settle_laws.proofs.Keeping.Ends.{IsInWindow, in_window, on_root, are_apart as ends_apart}
 use Rattle.settle_laws.proofs.Kept.{off_roots, one_space}
 use Rattle.settle_laws.proofs.Keeping.Moves.{moves, new_nested, new_system}
 use Rattle.settle_laws.proofs.PartClasses.{by_tests, by_windows, prefetchable_space, prefetch_windows}

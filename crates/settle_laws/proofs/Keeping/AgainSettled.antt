@@ -1,5 +1,5 @@
 -- Settling what is settled changes nothing, so nothing is written.
-use Rattle.std.proofs.Common.{◌≡◌, inl, inr, [], true, false, ◌&&◌, ◌||◌, not, sym, ◌∙◌, ap, subst}
+use Rattle.std.proofs.Common.{◌≡◌, inl, inr, [], true, false, ◌&&◌, ◌||◌, not, sym, ◌∙◌, ap, subst, IsTrue}
 use Rattle.std.specs.List.{Contains}
 use Rattle.std.proofs.lemmas.Bool.{both_ways, cases_Bool, false_from_ne_true, not-true, or_left, or_right, and_from}
 use Rattle.pci_spec.specs.System.{System, Function, Space, Io, is_space_on}
@@ -19,6 +19,7 @@ use Rattle.settle_laws.proofs.Keeping.Commands.{enabled_unleft}
 use Rattle.settle_laws.proofs.Keeping.Moves.{new_system, new_nested}
 use Rattle.settle_laws.proofs.Keeping.SettledAlready.{settled_already}
 use Rattle.settle_laws.proofs.Keeping.SettledSound.{settled_sound}
+use Rattle.settle_laws.specs.KeptLaws.{WishesNothing}
 use Rattle.settle_laws.proofs.Keeping.Unchanged.{no_write}
 use Rattle.settle_spec.specs.Kept.{Kept, as_it_stands}
 
@@ -34,9 +35,9 @@ module _ (q : Request) (s : System) (k : Kept) (can : CanSettle q s k) where
 
   -- ---- all is placed anew, or all stays
 
-  image_same : (f : Function) → Contains s f → settled_image q t j (now f) ≡ (now f).image
-  image_same f listed = elim (cases_Bool q.anew) [
-    | inl anew ↦ image_again q s k can anew f listed
+  image_same : (IsTrue q.anew → WishesNothing k) → (f : Function) → Contains s f → settled_image q t j (now f) ≡ (now f).image
+  image_same rests f listed = elim (cases_Bool q.anew) [
+    | inl anew ↦ image_again q s k can anew (rests anew) f listed
     | inr kept ↦ image_stays q t (new_system q s k can) (new_nested q s k can) (all_stand q s k can kept) (now f) (in_map_from now s f listed)
   ]
 
@@ -68,14 +69,14 @@ module _ (q : Request) (s : System) (k : Kept) (can : CanSettle q s k) where
   pub all_left_off : (g : Function) → Contains t g → has_left q t g ≡ true → is_space_on g Io ≡ false
   all_left_off g has left = (let f : IsMade now s g = of_old g has in subst (λ x. is_space_on x Io ≡ false) f.is (left_off f.from f.has (ap (has_left q t) f.is ∙ left)))
 
-  pub settled_again : settled q t j ≡ t
-  settled_again =
+  pub settled_again : (IsTrue q.anew → WishesNothing k) → settled q t j ≡ t
+  settled_again rests =
       settled_already q t j (new_system q s k can) (settled_sound q s k can)
       all_left_off
       (λ space g has fine got.
       let f : IsMade now s g = of_old g has in
       subst (λ x. is_space_on x space ≡ true) f.is (got_on space f.from f.has (ap (λ x. not (are_same_space space Io && has_left q t x)) f.is ∙ fine) (ap (got_place q t j space) f.is ∙ got)))
-      (λ g has. let f : IsMade now s g = of_old g has in subst (λ x. settled_image q t j x ≡ x.image) f.is (image_same f.from f.has))
+      (λ g has. let f : IsMade now s g = of_old g has in subst (λ x. settled_image q t j x ≡ x.image) f.is (image_same rests f.from f.has))
 
-  pub none_again : settle_writes q t j ≡ []
-  none_again = no_write q t j (new_system q s k can) (new_nested q s k can) settled_again
+  pub none_again : (IsTrue q.anew → WishesNothing k) → settle_writes q t j ≡ []
+  none_again rests = no_write q t j (new_system q s k can) (new_nested q s k can) (settled_again rests)

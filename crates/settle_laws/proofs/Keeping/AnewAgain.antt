@@ -16,6 +16,7 @@ use Rattle.settle_spec.specs.Keeping.Registers.{settled, settled_function}
 use Rattle.settle_spec.specs.Writes.{BadLists, Settled, fixed_without, fixed_write, or_fixed, or_lack, or_write}
 use Rattle.settle_spec.specs.Keeping.Writes.{settle_keeping, settle_writes}
 use Rattle.settle_spec.proofs.Anew.{none_stands}
+use Rattle.settle_laws.specs.KeptLaws.{WishesNothing}
 use Rattle.settle_laws.specs.Keeping.PlacesLaws.{CanSettle}
 use Rattle.settle_laws.proofs.Keeping.Again.{settled_alike, all_alike, room_again}
 use Rattle.settle_laws.proofs.Keeping.AgainParts.{settled_part}
@@ -51,7 +52,7 @@ not_found test (y ∷ xs) none x has = elim (cases_Bool (test y)) [
       elim (in_cons_cases y xs x has) [ inl is ↦ ap test (sym is) ∙ off | inr later ↦ not_found test xs rest x later ]
 ]
 
-module _ (q : Request) (s : System) (k : Kept) (can : CanSettle q s k) (anew : q.anew ≡ true) (stand : fixed_without (stands q s) q s ≡ None) (unwritten : fixed_write q (settle_writes q s k) ≡ None) where
+module _ (q : Request) (s : System) (k : Kept) (can : CanSettle q s k) (anew : q.anew ≡ true) (stand : fixed_without (stands q s) q s ≡ None) (unwritten : fixed_write q (settle_writes q s k) ≡ None) (wishless : WishesNothing k) where
   abbrev now : Function → Function
   now f = settled_function q s k f
 
@@ -104,4 +105,4 @@ module _ (q : Request) (s : System) (k : Kept) (can : CanSettle q s k) (anew : q
       ∙ ap (λ o. or_fixed o (or_fixed (fixed_without j.stays q t) (or_lack (lacking q t j) (or_write (fixed_write q (settle_writes q t j)) (Settled (settle_writes q t j)))))) (none_without (stands q t))
       ∙ ap (λ o. or_fixed o (or_lack (lacking q t j) (or_write (fixed_write q (settle_writes q t j)) (Settled (settle_writes q t j))))) (none_without j.stays)
       ∙ ap (λ o. or_lack o (or_write (fixed_write q (settle_writes q t j)) (Settled (settle_writes q t j)))) (room_again q s k can anew)
-      ∙ ap (λ ws. or_write (fixed_write q ws) (Settled ws)) (none_again q s k can)
+      ∙ ap (λ ws. or_write (fixed_write q ws) (Settled ws)) (none_again q s k can (λ all. wishless))

@@ -29,13 +29,15 @@ use Rattle.settle_spec.specs.Stands.{window_part}
 use Rattle.settle_spec.specs.Items.{Placed, taken_by}
 use Rattle.settle_spec.specs.Keeping.Places.{new_place}
 use Rattle.settle_spec.specs.Keeping.Registers.{settled, settled_image, settled_function, settled_command, is_enabled_in}
+use Rattle.settle_spec.specs.Wishes.{place_then}
 use Rattle.settle_laws.specs.PlacesLaws.{place_range}
 use Rattle.settle_laws.specs.Keeping.PlacesLaws.{CanSettle, end_range}
 use Rattle.settle_laws.proofs.Keeping.Commands.{on_settled, enabled_unleft}
 use Rattle.settle_laws.proofs.Keeping.Fits.{was, decodable, window_there, window_has}
 use Rattle.settle_laws.proofs.HeaderParts.{header_of, rom_at_end}
 use Rattle.settle_laws.proofs.Keeping.Held.{bar_listed}
-use Rattle.settle_laws.proofs.Keeping.InWindows.{kept_range, placed_range, place_of_range, ends_nowhere, in_window}
+use Rattle.settle_laws.proofs.Keeping.Ends.{unwished_end, wished_end, plain_end, no_plain_wish, ends_nowhere, in_window}
+use Rattle.settle_laws.proofs.Keeping.InWindows.{kept_range, placed_range, place_of_range}
 use Rattle.settle_laws.proofs.Keeping.Moves.{moves, new_profile}
 use Rattle.settle_laws.proofs.Numbers.{with_elsewhere}
 use Rattle.settle_laws.proofs.PartClasses.{space_of_class}
@@ -43,7 +45,7 @@ use Rattle.settle_laws.proofs.Keeping.PartPlaces.{part_placed}
 use Rattle.settle_laws.proofs.Keeping.SettledMoved.{new_image, new_command, kind_stays}
 use Rattle.settle_laws.proofs.Keeping.Shown.{rom_stays_switched}
 use Rattle.settle_laws.proofs.Keeping.ShownKept.{range_stays, open_stays}
-use Rattle.settle_laws.proofs.Keeping.ShownParts.{own_placed, bar_shown, rom_shown, window_shown, window_opened, window_closed}
+use Rattle.settle_laws.proofs.Keeping.ShownParts.{own_placed, bar_shown, rom_shown, window_shown, window_opened, wished_shown, wished_open, window_closed}
 use Rattle.settle_spec.specs.Kept.{Kept}
 
 module _ (q : Request) (s : System) (k : Kept) (can : CanSettle q s k) where
@@ -61,38 +63,63 @@ module _ (q : Request) (s : System) (k : Kept) (can : CanSettle q s k) where
 
   -- every part that ends somewhere shows it
   pub part_shown : (f : Function) (p : Part) → Contains s f → has_part f p ≡ true → (t : Range) → end_range q s k record { function = f; part = p } ≡ Some t → range_of (settled_function q s k f) p ≡ t
-  part_shown f p listed there t ends = elim (cases_Bool (k.stays r)) [
-    | inl keeps ↦ range_stays q s k can f listed p there keeps ∙ (let is : Some (k.range r) ≡ Some t = sym (kept_range q s k r keeps) ∙ ends in cc)
-    | inr moves ↦
-        let x = place_of_range q s k (new_place q s k r) t (sym (placed_range q s k r moves) ∙ ends) in
-        by p there x.0 x.1 ∙ x.2
-  ]
+  part_shown f p listed there t ends = by_wish (k.wished r) refl
     where
       r : FunctionPart
       r = record { function = f; part = p }
 
-      by : (p : Part) → has_part f p ≡ true → (x : Placed) → new_place q s k record { function = f; part = p } ≡ Some x → range_of (settled_function q s k f) p ≡ taken_by x.item x.at
-      by (Bar n) there x placed =
+      by : (p : Part) → has_part f p ≡ true → (x : Placed) → k.wished record { function = f; part = p } ≡ None → new_place q s k record { function = f; part = p } ≡ Some x → range_of (settled_function q s k f) p ≡ taken_by x.item x.at
+      by (Bar n) there x unwished placed =
           let part = own_placed q s k can f listed (Bar n) refl there x placed in
           bar_shown q s k can f listed n (ltb-true n (bar_count (layout f.image)) there) (and_parts (has_bar f.probe n) (not (is_left q s f (Bar n))) part).0 x placed
-      by Rom there x placed = rom_shown q s k can f listed (and_parts (has_rom f.image f.probe) (rom_is_on f.image) (own_placed q s k can f listed Rom refl there x placed)).0 x placed
-      by (Window kind) there x placed = window_shown q s k can f listed kind there x placed
+      by Rom there x unwished placed = rom_shown q s k can f listed (and_parts (has_rom f.image f.probe) (rom_is_on f.image) (own_placed q s k can f listed Rom refl there x placed)).0 x placed
+      by (Window kind) there x unwished placed = window_shown q s k can f listed kind there unwished x placed
 
-  placed_opens : (b : Function) (kind : WindowKind) → Contains s b → is_bridge b ≡ true → (x : Placed) → new_place q s k (window_part kind b) ≡ Some x → is_open (settled_function q s k b) kind ≡ true
-  placed_opens b kind listed bridge x placed =
+      by_place : k.wished r ≡ None → place_then q s k r ≡ Some t → range_of (settled_function q s k f) p ≡ t
+      by_place unwished placed = elim (cases_Bool (k.stays r)) [
+        | inl keeps ↦ range_stays q s k can f listed p unwished there keeps ∙ (let is : Some (k.range r) ≡ Some t = sym (kept_range q s k r keeps) ∙ placed in cc)
+        | inr moves ↦
+            let x = place_of_range q s k (new_place q s k r) t (sym (placed_range q s k r moves) ∙ placed) in
+            by p there x.0 unwished x.1 ∙ x.2
+      ]
+
+      by_room : (p : Part) → has_part f p ≡ true → (w : Range) → k.wished record { function = f; part = p } ≡ Some w → range_of (settled_function q s k f) p ≡ w
+      by_room (Bar n) there w wished = absurd (no_plain_wish q s k can f (Bar n) listed there refl w wished)
+      by_room Rom there w wished = absurd (no_plain_wish q s k can f Rom listed there refl w wished)
+      by_room (Window kind) there w wished = wished_shown q s k can f listed kind there w wished
+
+      by_wish : (o : Option Range) → k.wished r ≡ o → range_of (settled_function q s k f) p ≡ t
+      by_wish None unwished = by_place unwished (sym (unwished_end q s k r unwished) ∙ ends)
+      by_wish (Some w) wished = by_room p there w wished ∙ (let is : Some w ≡ Some t = sym (wished_end q s k r w wished) ∙ ends in cc)
+
+  opened_by : (b : Function) (kind : WindowKind) → Contains s b → is_bridge b ≡ true → has_window kind b.probe ≡ true → is_closed kind (settled_function q s k b).image ≡ false → is_open (settled_function q s k b) kind ≡ true
+  opened_by b kind listed bridge there opens =
       let g = settled_function q s k b in
       and_from (is_bridge g && has_window kind b.probe) (not (is_closed kind g.image))
-      (and_from (is_bridge g) (has_window kind b.probe) (bridge_stays b listed ∙ bridge) (window_there q s k can kind b listed bridge (window_has q s k can b kind listed bridge x placed)))
-      (not_from_false (is_closed kind g.image) (window_opened q s k can b listed kind bridge x placed))
+      (and_from (is_bridge g) (has_window kind b.probe) (bridge_stays b listed ∙ bridge) there) (not_from_false (is_closed kind g.image) opens)
+
+  placed_opens : (b : Function) (kind : WindowKind) → Contains s b → is_bridge b ≡ true → k.wished (window_part kind b) ≡ None → (x : Placed) → new_place q s k (window_part kind b) ≡ Some x → is_open (settled_function q s k b) kind ≡ true
+  placed_opens b kind listed bridge unwished x placed =
+      opened_by b kind listed bridge (window_there q s k can kind b listed bridge (window_has q s k can b kind listed bridge x placed)) (window_opened q s k can b listed kind bridge unwished x placed)
 
   -- a window that does is open
   pub ends_open : (b : Function) (kind : WindowKind) → Contains s b → is_bridge b ≡ true → (t : Range) → end_range q s k (window_part kind b) ≡ Some t → is_open (settled_function q s k b) kind ≡ true
-  ends_open b kind listed bridge t ends = elim (cases_Bool (k.stays (window_part kind b))) [
-    | inl keeps ↦ open_stays q s k can b listed kind bridge keeps
-    | inr moves ↦
-        let x = place_of_range q s k (new_place q s k (window_part kind b)) t (sym (placed_range q s k (window_part kind b) moves) ∙ ends) in
-        placed_opens b kind listed bridge x.0 x.1
-  ]
+  ends_open b kind listed bridge t ends = by_wish (k.wished r) refl
+    where
+      r : FunctionPart
+      r = window_part kind b
+
+      by_place : k.wished r ≡ None → is_open (settled_function q s k b) kind ≡ true
+      by_place unwished = elim (cases_Bool (k.stays r)) [
+        | inl keeps ↦ open_stays q s k can b listed kind unwished bridge keeps
+        | inr moves ↦
+            let x = place_of_range q s k (new_place q s k r) t (sym (placed_range q s k r moves) ∙ sym (unwished_end q s k r unwished) ∙ ends) in
+            placed_opens b kind listed bridge unwished x.0 x.1
+      ]
+
+      by_wish : (o : Option Range) → k.wished r ≡ o → is_open (settled_function q s k b) kind ≡ true
+      by_wish None unwished = by_place unwished
+      by_wish (Some w) wished = opened_by b kind listed bridge (can.sound.wished.windows kind b w listed bridge wished).there (wished_open q s k can b listed kind bridge w wished)
 
   -- and any other is closed
   pub rest_closed : (b : Function) (kind : WindowKind) → Contains s b → end_range q s k (window_part kind b) ≡ None → is_open (settled_function q s k b) kind ≡ false
@@ -102,7 +129,7 @@ module _ (q : Request) (s : System) (k : Kept) (can : CanSettle q s k) where
       false_from_ne_true (is_open g kind) (λ opened.
       let parts = and_parts (is_bridge g && has_window kind b.probe) (not (is_closed kind g.image)) opened in
       let there = and_parts (is_bridge g) (has_window kind b.probe) parts.0 in
-      both_ways (not (is_closed kind g.image)) (not_from_true (is_closed kind g.image) (window_closed q s k can b listed kind (sym (bridge_stays b listed) ∙ there.0) there.1 without.0 without.1)) parts.1)
+      both_ways (not (is_closed kind g.image)) (not_from_true (is_closed kind g.image) (window_closed q s k can b listed kind (sym (bridge_stays b listed) ∙ there.0) without.unwished there.1 without.moves without.none)) parts.1)
 
   -- ---- what is claimed ends somewhere
 
@@ -120,7 +147,7 @@ module _ (q : Request) (s : System) (k : Kept) (can : CanSettle q s k) where
       → (o : Option Range) → end_range q s k (window_part kind f) ≡ o → HasEnd f (Window kind)
   window_by f listed kind a bridge there h None e =
       let without = ends_nowhere q s k (window_part kind f) e in
-      absurd (both_ways (holds kind (settled_function q s k f).image f.probe a) (closed_window_holds_nothing kind (settled_function q s k f).image f.probe a (window_closed q s k can f listed kind bridge there without.0 without.1)) h)
+      absurd (both_ways (holds kind (settled_function q s k f).image f.probe a) (closed_window_holds_nothing kind (settled_function q s k f).image f.probe a (window_closed q s k can f listed kind bridge without.unwished there without.moves without.none)) h)
   window_by f listed kind a bridge there h (Some t) e = has_end f (Window kind) listed bridge t e
 
   pub window_end : (f : Function) (listed : Contains s f) (kind : WindowKind) (a : ℕ) → is_bridge f ≡ true → holds kind (settled_function q s k f).image f.probe a ≡ true → HasEnd f (Window kind)
@@ -173,10 +200,10 @@ module _ (q : Request) (s : System) (k : Kept) (can : CanSettle q s k) where
   -- one that is looked at ends somewhere
   pub part_end : (f : Function) (p : Part) → Contains s f → has_part f p ≡ true → is_part q s f p ≡ true → is_window p ≡ false → HasEnd f p
   part_end f p listed there part plain = elim (cases_Bool (k.stays record { function = f; part = p })) [
-    | inl keeps ↦ has_end f p listed there (k.range record { function = f; part = p }) (kept_range q s k record { function = f; part = p } keeps)
+    | inl keeps ↦ has_end f p listed there (k.range record { function = f; part = p }) (plain_end q s k can f p listed there plain ∙ kept_range q s k record { function = f; part = p } keeps)
     | inr moves ↦
         let x = part_placed q s k can f p listed (header_of f p there) part plain moves in
-        has_end f p listed there (taken_by x.0.item x.0.at) (placed_range q s k record { function = f; part = p } moves ∙ ap place_range x.1)
+        has_end f p listed there (taken_by x.0.item x.0.at) (plain_end q s k can f p listed there plain ∙ placed_range q s k record { function = f; part = p } moves ∙ ap place_range x.1)
   ]
 
   pub claimed : (f : Function) (p : Part) (space : Space) (a : ℕ) → Contains s f → Claims (settled_function q s k f) p space a → HasEnd f p

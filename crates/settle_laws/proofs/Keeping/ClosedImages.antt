@@ -2,7 +2,7 @@
 use Rattle.std.proofs.Common.{◌≡◌, ℕ, ◌+◌, ◌*◌, ◌^◌, ◌<◌, ◌≤◌, ◌⊎◌, inl, inr, List, refl, true, false, cond, ◌&&◌, not, arith, sym, ◌∙◌, ap, subst, Option, None, Some}
 use Rattle.std.specs.Bool.{nat_lt, ◌==◌, if◌then◌else◌}
 use Rattle.std.specs.List.{Contains}
-use Rattle.std.proofs.lemmas.Bool.{and_from, and_parts, and_right, both_ways, cases_Bool, cond_both, eq-eqb, eqb-true, not-false, not-true}
+use Rattle.std.proofs.lemmas.Bool.{and_from, and_parts, and_right, both_ways, cases_Bool, cond_both, eq-eqb, eqb-true, not-true}
 use Rattle.std.proofs.lemmas.List.Elements.{All-contains}
 use Rattle.pci_spec.specs.Number.{byte_at, number_at, IsImage}
 use Rattle.pci_spec.specs.Registers.{COMMAND}
@@ -31,8 +31,7 @@ use Rattle.settle_spec.specs.Keeping.Registers.{is_same_range, with_kept, shown,
 use Rattle.settle_spec.specs.Writes.{part_registers, differs_at, shut_bounds}
 use Rattle.settle_spec.specs.Keeping.Writes.{changes_window, is_left_on, closing_command, is_replaced, without_window, closed_image, closed_function}
 use Rattle.settle_laws.proofs.Held.{and_second_false}
-use Rattle.settle_laws.specs.KeptLaws.{WishesNothing}
-use Rattle.settle_laws.proofs.Keeping.ChangedWindows.{changes_alike, window_changes}
+use Rattle.settle_laws.proofs.Keeping.ChangedWindows.{window_changes}
 use Rattle.settle_laws.proofs.HeaderParts.{part_cases}
 use Rattle.settle_laws.proofs.Images.{same_number}
 use Rattle.settle_laws.proofs.Numbers.{with_elsewhere, with_image, command_with}
@@ -40,9 +39,7 @@ use Rattle.settle_laws.proofs.NumbersPut.{reads_four}
 use Rattle.settle_laws.proofs.Shown.{IsOff, fold_keeps, bounds_image}
 use Rattle.settle_laws.proofs.Keeping.Shown.{IsChanging, can_change, changing_is, window_there, can_bar, upper_there, step, step_off}
 use Rattle.settle_laws.proofs.Shown.{either}
-use Rattle.settle_laws.proofs.Stages.{ShowsSame}
 use Rattle.settle_laws.proofs.WindowBytes.{IsOf, one_window, window_bytes, bounds_elsewhere, bounds_by_bytes, bounds_shown, number_elsewhere}
-use Rattle.settle_laws.proofs.NonePasses.{none_passes}
 use Rattle.settle_spec.specs.Kept.{Kept}
 use Rattle.settle_laws.proofs.ClosedImages.{are_low, no_kind, register_bytes, upper_kept}
 
@@ -55,13 +52,9 @@ module _ (q : Request) (s : System) (k : Kept) (f : Function) where
   pub staying_unreplaced : (c : WindowKind) → k.stays (window_part c f) ≡ true → is_replaced q s k f c ≡ false
   staying_unreplaced c keeps = ap (λ b. is_bridge f && not b && changes_window q s k c f) keeps ∙ ap (λ b. b && changes_window q s k c f) (and_right (is_bridge f) false refl)
 
-  -- where nothing is wished, the registers of a window that doesn't stay and isn't replaced show the same once settled
-  pub unreplaced_same : WishesNothing k → is_bridge f ≡ true → (c : WindowKind) → k.stays (window_part c f) ≡ false → is_replaced q s k f c ≡ false → ShowsSame f (settled_function q s k f) (Window c)
-  unreplaced_same wishless bridge c goes same r has =
-      let g = settled_function q s k f in
-      let none = sym (changes_alike q s k wishless c f) ∙ and_second_false (is_bridge f && not (k.stays (window_part c f))) (changes_window q s k c f) (and_from (is_bridge f) (not (k.stays (window_part c f))) bridge (ap not goes)) same in
-      eqb-true (number_at g.image r.0 r.1) (number_at f.image r.0 r.1)
-      (not-false (number_at g.image r.0 r.1 == number_at f.image r.0 r.1) (none_passes (differs_at f g) (part_registers f (Window c)) none r has))
+  -- a window that doesn't stay and isn't replaced doesn't change
+  pub unreplaced_rests : is_bridge f ≡ true → (c : WindowKind) → k.stays (window_part c f) ≡ false → is_replaced q s k f c ≡ false → changes_window q s k c f ≡ false
+  unreplaced_rests bridge c goes same = and_second_false (is_bridge f && not (k.stays (window_part c f))) (changes_window q s k c f) (and_from (is_bridge f) (not (k.stays (window_part c f))) bridge (ap not goes)) same
 
   -- ---- bytes that closing leaves
 

@@ -1,19 +1,19 @@
 -- Closing moves functions: address bits and Command bits 0 and 1 alone change, and a window stays as it is or is shut.
-use Rattle.std.proofs.Common.{◌≡◌, ℕ, ◌+◌, ◌-◌, ◌*◌, ◌<◌, ◌≤◌, ◌⊎◌, inl, inr, List, [], ◌∷◌, refl, true, false, ◌&&◌, not, arith, sym, ◌∙◌, ap, subst}
+use Rattle.std.proofs.Common.{◌≡◌, ℕ, ◌+◌, ◌-◌, ◌*◌, ◌<◌, ◌≤◌, ◌⊎◌, inl, inr, List, [], ◌∷◌, refl, true, false, ◌&&◌, not, arith, sym, ◌∙◌, ap, subst, Option, None, Some}
 use Rattle.std.specs.Bool.{IsFalse, nat_lt, ◌==◌, if◌then◌else◌}
 use Rattle.std.specs.Int.{bit_at}
 use Rattle.std.specs.List.{Contains, list_any}
-use Rattle.std.proofs.lemmas.Bool.{and_parts, cases_Bool, cases_lt, cond_both, eqb-true}
+use Rattle.std.proofs.lemmas.Bool.{and_parts, cases_Bool, cases_lt, cond_both, eqb-true, both_ways, not-true}
 use Rattle.std.proofs.lemmas.List.Elements.{All-contains}
 use Rattle.pci_spec.specs.Number.{byte_at, IsImage}
 use Rattle.pci_spec.specs.Registers.{COMMAND, IO_BASE, IO_BASE_UPPER, MEMORY_BASE, PREFETCHABLE_BASE, PREFETCHABLE_LIMIT_UPPER}
 use Rattle.pci_spec.specs.Header.{layout, address_registers, is_in_register}
 use Rattle.pci_spec.specs.Window.{WindowKind, IoWindow, MemoryWindow, PrefetchWindow, Bounds, bounds_at, bounds_for, has_window, is_closed}
-use Rattle.pci_spec.specs.Decoded.{IsDecodable}
+use Rattle.pci_spec.specs.Decoded.{IsDecodable, Range}
 use Rattle.pci_spec.specs.System.{System, Function, IsFunction, Io, Memory, Window, is_bridge}
 use Rattle.pci_spec.specs.Machine.{in_fields, address_fields}
 use Rattle.pci_spec.proofs.Members.{in_head}
-use Rattle.plan_spec.specs.Plan.{IsMoved}
+use Rattle.plan_spec.specs.Plan.{IsMoved, is_open}
 use Rattle.plan_spec.specs.Place.{nibble_of}
 use Rattle.plan_spec.proofs.PlanningLaws.{profile_decodes}
 use Rattle.plan_spec.proofs.Planning.CommandFits.{command_fits}
@@ -23,16 +23,16 @@ use Rattle.settle_spec.specs.Lists.{Request}
 use Rattle.settle_spec.specs.Registers.{with_bounds}
 use Rattle.settle_spec.specs.Keeping.Registers.{settled_image, settled_function, settled_command}
 use Rattle.settle_spec.specs.Writes.{shut_bounds, closing_registers}
-use Rattle.settle_spec.specs.Keeping.Writes.{is_left_on, closing_command, is_replaced, without_window, closed_image, closed_function}
-use Rattle.settle_laws.proofs.Keeping.ClosedImages.{unreplaced_same, closed_elsewhere, closed_device, closed_is, closed_command, closed_base_upper, closed_bounds_are, shut_fits}
+use Rattle.settle_spec.specs.Keeping.Writes.{is_left_on, closing_command, is_replaced, without_window, closed_image, closed_function, changes_at}
+use Rattle.settle_laws.proofs.Keeping.ClosedImages.{unreplaced_rests, closed_elsewhere, closed_device, closed_is, closed_command, closed_base_upper, closed_bounds_are, shut_fits}
 use Rattle.settle_laws.proofs.Numbers.{with_elsewhere, with_image}
 use Rattle.settle_laws.proofs.PlacesFit.{HasBits}
 use Rattle.settle_laws.proofs.PlacesFit.{bounds_fit}
 use Rattle.settle_laws.proofs.Keeping.Shown.{settled_image_is, settled_off}
-use Rattle.settle_laws.proofs.Stages.{IsKeptWindow, IsShutWindow}
+use Rattle.settle_laws.proofs.Stages.{IsKeptWindow, IsShutWindow, ShowsSame}
 use Rattle.settle_laws.proofs.WindowBytes.{IsOf}
 use Rattle.settle_laws.proofs.NonePasses.{none_passes, outside}
-use Rattle.settle_spec.specs.Kept.{Kept}
+use Rattle.settle_spec.specs.Kept.{Kept, no_wish, unwished}
 use Rattle.pci_spec.proofs.ReadBacks.{IsLawful}
 use Rattle.settle_spec.specs.GrowthLaws.{MoveOut}
 use Rattle.settle_spec.specs.Parts.{addresses}
@@ -43,7 +43,14 @@ use Rattle.settle_laws.proofs.StageBounds.{same_out}
 use Rattle.settle_laws.proofs.Keeping.Kept.{stays_part}
 use Rattle.settle_laws.proofs.Keeping.PartPlaces.{kept_unplaced}
 use Rattle.settle_laws.proofs.Keeping.ShownKept.{window_stays}
-use Rattle.settle_laws.proofs.Keeping.ShownParts.{keeps_range, window_grown}
+use Rattle.settle_laws.proofs.Keeping.ShownParts.{keeps_range, window_grown, window_now, window_closed, window_wished}
+use Rattle.settle_laws.proofs.ShownParts.{closed_by}
+use Rattle.settle_laws.proofs.Keeping.ChangedWindows.{for_wishes, unchanged}
+use Rattle.settle_laws.proofs.Keeping.Wishless.{can_unwished, new_same}
+use Rattle.settle_laws.proofs.Keeping.InWindows.{kept_range, placed_range}
+use Rattle.settle_laws.specs.PlacesLaws.{place_range}
+use Rattle.settle_spec.specs.Items.{Placed, taken_by}
+use Rattle.settle_spec.specs.Keeping.Places.{new_place}
 
 -- the numbers of bounds are the same
 record SameBounds (v w : Bounds) : Type 0 where
@@ -51,6 +58,21 @@ record SameBounds (v w : Bounds) : Type 0 where
   limit : w.limit ≡ v.limit
   base_upper : w.base_upper ≡ v.base_upper
   limit_upper : w.limit_upper ≡ v.limit_upper
+
+further_out : (a b c : Bounds) → MoveOut a b → MoveOut b c → MoveOut a c
+further_out a b c out more =
+    let base = out.base in
+    let limit = out.limit in
+    let base_upper = out.base_upper in
+    let limit_upper = out.limit_upper in
+    let more_base = more.base in
+    let more_limit = more.limit in
+    let more_base_upper = more.base_upper in
+    let more_limit_upper = more.limit_upper in
+    record { base = omega (arith, base, more_base); limit = omega (arith, limit, more_limit); base_upper = omega (arith, base_upper, more_base_upper); limit_upper = omega (arith, limit_upper, more_limit_upper) }
+
+final_image : (q : Request) (s : System) (k : Kept) (f : Function) → IsImage f.image → IsImage (settled_function q s k f).image
+final_image q s k f is = with_image 2 COMMAND (settled_command q s k f) (settled_image q s k f) (settled_image_is q s k f is)
 
 from_same : (v w to : Bounds) → SameBounds v w → MoveOut w to → MoveOut v to
 from_same v w to same out =
@@ -199,23 +221,66 @@ module _ (q : Request) (s : System) (k : Kept) (can : CanSettle q s k) where
   kept_window f c listed bridge other = record {
     closed_same = closed_bounds_are q s k f can.system can.profile listed bridge c ∙ ap (λ t. if t then shut_bounds c (nibble_of c f) (bounds_at c f.image) else bounds_at c f.image) other;
     final_out = elim (cases_Bool (k.stays (window_part c f))) [
-      | inr goes ↦
-          same_out (bounds_at c f.image) (bounds_at c (settled_function q s k f).image)
-          (window_same f (settled_function q s k f) c (is f listed) (with_image 2 COMMAND (settled_command q s k f) (settled_image q s k f) (settled_image_is q s k f (is f listed)))
-          (unreplaced_same q s k f can.sound.none bridge c goes other))
-      | inl keeps ↦ elim (cases_Bool (keeps_range q s k can f listed c)) [
-        | inl same ↦ same_out (bounds_at c f.image) (bounds_at c (settled_function q s k f).image) (window_stays q s k can f listed c bridge keeps same)
-        | inr grows ↦
-            let n = nibble_of c f in
-            let none = kept_unplaced q s k can f (Window c) listed bridge keeps in
-            let there = has_window_of f c listed bridge keeps in
-            let few = few_nibbles f bridge c in
-            let own = open_bounds c f n (is f listed) few (lawful_nibbles f bridge c ((decodable f listed).windows c (eqb-true (layout f.image) 1 bridge)) there) in
-            let out = (can.sound.grown c f listed bridge keeps).outward n in
-            subst (MoveOut (bounds_at c f.image)) (sym (window_grown q s k can f listed c bridge keeps none grows)) (from_same (bounds_at c f.image) _ _ own out)
+      | inl keeps ↦ stays_out keeps (k.wished (window_part c f)) refl
+      | inr goes ↦ elim (cases_Bool (changes_at q s k f (Window c))) [
+        | inr same ↦ same_out (bounds_at c f.image) (bounds_at c g.image) (same_bounds g (final_image q s k f (is f listed)) (unchanged q s k f (Window c) same))
+        | inl changes ↦ (let only = for_wishes q s k c f (unreplaced_rests q s k f bridge c goes other) changes in placed_out goes only.0 only.1 (new_place q s k (window_part c f)) refl)
       ]
     ];
   }
+    where
+      g : Function
+      g = settled_function q s k f
+
+      n : ℕ
+      n = nibble_of c f
+
+      u : Kept
+      u = unwished k
+
+      same_bounds : (h : Function) → IsImage h.image → ShowsSame f h (Window c) → bounds_at c h.image ≡ bounds_at c f.image
+      same_bounds h image same = window_same f h c (is f listed) image same
+
+      -- one that stays shows what it has, or comes to more
+      own_out : k.stays (window_part c f) ≡ true → MoveOut (bounds_at c f.image) (bounds_for c n (k.range (window_part c f)).first (k.range (window_part c f)).last)
+      own_out keeps =
+          let there = has_window_of f c listed bridge keeps in
+          let few = few_nibbles f bridge c in
+          let own = open_bounds c f n (is f listed) few (lawful_nibbles f bridge c ((decodable f listed).windows c (eqb-true (layout f.image) 1 bridge)) there) in
+          from_same (bounds_at c f.image) _ _ own ((can.sound.grown c f listed bridge keeps).outward n)
+
+      stays_out : k.stays (window_part c f) ≡ true → (o : Option Range) → k.wished (window_part c f) ≡ o → MoveOut (bounds_at c f.image) (bounds_at c g.image)
+      stays_out keeps (Some w) wished =
+          let more = (can.sound.wished.windows c f w listed bridge wished).outward (k.range (window_part c f)) (kept_range q s k (window_part c f) keeps) n in
+          subst (MoveOut (bounds_at c f.image)) (sym (window_wished q s k can f listed c bridge w wished)) (further_out (bounds_at c f.image) _ _ (own_out keeps) more)
+      stays_out keeps None unwished = elim (cases_Bool (keeps_range q s k can f listed c)) [
+        | inl same ↦ same_out (bounds_at c f.image) (bounds_at c g.image) (window_stays q s k can f listed c unwished bridge keeps same)
+        | inr grows ↦
+            let none = kept_unplaced q s k can f (Window c) listed bridge keeps in
+            subst (MoveOut (bounds_at c f.image)) (sym (window_grown q s k can f listed c bridge unwished keeps none grows)) (own_out keeps)
+      ]
+
+      -- one that is open and changes for its room alone has its place without that room
+      placed_out : k.stays (window_part c f) ≡ false → is_open f c ≡ true → changes_at q s u f (Window c) ≡ false → (o : Option Placed) → new_place q s k (window_part c f) ≡ o → MoveOut (bounds_at c f.image) (bounds_at c g.image)
+      placed_out goes opened same None none =
+          let can_u = can_unwished q s k can in
+          let h = settled_function q s u f in
+          let parts = and_parts (is_bridge f && has_window c f.probe) (not (is_closed c f.image)) opened in
+          let there = (and_parts (is_bridge f) (has_window c f.probe) parts.0).1 in
+          let closed = window_closed q s u can_u f listed c bridge refl there goes (new_same q s k no_wish (window_part c f) ∙ none) in
+          let shows = same_bounds h (final_image q s u f (is f listed)) (unchanged q s u f (Window c) same) in
+          absurd (both_ways (is_closed c f.image) (not-true (is_closed c f.image) parts.1) (sym (ap (closed_by c) shows) ∙ closed))
+      placed_out goes opened same (Some x) placed =
+          let can_u = can_unwished q s k can in
+          let h = settled_function q s u f in
+          let own = sym (same_bounds h (final_image q s u f (is f listed)) (unchanged q s u f (Window c) same)) ∙ window_now q s u can_u f listed c bridge refl x (new_same q s k no_wish (window_part c f) ∙ placed) in
+          by (k.wished (window_part c f)) refl own
+        where
+          by : (o : Option Range) → k.wished (window_part c f) ≡ o → bounds_at c f.image ≡ bounds_for c n x.at (x.at + (x.item.extent.size - 1)) → MoveOut (bounds_at c f.image) (bounds_at c g.image)
+          by None unwished own = same_out (bounds_at c f.image) (bounds_at c g.image) (window_now q s k can f listed c bridge unwished x placed ∙ sym own)
+          by (Some w) wished own =
+              let more = (can.sound.wished.windows c f w listed bridge wished).outward (taken_by x.item x.at) (placed_range q s k (window_part c f) goes ∙ ap place_range placed) n in
+              subst (MoveOut (bounds_at c f.image)) (sym (window_wished q s k can f listed c bridge w wished)) (subst (λ v. MoveOut v (bounds_for c n w.first w.last)) (sym own) more)
 
   pub windows : (f : Function) (c : WindowKind) → Contains s f → is_bridge f ≡ true → IsKeptWindow f (closed_function q s k f) (settled_function q s k f) c ⊎ IsShutWindow f (closed_function q s k f) c
   windows f c listed bridge =

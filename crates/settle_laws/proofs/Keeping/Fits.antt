@@ -7,7 +7,7 @@ use Rattle.std.proofs.lemmas.List.Elements.{All-contains}
 use Rattle.pci_spec.specs.Header.{layout, bar_count}
 use Rattle.pci_spec.specs.Bar.{bar_at, has_bar}
 use Rattle.pci_spec.specs.Window.{WindowKind, IoWindow, MemoryWindow, PrefetchWindow, bounds_for, closed_bounds, has_window, page_size}
-use Rattle.pci_spec.specs.Decoded.{IsDecodable, bar_size, rom_size}
+use Rattle.pci_spec.specs.Decoded.{IsDecodable, bar_size, rom_size, Range}
 use Rattle.pci_spec.specs.System.{System, Function, IsFunction, Part, Bar, Rom, Window, has_part, is_bridge, is_window}
 use Rattle.pci_spec.specs.Bus.{secondary}
 use Rattle.pci_spec.proofs.Members.{in_head}
@@ -38,7 +38,7 @@ use Rattle.settle_laws.proofs.Keeping.NewPlaces.{new_place_is as place_is}
 use Rattle.settle_laws.proofs.PartClasses.{io_of_class, prefetch_windows}
 use Rattle.settle_laws.proofs.PartPlaces.{IsBehindOf, behind_of}
 use Rattle.settle_laws.proofs.Keeping.PartPlaces.{new_place_is}
-use Rattle.settle_laws.proofs.Keeping.PlacesFit.{bar_fine, rom_fine, open_fit, grown_fit, closed_fit}
+use Rattle.settle_laws.proofs.Keeping.PlacesFit.{bar_fine, rom_fine, open_fit, grown_fit, closed_fit, kept_free_fit}
 use Rattle.settle_laws.proofs.Powers.{multiple_below}
 use Rattle.settle_laws.proofs.NonePasses.{none_by, none_passes}
 use Rattle.settle_spec.specs.Kept.{Kept}
@@ -163,6 +163,9 @@ module _ (q : Request) (s : System) (k : Kept) (can : CanSettle q s k) where
 
     pub more_fit : k.stays (window_part c b) ≡ true → PartsFit b c (bounds_for c (nibble_of c b) (k.range (window_part c b)).first (k.range (window_part c b)).last)
     more_fit keeps = grown_fit q s k can b listed (was b listed) (decodable b listed) c (is_part_of b (Window c) bridge) bridge there keeps
+
+    pub wish_fit : (w : Range) → k.wished (window_part c b) ≡ Some w → PartsFit b c (bounds_for c (nibble_of c b) w.first w.last)
+    wish_fit w wished = kept_free_fit q s k can b listed (was b listed) (decodable b listed) c (is_part_of b (Window c) bridge) bridge there w wished
 
     pub none_fit : PartsFit b c (closed_bounds c (nibble_of c b))
     none_fit = closed_fit q s k can b listed (was b listed) (decodable b listed) c (is_part_of b (Window c) bridge) bridge there

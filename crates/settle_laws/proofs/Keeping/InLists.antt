@@ -1,4 +1,4 @@
--- What ends on a root lies in a range of the lists that the root has.
+-- What ends on a root without wishes lies in a range of the lists that the root has.
 use Rattle.std.proofs.Common.{◌≡◌, inl, inr, List, [], Bool, true, false, cond, sym, ◌∙◌, ap, subst, Some}
 use Rattle.std.specs.List.{Contains}
 use Rattle.std.proofs.lemmas.Bool.{cases_Bool}
@@ -17,7 +17,8 @@ use Rattle.settle_spec.specs.Stands.{is_in_lists}
 use Rattle.settle_spec.specs.Items.{Item, taken_by}
 use Rattle.settle_spec.specs.Places.{placed_of, root_ranges, wide_ranges}
 use Rattle.settle_spec.specs.Keeping.Places.{new_place, taken_at}
-use Rattle.settle_laws.specs.Keeping.PlacesLaws.{CanSettle, end_range}
+use Rattle.settle_spec.specs.Wishes.{place_then}
+use Rattle.settle_laws.specs.Keeping.PlacesLaws.{CanSettle}
 use Rattle.settle_laws.proofs.Keeping.BusPlaced.{placed_bus}
 use Rattle.settle_laws.proofs.HeaderParts.{is_part_of}
 use Rattle.settle_laws.proofs.InWindows.{place_inside}
@@ -50,8 +51,8 @@ module _ (q : Request) (s : System) (k : Kept) (can : CanSettle q s k) where
       wide PrefetchWindow listed by = absurd (in_nil u listed)
 
   -- The law: it lies in one of them.
-  pub on_root : (f : Function) (p : Part) (listed : Contains s f) (there : has_part f p ≡ true) → is_root q.roots f.slot.bus ≡ true → (u : Range) → end_range q s k record { function = f; part = p } ≡ Some u → is_in_lists q f.slot.bus u (space_of f p) ≡ true
-  on_root f p listed there root u ends = elim (cases_Bool (k.stays r)) [
+  pub placed_on_root : (f : Function) (p : Part) (listed : Contains s f) (there : has_part f p ≡ true) → is_root q.roots f.slot.bus ≡ true → (u : Range) → place_then q s k record { function = f; part = p } ≡ Some u → is_in_lists q f.slot.bus u (space_of f p) ≡ true
+  placed_on_root f p listed there root u ends = elim (cases_Bool (k.stays r)) [
     | inl keeps ↦
         let is : Some (k.range r) ≡ Some u = sym (kept_range q s k r keeps) ∙ ends in
         let same : k.range r ≡ u = cc in

@@ -1,4 +1,4 @@
--- A part ends behind a bridge in the bridge's window of its class, which stays or is placed, and apart from what is beside it.
+-- Without wishes a part ends behind a bridge in the bridge's window of its class, which stays or is placed, and apart from what is beside it.
 use Rattle.std.proofs.Common.{◌≡◌, ◌&&◌, inl, inr, true, false, cond, arith, refl, sym, ◌∙◌, ap, subst, Option, None, Some}
 use Rattle.std.specs.Bool.{nat_le, ◌==◌}
 use Rattle.std.specs.List.{Contains}
@@ -21,7 +21,8 @@ use Rattle.settle_spec.specs.Places.{placed_of, place_among}
 use Rattle.settle_spec.specs.Keeping.Places.{new_place, taken_at}
 use Rattle.settle_laws.proofs.Keeping.Buses.{roots_are_one}
 use Rattle.settle_laws.specs.PlacesLaws.{place_range}
-use Rattle.settle_laws.specs.Keeping.PlacesLaws.{CanSettle, end_range}
+use Rattle.settle_spec.specs.Wishes.{place_then}
+use Rattle.settle_laws.specs.Keeping.PlacesLaws.{CanSettle}
 use Rattle.settle_laws.proofs.BusPlaced.{one_left}
 use Rattle.settle_laws.proofs.Keeping.BusPlaced.{placed_bus, range_or_none, range_of_item, no_item}
 use Rattle.settle_laws.proofs.HeaderParts.{header_of}
@@ -33,18 +34,18 @@ use Rattle.settle_spec.specs.Kept.{Kept}
 use Rattle.settle_laws.proofs.InWindows.{place_inside}
 
 module _ (q : Request) (s : System) (k : Kept) where
-  pub kept_range : (r : FunctionPart) → k.stays r ≡ true → end_range q s k r ≡ Some (k.range r)
+  pub kept_range : (r : FunctionPart) → k.stays r ≡ true → place_then q s k r ≡ Some (k.range r)
   kept_range r keeps = ap (λ t. cond t (Some (k.range r)) (place_range (new_place q s k r))) keeps
 
-  pub placed_range : (r : FunctionPart) → k.stays r ≡ false → end_range q s k r ≡ place_range (new_place q s k r)
+  pub placed_range : (r : FunctionPart) → k.stays r ≡ false → place_then q s k r ≡ place_range (new_place q s k r)
   placed_range r moves = ap (λ t. cond t (Some (k.range r)) (place_range (new_place q s k r))) moves
 
   pub place_of_range : (o : Option Placed) (t : Range) → place_range o ≡ Some t → (x : Placed) × (o ≡ Some x) × (taken_by x.item x.at ≡ t)
   place_of_range None t e = cc
   place_of_range (Some x) t e = (x, refl, cc)
 
-  pub ends_nowhere : (r : FunctionPart) → end_range q s k r ≡ None → (k.stays r ≡ false) × (new_place q s k r ≡ None)
-  ends_nowhere r none = elim (cases_Bool (k.stays r)) [
+  pub placed_nowhere : (r : FunctionPart) → place_then q s k r ≡ None → (k.stays r ≡ false) × (new_place q s k r ≡ None)
+  placed_nowhere r none = elim (cases_Bool (k.stays r)) [
     | inl keeps ↦ (let is : Some (k.range r) ≡ None = sym (kept_range r keeps) ∙ none in cc)
     | inr moves ↦ (moves, by (new_place q s k r) (sym (placed_range r moves) ∙ none))
   ]
@@ -60,7 +61,7 @@ module _ (q : Request) (s : System) (k : Kept) (can : CanSettle q s k) where
   abbrev bus_of : (f : Function) (p : Part) → Contains s f → IsPlacedBus q s k can (space_of f p) f.slot.bus
   bus_of f p listed = placed_bus q s k can (space_of f p) f listed
 
-  ends_there : (f : Function) (p : Part) (listed : Contains s f) → has_part f p ≡ true → (t : Range) → end_range q s k record { function = f; part = p } ≡ Some t
+  ends_there : (f : Function) (p : Part) (listed : Contains s f) → has_part f p ≡ true → (t : Range) → place_then q s k record { function = f; part = p } ≡ Some t
       → EndsIn q s k can (bus_of f p listed).placed record { function = f; part = p } t
   ends_there f p listed there t e = elim (cases_Bool (k.stays r)) [
     | inl keeps ↦ Keeps keeps (let is : Some (k.range r) ≡ Some t = sym (kept_range q s k r keeps) ∙ e in cc)
@@ -75,7 +76,7 @@ module _ (q : Request) (s : System) (k : Kept) (can : CanSettle q s k) where
       r = record { function = f; part = p }
 
   range_there : (space : Space) (f : Function) (p : Part) (b : IsPlacedBus q s k can space f.slot.bus) → space_of f p ≡ space → (t : Range) → EndsIn q s k can b.placed record { function = f; part = p } t
-      → end_range q s k record { function = f; part = p } ≡ Some t
+      → place_then q s k record { function = f; part = p } ≡ Some t
   range_there space f p b of t (Keeps keeps is) = kept_range q s k record { function = f; part = p } keeps ∙ ap Some is
   range_there space f p b of t (Gets moves x shown has at is) =
       placed_range q s k record { function = f; part = p } moves
@@ -86,9 +87,9 @@ module _ (q : Request) (s : System) (k : Kept) (can : CanSettle q s k) where
   -- ---- in a window
 
   -- the window of a bridge around a part
-  pub record IsInWindow (f : Function) (p : Part) (b : Function) (t : Range) : Type 0 where
+  pub record IsPlacedIn (f : Function) (p : Part) (b : Function) (t : Range) : Type 0 where
     pub w : Range
-    pub ends : end_range q s k (window_part (class_in q s f p) b) ≡ Some w
+    pub ends : place_then q s k (window_part (class_in q s f p) b) ≡ Some w
     pub inside : IsInside t w
 
   module _ (f b : Function) (p : Part) (listed : Contains s f) (there : has_part f p ≡ true) (leads : LeadsTo s b f.slot.bus) where
@@ -98,7 +99,7 @@ module _ (q : Request) (s : System) (k : Kept) (can : CanSettle q s k) where
     abbrev c : WindowKind
     c = class_in q s f p
 
-    in_kept : k.stays r ≡ true → IsInWindow f p b (k.range r)
+    in_kept : k.stays r ≡ true → IsPlacedIn f p b (k.range r)
     in_kept keeps =
         let over = window_part c b in
         let kept = kept_over q s k can b leads.0 leads.1 r (stays_listed q s k can f p listed (header_of f p there) keeps) keeps leads.2 in
@@ -110,7 +111,7 @@ module _ (q : Request) (s : System) (k : Kept) (can : CanSettle q s k) where
           inside = (leb-true (k.range over).first (k.range r).first parts.0, leb-true (k.range r).last (k.range over).last parts.1);
         }
 
-    in_placed : (x : Placed) → IsNewPlace q s k can f p x → IsInWindow f p b (taken_by x.item x.at)
+    in_placed : (x : Placed) → IsNewPlace q s k can f p x → IsPlacedIn f p b (taken_by x.item x.at)
     in_placed x is =
         let space = space_of f p in
         let here = placed_bus q s k can space f listed in
@@ -129,12 +130,12 @@ module _ (q : Request) (s : System) (k : Kept) (can : CanSettle q s k) where
               }
         ]
 
-    pub in_window : (t : Range) → end_range q s k r ≡ Some t → IsInWindow f p b t
-    in_window t e = elim (cases_Bool (k.stays r)) [
-      | inl keeps ↦ (let is : Some (k.range r) ≡ Some t = sym (kept_range q s k r keeps) ∙ e in let same : k.range r ≡ t = cc in subst (IsInWindow f p b) same (in_kept keeps))
+    pub placed_in_window : (t : Range) → place_then q s k r ≡ Some t → IsPlacedIn f p b t
+    placed_in_window t e = elim (cases_Bool (k.stays r)) [
+      | inl keeps ↦ (let is : Some (k.range r) ≡ Some t = sym (kept_range q s k r keeps) ∙ e in let same : k.range r ≡ t = cc in subst (IsPlacedIn f p b) same (in_kept keeps))
       | inr moves ↦
           let x = place_of_range q s k (new_place q s k r) t (sym (placed_range q s k r moves) ∙ e) in
-          subst (IsInWindow f p b) x.2 (in_placed x.0 (new_place_is q s k can f p listed there x.0 x.1))
+          subst (IsPlacedIn f p b) x.2 (in_placed x.0 (new_place_is q s k can f p listed there x.0 x.1))
     ]
 
   -- ---- apart
@@ -143,13 +144,13 @@ module _ (q : Request) (s : System) (k : Kept) (can : CanSettle q s k) where
   same_places space f g (inl same) = ap (places q s k can space) same
   same_places space f g (inr (root_f, root_g)) = ap placed_of (roots_are_one q s k space f.slot.bus g.slot.bus ((root_means q.roots f.slot.bus).1 root_f) ((root_means q.roots g.slot.bus).1 root_g))
 
-  siblings_of : (f g : Function) → AreBeside q.roots f g → are_siblings q.roots f.slot.bus g.slot.bus ≡ true
+  pub siblings_of : (f g : Function) → AreBeside q.roots f g → are_siblings q.roots f.slot.bus g.slot.bus ≡ true
   siblings_of f g (inl same) = or_left (f.slot.bus == g.slot.bus) (is_root q.roots f.slot.bus && is_root q.roots g.slot.bus) (eq-eqb f.slot.bus g.slot.bus same)
   siblings_of f g (inr (root_f, root_g)) =
       or_right (f.slot.bus == g.slot.bus) (is_root q.roots f.slot.bus && is_root q.roots g.slot.bus)
       (and_from (is_root q.roots f.slot.bus) (is_root q.roots g.slot.bus) ((root_means q.roots f.slot.bus).1 root_f) ((root_means q.roots g.slot.bus).1 root_g))
 
-  two_ranks : (f g : Function) (p r : Part) → Contains s f → Contains s g → has_part f p ≡ true → has_part g r ≡ true → AreTwo f p g r → rank record { function = f; part = p } ≡ rank record { function = g; part = r } → ⊥
+  pub two_ranks : (f g : Function) (p r : Part) → Contains s f → Contains s g → has_part f p ≡ true → has_part g r ≡ true → AreTwo f p g r → rank record { function = f; part = p } ≡ rank record { function = g; part = r } → ⊥
   two_ranks f g p r in_f in_g there_p there_r two e =
       let low = register_of-lt f p there_p in
       let high = register_of-lt g r there_r in
@@ -160,9 +161,9 @@ module _ (q : Request) (s : System) (k : Kept) (can : CanSettle q s k) where
         | inr differ ↦ differ (let same : register_of f p ≡ register_of g r = omega (arith, e, slot) in same)
       ]
 
-  pub are_apart : (f g : Function) (p r : Part) → Contains s f → Contains s g → has_part f p ≡ true → has_part g r ≡ true → space_of f p ≡ space_of g r → AreBeside q.roots f g → AreTwo f p g r
-      → (t u : Range) → end_range q s k record { function = f; part = p } ≡ Some t → end_range q s k record { function = g; part = r } ≡ Some u → LieApart t u
-  are_apart f g p r in_f in_g there_p there_r spaces beside two t u ends_t ends_u =
+  pub placed_apart : (f g : Function) (p r : Part) → Contains s f → Contains s g → has_part f p ≡ true → has_part g r ≡ true → space_of f p ≡ space_of g r → AreBeside q.roots f g → AreTwo f p g r
+      → (t u : Range) → place_then q s k record { function = f; part = p } ≡ Some t → place_then q s k record { function = g; part = r } ≡ Some u → LieApart t u
+  placed_apart f g p r in_f in_g there_p there_r spaces beside two t u ends_t ends_u =
       let space = space_of f p in
       let bus = bus_of f p in_f in
       let other = bus_of g r in_g in

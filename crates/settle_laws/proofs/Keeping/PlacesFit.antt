@@ -10,7 +10,7 @@ use Rattle.pci_spec.specs.Header.{layout, bar_count, bar_register, rom_register}
 use Rattle.pci_spec.specs.Bar.{bar_at, bar_kind, encodings, first_bit, has_bar, is_io, is_wide, starts_bar, type_bits}
 use Rattle.pci_spec.specs.Rom.{has_rom}
 use Rattle.pci_spec.specs.Window.{WindowKind, bounds_for, closed_bounds, breaks_window_rule, has_window}
-use Rattle.pci_spec.specs.Decoded.{IsDecodable, bar_size, rom_size}
+use Rattle.pci_spec.specs.Decoded.{IsDecodable, bar_size, rom_size, Range}
 use Rattle.pci_spec.specs.System.{System, Function, IsFunction, Memory, Part, Bar, Rom, Window, space_of, is_bridge, is_window}
 use Rattle.pci_spec.specs.Bus.{secondary}
 use Rattle.pci_spec.specs.Machine.{bar_field}
@@ -30,7 +30,7 @@ use Rattle.settle_spec.specs.Parts.{FunctionPart, addresses, header_parts}
 use Rattle.settle_spec.specs.Items.{Item, Placed, highest_of_bar, highest_in, bus_items, nothing, spare_of, new_window, window_within, taken_by}
 use Rattle.settle_spec.specs.Keeping.Places.{new_place}
 use Rattle.settle_spec.specs.Registers.{with_number, with_bounds, closed_if_open, changing}
-use Rattle.settle_spec.specs.Keeping.Registers.{is_same_range, with_kept, shown, settled_image}
+use Rattle.settle_spec.specs.Keeping.Registers.{is_same_range, with_kept, shown, with_wish, settled_image}
 use Rattle.settle_spec.proofs.FirstSpot.{least_in}
 use Rattle.settle_laws.proofs.BarReach.{lower_fits, upper_fits}
 use Rattle.settle_laws.proofs.HeaderParts.{IsPart, part_cases, few_bars, rom_at_end}
@@ -38,7 +38,7 @@ use Rattle.settle_laws.proofs.NewPlaces.{HasPlace, size_some}
 use Rattle.settle_laws.proofs.Keeping.NewPlaces.{new_place_is}
 use Rattle.settle_laws.proofs.RomPlaces.{rom_part}
 use Rattle.settle_laws.proofs.Shown.{fold_keeps}
-use Rattle.settle_laws.proofs.Keeping.Shown.{IsChanging, can_change, changing_is, step, step_unwished, can_bar, can_rom, window_bridge, window_there, upper_there}
+use Rattle.settle_laws.proofs.Keeping.Shown.{IsChanging, can_change, changing_is, step, can_bar, can_rom, window_bridge, window_there, upper_there}
 use Rattle.settle_spec.specs.Kept.{Kept}
 use Rattle.settle_laws.specs.Keeping.PlacesLaws.{CanSettle}
 use Rattle.settle_laws.proofs.Keeping.Kept.{kept_forward}
@@ -161,6 +161,12 @@ module _ (q : Request) (s : System) (k : Kept) (can : CanSettle q s k) (f : Func
         kept_fit f bridge c (nibble_of c f) _ (few_nibbles f bridge c) (lawful_nibbles f bridge c rule there)
         (bounds_kept c f (k.range (region (Window c))).first (k.range (region (Window c))).last (few_nibbles f bridge c) (kept_forward q s k can c f listed keeps) grown.low)
 
+    pub kept_free_fit : (w : Range) → k.wished (region (Window c)) ≡ Some w → PartsFit f c (bounds_for c (nibble_of c f) w.first w.last)
+    kept_free_fit w wished =
+        let is = can.sound.wished.windows c f w listed bridge wished in
+        kept_fit f bridge c (nibble_of c f) _ (few_nibbles f bridge c) (lawful_nibbles f bridge c rule there)
+        (bounds_kept c f w.first w.last (few_nibbles f bridge c) is.forward is.low)
+
     pub closed_fit : PartsFit f c (closed_bounds c (nibble_of c f))
     closed_fit = subst (PartsFit f c) (by_closed f bridge c false 0 0 there refl) (window_fits f bridge is.image c false 0 0 rule (λ opened. absurd (both_ways false refl opened)))
 
@@ -201,12 +207,18 @@ module _ (q : Request) (s : System) (k : Kept) (can : CanSettle q s k) (f : Func
   part_shown Rom part may (Some p) e image h = rom_shown (can_rom q s k f may) p e image h
   part_shown (Window c) part may (Some p) e image h = bounds_fit f is.image c _ image (open_fit c part (part.bridge refl) (window_there q s k f c may) p e) h
 
+  part_wished : (p : Part) → IsPart f p → can_change q s k f p ≡ true → (o : Option Range) → k.wished (region p) ≡ o → (image : List ℕ) → HasBits f image → HasBits f (with_wish (region p) o image)
+  part_wished p part may None e image h = h
+  part_wished (Bar n) part may (Some w) e image h = h
+  part_wished Rom part may (Some w) e image h = h
+  part_wished (Window c) part may (Some w) e image h = bounds_fit f is.image c _ image (kept_free_fit c part (part.bridge refl) (window_there q s k f c may) w e) h
+
   -- The law: what is no address bit of an address register stays.
   pub image_has_bits : HasBits f (settled_image q s k f)
   image_has_bits = fold_keeps (HasBits f) (step q s k f) (changing q s f)
       (λ r has image h.
       let c : IsChanging q s k f r = changing_is q s k f r has in
       subst (λ (t : FunctionPart). HasBits f (step q s k f image t)) c.is
-      (subst (HasBits f) (sym (step_unwished q s k f (region c.p) (ap (λ wished. wished (region c.p)) can.sound.none) image))
+      (part_wished c.p (part_of c.p c.there c.can) c.can (k.wished (region c.p)) refl (shown k (region c.p) (new_place q s k (region c.p)) image)
       (part_shown c.p (part_of c.p c.there c.can) c.can (new_place q s k (region c.p)) refl image h))) f.image
       record { whole = is.image; bits = λ place i inside small plain. refl }

@@ -24,7 +24,7 @@ use Rattle.settle_laws.proofs.Keeping.Claimed.{on_now, bridge_stays, new_decodab
 use Rattle.settle_laws.proofs.Keeping.Fits.{was}
 use Rattle.settle_laws.proofs.HeaderParts.{header_of}
 use Rattle.settle_laws.proofs.Held.{claim_on}
-use Rattle.settle_laws.proofs.Keeping.InWindows.{are_apart}
+use Rattle.settle_laws.proofs.Keeping.Ends.{are_apart}
 use Rattle.settle_laws.proofs.Keeping.Lives.{IsServing, serves_own, serves_over, serves_enabled}
 use Rattle.settle_laws.proofs.Keeping.Moves.{moves, new_nested, new_chains, new_profile}
 use Rattle.settle_laws.proofs.PartClasses.{prefetch_of_class, space_of_class}

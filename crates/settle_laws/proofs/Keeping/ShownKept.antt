@@ -106,9 +106,9 @@ module _ (q : Request) (s : System) (k : Kept) (can : CanSettle q s k) (f : Func
       ])) f.image refl
 
   -- a window that keeps its addresses keeps its registers
-  pub window_stays : (c : WindowKind) → is_bridge f ≡ true → k.stays (region (Window c)) ≡ true → keeps_range q s k can f listed c ≡ true → bounds_at c g.image ≡ bounds_at c f.image
-  window_stays c bridge keeps same =
-      bounds_stay q s k can f listed c bridge (leaves (Window c) bridge keeps (leaves_wish q s k can f listed c) (λ image. ap (λ t. cond t image (with_range f (Window c) (k.range (region (Window c))) image)) same))
+  pub window_stays : (c : WindowKind) → k.wished (region (Window c)) ≡ None → is_bridge f ≡ true → k.stays (region (Window c)) ≡ true → keeps_range q s k can f listed c ≡ true → bounds_at c g.image ≡ bounds_at c f.image
+  window_stays c unwished bridge keeps same =
+      bounds_stay q s k can f listed c bridge (leaves (Window c) bridge keeps (leaves_wish q s k can f listed c unwished) (λ image. ap (λ t. cond t image (with_range f (Window c) (k.range (region (Window c))) image)) same))
 
   same_range : (r t : Range) → is_same_range r t ≡ true → r ≡ t
   same_range r t same =
@@ -116,24 +116,24 @@ module _ (q : Request) (s : System) (k : Kept) (can : CanSettle q s k) (f : Func
       ap (λ n. record { first = n; last = r.last }) (eqb-true r.first t.first parts.0) ∙ ap (λ n. record { first = t.first; last = n }) (eqb-true r.last t.last parts.1)
 
   -- so it has the addresses that are kept for it
-  pub range_stays : (p : Part) → has_part f p ≡ true → k.stays (region p) ≡ true → range_of g p ≡ k.range (region p)
-  range_stays (Bar n) there keeps = ap (λ v. aligned_range v (bar_size f.probe n)) (bar_stays n (ltb-true n (bar_count (layout f.image)) there) there keeps) ∙ sym (can.sound.plain (region (Bar n)) refl)
-  range_stays Rom there keeps =
+  pub range_stays : (p : Part) → k.wished (region p) ≡ None → has_part f p ≡ true → k.stays (region p) ≡ true → range_of g p ≡ k.range (region p)
+  range_stays (Bar n) unwished there keeps = ap (λ v. aligned_range v (bar_size f.probe n)) (bar_stays n (ltb-true n (bar_count (layout f.image)) there) there keeps) ∙ sym (can.sound.plain (region (Bar n)) refl)
+  range_stays Rom unwished there keeps =
       ap (λ l. aligned_range (number_at g.image (rom_register l) 4) (2 ^ lowest_one 0 (number_at f.probe (rom_register l) 4))) (kind_stays q s k can f listed)
       ∙ ap (λ v. aligned_range v (rom_size f.image f.probe)) (rom_stays keeps)
       ∙ sym (can.sound.plain (region Rom) refl)
-  range_stays (Window c) there keeps = elim (cases_Bool (keeps_range q s k can f listed c)) [
-    | inl same ↦ ap (range_by c) (window_stays c there keeps same) ∙ sym (same_range (k.range (region (Window c))) (addresses (region (Window c))) same)
-    | inr grows ↦ grown_shown q s k can f listed c there keeps (kept_unplaced q s k can f (Window c) listed there keeps) grows
+  range_stays (Window c) unwished there keeps = elim (cases_Bool (keeps_range q s k can f listed c)) [
+    | inl same ↦ ap (range_by c) (window_stays c unwished there keeps same) ∙ sym (same_range (k.range (region (Window c))) (addresses (region (Window c))) same)
+    | inr grows ↦ grown_shown q s k can f listed c there unwished keeps (kept_unplaced q s k can f (Window c) listed there keeps) grows
   ]
 
   -- and a window stays open
-  pub open_stays : (c : WindowKind) → is_bridge f ≡ true → k.stays (region (Window c)) ≡ true → is_open g c ≡ true
-  open_stays c bridge keeps =
+  pub open_stays : (c : WindowKind) → k.wished (region (Window c)) ≡ None → is_bridge f ≡ true → k.stays (region (Window c)) ≡ true → is_open g c ≡ true
+  open_stays c unwished bridge keeps =
       let opened = and_parts (is_bridge f && has_window c f.probe) (not (is_closed c f.image)) (looked_at (Window c) bridge keeps) in
       and_from (is_bridge g && has_window c f.probe) (not (is_closed c g.image))
       (ap (λ l. l == 1 && has_window c f.probe) (kind_stays q s k can f listed) ∙ opened.0)
       (elim (cases_Bool (keeps_range q s k can f listed c)) [
-        | inl same ↦ ap (λ b. not (not (opens_by c b))) (window_stays c bridge keeps same) ∙ opened.1
-        | inr grows ↦ not_from_false (is_closed c g.image) (grown_open q s k can f listed c bridge keeps (kept_unplaced q s k can f (Window c) listed bridge keeps) grows)
+        | inl same ↦ ap (λ b. not (not (opens_by c b))) (window_stays c unwished bridge keeps same) ∙ opened.1
+        | inr grows ↦ not_from_false (is_closed c g.image) (grown_open q s k can f listed c bridge unwished keeps (kept_unplaced q s k can f (Window c) listed bridge keeps) grows)
       ])

@@ -31,9 +31,10 @@ use Rattle.settle_spec.specs.Items.{Placed, highest_of_bar, taken_by}
 use Rattle.settle_spec.specs.Keeping.Places.{new_place}
 use Rattle.settle_spec.specs.Registers.{with_number, with_bounds, closed_if_open, changing}
 use Rattle.settle_spec.specs.Keeping.Registers.{is_same_range, with_kept, shown, with_wish, settled_image, settled_function, settled_command}
+use Rattle.settle_laws.specs.KeptLaws.{IsWishedWindow}
 use Rattle.settle_laws.specs.Keeping.PlacesLaws.{CanSettle}
 use Rattle.settle_laws.proofs.BarReach.{size_is, top_here, bar_shows, highest_by}
-use Rattle.settle_laws.proofs.Keeping.Fits.{was, decodable, window_there, window_has, size_of_place, bar_room, rom_room, window_room, shown_fit, more_fit, none_fit}
+use Rattle.settle_laws.proofs.Keeping.Fits.{was, decodable, window_there, window_has, size_of_place, bar_room, rom_room, window_room, shown_fit, more_fit, wish_fit, none_fit}
 use Rattle.settle_laws.proofs.HeaderParts.{part_cases, few_bars, rom_at_end, bar_of, rom_of, window_of}
 use Rattle.settle_laws.proofs.Held.{and_second_false}
 use Rattle.settle_laws.proofs.Images.{AgreeAside, same_number, whole_aside, bounds_aside}
@@ -43,7 +44,7 @@ use Rattle.settle_laws.proofs.NumbersPut.{reads_four, reads_low, reads_high}
 use Rattle.settle_laws.proofs.Keeping.PartPlaces.{new_place_is}
 use Rattle.settle_laws.proofs.Keeping.SettledMoved.{kind_stays}
 use Rattle.settle_laws.proofs.Shown.{IsOff, fold_keeps}
-use Rattle.settle_laws.proofs.Keeping.Shown.{IsChanging, can_change, changing_is, window_bridge, can_bar, upper_there, step_off, step_image, step_plain, step_unwished, bar_below}
+use Rattle.settle_laws.proofs.Keeping.Shown.{IsChanging, can_change, changing_is, window_bridge, can_bar, upper_there, shown_image, step_off, step_image, step_plain, step_unwished, bar_below}
 use Rattle.settle_laws.proofs.Shown.{either}
 use Rattle.settle_laws.proofs.WindowBytes.{IsOf, one_window, window_bytes, bounds_elsewhere, bounds_by_bytes, bounds_shown}
 use Rattle.settle_spec.specs.Kept.{Kept}
@@ -108,8 +109,8 @@ module _ (q : Request) (s : System) (k : Kept) (can : CanSettle q s k) (f : Func
       ∙ shown_elsewhere c (new_place q s k (region (Window c))) image place out
 
   -- where nothing is wished, a step shows the window's place
-  pub leaves_wish : (c : WindowKind) (image : List ℕ) → step image (region (Window c)) ≡ shown k (region (Window c)) (new_place q s k (region (Window c))) image
-  leaves_wish c image = step_unwished q s k f (region (Window c)) (ap (λ wished. wished (region (Window c))) can.sound.none) image
+  pub leaves_wish : (c : WindowKind) → k.wished (region (Window c)) ≡ None → (image : List ℕ) → step image (region (Window c)) ≡ shown k (region (Window c)) (new_place q s k (region (Window c))) image
+  leaves_wish c unwished image = step_unwished q s k f (region (Window c)) unwished image
 
   -- ---- which bytes are whose
 
@@ -365,7 +366,7 @@ module _ (q : Request) (s : System) (k : Kept) (can : CanSettle q s k) (f : Func
     pub same_bounds : bounds_at c (settled_function q s k f).image ≡ bounds_at c (settled_image q s k f)
     same_bounds = bounds_aside (settled_function q s k f).image (settled_image q s k f) aside c
 
-    module _ (x : Placed) (placed : new_place q s k (region (Window c)) ≡ Some x) where
+    module _ (unwished : k.wished (region (Window c)) ≡ None) (x : Placed) (placed : new_place q s k (region (Window c)) ≡ Some x) where
       abbrev bounds : Bounds
       bounds = bounds_for c (nibble_of c f) x.at (x.at + (x.item.extent.size - 1))
 
@@ -373,7 +374,7 @@ module _ (q : Request) (s : System) (k : Kept) (can : CanSettle q s k) (f : Func
       there_now = window_there q s k can c f listed bridge (window_has q s k can f c listed bridge x placed)
 
       sets_window : (image : List ℕ) → IsImage image → bounds_at c (step image (region (Window c))) ≡ bounds
-      sets_window image is = ap (bounds_at c) (leaves_wish c image ∙ ap (λ o. shown k (region (Window c)) o image) placed) ∙ bounds_shown f c bounds (shown_fit q s k can f c listed bridge there_now x placed) image is
+      sets_window image is = ap (bounds_at c) (leaves_wish c unwished image ∙ ap (λ o. shown k (region (Window c)) o image) placed) ∙ bounds_shown f c bounds (shown_fit q s k can f c listed bridge there_now x placed) image is
 
       window_set : bounds_at c (settled_image q s k f) ≡ bounds
       window_set = reaches IsImage (λ image. bounds_at c image ≡ bounds) step (changing q s f) (region (Window c)) stepped_image sets_window
@@ -403,7 +404,7 @@ module _ (q : Request) (s : System) (k : Kept) (can : CanSettle q s k) (f : Func
         ∙ (fold_keeps (λ image. IsImage image × (bounds_at c image ≡ v)) step (changing q s f) (λ r has image now. (stepped_image r has image now.0, keeps_or_sets v kept r has image now.0 now.1)) f.image (image_is, refl)).1
 
     -- one that stays and grows shows what it comes to
-    module _ (keeps : k.stays (region (Window c)) ≡ true) (none : new_place q s k (region (Window c)) ≡ None) (grows : keeps_range c ≡ false) where
+    module _ (unwished : k.wished (region (Window c)) ≡ None) (keeps : k.stays (region (Window c)) ≡ true) (none : new_place q s k (region (Window c)) ≡ None) (grows : keeps_range c ≡ false) where
       abbrev grown : Range
       grown = k.range (region (Window c))
 
@@ -415,7 +416,7 @@ module _ (q : Request) (s : System) (k : Kept) (can : CanSettle q s k) (f : Func
 
       sets_grown : (image : List ℕ) → IsImage image → bounds_at c (step image (region (Window c))) ≡ grown_bounds
       sets_grown image is =
-          ap (bounds_at c) (leaves_wish c image ∙ ap (λ o. shown k (region (Window c)) o image) none)
+          ap (bounds_at c) (leaves_wish c unwished image ∙ ap (λ o. shown k (region (Window c)) o image) none)
           ∙ ap (λ t. bounds_at c (cond t (with_kept k (region (Window c)) image) (closed_if_open f (Window c) image))) keeps
           ∙ ap (λ t. bounds_at c (cond t image (with_bounds c grown_bounds image))) grows
           ∙ bounds_shown f c grown_bounds (more_fit q s k can f c listed bridge grown_there keeps) image is
@@ -446,11 +447,49 @@ module _ (q : Request) (s : System) (k : Kept) (can : CanSettle q s k) (f : Func
       pub grown_open : is_closed c (settled_function q s k f).image ≡ false
       grown_open = grown_opened.1
 
+    -- one in which room is kept free shows that
+    module _ (w : Range) (wished : k.wished (region (Window c)) ≡ Some w) where
+      abbrev pub wish_bounds : Bounds
+      wish_bounds = bounds_for c (nibble_of c f) w.first w.last
+
+      is : IsWishedWindow q s k c f w
+      is = can.sound.wished.windows c f w listed bridge wished
+
+      sets_wish : (image : List ℕ) → IsImage image → bounds_at c (step image (region (Window c))) ≡ wish_bounds
+      sets_wish image whole =
+          let place = new_place q s k (region (Window c)) in
+          ap (λ o. bounds_at c (with_wish (region (Window c)) o (shown k (region (Window c)) place image))) wished
+          ∙ bounds_shown f c wish_bounds (wish_fit q s k can f c listed bridge is.there w wished) (shown k (region (Window c)) place image)
+          (shown_image q s k f (Window c) place image whole)
+
+      -- what its registers show
+      pub window_wished : bounds_at c (settled_function q s k f).image ≡ wish_bounds
+      window_wished =
+          same_bounds
+          ∙ reaches IsImage (λ image. bounds_at c image ≡ wish_bounds) step (changing q s f) (region (Window c)) stepped_image sets_wish
+          (keeps_or_sets wish_bounds (λ image whole same. sets_wish image whole)) f.image image_is (in_window is.there)
+
+      wished_opened : (range_of (settled_function q s k f) (Window c) ≡ w) × (is_closed c (settled_function q s k f).image ≡ false)
+      wished_opened =
+          let size = w.last + 1 - w.first in
+          let forward = is.forward in
+          let end : w.first + (size - 1) ≡ w.last = omega (arith, forward) in
+          let whole : size % page_size c ≡ 0 = size_whole c w.first w.last forward is.first is.last in
+          let bounds : bounds_at c (settled_function q s k f).image ≡ bounds_for c (nibble_of c f) w.first (w.first + (size - 1)) = window_wished ∙ ap (bounds_for c (nibble_of c f) w.first) (sym end) in
+          let shows = window_shows (settled_function q s k f) c (nibble_of c f) w.first size (few_nibbles f bridge c) (omega (arith, forward)) is.first whole bounds in
+          (shows.0 ∙ ap (λ n. record { first = w.first; last = n }) end, shows.1)
+
+      pub wished_shown : range_of (settled_function q s k f) (Window c) ≡ w
+      wished_shown = wished_opened.0
+
+      pub wished_open : is_closed c (settled_function q s k f).image ≡ false
+      wished_open = wished_opened.1
+
     -- one that doesn't stay and has no place is closed
-    module _ (there : has_window c f.probe ≡ true) (moves : k.stays (region (Window c)) ≡ false) (none : new_place q s k (region (Window c)) ≡ None) where
+    module _ (unwished : k.wished (region (Window c)) ≡ None) (there : has_window c f.probe ≡ true) (moves : k.stays (region (Window c)) ≡ false) (none : new_place q s k (region (Window c)) ≡ None) where
       step_none : (image : List ℕ) → step image (region (Window c)) ≡ closed_if_open f (Window c) image
       step_none image =
-          leaves_wish c image ∙ ap (λ o. shown k (region (Window c)) o image) none
+          leaves_wish c unwished image ∙ ap (λ o. shown k (region (Window c)) o image) none
           ∙ ap (λ t. cond t (with_kept k (region (Window c)) image) (closed_if_open f (Window c) image)) moves
 
       pub window_closed : is_closed c (settled_function q s k f).image ≡ true

@@ -1,8 +1,8 @@
 -- What claims an address once closed claims it once settled too, and is behind windows that hold it, are kept and stay on.
-use Rattle.std.proofs.Common.{◌≡◌, ◌&&◌, ℕ, suc, ◌+◌, ◌*◌, ◌/◌, true, false, not, arith, refl, sym, ◌∙◌, ap, subst}
+use Rattle.std.proofs.Common.{◌≡◌, ◌&&◌, ℕ, suc, ◌+◌, ◌*◌, ◌/◌, true, false, not, arith, refl, sym, ◌∙◌, ap, subst, inl, inr}
 use Rattle.std.specs.Bool.{nat_le, nat_lt}
 use Rattle.std.specs.List.{Contains}
-use Rattle.std.proofs.lemmas.Bool.{and_parts, both_ways, false_from_ne_true, ltb-true}
+use Rattle.std.proofs.lemmas.Bool.{and_parts, both_ways, false_from_ne_true, ltb-true, cases_Bool}
 use Rattle.pci_spec.specs.Header.{layout, bar_count}
 use Rattle.pci_spec.specs.Rom.{rom_is_on}
 use Rattle.pci_spec.specs.Window.{WindowKind, PrefetchWindow, Bounds, bounds_at, has_window, holds, lower_pages, page_size}
@@ -13,9 +13,9 @@ use Rattle.plan_spec.proofs.Planning.LaidOut.{place_of_claim}
 use Rattle.settle_spec.specs.Lists.{Request}
 use Rattle.settle_spec.specs.Parts.{is_part, addresses, class_in}
 use Rattle.settle_spec.specs.Keeping.Registers.{is_enabled_in, settled_function}
-use Rattle.settle_spec.specs.Keeping.Writes.{changes_window, is_left_on, is_replaced, closed_function}
+use Rattle.settle_spec.specs.Keeping.Writes.{changes_at, changes_window, is_left_on, is_replaced, closed_function}
 use Rattle.settle_laws.specs.Keeping.PlacesLaws.{CanSettle}
-use Rattle.settle_laws.proofs.Keeping.Claimed.{new_decodable, claimed_part, claimed}
+use Rattle.settle_laws.proofs.Keeping.Claimed.{new_decodable, claimed_part, claimed, has_end, part_shown}
 use Rattle.settle_laws.proofs.Keeping.ClosedMoves.{kept_window}
 use Rattle.settle_laws.proofs.Keeping.Commands.{left_is_enabled}
 use Rattle.settle_laws.proofs.HeaderParts.{header_of}
@@ -27,18 +27,21 @@ use Rattle.settle_laws.proofs.Keeping.PassedAbove.{passed_above}
 use Rattle.settle_laws.proofs.Keeping.SettledMoved.{new_image, kind_stays}
 use Rattle.settle_laws.proofs.ClosedMoves.{window_same}
 use Rattle.settle_laws.proofs.Stages.{IsKeptWindow, IsHeldBy}
-use Rattle.settle_laws.proofs.Keeping.StillShown.{Rests, Stays, Unchanged, unchanged, resting, rests, on_is, left_of, was_on, ends_on, closed_layout, whole_closed, whole_final, rom_at_closed, rom_at_final}
+use Rattle.settle_laws.proofs.Keeping.StillShown.{Rests, Stays, Unchanged, resting, rests, on_is, left_of, was_on, ends_on, closed_layout, whole_closed, whole_final, rom_at_closed, rom_at_final}
 use Rattle.settle_laws.proofs.NonePasses.{none_passes}
-use Rattle.settle_spec.specs.Kept.{Kept}
+use Rattle.settle_spec.specs.Kept.{Kept, no_wish, unwished}
 use Rattle.settle_spec.specs.Stands.{window_part}
 use Rattle.settle_spec.proofs.Reaching.{within_gives}
 use Rattle.pci_spec.proofs.WindowLaws.{window_holds_its_pages}
 use Rattle.settle_laws.proofs.StandingAbove.{standing_above}
-use Rattle.settle_laws.proofs.Keeping.ChangedWindows.{changes_alike}
+use Rattle.settle_laws.proofs.Keeping.ChangedWindows.{for_wishes, unchanged}
+use Rattle.settle_laws.proofs.Keeping.Ends.{plain_end}
+use Rattle.settle_laws.proofs.Keeping.Wishless.{can_unwished, enabled_same, place_same}
 use Rattle.settle_laws.proofs.Keeping.ClosedImages.{staying_unreplaced}
 use Rattle.settle_laws.proofs.Keeping.Fits.{was, decodable}
 use Rattle.settle_laws.proofs.Keeping.Kept.{stays_stands, stays_listed, above_stays}
 use Rattle.settle_laws.proofs.StillHeld.{IsShownSame, claims_by}
+use Rattle.pci_spec.specs.Decoded.{InRange}
 
 module _ (q : Request) (s : System) (k : Kept) (can : CanSettle q s k) where
   abbrev closed : Function → Function
@@ -141,11 +144,26 @@ module _ (q : Request) (s : System) (k : Kept) (can : CanSettle q s k) where
           let passed = passed_above q s k can (suc f.slot.bus) f p a (omega arith) listed (claimed q s k can f p space a listed after) range up_enabled b above in
           (and_parts (is_space_on (final b) (window_space class)) (holds class (final b).image b.probe a) passed).1
 
-      unchanged_holds : bounds_at class (final b).image ≡ bounds_at class b.image → holds class b.image b.probe a ≡ true
-      unchanged_holds same =
+      shown_holds : (g : Function) → bounds_at class g.image ≡ bounds_at class b.image → holds class g.image b.probe a ≡ true → holds class b.image b.probe a ≡ true
+      shown_holds g same held =
           let page = a / page_size class in
           sym (ap (λ (v : Bounds). has_window class b.probe && nat_le (v.base_upper * lower_pages class + v.base / 16) page && nat_le page (v.limit_upper * lower_pages class + v.limit / 16)) same)
-          ∙ held_then
+          ∙ held
+
+      -- without wishes it is held, too
+      held_unwished : changes_at q s (unwished k) b (Window class) ≡ false → holds class b.image b.probe a ≡ true
+      held_unwished same =
+          let u = unwished k in
+          let can_u = can_unwished q s k can in
+          let g = settled_function q s u b in
+          let own = claimed q s k can f p space a listed after in
+          let ends = place_same q s k no_wish (record { function = f; part = p }) ∙ sym (plain_end q s k can f p listed own.there plain) ∙ own.ends in
+          let here = has_end q s u can_u f p listed own.there own.at ends in
+          let range = (place_of_claim (final f) p space a (new_decodable q s k can f listed) after).range in
+          let passed = passed_above q s u can_u (suc f.slot.bus) f p a (omega arith) listed here (subst (λ r. InRange r a) (own.shown ∙ sym (part_shown q s u can_u f p listed own.there own.at ends)) range)
+          (λ d up. enabled_same q s k no_wish (space_of f p) d ∙ up_enabled d up) b above in
+          shown_holds g (window_same b g class (was q s k can b in_b).image (new_image q s u can_u b in_b) (unchanged q s u b (Window class) same))
+          (and_parts (is_space_on g (window_space class)) (holds class g.image b.probe a) passed).1
 
       -- and so does this one, which it was in
       held_by_rest : (r : Rests q s k (record { function = f; part = p })) → holds class b.image b.probe a ≡ true
@@ -158,9 +176,10 @@ module _ (q : Request) (s : System) (k : Kept) (can : CanSettle q s k) where
           let from = own.0 in
           let to = own.1 in
           (window_holds_its_pages class b.image b.probe a over.there).1 (omega (arith, first, from), omega (arith, last, to))
-      held_by_rest (Unchanged itself still) = unchanged_holds
-          (window_same b (final b) class (was q s k can b in_b).image (new_image q s k can b in_b)
-          (unchanged q s k b (Window class) (sym (changes_alike q s k can.sound.none class b) ∙ none_passes (changes_window q s k class) (bridges_above s f.slot.bus) still b above)))
+      held_by_rest (Unchanged itself still) = elim (cases_Bool (changes_at q s k b (Window class))) [
+        | inr same ↦ shown_holds (final b) (window_same b (final b) class (was q s k can b in_b).image (new_image q s k can b in_b) (unchanged q s k b (Window class) same)) held_then
+        | inl changes ↦ held_unwished (for_wishes q s k class b (none_passes (changes_window q s k class) (bridges_above s f.slot.bus) still b above) changes).1
+      ]
 
       held_by : IsHeldBy b (closed b) (final b) (is_prefetchable_part f p) space a
       held_by = record {

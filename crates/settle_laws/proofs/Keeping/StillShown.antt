@@ -1,8 +1,8 @@
 -- A BAR or ROM whose space is left on shows the same before, once closed and once settled.
 use Rattle.std.proofs.Common.{◌≡◌, ◌&&◌, ◌||◌, ℕ, ◌+◌, ◌%◌, ◌<◌, ◌≤◌, inl, inr, [], ◌∷◌, true, false, cond, not, arith, refl, sym, ◌∙◌, ap, subst}
-use Rattle.std.specs.Bool.{◌==◌, if◌then◌else◌}
+use Rattle.std.specs.Bool.{if◌then◌else◌}
 use Rattle.std.specs.List.{Contains, filter}
-use Rattle.std.proofs.lemmas.Bool.{and_from, both_ways, cases_Bool, eqb-true, not-false, not_from_false, or_cases, or_parts}
+use Rattle.std.proofs.lemmas.Bool.{and_from, both_ways, cases_Bool, not_from_false, or_cases, or_parts}
 use Rattle.pci_spec.specs.Number.{byte_at, number_at, IsImage}
 use Rattle.pci_spec.specs.Header.{layout, bar_count, bar_register, rom_register}
 use Rattle.pci_spec.specs.Bar.{bar_at, has_bar, is_wide, whole_bar}
@@ -15,7 +15,6 @@ use Rattle.settle_spec.specs.Parts.{FunctionPart, is_left, is_part, header_parts
 use Rattle.settle_spec.specs.Stands.{part_space}
 use Rattle.settle_spec.specs.Registers.{changing}
 use Rattle.settle_spec.specs.Keeping.Registers.{settled_function}
-use Rattle.settle_spec.specs.Writes.{part_registers, differs_at}
 use Rattle.settle_spec.specs.Keeping.Writes.{changes_at, changes_above, moves, is_left_on, closed_function}
 use Rattle.settle_laws.specs.Keeping.PlacesLaws.{CanSettle}
 use Rattle.settle_laws.proofs.Keeping.Claimed.{on_now, unleft_bar}
@@ -37,15 +36,9 @@ use Rattle.settle_laws.proofs.WindowBytes.{window_bytes}
 use Rattle.settle_laws.proofs.NonePasses.{none_passes}
 use Rattle.settle_spec.specs.Kept.{Kept}
 use Rattle.settle_laws.proofs.Keeping.ShownKept.{bar_number_stays, rom_stays}
+use Rattle.settle_laws.proofs.Keeping.ChangedWindows.{unchanged}
 
 module _ (q : Request) (s : System) (k : Kept) where
-  -- the registers of a part that doesn't change
-  pub unchanged : (f : Function) (p : Part) → changes_at q s k f p ≡ false → ShowsSame f (settled_function q s k f) p
-  unchanged f p none r has =
-      let g = settled_function q s k f in
-      eqb-true (number_at g.image r.0 r.1) (number_at f.image r.0 r.1)
-      (not-false (number_at g.image r.0 r.1 == number_at f.image r.0 r.1) (none_passes (differs_at f g) (part_registers f p) none r has))
-
   -- a part stays, or neither it nor a window of its class above it changes
   pub data Rests (r : FunctionPart) : Type 0 where
     Stays : (keeps : k.stays r ≡ true) → Rests r

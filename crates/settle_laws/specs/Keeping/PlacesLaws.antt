@@ -1,5 +1,5 @@
 -- Laws of places beside what is kept: only roots can lack room, and whatever stays or is placed lies in windows and apart.
-use Rattle.std.specs.Prelude.{◌≡◌, ◌^◌, ◌<◌, if◌then◌else◌, IsTrue, IsFalse, Option, Some, None}
+use Rattle.std.specs.Prelude.{◌≡◌, ◌^◌, ◌<◌, IsTrue, IsFalse, Option, Some, None}
 use Rattle.std.specs.List.{Contains}
 use Rattle.std.specs.Option.{is_some}
 use Rattle.pci_spec.specs.Decoded.{Range}
@@ -13,8 +13,8 @@ use Rattle.settle_spec.specs.Stands.{is_in_lists, window_part}
 use Rattle.settle_spec.specs.Items.{Placed, are_placed}
 use Rattle.settle_spec.specs.Kept.{Kept}
 use Rattle.settle_spec.specs.Keeping.Places.{placing_on, new_place, lacking}
+use Rattle.settle_spec.specs.Wishes.{range_then}
 use Rattle.settle_laws.specs.KeptLaws.{IsSoundKept}
-use Rattle.settle_laws.specs.PlacesLaws.{place_range}
 
 -- Lists aren't refused and end below 2^64, a system is admitted, what stays is kept soundly, and nothing lacks room on the roots.
 pub record CanSettle (q : Request) (s : System) (k : Kept) : Type 0 where
@@ -55,9 +55,9 @@ PlacesAreOfOthers =
 
 -- ---- where parts end
 
--- the addresses at which a part ends: where it stays those that it has then, else those of its place
+-- the addresses at which a part ends: with room that is kept free in it, else those that it keeps or those of its place
 abbrev pub end_range : Request → System → Kept → FunctionPart → Option Range
-end_range q s k r = if k.stays r then Some (k.range r) else place_range (new_place q s k r)
+end_range q s k r = range_then q s k r
 
 -- A part ends at these addresses.
 abbrev pub EndsAt : Request → System → Kept → Function → Part → Range → Type 0

@@ -1,5 +1,4 @@
-use Rattle.settle_laws.proofs.Keeping.InLists.{on_root}
-use Rattle.settle_laws.proofs.Keeping.InWindows.{in_window, are_apart}
+use Rattle.settle_laws.proofs.Keeping.Ends.{in_window, on_root, are_apart}
 use Rattle.settle_laws.proofs.keeping_laws.places_are_in_windows_and_apart.Goals as goal
 
 pub returns-clause-listed : goal.returns-clause-listed
