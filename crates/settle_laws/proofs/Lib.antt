@@ -86,4 +86,5 @@ pub mod Unchanged
 pub mod Unleft
 pub mod WideWindows
 pub mod WindowBytes
+pub mod Wishing
 pub mod Zipped

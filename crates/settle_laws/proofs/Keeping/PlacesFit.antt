@@ -138,7 +138,7 @@ module _ (q : Request) (s : System) (k : Kept) (can : CanSettle q s k) (f : Func
       let extents = with_spare (spare_of q c f) (map (λ (i : Item). i.extent) (bus_items q s c nothing (window_within q s c 255) (secondary f))) in
       least_in (highest_in c f.probe ∷ map (λ (e : Extent). e.highest) extents) (highest_in c f.probe) (in_head (highest_in c f.probe) (map (λ (e : Extent). e.highest) extents))
 
-  window_low : (c : WindowKind) (p : Placed) → HasPlace q s (space_of f (Window c)) f (Window c) p → (taken_by p.item p.at).last ≤ highest_in c f.probe
+  pub window_low : (c : WindowKind) (p : Placed) → HasPlace q s (space_of f (Window c)) f (Window c) p → (taken_by p.item p.at).last ≤ highest_in c f.probe
   window_low c p has =
       let low = has.low in
       let same : (new_window q s c f).highest ≡ p.item.extent.highest = ap (λ (x : Extent). x.highest) (has.new c refl) in
