@@ -75,7 +75,7 @@ first_whole IoWindow old first a b = omega (arith, a, b)
 first_whole MemoryWindow old first a b = omega (arith, a, b)
 first_whole PrefetchWindow old first a b = omega (arith, a, b)
 
-last_whole : (c : WindowKind) (old last : ℕ) → (old + 1) % page_size c ≡ 0 → (last + 1) % page_size c ≡ 0 → (raised_last c old last + 1) % page_size c ≡ 0
+pub last_whole : (c : WindowKind) (old last : ℕ) → (old + 1) % page_size c ≡ 0 → (last + 1) % page_size c ≡ 0 → (raised_last c old last + 1) % page_size c ≡ 0
 last_whole IoWindow old last a b = omega (arith, a, b)
 last_whole MemoryWindow old last a b = omega (arith, a, b)
 last_whole PrefetchWindow old last a b = omega (arith, a, b)

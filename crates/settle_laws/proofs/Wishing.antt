@@ -1,2 +1,4 @@
 pub mod Added
+pub mod Ending
+pub mod Wider
 pub mod Windows

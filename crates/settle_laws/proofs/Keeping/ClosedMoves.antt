@@ -59,7 +59,7 @@ record SameBounds (v w : Bounds) : Type 0 where
   base_upper : w.base_upper ≡ v.base_upper
   limit_upper : w.limit_upper ≡ v.limit_upper
 
-further_out : (a b c : Bounds) → MoveOut a b → MoveOut b c → MoveOut a c
+pub further_out : (a b c : Bounds) → MoveOut a b → MoveOut b c → MoveOut a c
 further_out a b c out more =
     let base = out.base in
     let limit = out.limit in

@@ -62,6 +62,20 @@ module _ (s : System) (system : IsSystem s) where
       let part : r.part ≡ t.part = one_part r.function r.part t.part (is_part_of r.function r.part there_r) (is_part_of r.function t.part there) register in
       λ i. record { function = one i; part = part i }
 
+module _ (q : Request) (s : System) (k : Kept) (w : FunctionPart) (v : Range) where
+  wish_now : (r : FunctionPart) → rank r ≡ rank w → (with_window w v k).wished r ≡ Some v
+  wish_now r same = ap (λ t. cond t (Some v) (k.wished r)) (eq-eqb (rank r) (rank w) same)
+
+  wish_before : (r : FunctionPart) → (rank r ≡ rank w → ⊥) → (with_window w v k).wished r ≡ k.wished r
+  wish_before r differ = ap (λ t. cond t (Some v) (k.wished r)) (false_from_ne_true (rank r == rank w) (λ same. differ (eqb-true (rank r) (rank w) same)))
+
+  -- the window has those addresses, and each other part has what it had
+  pub range_with : range_then q s (with_window w v k) w ≡ Some v
+  range_with = ap (λ o. option_or o (place_then q s (with_window w v k) w)) (wish_now w refl)
+
+  pub range_without : (r : FunctionPart) → (rank r ≡ rank w → ⊥) → range_then q s (with_window w v k) r ≡ range_then q s k r
+  range_without r differ = (let wish = wish_before r differ in let place = place_same q s k (with_window w v k).wished r in λ i. option_or (wish i) (place i))
+
 abbrev kind_or : WindowKind → Part → WindowKind
 kind_or other (Window c) = c
 kind_or other p = other
@@ -75,19 +89,19 @@ module _ (q : Request) (s : System) (k : Kept) (can : CanSettle q s k) (c : Wind
   j = with_window w v k
 
   now : (r : FunctionPart) → rank r ≡ rank w → j.wished r ≡ Some v
-  now r same = ap (λ t. cond t (Some v) (k.wished r)) (eq-eqb (rank r) (rank w) same)
+  now = wish_now q s k w v
 
   as_before : (r : FunctionPart) → (rank r ≡ rank w → ⊥) → j.wished r ≡ k.wished r
-  as_before r differ = ap (λ t. cond t (Some v) (k.wished r)) (false_from_ne_true (rank r == rank w) (λ same. differ (eqb-true (rank r) (rank w) same)))
+  as_before = wish_before q s k w v
 
-  pub range_now : range_then q s j w ≡ Some v
-  range_now = ap (λ o. option_or o (place_then q s j w)) (now w refl)
+  range_now : range_then q s j w ≡ Some v
+  range_now = range_with q s k w v
 
-  pub range_as_before : (r : FunctionPart) → (rank r ≡ rank w → ⊥) → range_then q s j r ≡ range_then q s k r
-  range_as_before r differ = (let wish = as_before r differ in let place = place_same q s k j.wished r in λ i. option_or (wish i) (place i))
+  range_as_before : (r : FunctionPart) → (rank r ≡ rank w → ⊥) → range_then q s j r ≡ range_then q s k r
+  range_as_before = range_without q s k w v
 
   -- the window over it is another one
-  pub other_over : (d : Function) (e : WindowKind) → LeadsTo s d b.slot.bus → rank (window_part e d) ≡ rank w → ⊥
+  other_over : (d : Function) (e : WindowKind) → LeadsTo s d b.slot.bus → rank (window_part e d) ≡ rank w → ⊥
   other_over d e leads same =
       let one = one_of_rank s can.system (window_part e d) w leads.0 listed leads.1 bridge same in
       let bus : d.slot.bus ≡ b.slot.bus = ap (λ (r : FunctionPart). r.function.slot.bus) one in
