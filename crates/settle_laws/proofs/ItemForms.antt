@@ -161,7 +161,7 @@ item_power q s new c bus i power is = subst (λ (j : Item). IsPower j.extent.ali
     by (IsNewWindow window bridge has) = subst (λ o. IsPower (extent_by new is.f o).alignment) (sym window) (power is.f)
 
 -- that of a spare
-doubled_power : (n times size : ℕ) → IsPower size → IsPower (doubled_in n times size)
+pub doubled_power : (n times size : ℕ) → IsPower size → IsPower (doubled_in n times size)
 unfolding doubled_in
 doubled_power n zero size power = power
 doubled_power n (suc times) size (k, is) =

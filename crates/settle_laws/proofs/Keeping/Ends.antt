@@ -1,10 +1,10 @@
 -- Where a part ends with the room that is kept free: in the lists of its root, in the window over it, and apart.
-use Rattle.std.proofs.Common.{◌≡◌, ◌&&◌, inl, inr, true, false, arith, refl, sym, ◌∙◌, ap, subst, Option, None, Some}
+use Rattle.std.proofs.Common.{◌≡◌, inl, inr, true, false, arith, refl, sym, ◌∙◌, ap, subst, Option, None, Some}
 use Rattle.std.specs.List.{Contains}
 use Rattle.std.specs.Option.{option_or}
 use Rattle.std.proofs.lemmas.Bool.{and_from}
 use Rattle.pci_spec.specs.Decoded.{Range}
-use Rattle.pci_spec.specs.System.{System, Function, Part, Bar, Rom, Window, has_part, is_bridge, is_window, space_of}
+use Rattle.pci_spec.specs.System.{System, Function, Part, Bar, Rom, Window, has_part, is_window, space_of}
 use Rattle.pci_spec.specs.Bus.{are_siblings, is_root, LeadsTo}
 use Rattle.plan_spec.specs.Planning.Layout.{IsInside, LieApart, AreBeside, AreTwo}
 use Rattle.settle_spec.specs.Lists.{Request}

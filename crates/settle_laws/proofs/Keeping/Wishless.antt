@@ -10,11 +10,10 @@ use Rattle.pci_spec.specs.Bus.{secondary}
 use Rattle.settle_spec.specs.Lists.{Request}
 use Rattle.settle_spec.specs.Parts.{FunctionPart, has_left, are_same_space}
 use Rattle.settle_spec.specs.Stands.{part_space, window_part}
-use Rattle.settle_spec.specs.Items.{Placed}
 use Rattle.settle_spec.specs.Places.{placed_of, place_among, first_lack}
 use Rattle.settle_spec.specs.Growth.{place_each}
 use Rattle.settle_spec.specs.Kept.{Kept, no_wish, unwished}
-use Rattle.settle_spec.specs.Keeping.Places.{space_items, taken_at, place_of_item, placing_within, placing_on, new_place, lacking_on, lacking}
+use Rattle.settle_spec.specs.Keeping.Places.{space_items, taken_at, place_of_item, placing_within, new_place, lacking_on, lacking}
 use Rattle.settle_spec.specs.Registers.{changing, has_own}
 use Rattle.settle_spec.specs.Keeping.Registers.{got_place, is_live_within, is_enabled_in}
 use Rattle.settle_spec.specs.Wishes.{place_then}

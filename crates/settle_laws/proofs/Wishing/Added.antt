@@ -1,9 +1,9 @@
 -- Where one more window keeps room free, all that is wished before is kept free as it was.
-use Rattle.std.proofs.Common.{◌≡◌, ◌&&◌, ◌||◌, ℕ, ◌+◌, ◌≤◌, inl, inr, Bool, true, false, cond, arith, refl, sym, ◌∙◌, ap, subst, Option, None, Some, List}
+use Rattle.std.proofs.Common.{◌≡◌, ◌&&◌, ℕ, inl, inr, true, false, cond, arith, refl, sym, ◌∙◌, ap, subst, None, Some, List}
 use Rattle.std.specs.Bool.{◌==◌}
 use Rattle.std.specs.List.{Contains}
 use Rattle.std.specs.Option.{option_or}
-use Rattle.std.proofs.lemmas.Bool.{and_parts, and_from, both_ways, cases_Bool, cases_eq, eq-eqb, eqb-true, false_from_ne_true, or_cases, or_left, or_right}
+use Rattle.std.proofs.lemmas.Bool.{and_parts, and_from, both_ways, cases_eq, eq-eqb, eqb-true, false_from_ne_true, or_cases, or_left, or_right}
 use Rattle.pci_spec.specs.Slot.{slot_number}
 use Rattle.pci_spec.specs.Decoded.{Range}
 use Rattle.pci_spec.specs.Window.{WindowKind}

@@ -1,17 +1,16 @@
 -- A window of a bridge gets room: what is beside it and above it, and that all is settled then.
-use Rattle.std.proofs.Common.{◌≡◌, ◌&&◌, ℕ, ◌+◌, ◌*◌, ◌/◌, ◌%◌, ◌^◌, ◌≤◌, max, inl, inr, ◌⊎◌, true, false, arith, refl, sym, ◌∙◌, ap, subst, None, Some, ◌-◌}
+use Rattle.std.proofs.Common.{◌≡◌, ◌&&◌, ℕ, ◌+◌, ◌%◌, ◌≤◌, inl, inr, true, false, arith, sym, ◌∙◌, ap, subst, Some, ◌-◌}
 use Rattle.std.specs.Bool.{◌==◌}
 use Rattle.std.specs.List.{Contains}
-use Rattle.std.proofs.lemmas.Bool.{and_parts, both_ways, cases_Bool, eqb-true, or_cases}
-use Rattle.pci_spec.specs.Slot.{Slot, same_slot, slot_number}
+use Rattle.std.proofs.lemmas.Bool.{and_parts, cases_Bool, eqb-true, or_cases}
+use Rattle.pci_spec.specs.Slot.{same_slot, slot_number}
 use Rattle.pci_spec.specs.Decoded.{Range}
 use Rattle.pci_spec.specs.Window.{WindowKind, IoWindow, MemoryWindow, PrefetchWindow, bounds_for, page_size}
-use Rattle.pci_spec.specs.System.{System, Function, Space, Part, Window, has_part, is_bridge, register_of, space_of, window_space}
+use Rattle.pci_spec.specs.System.{System, Function, Part, Window, has_part, is_bridge, window_space}
 use Rattle.pci_spec.specs.Bus.{are_siblings, is_root, LeadsTo}
 use Rattle.pci_spec.proofs.BusRanges.{root_means}
 use Rattle.plan_spec.specs.Plan.{raised_to}
 use Rattle.plan_spec.specs.Planning.Layout.{IsInside, LieApart, AreBeside, AreTwo}
-use Rattle.plan_spec.proofs.Planning.Behind.{all_gives}
 use Rattle.plan_spec.proofs.Planning.Room.{raised}
 use Rattle.plan_spec.proofs.Planning.Writes.{same_fields}
 use Rattle.settle_spec.specs.FirstPlace.{ranges_are_apart}
@@ -31,7 +30,7 @@ use Rattle.settle_laws.proofs.LowWindows.{last_whole}
 use Rattle.settle_laws.proofs.Keeping.ClosedMoves.{further_out}
 use Rattle.settle_laws.proofs.Keeping.Ends.{are_apart}
 use Rattle.settle_laws.proofs.Keeping.Wishless.{place_same}
-use Rattle.settle_laws.proofs.Wishing.Added.{within, can_added, beside_back}
+use Rattle.settle_laws.proofs.Wishing.Added.{within, can_added}
 use Rattle.settle_laws.proofs.Wishing.Windows.{IsWindowEnd, window_end_is, ends_forward, in_there}
 
 -- ---- the end of a window that ends later

@@ -1,10 +1,10 @@
 -- What a window that ends somewhere is: whole pages that it can hold, and no less than what it has without wishes.
-use Rattle.std.proofs.Common.{◌≡◌, ◌&&◌, ◌||◌, ℕ, ◌+◌, ◌-◌, ◌%◌, ◌≤◌, inl, inr, List, true, false, not, arith, refl, sym, ◌∙◌, ap, subst, Option, None, Some, []}
+use Rattle.std.proofs.Common.{◌≡◌, ◌&&◌, ℕ, ◌+◌, ◌-◌, ◌%◌, ◌≤◌, inl, inr, true, false, not, arith, refl, sym, ◌∙◌, ap, subst, Option, None, Some, []}
 use Rattle.std.specs.List.{Contains, filter, flat_map}
 use Rattle.std.proofs.lemmas.Bool.{and_parts, and_from, cases_Bool, or_left, or_right}
 use Rattle.pci_spec.specs.Decoded.{Range}
 use Rattle.pci_spec.specs.Window.{WindowKind, bounds_for, has_window, is_closed, page_size}
-use Rattle.pci_spec.specs.System.{System, Function, Space, Part, Bar, Rom, Window, has_part, is_bridge, is_implemented, is_window, space_of}
+use Rattle.pci_spec.specs.System.{System, Function, Space, Part, Bar, Rom, Window, has_part, is_bridge, is_implemented, is_window}
 use Rattle.pci_spec.specs.Bus.{are_siblings}
 use Rattle.pci_spec.proofs.Members.{in_head, in_filter_from, in_flat_map_from}
 use Rattle.plan_spec.specs.Planning.Layout.{IsInside}
@@ -23,7 +23,7 @@ use Rattle.settle_spec.proofs.Reaching.{within_gives}
 use Rattle.settle_laws.specs.Keeping.PlacesLaws.{CanSettle}
 use Rattle.settle_laws.proofs.HeaderParts.{header_of, is_part_of}
 use Rattle.settle_laws.proofs.PartClaims.{part_order}
-use Rattle.settle_laws.proofs.Keeping.Ends.{unwished_end, wished_end, plain_end, no_plain_wish}
+use Rattle.settle_laws.proofs.Keeping.Ends.{unwished_end, wished_end, plain_end}
 use Rattle.settle_laws.proofs.Keeping.Fits.{was, decodable, window_has, window_room, window_there}
 use Rattle.settle_laws.proofs.Keeping.InWindows.{kept_range, placed_range, place_of_range}
 use Rattle.settle_laws.proofs.Keeping.Kept.{stays_part, kept_forward}
