@@ -43,14 +43,14 @@ writes_of (Settled writes) other = writes
 writes_of refused other = other
 
 -- lists are good, what is fixed stands, nothing lacks room, and these are the writes, none to what is fixed
-record IsEnd (bad : Bool) (fixed : Option FunctionPart) (lack : Option Item) (w : Option Write) (own writes : List Write) : Type 0 where
-  good : bad ≡ false
-  stand : fixed ≡ None
-  room : lack ≡ None
-  unwritten : w ≡ None
-  same : own ≡ writes
+pub record IsEnd (bad : Bool) (fixed : Option FunctionPart) (lack : Option Item) (w : Option Write) (own writes : List Write) : Type 0 where
+  pub good : bad ≡ false
+  pub stand : fixed ≡ None
+  pub room : lack ≡ None
+  pub unwritten : w ≡ None
+  pub same : own ≡ writes
 
-ends : (bad : Bool) (a b : Option FunctionPart) (lack : Option Item) (w : Option Write) (own writes : List Write)
+pub ends : (bad : Bool) (a b : Option FunctionPart) (lack : Option Item) (w : Option Write) (own writes : List Write)
     → (if bad then BadLists else or_fixed a (or_fixed b (or_lack lack (or_write w (Settled own))))) ≡ Settled writes → IsEnd bad a lack w own writes
 ends true a b lack w own writes e = absurd (false≢true (ap is_settled e))
 ends false (Some r) b lack w own writes e = absurd (false≢true (ap is_settled e))
@@ -79,17 +79,17 @@ module _ (q : Request) (s : System) (asked : CanBeAsked q s) (k : Kept) (sound :
         room = end.room;
       }
 
-  kept_sound : (writes : List Write) → settle_keeping q s k ≡ Settled writes → IsSound q.roots (system_after s writes)
+  pub kept_sound : (writes : List Write) → settle_keeping q s k ≡ Settled writes → IsSound q.roots (system_after s writes)
   kept_sound writes e =
       let can = kept_can writes e in
       subst (λ ws. IsSound q.roots (system_after s ws)) (kept_end writes e).same
       (subst (IsSound q.roots) (sym (writes_settle q s k can)) (settled_sound q s k can))
 
-  kept_stop : (writes : List Write) (n : ℕ) → settle_keeping q s k ≡ Settled writes → (length (closings q s k s) ≤ n) ⊎ IsSound q.roots s → IsSound q.roots (system_after s (take n writes))
+  pub kept_stop : (writes : List Write) (n : ℕ) → settle_keeping q s k ≡ Settled writes → (length (closings q s k s) ≤ n) ⊎ IsSound q.roots s → IsSound q.roots (system_after s (take n writes))
   kept_stop writes n e from =
       subst (λ ws. IsSound q.roots (system_after s (take n ws))) (kept_end writes e).same (stop_sound q s k (kept_can writes e) n from)
 
-  kept_few : (writes : List Write) (f : Function) → Contains s f → settle_keeping q s k ≡ Settled writes → count_by (λ w. same_slot w.slot f.slot) writes ≤ most_settle_writes f
+  pub kept_few : (writes : List Write) (f : Function) → Contains s f → settle_keeping q s k ≡ Settled writes → count_by (λ w. same_slot w.slot f.slot) writes ≤ most_settle_writes f
   kept_few writes f listed e = subst (λ ws. count_by (λ w. same_slot w.slot f.slot) ws ≤ most_settle_writes f) (kept_end writes e).same (few_each q s k asked.system f listed)
 
   -- settled again

@@ -5,5 +5,6 @@ pub mod KeptLaws
 pub mod PlacesLaws
 pub mod PlanLaws
 pub mod RestLaws
+pub mod SparingLaws
 pub mod StartLaws
 pub mod WriteLaws

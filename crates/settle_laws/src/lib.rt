@@ -12,5 +12,6 @@ pub mod kept_laws;
 pub mod places_laws;
 pub mod plan_laws;
 pub mod rest_laws;
+pub mod sparing_laws;
 pub mod start_laws;
 pub mod write_laws;

@@ -1,0 +1,112 @@
+-- What settling with room behind slots comes to is sound, and its writes can stop.
+use Rattle.std.proofs.Common.{◌≡◌, ℕ, ◌≤◌, ◌⊎◌, inl, inr, List, length, take, refl, sym, ◌∙◌, ap, subst, None}
+use Rattle.std.specs.List.{Contains, count_by}
+use Rattle.std.proofs.lemmas.Bool.{cond_both}
+use Rattle.pci_spec.specs.Slot.{same_slot}
+use Rattle.pci_spec.specs.System.{System, Function}
+use Rattle.pci_spec.specs.Machine.{Write, system_after}
+use Rattle.pci_spec.specs.Sound.{IsSound}
+use Rattle.settle_spec.specs.Lists.{Request, are_bad_lists}
+use Rattle.settle_spec.specs.Stands.{stands}
+use Rattle.settle_spec.specs.Items.{spare_of}
+use Rattle.settle_spec.specs.Writes.{Settling, BadLists, Fixed, NoRoom, Settled, fixed_without, fixed_write}
+use Rattle.settle_spec.specs.Kept.{Kept, no_wish, as_it_stands, growing}
+use Rattle.settle_spec.specs.Keeping.Places.{lacking}
+use Rattle.settle_spec.specs.Keeping.Writes.{closings, settle_writes, settle_keeping}
+use Rattle.settle_spec.specs.Growing.{kept_by, finally_kept}
+use Rattle.settle_spec.specs.Wishes.{granted}
+use Rattle.settle_spec.specs.Sparing.{without_slots, have_spares, placing_request, grants, settle_sparing}
+use Rattle.settle_laws.specs.WriteLaws.{most_settle_writes}
+use Rattle.settle_laws.specs.KeptLaws.{IsSoundKept}
+use Rattle.settle_laws.specs.GrowingLaws.{CanBeAsked}
+use Rattle.settle_laws.specs.SparingLaws.{SettledSparingIsSound, SettlingSparingCanStop, FewSparingWritesEach}
+use Rattle.settle_laws.specs.Keeping.PlacesLaws.{CanSettle}
+use Rattle.settle_laws.proofs.SettlingEnds.{IsEnd, ends, kept_sound, kept_stop, kept_few}
+use Rattle.settle_laws.proofs.SoundKept.{growing_is_sound, standing_is_sound}
+use Rattle.settle_laws.proofs.Keeping.Wishless.{lacking_same}
+use Rattle.settle_laws.proofs.Wishing.Alike.{granted_alike}
+use Rattle.settle_laws.proofs.Wishing.Granted.{all_granted}
+
+-- ---- wishes beside what is kept in the end
+
+module _ (q asked : Request) (s : System) (may : CanBeAsked q s) where
+  abbrev k : Kept
+  k = finally_kept q s
+
+  abbrev j : Kept
+  j = (granted q s (spare_of asked) k).kept
+
+  pub finally_sound : IsSoundKept q s k
+  finally_sound = by (settle_keeping q s (growing q s))
+    where
+      by : (o : Settling) → IsSoundKept q s (kept_by o (growing q s) (as_it_stands q s))
+      by (Settled writes) = growing_is_sound q s may.system may.nested may.profile
+      by BadLists = standing_is_sound q s may.system may.nested may.profile
+      by (Fixed slot register) = standing_is_sound q s may.system may.nested may.profile
+      by (NoRoom class slot register size alignment) = standing_is_sound q s may.system may.nested may.profile
+
+  -- what lacks room is the same without wishes
+  pub lacks_alike : lacking q s j ≡ lacking q s k
+  lacks_alike = sym (lacking_same q s j no_wish) ∙ ap (lacking q s) (granted_alike q s (spare_of asked) k) ∙ lacking_same q s k no_wish
+
+  module _ (writes : List Write) (settled : settle_keeping q s j ≡ Settled writes) where
+    end : IsEnd (are_bad_lists q.roots q.lists) (fixed_without (stands q s) q s) (lacking q s j) (fixed_write q (settle_writes q s j)) (settle_writes q s j) writes
+    end = ends (are_bad_lists q.roots q.lists) (fixed_without (stands q s) q s) (fixed_without j.stays q s) (lacking q s j) (fixed_write q (settle_writes q s j)) (settle_writes q s j) writes settled
+
+    can_before : CanSettle q s k
+    can_before = record {
+      lists = end.good;
+      high = may.high;
+      system = may.system;
+      nested = may.nested;
+      profile = may.profile;
+      chains = may.chains;
+      sound = finally_sound;
+      room = sym lacks_alike ∙ end.room;
+    }
+
+    pub can_granted : CanSettle q s j
+    can_granted = (all_granted q asked s k can_before).can
+
+-- ---- the request by which new windows are placed
+
+module _ (q : Request) (s : System) where
+  abbrev p : Request
+  p = placing_request q s
+
+  pub placing_roots : p.roots ≡ q.roots
+  placing_roots = cond_both (have_spares q s) q (without_slots q) (λ r. r.roots ≡ q.roots) (λ spares. refl) (λ none. refl)
+
+  pub placing_asked : CanBeAsked q s → CanBeAsked p s
+  placing_asked may = cond_both (have_spares q s) q (without_slots q) (λ r. CanBeAsked r s) (λ spares. may)
+      (λ none. record { high = may.high; system = may.system; nested = may.nested; profile = may.profile; chains = may.chains })
+
+  abbrev wished : Kept
+  wished = (grants q s).kept
+
+  module _ (may : CanBeAsked q s) (writes : List Write) (settled : settle_sparing q s ≡ Settled writes) where
+    asked : CanBeAsked p s
+    asked = placing_asked may
+
+    pub can_sparing : CanSettle p s wished
+    can_sparing = can_granted p q s asked writes settled
+
+    ends_sound : IsSound q.roots (system_after s writes)
+    ends_sound = subst (λ roots. IsSound roots (system_after s writes)) placing_roots (kept_sound p s asked wished can_sparing.sound writes settled)
+
+    stops_sound : (n : ℕ) → (length (closings p s wished s) ≤ n) ⊎ IsSound q.roots s → IsSound q.roots (system_after s (take n writes))
+    stops_sound n from = subst (λ roots. IsSound roots (system_after s (take n writes))) placing_roots
+        (kept_stop p s asked wished can_sparing.sound writes n settled
+        (elim from [ inl closed ↦ inl closed | inr sound ↦ inr (subst (λ roots. IsSound roots s) (sym placing_roots) sound) ]))
+
+    ends_few : (f : Function) → Contains s f → count_by (λ w. same_slot w.slot f.slot) writes ≤ most_settle_writes f
+    ends_few f listed = kept_few p s asked wished can_sparing.sound writes f listed settled
+
+pub settled_sparing_is_sound : SettledSparingIsSound
+settled_sparing_is_sound q s writes may settled = ends_sound q s may writes settled
+
+pub settling_sparing_can_stop : SettlingSparingCanStop
+settling_sparing_can_stop q s writes n may settled from = stops_sound q s may writes settled n from
+
+pub few_sparing_writes_each : FewSparingWritesEach
+few_sparing_writes_each q s writes may settled f listed = ends_few q s may writes settled f listed

@@ -1,0 +1,58 @@
+-- Laws of settling with room behind slots: wishes change nothing else, what settling comes to is sound, and its writes can stop.
+use Rattle.std.specs.Prelude.{◌≡◌, ℕ, ◌≤◌, ◌⊎◌, List, length, take}
+use Rattle.std.specs.List.{Contains, count_by}
+use Rattle.pci_spec.specs.Slot.{same_slot}
+use Rattle.pci_spec.specs.System.{System, Function}
+use Rattle.pci_spec.specs.Machine.{Write, system_after}
+use Rattle.pci_spec.specs.Sound.{IsSound}
+use Rattle.settle_spec.specs.Lists.{Request}
+use Rattle.settle_spec.specs.Items.{spare_of}
+use Rattle.settle_spec.specs.Writes.{Settled}
+use Rattle.settle_spec.specs.Kept.{Kept, unwished}
+use Rattle.settle_spec.specs.Keeping.Writes.{closings}
+use Rattle.settle_spec.specs.Wishes.{granted}
+use Rattle.settle_spec.specs.Sparing.{placing_request, grants, settle_sparing}
+use Rattle.settle_laws.specs.WriteLaws.{most_settle_writes}
+use Rattle.settle_laws.specs.GrowingLaws.{CanBeAsked}
+use Rattle.settle_laws.specs.Keeping.PlacesLaws.{CanSettle}
+
+-- ---- wishes
+
+-- Wishes change nothing of what is kept but the room that is kept free:
+abbrev pub WishesChangeRoomAlone : Type 0
+WishesChangeRoomAlone =
+    (q : Request) (s : System) (asked : Request) (k : Kept)
+    → unwished (granted q s (spare_of asked) k).kept ≡ unwished k
+
+-- and what can be settled can be settled with the wishes that are granted, so laws of what can be settled hold with them.
+abbrev pub GrantedCanSettle : Type 0
+GrantedCanSettle =
+    (q : Request) (s : System) (asked : Request) (k : Kept) → CanSettle q s k
+    → CanSettle q s (granted q s (spare_of asked) k).kept
+
+-- ---- the whole
+
+-- So what settling comes to is sound.
+abbrev pub SettledSparingIsSound : Type 0
+SettledSparingIsSound =
+    (q : Request) (s : System) (writes : List Write) → CanBeAsked q s
+    → settle_sparing q s ≡ Settled writes → IsSound q.roots (system_after s writes)
+
+-- the closing writes
+abbrev pub sparing_closings : Request → System → List Write
+sparing_closings q s = closings (placing_request q s) s (grants q s).kept s
+
+-- The writes can stop anywhere once the closing ones are made, and from a sound start anywhere at all.
+abbrev pub SettlingSparingCanStop : Type 0
+SettlingSparingCanStop =
+    (q : Request) (s : System) (writes : List Write) (n : ℕ) → CanBeAsked q s
+    → settle_sparing q s ≡ Settled writes
+    → (length (sparing_closings q s) ≤ n) ⊎ IsSound q.roots s
+    → IsSound q.roots (system_after s (take n writes))
+
+-- To a device at most 9 writes are made, and to a bridge 16.
+abbrev pub FewSparingWritesEach : Type 0
+FewSparingWritesEach =
+    (q : Request) (s : System) (writes : List Write) → CanBeAsked q s
+    → settle_sparing q s ≡ Settled writes → (f : Function) → Contains s f
+    → count_by (λ w. same_slot w.slot f.slot) writes ≤ most_settle_writes f

@@ -1,0 +1,18 @@
+//! Laws of settling with room behind slots. These functions do nothing: each contract is a law.
+
+ghost use Rattle.settle_laws.specs.SparingLaws.{WishesChangeRoomAlone, GrantedCanSettle, SettledSparingIsSound, SettlingSparingCanStop, FewSparingWritesEach};
+
+/// Wishes change nothing of what is kept but the room that is kept free, and all can be settled with those
+/// that are granted.
+pub fn granted_wishes_can_be_settled()
+    ensures alike { WishesChangeRoomAlone }
+    ensures can { GrantedCanSettle }
+{}
+
+/// What settling comes to with room behind slots is sound, and so is what is left of it wherever its writes
+/// may stop, of which each function has few.
+pub fn settled_sparing_is_sound()
+    ensures sound { SettledSparingIsSound }
+    ensures stop { SettlingSparingCanStop }
+    ensures few { FewSparingWritesEach }
+{}
