@@ -2,6 +2,8 @@ pub mod Added
 pub mod Alike
 pub mod Ending
 pub mod Granted
+pub mod Nothing
+pub mod Same
 pub mod Sparing
 pub mod Spare
 pub mod Wider

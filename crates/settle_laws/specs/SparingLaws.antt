@@ -1,5 +1,5 @@
 -- Laws of settling with room behind slots: wishes change nothing else, what settling comes to is sound, and its writes can stop.
-use Rattle.std.specs.Prelude.{◌≡◌, ℕ, ◌≤◌, ◌⊎◌, List, length, take}
+use Rattle.std.specs.Prelude.{◌≡◌, ℕ, ◌≤◌, ◌⊎◌, IsTrue, List, length, take}
 use Rattle.std.specs.List.{Contains, count_by}
 use Rattle.pci_spec.specs.Slot.{same_slot}
 use Rattle.pci_spec.specs.System.{System, Function}
@@ -9,9 +9,12 @@ use Rattle.settle_spec.specs.Lists.{Request}
 use Rattle.settle_spec.specs.Items.{spare_of}
 use Rattle.settle_spec.specs.Writes.{Settled}
 use Rattle.settle_spec.specs.Kept.{Kept, unwished}
+use Rattle.settle_spec.specs.Keeping.Registers.{settled_command}
 use Rattle.settle_spec.specs.Keeping.Writes.{closings}
+use Rattle.settle_spec.specs.Growing.{settle_growing, finally_kept}
 use Rattle.settle_spec.specs.Wishes.{granted}
-use Rattle.settle_spec.specs.Sparing.{placing_request, grants, settle_sparing}
+use Rattle.settle_spec.specs.Sparing.{without_slots, is_settled, placing_request, grants, settle_sparing}
+use Rattle.settle_spec.specs.SpareLaws.{kept_sparing}
 use Rattle.settle_laws.specs.WriteLaws.{most_settle_writes}
 use Rattle.settle_laws.specs.GrowingLaws.{CanBeAsked}
 use Rattle.settle_laws.specs.Keeping.PlacesLaws.{CanSettle}
@@ -56,3 +59,13 @@ FewSparingWritesEach =
     (q : Request) (s : System) (writes : List Write) → CanBeAsked q s
     → settle_sparing q s ≡ Settled writes → (f : Function) → Contains s f
     → count_by (λ w. same_slot w.slot f.slot) writes ≤ most_settle_writes f
+
+-- ---- nothing goes
+
+-- Command is that without slots, where it can be settled without them.
+abbrev pub SparingSetsNoCommand : Type 0
+SparingSetsNoCommand =
+    (q : Request) (s : System) (f : Function) → CanBeAsked q s → Contains s f
+    → IsTrue (is_settled (settle_growing (without_slots q) s))
+    → settled_command (placing_request q s) s (kept_sparing q s) f
+    ≡ settled_command (without_slots q) s (finally_kept (without_slots q) s) f

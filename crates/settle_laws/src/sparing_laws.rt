@@ -1,6 +1,7 @@
 //! Laws of settling with room behind slots. These functions do nothing: each contract is a law.
 
-ghost use Rattle.settle_laws.specs.SparingLaws.{WishesChangeRoomAlone, GrantedCanSettle, SettledSparingIsSound, SettlingSparingCanStop, FewSparingWritesEach};
+ghost use Rattle.settle_laws.specs.SparingLaws.{WishesChangeRoomAlone, GrantedCanSettle, SettledSparingIsSound, SettlingSparingCanStop, FewSparingWritesEach, SparingSetsNoCommand};
+ghost use Rattle.settle_spec.specs.SpareLaws.{NoSlotsNoSpares, NothingGoesForSpares};
 
 /// Wishes change nothing of what is kept but the room that is kept free, and all can be settled with those
 /// that are granted.
@@ -15,4 +16,12 @@ pub fn settled_sparing_is_sound()
     ensures sound { SettledSparingIsSound }
     ensures stop { SettlingSparingCanStop }
     ensures few { FewSparingWritesEach }
+{}
+
+/// Without slots all is settled as where no room is wanted. With them all stays that stays without, and
+/// Command is that without slots.
+pub fn nothing_goes_for_spares()
+    ensures none { NoSlotsNoSpares }
+    ensures stays { NothingGoesForSpares }
+    ensures command { SparingSetsNoCommand }
 {}

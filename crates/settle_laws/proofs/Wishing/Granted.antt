@@ -1,11 +1,10 @@
 -- One wish after another: what is kept so far is kept free, and nothing else changes.
-use Rattle.std.proofs.Common.{◌≡◌, ◌&&◌, ℕ, zero, suc, ◌*◌, ◌%◌, ◌^◌, ◌<◌, ◌≤◌, List, [], ◌∷◌, Bool, true, false, cond, arith, refl, sym, ◌∙◌, ap, subst, Option, None, Some, mul_comm}
+use Rattle.std.proofs.Common.{◌≡◌, ◌&&◌, ℕ, zero, suc, ◌*◌, ◌%◌, ◌^◌, ◌<◌, ◌≤◌, [], ◌∷◌, Bool, true, false, cond, arith, refl, sym, ◌∙◌, ap, subst, Option, None, Some, mul_comm}
 use Rattle.std.specs.Bool.{◌==◌, nat_lt}
 use Rattle.std.specs.List.{Contains}
 use Rattle.std.proofs.Math.Nat.{pow-succ', mul_assoc}
-use Rattle.std.proofs.lemmas.Bool.{and_parts, cases_Bool, cond_both, eq-eqb, ltb-true}
+use Rattle.std.proofs.lemmas.Bool.{and_parts, cond_both, eq-eqb, ltb-true}
 use Rattle.pci_spec.specs.Window.{WindowKind, IoWindow, MemoryWindow, PrefetchWindow, has_window, page_size}
-use Rattle.pci_spec.specs.Slot.{same_slot}
 use Rattle.pci_spec.specs.System.{System, Function, is_bridge}
 use Rattle.pci_spec.proofs.Members.{in_head, in_tail}
 use Rattle.plan_spec.specs.Plan.{raised_to}
@@ -21,7 +20,7 @@ use Rattle.settle_spec.specs.Wishes.{Spared, spared_behind, Granted, or_denied, 
 use Rattle.settle_spec.proofs.Grown.{some_page}
 use Rattle.settle_laws.specs.Keeping.PlacesLaws.{CanSettle}
 use Rattle.settle_laws.proofs.ItemForms.{doubled_power}
-use Rattle.settle_laws.proofs.Wishing.Spare.{IsSpare, IsSpared, is_spared}
+use Rattle.settle_laws.proofs.Wishing.Spare.{IsSpare, is_spared}
 
 -- ---- the alignment of a spare
 

@@ -1,5 +1,5 @@
 -- Room for a spare behind a bridge: it is off all that is there, and the rest is kept free as it was.
-use Rattle.std.proofs.Common.{◌≡◌, ◌&&◌, ℕ, zero, suc, ◌+◌, ◌-◌, ◌*◌, ◌%◌, ◌^◌, ◌<◌, ◌≤◌, min, inl, inr, List, Bool, true, false, cond, not, arith, refl, sym, ◌∙◌, ap, subst, Option, None, Some}
+use Rattle.std.proofs.Common.{◌≡◌, ◌&&◌, ℕ, zero, suc, ◌+◌, ◌-◌, ◌%◌, ◌<◌, ◌≤◌, min, inl, inr, List, Bool, true, false, cond, not, arith, refl, sym, ◌∙◌, ap, subst, Option, None, Some}
 use Rattle.std.specs.Bool.{◌==◌, nat_le}
 use Rattle.std.specs.List.{Contains}
 use Rattle.std.specs.Option.{option_map, option_or}
@@ -15,13 +15,13 @@ use Rattle.plan_spec.proofs.Planning.Placement.{IsMultiple, mod_of_multiple, mul
 use Rattle.plan_spec.proofs.Planning.PlacedItems.{same_class_is}
 use Rattle.plan_spec.proofs.Planning.Behind.{any_from}
 use Rattle.plan_spec.proofs.Planning.Safe.{order_of}
-use Rattle.settle_spec.specs.FirstPlace.{Extent, is_place, first_spot, first_place}
+use Rattle.settle_spec.specs.FirstPlace.{Extent, is_place, first_place}
 use Rattle.settle_spec.specs.Lists.{Request, class_ranges}
 use Rattle.settle_spec.specs.Parts.{FunctionPart, lies_within, class_in, bridge_over, are_same_space}
 use Rattle.settle_spec.specs.Stands.{is_fixed_part, rank, are_beside, is_in_lists, part_space, window_part}
 use Rattle.settle_spec.specs.Items.{highest_in}
 use Rattle.settle_spec.specs.Kept.{Kept, unwished}
-use Rattle.settle_spec.specs.Wishes.{place_then, range_then, there_then, with_window, with_bridge, ending_within, spot_behind, Spared, spared_at, spared_above, held_by, opened_at, spared_if, spared_within}
+use Rattle.settle_spec.specs.Wishes.{place_then, range_then, there_then, with_bridge, ending_within, spot_behind, Spared, spared_above, held_by, opened_at, spared_if, spared_within}
 use Rattle.settle_spec.proofs.BridgeOver.{over_leads}
 use Rattle.settle_spec.proofs.FirstPlace.{first_is, some_place}
 use Rattle.settle_spec.proofs.FirstSpot.{IsFreeFrom, least_spot, spot_gives}

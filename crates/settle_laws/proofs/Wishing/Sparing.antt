@@ -1,7 +1,7 @@
 -- What settling with room behind slots comes to is sound, and its writes can stop.
-use Rattle.std.proofs.Common.{◌≡◌, ℕ, ◌≤◌, ◌⊎◌, inl, inr, List, length, take, refl, sym, ◌∙◌, ap, subst, None}
+use Rattle.std.proofs.Common.{◌≡◌, ℕ, ◌≤◌, ◌⊎◌, inl, inr, List, length, take, false, true, refl, sym, ◌∙◌, ap, subst, None}
 use Rattle.std.specs.List.{Contains, count_by}
-use Rattle.std.proofs.lemmas.Bool.{cond_both}
+use Rattle.std.proofs.lemmas.Bool.{both_ways, cond_both}
 use Rattle.pci_spec.specs.Slot.{same_slot}
 use Rattle.pci_spec.specs.System.{System, Function}
 use Rattle.pci_spec.specs.Machine.{Write, system_after}
@@ -13,9 +13,9 @@ use Rattle.settle_spec.specs.Writes.{Settling, BadLists, Fixed, NoRoom, Settled,
 use Rattle.settle_spec.specs.Kept.{Kept, no_wish, as_it_stands, growing}
 use Rattle.settle_spec.specs.Keeping.Places.{lacking}
 use Rattle.settle_spec.specs.Keeping.Writes.{closings, settle_writes, settle_keeping}
-use Rattle.settle_spec.specs.Growing.{kept_by, finally_kept}
+use Rattle.settle_spec.specs.Growing.{or_else, settle_growing, kept_by, finally_kept}
 use Rattle.settle_spec.specs.Wishes.{granted}
-use Rattle.settle_spec.specs.Sparing.{without_slots, have_spares, placing_request, grants, settle_sparing}
+use Rattle.settle_spec.specs.Sparing.{without_slots, is_settled, have_spares, placing_request, grants, settle_sparing}
 use Rattle.settle_laws.specs.WriteLaws.{most_settle_writes}
 use Rattle.settle_laws.specs.KeptLaws.{IsSoundKept}
 use Rattle.settle_laws.specs.GrowingLaws.{CanBeAsked}
@@ -67,6 +67,31 @@ module _ (q asked : Request) (s : System) (may : CanBeAsked q s) where
 
     pub can_granted : CanSettle q s j
     can_granted = (all_granted q asked s k can_before).can
+
+-- ---- where windows grow
+
+-- what is kept in the end settles as growing does, or else as it stands
+finally_settles : (q : Request) (s : System) → settle_keeping q s (finally_kept q s) ≡ settle_growing q s
+finally_settles q s = by (settle_keeping q s (growing q s)) refl
+  where
+    by : (o : Settling) → settle_keeping q s (growing q s) ≡ o → settle_keeping q s (kept_by o (growing q s) (as_it_stands q s)) ≡ or_else o (settle_keeping q s (as_it_stands q s))
+    by (Settled writes) is = is
+    by BadLists is = refl
+    by (Fixed slot register) is = refl
+    by (NoRoom class slot register size alignment) is = refl
+
+-- what is settled so can be settled beside it
+pub can_finally : (q : Request) (s : System) → CanBeAsked q s → is_settled (settle_growing q s) ≡ true → CanSettle q s (finally_kept q s)
+can_finally q s may settled = by (settle_growing q s) refl settled
+  where
+    by : (o : Settling) → settle_growing q s ≡ o → is_settled o ≡ true → CanSettle q s (finally_kept q s)
+    by (Settled writes) is settled =
+        let k = finally_kept q s in
+        let end = ends (are_bad_lists q.roots q.lists) (fixed_without (stands q s) q s) (fixed_without k.stays q s) (lacking q s k) (fixed_write q (settle_writes q s k)) (settle_writes q s k) writes (finally_settles q s ∙ is) in
+        record { lists = end.good; high = may.high; system = may.system; nested = may.nested; profile = may.profile; chains = may.chains; sound = finally_sound q q s may; room = end.room }
+    by BadLists is settled = absurd (both_ways false refl settled)
+    by (Fixed slot register) is settled = absurd (both_ways false refl settled)
+    by (NoRoom class slot register size alignment) is settled = absurd (both_ways false refl settled)
 
 -- ---- the request by which new windows are placed
 
