@@ -18,6 +18,7 @@ pub mod Commands
 pub mod Ends
 pub mod Few
 pub mod Fits
+pub mod FixedRests
 pub mod Held
 pub mod InLists
 pub mod InWindows

@@ -49,7 +49,7 @@ eight_bytes image o =
     omega (arith, e4, e5, e6, e7)
 
 -- a 64-bit BAR's number is the whole of it
-bar_number : (probe a b : List ℕ) (n : ℕ) → (wide : Bool) → is_wide (bar_at probe n) ≡ wide → whole_bar probe a n ≡ whole_bar probe b n → number_at a (bar_register n) (if wide then 8 else 4) ≡ number_at b (bar_register n) (if wide then 8 else 4)
+pub bar_number : (probe a b : List ℕ) (n : ℕ) → (wide : Bool) → is_wide (bar_at probe n) ≡ wide → whole_bar probe a n ≡ whole_bar probe b n → number_at a (bar_register n) (if wide then 8 else 4) ≡ number_at b (bar_register n) (if wide then 8 else 4)
 bar_number probe a b n true wide same =
     let over = λ (image : List ℕ). ap (λ t. cond t (bar_at image n + 2 ^ 32 * bar_at image (n + 1)) (bar_at image n)) wide in
     let next : 0x10 + 4 * n + 4 ≡ 0x10 + 4 * (n + 1) = omega arith in

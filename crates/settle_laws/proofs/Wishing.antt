@@ -3,6 +3,8 @@ pub mod Alike
 pub mod Ending
 pub mod Granted
 pub mod Nothing
+pub mod Refused
+pub mod Refusing
 pub mod Same
 pub mod Sparing
 pub mod Spare

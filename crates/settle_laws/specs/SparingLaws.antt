@@ -1,5 +1,5 @@
 -- Laws of settling with room behind slots: wishes change nothing else, what settling comes to is sound, and its writes can stop.
-use Rattle.std.specs.Prelude.{◌≡◌, ℕ, ◌≤◌, ◌⊎◌, IsTrue, List, length, take}
+use Rattle.std.specs.Prelude.{◌≡◌, ℕ, ◌≤◌, ◌⊎◌, Bool, true, false, IsTrue, IsFalse, List, length, take}
 use Rattle.std.specs.List.{Contains, count_by}
 use Rattle.pci_spec.specs.Slot.{same_slot}
 use Rattle.pci_spec.specs.System.{System, Function}
@@ -7,7 +7,7 @@ use Rattle.pci_spec.specs.Machine.{Write, system_after}
 use Rattle.pci_spec.specs.Sound.{IsSound}
 use Rattle.settle_spec.specs.Lists.{Request}
 use Rattle.settle_spec.specs.Items.{spare_of}
-use Rattle.settle_spec.specs.Writes.{Settled}
+use Rattle.settle_spec.specs.Writes.{Settling, Fixed, Settled}
 use Rattle.settle_spec.specs.Kept.{Kept, unwished}
 use Rattle.settle_spec.specs.Keeping.Registers.{settled_command}
 use Rattle.settle_spec.specs.Keeping.Writes.{closings}
@@ -69,3 +69,24 @@ SparingSetsNoCommand =
     → IsTrue (is_settled (settle_growing (without_slots q) s))
     → settled_command (placing_request q s) s (kept_sparing q s) f
     ≡ settled_command (without_slots q) s (finally_kept (without_slots q) s) f
+
+-- ---- nothing is refused
+
+-- What is settled without slots is settled with them.
+abbrev pub SparesRefuseNoMore : Type 0
+SparesRefuseNoMore =
+    (q : Request) (s : System) → CanBeAsked q s
+    → IsTrue (is_settled (settle_growing (without_slots q) s)) → IsTrue (is_settled (settle_sparing q s))
+
+-- whether it is refused for a function that is fixed
+abbrev pub names_fixed : Settling → Bool
+names_fixed (Fixed slot register) = true
+names_fixed other = false
+
+-- What is refused with slots is refused without them, and for the same reason. Where a fixed function would be written,
+-- each names the first that it would write.
+abbrev pub SparesRefuseAlike : Type 0
+SparesRefuseAlike =
+    (q : Request) (s : System) → CanBeAsked q s → IsFalse (is_settled (settle_sparing q s))
+    → (settle_sparing q s ≡ settle_growing (without_slots q) s)
+    ⊎ (IsTrue (names_fixed (settle_sparing q s)) × IsTrue (names_fixed (settle_growing (without_slots q) s)))

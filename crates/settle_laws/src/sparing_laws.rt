@@ -1,6 +1,6 @@
 //! Laws of settling with room behind slots. These functions do nothing: each contract is a law.
 
-ghost use Rattle.settle_laws.specs.SparingLaws.{WishesChangeRoomAlone, GrantedCanSettle, SettledSparingIsSound, SettlingSparingCanStop, FewSparingWritesEach, SparingSetsNoCommand};
+ghost use Rattle.settle_laws.specs.SparingLaws.{WishesChangeRoomAlone, GrantedCanSettle, SettledSparingIsSound, SettlingSparingCanStop, FewSparingWritesEach, SparingSetsNoCommand, SparesRefuseNoMore, SparesRefuseAlike};
 ghost use Rattle.settle_spec.specs.SpareLaws.{NoSlotsNoSpares, NothingGoesForSpares};
 
 /// Wishes change nothing of what is kept but the room that is kept free, and all can be settled with those
@@ -24,4 +24,10 @@ pub fn nothing_goes_for_spares()
     ensures none { NoSlotsNoSpares }
     ensures stays { NothingGoesForSpares }
     ensures command { SparingSetsNoCommand }
+{}
+
+/// What is settled without slots is settled with them, and what is refused is so for the same reason.
+pub fn spares_refuse_nothing()
+    ensures settled { SparesRefuseNoMore }
+    ensures refused { SparesRefuseAlike }
 {}

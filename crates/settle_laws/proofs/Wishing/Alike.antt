@@ -1,5 +1,5 @@
 -- Wishes change nothing of what is kept but the room that is kept free.
-use Rattle.std.proofs.Common.{◌≡◌, ◌&&◌, ℕ, zero, suc, List, [], ◌∷◌, not, refl, ◌∙◌, Option, None, Some}
+use Rattle.std.proofs.Common.{◌≡◌, ◌&&◌, ℕ, zero, suc, [], ◌∷◌, not, refl, ◌∙◌, Option, None, Some}
 use Rattle.std.specs.Bool.{nat_le}
 use Rattle.std.specs.Option.{option_map}
 use Rattle.std.proofs.lemmas.Bool.{cond_both}
@@ -13,7 +13,7 @@ use Rattle.settle_spec.specs.Lists.{Request, class_ranges}
 use Rattle.settle_spec.specs.Parts.{FunctionPart, bridge_over}
 use Rattle.settle_spec.specs.Stands.{is_fixed_part, is_in_lists, window_part}
 use Rattle.settle_spec.specs.Kept.{Kept, unwished}
-use Rattle.settle_spec.specs.Wishes.{range_then, there_then, with_window, with_bridge, ending_at, end_over, can_end_at, with_room_above, ending_if, ending_within, spot_behind, Spared, spared_at, spared_above, held_by, opened_at, spared_if, spared_within, spared_behind, Granted, or_denied, with_spare_of, with_spares_of, with_all_spares, granted}
+use Rattle.settle_spec.specs.Wishes.{range_then, there_then, with_window, with_bridge, ending_at, end_over, can_end_at, with_room_above, ending_if, ending_within, spot_behind, Spared, spared_above, held_by, opened_at, spared_if, spared_within, spared_behind, Granted, or_denied, with_spare_of, with_spares_of, with_all_spares, granted}
 
 -- what may be found is beside the same
 abbrev MayBeBeside : Kept → Option Kept → Type 0

@@ -57,7 +57,7 @@ module _ (q : Request) (s : System) where
       ∙ cond_both (have_spares q s) q w (λ p. (finally_kept p s).stays r ≡ true) (λ spares. (have_spares_gives spares).alike r has ∙ stays) (λ none. stays)
 
 -- wishes change no Command
-wishes_set_none : (q : Request) (s : System) (j k : Kept) (f : Function) → unwished j ≡ unwished k → settled_command q s j f ≡ settled_command q s k f
+pub wishes_set_none : (q : Request) (s : System) (j k : Kept) (f : Function) → unwished j ≡ unwished k → settled_command q s j f ≡ settled_command q s k f
 wishes_set_none q s j k f alike =
     let same = λ (space : Space). sym (enabled_same q s j no_wish space f) ∙ ap (λ i. is_enabled_in q s i space f) alike ∙ enabled_same q s k no_wish space f in
     let io = same Io in

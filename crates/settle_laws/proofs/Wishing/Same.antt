@@ -27,7 +27,7 @@ use Rattle.settle_laws.proofs.Keeping.PartPlaces.{new_place_is, part_placed, win
 use Rattle.settle_laws.proofs.Keeping.Shown.{IsChanging, can_change, changing_is, window_bridge}
 
 -- tests that are alike on the members of a list
-any_alike : {X : Type 0} (f g : X → Bool) (xs : List X) → ((x : X) → Contains xs x → f x ≡ g x) → list_any f xs ≡ list_any g xs
+pub any_alike : {X : Type 0} (f g : X → Bool) (xs : List X) → ((x : X) → Contains xs x → f x ≡ g x) → list_any f xs ≡ list_any g xs
 any_alike f g [] same = refl
 any_alike f g (x ∷ xs) same = (let first = same x (in_head x xs) in let rest = any_alike f g xs (λ y has. same y (in_tail x xs y has)) in λ i. first i || rest i)
 

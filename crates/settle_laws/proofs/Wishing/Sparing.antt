@@ -1,5 +1,5 @@
 -- What settling with room behind slots comes to is sound, and its writes can stop.
-use Rattle.std.proofs.Common.{◌≡◌, ℕ, ◌≤◌, ◌⊎◌, inl, inr, List, length, take, false, true, refl, sym, ◌∙◌, ap, subst, None}
+use Rattle.std.proofs.Common.{◌≡◌, ℕ, ◌≤◌, ◌⊎◌, inl, inr, List, length, take, false, true, refl, sym, ◌∙◌, ap, subst}
 use Rattle.std.specs.List.{Contains, count_by}
 use Rattle.std.proofs.lemmas.Bool.{both_ways, cond_both}
 use Rattle.pci_spec.specs.Slot.{same_slot}
@@ -71,7 +71,7 @@ module _ (q asked : Request) (s : System) (may : CanBeAsked q s) where
 -- ---- where windows grow
 
 -- what is kept in the end settles as growing does, or else as it stands
-finally_settles : (q : Request) (s : System) → settle_keeping q s (finally_kept q s) ≡ settle_growing q s
+pub finally_settles : (q : Request) (s : System) → settle_keeping q s (finally_kept q s) ≡ settle_growing q s
 finally_settles q s = by (settle_keeping q s (growing q s)) refl
   where
     by : (o : Settling) → settle_keeping q s (growing q s) ≡ o → settle_keeping q s (kept_by o (growing q s) (as_it_stands q s)) ≡ or_else o (settle_keeping q s (as_it_stands q s))
