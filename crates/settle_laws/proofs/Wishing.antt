@@ -8,5 +8,6 @@ pub mod Refusing
 pub mod Same
 pub mod Sparing
 pub mod Spare
+pub mod Spots
 pub mod Wider
 pub mod Windows

@@ -24,7 +24,7 @@ use Rattle.settle_laws.specs.Keeping.PlacesLaws.{CanSettle}
 use Rattle.settle_laws.proofs.Kept.{off_roots}
 use Rattle.settle_laws.proofs.Keeping.Ends.{in_window}
 use Rattle.settle_laws.proofs.Wishing.Added.{one_of_rank, range_with, range_without}
-use Rattle.settle_laws.proofs.Wishing.Wider.{HasRoom, can_end_later, ends_over}
+use Rattle.settle_laws.proofs.Wishing.Wider.{HasRoom, KeepsAll, keeps_itself, can_end_later, keeps_wider, ends_over}
 
 module _ (q : Request) (s : System) (c : WindowKind) where
   -- the window of a bridge ends at an address at least, and beside it, and behind, all ends as before
@@ -32,6 +32,7 @@ module _ (q : Request) (s : System) (c : WindowKind) where
     pub can : CanSettle q s j
     pub alike : unwished j ≡ unwished k
     pub later : (r : FunctionPart) → Contains s r.function → has_part r.function r.part ≡ true → b.slot.bus ≤ r.function.slot.bus → (rank r ≡ rank (window_part c b) → ⊥) → range_then q s j r ≡ range_then q s k r
+    pub keeps : KeepsAll q s k j
     pub window : (w : Range) → range_then q s k (window_part c b) ≡ Some w → (e : ℕ) × (range_then q s j (window_part c b) ≡ Some (ending_at w e)) × (last ≤ e) × (w.last ≤ e)
 
   module _ (k : Kept) (can : CanSettle q s k) (b : Function) (listed : Contains s b) (bridge : is_bridge b ≡ true) where
@@ -44,6 +45,7 @@ module _ (q : Request) (s : System) (c : WindowKind) where
       can = can;
       alike = refl;
       later = λ x in_x there from differ. refl;
+      keeps = keeps_itself q s k;
       window = λ u other. (let is : Some w ≡ Some u = sym ends ∙ other in let same : w.last ≡ u.last = cc in (u.last, other, omega (arith, enough, same), omega arith));
     }
 
@@ -54,6 +56,7 @@ module _ (q : Request) (s : System) (c : WindowKind) where
       alike = refl;
       beside = λ x in_x there beside. refl;
       later = λ x in_x there from. refl;
+      keeps = keeps_itself q s k;
       lists = λ is. lists;
       over = λ d leads. absurd (no_bridge d leads);
     }
@@ -89,6 +92,7 @@ module _ (q : Request) (s : System) (c : WindowKind) where
         alike = above.alike;
         beside = λ x in_x there beside. (let at = on_its_bus off x.function.slot.bus beside in later x in_x there (omega (arith, at)));
         later = later;
+        keeps = above.keeps;
         lists = λ root. absurd (both_ways (is_root q.roots b.slot.bus) off root);
         over = over;
       }
@@ -129,13 +133,17 @@ module _ (q : Request) (s : System) (c : WindowKind) where
             (λ t has. all_gives (ranges_are_apart (gained w e)) (there_then q s k (window_space c) b.slot.bus) t rest.1 has) j room
 
         ended : IsEnded k (with_window r v j) b last
-        ended = record { can = can_then; alike = room.alike; later = later; window = window }
+        ended = record { can = can_then; alike = room.alike; later = later; keeps = keeps; window = window }
           where
             fits_now : range_then q s (with_window r v j) r ≡ Some v
             fits_now = range_with q s j r v
 
             later : (x : FunctionPart) → Contains s x.function → has_part x.function x.part ≡ true → b.slot.bus ≤ x.function.slot.bus → (rank x ≡ rank r → ⊥) → range_then q s (with_window r v j) x ≡ range_then q s k x
             later x in_x there from differ = range_without q s j r v x differ ∙ room.later x in_x there from
+
+            keeps : KeepsAll q s k (with_window r v j)
+            keeps = keeps_wider q s c k can b listed bridge w ends last more (not-true (is_fixed_part q r) parts.0) (leb-true e (highest_in c b.probe) rest.0)
+                (λ t has. all_gives (ranges_are_apart (gained w e)) (there_then q s k (window_space c) b.slot.bus) t rest.1 has) j room
 
             window : (u : Range) → range_then q s k r ≡ Some u → (n : ℕ) × (range_then q s (with_window r v j) r ≡ Some (ending_at u n)) × (last ≤ n) × (u.last ≤ n)
             window u other =

@@ -87,7 +87,7 @@ module _ (q : Request) (s : System) (spare : WindowKind → Function → Option 
     pub can : CanSettle q s g.kept
     pub alike : unwished g.kept ≡ unwished k
 
-  one_wish : (c : WindowKind) (b : Function) → Contains s b → (g : Granted) → IsGranted g → (o : Option Extent) → spare c b ≡ o → IsGranted (with_spare_of q s c b o g)
+  pub one_wish : (c : WindowKind) (b : Function) → Contains s b → (g : Granted) → IsGranted g → (o : Option Extent) → spare c b ≡ o → IsGranted (with_spare_of q s c b o g)
   one_wish c b listed g is None at = is
   one_wish c b listed g is (Some e) at =
       cond_both (has_window c b.probe) (or_denied (window_part c b) g (spared_behind q s c b e g.kept)) g IsGranted (λ there. by (spared_behind q s c b e g.kept) refl) (λ absent. is)
@@ -99,11 +99,11 @@ module _ (q : Request) (s : System) (spare : WindowKind → Function → Option 
           let spared = is_spared q s c 256 g.kept is.can b listed of.bridge e of.spare x found in
           record { can = spared.can; alike = spared.alike ∙ is.alike }
 
-  wishes_of : (b : Function) → Contains s b → (g : Granted) → IsGranted g → IsGranted (with_spares_of q s spare b g)
+  pub wishes_of : (b : Function) → Contains s b → (g : Granted) → IsGranted g → IsGranted (with_spares_of q s spare b g)
   wishes_of b listed g is =
       one_wish PrefetchWindow b listed _ (one_wish MemoryWindow b listed _ (one_wish IoWindow b listed g is (spare IoWindow b) refl) (spare MemoryWindow b) refl) (spare PrefetchWindow b) refl
 
-  all_wishes : (g : Granted) → IsGranted g → (t : System) → ((b : Function) → Contains t b → Contains s b) → IsGranted (with_all_spares q s spare g t)
+  pub all_wishes : (g : Granted) → IsGranted g → (t : System) → ((b : Function) → Contains t b → Contains s b) → IsGranted (with_all_spares q s spare g t)
   all_wishes g is [] in_s = is
   all_wishes g is (f ∷ more) in_s = wishes_of f (in_s f (in_head f more)) (with_all_spares q s spare g more) (all_wishes g is more (λ b has. in_s b (in_tail f more b has)))
 

@@ -1,7 +1,7 @@
 -- For spares nothing goes: what stays without slots stays with them, and Command is that without slots.
-use Rattle.std.proofs.Common.{◌≡◌, ◌&&◌, ◌+◌, Bool, true, false, refl, sym, ◌∙◌, ap, subst}
+use Rattle.std.proofs.Common.{◌≡◌, ◌+◌, Bool, true, false, refl, sym, ◌∙◌, ap}
 use Rattle.std.specs.Bool.{beq, if◌then◌else◌}
-use Rattle.std.specs.List.{Contains, list_all}
+use Rattle.std.specs.List.{Contains}
 use Rattle.std.proofs.lemmas.Bool.{and_parts, both_ways, cond_both}
 use Rattle.pci_spec.specs.Header.{command}
 use Rattle.pci_spec.specs.Machine.{without_low}

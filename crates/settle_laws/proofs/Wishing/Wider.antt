@@ -2,11 +2,11 @@
 use Rattle.std.proofs.Common.{◌≡◌, ◌&&◌, ℕ, ◌+◌, ◌%◌, ◌≤◌, inl, inr, true, false, arith, sym, ◌∙◌, ap, subst, Some, ◌-◌}
 use Rattle.std.specs.Bool.{◌==◌}
 use Rattle.std.specs.List.{Contains}
-use Rattle.std.proofs.lemmas.Bool.{and_parts, cases_Bool, eqb-true, or_cases}
+use Rattle.std.proofs.lemmas.Bool.{and_parts, cases_Bool, eqb-true, or_cases, cases_eq}
 use Rattle.pci_spec.specs.Slot.{same_slot, slot_number}
 use Rattle.pci_spec.specs.Decoded.{Range}
 use Rattle.pci_spec.specs.Window.{WindowKind, IoWindow, MemoryWindow, PrefetchWindow, bounds_for, page_size}
-use Rattle.pci_spec.specs.System.{System, Function, Part, Window, has_part, is_bridge, window_space}
+use Rattle.pci_spec.specs.System.{System, Function, IsSystem, Part, Window, has_part, is_bridge, window_space}
 use Rattle.pci_spec.specs.Bus.{are_siblings, is_root, LeadsTo}
 use Rattle.pci_spec.proofs.BusRanges.{root_means}
 use Rattle.plan_spec.specs.Plan.{raised_to}
@@ -30,7 +30,7 @@ use Rattle.settle_laws.proofs.LowWindows.{last_whole}
 use Rattle.settle_laws.proofs.Keeping.ClosedMoves.{further_out}
 use Rattle.settle_laws.proofs.Keeping.Ends.{are_apart}
 use Rattle.settle_laws.proofs.Keeping.Wishless.{place_same}
-use Rattle.settle_laws.proofs.Wishing.Added.{within, can_added}
+use Rattle.settle_laws.proofs.Wishing.Added.{one_of_rank, within, can_added, range_with, range_without}
 use Rattle.settle_laws.proofs.Wishing.Windows.{IsWindowEnd, window_end_is, ends_forward, in_there}
 
 -- ---- the end of a window that ends later
@@ -86,6 +86,26 @@ module _ (q : Request) (s : System) (k : Kept) (can : CanSettle q s k) where
       let parts = and_parts (are_siblings q.roots x.function.slot.bus y.function.slot.bus) (are_same_space (part_space x) (part_space y)) beside in
       are_apart q s k can x.function y.function x.part y.part in_x in_y there_x there_y (one_space (part_space x) (part_space y) parts.1) (beside_of x y parts.0) (two_of_ranks x y differ) t u ends_t ends_u
 
+-- ---- what has addresses keeps them
+
+-- What ends somewhere beside k does so beside j, with all of these addresses.
+abbrev pub KeepsAll : Request → System → Kept → Kept → Type 0
+KeepsAll q s k j =
+    (r : FunctionPart) → Contains s r.function → has_part r.function r.part ≡ true → (t : Range) → range_then q s k r ≡ Some t → (u : Range) × (range_then q s j r ≡ Some u) × IsInside t u
+
+pub keeps_itself : (q : Request) (s : System) (k : Kept) → KeepsAll q s k k
+keeps_itself q s k r listed there t ends = (t, ends, (omega arith, omega arith))
+
+-- beside a window with other addresses, where these hold what it had
+pub keeps_with : (q : Request) (s : System) (k j : Kept) → IsSystem s → KeepsAll q s k j → (w : FunctionPart) (v : Range) → Contains s w.function → has_part w.function w.part ≡ true
+    → ((t : Range) → range_then q s k w ≡ Some t → IsInside t v) → KeepsAll q s k (with_window w v j)
+keeps_with q s k j system keeps w v in_w there_w holds r listed there t ends = elim (cases_eq (rank r) (rank w)) [
+  | inr differ ↦ (let is = keeps r listed there t ends in (is.0, range_without q s j w v r differ ∙ is.1, is.2))
+  | inl same ↦
+      let one = one_of_rank s system r w listed in_w there there_w same in
+      (v, ap (range_then q s (with_window w v j)) one ∙ range_with q s j w v, holds t (ap (range_then q s k) (sym one) ∙ ends))
+]
+
 -- ---- room for a window
 
 -- Beside k it is kept so that there is room for addresses of a window of a bridge: what is above may end later.
@@ -95,6 +115,7 @@ pub record HasRoom (q : Request) (s : System) (c : WindowKind) (k j : Kept) (b :
   -- what is beside the bridge, and all on its bus or a later one, ends as before
   pub beside : (r : FunctionPart) → Contains s r.function → has_part r.function r.part ≡ true → are_siblings q.roots b.slot.bus r.function.slot.bus ≡ true → range_then q s j r ≡ range_then q s k r
   pub later : (r : FunctionPart) → Contains s r.function → has_part r.function r.part ≡ true → b.slot.bus ≤ r.function.slot.bus → range_then q s j r ≡ range_then q s k r
+  pub keeps : KeepsAll q s k j
   pub lists : is_root q.roots b.slot.bus ≡ true → is_in_lists q b.slot.bus v (window_space c) ≡ true
   pub over : (d : Function) → LeadsTo s d b.slot.bus → (u : Range) × (range_then q s j (window_part c d) ≡ Some u) × IsInside v u
 
@@ -158,6 +179,9 @@ module _ (q : Request) (s : System) (c : WindowKind) (k : Kept) (can : CanSettle
 
     pub can_end_later : CanSettle q s (with_window r v j)
     can_end_later = can_added q s j room.can c b listed bridge v fits wider
+
+    pub keeps_wider : KeepsAll q s k (with_window r v j)
+    keeps_wider = keeps_with q s k j can.system room.keeps r v listed bridge (λ t other. (let is : Some w ≡ Some t = sym ends ∙ other in let same : w ≡ t = cc in subst (λ x. IsInside x v) same inside))
 
     pub ends_over : last ≤ end_over c w last
     ends_over = over.over
