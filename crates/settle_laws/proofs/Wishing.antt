@@ -5,6 +5,7 @@ pub mod Granted
 pub mod Nothing
 pub mod Refused
 pub mod Refusing
+pub mod Room
 pub mod Same
 pub mod Sparing
 pub mod Spare

@@ -1,18 +1,19 @@
 -- Laws of settling with room behind slots: wishes change nothing else, what settling comes to is sound, and its writes can stop.
-use Rattle.std.specs.Prelude.{◌≡◌, ℕ, ◌≤◌, ◌⊎◌, Bool, true, false, IsTrue, IsFalse, List, length, take}
+use Rattle.std.specs.Prelude.{◌≡◌, ℕ, ◌≤◌, ◌⊎◌, Bool, true, false, IsTrue, IsFalse, Some, List, length, take}
 use Rattle.std.specs.List.{Contains, count_by}
 use Rattle.pci_spec.specs.Slot.{same_slot}
-use Rattle.pci_spec.specs.System.{System, Function}
+use Rattle.pci_spec.specs.Decoded.{Range}
+use Rattle.pci_spec.specs.System.{System, Function, Part, has_part, is_window}
 use Rattle.pci_spec.specs.Machine.{Write, system_after}
 use Rattle.pci_spec.specs.Sound.{IsSound}
 use Rattle.settle_spec.specs.Lists.{Request}
+use Rattle.settle_spec.specs.Parts.{addresses, lies_within}
 use Rattle.settle_spec.specs.Items.{spare_of}
 use Rattle.settle_spec.specs.Writes.{Settling, Fixed, Settled}
 use Rattle.settle_spec.specs.Kept.{Kept, unwished}
-use Rattle.settle_spec.specs.Keeping.Registers.{settled_command}
 use Rattle.settle_spec.specs.Keeping.Writes.{closings}
-use Rattle.settle_spec.specs.Growing.{settle_growing, finally_kept}
-use Rattle.settle_spec.specs.Wishes.{granted}
+use Rattle.settle_spec.specs.Growing.{settle_growing}
+use Rattle.settle_spec.specs.Wishes.{range_then, granted}
 use Rattle.settle_spec.specs.Sparing.{without_slots, is_settled, placing_request, grants, settle_sparing}
 use Rattle.settle_spec.specs.SpareLaws.{kept_sparing}
 use Rattle.settle_laws.specs.WriteLaws.{most_settle_writes}
@@ -62,13 +63,14 @@ FewSparingWritesEach =
 
 -- ---- nothing goes
 
--- Command is that without slots, where it can be settled without them.
-abbrev pub SparingSetsNoCommand : Type 0
-SparingSetsNoCommand =
-    (q : Request) (s : System) (f : Function) → CanBeAsked q s → Contains s f
-    → IsTrue (is_settled (settle_growing (without_slots q) s))
-    → settled_command (placing_request q s) s (kept_sparing q s) f
-    ≡ settled_command (without_slots q) s (finally_kept (without_slots q) s) f
+-- What stays has all addresses that it had, and a BAR or ROM has the same ones.
+abbrev pub SparingKeepsAll : Type 0
+SparingKeepsAll =
+    (q : Request) (s : System) (f : Function) (p : Part) → CanBeAsked q s → IsTrue (is_settled (settle_sparing q s))
+    → Contains s f → IsTrue (has_part f p) → IsTrue ((kept_sparing q s).stays record { function = f; part = p })
+    → (w : Range) × (range_then (placing_request q s) s (kept_sparing q s) record { function = f; part = p } ≡ Some w)
+    × IsTrue (lies_within (addresses record { function = f; part = p }) w)
+    × (IsFalse (is_window p) → w ≡ addresses record { function = f; part = p })
 
 -- ---- nothing is refused
 

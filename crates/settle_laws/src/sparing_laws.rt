@@ -1,7 +1,7 @@
 //! Laws of settling with room behind slots. These functions do nothing: each contract is a law.
 
-ghost use Rattle.settle_laws.specs.SparingLaws.{WishesChangeRoomAlone, GrantedCanSettle, SettledSparingIsSound, SettlingSparingCanStop, FewSparingWritesEach, SparingSetsNoCommand, SparesRefuseNoMore, SparesRefuseAlike};
-ghost use Rattle.settle_spec.specs.SpareLaws.{NoSlotsNoSpares, NothingGoesForSpares};
+ghost use Rattle.settle_laws.specs.SparingLaws.{WishesChangeRoomAlone, GrantedCanSettle, SettledSparingIsSound, SettlingSparingCanStop, FewSparingWritesEach, SparingKeepsAll, SparesRefuseNoMore, SparesRefuseAlike};
+ghost use Rattle.settle_spec.specs.SpareLaws.{NoSlotsNoSpares, NothingGoesForSpares, SparesSetNoCommand, SparesHaveRoom};
 
 /// Wishes change nothing of what is kept but the room that is kept free, and all can be settled with those
 /// that are granted.
@@ -18,16 +18,22 @@ pub fn settled_sparing_is_sound()
     ensures few { FewSparingWritesEach }
 {}
 
-/// Without slots all is settled as where no room is wanted. With them all stays that stays without, and
-/// Command is that without slots.
+/// Without slots all is settled as where no room is wanted. With them all stays that stays without, with all
+/// addresses that it had, and Command is that without slots.
 pub fn nothing_goes_for_spares()
     ensures none { NoSlotsNoSpares }
     ensures stays { NothingGoesForSpares }
-    ensures command { SparingSetsNoCommand }
+    ensures addresses { SparingKeepsAll }
+    ensures command { SparesSetNoCommand }
 {}
 
 /// What is settled without slots is settled with them, and what is refused is so for the same reason.
 pub fn spares_refuse_nothing()
     ensures settled { SparesRefuseNoMore }
     ensures refused { SparesRefuseAlike }
+{}
+
+/// The spare behind a slot is denied, or else its window has room for it in the result.
+pub fn spares_have_room()
+    ensures { SparesHaveRoom }
 {}

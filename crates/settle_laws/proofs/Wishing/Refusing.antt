@@ -1,12 +1,12 @@
 -- Wishes write no fixed function that isn't written without them.
-use Rattle.std.proofs.Common.{◌≡◌, ◌&&◌, ◌||◌, ℕ, ◌<◌, inl, inr, List, [], ◌∷◌, ◌++◌, Bool, true, false, cond, not, arith, refl, sym, ◌∙◌, ap, subst, Option, None, Some}
+use Rattle.std.proofs.Common.{◌≡◌, ◌&&◌, ◌||◌, ℕ, inl, inr, List, [], ◌∷◌, ◌++◌, Bool, true, false, cond, not, refl, sym, ◌∙◌, ap, subst, Option, None, Some}
 use Rattle.std.specs.Bool.{◌==◌, if◌then◌else◌}
 use Rattle.std.specs.List.{Contains, find, flat_map, fold, list_any}
-use Rattle.std.proofs.lemmas.Bool.{and_from, and_parts, and_right, both_ways, cases_Bool, cond_both, false_from_ne_true, ltb-true, not-true, not_from_true, eq-eqb, eqb-true, or_cases, or_left, or_right}
+use Rattle.std.proofs.lemmas.Bool.{and_from, and_parts, and_right, both_ways, cases_Bool, false_from_ne_true, ltb-true, not-true, not_from_true, eq-eqb, eqb-true, or_cases, or_left, or_right}
 use Rattle.std.proofs.lemmas.List.Elements.{Contains-append_cases, Contains-append_left, Contains-append_right}
 use Rattle.pci_spec.specs.Number.{number_at, has_bit}
 use Rattle.pci_spec.specs.Registers.{COMMAND}
-use Rattle.pci_spec.specs.Slot.{Slot, same_slot}
+use Rattle.pci_spec.specs.Slot.{same_slot}
 use Rattle.pci_spec.specs.Header.{command, layout, bar_count, bar_register, rom_register}
 use Rattle.pci_spec.specs.Bar.{bar_at, has_bar, is_wide}
 use Rattle.pci_spec.specs.Rom.{has_rom, rom_is_on}
@@ -14,7 +14,6 @@ use Rattle.pci_spec.specs.Decoded.{Range}
 use Rattle.pci_spec.specs.Window.{WindowKind, has_window, is_closed}
 use Rattle.pci_spec.specs.Machine.{Write}
 use Rattle.pci_spec.specs.System.{System, Function, Space, Io, Memory, Part, Bar, Rom, Window, has_part, is_bridge, is_space_on, is_window, space_of}
-use Rattle.pci_spec.specs.Bus.{LeadsTo}
 use Rattle.pci_spec.proofs.Members.{in_nil, in_cons_cases, in_head, IsInPiece, in_flat_map_to, in_flat_map_from, IsMade, in_map_to, in_filter_to, in_tail}
 use Rattle.plan_spec.specs.Plan.{bridges_above, is_open}
 use Rattle.plan_spec.specs.Planning.PlanWrites.{register_write}
@@ -28,10 +27,10 @@ use Rattle.settle_spec.specs.Items.{Placed, taken_by}
 use Rattle.settle_spec.specs.Kept.{Kept, no_wish, unwished}
 use Rattle.settle_spec.specs.Keeping.Places.{new_place}
 use Rattle.settle_spec.specs.Registers.{changing, with_number}
-use Rattle.settle_spec.specs.Keeping.Registers.{shown, with_wish, settled_image, settled_function, settled_command}
+use Rattle.settle_spec.specs.Keeping.Registers.{shown, with_wish, settled_image, settled_function}
 use Rattle.settle_spec.specs.Writes.{differs_at, part_registers, is_cut_off_in, closing_registers, setting_registers, fixed_write}
 use Rattle.settle_spec.specs.Keeping.Writes.{changes_at, changes_window, changes_above, moves, has_moving, is_shut_itself, is_shut, is_left_on, is_replaced, closed_function, closing_of, setting_of, closing_from, setting_from, opening_from, closings, settle_writes}
-use Rattle.settle_spec.specs.Wishes.{place_then, range_then}
+use Rattle.settle_spec.specs.Wishes.{range_then}
 use Rattle.settle_laws.specs.KeptLaws.{WishesNothing}
 use Rattle.settle_laws.specs.PlacesLaws.{place_range}
 use Rattle.settle_laws.specs.Keeping.PlacesLaws.{CanSettle}
@@ -46,7 +45,7 @@ use Rattle.settle_laws.proofs.OnlyOpened.{closing_piece}
 use Rattle.settle_laws.proofs.ShownKept.{opens_by}
 use Rattle.settle_laws.proofs.StayingRests.{bar_number}
 use Rattle.settle_laws.proofs.Keeping.ChangedWindows.{no_window_changes, unchanged, window_changes}
-use Rattle.settle_laws.proofs.Keeping.Claimed.{bridge_stays, ends_open}
+use Rattle.settle_laws.proofs.Keeping.Claimed.{ends_open}
 use Rattle.settle_laws.proofs.Keeping.ClosedSame.{closed_same}
 use Rattle.settle_laws.proofs.Keeping.Ends.{in_window, unwished_end}
 use Rattle.settle_laws.proofs.Keeping.Few.{own_writes, own_write}

@@ -53,7 +53,7 @@ module _ (q asked : Request) (s : System) (may : CanBeAsked q s) where
     end : IsEnd (are_bad_lists q.roots q.lists) (fixed_without (stands q s) q s) (lacking q s j) (fixed_write q (settle_writes q s j)) (settle_writes q s j) writes
     end = ends (are_bad_lists q.roots q.lists) (fixed_without (stands q s) q s) (fixed_without j.stays q s) (lacking q s j) (fixed_write q (settle_writes q s j)) (settle_writes q s j) writes settled
 
-    can_before : CanSettle q s k
+    pub can_before : CanSettle q s k
     can_before = record {
       lists = end.good;
       high = may.high;
