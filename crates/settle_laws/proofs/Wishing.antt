@@ -1,5 +1,6 @@
 pub mod Added
 pub mod Alike
+pub mod ByBus
 pub mod Ending
 pub mod Granted
 pub mod Nothing

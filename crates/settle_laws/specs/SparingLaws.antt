@@ -2,10 +2,13 @@
 use Rattle.std.specs.Prelude.{◌≡◌, ℕ, ◌≤◌, ◌⊎◌, Bool, true, false, IsTrue, IsFalse, Some, List, length, take}
 use Rattle.std.specs.List.{Contains, count_by}
 use Rattle.pci_spec.specs.Slot.{same_slot}
+use Rattle.pci_spec.specs.Window.{WindowKind}
 use Rattle.pci_spec.specs.Decoded.{Range}
-use Rattle.pci_spec.specs.System.{System, Function, Part, has_part, is_window}
+use Rattle.pci_spec.specs.System.{System, Function, IsSystem, Part, has_part, is_window}
+use Rattle.pci_spec.specs.Bus.{IsNested}
 use Rattle.pci_spec.specs.Machine.{Write, system_after}
 use Rattle.pci_spec.specs.Sound.{IsSound}
+use Rattle.settle_spec.specs.FirstPlace.{Extent}
 use Rattle.settle_spec.specs.Lists.{Request}
 use Rattle.settle_spec.specs.Parts.{addresses, lies_within}
 use Rattle.settle_spec.specs.Items.{spare_of}
@@ -13,7 +16,7 @@ use Rattle.settle_spec.specs.Writes.{Settling, Fixed, Settled}
 use Rattle.settle_spec.specs.Kept.{Kept, unwished}
 use Rattle.settle_spec.specs.Keeping.Writes.{closings}
 use Rattle.settle_spec.specs.Growing.{settle_growing}
-use Rattle.settle_spec.specs.Wishes.{range_then, granted}
+use Rattle.settle_spec.specs.Wishes.{range_then, range_of_window, ending_if, ending, spared_if, spared_behind, granted}
 use Rattle.settle_spec.specs.Sparing.{without_slots, is_settled, placing_request, grants, settle_sparing}
 use Rattle.settle_spec.specs.SpareLaws.{kept_sparing}
 use Rattle.settle_laws.specs.WriteLaws.{most_settle_writes}
@@ -33,6 +36,20 @@ abbrev pub GrantedCanSettle : Type 0
 GrantedCanSettle =
     (q : Request) (s : System) (asked : Request) (k : Kept) → CanSettle q s k
     → CanSettle q s (granted q s (spare_of asked) k).kept
+
+-- Whether a window can end later is told by the window over its bridge, as buses rise on the way down:
+abbrev pub EndingIsByBus : Type 0
+EndingIsByBus =
+    (q : Request) (s : System) (c : WindowKind) (b : Function) (last : ℕ) (k : Kept) → IsSystem s
+    → IsNested q.roots s → Contains s b
+    → ending q s c b last k ≡ ending_if q s c (ending q s c) b last k (range_of_window q s c b k)
+
+-- and so is room for a spare.
+abbrev pub SparedIsByBus : Type 0
+SparedIsByBus =
+    (q : Request) (s : System) (c : WindowKind) (b : Function) (e : Extent) (k : Kept) → IsSystem s
+    → IsNested q.roots s → Contains s b
+    → spared_behind q s c b e k ≡ spared_if q s c (spared_behind q s c) b e k (range_of_window q s c b k)
 
 -- ---- the whole
 

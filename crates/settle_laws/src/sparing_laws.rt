@@ -1,7 +1,13 @@
 //! Laws of settling with room behind slots. These functions do nothing: each contract is a law.
 
-ghost use Rattle.settle_laws.specs.SparingLaws.{WishesChangeRoomAlone, GrantedCanSettle, SettledSparingIsSound, SettlingSparingCanStop, FewSparingWritesEach, SparingKeepsAll, SparesRefuseNoMore, SparesRefuseAlike};
+ghost use Rattle.settle_laws.specs.SparingLaws.{EndingIsByBus, SparedIsByBus, WishesChangeRoomAlone, GrantedCanSettle, SettledSparingIsSound, SettlingSparingCanStop, FewSparingWritesEach, SparingKeepsAll, SparesRefuseNoMore, SparesRefuseAlike};
 ghost use Rattle.settle_spec.specs.SpareLaws.{NoSlotsNoSpares, NothingGoesForSpares, SparesSetNoCommand, SparesHaveRoom};
+
+/// Room behind a slot is told by the window over its bridge, bus by bus.
+pub fn wishes_are_told_bus_by_bus()
+    ensures ending { EndingIsByBus }
+    ensures spare { SparedIsByBus }
+{}
 
 /// Wishes change nothing of what is kept but the room that is kept free, and all can be settled with those
 /// that are granted.

@@ -1,5 +1,5 @@
 -- A spare that isn't denied has a spot behind its bridge, and later wishes leave it there.
-use Rattle.std.proofs.Common.{◌≡◌, ◌&&◌, ℕ, ◌+◌, ◌%◌, ◌<◌, ◌≤◌, inl, inr, List, [], ◌∷◌, ◌++◌, Bool, true, false, cond, arith, refl, sym, ◌∙◌, ap, subst, Option, None, Some}
+use Rattle.std.proofs.Common.{◌≡◌, ℕ, ◌%◌, ◌<◌, ◌≤◌, inl, inr, [], ◌∷◌, Bool, true, false, cond, arith, refl, sym, ◌∙◌, ap, subst, Option, None, Some}
 use Rattle.std.specs.List.{AllPairs, Contains}
 use Rattle.std.proofs.lemmas.Bool.{cond_both}
 use Rattle.std.proofs.lemmas.List.Elements.{Contains-append_left, Contains-append_right}
@@ -22,7 +22,7 @@ use Rattle.settle_spec.specs.Wishes.{range_then, Spared, spared_behind, Granted,
 use Rattle.settle_laws.specs.Keeping.PlacesLaws.{CanSettle}
 use Rattle.settle_laws.proofs.Pieces.{Lower, system_rises}
 use Rattle.settle_laws.proofs.Wishing.Added.{one_of_rank, within}
-use Rattle.settle_laws.proofs.Wishing.Granted.{IsSpareOf, IsGranted, spare_is, one_wish, wishes_of, all_wishes}
+use Rattle.settle_laws.proofs.Wishing.Granted.{IsSpareOf, IsGranted, spare_is, one_wish, all_wishes}
 use Rattle.settle_laws.proofs.Wishing.Spare.{IsSpared, is_spared}
 
 module _ (q : Request) (s : System) where
