@@ -74,10 +74,10 @@ module _ (q : Request) (t : System) (system : IsSystem t) (sound : IsSound q.roo
 
   -- ---- where windows grow
 
-  keeps_growing : (r : FunctionPart) → Contains (system_parts q t) r → stays_growing q t r ≡ true
+  pub keeps_growing : (r : FunctionPart) → Contains (system_parts q t) r → stays_growing q t r ≡ true
   keeps_growing r listed = growth_keeps q t r (keeps_standing r listed)
 
-  only_growing : (r : FunctionPart) → Contains t r.function → stays_growing q t r ≡ true → is_part q t r.function r.part ≡ true
+  pub only_growing : (r : FunctionPart) → Contains t r.function → stays_growing q t r ≡ true → is_part q t r.function r.part ≡ true
   only_growing r listed is = (stands_by_itself q t sound.nested).only r listed (growing_stands q t r is)
 
   pub grown_stays : settled q t (growing q t) ≡ t
@@ -86,6 +86,9 @@ module _ (q : Request) (t : System) (system : IsSystem t) (sound : IsSound q.roo
   pub grown_unwritten : settle_writes q t (growing q t) ≡ []
   grown_unwritten = no_writes (growing q t) keeps_growing (none_grows q t system sound.nested all) only_growing refl
 
+  pub grown_settles : are_bad_lists q.roots q.lists ≡ false → settle_keeping q t (growing q t) ≡ Settled []
+  grown_settles = nothing_kept (growing q t) keeps_growing (none_grows q t system sound.nested all) only_growing refl
+
   -- The law: nothing is written.
   pub nothing_grows : are_bad_lists q.roots q.lists ≡ false → settle_growing q t ≡ Settled []
-  nothing_grows fine = ap (λ o. or_else o (settle_keeping q t (as_it_stands q t))) (nothing_kept (growing q t) keeps_growing (none_grows q t system sound.nested all) only_growing refl fine)
+  nothing_grows fine = ap (λ o. or_else o (settle_keeping q t (as_it_stands q t))) (grown_settles fine)

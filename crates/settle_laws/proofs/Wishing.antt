@@ -1,4 +1,5 @@
 pub mod Added
+pub mod Again
 pub mod Alike
 pub mod ByBus
 pub mod Ending

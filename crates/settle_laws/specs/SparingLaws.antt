@@ -1,5 +1,5 @@
 -- Laws of settling with room behind slots: wishes change nothing else, what settling comes to is sound, and its writes can stop.
-use Rattle.std.specs.Prelude.{◌≡◌, ℕ, ◌≤◌, ◌⊎◌, Bool, true, false, IsTrue, IsFalse, Some, List, length, take}
+use Rattle.std.specs.Prelude.{◌≡◌, ℕ, ◌≤◌, ◌⊎◌, Bool, true, false, IsTrue, IsFalse, Some, List, [], length, take}
 use Rattle.std.specs.List.{Contains, count_by}
 use Rattle.pci_spec.specs.Slot.{same_slot}
 use Rattle.pci_spec.specs.Window.{WindowKind}
@@ -17,8 +17,8 @@ use Rattle.settle_spec.specs.Kept.{Kept, unwished}
 use Rattle.settle_spec.specs.Keeping.Writes.{closings}
 use Rattle.settle_spec.specs.Growing.{settle_growing}
 use Rattle.settle_spec.specs.Wishes.{range_then, range_of_window, ending_if, ending, spared_if, spared_behind, granted}
-use Rattle.settle_spec.specs.Sparing.{without_slots, is_settled, placing_request, grants, settle_sparing}
-use Rattle.settle_spec.specs.SpareLaws.{kept_sparing}
+use Rattle.settle_spec.specs.Sparing.{without_slots, is_settled, placing_request, grants, denied, settle_sparing}
+use Rattle.settle_spec.specs.SpareLaws.{kept_sparing, result_sparing}
 use Rattle.settle_laws.specs.WriteLaws.{most_settle_writes}
 use Rattle.settle_laws.specs.GrowingLaws.{CanBeAsked}
 use Rattle.settle_laws.specs.Keeping.PlacesLaws.{CanSettle}
@@ -109,3 +109,11 @@ SparesRefuseAlike =
     (q : Request) (s : System) → CanBeAsked q s → IsFalse (is_settled (settle_sparing q s))
     → (settle_sparing q s ≡ settle_growing (without_slots q) s)
     ⊎ (IsTrue (names_fixed (settle_sparing q s)) × IsTrue (names_fixed (settle_growing (without_slots q) s)))
+
+-- ---- settled again
+
+-- Where no spare is denied, and not all is placed anew, settled again nothing is written.
+abbrev pub GrantedSettleOnce : Type 0
+GrantedSettleOnce =
+    (q : Request) (s : System) → CanBeAsked q s → IsFalse q.anew → denied q s ≡ []
+    → IsTrue (is_settled (settle_sparing q s)) → settle_sparing q (result_sparing q s) ≡ Settled []

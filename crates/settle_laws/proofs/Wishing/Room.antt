@@ -112,12 +112,12 @@ module _ (q : Request) (s : System) (may : CanBeAsked q s) (settles : is_settled
   abbrev j : Kept
   j = kept_sparing q s
 
-  record CanAll : Type 0 where
-    before : CanSettle p s (finally_kept p s)
-    then : CanSettle p s j
+  pub record CanAll : Type 0 where
+    pub before : CanSettle p s (finally_kept p s)
+    pub then : CanSettle p s j
 
-  can : CanAll
-  can = by (settle_sparing q s) refl settles
+  pub can_all : CanAll
+  can_all = by (settle_sparing q s) refl settles
     where
       by : (o : Settling) → settle_sparing q s ≡ o → is_settled o ≡ true → CanAll
       by (Settled writes) is settled = record { before = can_before p q s (placing_asked q s may) writes is; then = can_sparing q s may writes is }
@@ -125,37 +125,37 @@ module _ (q : Request) (s : System) (may : CanBeAsked q s) (settles : is_settled
       by (Fixed slot register) is settled = absurd (both_ways false refl settled)
       by (NoRoom class slot register size alignment) is settled = absurd (both_ways false refl settled)
 
-  has_room : (c : WindowKind) (b : Function) (e : Extent) → Contains s b → spare_of q c b ≡ Some e → has_window c b.probe ≡ true → (Contains (denied q s) (window_part c b) → ⊥)
+  pub has_room : (c : WindowKind) (b : Function) (e : Extent) → Contains s b → spare_of q c b ≡ Some e → has_window c b.probe ≡ true → (Contains (denied q s) (window_part c b) → ⊥)
       → has_room_for q (result_sparing q s) c (result_of q s b) e ≡ true
   has_room c b e listed spare there free =
       let of = spare_is q c b e spare in
-      let spot = spare_has_spot p q s (finally_kept p s) can.before c b listed e there spare free in
+      let spot = spare_has_spot p q s (finally_kept p s) can_all.before c b listed e there spare free in
       cond_both (have_spares q s) q (without_slots q) (λ r. has_room_for q (result_sparing q s) c (result_of q s b) e ≡ has_room_for r (result_sparing q s) c (result_of q s b) e) (λ spares. refl) (λ none. refl)
-      ∙ room_there p s j can.then c b listed of.bridge e of.spare.aligned spot
+      ∙ room_there p s j can_all.then c b listed of.bridge e of.spare.aligned spot
 
   keeps_all : (r : FunctionPart) → Contains s r.function → has_part r.function r.part ≡ true → j.stays r ≡ true
       → (w : Range) × (range_then p s j r ≡ Some w) × (lies_within (addresses r) w ≡ true) × (is_window r.part ≡ false → w ≡ addresses r)
   keeps_all r listed there keeps = by r.part refl (j.wished r) refl
     where
       own : (lies_within (addresses r) (j.range r) ≡ true)
-      own = can.then.sound.holds r
+      own = can_all.then.sound.holds r
 
       by : (o : Part) → r.part ≡ o → (n : Option Range) → j.wished r ≡ n → (w : Range) × (range_then p s j r ≡ Some w) × (lies_within (addresses r) w ≡ true) × (is_window r.part ≡ false → w ≡ addresses r)
-      by o at None none = (j.range r, unwished_end p s j r none ∙ kept_range p s j r keeps, own, λ plain. can.then.sound.plain r plain)
+      by o at None none = (j.range r, unwished_end p s j r none ∙ kept_range p s j r keeps, own, λ plain. can_all.then.sound.plain r plain)
       by (Window c) at (Some w) wished =
           let f = r.function in
           let same : r ≡ window_part c f = (λ i. record { function = f; part = at i }) in
-          let wish = can.then.sound.wished.windows c f w listed (ap (has_part f) (sym at) ∙ there) (ap j.wished (sym same) ∙ wished) in
+          let wish = can_all.then.sound.wished.windows c f w listed (ap (has_part f) (sym at) ∙ there) (ap j.wished (sym same) ∙ wished) in
           let holds = wish.holds (j.range r) (ap (place_then p s j) (sym same) ∙ kept_range p s j r keeps) in
           (w, wished_end p s j r w wished, within_from (addresses r) w (within (addresses r) (j.range r) w (within_gives (addresses r) (j.range r) own) holds), λ plain. absurd (both_ways (is_window r.part) plain (ap is_window at)))
       by (Bar n) at (Some w) wished = absurd (none_plain (ap is_window at) w wished)
         where
           none_plain : is_window r.part ≡ false → (w : Range) → j.wished r ≡ Some w → ⊥
-          none_plain plain w wished = (let is : None ≡ Some w = sym (can.then.sound.wished.plain r listed there plain) ∙ wished in let no : ⊥ = cc in no)
+          none_plain plain w wished = (let is : None ≡ Some w = sym (can_all.then.sound.wished.plain r listed there plain) ∙ wished in let no : ⊥ = cc in no)
       by Rom at (Some w) wished = absurd (none_plain (ap is_window at) w wished)
         where
           none_plain : is_window r.part ≡ false → (w : Range) → j.wished r ≡ Some w → ⊥
-          none_plain plain w wished = (let is : None ≡ Some w = sym (can.then.sound.wished.plain r listed there plain) ∙ wished in let no : ⊥ = cc in no)
+          none_plain plain w wished = (let is : None ≡ Some w = sym (can_all.then.sound.wished.plain r listed there plain) ∙ wished in let no : ⊥ = cc in no)
 
 -- The law: the spare behind a slot is denied, or its window has room for it.
 pub spares_have_room : SparesHaveRoom
