@@ -2,8 +2,12 @@ pub mod Added
 pub mod Again
 pub mod Alike
 pub mod ByBus
+pub mod Denied
 pub mod Ending
+pub mod Ends
 pub mod Granted
+pub mod Later
+pub mod Longer
 pub mod Nothing
 pub mod Refused
 pub mod Refusing

@@ -76,7 +76,7 @@ module _ (q : Request) (s : System) (k : Kept) (w : FunctionPart) (v : Range) wh
   pub range_without : (r : FunctionPart) → (rank r ≡ rank w → ⊥) → range_then q s (with_window w v k) r ≡ range_then q s k r
   range_without r differ = (let wish = wish_before r differ in let place = place_same q s k (with_window w v k).wished r in λ i. option_or (wish i) (place i))
 
-abbrev kind_or : WindowKind → Part → WindowKind
+abbrev pub kind_or : WindowKind → Part → WindowKind
 kind_or other (Window c) = c
 kind_or other p = other
 

@@ -5,7 +5,7 @@ use Rattle.std.specs.List.{Contains}
 use Rattle.std.specs.Option.{option_map}
 use Rattle.pci_spec.specs.Decoded.{Range}
 use Rattle.pci_spec.specs.Window.{WindowKind, has_window}
-use Rattle.pci_spec.specs.System.{System, Function, IsSystem, is_bridge, window_space}
+use Rattle.pci_spec.specs.System.{System, Function, IsSystem, window_space}
 use Rattle.pci_spec.specs.Bus.{is_root, IsNested, LeadsTo}
 use Rattle.plan_spec.proofs.Planning.Safe.{order_of, slots_of}
 use Rattle.settle_spec.specs.FirstPlace.{Extent, first_place}
@@ -13,7 +13,7 @@ use Rattle.settle_spec.specs.Lists.{Request, class_ranges}
 use Rattle.settle_spec.specs.Parts.{bridge_over}
 use Rattle.settle_spec.specs.Stands.{is_fixed_part, is_in_lists, window_part}
 use Rattle.settle_spec.specs.Kept.{Kept}
-use Rattle.settle_spec.specs.Wishes.{range_then, there_then, with_window, with_bridge, ending_at, end_over, can_end_at, ending_if, ending_within, spot_behind, Spared, spared_at, held_by, opened_at, spared_if, spared_within}
+use Rattle.settle_spec.specs.Wishes.{range_then, there_then, with_window, with_bridge, ending_at, end_over, can_end_at, ending_if, ending_within, Spared, held_by, opened_at, spared_if, spared_within}
 use Rattle.settle_spec.proofs.BridgeOver.{over_leads}
 use Rattle.settle_laws.specs.SparingLaws.{EndingIsByBus, SparedIsByBus}
 

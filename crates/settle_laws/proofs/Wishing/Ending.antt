@@ -24,7 +24,7 @@ use Rattle.settle_laws.specs.Keeping.PlacesLaws.{CanSettle}
 use Rattle.settle_laws.proofs.Kept.{off_roots}
 use Rattle.settle_laws.proofs.Keeping.Ends.{in_window}
 use Rattle.settle_laws.proofs.Wishing.Added.{one_of_rank, range_with, range_without}
-use Rattle.settle_laws.proofs.Wishing.Wider.{HasRoom, KeepsAll, keeps_itself, can_end_later, keeps_wider, ends_over}
+use Rattle.settle_laws.proofs.Wishing.Wider.{HasRoom, KeepsAll, KeepsClasses, keeps_itself, classes_with, can_end_later, keeps_wider, ends_over}
 
 module _ (q : Request) (s : System) (c : WindowKind) where
   -- the window of a bridge ends at an address at least, and beside it, and behind, all ends as before
@@ -33,6 +33,7 @@ module _ (q : Request) (s : System) (c : WindowKind) where
     pub alike : unwished j ≡ unwished k
     pub later : (r : FunctionPart) → Contains s r.function → has_part r.function r.part ≡ true → b.slot.bus ≤ r.function.slot.bus → (rank r ≡ rank (window_part c b) → ⊥) → range_then q s j r ≡ range_then q s k r
     pub keeps : KeepsAll q s k j
+    pub classes : KeepsClasses q s c k j
     pub window : (w : Range) → range_then q s k (window_part c b) ≡ Some w → (e : ℕ) × (range_then q s j (window_part c b) ≡ Some (ending_at w e)) × (last ≤ e) × (w.last ≤ e)
 
   module _ (k : Kept) (can : CanSettle q s k) (b : Function) (listed : Contains s b) (bridge : is_bridge b ≡ true) where
@@ -46,6 +47,7 @@ module _ (q : Request) (s : System) (c : WindowKind) where
       alike = refl;
       later = λ x in_x there from differ. refl;
       keeps = keeps_itself q s k;
+      classes = λ e differ x in_x is_x. refl;
       window = λ u other. (let is : Some w ≡ Some u = sym ends ∙ other in let same : w.last ≡ u.last = cc in (u.last, other, omega (arith, enough, same), omega arith));
     }
 
@@ -57,6 +59,7 @@ module _ (q : Request) (s : System) (c : WindowKind) where
       beside = λ x in_x there beside. refl;
       later = λ x in_x there from. refl;
       keeps = keeps_itself q s k;
+      classes = λ e differ x in_x is_x. refl;
       lists = λ is. lists;
       over = λ d leads. absurd (no_bridge d leads);
     }
@@ -93,6 +96,7 @@ module _ (q : Request) (s : System) (c : WindowKind) where
         beside = λ x in_x there beside. (let at = on_its_bus off x.function.slot.bus beside in later x in_x there (omega (arith, at)));
         later = later;
         keeps = above.keeps;
+        classes = above.classes;
         lists = λ root. absurd (both_ways (is_root q.roots b.slot.bus) off root);
         over = over;
       }
@@ -133,7 +137,7 @@ module _ (q : Request) (s : System) (c : WindowKind) where
             (λ t has. all_gives (ranges_are_apart (gained w e)) (there_then q s k (window_space c) b.slot.bus) t rest.1 has) j room
 
         ended : IsEnded k (with_window r v j) b last
-        ended = record { can = can_then; alike = room.alike; later = later; keeps = keeps; window = window }
+        ended = record { can = can_then; alike = room.alike; later = later; keeps = keeps; classes = classes_with q s c k j can.system room.classes b v listed bridge; window = window }
           where
             fits_now : range_then q s (with_window r v j) r ≡ Some v
             fits_now = range_with q s j r v

@@ -36,7 +36,7 @@ use Rattle.settle_laws.proofs.PartClasses.{space_of_class}
 use Rattle.settle_laws.proofs.Keeping.Ends.{in_window}
 use Rattle.settle_laws.proofs.Wishing.Added.{one_of_rank, within, can_added, range_with, range_without}
 use Rattle.settle_laws.proofs.Wishing.Ending.{IsEnded, ended_within, room_on_root, on_its_bus, other_window, from_above}
-use Rattle.settle_laws.proofs.Wishing.Wider.{HasRoom, KeepsAll, keeps_with, places_alike}
+use Rattle.settle_laws.proofs.Wishing.Wider.{HasRoom, KeepsAll, KeepsClasses, keeps_with, classes_with, places_alike}
 use Rattle.settle_laws.proofs.Wishing.Windows.{in_there}
 
 -- a spare has whole pages, aligned to pages at least
@@ -62,6 +62,7 @@ module _ (q : Request) (s : System) (c : WindowKind) where
     pub alike : unwished found.kept ≡ unwished k
     pub later : (r : FunctionPart) → Contains s r.function → has_part r.function r.part ≡ true → b.slot.bus ≤ r.function.slot.bus → (rank r ≡ rank (window_part c b) → ⊥) → range_then q s found.kept r ≡ range_then q s k r
     pub keeps : KeepsAll q s k found.kept
+    pub classes : KeepsClasses q s c k found.kept
     pub window : (v : Range) × (range_then q s found.kept (window_part c b) ≡ Some v) × IsInside (range_from found.at e.size) v
     pub free : (r : FunctionPart) (t : Range) → Contains s r.function → has_part r.function r.part ≡ true → r.function.slot.bus ≡ secondary b → window_space c ≡ part_space r → range_then q s found.kept r ≡ Some t → LieApart (range_from found.at e.size) t
     pub multiple : found.at % e.alignment ≡ 0
@@ -98,6 +99,7 @@ module _ (q : Request) (s : System) (c : WindowKind) where
         alike = ended.alike;
         later = ended.later;
         keeps = ended.keeps;
+        classes = ended.classes;
         window = (let is = ended.window w ends in let from = spot.from in let last = is.2 in (record { first = w.first; last = is.0 }, is.1, (from, last)));
         free = λ x t in_x there on space then.
             spot.free t (in_there q s k can (window_space c) (secondary b) x t in_x there
@@ -182,6 +184,7 @@ module _ (q : Request) (s : System) (c : WindowKind) where
         alike = room.alike;
         later = λ x in_x has from differ. range_without q s j r v x differ ∙ room.later x in_x has from;
         keeps = keeps_with q s k j can.system room.keeps r v listed bridge (λ t then. (let is : Some t ≡ None = sym then ∙ none in absurd (let no : ⊥ = cc in no)));
+        classes = classes_with q s c k j can.system room.classes b v listed bridge;
         window = (v, range_with q s j r v, (omega arith, omega arith));
         free = λ x t in_x has on space then. behind_apart x t in_x has on space (sym (range_without q s j r v x (behind_other x in_x has on)) ∙ then);
         multiple = multiple;
@@ -231,6 +234,7 @@ module _ (q : Request) (s : System) (c : WindowKind) where
         beside = λ x in_x has beside. (let at = on_its_bus q s c k can b listed bridge off x.function.slot.bus beside in later_above x in_x has (omega (arith, at)));
         later = later_above;
         keeps = above.keeps;
+        classes = above.classes;
         lists = λ root. absurd (both_ways (is_root q.roots b.slot.bus) off root);
         over = over;
       }

@@ -30,7 +30,7 @@ use Rattle.settle_laws.proofs.LowWindows.{last_whole}
 use Rattle.settle_laws.proofs.Keeping.ClosedMoves.{further_out}
 use Rattle.settle_laws.proofs.Keeping.Ends.{are_apart}
 use Rattle.settle_laws.proofs.Keeping.Wishless.{place_same}
-use Rattle.settle_laws.proofs.Wishing.Added.{one_of_rank, within, can_added, range_with, range_without}
+use Rattle.settle_laws.proofs.Wishing.Added.{kind_or, one_of_rank, within, can_added, range_with, range_without}
 use Rattle.settle_laws.proofs.Wishing.Windows.{IsWindowEnd, window_end_is, ends_forward, in_there}
 
 -- ---- the end of a window that ends later
@@ -106,6 +106,17 @@ keeps_with q s k j system keeps w v in_w there_w holds r listed there t ends = e
       (v, ap (range_then q s (with_window w v j)) one ∙ range_with q s j w v, holds t (ap (range_then q s k) (sym one) ∙ ends))
 ]
 
+-- Windows of each other class are as before.
+abbrev pub KeepsClasses : Request → System → WindowKind → Kept → Kept → Type 0
+KeepsClasses q s c k j =
+    (e : WindowKind) → (e ≡ c → ⊥) → (x : Function) → Contains s x → is_bridge x ≡ true → range_then q s j (window_part e x) ≡ range_then q s k (window_part e x)
+
+pub classes_with : (q : Request) (s : System) (c : WindowKind) (k j : Kept) → IsSystem s → KeepsClasses q s c k j → (b : Function) (v : Range) → Contains s b → is_bridge b ≡ true → KeepsClasses q s c k (with_window (window_part c b) v j)
+classes_with q s c k j system keeps b v listed bridge e differ x in_x is_x =
+    range_without q s j (window_part c b) v (window_part e x)
+    (λ same. differ (ap (λ (r : FunctionPart). kind_or c r.part) (one_of_rank s system (window_part e x) (window_part c b) in_x listed is_x bridge same)))
+    ∙ keeps e differ x in_x is_x
+
 -- ---- room for a window
 
 -- Beside k it is kept so that there is room for addresses of a window of a bridge: what is above may end later.
@@ -116,6 +127,7 @@ pub record HasRoom (q : Request) (s : System) (c : WindowKind) (k j : Kept) (b :
   pub beside : (r : FunctionPart) → Contains s r.function → has_part r.function r.part ≡ true → are_siblings q.roots b.slot.bus r.function.slot.bus ≡ true → range_then q s j r ≡ range_then q s k r
   pub later : (r : FunctionPart) → Contains s r.function → has_part r.function r.part ≡ true → b.slot.bus ≤ r.function.slot.bus → range_then q s j r ≡ range_then q s k r
   pub keeps : KeepsAll q s k j
+  pub classes : KeepsClasses q s c k j
   pub lists : is_root q.roots b.slot.bus ≡ true → is_in_lists q b.slot.bus v (window_space c) ≡ true
   pub over : (d : Function) → LeadsTo s d b.slot.bus → (u : Range) × (range_then q s j (window_part c d) ≡ Some u) × IsInside v u
 
