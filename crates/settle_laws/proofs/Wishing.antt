@@ -1,6 +1,7 @@
 pub mod Added
 pub mod Again
 pub mod Alike
+pub mod Answered
 pub mod ByBus
 pub mod Denied
 pub mod Ending

@@ -1,14 +1,14 @@
 -- Where each spare was granted, settled again nothing is written: each finds its spot again.
-use Rattle.std.proofs.Common.{◌≡◌, ◌&&◌, ℕ, zero, suc, ◌+◌, ◌-◌, ◌<◌, ◌≤◌, inl, inr, List, [], ◌∷◌, Bool, true, false, cond, length, not, arith, refl, sym, ◌∙◌, ap, subst, Option, None, Some}
+use Rattle.std.proofs.Common.{◌≡◌, ◌&&◌, ℕ, zero, suc, ◌-◌, ◌<◌, ◌≤◌, inl, inr, List, [], ◌∷◌, Bool, true, false, cond, length, not, arith, refl, sym, ◌∙◌, ap, subst, Option, None, Some}
 use Rattle.std.specs.Bool.{beq, nat_le, nat_lt}
-use Rattle.std.specs.List.{Contains, filter, flat_map, list_all, list_any}
+use Rattle.std.specs.List.{Contains, filter, flat_map, list_any}
 use Rattle.std.specs.Option.{is_some, option_map}
 use Rattle.std.proofs.Math.Path.{fun_ext}
 use Rattle.std.proofs.lemmas.Bool.{and_from, and_parts, both_ways, cases_Bool, cond_both, false_from_ne_true, leb-true, le-leb}
 use Rattle.pci_spec.specs.Slot.{same_slot}
 use Rattle.pci_spec.specs.Decoded.{Range}
 use Rattle.pci_spec.specs.Window.{WindowKind, IoWindow, MemoryWindow, PrefetchWindow, has_window}
-use Rattle.pci_spec.specs.System.{System, Function, IsSystem, Space, Io, Part, Window, is_bridge, is_space_on, window_space}
+use Rattle.pci_spec.specs.System.{System, Function, IsSystem, Io, Part, Window, is_space_on, window_space}
 use Rattle.pci_spec.specs.Bus.{secondary, are_siblings}
 use Rattle.pci_spec.specs.Sound.{IsSound}
 use Rattle.pci_spec.proofs.Members.{in_nil, in_cons_cases, in_head, in_tail, in_filter_to, IsInPiece, in_flat_map_to, in_flat_map_from, IsMade, in_map_to}
@@ -22,9 +22,8 @@ use Rattle.settle_spec.specs.Parts.{FunctionPart, system_parts, header_parts, ad
 use Rattle.settle_spec.specs.Stands.{part_space, window_part, stands_if, stands_within, stands}
 use Rattle.settle_spec.specs.Items.{highest_in, spare_of}
 use Rattle.settle_spec.specs.Growth.{range_list, there_on}
-use Rattle.settle_spec.specs.Writes.{Settling, Settled}
-use Rattle.settle_spec.specs.Kept.{Kept, as_it_stands, stays_growing, growing}
-use Rattle.settle_spec.specs.Keeping.Places.{new_place}
+use Rattle.settle_spec.specs.Writes.{Settled}
+use Rattle.settle_spec.specs.Kept.{Kept, as_it_stands, growing}
 use Rattle.settle_spec.specs.Registers.{changing}
 use Rattle.settle_spec.specs.Keeping.Registers.{settled_function}
 use Rattle.settle_spec.specs.Keeping.Writes.{settle_keeping}

@@ -1,5 +1,5 @@
 -- A spare that is denied is denied once more is kept free, too.
-use Rattle.std.proofs.Common.{◌≡◌, ◌&&◌, ℕ, zero, suc, ◌+◌, ◌-◌, ◌%◌, ◌<◌, ◌≤◌, ◌⊎◌, min, inl, inr, List, Bool, true, false, cond, not, arith, refl, sym, ◌∙◌, ap, subst, Option, None, Some}
+use Rattle.std.proofs.Common.{◌≡◌, ◌&&◌, ℕ, zero, suc, ◌+◌, ◌-◌, ◌%◌, ◌<◌, ◌≤◌, ◌⊎◌, List, Bool, true, false, cond, not, arith, refl, sym, ◌∙◌, ap, subst, Option, None, Some}
 use Rattle.std.specs.Bool.{nat_le}
 use Rattle.std.specs.List.{Contains}
 use Rattle.std.specs.Option.{is_some, option_map}
@@ -9,7 +9,6 @@ use Rattle.pci_spec.specs.Window.{WindowKind, has_window, page_size}
 use Rattle.pci_spec.specs.System.{System, Function, Window, is_bridge, window_space}
 use Rattle.pci_spec.specs.Bus.{secondary, is_root, LeadsTo}
 use Rattle.plan_spec.specs.Place.{range_from}
-use Rattle.plan_spec.specs.Planning.Layout.{IsInside}
 use Rattle.plan_spec.proofs.Planning.Placement.{IsMultiple}
 use Rattle.settle_spec.specs.FirstPlace.{Extent, is_place, first_spot, first_place}
 use Rattle.settle_spec.specs.Lists.{Request, class_ranges}

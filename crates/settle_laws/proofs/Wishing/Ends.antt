@@ -1,10 +1,10 @@
 -- The end of a window that ends later: it is the least one, and none that holds less is later.
-use Rattle.std.proofs.Common.{◌≡◌, ℕ, ◌+◌, ◌-◌, ◌*◌, ◌/◌, ◌%◌, ◌≤◌, max, arith, ap}
+use Rattle.std.proofs.Common.{◌≡◌, ℕ, ◌+◌, ◌-◌, ◌%◌, ◌≤◌, arith, ap}
 use Rattle.pci_spec.specs.Decoded.{Range}
 use Rattle.pci_spec.specs.Window.{WindowKind, IoWindow, MemoryWindow, PrefetchWindow, page_size}
 use Rattle.plan_spec.specs.Plan.{raised_to}
 use Rattle.plan_spec.proofs.Planning.Room.{raised}
-use Rattle.settle_spec.specs.Reach.{half_size, lower_of, raised_last}
+use Rattle.settle_spec.specs.Reach.{lower_of, raised_last}
 use Rattle.settle_spec.specs.Wishes.{ending_at, end_over}
 use Rattle.settle_spec.proofs.Grown.{no_lower, some_page}
 use Rattle.settle_laws.proofs.LowWindows.{last_whole}

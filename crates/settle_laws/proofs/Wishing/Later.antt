@@ -1,21 +1,21 @@
 -- How a wish changes the windows of its class: some end later, and some are opened.
-use Rattle.std.proofs.Common.{◌≡◌, ◌&&◌, ℕ, zero, suc, ◌+◌, ◌<◌, ◌≤◌, inl, inr, List, Bool, true, false, cond, not, arith, refl, sym, ◌∙◌, ap, subst, Option, None, Some}
+use Rattle.std.proofs.Common.{◌≡◌, ◌&&◌, ℕ, zero, suc, ◌<◌, inl, inr, Bool, true, false, cond, not, arith, refl, sym, ◌∙◌, ap, subst, Option, None, Some}
 use Rattle.std.specs.Bool.{nat_le}
-use Rattle.std.specs.List.{Contains, list_all}
+use Rattle.std.specs.List.{Contains}
 use Rattle.std.specs.Option.{is_some, option_map}
-use Rattle.std.proofs.lemmas.Bool.{and_from, and_parts, both_ways, cases_Bool, cases_eq, cases_lt, leb-true, leb-false, le-leb}
+use Rattle.std.proofs.lemmas.Bool.{cases_eq, leb-false}
 use Rattle.pci_spec.specs.Decoded.{Range}
-use Rattle.pci_spec.specs.Window.{WindowKind, has_window, page_size}
+use Rattle.pci_spec.specs.Window.{WindowKind, has_window}
 use Rattle.pci_spec.specs.System.{System, Function, IsSystem, Window, is_bridge, window_space}
-use Rattle.pci_spec.specs.Bus.{is_root, IsNested, LeadsTo, secondary}
+use Rattle.pci_spec.specs.Bus.{is_root, IsNested, LeadsTo}
 use Rattle.plan_spec.specs.Place.{range_from}
-use Rattle.plan_spec.proofs.Planning.Safe.{order_of, slots_of}
+use Rattle.plan_spec.proofs.Planning.Safe.{order_of}
 use Rattle.settle_spec.specs.FirstPlace.{Extent, first_place}
 use Rattle.settle_spec.specs.Lists.{Request, class_ranges}
 use Rattle.settle_spec.specs.Parts.{FunctionPart, bridge_over}
 use Rattle.settle_spec.specs.Stands.{is_fixed_part, rank, is_in_lists, window_part}
 use Rattle.settle_spec.specs.Kept.{Kept}
-use Rattle.settle_spec.specs.Wishes.{range_then, there_then, with_window, with_bridge, ending_at, end_over, can_end_at, with_room_above, ending_if, ending_within, spot_behind, Spared, spared_at, spared_above, held_by, opened_at, spared_if, spared_within}
+use Rattle.settle_spec.specs.Wishes.{range_then, there_then, with_window, with_bridge, ending_at, end_over, can_end_at, with_room_above, ending_if, ending_within, spot_behind, Spared, held_by, opened_at, spared_if, spared_within}
 use Rattle.settle_spec.proofs.BridgeOver.{over_leads}
 use Rattle.settle_laws.proofs.Wishing.Added.{one_of_rank, range_with, range_without}
 use Rattle.settle_laws.proofs.Wishing.ByBus.{ending_by_bus, spared_by_bus}

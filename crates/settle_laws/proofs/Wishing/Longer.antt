@@ -1,7 +1,7 @@
 -- What can end at an address can end before it, and what can once more is kept free could before.
-use Rattle.std.proofs.Common.{◌≡◌, ◌&&◌, ℕ, zero, suc, ◌+◌, ◌%◌, ◌<◌, ◌≤◌, inl, inr, List, [], Bool, true, false, cond, not, arith, refl, sym, ◌∙◌, ap, subst, Option, None, Some}
+use Rattle.std.proofs.Common.{◌≡◌, ◌&&◌, ℕ, zero, suc, ◌+◌, ◌%◌, ◌<◌, ◌≤◌, inl, inr, [], Bool, true, false, cond, not, arith, refl, sym, ◌∙◌, ap, subst, Option, None, Some}
 use Rattle.std.specs.Bool.{nat_le, nat_lt}
-use Rattle.std.specs.List.{Contains, filter, flat_map, list_all, list_any}
+use Rattle.std.specs.List.{Contains, filter, flat_map, list_all}
 use Rattle.std.specs.Option.{is_some, option_map}
 use Rattle.std.proofs.lemmas.Bool.{and_from, and_parts, both_ways, cases_lt, false_from_ne_true, leb-true, le-leb, lt-ltb, or_cases, or_left, or_right}
 use Rattle.pci_spec.specs.Decoded.{Range}

@@ -36,11 +36,11 @@ module _ (q : Request) (s : System) where
     pub multiple : at % e.alignment ≡ 0
     pub high : (range_from at e.size).last ≤ e.highest
 
-  spared_spot : (c : WindowKind) (k : Kept) (found : Spared) (b : Function) (e : Extent) → IsSpared q s c k found b e → HasSpot c found.kept b e
+  pub spared_spot : (c : WindowKind) (k : Kept) (found : Spared) (b : Function) (e : Extent) → IsSpared q s c k found b e → HasSpot c found.kept b e
   spared_spot c k found b e is = record { at = found.at; v = is.window.0; ends = is.window.1; inside = is.window.2; free = is.free; multiple = is.multiple; high = is.high }
 
   -- room on the same bus, or a lower one, leaves it
-  spot_left : (c d : WindowKind) (k : Kept) → CanSettle q s k → (b f : Function) → Contains s b → is_bridge b ≡ true → Contains s f → is_bridge f ≡ true → f.slot.bus ≤ b.slot.bus
+  pub spot_left : (c d : WindowKind) (k : Kept) → CanSettle q s k → (b f : Function) → Contains s b → is_bridge b ≡ true → Contains s f → is_bridge f ≡ true → f.slot.bus ≤ b.slot.bus
       → (e x : Extent) (found : Spared) → IsSpared q s d k found f x → HasSpot c k b e → HasSpot c found.kept b e
   spot_left c d k can b f in_b is_b in_f is_f low e x found spared spot =
       let up = order_of q.roots s can.nested b in_b is_b in
@@ -149,7 +149,7 @@ module _ (q : Request) (s : System) where
         by PrefetchWindow there at free = own_spot PrefetchWindow b in_b e memory ok_memory there (spare PrefetchWindow b) refl at free
 
     -- a lower slot is on the same bus or a lower one
-    lower_bus : (f b : Function) → CanSettle q s k → Contains s f → Contains s b → slot_number f.slot < slot_number b.slot → f.slot.bus ≤ b.slot.bus
+    pub lower_bus : (f b : Function) → CanSettle q s k → Contains s f → Contains s b → slot_number f.slot < slot_number b.slot → f.slot.bus ≤ b.slot.bus
     lower_bus f b can in_f in_b less =
         let x = slots_of s can.system f in_f in
         let y = slots_of s can.system b in_b in
