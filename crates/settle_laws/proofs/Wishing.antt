@@ -4,6 +4,7 @@ pub mod Alike
 pub mod Answered
 pub mod ByBus
 pub mod Denied
+pub mod DeniedAgain
 pub mod Ending
 pub mod Ends
 pub mod Granted
@@ -17,5 +18,6 @@ pub mod Same
 pub mod Sparing
 pub mod Spare
 pub mod Spots
+pub mod Still
 pub mod Wider
 pub mod Windows

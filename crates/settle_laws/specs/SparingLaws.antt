@@ -17,7 +17,7 @@ use Rattle.settle_spec.specs.Kept.{Kept, unwished}
 use Rattle.settle_spec.specs.Keeping.Writes.{closings}
 use Rattle.settle_spec.specs.Growing.{settle_growing}
 use Rattle.settle_spec.specs.Wishes.{range_then, range_of_window, ending_if, ending, spared_if, spared_behind, granted}
-use Rattle.settle_spec.specs.Sparing.{without_slots, is_settled, placing_request, grants, denied, settle_sparing}
+use Rattle.settle_spec.specs.Sparing.{without_slots, is_settled, placing_request, grants, settle_sparing}
 use Rattle.settle_spec.specs.SpareLaws.{kept_sparing, result_sparing}
 use Rattle.settle_laws.specs.WriteLaws.{most_settle_writes}
 use Rattle.settle_laws.specs.GrowingLaws.{CanBeAsked}
@@ -112,8 +112,8 @@ SparesRefuseAlike =
 
 -- ---- settled again
 
--- Where no spare is denied, and not all is placed anew, settled again nothing is written.
-abbrev pub GrantedSettleOnce : Type 0
-GrantedSettleOnce =
-    (q : Request) (s : System) → CanBeAsked q s → IsFalse q.anew → denied q s ≡ []
+-- Where not all is placed anew, settled again nothing is written.
+abbrev pub KeptSettleOnce : Type 0
+KeptSettleOnce =
+    (q : Request) (s : System) → CanBeAsked q s → IsFalse q.anew
     → IsTrue (is_settled (settle_sparing q s)) → settle_sparing q (result_sparing q s) ≡ Settled []

@@ -1,6 +1,6 @@
 //! Laws of settling with room behind slots. These functions do nothing: each contract is a law.
 
-ghost use Rattle.settle_laws.specs.SparingLaws.{EndingIsByBus, SparedIsByBus, WishesChangeRoomAlone, GrantedCanSettle, SettledSparingIsSound, SettlingSparingCanStop, FewSparingWritesEach, SparingKeepsAll, SparesRefuseNoMore, SparesRefuseAlike, GrantedSettleOnce};
+ghost use Rattle.settle_laws.specs.SparingLaws.{EndingIsByBus, SparedIsByBus, WishesChangeRoomAlone, GrantedCanSettle, SettledSparingIsSound, SettlingSparingCanStop, FewSparingWritesEach, SparingKeepsAll, SparesRefuseNoMore, SparesRefuseAlike, KeptSettleOnce};
 ghost use Rattle.settle_spec.specs.SpareLaws.{NoSlotsNoSpares, NothingGoesForSpares, SparesSetNoCommand, SparesHaveRoom};
 
 /// Room behind a slot is told by the window over its bridge, bus by bus.
@@ -44,7 +44,7 @@ pub fn spares_have_room()
     ensures { SparesHaveRoom }
 {}
 
-/// Where no spare is denied, and not all is placed anew, what is settled is settled again by no write.
-pub fn granted_spares_settle_once()
-    ensures { GrantedSettleOnce }
+/// Where not all is placed anew, what is settled is settled again by no write.
+pub fn kept_spares_settle_once()
+    ensures { KeptSettleOnce }
 {}

@@ -64,7 +64,7 @@ module _ (q : Request) (s : System) (k : Kept) (can : CanSettle q s k) where
     ]
 
     -- and is so again
-    part_again : (o : Part) → o ≡ p → (u : Range) → end_range q s k before ≡ Some u → is_part q t (now f) p ≡ true
+    pub part_again : (o : Part) → o ≡ p → (u : Range) → end_range q s k before ≡ Some u → is_part q t (now f) p ≡ true
     part_again (Window c) e u ends =
         ap (is_part q t (now f)) (sym e)
         ∙ ends_open q s k can f c listed (ap (has_part f) e ∙ there) u (ap (λ x. end_range q s k record { function = f; part = x }) e ∙ ends)

@@ -31,12 +31,12 @@ use Rattle.settle_laws.proofs.Wishing.Wider.{KeepsAll}
 abbrev spared_with : ℕ → Kept → Spared
 spared_with a k = record { at = a; kept = k }
 
-some_map : {A B : Type 0} (f : A → B) (o : Option A) → is_some (option_map f o) ≡ is_some o
+pub some_map : {A B : Type 0} (f : A → B) (o : Option A) → is_some (option_map f o) ≡ is_some o
 some_map f None = refl
 some_map f (Some x) = refl
 
 -- a place is there for an extent where there is one
-place_some : (ranges taken : List Range) (e : Extent) (a : ℕ) (u : Range) → 0 < e.alignment → Contains ranges u → is_place u taken e a ≡ true → is_some (first_place ranges taken e) ≡ true
+pub place_some : (ranges taken : List Range) (e : Extent) (a : ℕ) (u : Range) → 0 < e.alignment → Contains ranges u → is_place u taken e a ≡ true → is_some (first_place ranges taken e) ≡ true
 place_some ranges taken e a u pos has place = by (first_place ranges taken e) refl
   where
     by : (o : Option ℕ) → first_place ranges taken e ≡ o → is_some (first_place ranges taken e) ≡ true
