@@ -2,7 +2,7 @@
 use Rattle.std.specs.Prelude.{◌≡◌, ℕ, ◌≤◌, ◌⊎◌, Bool, true, false, IsTrue, IsFalse, Some, List, [], length, take}
 use Rattle.std.specs.List.{Contains, count_by}
 use Rattle.pci_spec.specs.Slot.{same_slot}
-use Rattle.pci_spec.specs.Window.{WindowKind}
+use Rattle.pci_spec.specs.Window.{WindowKind, has_window}
 use Rattle.pci_spec.specs.Decoded.{Range}
 use Rattle.pci_spec.specs.System.{System, Function, IsSystem, Part, has_part, is_window}
 use Rattle.pci_spec.specs.Bus.{IsNested}
@@ -18,10 +18,11 @@ use Rattle.settle_spec.specs.Keeping.Writes.{closings}
 use Rattle.settle_spec.specs.Growing.{settle_growing}
 use Rattle.settle_spec.specs.Wishes.{range_then, range_of_window, ending_if, ending, spared_if, spared_behind, granted}
 use Rattle.settle_spec.specs.Sparing.{without_slots, is_settled, placing_request, grants, settle_sparing}
-use Rattle.settle_spec.specs.SpareLaws.{kept_sparing, result_sparing}
+use Rattle.settle_spec.specs.SpareLaws.{kept_sparing, result_sparing, has_room_for, result_of}
 use Rattle.settle_laws.specs.WriteLaws.{most_settle_writes}
 use Rattle.settle_laws.specs.GrowingLaws.{CanBeAsked}
 use Rattle.settle_laws.specs.Keeping.PlacesLaws.{CanSettle}
+use Rattle.std.specs.Option.{is_some}
 
 -- ---- wishes
 
@@ -109,6 +110,16 @@ SparesRefuseAlike =
     (q : Request) (s : System) → CanBeAsked q s → IsFalse (is_settled (settle_sparing q s))
     → (settle_sparing q s ≡ settle_growing (without_slots q) s)
     ⊎ (IsTrue (names_fixed (settle_sparing q s)) × IsTrue (names_fixed (settle_growing (without_slots q) s)))
+
+-- ---- what is denied has no room
+
+-- A window has room for its spare in the result, or else none could be made beside all that is kept then.
+abbrev pub SparesAreAnswered : Type 0
+SparesAreAnswered =
+    (q : Request) (s : System) (c : WindowKind) (b : Function) (e : Extent) → CanBeAsked q s
+    → Contains s b → spare_of q c b ≡ Some e → IsTrue (has_window c b.probe) → IsTrue (is_settled (settle_sparing q s))
+    → IsTrue (has_room_for q (result_sparing q s) c (result_of q s b) e)
+    ⊎ IsFalse (is_some (spared_behind (placing_request q s) s c b e (kept_sparing q s)))
 
 -- ---- settled again
 

@@ -1,6 +1,6 @@
 //! Laws of settling with room behind slots. These functions do nothing: each contract is a law.
 
-ghost use Rattle.settle_laws.specs.SparingLaws.{EndingIsByBus, SparedIsByBus, WishesChangeRoomAlone, GrantedCanSettle, SettledSparingIsSound, SettlingSparingCanStop, FewSparingWritesEach, SparingKeepsAll, SparesRefuseNoMore, SparesRefuseAlike, KeptSettleOnce};
+ghost use Rattle.settle_laws.specs.SparingLaws.{EndingIsByBus, SparedIsByBus, WishesChangeRoomAlone, GrantedCanSettle, SettledSparingIsSound, SettlingSparingCanStop, FewSparingWritesEach, SparingKeepsAll, SparesRefuseNoMore, SparesRefuseAlike, SparesAreAnswered, KeptSettleOnce};
 ghost use Rattle.settle_spec.specs.SpareLaws.{NoSlotsNoSpares, NothingGoesForSpares, SparesSetNoCommand, SparesHaveRoom};
 
 /// Room behind a slot is told by the window over its bridge, bus by bus.
@@ -39,9 +39,11 @@ pub fn spares_refuse_nothing()
     ensures refused { SparesRefuseAlike }
 {}
 
-/// The spare behind a slot is denied, or else its window has room for it in the result.
+/// The spare behind a slot is denied, or else its window has room for it in the result. Where it has none, none could be
+/// made beside all that is kept.
 pub fn spares_have_room()
-    ensures { SparesHaveRoom }
+    ensures room { SparesHaveRoom }
+    ensures answered { SparesAreAnswered }
 {}
 
 /// Where not all is placed anew, what is settled is settled again by no write.

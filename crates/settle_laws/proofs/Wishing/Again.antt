@@ -25,7 +25,6 @@ use Rattle.settle_spec.specs.Kept.{Kept, growing}
 use Rattle.settle_spec.specs.Registers.{changing}
 use Rattle.settle_spec.specs.Keeping.Registers.{settled, settled_function}
 use Rattle.settle_spec.specs.Keeping.Writes.{settle_keeping}
-use Rattle.settle_spec.specs.Growing.{finally_kept}
 use Rattle.settle_spec.specs.Wishes.{range_then, there_then, ending_if, ending_within, spot_behind, Spared, spared_if, spared_within, spared_behind, Granted, or_denied, with_spare_of, with_spares_of, with_all_spares, granted}
 use Rattle.settle_spec.specs.Sparing.{without_slots, is_settled, have_spares, placing_request, granted_beside, settle_sparing}
 use Rattle.settle_spec.specs.SpareLaws.{kept_sparing, has_room_for, result_sparing}
@@ -44,8 +43,8 @@ use Rattle.settle_laws.proofs.Keeping.SettledSound.{settled_sound}
 use Rattle.settle_laws.proofs.Keeping.Shown.{IsChanging, changing_is}
 use Rattle.settle_laws.proofs.Wishing.ByBus.{ending_by_bus, spared_by_bus}
 use Rattle.settle_laws.proofs.Wishing.Granted.{spare_is}
-use Rattle.settle_laws.proofs.Wishing.Room.{can_all, room_there}
-use Rattle.settle_laws.proofs.Wishing.Answered.{each_answered}
+use Rattle.settle_laws.proofs.Wishing.Room.{can_all}
+use Rattle.settle_laws.proofs.Wishing.Answered.{spares_are_answered}
 use Rattle.settle_laws.proofs.Wishing.DeniedAgain.{none_then}
 use Rattle.settle_laws.proofs.Wishing.Still.{stands_alike, finally_is, have, stays_there, only_there}
 use Rattle.settle_laws.proofs.Wishing.Sparing.{placing_roots}
@@ -219,9 +218,8 @@ module _ (q : Request) (s : System) (may : CanBeAsked q s) (kept : q.anew ≡ fa
       → (has_room_for q t c (settled_function p s j b) e ≡ true) ⊎ (is_some (spared_behind q t c (settled_function p s j b) e (growing q t)) ≡ false)
   answer_of c b e listed spare there =
       let of = spare_is q c b e spare in
-      elim (each_answered p q s (finally_kept p s) (can_all q s may settles).before c b listed e there spare) [
-        | inl spot ↦ inl (cond_both (have_spares q s) q (without_slots q) (λ r. has_room_for q t c (settled_function p s j b) e ≡ has_room_for r t c (settled_function p s j b) e) (λ spares. refl) (λ none. refl)
-            ∙ room_there p s j can c b listed of.bridge e of.spare.aligned spot)
+      elim (spares_are_answered q s c b e may listed spare there settles) [
+        | inl room ↦ inl room
         | inr none ↦ inr (cond_both (have_spares q s) q (without_slots q)
             (λ r. CanSettle r s j → is_some (spared_behind r s c b e j) ≡ false → is_some (spared_behind q (settled r s j) c (settled_function r s j b) e (growing q (settled r s j))) ≡ false)
             (λ spares may. none_then q q.slots s j may kept c b listed of.bridge e of.spare.aligned)

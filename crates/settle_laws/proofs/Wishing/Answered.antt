@@ -26,6 +26,11 @@ use Rattle.settle_laws.proofs.Wishing.Later.{AreAlike, Same, Changes, spared_cha
 use Rattle.settle_laws.proofs.Wishing.Spare.{IsSpare, IsSpared, is_spared}
 use Rattle.settle_laws.proofs.Wishing.Spots.{HasSpot, spared_spot, spot_left}
 use Rattle.plan_spec.proofs.Planning.Placement.{IsMultiple}
+use Rattle.settle_spec.specs.Growing.{finally_kept}
+use Rattle.settle_spec.specs.Sparing.{without_slots, have_spares, placing_request}
+use Rattle.settle_spec.specs.SpareLaws.{kept_sparing, has_room_for, result_sparing, result_of}
+use Rattle.settle_laws.specs.SparingLaws.{SparesAreAnswered}
+use Rattle.settle_laws.proofs.Wishing.Room.{can_all, room_there}
 
 -- the spares of a class are alike
 pub record AreSpares (spare : WindowKind → Function → Option Extent) (like : WindowKind → Extent) : Type 0 where
@@ -164,3 +169,14 @@ pub each_answered : (q asked : Request) (s : System) (k : Kept) (can : CanSettle
     → HasSpot q s c (granted q s (spare_of asked) k).kept b e ⊎ (is_some (spared_behind q s c b e (granted q s (spare_of asked) k).kept) ≡ false)
 each_answered q asked s k can c b listed e there at =
     all_answered q s (spare_of asked) (λ c. spare_extent c (wanted_in asked.spares c) 0) (spares_are asked) k can (record { kept = k; denied = [] }) record { can = can; alike = refl } s (λ f has. has) (system_rises s can.system) c b listed e there at
+
+-- The law: a window has room for its spare, or none could be made.
+pub spares_are_answered : SparesAreAnswered
+spares_are_answered q s c b e may listed spare there settles =
+    let of = spare_is q c b e spare in
+    let can = can_all q s may settles in
+    elim (each_answered (placing_request q s) q s (finally_kept (placing_request q s) s) can.before c b listed e there spare) [
+      | inl spot ↦ inl (cond_both (have_spares q s) q (without_slots q) (λ r. has_room_for q (result_sparing q s) c (result_of q s b) e ≡ has_room_for r (result_sparing q s) c (result_of q s b) e) (λ spares. refl) (λ none. refl)
+          ∙ room_there (placing_request q s) s (kept_sparing q s) can.then c b listed of.bridge e of.spare.aligned spot)
+      | inr none ↦ inr none
+    ]
