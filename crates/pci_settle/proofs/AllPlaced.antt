@@ -6,7 +6,7 @@ use Rattle.std.proofs.lemmas.Grind.{take_at_read, get_or-set_at}
 use Rattle.pci_spec.specs.Decoded.{Range as DecodedRange}
 use Rattle.pci_spec.proofs.Members.{in_head, in_tail, in_cons_cases}
 use Rattle.plan_spec.specs.Place.{range_from}
-use Rattle.settle_spec.specs.FirstPlace.{Extent as ExtentValue, else_at, first_place}
+use Rattle.settle_spec.specs.FirstPlace.{Extent as ExtentValue, else_at}
 use Rattle.settle_spec.specs.Items.{Item, Placed, Placing, AllPlaced, Lacks, and_placed, place_next, taken_by}
 use Rattle.settle_spec.specs.Growth.{place_each}
 use Rattle.settle_spec.proofs.SameTaken.{HaveSame, same_cons, same_first_place}

@@ -4,6 +4,8 @@ use Rattle.std.specs.List.{All}
 use Rattle.std.specs.List.Sorted.{IsPermutation}
 use Rattle.std.proofs.lemmas.List.{take_more, get_or-map, length-map}
 use Rattle.std.proofs.lemmas.List.Sorted.{All-permutation, length_permutation}
+use Rattle.settle_spec.specs.FirstPlace.{Extent as ExtentValue}
+use Rattle.settle_spec.specs.Spares.{with_spare}
 use Rattle.settle_spec.specs.Items.{Item as ItemValue, in_turn, extent_around}
 use Rattle.pci_settle.specs.declared.extent.Extent.{Extent}
 use Rattle.pci_settle.specs.declared.item.Item.{Item}
@@ -48,12 +50,15 @@ module _ (items sorted : List Item) (moved : IsPermutation items sorted) (extent
   same_extents value valued (i ∷ xs) =
       ap (λ e. e ∷ map extent_value (map extent_of_item xs)) (sym (valued i)) ∙ ap (λ es. (value i).extent ∷ es) (same_extents value valued xs)
 
-  pub around_turn : (page highest : ℕ) (window : Option Extent) → IsAround (extent_around page highest (map extent_value extents)) window
+  pub turn_extents : (value : Item → ItemValue) → IsValued value → map value sorted ≡ in_turn (map value items) → map extent_value extents ≡ map item_extent (in_turn (map value items))
+  turn_extents value valued turn = ap (map extent_value) are ∙ same_extents value valued sorted ∙ ap (map item_extent) turn
+
+  -- what is around the extents and a spare is around the items and the spare
+  pub around_turn : (page highest : ℕ) (spare : Option ExtentValue) (window : Option Extent) (all : List ExtentValue) → all ≡ with_spare spare (map extent_value extents) → IsAround (extent_around page highest all) window
       → (value : Item → ItemValue) → IsValued value → map value sorted ≡ in_turn (map value items)
-      → IsAround (extent_around page highest (map item_extent (in_turn (map value items)))) window
-  around_turn page highest window is value valued turn =
-      subst (λ es. IsAround (extent_around page highest es) window)
-      (ap (map extent_value) are ∙ same_extents value valued sorted ∙ ap (map item_extent) turn) is
+      → IsAround (extent_around page highest (with_spare spare (map item_extent (in_turn (map value items))))) window
+  around_turn page highest spare window all all_is is value valued turn =
+      subst (λ es. IsAround (extent_around page highest es) window) (all_is ∙ ap (with_spare spare) (turn_extents value valued turn)) is
 
 pub if_ok_by : {X E : Type 0} (P Q : X → Type 0) (r : Result X E) → ((x : X) → P x → Q x) → IfOk r P → IfOk r Q
 if_ok_by P Q (Ok x) by p = by x p

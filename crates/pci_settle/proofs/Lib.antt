@@ -21,5 +21,6 @@ pub mod Anew
 pub mod AsItStands
 pub mod OnBus
 pub mod Marked
+pub mod Spares
 pub mod NewWindows
 pub mod PutWindows

@@ -19,7 +19,8 @@ use Rattle.plan_spec.proofs.Planning.AllItems.{slots_rise}
 use Rattle.settle_spec.specs.FirstPlace.{Extent as ExtentValue}
 use Rattle.settle_spec.specs.Lists.{Request}
 use Rattle.settle_spec.specs.Parts.{bridge_over}
-use Rattle.settle_spec.specs.Items.{Item as ItemValue, has_of, bus_items, nothing, highest_in, extent_around, new_window, new_window_over, window_to}
+use Rattle.settle_spec.specs.Spares.{spare_below, with_spare}
+use Rattle.settle_spec.specs.Items.{Item as ItemValue, has_of, bus_items, nothing, highest_in, extent_around, window_around, new_window, new_window_over, window_to}
 use Rattle.settle_spec.proofs.Nested.{on_it, one_bridge}
 use Rattle.settle_spec.proofs.NewWindows.{window_is_around}
 use Rattle.settle_spec.proofs.ItemsBehind.{items_are_behind}
@@ -27,7 +28,7 @@ use Rattle.settle_spec.proofs.BridgeOver.{over_leads, none_leads}
 use Rattle.pci_function.specs.declared.record.Bridge.{Bridge}
 use Rattle.pci_function.specs.declared.record.Record.{Record}
 use Rattle.pci_function.specs.Values.{record_value}
-use Rattle.pci_tree.proofs.Lifting.{same_bridge}
+use Rattle.pci_tree.proofs.Lifting.{same_bridge, same_slot_of}
 use Rattle.pci_tree.proofs.RegionParts.{same_bridge_of}
 use Rattle.pci_place.specs.Above.{is_wide_in}
 use Rattle.pci_place.specs.Items.{function_in, no_function}
@@ -36,9 +37,11 @@ use Rattle.pci_place.proofs.Records.{FunctionAt, same_count, function_at}
 use Rattle.pci_settle.specs.declared.extent.Extent.{Extent}
 use Rattle.pci_settle.specs.Spots.{extent_value, IsExtent}
 use Rattle.pci_settle.specs.Placings.{item_extent}
+use Rattle.pci_settle.specs.Slots.{wanted_at, spare_by}
 use Rattle.pci_settle.specs.Own.{IsWindowOf}
 use Rattle.pci_settle.specs.Buses.{AreWindows, AreBehind, Classing, TellsClasses}
 use Rattle.pci_settle.specs.NewWindows.{highest_by, around_bus, nowhere, IsEntry, IsNewWindowPut, new_window_in, IsTooLarge, IsLastTooLarge, first_large, AreNewWindows, IsMarkedOf, AreMarkedWindows, told_extent}
+use Rattle.pci_settle.proofs.Spares.{spare_is, before_spare}
 use Rattle.pci_settle.proofs.Marked.{told_is, marked_is, IsSameOrOver, told_fits, AreSameOrLarge, same_or_large, around_large, around_mark, some_page}
 
 -- ---- upper halves
@@ -164,7 +167,7 @@ module _ (p : Classing) (system : IsSystem p.system) (nested : IsNested p.roots 
       lawful = was.lawful;
     }
 
-    module _ (b : Bridge) (there : r.bridge ≡ Some b) where
+    module _ (b : Bridge) (there : r.bridge ≡ Some b) (w : ℕ) (w_is : w ≡ wanted_at p.terms.slots.now r.slot c) where
       is_one : is_bridge f ≡ true
       is_one = sym (same_bridge r f is.value) ∙ ap is_some there
 
@@ -200,23 +203,32 @@ module _ (p : Classing) (system : IsSystem p.system) (nested : IsNested p.roots 
       highest_is MemoryWindow = refl
       highest_is PrefetchWindow = ap (λ w. if w then 0xffff_ffff_ffff_ffff else 0xffff_ffff) (ap (λ (x : decoded.Bridge). is_wide_in x.windows.prefetch) (same_bridge_of r f b is.value there) ∙ wide_window PrefetchWindow f.image f.probe)
 
-      around_is : (q : Request) (e : Function → ExtentValue) → around_bus q p.system c e b ≡ extent_around (page_size c) (highest_in c f.probe) (map item_extent (bus_items q p.system c nothing e (secondary f)))
-      around_is q e =
-          ap (λ n. extent_around (page_size c) (highest_by c b.windows) (map item_extent (bus_items q p.system c nothing e n))) leads_to
-          ∙ ap (λ h. extent_around (page_size c) h (map item_extent (bus_items q p.system c nothing e (secondary f)))) (highest_is c)
+      -- the spare is that of the function
+      spare_here : (q : Request) → TellsClasses p q → (highest : ℕ) → spare_by c w highest ≡ spare_below q c f highest
+      spare_here q left highest =
+          spare_is q p.terms.slots.now c f highest w left.terms.slots left.terms.spares is_one (w_is ∙ ap (λ s. wanted_at p.terms.slots.now s c) (same_slot_of r f is.value))
 
-      new_is : (q : Request) → TellsClasses p q → around_bus q p.system c (new_window q p.system c) b ≡ new_window q p.system c f
-      new_is q left = around_is q (new_window q p.system c) ∙ sym (window_is_around q p.system c system (nested_for q left) f is.listed is_one)
+      around_is : (q : Request) → TellsClasses p q → (e : Function → ExtentValue) → around_bus q p.system c e b w ≡ window_around q c f (bus_items q p.system c nothing e (secondary f))
+      around_is q left e =
+          ap (λ n. extent_around (page_size c) (highest_by c b.windows) (with_spare (spare_by c w (highest_by c b.windows)) (map item_extent (bus_items q p.system c nothing e n)))) leads_to
+          ∙ ap (λ h. extent_around (page_size c) h (with_spare (spare_by c w h) (map item_extent (bus_items q p.system c nothing e (secondary f))))) (highest_is c)
+          ∙ ap (λ s. extent_around (page_size c) (highest_in c f.probe) (with_spare s (map item_extent (bus_items q p.system c nothing e (secondary f))))) (spare_here q left (highest_in c f.probe))
+
+      new_is : (q : Request) → TellsClasses p q → around_bus q p.system c (new_window q p.system c) b w ≡ new_window q p.system c f
+      new_is q left = around_is q left (new_window q p.system c) ∙ sym (window_is_around q p.system c system (nested_for q left) f is.listed is_one)
 
       abbrev behind : Request → (Function → ExtentValue) → List ItemValue
       behind q e = bus_items q p.system c nothing e b.secondary
+
+      abbrev spare : Option ExtentValue
+      spare = spare_by c w (highest_by c b.windows)
 
       has_is : (q : Request) → TellsClasses p q → (e : Function → ExtentValue) → has_of q p.system c f ≡ nat_lt 0 (length (behind q e))
       has_is q left e =
           items_are_behind q p.system c e system (nested_for q left) f is.listed is_one
           ∙ ap (λ n. nat_lt 0 (length (bus_items q p.system c nothing e n))) (sym leads_to)
 
-      entry_for : (q : Request) → TellsClasses p q → (entry : Option Extent) → IsEntry (behind q (new_window q p.system c)) (around_bus q p.system c (new_window q p.system c) b) entry → IsWindowOf (has_of q p.system c f) (new_window q p.system c f) entry
+      entry_for : (q : Request) → TellsClasses p q → (entry : Option Extent) → IsEntry (behind q (new_window q p.system c)) (around_bus q p.system c (new_window q p.system c) b w) entry → IsWindowOf (has_of q p.system c f) (new_window q p.system c f) entry
       entry_for q left None empty = has_is q left (new_window q p.system c) ∙ le-ltb 0 (length (behind q (new_window q p.system c))) (omega (arith, empty))
       entry_for q left (Some x) (some, same) = (has_is q left (new_window q p.system c) ∙ lt-ltb 0 (length (behind q (new_window q p.system c))) some, same ∙ new_is q left)
 
@@ -290,10 +302,10 @@ module _ (p : Classing) (system : IsSystem p.system) (nested : IsNested p.roots 
           → AreSameOrLarge q p.system c nothing (told_extent old) (new_window q p.system c) b.secondary (behind q (told_extent old)) (behind q (new_window q p.system c))
       same_behind was q left = same_or_large q p.system c nothing (told_extent old) (new_window q p.system c) b.secondary (fits was q left)
 
-      around_told : (q : Request) → behind q (told_extent old) ≡ behind q (new_window q p.system c) → around_bus q p.system c (told_extent old) b ≡ around_bus q p.system c (new_window q p.system c) b
-      around_told q same = ap (λ xs. extent_around (page_size c) (highest_by c b.windows) (map item_extent xs)) same
+      around_told : (q : Request) → behind q (told_extent old) ≡ behind q (new_window q p.system c) → around_bus q p.system c (told_extent old) b w ≡ around_bus q p.system c (new_window q p.system c) b w
+      around_told q same = ap (λ xs. extent_around (page_size c) (highest_by c b.windows) (with_spare spare (map item_extent xs))) same
 
-      marked_entry : (was : AreMarkedFrom p c (k + 1) old) (q : Request) → TellsClasses p q → (entry : Option Extent) → IfSome entry (λ x. x.size < 2 ^ 64) → IsEntry (behind q (told_extent old)) (around_bus q p.system c (told_extent old) b) entry
+      marked_entry : (was : AreMarkedFrom p c (k + 1) old) (q : Request) → TellsClasses p q → (entry : Option Extent) → IfSome entry (λ x. x.size < 2 ^ 64) → IsEntry (behind q (told_extent old)) (around_bus q p.system c (told_extent old) b w) entry
           → IsMarkedOf (has_of q p.system c f) (new_window q p.system c f) entry
       marked_entry was q left None small empty = has_is q left (told_extent old) ∙ le-ltb 0 (length (behind q (told_extent old))) (omega (arith, empty))
       marked_entry was q left (Some x) small (some, same) = (
@@ -302,8 +314,8 @@ module _ (p : Classing) (system : IsSystem p.system) (nested : IsNested p.roots 
           | inl one ↦ inl (same ∙ around_told q one ∙ new_is q left)
           | inr has ↦
               let low : Contains (map item_extent (behind q (told_extent old))) (extent_value nowhere) = subst (Contains (map item_extent (behind q (told_extent old)))) has.mark (in_map_from item_extent (behind q (told_extent old)) _ has.in_low) in
-              let large = around_mark c (highest_by c b.windows) (map item_extent (behind q (told_extent old))) low in
-              let size : x.size ≡ (around_bus q p.system c (told_extent old) b).size = ap (λ (y : ExtentValue). y.size) same in
+              let large = around_mark c (highest_by c b.windows) (with_spare spare (map item_extent (behind q (told_extent old)))) (before_spare spare (map item_extent (behind q (told_extent old))) (extent_value nowhere) low) in
+              let size : x.size ≡ (around_bus q p.system c (told_extent old) b w).size = ap (λ (y : ExtentValue). y.size) same in
               absurd (let no : ⊥ = omega (arith, large, size, small) in no)
         ],
       )
@@ -319,21 +331,21 @@ module _ (p : Classing) (system : IsSystem p.system) (nested : IsNested p.roots 
             large = subst (λ x. 2 ^ 64 ≤ (new_window q p.system c x).size) same size;
           }
 
-      large_size : (was : AreMarkedFrom p c (k + 1) old) (q : Request) → TellsClasses p q → 2 ^ 64 ≤ (around_bus q p.system c (told_extent old) b).size → 2 ^ 64 ≤ (new_window q p.system c f).size
+      large_size : (was : AreMarkedFrom p c (k + 1) old) (q : Request) → TellsClasses p q → 2 ^ 64 ≤ (around_bus q p.system c (told_extent old) b w).size → 2 ^ 64 ≤ (new_window q p.system c f).size
       large_size was q left large = subst (λ (e : ExtentValue). 2 ^ 64 ≤ e.size) (new_is q left) (elim (same_behind was q left) [
         | inl one ↦ subst (λ (e : ExtentValue). 2 ^ 64 ≤ e.size) (around_told q one) large
         | inr has ↦
-            around_large (page_size c) (highest_by c b.windows) (2 ^ 64) (map item_extent (behind q (new_window q p.system c))) (new_window q p.system c has.of) (some_page c)
-            (in_map_from item_extent (behind q (new_window q p.system c)) _ has.in_high) has.large
+            around_large (page_size c) (highest_by c b.windows) (2 ^ 64) (with_spare spare (map item_extent (behind q (new_window q p.system c)))) (new_window q p.system c has.of) (some_page c)
+            (before_spare spare (map item_extent (behind q (new_window q p.system c))) (new_window q p.system c has.of) (in_map_from item_extent (behind q (new_window q p.system c)) _ has.in_high)) has.large
       ])
 
-      mark_entry : (was : AreMarkedFrom p c (k + 1) old) (new : List (Option Extent)) → IsNewWindowPut p c b old new false → (q : Request) → TellsClasses p q → IsMarkedOf (has_of q p.system c f) (new_window q p.system c f) (Some nowhere)
+      mark_entry : (was : AreMarkedFrom p c (k + 1) old) (new : List (Option Extent)) → IsNewWindowPut p c b w old new false → (q : Request) → TellsClasses p q → IsMarkedOf (has_of q p.system c f) (new_window q p.system c f) (Some nowhere)
       mark_entry was new is_put q left =
           let large = is_put.1 q (told_extent old) left (told_behind was q left) in
           (has_is q left (told_extent old) ∙ lt-ltb 0 (length (behind q (told_extent old))) large.some, inr (refl, large_size was q left large.large))
 
       -- the next entry
-      pub windows_more : (new : List (Option Extent)) (large : Option ℕ) (fit : Bool) → IsNewWindowPut p c b old new fit → AreWindows new → AreWindowsOrLarge p c (k + 1) old large → AreWindowsOrLarge p c k new (first_large large fit k)
+      pub windows_more : (new : List (Option Extent)) (large : Option ℕ) (fit : Bool) → IsNewWindowPut p c b w old new fit → AreWindows new → AreWindowsOrLarge p c (k + 1) old large → AreWindowsOrLarge p c k new (first_large large fit k)
       windows_more new None true is_put lawful was =
           entries_more is_put.entry new is_put.put was.size IsWindowOf was
           (λ q left. entry_for q left is_put.entry (is_put.is q (new_window q p.system c) left (are_behind was q left))) lawful
@@ -380,8 +392,8 @@ module _ (p : Classing) (system : IsSystem p.system) (nested : IsNested p.roots 
     pub step_same : r.bridge ≡ None → AreWindowsOrLarge p c (length p.system - (done + 1)) old large
     step_same none = subst (λ n. AreWindowsOrLarge p c n old large) next (windows_same place here.f r here.at here.is old none large before)
 
-    pub step_put : (b : Bridge) → r.bridge ≡ Some b → (new : List (Option Extent)) (fit : Bool) → IsNewWindowPut p c b old new fit → AreWindows new → AreWindowsOrLarge p c (length p.system - (done + 1)) new (first_large large fit place)
-    step_put b there new fit put lawful = subst (λ n. AreWindowsOrLarge p c n new (first_large large fit place)) next (windows_more place here.f r here.at here.is old b there new large fit put lawful before)
+    pub step_put : (b : Bridge) → r.bridge ≡ Some b → (w : ℕ) → w ≡ wanted_at p.terms.slots.now r.slot c → (new : List (Option Extent)) (fit : Bool) → IsNewWindowPut p c b w old new fit → AreWindows new → AreWindowsOrLarge p c (length p.system - (done + 1)) new (first_large large fit place)
+    step_put b there w w_is new fit put lawful = subst (λ n. AreWindowsOrLarge p c n new (first_large large fit place)) next (windows_more place here.f r here.at here.is old b there w w_is new large fit put lawful before)
 
   -- ---- all functions
 

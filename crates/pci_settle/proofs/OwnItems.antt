@@ -46,6 +46,7 @@ use Rattle.pci_settle.specs.declared.item.Part.TheVariants as parts
 use Rattle.pci_settle.specs.declared.over.Over.{Over}
 use Rattle.pci_settle.specs.declared.own.Terms.{Terms}
 use Rattle.pci_settle.specs.Kept.{kept_of}
+use Rattle.pci_settle.specs.Slots.{demand_of}
 use Rattle.pci_settle.specs.Over.{range_holds, open_range, class_window, IsOverBus}
 use Rattle.pci_settle.proofs.Headers.{filter_same, header_has}
 use Rattle.pci_settle.specs.Lists.{root_range_value}
@@ -151,7 +152,7 @@ class_cases false true false true h l x plain = refl
 class_cases false true false false true l x plain = refl
 class_cases false true false false false l x plain = refl
 
-module _ (q : Request) (s : System) (f : Function) (r : Record) (over : Over) (t : Terms) (is : IsRecordOf s f r) (terms : AreTerms q.lists t) (over_is : IsOverBus q s f.slot.bus over) where
+module _ (q : Request) (s : System) (f : Function) (r : Record) (over : Over) (t : Terms) (is : IsRecordOf s f r) (terms : AreTerms (demand_of q) t) (over_is : IsOverBus q s f.slot.bus over) where
   abbrev class_by_new : ℕ → WindowKind
   class_by_new n = cond (is_io (bar_at f.probe n)) IoWindow (cond (is_prefetchable (bar_at f.probe n)) (new_class q s f n) MemoryWindow)
 

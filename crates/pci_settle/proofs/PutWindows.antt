@@ -9,6 +9,7 @@ use Rattle.pci_spec.specs.Window.{WindowKind, page_size}
 use Rattle.pci_spec.specs.System.{System, Function}
 use Rattle.settle_spec.specs.FirstPlace.{Extent as ExtentValue}
 use Rattle.settle_spec.specs.Lists.{Request}
+use Rattle.settle_spec.specs.Spares.{with_spare}
 use Rattle.settle_spec.specs.Items.{Item as ItemValue, in_turn, bus_items, nothing, extent_around}
 use Rattle.settle_spec.specs.PlacingLaws.{HasLowerRank}
 use Rattle.settle_spec.proofs.InTurn.{turn_same, ranks_differ}
@@ -22,6 +23,7 @@ use Rattle.pci_settle.specs.Spots.{IsExtent}
 use Rattle.pci_settle.specs.Placings.{item_extent}
 use Rattle.pci_settle.specs.Turns.{IsValued}
 use Rattle.pci_settle.specs.Windows.{IsAround}
+use Rattle.pci_settle.specs.Slots.{spare_by}
 use Rattle.pci_settle.specs.Own.{Asking, AreByRank, asked_item_value}
 use Rattle.pci_settle.specs.Buses.{AreBehind, Classing, TellsClasses, Listing, IsListingOf, items_of_function, AreItemsOnBus}
 use Rattle.pci_settle.specs.NewWindows.{around_bus, highest_by, nowhere, IsNewWindowPut}
@@ -62,12 +64,12 @@ is_some_count len n empty same is off = elim (cases_lt 0 n) [
 ]
 
 -- a window is that around items, whatever they stand for
-abbrev pub IsAroundItems : WindowKind → ℕ → List Item → Option Extent → Type 0
-IsAroundItems c highest items window =
+abbrev pub IsAroundItems : WindowKind → ℕ → ℕ → List Item → Option Extent → Type 0
+IsAroundItems c highest wanted items window =
     (value : Item → ItemValue) → IsValued value → AllPairs HasLowerRank (map value items)
-    → IsAround (extent_around (page_size c) highest (map item_extent (in_turn (map value items)))) window
+    → IsAround (extent_around (page_size c) highest (with_spare (spare_by c wanted highest) (map item_extent (in_turn (map value items))))) window
 
-module _ (p : Classing) (c : WindowKind) (b : Bridge) (windows : List (Option Extent)) (items : List Item)
+module _ (p : Classing) (c : WindowKind) (b : Bridge) (wanted : ℕ) (windows : List (Option Extent)) (items : List Item)
     (on : AreItemsOnBus record { classing = p; class = c; bus = b.secondary; windows = windows; kept = [] } items) (new : List (Option Extent)) where
   -- what is behind the bridge where nothing keeps its place
   abbrev behind_it : Listing
@@ -79,7 +81,7 @@ module _ (p : Classing) (c : WindowKind) (b : Bridge) (windows : List (Option Ex
   listed : (q : Request) (extent : Function → ExtentValue) → TellsClasses p q → AreBehind q p.system c extent b.secondary windows → IsListingOf (of_all q extent) behind_it
   listed q extent left behind = record { left = left; keeps_is = none_kept p.system; behind = behind }
 
-  pub none_put : length items ≡ 0 → new ≡ set windows b.secondary None → IsNewWindowPut p c b windows new true
+  pub none_put : length items ≡ 0 → new ≡ set windows b.secondary None → IsNewWindowPut p c b wanted windows new true
   none_put empty put = record {
     entry = None;
     put = put;
@@ -89,18 +91,18 @@ module _ (p : Classing) (c : WindowKind) (b : Bridge) (windows : List (Option Ex
   }
 
   module _ (some : 0 < length items) (highest : ℕ) (is_highest : highest ≡ highest_by c b.windows) where
-    around_is : (q : Request) (extent : Function → ExtentValue) → TellsClasses p q → AreBehind q p.system c extent b.secondary windows → (window : Option Extent) → IsAroundItems c highest items window
-        → IsAround (around_bus q p.system c extent b) window
+    around_is : (q : Request) (extent : Function → ExtentValue) → TellsClasses p q → AreBehind q p.system c extent b.secondary windows → (window : Option Extent) → IsAroundItems c highest wanted items window
+        → IsAround (around_bus q p.system c extent b wanted) window
     around_is q extent left behind window around =
-        subst (λ xs. IsAround (extent_around (page_size c) (highest_by c b.windows) (map item_extent xs)) window)
+        subst (λ xs. IsAround (extent_around (page_size c) (highest_by c b.windows) (with_spare (spare_by c wanted (highest_by c b.windows)) (map item_extent xs))) window)
         (turn_is behind_it items on (of_all q extent) (listed q extent left behind))
-        (subst (λ w. IsAround (extent_around (page_size c) w (map item_extent (in_turn (map (asked_item_value p.system c) items)))) window) is_highest
+        (subst (λ h. IsAround (extent_around (page_size c) h (with_spare (spare_by c wanted h) (map item_extent (in_turn (map (asked_item_value p.system c) items))))) window) is_highest
         (around (asked_item_value p.system c) (λ i. refl) (values_rise behind_it items on (of_all q extent) (listed q extent left behind))))
 
     some_count : (q : Request) (extent : Function → ExtentValue) → TellsClasses p q → AreBehind q p.system c extent b.secondary windows → 0 < length (bus_items q p.system c nothing extent b.secondary)
     some_count q extent left behind = let e = count_is behind_it items on (of_all q extent) (listed q extent left behind) in omega (arith, e, some)
 
-    pub some_put : (window : Extent) → IsExtent window → window.size < 2 ^ 64 → IsAroundItems c highest items (Some window) → new ≡ set windows b.secondary (Some window) → IsNewWindowPut p c b windows new true
+    pub some_put : (window : Extent) → IsExtent window → window.size < 2 ^ 64 → IsAroundItems c highest wanted items (Some window) → new ≡ set windows b.secondary (Some window) → IsNewWindowPut p c b wanted windows new true
     some_put window lawful small around put = record {
       entry = Some window;
       put = put;
@@ -109,7 +111,7 @@ module _ (p : Classing) (c : WindowKind) (b : Bridge) (windows : List (Option Ex
       is = λ q extent left behind. (some_count q extent left behind, around_is q extent left behind (Some window) around);
     }
 
-    pub large_put : IsAroundItems c highest items None → new ≡ set windows b.secondary (Some nowhere) → IsNewWindowPut p c b windows new false
+    pub large_put : IsAroundItems c highest wanted items None → new ≡ set windows b.secondary (Some nowhere) → IsNewWindowPut p c b wanted windows new false
     large_put around put = (
       put,
       λ q extent left behind. record {

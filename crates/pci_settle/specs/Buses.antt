@@ -21,6 +21,7 @@ use Rattle.pci_settle.specs.declared.listing.Listing.{Listing as CodeListing}
 use Rattle.pci_settle.specs.declared.over.OpenWindows.{OpenWindows}
 use Rattle.pci_settle.specs.declared.own.Terms.{Terms}
 use Rattle.pci_settle.specs.Kept.{AreKeptParts}
+use Rattle.pci_settle.specs.Slots.{demand_of}
 use Rattle.pci_settle.specs.Over.{AreOpenOver}
 use Rattle.pci_settle.specs.Spots.{IsExtent}
 use Rattle.pci_settle.specs.Turns.{HasExtent}
@@ -43,7 +44,8 @@ AreBehind q s c extent bus windows =
 
 -- ---- what items are listed by
 
--- what classes are told by: the root buses, the system, what is told of the lists, and the open windows over each bus
+-- what classes and new windows are told by: the root buses, the system, what is told of lists and slots, and the open windows over
+-- each bus
 pub record Classing : Type 0 where
   pub roots : List ℕ
   pub system : System
@@ -58,10 +60,10 @@ classing_of a t overs =
 abbrev pub classing_value : {B : Type 0} → CodeClassing B → Classing
 classing_value p = classing_of p.admitted.now p.terms p.overs.now
 
--- these open windows tell the classes of what is asked for below these roots, in lists that tell this
+-- these open windows tell the classes of what is asked for below these roots, of which this is told
 pub record TellsClasses (p : Classing) (q : Request) : Type 0 where
   pub rooted : q.roots ≡ p.roots
-  pub terms : AreTerms q.lists p.terms
+  pub terms : AreTerms (demand_of q) p.terms
   pub overs_are : AreOpenOver q p.system p.overs
 
 -- what the items of a bus in a class are listed by: the new windows over each bus, and what keeps its place

@@ -3,6 +3,7 @@ pub mod Placings
 pub mod Windows
 pub mod Turns
 pub mod Lists
+pub mod Slots
 pub mod Kept
 pub mod Tables
 pub mod PlaceTables

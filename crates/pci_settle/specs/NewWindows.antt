@@ -8,6 +8,7 @@ use Rattle.pci_spec.specs.Bus.{secondary}
 use Rattle.settle_spec.specs.FirstPlace.{Extent as ExtentValue}
 use Rattle.settle_spec.specs.Lists.{Request}
 use Rattle.settle_spec.specs.Parts.{FunctionPart}
+use Rattle.settle_spec.specs.Spares.{with_spare}
 use Rattle.settle_spec.specs.Items.{Item as ItemValue, has_of, bus_items, nothing, extent_around, new_window, window_to}
 use Rattle.pci_image.specs.declared.window.Windows.{Windows}
 use Rattle.pci_function.specs.declared.record.Bridge.{Bridge}
@@ -17,6 +18,7 @@ use Rattle.pci_settle.specs.declared.extent.Extent.{Extent}
 use Rattle.pci_settle.specs.declared.own.Terms.{Terms}
 use Rattle.pci_settle.specs.Spots.{extent_value, IsExtent}
 use Rattle.pci_settle.specs.Placings.{item_extent}
+use Rattle.pci_settle.specs.Slots.{demand_of, spare_by}
 use Rattle.pci_settle.specs.Own.{AreTerms, Asking, IsWindowOf}
 use Rattle.pci_settle.specs.Buses.{AreBehind, Classing, TellsClasses}
 
@@ -28,11 +30,12 @@ highest_by IoWindow w = if is_wide_in w.io then 0xffff_ffff else 0xffff
 highest_by MemoryWindow w = 0xffff_ffff
 highest_by PrefetchWindow w = if is_wide_in w.pref then 0xffff_ffff_ffff_ffff else 0xffff_ffff
 
--- the extent around the items of the bus behind a bridge
-abbrev pub around_bus : Request → System → WindowKind → (Function → ExtentValue) → Bridge → ExtentValue
-around_bus q s c extent b =
+-- the extent around the items of the bus behind a bridge, and the spare where addresses are wanted behind them
+abbrev pub around_bus : Request → System → WindowKind → (Function → ExtentValue) → Bridge → ℕ → ExtentValue
+around_bus q s c extent b wanted =
     extent_around (page_size c) (highest_by c b.windows)
-    (map item_extent (bus_items q s c nothing extent b.secondary))
+    (with_spare (spare_by c wanted (highest_by c b.windows))
+    (map item_extent (bus_items q s c nothing extent b.secondary)))
 
 -- there is an item, and the extent around them has 2^64 addresses or more
 pub record AreTooLarge (items : List ItemValue) (around : ExtentValue) : Type 0 where
@@ -45,38 +48,38 @@ IsEntry items around None = length items ≡ 0
 IsEntry items around (Some x) = (0 < length items) × (extent_value x ≡ around)
 
 -- what holds of the items behind a bridge, whatever is asked for
-abbrev pub OfItems : Classing → WindowKind → List (Option Extent) → Bridge → (List ItemValue → ExtentValue → Type 0) → Type 0
-OfItems p c windows b holds =
+abbrev pub OfItems : Classing → WindowKind → List (Option Extent) → Bridge → ℕ → (List ItemValue → ExtentValue → Type 0) → Type 0
+OfItems p c windows b wanted holds =
     (q : Request) (extent : Function → ExtentValue) → TellsClasses p q
     → AreBehind q p.system c extent b.secondary windows
-    → holds (bus_items q p.system c nothing extent b.secondary) (around_bus q p.system c extent b)
+    → holds (bus_items q p.system c nothing extent b.secondary) (around_bus q p.system c extent b wanted)
 
 -- what stands in a table for a window of 2^64 addresses or more: it has no place in any range
 abbrev pub nowhere : Extent
 nowhere = record { size = 2 ^ 64 - 1; alignment = 1; highest = 0 }
 
 -- the entry of the bus behind a bridge is put into a table
-pub record IsWindowPut (p : Classing) (c : WindowKind) (b : Bridge)
+pub record IsWindowPut (p : Classing) (c : WindowKind) (b : Bridge) (wanted : ℕ)
     (old new : List (Option Extent)) : Type 0 where
   pub entry : Option Extent
   pub put : new ≡ set old b.secondary entry
   pub lawful : IfSome entry IsExtent
   pub small : IfSome entry (λ e. e.size < 2 ^ 64)
-  pub is : OfItems p c old b (λ items around. IsEntry items around entry)
+  pub is : OfItems p c old b wanted (λ items around. IsEntry items around entry)
 
 -- where it has fewer than 2^64 addresses; else it is marked
-abbrev pub IsNewWindowPut : Classing → WindowKind → Bridge → List (Option Extent) → List (Option Extent) → Bool → Type 0
-IsNewWindowPut p c b old new true = IsWindowPut p c b old new
-IsNewWindowPut p c b old new false =
-    (new ≡ set old b.secondary (Some nowhere)) × OfItems p c old b AreTooLarge
+abbrev pub IsNewWindowPut : Classing → WindowKind → Bridge → ℕ → List (Option Extent) → List (Option Extent) → Bool → Type 0
+IsNewWindowPut p c b wanted old new true = IsWindowPut p c b wanted old new
+IsNewWindowPut p c b wanted old new false =
+    (new ≡ set old b.secondary (Some nowhere)) × OfItems p c old b wanted AreTooLarge
 
 -- ---- of all bridges
 
--- all is placed anew below these roots, in lists that tell this
+-- all is placed anew below these roots, as this tells of lists and slots
 pub record IsAnew (q : Request) (roots : List ℕ) (t : Terms) : Type 0 where
   pub rooted : q.roots ≡ roots
   pub anew : IsTrue q.anew
-  pub terms : AreTerms q.lists t
+  pub terms : AreTerms (demand_of q) t
 
 -- the window in a table over a bus
 abbrev pub new_window_in : List (Option Extent) → ℕ → Option ExtentValue
@@ -86,7 +89,7 @@ new_window_in windows bus = option_map extent_value (slice_index_or windows bus 
 pub record HasNewWindows (q : Request) (s : System) (c : WindowKind) (t : Terms)
     (windows : List (Option Extent)) : Type 0 where
   pub over : (bus : ℕ) → bus < 256 → new_window_in windows bus ≡ window_to q s c bus
-  pub terms : AreTerms q.lists t
+  pub terms : AreTerms (demand_of q) t
   pub behind : (bus : ℕ) → AreBehind q s c (new_window q s c) bus windows
 
 -- what is asked for, with the new windows of a class

@@ -10,7 +10,7 @@ use Rattle.pci_spec.specs.System.{System, Function, Part, Bar, Rom, Window, is_b
 use Rattle.plan_spec.specs.Plan.{same_class, greatest}
 use Rattle.plan_spec.specs.Plan as plan
 use Rattle.settle_spec.specs.FirstPlace.{Extent as ExtentValue}
-use Rattle.settle_spec.specs.Lists.{RootRange, Lists, Request}
+use Rattle.settle_spec.specs.Lists.{RootRange, Request}
 use Rattle.settle_spec.specs.Parts.{FunctionPart, is_empty}
 use Rattle.settle_spec.specs.Items.{Item as ItemValue, highest_of_bar, has_of, items_of}
 use Rattle.settle_spec.specs.PlacingLaws.{HasLowerRank}
@@ -34,18 +34,21 @@ use Rattle.pci_settle.specs.declared.over.Over.{Over}
 use Rattle.pci_settle.specs.declared.own.Situation.{Situation as CodeSituation}
 use Rattle.pci_settle.specs.declared.own.Terms.{Terms}
 use Rattle.pci_settle.specs.Kept.{kept_of}
+use Rattle.pci_settle.specs.Slots.{Demand, demand_of, spares_value}
 use Rattle.pci_settle.specs.Over.{range_holds, IsOverBus}
 use Rattle.pci_settle.specs.Spots.{extent_value}
 
--- ---- what the lists tell
+-- ---- what lists and slots tell
 
 abbrev pub last_of : List RootRange → Option ℕ
 last_of [] = None
 last_of (r ∷ more) = Some (greatest (map (λ (x : RootRange). x.range.last) (r ∷ more)))
 
-pub record AreTerms (lists : Lists) (t : Terms) : Type 0 where
-  pub io : t.has_io ≡ not (is_empty lists.io)
-  pub last : t.prefetch_last ≡ last_of lists.prefetch
+pub record AreTerms (d : Demand) (t : Terms) : Type 0 where
+  pub io : t.has_io ≡ not (is_empty d.lists.io)
+  pub last : t.prefetch_last ≡ last_of d.lists.prefetch
+  pub slots : d.slots ≡ t.slots.now.bridges.now
+  pub spares : d.spares ≡ spares_value t.slots.now
 
 -- ---- BARs
 
@@ -192,7 +195,7 @@ pub record Asking : Type 0 where
 
 -- the record is that of a function of a system, with these windows over it, this new one, and what keeps its place
 pub record IsAskedFor (a : Asking) (s : System) (f : Function) (o : Situation) (r : Record) : Type 0 where
-  pub terms : AreTerms a.request.lists o.terms
+  pub terms : AreTerms (demand_of a.request) o.terms
   pub is : IsRecordOf s f r
   pub here : function_in s o.place ≡ f
   pub probe_is : o.probe ≡ f.probe

@@ -1,8 +1,9 @@
 -- What is laid out from 0 on.
-use Rattle.std.specs.Prelude.{ℕ, ◌≡◌, ◌≤◌, ◌^◌, List, length, map, Option, None, Some, ⊤}
+use Rattle.std.specs.Prelude.{ℕ, ◌≡◌, ◌≤◌, ◌^◌, Bool, true, false, List, length, map, Option, None, Some, ⊤}
 use Rattle.std.specs.List.{insert}
 use Rattle.plan_spec.specs.Place.{range_from}
 use Rattle.settle_spec.specs.FirstPlace.{first_spot, Extent as ExtentValue}
+use Rattle.settle_spec.specs.Spares.{with_spare}
 use Rattle.pci_base.specs.declared.range.Range.{Range}
 use Rattle.pci_base.specs.Ranges.{decoded_range_of}
 use Rattle.pci_settle.specs.declared.extent.Extent.{Extent}
@@ -31,3 +32,13 @@ highests extents = map (λ (e : ExtentValue). e.highest) extents
 abbrev pub IsAround : ExtentValue → Option Extent → Type 0
 IsAround e None = 2 ^ 64 ≤ e.size
 IsAround e (Some x) = extent_value x ≡ e
+
+-- there is a spare of 2^64 addresses
+abbrev pub IsLargeSpare : Option ExtentValue → Type 0
+IsLargeSpare None = ⊥
+IsLargeSpare (Some e) = 2 ^ 64 ≤ e.size
+
+-- a spare is added to extents, or is too large
+abbrev pub IsSpareAdded : List Extent → List Extent → Option ExtentValue → Bool → Type 0
+IsSpareAdded old new spare true = map extent_value new ≡ with_spare spare (map extent_value old)
+IsSpareAdded old new spare false = IsLargeSpare spare

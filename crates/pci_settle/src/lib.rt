@@ -17,6 +17,7 @@ pub mod over;
 pub mod own;
 pub mod place;
 pub mod placing;
+pub mod slots;
 pub mod spot;
 pub mod table;
 pub mod window;

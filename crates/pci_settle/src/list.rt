@@ -1,4 +1,4 @@
-//! Lists of ranges: what a root has of them, and which lists are refused.
+//! Lists of ranges: what a root has of them, and which lists are refused. Room behind slots stands beside them.
 ghost use Rattle.std.specs.Prelude.{◌≡◌, ◌≤◌, ◌||◌, IfOk, drop, length, map, not};
 ghost use Rattle.std.specs.List.{filter, list_any};
 ghost use Rattle.pci_spec.specs.Bus.{is_root};
@@ -8,7 +8,9 @@ ghost use Rattle.settle_spec.specs.FirstPlace.{ranges_are_apart as are_ranges_ap
 ghost use Rattle.pci_tree.specs.Roots.{buses_of};
 ghost use Rattle.pci_base.specs.Ranges.{decoded_range_of};
 ghost use Rattle.pci_settle.specs.Lists.{root_range_value, lists_value};
+ghost use Rattle.pci_settle.specs.Slots.{demand_value, demand_in_io};
 
+use crate::slots::Slots;
 use pci_base::memory::OutOfMemory;
 use pci_base::range::{Range, RootRange};
 use pci_tree::roots::Roots;
@@ -17,12 +19,13 @@ use std::alloc::Allocator;
 /// The highest address of a range of I/O, and of one of memory that isn't prefetchable.
 const LAST_OF_32_BITS: u64 = 0xffff_ffff;
 
-/// A list of ranges for each class: what comes earlier is taken first.
+/// A list of ranges for each class: what comes earlier is taken first. Beside them the room that new windows get behind slots.
 #[derive(Clone, Copy, Debug)]
 pub struct Lists<'a> {
     pub io: &'a [RootRange],
     pub mem: &'a [RootRange],
     pub pref: &'a [RootRange],
+    pub slots: Slots<'a>,
 }
 
 /// Whether a range of this root is had by a root bus.
@@ -145,7 +148,19 @@ fn is_bad_list(roots: &Roots, list: &[RootRange]) -> bool
     has_bad_range(roots, list) || share_address(list)
 }
 
-impl Lists<'_> {
+impl<'a> Lists<'a> {
+    /// The list of I/O alone, with the same room behind slots.
+    pub fn io_alone(&self) -> Lists<'a>
+        ensures { demand_value result ≡ demand_in_io (demand_value self.now) }
+    {
+        Lists {
+            io: self.io,
+            mem: &[],
+            pref: &[],
+            slots: self.slots,
+        }
+    }
+
     /// Whether the lists are refused: a range is backward or of a bus that is no root, two ranges of one list share an
     /// address, or I/O or memory ends above FFFFFFFFh. Ranges of two lists may share addresses.
     pub fn are_bad(&self, roots: &Roots) -> bool

@@ -1,4 +1,4 @@
-//! What classes are told by, and what items are listed by.
+//! What classes and new windows are told by, and what items are listed by.
 use crate::extent::Extent;
 use crate::kept::Kept;
 use crate::over::OpenWindows;
@@ -9,14 +9,14 @@ use pci_place::above::Above;
 use pci_tree::admitted::Admitted;
 use std::alloc::Allocator;
 
-/// What the classes of BARs are told by.
+/// What the classes of BARs and the new windows of bridges are told by.
 #[derive(Drop)]
 pub struct Classing<'a, 's, B: Allocator> {
     pub admitted: &'a Admitted<B>,
     /// Which windows lead to each bus.
     pub aboves: &'s [Above; BUSES],
-    /// What is told of the lists of ranges.
-    pub terms: Terms,
+    /// What is told of the lists of ranges, and of room behind slots.
+    pub terms: Terms<'s>,
     /// The open windows over each bus; empty where all is placed anew.
     pub overs: &'s [OpenWindows],
 }

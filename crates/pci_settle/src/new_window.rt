@@ -1,4 +1,5 @@
-//! The new windows of bridges in a class: each is as large as what is on the bus behind where nothing keeps its place.
+//! The new windows of bridges in a class: each is as large as what is on the bus behind where nothing keeps its place, and over
+//! a slot has a spare behind that.
 ghost use Rattle.std.specs.Prelude.{◌≡◌, IfOk};
 ghost use Rattle.pci_base.specs.WindowKinds.{kind_value};
 ghost use Rattle.pci_place.specs.Above.{AreAboves, system_in, is_wide_in};
@@ -49,21 +50,35 @@ fn nowhere() -> Extent
     }
 }
 
+/// A new window that is to be made.
+#[derive(Clone, Copy)]
+struct Opening<'a> {
+    bridge: &'a Bridge,
+    class: WindowKind,
+    /// How many addresses are wanted behind its items.
+    wanted: u64,
+}
+
 /// Puts the new window of a bridge into the table, at the bus behind it: None where that has no item. False where the
 /// window would have 2^64 addresses or more, which is marked there.
 fn put_window<A: Allocator + Copy, B: Allocator>(
     alloc: A,
     classing: &Classing<B>,
-    bridge: &Bridge,
-    class: WindowKind,
+    opening: &Opening,
     windows: &mut [Option<Extent>; BUSES],
 ) -> Result<bool, OutOfMemory>
     requires above { AreAboves (system_in classing.now.admitted.now) classing.now.aboves.now }
     requires lawful { AreWindows windows.old }
     ensures put { IfOk result (IsNewWindowPut (classing_value classing.now)
-        (kind_value class) bridge.now windows.old windows.new) }
+        (kind_value opening.now.class) opening.now.bridge.now opening.now.wanted
+        windows.old windows.new) }
     ensures lawful { AreWindows windows.new }
 {
+    let Opening {
+        bridge,
+        class,
+        wanted,
+    } = *opening;
     let bus = bridge.secondary;
     let listing = Listing {
         classing,
@@ -77,7 +92,7 @@ fn put_window<A: Allocator + Copy, B: Allocator>(
         return Ok(true);
     }
     let highest = highest_in(class, &bridge.windows);
-    match window_around(alloc, class, highest, &mut items)? {
+    match window_around(alloc, class, highest, wanted, &mut items)? {
         Some(window) => {
             windows[bus as usize] = Some(window);
             Ok(true)
@@ -101,8 +116,8 @@ fn first_large(large: Option<usize>, fits: bool, function: usize) -> Option<usiz
 }
 
 /// Puts into `windows` the new window of a class over each bus behind a bridge, None where nothing of the class is
-/// behind. What is behind a bridge has higher slots than the bridge, so one pass from the highest slot down finds
-/// the windows on a bus before the one over it.
+/// behind. One over a slot has the spare that is wanted there. What is behind a bridge has higher slots than the bridge,
+/// so one pass from the highest slot down finds the windows on a bus before the one over it.
 ///
 /// The answer is None where all windows have fewer than 2^64 addresses. Else it is the index of a bridge whose window
 /// has that many or more: the last such one in slot order. The table then has an extent in the place of each such window
@@ -127,10 +142,18 @@ pub fn new_windows<A: Allocator + Copy, B: Allocator>(
     let mut large = None;
     let outline = classing.admitted.outline();
     let records = outline.records();
+    let slots = classing.terms.slots;
     for done in 0..records.len() {
         let function = records.len() - 1 - done;
-        if let Some(bridge) = &records[function].bridge {
-            let fits = put_window(alloc, classing, bridge, class, windows)?;
+        let record = &records[function];
+        if let Some(bridge) = &record.bridge {
+            let wanted = slots.wanted(record.slot, class);
+            let opening = Opening {
+                bridge,
+                class,
+                wanted,
+            };
+            let fits = put_window(alloc, classing, &opening, windows)?;
             large = first_large(large, fits, function);
         }
     }

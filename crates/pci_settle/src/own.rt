@@ -7,7 +7,8 @@ ghost use Rattle.settle_spec.specs.Items.{highest_of_bar};
 ghost use Rattle.settle_spec.specs.Lists as lists;
 ghost use Rattle.pci_base.specs.WindowKinds.{kind_value};
 ghost use Rattle.pci_place.specs.Pools.{pools_value};
-ghost use Rattle.pci_settle.specs.Lists.{root_range_value, lists_value};
+ghost use Rattle.pci_settle.specs.Lists.{root_range_value};
+ghost use Rattle.pci_settle.specs.Slots.{demand_value};
 ghost use Rattle.pci_settle.specs.Own.{AreTerms, pools_to, class_anew, bar_class_of, first_bar_register, is_left_bar, is_own_bar, IsSpanned, HasBarRegister, asked_bar_item, asked_bar_items, rom_item, asked_rom_items, asked_window_items, situation_value, asked_record_items, AreItemsOf};
 
 use crate::extent::Extent;
@@ -15,6 +16,7 @@ use crate::item::{Item, Part};
 use crate::kept::Kept;
 use crate::list::Lists;
 use crate::over::{Over, is_held};
+use crate::slots::Slots;
 use crate::window::later;
 use pci_base::image::Image;
 use pci_base::memory::OutOfMemory;
@@ -29,13 +31,15 @@ use pci_place::class::class_of_bar;
 use pci_place::pools::Pools;
 use std::alloc::Allocator;
 
-/// What the lists of ranges tell of classes.
-#[derive(Clone, Copy, Debug, PartialEq, Eq)]
-pub struct Terms {
+/// What classes and new windows are told by, of what is asked for.
+#[derive(Clone, Copy, Debug)]
+pub struct Terms<'a> {
     /// Whether there is a range of I/O: without one, I/O BARs are left.
     pub has_io: bool,
     /// The last address of prefetchable memory; None where it has no range, and prefetchable BARs are memory.
     pub prefetch_last: Option<u64>,
+    /// The room that is wanted behind slots.
+    pub slots: &'a Slots<'a>,
 }
 
 /// The greatest last address of some ranges.
@@ -49,10 +53,10 @@ fn greatest_last(list: &[RootRange]) -> u64
     last
 }
 
-impl Terms {
+impl<'a> Terms<'a> {
     /// The terms of some lists.
-    pub fn of(lists: &Lists) -> Terms
-        ensures { AreTerms (lists_value lists.now) result }
+    pub fn of(lists: &'a Lists<'a>) -> Terms<'a>
+        ensures { AreTerms (demand_value lists.now) result }
     {
         Terms {
             has_io: !lists.io.is_empty(),
@@ -61,6 +65,7 @@ impl Terms {
             } else {
                 Some(greatest_last(lists.pref))
             },
+            slots: &lists.slots,
         }
     }
 }
@@ -80,7 +85,7 @@ fn pools_to(last: u64) -> Pools
 /// The class of a BAR with these windows above it that no open window holds: without a range of prefetchable memory it
 /// is never prefetchable.
 fn class_anew(bar: &Bar, above: Above, terms: Terms) -> WindowKind
-    ensures { kind_value result ≡ class_anew bar.now above terms.prefetch_last }
+    ensures { kind_value result ≡ class_anew bar.now above terms.entry.prefetch_last }
 {
     match terms.prefetch_last {
         Some(last) => class_of_bar(bar, above, &pools_to(last)),
@@ -91,7 +96,7 @@ fn class_anew(bar: &Bar, above: Above, terms: Terms) -> WindowKind
 
 /// The class of a BAR: a prefetchable one is of the class of the open window over it that holds it.
 pub fn class_of(bar: &Bar, over: &Over, terms: Terms) -> WindowKind
-    ensures { kind_value result ≡ bar_class_of bar.now over.now terms.prefetch_last }
+    ensures { kind_value result ≡ bar_class_of bar.now over.now terms.entry.prefetch_last }
 {
     let range = Range {
         first: bar.first,
@@ -108,7 +113,7 @@ pub fn class_of(bar: &Bar, over: &Over, terms: Terms) -> WindowKind
 
 /// Whether an I/O BAR is left: there is no range of I/O, or a bridge above it has no I/O window.
 pub fn is_left_bar(bar: &Bar, above: Above, terms: Terms) -> bool
-    ensures { result ≡ is_left_bar bar.now above terms.has_io }
+    ensures { result ≡ is_left_bar bar.now above terms.entry.has_io }
 {
     bar.kind == BarKind::Io && !(terms.has_io && above.io)
 }
@@ -131,7 +136,7 @@ pub struct Situation<'a> {
     pub class: WindowKind,
     /// What is over its bus.
     pub over: &'a Over,
-    pub terms: Terms,
+    pub terms: Terms<'a>,
     /// The new window that it has as a bridge.
     pub window: Option<Extent>,
     /// What of it keeps its place.

@@ -1,17 +1,19 @@
-//! How large a new window is: as large as what is in it, raised to a page.
-ghost use Rattle.std.specs.Prelude.{◌<◌, ◌+◌, ◌^◌, IfOk, IfSome, SomeIff, [], ◌∷◌, map, max, min, length, ◌≡◌};
+//! How large a new window is: as large as what is in it, raised to a page. Over a slot it has a spare behind its items.
+ghost use Rattle.std.specs.Prelude.{◌<◌, ◌≤◌, ◌+◌, ◌^◌, IfOk, IfSome, SomeIff, [], ◌∷◌, map, max, min, length, ◌≡◌};
 ghost use Rattle.std.specs.List.{All, AllPairs};
 ghost use Rattle.std.specs.List.Sorted.{IsPermutation};
 ghost use Rattle.pci_spec.specs.Window.{page_size};
 ghost use Rattle.plan_spec.specs.Plan.{greatest};
 ghost use Rattle.settle_spec.specs.FirstPlace.{least_number};
+ghost use Rattle.settle_spec.specs.Spares.{spare_extent, with_spare};
 ghost use Rattle.settle_spec.specs.Items.{Item as ItemValue, in_turn, laid_out, end_of as end_behind, extent_around};
 ghost use Rattle.settle_spec.specs.PlacingLaws.{HasLowerRank};
 ghost use Rattle.pci_base.specs.WindowKinds.{kind_value};
 ghost use Rattle.pci_settle.specs.Spots.{extent_value, IsExtent, AreRisingRanges};
 ghost use Rattle.pci_settle.specs.Placings.{item_extent};
+ghost use Rattle.pci_settle.specs.Slots.{spare_by};
 ghost use Rattle.pci_settle.specs.Turns.{extent_of_item, HasExtent, IsValued};
-ghost use Rattle.pci_settle.specs.Windows.{laid_last, IsLaidBy, alignments, highests, IsAround};
+ghost use Rattle.pci_settle.specs.Windows.{laid_last, IsLaidBy, alignments, highests, IsAround, IsSpareAdded};
 
 use crate::extent::Extent;
 use crate::item::{Item, sort_items};
@@ -143,12 +145,53 @@ fn extents_of<A: Allocator>(alloc: A, items: &[Item]) -> Result<Vec<Extent, A>, 
     Ok(extents)
 }
 
-/// The extent of a new window around the items of a bus. They stand in slot and register order, and are then in the
-/// order in which they are placed. None where the window would have 2^64 addresses or more.
+/// The extent of a spare: whole pages, as aligned as the greatest power of two that divides their size. None where that is 2^64.
+fn spare_extent(class: WindowKind, wanted: u64, highest: u64) -> Option<Extent>
+    // a spare without addresses is none
+    requires { 0 < wanted }
+    ensures around { IsAround (spare_extent (kind_value class) wanted highest) result }
+    ensures some { IfSome result IsExtent }
+{
+    let size = raised(wanted, class.page_size())?;
+    Some(Extent {
+        size,
+        alignment: 1 << size.trailing_zeros(),
+        highest,
+    })
+}
+
+/// Adds the spare of a window to the extents of its items, where addresses are wanted behind them. False where it would have 2^64
+/// addresses.
+fn add_spare<A: Allocator>(
+    extents: &mut Vec<Extent, A>,
+    class: WindowKind,
+    wanted: u64,
+    highest: u64,
+) -> Result<bool, OutOfMemory>
+    requires { All IsExtent extents.old.items }
+    ensures added { IfOk result (IsSpareAdded extents.old.items extents.new.items
+        (spare_by (kind_value class) wanted highest)) }
+    ensures lawful { All IsExtent extents.new.items }
+    ensures some { length extents.old.items ≤ length extents.new.items }
+{
+    if wanted == 0 {
+        return Ok(true);
+    }
+    let Some(spare) = spare_extent(class, wanted, highest) else {
+        return Ok(false);
+    };
+    extents.push(spare)?;
+    Ok(true)
+}
+
+/// The extent of a new window around the items of a bus, and around the spare of as many addresses as are wanted behind them.
+/// The items stand in slot and register order, and are then in the order in which they are placed. None where the window would
+/// have 2^64 addresses or more.
 pub fn window_around<A: Allocator + Copy>(
     alloc: A,
     class: WindowKind,
     highest: u64,
+    wanted: u64,
     items: &mut Vec<Item, A>,
 ) -> Result<Option<Extent>, OutOfMemory>
     // a window around what has no extent can't be laid out
@@ -161,11 +204,15 @@ pub fn window_around<A: Allocator + Copy>(
     ensures around { IfOk result (λ window. (value : Item → ItemValue) → IsValued value
         → AllPairs HasLowerRank (map value items.old.items)
         → IsAround (extent_around (page_size (kind_value class)) highest
-        (map item_extent (in_turn (map value items.old.items)))) window) }
+        (with_spare (spare_by (kind_value class) wanted highest)
+        (map item_extent (in_turn (map value items.old.items))))) window) }
     ensures some { 0 < length items.old.items
         → IfOk result (λ window. IfSome window IsExtent) }
 {
     sort_items(items)?;
-    let extents = extents_of(alloc, items.as_slice())?;
+    let mut extents = extents_of(alloc, items.as_slice())?;
+    if !add_spare(&mut extents, class, wanted, highest)? {
+        return Ok(None);
+    }
     extent_around(alloc, class, highest, extents.as_slice())
 }

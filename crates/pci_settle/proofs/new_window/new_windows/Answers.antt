@@ -1,6 +1,5 @@
-use Rattle.std.proofs.Common.{◌≡◌, ◌+◌, ◌-◌, ◌≤◌, ℕ, length, arith, sym, ap, ◌∙◌, subst}
+use Rattle.std.proofs.Common.{◌≡◌, ◌+◌, ◌-◌, ◌≤◌, ℕ, length, arith, sym, ◌∙◌, subst}
 use Rattle.pci_base.specs.WindowKinds.{kind_value}
-use Rattle.pci_function.specs.declared.record.Record.{Record}
 use Rattle.pci_place.specs.Above.{system_in}
 use Rattle.pci_place.proofs.Records.{lent, same_count}
 use Rattle.pci_settle.specs.Buses.{classing_value}
@@ -22,17 +21,17 @@ loop-done-preserved g c =
     let has = lent s records c.records-records.ensures.value c.outline-outline.ensures.records in
     let p = classing_value c.args.classing.now in
     let class = kind_value c.args.class in
-    elim c.match-records-function.branch [
+    elim c.match-record.branch [
       | in-Some+in_ok-fits w ↦
           let put = step_put p admitted.system admitted.nested class records has c.loop-done.done c.index-records-function.result c.loop-done-test.true c.index-records-function.is
-          c.loop-done.windows c.loop-done.large c.loop-done.invariant w.in-Some.bridge (ap (λ (x : Record). x.bridge) c.index-records-function.is ∙ w.in-Some.is)
-          w.put_window.new.windows w.in_ok-fits.fits w.in_ok-fits.ensures.put w.put_window.ensures.lawful in
-          subst (λ xs. AreWindowsOrLarge p class (length s - (c.loop-done.done + 1)) xs c.match-records-function.large) (sym w.windows-is)
+          c.loop-done.windows c.loop-done.large c.loop-done.invariant w.in-Some.bridge w.in-Some.is
+          w.wanted-wanted.result w.wanted-wanted.ensures w.put_window.new.windows w.in_ok-fits.fits w.in_ok-fits.ensures.put w.put_window.ensures.lawful in
+          subst (λ xs. AreWindowsOrLarge p class (length s - (c.loop-done.done + 1)) xs c.match-record.large) (sym w.windows-is)
           (subst (AreWindowsOrLarge p class (length s - (c.loop-done.done + 1)) w.put_window.new.windows) (sym (w.large-is ∙ w.first_large-large.ensures)) put)
       | in_default w ↦
           let same = step_same p admitted.system admitted.nested class records has c.loop-done.done c.index-records-function.result c.loop-done-test.true c.index-records-function.is
-          c.loop-done.windows c.loop-done.large c.loop-done.invariant (ap (λ (x : Record). x.bridge) c.index-records-function.is ∙ w.in_default.is) in
-          subst (λ xs. AreWindowsOrLarge p class (length s - (c.loop-done.done + 1)) xs c.match-records-function.large) (sym w.windows-is)
+          c.loop-done.windows c.loop-done.large c.loop-done.invariant w.in_default.is in
+          subst (λ xs. AreWindowsOrLarge p class (length s - (c.loop-done.done + 1)) xs c.match-record.large) (sym w.windows-is)
           (subst (AreWindowsOrLarge p class (length s - (c.loop-done.done + 1)) c.loop-done.windows) (sym w.large-is) same)
     ]
 
