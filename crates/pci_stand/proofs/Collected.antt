@@ -35,6 +35,7 @@ use Rattle.pci_place.specs.Items.{no_function, function_in}
 use Rattle.pci_place.specs.Records.{IsRecordOf}
 use Rattle.pci_place.proofs.Records.{FunctionAt, same_count, function_at}
 use Rattle.pci_settle.specs.declared.own.Terms.{Terms}
+use Rattle.pci_settle.specs.Slots.{demand_of}
 use Rattle.pci_settle.specs.Own.{AreTerms, is_left_bar}
 use Rattle.pci_stand.specs.declared.region.Owner.{Owner}
 use Rattle.pci_settle.specs.declared.kept.Part.TheVariants as parts
@@ -127,7 +128,7 @@ module _ (q : Request) (s : System) (records : List Record) (has : HasRecords s 
     pub record_is : IsRecordOf s found.f r
     record_is = found.is
 
-    pub parts_more : (o : Owner) (aboves : List Above) (d : Above) (t : Terms) (lawful : All IsLawful records) → AreAboves s aboves → AreTerms q.lists t → o.function ≡ k → o.bus ≡ r.slot.bus
+    pub parts_more : (o : Owner) (aboves : List Above) (d : Above) (t : Terms) (lawful : All IsLawful records) → AreAboves s aboves → AreTerms (demand_of q) t → o.function ≡ k → o.bus ≡ r.slot.bus
         → o.level ≡ level q o.bus → o.fixed ≡ list_any (same_slot r.slot) q.fixed → o.command ≡ r.command
         → (old new : List CodeRegion) → new ≡ old ++ record_regions o (get_or aboves o.bus d) t r → ArePartsTo q s k old → ArePartsTo q s (k + 1) new
     parts_more o aboves d t lawful are_above terms at bus high fixed on old new put before =

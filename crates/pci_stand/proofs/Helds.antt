@@ -32,6 +32,7 @@ use Rattle.pci_place.specs.Items.{function_in, no_function}
 use Rattle.pci_settle.specs.declared.kept.Kept.{Kept}
 use Rattle.pci_settle.specs.declared.kept.Part.{Part as CodePart}
 use Rattle.pci_settle.specs.declared.kept.Part.TheVariants as parts
+use Rattle.pci_settle.specs.Slots.{Demand}
 use Rattle.pci_settle.specs.Kept.{spec_part, AreKeptParts}
 use Rattle.pci_settle.specs.Tables.{told, AreForward}
 use Rattle.pci_settle.specs.Keeping.{grown_of, AreKeptRanges}
@@ -109,7 +110,7 @@ module _ (held : List Held) (n : ℕ) (space : Space) (i j : ℕ) (bound : i ≤
 -- ---- parts of a system
 
 regions_by : (q p : Request) (s : System) → q.lists ≡ p.lists → system_parts q s ≡ system_parts p s
-regions_by q p s same = ap (λ ls. system_parts (record { roots = []; lists = ls; fixed = []; anew = false }) s) same
+regions_by q p s same = ap (λ ls. system_parts (record q { lists = ls }) s) same
 
 level_by : (q p : Request) (bus : ℕ) → q.roots ≡ p.roots → level q bus ≡ level p bus
 level_by q p bus same = ap (λ rs. cond (is_root rs bus) 0 (bus + 1)) same
@@ -159,9 +160,9 @@ part_forward grown forward k (parts.Window class) = forward k class
 range_forward : (grown : List (ByKind (Option Range))) → AreForward grown → (x : CodeRegion) → x.range.first ≤ x.range.last → (kept_range grown x).first ≤ (kept_range grown x).last
 range_forward grown forward x own = or_forward (told_part grown x.function x.part) x.range (part_forward grown forward x.function x.part) own
 
-module _ (roots : List ℕ) (l : Lists) (s : System) (rs : List CodeRegion) (parts : AreParts (asked roots l []) s rs) (kept : List Kept) (grown : List (ByKind (Option Range))) where
+module _ (roots : List ℕ) (d : Demand) (s : System) (rs : List CodeRegion) (parts : AreParts (asked roots d []) s rs) (kept : List Kept) (grown : List (ByKind (Option Range))) where
   abbrev q0 : Request
-  q0 = asked roots l []
+  q0 = asked roots d []
 
   abbrev chosen : List Held
   chosen = map (held_of grown) (filter (is_kept kept) rs)
@@ -190,7 +191,7 @@ module _ (roots : List ℕ) (l : Lists) (s : System) (rs : List CodeRegion) (par
       let x = chosen_from held same (get_or held k d) (Contains-get_or held k d low) in
       subst IsForward x.is (range_forward grown forward x.from (All-contains (λ (r : CodeRegion). r.range.first ≤ r.range.last) rs x.from parts.forward x.listed)))
 
-  module _ (q : Request) (keep : Keeping) (rooted : q.roots ≡ roots) (lists : q.lists ≡ l) (keeps : AreKeptParts s keep.stays kept) (ranges : AreKeptRanges s keep grown) where
+  module _ (q : Request) (keep : Keeping) (rooted : q.roots ≡ roots) (lists : q.lists ≡ d.lists) (keeps : AreKeptParts s keep.stays kept) (ranges : AreKeptRanges s keep grown) where
     module _ (x : CodeRegion) (r : FunctionPart) (in_code : Contains rs x) (in_system : Contains (system_parts q0 s) r) (same : known_of q0 s r ≡ known s x) where
       region_is : r ≡ region_value s x
       region_is = ap (λ (k : Known). k.region) same

@@ -48,6 +48,7 @@ use Rattle.pci_place.proofs.Parts.{bars_in, bars_of, rom_of, rom_there}
 use Rattle.pci_place.proofs.ClassOf.{kind_io}
 use Rattle.pci_place.proofs.Owned.{map_twice, no_rom, lacking_above}
 use Rattle.pci_settle.specs.declared.own.Terms.{Terms}
+use Rattle.pci_settle.specs.Slots.{demand_of}
 use Rattle.pci_settle.specs.Own.{AreTerms, is_left_bar}
 use Rattle.pci_stand.specs.declared.region.Owner.{Owner}
 use Rattle.pci_settle.specs.declared.kept.Part.{Part as CodePart}
@@ -151,7 +152,7 @@ pub record IsOwner (q : Request) (s : System) (f : Function) (o : Owner) (r : Re
   pub fixed : o.fixed ≡ list_any (same_slot f.slot) q.fixed
   pub command : o.command ≡ command f.image
 
-module _ (q : Request) (s : System) (f : Function) (o : Owner) (above : Above) (t : Terms) (r : Record) (owner : IsOwner q s f o r) (over : IsAbove s f.slot.bus above) (terms : AreTerms q.lists t) where
+module _ (q : Request) (s : System) (f : Function) (o : Owner) (above : Above) (t : Terms) (r : Record) (owner : IsOwner q s f o r) (over : IsAbove s f.slot.bus above) (terms : AreTerms (demand_of q) t) where
   abbrev region : Part → FunctionPart
   region p = record { function = f; part = p }
 

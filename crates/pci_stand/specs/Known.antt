@@ -7,7 +7,7 @@ use Rattle.pci_spec.specs.Decoded.{Range}
 use Rattle.pci_spec.specs.System.{System, Space, is_enabled, is_prefetchable_part, space_of}
 use Rattle.plan_spec.specs.Plan.{bridges_above}
 use Rattle.plan_spec.specs.Planning.Layout.{range_of}
-use Rattle.settle_spec.specs.Lists.{Lists, Request}
+use Rattle.settle_spec.specs.Lists.{Request}
 use Rattle.settle_spec.specs.Parts.{FunctionPart, system_parts}
 use Rattle.stand_laws.specs.Order.{level}
 use Rattle.pci_base.specs.Ranges.{decoded_range_of}
@@ -15,11 +15,18 @@ use Rattle.pci_base.specs.Space as code
 use Rattle.pci_place.specs.Items.{function_in}
 use Rattle.pci_stand.specs.declared.region.Region.{Region as CodeRegion}
 use Rattle.pci_settle.specs.Kept.{spec_part}
+use Rattle.pci_settle.specs.Slots.{Demand}
 
 -- what is asked for: nothing is placed anew
-abbrev pub asked : List ℕ → Lists → List Slot → Request
-asked roots lists fixed =
-    record { roots = roots; lists = lists; fixed = fixed; anew = false }
+abbrev pub asked : List ℕ → Demand → List Slot → Request
+asked roots d fixed = record {
+  roots = roots;
+  lists = d.lists;
+  fixed = fixed;
+  anew = false;
+  slots = d.slots;
+  spares = d.spares;
+}
 
 pub record Known : Type 0 where
   pub region : FunctionPart

@@ -4,7 +4,7 @@ ghost use Rattle.pci_spec.specs.Slot.{Slot as SlotValue};
 ghost use Rattle.pci_spec.specs.Bus.{is_root};
 ghost use Rattle.pci_tree.specs.Roots.{buses_of};
 ghost use Rattle.pci_place.specs.Above.{system_in};
-ghost use Rattle.pci_settle.specs.Lists.{lists_value};
+ghost use Rattle.pci_settle.specs.Slots.{demand_value};
 ghost use Rattle.pci_stand.specs.Flags.{AreFlags};
 ghost use Rattle.pci_stand.specs.Known.{asked, AreParts};
 
@@ -39,7 +39,7 @@ fn collect<A: Allocator, B: Allocator>(
 ) -> Result<Vec<Region, A>, OutOfMemory>
     requires { length fixed.now ≡ 65536 }
     ensures { IfOk result (λ regions. (slots : List SlotValue) → AreFlags slots fixed.now
-        → AreParts (asked admitted.now.roots (lists_value lists.now) slots) (system_in admitted.now)
+        → AreParts (asked admitted.now.roots (demand_value lists.now) slots) (system_in admitted.now)
         regions.items) }
 {
     let aboves = aboves(admitted);
@@ -69,7 +69,7 @@ pub fn regions<A: Allocator + Copy, B: Allocator>(
     fixed: &[Slot],
 ) -> Result<Vec<Region, A>, OutOfMemory>
     ensures { IfOk result (λ regions. AreParts
-        (asked admitted.now.roots (lists_value lists.now) fixed.now) (system_in admitted.now)
+        (asked admitted.now.roots (demand_value lists.now) fixed.now) (system_in admitted.now)
         regions.items) }
 {
     let flags = flags_of(alloc, fixed)?;

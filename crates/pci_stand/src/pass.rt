@@ -6,6 +6,7 @@ ghost use Rattle.settle_spec.specs.Lists.{Request};
 ghost use Rattle.pci_tree.specs.Ways.{IsBridgeToBus};
 ghost use Rattle.pci_place.specs.Above.{system_in};
 ghost use Rattle.pci_settle.specs.Lists.{lists_value};
+ghost use Rattle.pci_settle.specs.Slots.{demand_value};
 ghost use Rattle.pci_stand.specs.Boards.{IsBoard};
 ghost use Rattle.pci_stand.specs.Known.{asked};
 ghost use Rattle.pci_stand.specs.Taken.{AreApartInOrder, taken_with};
@@ -101,7 +102,7 @@ pub fn standing<A: Allocator + Copy, B: Allocator>(
     fixed: &[Slot],
 ) -> Result<Vec<Kept, A>, OutOfMemory>
     ensures { IfOk result (λ table. AreStanding
-        (asked admitted.now.roots (lists_value lists.now) fixed.now) (system_in admitted.now)
+        (asked admitted.now.roots (demand_value lists.now) fixed.now) (system_in admitted.now)
         table.items) }
 {
     let records = admitted.outline().records();

@@ -89,7 +89,7 @@ fn add_bars<A: Allocator>(
 ) -> Result<(), OutOfMemory>
     requires { All HasBarNumber bars.now }
     ensures { OnOk result
-        (out.new.items ≡ out.old.items ++ owned_bar_regions owner above terms bars.now) }
+        (out.new.items ≡ out.old.items ++ owned_bar_regions owner above terms.entry bars.now) }
 {
     for bar in bars {
         if !is_left_bar(bar, above, terms) {
@@ -174,7 +174,7 @@ pub fn add_regions<A: Allocator>(
     // a part is named by the number of its BAR's register
     requires { All HasBarNumber «record».now.bars.items }
     ensures { OnOk result
-        (out.new.items ≡ out.old.items ++ record_regions owner above terms «record».now) }
+        (out.new.items ≡ out.old.items ++ record_regions owner above terms.entry «record».now) }
 {
     add_bars(out, owner, record.bars.as_slice(), above, terms)?;
     add_windows(out, owner, record.bridge)?;

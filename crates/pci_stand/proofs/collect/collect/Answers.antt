@@ -3,7 +3,7 @@ use Rattle.std.specs.Bool.{if◌then◌else◌}
 use Rattle.pci_spec.specs.Bus.{is_root}
 use Rattle.pci_place.specs.Above.{system_in}
 use Rattle.pci_place.proofs.Records.{lent}
-use Rattle.pci_settle.specs.Lists.{lists_value}
+use Rattle.pci_settle.specs.Slots.{demand_value}
 use Rattle.pci_settle.proofs.Sized.{bars_sized}
 use Rattle.pci_stand.specs.declared.region.Owner.{Owner}
 use Rattle.pci_stand.specs.Known.{asked}
@@ -12,12 +12,12 @@ use Rattle.pci_stand.proofs.collect.collect.Goals as goal
 
 pub loop-function-init : goal.loop-function-init
 loop-function-init g c = λ slots are.
-    parts_none (asked c.args.admitted.now.roots (lists_value c.args.lists.now) slots) (system_in c.args.admitted.now) _ c.new-regions.ensures.items
+    parts_none (asked c.args.admitted.now.roots (demand_value c.args.lists.now) slots) (system_in c.args.admitted.now) _ c.new-regions.ensures.items
 
 pub add_regions-requires : goal.add_regions-requires
 add_regions-requires g c =
     let s = system_in c.args.admitted.now in
-    let q = asked c.args.admitted.now.roots (lists_value c.args.lists.now) [] in
+    let q = asked c.args.admitted.now.roots (demand_value c.args.lists.now) [] in
     let records = c.records-record-items.result.now in
     let has = lent s records c.records-record-items.ensures.value c.outline-outline.ensures.records in
     let r = c.record-item.result in
@@ -26,7 +26,7 @@ add_regions-requires g c =
 pub loop-function-preserved : goal.loop-function-preserved
 loop-function-preserved g c = λ slots are.
     let s = system_in c.args.admitted.now in
-    let q = asked c.args.admitted.now.roots (lists_value c.args.lists.now) slots in
+    let q = asked c.args.admitted.now.roots (demand_value c.args.lists.now) slots in
     let records = c.records-record-items.result.now in
     let has = lent s records c.records-record-items.ensures.value c.outline-outline.ensures.records in
     let r = c.record-item.result in
@@ -43,4 +43,4 @@ returns g c = λ slots are.
     let s = system_in c.args.admitted.now in
     let records = c.records-record-items.result.now in
     let has = lent s records c.records-record-items.ensures.value c.outline-outline.ensures.records in
-    parts_all (asked c.args.admitted.now.roots (lists_value c.args.lists.now) slots) s records has c.loop-function.function c.loop-function.regions.items c.loop-function-test.false (c.loop-function.invariant slots are)
+    parts_all (asked c.args.admitted.now.roots (demand_value c.args.lists.now) slots) s records has c.loop-function.function c.loop-function.regions.items c.loop-function-test.false (c.loop-function.invariant slots are)

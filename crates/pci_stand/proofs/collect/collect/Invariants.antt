@@ -1,7 +1,7 @@
 use Rattle.std.proofs.Common.{List}
 use Rattle.pci_spec.specs.Slot.{Slot}
 use Rattle.pci_place.specs.Above.{system_in}
-use Rattle.pci_settle.specs.Lists.{lists_value}
+use Rattle.pci_settle.specs.Slots.{demand_value}
 use Rattle.pci_stand.specs.Flags.{AreFlags}
 use Rattle.pci_stand.specs.Known.{asked}
 use Rattle.pci_stand.proofs.Collected.{ArePartsTo}
@@ -10,4 +10,4 @@ use Rattle.pci_stand.proofs.collect.collect.Given as goal
 abbrev pub invariant-loop-function : goal.invariant-loop-function
 invariant-loop-function g l =
     (slots : List Slot) → AreFlags slots l.fixed
-    → ArePartsTo (asked l.admitted.roots (lists_value l.lists) slots) (system_in l.admitted) l.function l.regions.items
+    → ArePartsTo (asked l.admitted.roots (demand_value l.fn.lists) slots) (system_in l.admitted) l.function l.regions.items

@@ -4,6 +4,7 @@ use Rattle.settle_spec.specs.Stands.{rank}
 use Rattle.pci_place.specs.Above.{system_in}
 use Rattle.pci_place.proofs.Records.{lent, same_count}
 use Rattle.pci_settle.specs.Lists.{lists_value}
+use Rattle.pci_settle.specs.Slots.{demand_value}
 use Rattle.pci_stand.specs.Boards.{IsBoard}
 use Rattle.pci_stand.specs.Known.{asked, region_value}
 use Rattle.pci_settle.specs.Kept.{AreNone}
@@ -14,7 +15,7 @@ use Rattle.pci_stand.proofs.pass.standing.Goals as goal
 pub note_all-requires-clause-ready : goal.note_all-requires-clause-ready
 note_all-requires-clause-ready g c =
     let s = system_in c.args.admitted.now in
-    let q = asked c.args.admitted.now.roots (lists_value c.args.lists.now) c.args.fixed.now in
+    let q = asked c.args.admitted.now.roots (demand_value c.args.lists.now) c.args.fixed.now in
     let records = c.records-records.result.now in
     let has = lent s records c.records-records.ensures.value c.outline.ensures.records in
     subst (All (CanBeNoted (length records))) (sym c.as_slice.ensures.value)
@@ -23,7 +24,7 @@ note_all-requires-clause-ready g c =
 pub returns : goal.returns
 returns g c =
     let s = system_in c.args.admitted.now in
-    let q = asked c.args.admitted.now.roots (lists_value c.args.lists.now) c.args.fixed.now in
+    let q = asked c.args.admitted.now.roots (demand_value c.args.lists.now) c.args.fixed.now in
     let records = c.records-records.result.now in
     let has = lent s records c.records-records.ensures.value c.outline.ensures.records in
     let admitted = c.outline.ensures.admitted in
