@@ -1,5 +1,5 @@
 -- What is asked for leaves the open windows over each bus, and in lists of I/O alone no window of memory stands.
-use Rattle.std.proofs.Common.{◌≡◌, ℕ, inl, List, map, replicate, refl, Option, None}
+use Rattle.std.proofs.Common.{◌≡◌, ℕ, inl, List, map, replicate, refl, sym, subst, Option, None}
 use Rattle.std.specs.Option.{IfSome}
 use Rattle.std.proofs.lemmas.Bool.{both_ways}
 use Rattle.std.proofs.lemmas.List.Elements.{All-replicate}
@@ -8,12 +8,11 @@ use Rattle.pci_spec.specs.Window.{IoWindow}
 use Rattle.pci_spec.specs.System.{System}
 use Rattle.pci_spec.specs.Decoded.{HasRecords}
 use Rattle.pci_spec.specs.Decoded as decoded
-use Rattle.settle_spec.specs.Lists.{Lists, Request}
+use Rattle.settle_spec.specs.Lists.{Request}
 use Rattle.settle_spec.specs.Stands.{window_part, stands}
 use Rattle.settle_laws.proofs.IoAlone.{none_in_memory}
 use Rattle.pci_base.specs.declared.memory.Refused.{Refused}
 use Rattle.pci_base.specs.declared.memory.Refused.TheVariants as refused
-use Rattle.pci_base.specs.declared.range.RootRange.{RootRange}
 use Rattle.pci_base.specs.declared.window_kind.WindowKind.{WindowKind}
 use Rattle.pci_base.specs.declared.window_kind.WindowKind.TheVariants.{Io, Memory, Prefetchable}
 use Rattle.pci_base.specs.declared.window_kind.ByKind.{ByKind}
@@ -23,20 +22,22 @@ use Rattle.pci_function.specs.Values.{record_value}
 use Rattle.pci_tree.specs.Admission.{Admission, IsAdmitted}
 use Rattle.pci_place.specs.Above.{system_in}
 use Rattle.pci_settle.specs.declared.extent.Extent.{Extent}
+use Rattle.pci_settle.specs.declared.kept.Kept.{Kept}
 use Rattle.pci_settle.specs.declared.over.OpenWindows.{OpenWindows}
 use Rattle.pci_settle.specs.declared.own.Terms.{Terms}
 use Rattle.pci_settle.specs.Spots.{IsExtent}
+use Rattle.pci_settle.specs.Slots.{Demand, demand_in_io}
 use Rattle.pci_settle.specs.Own.{AreTerms}
 use Rattle.pci_settle.specs.Buses.{AreWindows, Classing, classing_of, TellsClasses}
 use Rattle.pci_stand.specs.Known.{asked}
 use Rattle.pci_stay.specs.declared.windows.TooLarge.{TooLarge}
 use Rattle.pci_stay.specs.Windows.{AreOpenFor, HasWindowsOf, IsTooLargeOf, AreAllLawful}
-use Rattle.pci_stay.specs.Holding.{HasNewWhereStands}
-use Rattle.pci_stay.specs.Staying.{IsTooLargeInIo, asked_in_io}
+use Rattle.pci_stay.specs.Holding.{HasNewWhereStands, IsKnowing}
+use Rattle.pci_stay.specs.Staying.{AreStaying, IsTooLargeInIo, asked_in_io}
 use Rattle.pci_stay.proofs.Opened.{tree_of}
 
 -- what is asked for, by the open windows over each bus
-pub left_of : (a : Admission) (l : Lists) (fixed : List Slot) → IsAdmitted a → (records : List Record) {values : List decoded.Record} → map record_value records ≡ values → HasRecords (system_in a) values
+pub left_of : (a : Admission) (l : Demand) (fixed : List Slot) → IsAdmitted a → (records : List Record) {values : List decoded.Record} → map record_value records ≡ values → HasRecords (system_in a) values
     → (terms : Terms) → AreTerms l terms → (over : List OpenWindows) → ((q : Request) (s : System) → AreOpenFor q s records over) → TellsClasses (classing_of a terms over) (asked a.roots l fixed)
 left_of a l fixed admitted records same has terms are over opened = record {
   rooted = refl;
@@ -56,8 +57,21 @@ io_lawful io lawful Io = lawful
 io_lawful io lawful Memory = no_windows
 io_lawful io lawful Prefetchable = no_windows
 
-pub new_in_io : (p : Classing) (windows : ByKind (List (Option Extent))) (roots : List ℕ) (io : List RootRange) (fixed : List Slot) → TellsClasses p (asked_in_io roots io fixed) → HasWindowsOf p IoWindow windows.io
-    → (class : WindowKind) → HasNewWhereStands (asked_in_io roots io fixed) p class (by_kind windows class)
-new_in_io p windows roots io fixed left has Io f listed is = inl (has (asked_in_io roots io fixed) left)
-new_in_io p windows roots io fixed left has Memory f listed is = absurd (both_ways (stands (asked_in_io roots io fixed) p.system (window_part (kind_value Memory) f)) (none_in_memory (asked_in_io roots io fixed) p.system (window_part (kind_value Memory) f) refl) is)
-new_in_io p windows roots io fixed left has Prefetchable f listed is = absurd (both_ways (stands (asked_in_io roots io fixed) p.system (window_part (kind_value Prefetchable) f)) (none_in_memory (asked_in_io roots io fixed) p.system (window_part (kind_value Prefetchable) f) refl) is)
+pub new_in_io : (p : Classing) (windows : ByKind (List (Option Extent))) (roots : List ℕ) (d : Demand) (fixed : List Slot) → TellsClasses p (asked_in_io roots d fixed) → HasWindowsOf p IoWindow windows.io
+    → (class : WindowKind) → HasNewWhereStands (asked_in_io roots d fixed) p class (by_kind windows class)
+new_in_io p windows roots d fixed left has Io f listed is = inl (has (asked_in_io roots d fixed) left)
+new_in_io p windows roots d fixed left has Memory f listed is = absurd (both_ways (stands (asked_in_io roots d fixed) p.system (window_part (kind_value Memory) f)) (none_in_memory (asked_in_io roots d fixed) p.system (window_part (kind_value Memory) f) refl) is)
+new_in_io p windows roots d fixed left has Prefetchable f listed is = absurd (both_ways (stands (asked_in_io roots d fixed) p.system (window_part (kind_value Prefetchable) f)) (none_in_memory (asked_in_io roots d fixed) p.system (window_part (kind_value Prefetchable) f) refl) is)
+
+-- ---- lists that are those of I/O alone
+
+module _ (p : Classing) (roots : List ℕ) (d x : Demand) (fixed : List Slot) (same : x ≡ demand_in_io d) (left : TellsClasses p (asked roots x fixed)) where
+  pub fault_in_io : (e : Refused TooLarge) → IsTooLargeOf p IoWindow e → IsTooLargeInIo (asked_in_io roots d fixed) p.system e
+  fault_in_io e told = subst (λ y. IsTooLargeInIo (asked roots y fixed) p.system e) same (too_large_in_io p (asked roots x fixed) left e told)
+
+  pub stays_in_io : (windows : ByKind (List (Option Extent))) (table : List Kept) → HasWindowsOf p IoWindow windows.io → (IsKnowing p windows (asked roots x fixed) → AreStaying (asked roots x fixed) p.system table) → AreStaying (asked_in_io roots d fixed) p.system table
+  stays_in_io windows table has stay = subst (λ y. AreStaying (asked roots y fixed) p.system table) same (stay record {
+    left = left;
+    new = subst (λ y. (class : WindowKind) → HasNewWhereStands (asked roots y fixed) p class (by_kind windows class)) (sym same)
+        (new_in_io p windows roots d fixed (subst (λ y. TellsClasses p (asked roots y fixed)) same left) has);
+  })

@@ -12,7 +12,7 @@ use Rattle.pci_spec.specs.System.{System, Function, IsFunction, IsSystem, is_bri
 use Rattle.pci_spec.specs.Bus.{is_root, secondary, IsNested}
 use Rattle.pci_spec.specs.Decoded.{Range, HasRecords}
 use Rattle.pci_spec.specs.Decoded as decoded
-use Rattle.settle_spec.specs.Lists.{Lists, Request}
+use Rattle.settle_spec.specs.Lists.{Request}
 use Rattle.settle_spec.specs.Parts.{bridge_over}
 use Rattle.settle_spec.proofs.Nested.{at_secondary, is_no_root, one_bridge}
 use Rattle.settle_spec.proofs.BridgeOver.{over_leads, none_leads}
@@ -29,6 +29,7 @@ use Rattle.pci_place.specs.Above.{system_in}
 use Rattle.pci_place.specs.Records.{IsRecordOf}
 use Rattle.pci_place.proofs.Records.{lent, same_count}
 use Rattle.pci_settle.specs.declared.over.OpenWindows.{OpenWindows}
+use Rattle.pci_settle.specs.Slots.{Demand}
 use Rattle.pci_settle.specs.Over.{open_range, class_window, no_windows, AreClassWindows, AreOpenOver}
 use Rattle.pci_stand.specs.Known.{asked}
 use Rattle.pci_stand.proofs.OfRecord.{window_is}
@@ -154,6 +155,6 @@ all_opened q s records tree k past table are f listed = by (bridge_over s f.slot
         }
 
 -- the tree of an admission of which nothing is placed anew
-pub tree_of : (a : Admission) (l : Lists) (fixed : List Slot) → IsAdmitted a → (records : List Record) {values : List decoded.Record} → map record_value records ≡ values → HasRecords (system_in a) values
-    → IsTree (asked a.roots l fixed) (system_in a) records
+pub tree_of : (a : Admission) (d : Demand) (fixed : List Slot) → IsAdmitted a → (records : List Record) {values : List decoded.Record} → map record_value records ≡ values → HasRecords (system_in a) values
+    → IsTree (asked a.roots d fixed) (system_in a) records
 tree_of a l fixed admitted records same has = record { has = lent (system_in a) records same has; system = admitted.system; nested = admitted.nested; stands = refl }

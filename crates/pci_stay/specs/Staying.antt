@@ -1,5 +1,5 @@
 -- What a table tells of parts that stay.
-use Rattle.std.specs.Prelude.{◌≡◌, ℕ, ◌<◌, ◌≤◌, Bool, false, ◌&&◌, IsTrue, List, [], length, map, Some, slice_get, slice_index_or, ⊤}
+use Rattle.std.specs.Prelude.{◌≡◌, ℕ, ◌<◌, ◌≤◌, Bool, false, ◌&&◌, IsTrue, List, length, Some, slice_get, slice_index_or, ⊤}
 use Rattle.std.specs.List.{Contains, list_all}
 use Rattle.pci_spec.specs.Slot.{Slot}
 use Rattle.pci_spec.specs.Window.{IoWindow}
@@ -11,10 +11,9 @@ use Rattle.settle_spec.specs.Stands.{window_part, stands}
 use Rattle.settle_spec.specs.Items.{has_room_behind}
 use Rattle.pci_base.specs.declared.memory.Refused.{Refused}
 use Rattle.pci_base.specs.declared.memory.Refused.TheVariants as refused
-use Rattle.pci_base.specs.declared.range.RootRange.{RootRange}
 use Rattle.pci_base.specs.WindowKinds.{kind_value}
 use Rattle.pci_settle.specs.declared.kept.Kept.{Kept}
-use Rattle.pci_settle.specs.Lists.{root_range_value}
+use Rattle.pci_settle.specs.Slots.{Demand, demand_in_io}
 use Rattle.pci_settle.specs.Kept.{kept_of, nothing_kept}
 use Rattle.pci_settle.specs.NewWindows.{IsTooLarge}
 use Rattle.pci_stand.specs.declared.region.Region.{Region as CodeRegion}
@@ -64,9 +63,8 @@ abbrev pub AreStaying : Request → System → List Kept → Type 0
 AreStaying q s table = AreStayingBy q s (has_room_behind q s) table
 
 -- what is asked for in lists of I/O alone
-abbrev pub asked_in_io : List ℕ → List RootRange → List Slot → Request
-asked_in_io roots io fixed =
-    asked roots record { io = map root_range_value io; memory = []; prefetch = [] } fixed
+abbrev pub asked_in_io : List ℕ → Demand → List Slot → Request
+asked_in_io roots d fixed = asked roots (demand_in_io d) fixed
 
 -- a new window of I/O is too large, or there was no memory
 abbrev pub IsTooLargeInIo : Request → System → Refused TooLarge → Type 0

@@ -8,6 +8,7 @@ ghost use Rattle.pci_tree.specs.Ways.{IsBridgeToBus};
 ghost use Rattle.pci_place.specs.Above.{AreAboves, system_in};
 ghost use Rattle.pci_settle.specs.Buses.{classing_value};
 ghost use Rattle.pci_settle.specs.Lists.{lists_value};
+ghost use Rattle.pci_settle.specs.Slots.{demand_value};
 ghost use Rattle.pci_stand.specs.Boards.{IsBoard};
 ghost use Rattle.pci_stand.specs.Known.{asked, AreParts};
 ghost use Rattle.pci_stand.specs.Passing.{CanBeNoted};
@@ -18,7 +19,6 @@ ghost use Rattle.pci_stay.specs.Staying.{HoldsWhereStands, IsStayedTo, AreStayin
 use crate::holding::{Behind, hold_all};
 use crate::windows::{TooLarge, all_windows, io_windows, open_windows, unknown_beside};
 use pci_base::memory::{OutOfMemory, Refused};
-use pci_base::range::RootRange;
 use pci_base::slot::{BUSES, Slot};
 use pci_base::window_kind::ByKind;
 use pci_function::record::Record;
@@ -93,8 +93,8 @@ fn stay_by<'b, A: Allocator + Copy, B: Allocator>(
     requires above { AreAboves (system_in classing.now.admitted.now) classing.now.aboves.now }
     requires lawful { AreAllLawful windows.now }
     ensures { IfOk result (λ table. IsKnowing (classing_value classing.now) windows.now
-        (asked classing.now.admitted.now.roots (lists_value lists.now) fixed.now)
-        → AreStaying (asked classing.now.admitted.now.roots (lists_value lists.now) fixed.now)
+        (asked classing.now.admitted.now.roots (demand_value lists.now) fixed.now)
+        → AreStaying (asked classing.now.admitted.now.roots (demand_value lists.now) fixed.now)
         (system_in classing.now.admitted.now) table.items) }
 {
     let admitted = classing.admitted;
@@ -130,10 +130,10 @@ pub fn staying<A: Allocator + Copy, B: Allocator>(
     fixed: &[Slot],
 ) -> Result<Vec<Kept, A>, Refused<TooLarge>>
     ensures stay { IfOk result (λ table. AreStaying
-        (asked admitted.now.roots (lists_value lists.now) fixed.now) (system_in admitted.now)
+        (asked admitted.now.roots (demand_value lists.now) fixed.now) (system_in admitted.now)
         table.items) }
     ensures fault { IfErr result (IsTooLargeFor
-        (asked admitted.now.roots (lists_value lists.now) fixed.now) (system_in admitted.now)) }
+        (asked admitted.now.roots (demand_value lists.now) fixed.now) (system_in admitted.now)) }
 {
     let aboves = aboves(admitted);
     let records = admitted.outline().records();
@@ -152,25 +152,23 @@ pub fn staying<A: Allocator + Copy, B: Allocator>(
     Ok(table)
 }
 
-/// The same in lists of I/O alone, where no part in memory stands: how large new windows of memory are makes no difference.
+/// The same in the list of I/O alone, where no part in memory stands: how large new windows of memory are makes no difference.
 ///
 /// A bridge is named whose new window of I/O would have 2^64 addresses or more.
 pub fn staying_in_io<A: Allocator + Copy, B: Allocator>(
     alloc: A,
     admitted: &Admitted<B>,
-    io: &[RootRange],
+    lists: &Lists,
     fixed: &[Slot],
 ) -> Result<Vec<Kept, A>, Refused<TooLarge>>
-    ensures stay { IfOk result (λ table. AreStaying (asked_in_io admitted.now.roots io.now fixed.now)
-        (system_in admitted.now) table.items) }
-    ensures fault { IfErr result (IsTooLargeInIo (asked_in_io admitted.now.roots io.now fixed.now)
+    ensures stay { IfOk result (λ table. AreStaying
+        (asked_in_io admitted.now.roots (demand_value lists.now) fixed.now) (system_in admitted.now)
+        table.items) }
+    ensures fault { IfErr result (IsTooLargeInIo
+        (asked_in_io admitted.now.roots (demand_value lists.now) fixed.now)
         (system_in admitted.now)) }
 {
-    let lists = Lists {
-        io,
-        mem: &[],
-        pref: &[],
-    };
+    let lists = lists.io_alone();
     let aboves = aboves(admitted);
     let opened = open_windows(admitted.outline().records());
     let classing = Classing {
