@@ -19,6 +19,7 @@ use Rattle.pci_base.specs.declared.range.Range.{Range}
 use Rattle.pci_settle.specs.declared.extent.Extent.{Extent}
 use Rattle.pci_settle.specs.declared.own.Terms.{Terms}
 use Rattle.pci_settle.specs.Spots.{IsExtent}
+use Rattle.pci_settle.specs.Slots.{Demand}
 use Rattle.pci_settle.specs.Own.{AreTerms}
 use Rattle.pci_settle.specs.Buses.{AreWindows}
 use Rattle.pci_settle.specs.declared.over.Left.{Left}
@@ -121,25 +122,28 @@ still_none s start table count none kept k f d part at there of =
     let inside = slice_get_within s k f at in
     kept.others k f d part at there (λ io. not_both (space_of f part) io of) ∙ none k d part (omega (arith, inside, count))
 
-module _ (roots : List ℕ) (s : System) (l : Lists) (t : Terms) (terms : AreTerms l t) (left : Left) (held : List Held) (are : AreHeldIn roots s l left.kept.now left.grown.now held) (st : Staying) (left_is : st.left ≡ left) (held_is : st.held.now ≡ held) where
-  stay_of : (q : Request) (keep : Kept) → IsLeaving q keep roots s l left → IsStaying q keep (setting roots s t st)
+module _ (roots : List ℕ) (s : System) (d : Demand) (t : Terms) (terms : AreTerms d t) (left : Left) (held : List Held) (are : AreHeldIn roots s d.lists left.kept.now left.grown.now held) (st : Staying) (left_is : st.left ≡ left) (held_is : st.held.now ≡ held) where
+  same_lists : (q : Request) (keep : Kept) → IsLeaving q keep roots s d left → q.lists ≡ d.lists
+  same_lists q keep leaving = ap (λ (x : Demand). x.lists) leaving.demands
+
+  stay_of : (q : Request) (keep : Kept) → IsLeaving q keep roots s d left → IsStaying q keep (setting roots s t st)
   stay_of q keep leaving = record {
     left = record {
       rooted = leaving.rooted;
-      terms = subst (λ x. AreTerms x t) (sym leaving.lists) terms;
+      terms = subst (λ x. AreTerms x t) (sym leaving.demands) terms;
       overs_are = subst (λ (x : Left). AreOpenOver q s x.over.now) (sym left_is) leaving.overs_are;
     };
     keeps_is = subst (TellsKept q s keep) (sym left_is) leaving.keeps_is;
-    held_is = subst (AreHeld q s keep) (sym held_is) (are q keep leaving.rooted leaving.lists leaving.keeps_is.stays_are leaving.keeps_is.ranges_are);
+    held_is = subst (AreHeld q s keep) (sym held_is) (are q keep leaving.rooted (same_lists q keep leaving) leaving.keeps_is.stays_are leaving.keeps_is.ranges_are);
   }
 
-  pub request_known : CanBeLeft roots s l left → KnowsRequest (setting roots s t st) l
-  request_known can = record { request = can.request; keep = can.keep; stay = stay_of can.request can.keep can.leaving; lists = can.leaving.lists }
+  pub request_known : CanBeLeft roots s d left → KnowsRequest (setting roots s t st) d.lists
+  request_known can = record { request = can.request; keep = can.keep; stay = stay_of can.request can.keep can.leaving; lists = same_lists can.request can.keep can.leaving }
 
-  pub both_placed : (first table : List Places) → length table ≡ length s → HasPlacesIn (setting roots s t st) Io l first → KeepsOtherSpace s Memory first table → HasPlacesIn (setting roots s t st) Memory l table → ArePlacesOff roots s l left table
+  pub both_placed : (first table : List Places) → length table ≡ length s → HasPlacesIn (setting roots s t st) Io d.lists first → KeepsOtherSpace s Memory first table → HasPlacesIn (setting roots s t st) Memory d.lists table → ArePlacesOff roots s d left table
   both_placed first table count io kept memory q keep leaving =
-      let placed = io q keep (stay_of q keep leaving) leaving.lists in
-      let other = memory q keep (stay_of q keep leaving) leaving.lists in
+      let placed = io q keep (stay_of q keep leaving) (same_lists q keep leaving) in
+      let other = memory q keep (stay_of q keep leaving) (same_lists q keep leaving) in
       record {
         count = count;
         lack = lacking_memory q s keep q.roots placed.lack ∙ other.lack;
@@ -149,19 +153,19 @@ module _ (roots : List ℕ) (s : System) (l : Lists) (t : Terms) (terms : AreTer
         ];
       }
 
-  pub io_unplaced : (e : Refused Unplaced) → IsUnplacedIn (setting roots s t st) Io l e → IsUnplacedOff roots s l left e
+  pub io_unplaced : (e : Refused Unplaced) → IsUnplacedIn (setting roots s t st) Io d.lists e → IsUnplacedOff roots s d left e
   io_unplaced refused.Memory is = tt
-  io_unplaced (refused.Fault (unplaced.Lacks x)) is = λ q keep leaving. lacking_io q s keep q.roots (candidate_value s x) (is q keep (stay_of q keep leaving) leaving.lists)
+  io_unplaced (refused.Fault (unplaced.Lacks x)) is = λ q keep leaving. lacking_io q s keep q.roots (candidate_value s x) (is q keep (stay_of q keep leaving) (same_lists q keep leaving))
   io_unplaced (refused.Fault (unplaced.TooLarge class k)) (of, is) = λ q keep leaving. record {
-    large = is q keep (stay_of q keep leaving) leaving.lists;
+    large = is q keep (stay_of q keep leaving) (same_lists q keep leaving);
     io = λ memory. absurd (not_both (window_space (kind_value class)) of memory);
   }
 
-  pub memory_unplaced : (first : List Places) → HasPlacesIn (setting roots s t st) Io l first → (e : Refused Unplaced) → IsUnplacedIn (setting roots s t st) Memory l e → IsUnplacedOff roots s l left e
+  pub memory_unplaced : (first : List Places) → HasPlacesIn (setting roots s t st) Io d.lists first → (e : Refused Unplaced) → IsUnplacedIn (setting roots s t st) Memory d.lists e → IsUnplacedOff roots s d left e
   memory_unplaced first io refused.Memory is = tt
   memory_unplaced first io (refused.Fault (unplaced.Lacks x)) is = λ q keep leaving.
-      lacking_memory q s keep q.roots (io q keep (stay_of q keep leaving) leaving.lists).lack ∙ is q keep (stay_of q keep leaving) leaving.lists
+      lacking_memory q s keep q.roots (io q keep (stay_of q keep leaving) (same_lists q keep leaving)).lack ∙ is q keep (stay_of q keep leaving) (same_lists q keep leaving)
   memory_unplaced first io (refused.Fault (unplaced.TooLarge class k)) (of, is) = λ q keep leaving. record {
-    large = is q keep (stay_of q keep leaving) leaving.lists;
-    io = λ memory. (io q keep (stay_of q keep leaving) leaving.lists).lack;
+    large = is q keep (stay_of q keep leaving) (same_lists q keep leaving);
+    io = λ memory. (io q keep (stay_of q keep leaving) (same_lists q keep leaving)).lack;
   }

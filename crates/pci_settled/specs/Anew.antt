@@ -2,12 +2,13 @@
 use Rattle.std.specs.Prelude.{◌≡◌, ℕ, IsTrue, List, Some, ⊤}
 use Rattle.pci_spec.specs.Window.{WindowKind}
 use Rattle.pci_spec.specs.System.{System}
-use Rattle.settle_spec.specs.Lists.{Lists, Request}
+use Rattle.settle_spec.specs.Lists.{Request}
 use Rattle.settle_spec.specs.Kept.{as_it_stands}
 use Rattle.settle_spec.specs.Keeping.Places.{lacking}
 use Rattle.pci_base.specs.declared.memory.Refused.{Refused}
 use Rattle.pci_base.specs.declared.memory.Refused.TheVariants as refused
 use Rattle.pci_base.specs.WindowKinds.{kind_value}
+use Rattle.pci_settle.specs.Slots.{Demand, demand_of}
 use Rattle.pci_settled.specs.declared.places.Places.{Places}
 use Rattle.pci_settled.specs.declared.anew.Unplaced.{Unplaced}
 use Rattle.pci_settled.specs.declared.anew.Unplaced.TheVariants as unplaced
@@ -15,11 +16,11 @@ use Rattle.pci_settled.specs.Candidates.{candidate_value}
 use Rattle.pci_settled.specs.Placed.{ArePartsPlaced}
 use Rattle.pci_settled.specs.Placed as placed
 
--- all is placed anew below these roots, in these lists
-pub record IsAnewIn (q : Request) (roots : List ℕ) (l : Lists) : Type 0 where
+-- all is placed anew below these roots, in these lists and behind these slots
+pub record IsAnewIn (q : Request) (roots : List ℕ) (d : Demand) : Type 0 where
   pub rooted : q.roots ≡ roots
   pub anew : IsTrue q.anew
-  pub lists : q.lists ≡ l
+  pub demands : demand_of q ≡ d
 
 -- each part of a function has the place that it gets
 abbrev pub ArePlacedAnew : Request → System → List Places → Type 0
@@ -29,12 +30,12 @@ ArePlacedAnew q s table = ArePartsPlaced q s (as_it_stands q s) table
 abbrev pub IsTooLargeAnew : Request → System → WindowKind → ℕ → Type 0
 IsTooLargeAnew q s c k = placed.IsFirstWindowTooLarge q s (as_it_stands q s) c k
 
-abbrev pub AreNewPlaces : List ℕ → System → Lists → List Places → Type 0
-AreNewPlaces roots s l table = (q : Request) → IsAnewIn q roots l → ArePlacedAnew q s table
+abbrev pub AreNewPlaces : List ℕ → System → Demand → List Places → Type 0
+AreNewPlaces roots s d table = (q : Request) → IsAnewIn q roots d → ArePlacedAnew q s table
 
-abbrev pub IsUnplaced : List ℕ → System → Lists → Refused Unplaced → Type 0
-IsUnplaced roots s l refused.Memory = ⊤
-IsUnplaced roots s l (refused.Fault (unplaced.Lacks x)) =
-    (q : Request) → IsAnewIn q roots l → lacking q s (as_it_stands q s) ≡ Some (candidate_value s x)
-IsUnplaced roots s l (refused.Fault (unplaced.TooLarge class k)) =
-    (q : Request) → IsAnewIn q roots l → IsTooLargeAnew q s (kind_value class) k
+abbrev pub IsUnplaced : List ℕ → System → Demand → Refused Unplaced → Type 0
+IsUnplaced roots s d refused.Memory = ⊤
+IsUnplaced roots s d (refused.Fault (unplaced.Lacks x)) =
+    (q : Request) → IsAnewIn q roots d → lacking q s (as_it_stands q s) ≡ Some (candidate_value s x)
+IsUnplaced roots s d (refused.Fault (unplaced.TooLarge class k)) =
+    (q : Request) → IsAnewIn q roots d → IsTooLargeAnew q s (kind_value class) k

@@ -10,6 +10,7 @@ use Rattle.pci_base.specs.declared.memory.Refused.TheVariants as refused
 use Rattle.pci_base.specs.WindowKinds.{kind_value}
 use Rattle.pci_settle.specs.declared.extent.Extent.{Extent}
 use Rattle.pci_settle.specs.declared.over.Left.{Left}
+use Rattle.pci_settle.specs.Slots.{Demand, demand_of}
 use Rattle.pci_settle.specs.Over.{AreOpenOver}
 use Rattle.pci_settle.specs.Keeping.{TellsKept}
 use Rattle.pci_settle.specs.NewWindows.{HasNewWindows, IsTooLarge}
@@ -86,30 +87,31 @@ pub record IsFirstWindowTooLarge (q : Request) (s : System) (keep : Kept) (c : W
 
 -- ---- whatever is asked for
 
--- what is asked for below these roots, in these lists, leaves these windows where they stand, and keeps this
-pub record IsLeaving (q : Request) (keep : Kept) (roots : List ℕ) (s : System) (l : Lists)
+-- what is asked for below these roots, in these lists and behind these slots, leaves these windows where they stand, and keeps
+-- this
+pub record IsLeaving (q : Request) (keep : Kept) (roots : List ℕ) (s : System) (d : Demand)
     (left : Left) : Type 0 where
   pub rooted : q.roots ≡ roots
-  pub lists : q.lists ≡ l
+  pub demands : demand_of q ≡ d
   pub overs_are : AreOpenOver q s left.over.now
   pub keeps_is : TellsKept q s keep left
 
 -- something can be asked for that leaves them
-pub record CanBeLeft (roots : List ℕ) (s : System) (l : Lists) (left : Left) : Type 0 where
+pub record CanBeLeft (roots : List ℕ) (s : System) (d : Demand) (left : Left) : Type 0 where
   pub request : Request
   pub keep : Kept
-  pub leaving : IsLeaving request keep roots s l left
+  pub leaving : IsLeaving request keep roots s d left
 
 -- all that doesn't stay has its place
-abbrev pub ArePlacesOff : List ℕ → System → Lists → Left → List Places → Type 0
-ArePlacesOff roots s l left table =
-    (q : Request) (keep : Kept) → IsLeaving q keep roots s l left → ArePartsPlaced q s keep table
+abbrev pub ArePlacesOff : List ℕ → System → Demand → Left → List Places → Type 0
+ArePlacesOff roots s d left table =
+    (q : Request) (keep : Kept) → IsLeaving q keep roots s d left → ArePartsPlaced q s keep table
 
 -- an item on the roots is the first that lacks a place, or a new window is too large, or there was no memory
-abbrev pub IsUnplacedOff : List ℕ → System → Lists → Left → Refused Unplaced → Type 0
-IsUnplacedOff roots s l left refused.Memory = ⊤
-IsUnplacedOff roots s l left (refused.Fault (unplaced.Lacks x)) =
-    (q : Request) (keep : Kept) → IsLeaving q keep roots s l left → lacking q s keep ≡ Some (candidate_value s x)
-IsUnplacedOff roots s l left (refused.Fault (unplaced.TooLarge class k)) =
-    (q : Request) (keep : Kept) → IsLeaving q keep roots s l left
+abbrev pub IsUnplacedOff : List ℕ → System → Demand → Left → Refused Unplaced → Type 0
+IsUnplacedOff roots s d left refused.Memory = ⊤
+IsUnplacedOff roots s d left (refused.Fault (unplaced.Lacks x)) =
+    (q : Request) (keep : Kept) → IsLeaving q keep roots s d left → lacking q s keep ≡ Some (candidate_value s x)
+IsUnplacedOff roots s d left (refused.Fault (unplaced.TooLarge class k)) =
+    (q : Request) (keep : Kept) → IsLeaving q keep roots s d left
     → IsFirstWindowTooLarge q s keep (kind_value class) k

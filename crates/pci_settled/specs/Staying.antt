@@ -12,7 +12,7 @@ use Rattle.pci_stand.specs.Held.{AreHeld}
 use Rattle.pci_settled.specs.declared.staying.Staying.{Staying}
 use Rattle.pci_settled.specs.declared.setting.Setting as declared
 
--- what places are found by: the root buses, the system, what is told of the lists, and what stays
+-- what places are found by: the root buses, the system, what is told of lists and slots, and what stays
 pub record Setting : Type 0 where
   pub roots : List ℕ
   pub system : System
@@ -37,7 +37,7 @@ classing p = record {
   overs = p.staying.left.over.now;
 }
 
--- what is asked for below its roots, in lists that tell its terms, leaves these windows where they stand, and keeps this
+-- what is asked for below its roots, of which its terms are told, leaves these windows where they stand, and keeps this
 pub record IsStaying (q : Request) (keep : Kept) (p : Setting) : Type 0 where
   pub left : TellsClasses (classing p) q
   pub keeps_is : TellsKept q p.system keep p.staying.left

@@ -1,7 +1,7 @@
 //! The new places of all that is placed where nothing stands.
 ghost use Rattle.std.specs.Prelude.{IfOk, IfErr};
 ghost use Rattle.pci_place.specs.Above.{system_in};
-ghost use Rattle.pci_settle.specs.Lists.{lists_value};
+ghost use Rattle.pci_settle.specs.Slots.{demand_value};
 ghost use Rattle.pci_settled.specs.Anew.{AreNewPlaces, IsUnplaced};
 
 use crate::candidate::Candidate;
@@ -31,9 +31,9 @@ pub fn place_anew<A: Allocator + Copy, B: Allocator>(
     lists: &Lists,
 ) -> Result<Vec<Places, A>, Refused<Unplaced>>
     ensures places { IfOk result (λ table. AreNewPlaces admitted.now.roots (system_in admitted.now)
-        (lists_value lists.now) table.items) }
+        (demand_value lists.now) table.items) }
     ensures fault { IfErr result (IsUnplaced admitted.now.roots (system_in admitted.now)
-        (lists_value lists.now)) }
+        (demand_value lists.now)) }
 {
     let nothing = Left {
         over: &[],

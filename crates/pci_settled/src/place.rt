@@ -4,6 +4,7 @@ ghost use Rattle.pci_base.specs.Space.{space_of};
 ghost use Rattle.pci_base.specs.WindowKinds.{kind_value};
 ghost use Rattle.pci_place.specs.Above.{AreAboves, system_in};
 ghost use Rattle.pci_settle.specs.Lists.{lists_value};
+ghost use Rattle.pci_settle.specs.Slots.{demand_value};
 ghost use Rattle.pci_settle.specs.Own.{AreTerms};
 ghost use Rattle.pci_settle.specs.Buses.{AreWindows};
 ghost use Rattle.pci_settled.specs.Candidates.{AreSpaceWindows, HasWindowsIn, KnowsRequest};
@@ -98,7 +99,7 @@ fn place_in<A: Allocator + Copy, B: Allocator>(
     table: &mut [Places],
 ) -> Result<(), Refused<Unplaced>>
     requires above { AreAboves (system_in setting.now.admitted.now) setting.now.aboves.now }
-    requires terms { AreTerms (lists_value lists.now) setting.now.terms }
+    requires terms { AreTerms (demand_value lists.now) setting.now.terms }
     requires held { AreByLevel setting.now.staying.held.now }
     requires known { KnowsRequest (setting_value setting.now) (lists_value lists.now) }
     requires count { length table.old ≡ length (system_in setting.now.admitted.now) }
@@ -145,11 +146,11 @@ pub fn place<A: Allocator + Copy, B: Allocator>(
     left: &Left,
 ) -> Result<Vec<Places, A>, Refused<Unplaced>>
     // it is what stays of something that is asked for
-    requires { CanBeLeft admitted.now.roots (system_in admitted.now) (lists_value lists.now) left.now }
+    requires { CanBeLeft admitted.now.roots (system_in admitted.now) (demand_value lists.now) left.now }
     ensures places { IfOk result (λ table. ArePlacesOff admitted.now.roots (system_in admitted.now)
-        (lists_value lists.now) left.now table.items) }
+        (demand_value lists.now) left.now table.items) }
     ensures fault { IfErr result (IsUnplacedOff admitted.now.roots (system_in admitted.now)
-        (lists_value lists.now) left.now) }
+        (demand_value lists.now) left.now) }
 {
     let aboves = aboves(admitted);
     let terms = Terms::of(lists);

@@ -14,8 +14,8 @@ pub struct Setting<'a, 's, B: Allocator> {
     pub admitted: &'a Admitted<B>,
     /// Which windows lead to each bus: they decide the class of a BAR.
     pub aboves: &'s [Above; BUSES],
-    /// What is told of the lists of ranges.
-    pub terms: Terms,
+    /// What is told of the lists of ranges, and of room behind slots.
+    pub terms: Terms<'s>,
     pub staying: Staying<'s>,
 }
 

@@ -5,6 +5,7 @@ ghost use Rattle.pci_base.specs.Space.{space_of};
 ghost use Rattle.pci_tree.specs.Roots.{buses_of};
 ghost use Rattle.pci_place.specs.Above.{AreAboves, system_in};
 ghost use Rattle.pci_settle.specs.Lists.{lists_value};
+ghost use Rattle.pci_settle.specs.Slots.{demand_value};
 ghost use Rattle.pci_settle.specs.Own.{AreTerms};
 ghost use Rattle.pci_stand.specs.Held.{AreByLevel};
 ghost use Rattle.pci_settled.specs.Candidates.{AreSpaceWindows, HasWindowsIn, KnowsWindows, KnowsRequest, pass_value};
@@ -50,7 +51,7 @@ fn place_on_roots<A: Allocator + Copy, B: Allocator>(
 ) -> Result<Option<Candidate>, OutOfMemory>
     requires above { AreAboves (system_in pass.now.setting.now.admitted.now)
         pass.now.setting.now.aboves.now }
-    requires terms { AreTerms (lists_value lists.now) pass.now.setting.now.terms }
+    requires terms { AreTerms (demand_value lists.now) pass.now.setting.now.terms }
     requires held { AreByLevel pass.now.setting.now.staying.held.now }
     requires lawful { AreSpaceWindows pass.now.windows.now }
     requires known { KnowsWindows (pass_value pass.now) }
@@ -129,7 +130,7 @@ pub fn place_space<A: Allocator + Copy, B: Allocator>(
     requires above { AreAboves (system_in pass.now.setting.now.admitted.now)
         pass.now.setting.now.aboves.now }
     // whether prefetchable memory may lie above 4 GB is told by the lists
-    requires terms { AreTerms (lists_value lists.now) pass.now.setting.now.terms }
+    requires terms { AreTerms (demand_value lists.now) pass.now.setting.now.terms }
     // what stays on a bus is found by halving
     requires held { AreByLevel pass.now.setting.now.staying.held.now }
     // places are looked for by sizes and alignments

@@ -7,7 +7,7 @@ use Rattle.pci_function.specs.declared.record.Record.{Record}
 use Rattle.pci_function.specs.Values.{record_value}
 use Rattle.pci_place.specs.Above.{system_in}
 use Rattle.pci_place.proofs.Records.{lent, same_count}
-use Rattle.pci_settle.specs.Lists.{lists_value}
+use Rattle.pci_settle.specs.Slots.{demand_value}
 use Rattle.pci_settled.specs.declared.places.Places.{Places}
 use Rattle.pci_settled.specs.Placed.{AreAllNone, ArePlacesOff}
 use Rattle.pci_settled.proofs.Buses.{slice_back}
@@ -28,7 +28,7 @@ place_in-requires-clause-none g c =
 pub returns-in_err-place_in-clause-fault : goal.returns-in_err-place_in-clause-fault
 returns-in_err-place_in-clause-fault g c =
     let p = err_from_is_err_and c.from_residual-in_err-place_in.result c.from_residual-in_err-place_in.ensures.1 in
-    rw (p.1, p.2) (io_unplaced c.args.admitted.now.roots (system_in c.args.admitted.now) (lists_value c.args.lists.now) _ c.of-terms.ensures c.args.left.now _ c.in_ok-held.ensures.held _ refl c.as_slice.ensures.value c.in_err-place_in.field-0.0 c.in_err-place_in.ensures.fault)
+    rw (p.1, p.2) (io_unplaced c.args.admitted.now.roots (system_in c.args.admitted.now) (demand_value c.args.lists.now) _ c.of-terms.ensures c.args.left.now _ c.in_ok-held.ensures.held _ refl c.as_slice.ensures.value c.in_err-place_in.field-0.0 c.in_err-place_in.ensures.fault)
 
 pub place_in-requires-2-clause-none : goal.place_in-requires-2-clause-none
 place_in-requires-2-clause-none g c =
@@ -41,7 +41,7 @@ pub returns-in_err-place_in-2-clause-fault : goal.returns-in_err-place_in-2-clau
 returns-in_err-place_in-2-clause-fault g c =
     let p = err_from_is_err_and c.from_residual-in_err-place_in-2.result c.from_residual-in_err-place_in-2.ensures.1 in
     rw (p.1, p.2)
-    (memory_unplaced c.args.admitted.now.roots (system_in c.args.admitted.now) (lists_value c.args.lists.now) _ c.of-terms.ensures c.args.left.now _ c.in_ok-held.ensures.held _ refl c.as_slice.ensures.value c.place_in.new.table c.in_ok-place_in.ensures.placed c.in_err-place_in-2.field-0.0 c.in_err-place_in-2.ensures.fault)
+    (memory_unplaced c.args.admitted.now.roots (system_in c.args.admitted.now) (demand_value c.args.lists.now) _ c.of-terms.ensures c.args.left.now _ c.in_ok-held.ensures.held _ refl c.as_slice.ensures.value c.place_in.new.table c.in_ok-place_in.ensures.placed c.in_err-place_in-2.field-0.0 c.in_err-place_in-2.ensures.fault)
 
 pub returns-clause-places : goal.returns-clause-places
 returns-clause-places g c =
@@ -49,13 +49,13 @@ returns-clause-places g c =
     let count = as_many s c.records.result.now c.records.ensures.value c.outline.ensures.records c.in_ok-table.table.items c.in_ok-table.ensures.count in
     let long = c.in_ok-table.table.ok.0 in
     let even = c.in_ok-place_in-2.ensures.others.count ∙ c.in_ok-place_in.ensures.others.count ∙ ap length c.as_mut_slice-entries.ensures.value in
-    subst (ArePlacesOff c.args.admitted.now.roots s (lists_value c.args.lists.now) c.args.left.now) (sym (slice_back c.in_ok-table.table.len c.place_in-2.new.table c.in_ok-table.table.items even (omega (arith, long))))
-    (both_placed c.args.admitted.now.roots (system_in c.args.admitted.now) (lists_value c.args.lists.now) _ c.of-terms.ensures c.args.left.now _ c.in_ok-held.ensures.held _ refl c.as_slice.ensures.value c.place_in.new.table c.place_in-2.new.table (even ∙ count) c.in_ok-place_in.ensures.placed c.in_ok-place_in-2.ensures.others c.in_ok-place_in-2.ensures.placed)
+    subst (ArePlacesOff c.args.admitted.now.roots s (demand_value c.args.lists.now) c.args.left.now) (sym (slice_back c.in_ok-table.table.len c.place_in-2.new.table c.in_ok-table.table.items even (omega (arith, long))))
+    (both_placed c.args.admitted.now.roots (system_in c.args.admitted.now) (demand_value c.args.lists.now) _ c.of-terms.ensures c.args.left.now _ c.in_ok-held.ensures.held _ refl c.as_slice.ensures.value c.place_in.new.table c.place_in-2.new.table (even ∙ count) c.in_ok-place_in.ensures.placed c.in_ok-place_in-2.ensures.others c.in_ok-place_in-2.ensures.placed)
 
 pub place_in-requires-clause-known : goal.place_in-requires-clause-known
 place_in-requires-clause-known g c =
-    request_known c.args.admitted.now.roots (system_in c.args.admitted.now) (lists_value c.args.lists.now) _ c.of-terms.ensures c.args.left.now _ c.in_ok-held.ensures.held _ refl c.as_slice.ensures.value c.requires
+    request_known c.args.admitted.now.roots (system_in c.args.admitted.now) (demand_value c.args.lists.now) _ c.of-terms.ensures c.args.left.now _ c.in_ok-held.ensures.held _ refl c.as_slice.ensures.value c.requires
 
 pub place_in-requires-2-clause-known : goal.place_in-requires-2-clause-known
 place_in-requires-2-clause-known g c =
-    request_known c.args.admitted.now.roots (system_in c.args.admitted.now) (lists_value c.args.lists.now) _ c.of-terms.ensures c.args.left.now _ c.in_ok-held.ensures.held _ refl c.as_slice.ensures.value c.requires
+    request_known c.args.admitted.now.roots (system_in c.args.admitted.now) (demand_value c.args.lists.now) _ c.of-terms.ensures c.args.left.now _ c.in_ok-held.ensures.held _ refl c.as_slice.ensures.value c.requires
