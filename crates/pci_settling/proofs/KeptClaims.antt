@@ -30,6 +30,7 @@ use Rattle.pci_place.proofs.ClassOf.{kind_io}
 use Rattle.pci_place.proofs.Parts.{bars_in, bars_of, rom_of, rom_there}
 use Rattle.pci_place.proofs.Owned.{no_rom, lacking_above}
 use Rattle.pci_settle.specs.declared.own.Terms.{Terms}
+use Rattle.pci_settle.specs.Slots.{demand_of}
 use Rattle.pci_settle.specs.Own.{AreTerms, is_left_bar}
 use Rattle.pci_settling.specs.Claims.{is_bar_in, has_left_bar, is_kept_bar, is_rom_on, has_kept}
 
@@ -128,7 +129,7 @@ module _ (s : System) (f : Function) (r : Record) (is : IsRecordOf s f r) where
 pub bar_space : (f : Function) (space : Space) (bar : CodeBar) (n : ℕ) → decoded_bar_of bar ≡ decoded_bar f.image f.probe n → is_bar_in space bar ≡ are_same_space space (space_of f (Bar n))
 bar_space f space bar n e = space_by space bar (is_io (bar_at f.probe n)) (kind_io f bar n e)
 
-module _ (q : Request) (s : System) (f : Function) (r : Record) (is : IsRecordOf s f r) (above : Above) (over : IsAbove s f.slot.bus above) (t : Terms) (terms : AreTerms q.lists t) where
+module _ (q : Request) (s : System) (f : Function) (r : Record) (is : IsRecordOf s f r) (above : Above) (over : IsAbove s f.slot.bus above) (t : Terms) (terms : AreTerms (demand_of q) t) where
   -- ---- what is left
 
   pub left_is : (bar : CodeBar) (n : ℕ) → decoded_bar_of bar ≡ decoded_bar f.image f.probe n → is_left_bar bar above t.has_io ≡ is_left q s f (Bar n)

@@ -30,6 +30,7 @@ use Rattle.pci_tree.proofs.RegionParts.{same_bridge_of}
 use Rattle.pci_place.specs.declared.above.Above.{Above}
 use Rattle.pci_place.specs.Above.{IsAbove}
 use Rattle.pci_settle.specs.declared.own.Terms.{Terms}
+use Rattle.pci_settle.specs.Slots.{demand_of}
 use Rattle.pci_settle.specs.Own.{AreTerms}
 use Rattle.pci_settled.specs.declared.places.Places.{Places}
 use Rattle.pci_settled.specs.Places.{place_range_in, placed_at}
@@ -65,7 +66,7 @@ by_place None test other true both = and_false test ∙ sym (and_false other)
 by_place None test other false both = and_false test ∙ sym (and_false other)
 by_place (Some x) test other is both = ap (λ b. b && (is && true)) (both x refl).0 ∙ sym (ap (λ b. b && (is && true)) (both x refl).1)
 
-module _ (q : Request) (s : System) (keep : Kept) (f : Function) (r : Record) (p : Places) (placed : HasPartPlaces q s keep f r p) (above : Above) (over : IsAbove s f.slot.bus above) (t : Terms) (terms : AreTerms q.lists t) (space : Space) where
+module _ (q : Request) (s : System) (keep : Kept) (f : Function) (r : Record) (p : Places) (placed : HasPartPlaces q s keep f r p) (above : Above) (over : IsAbove s f.slot.bus above) (t : Terms) (terms : AreTerms (demand_of q) t) (space : Space) where
   abbrev region : Part → FunctionPart
   region part = record { function = f; part = part }
 

@@ -25,8 +25,8 @@ use Rattle.settle_spec.specs.Stands.{window_part}
 use Rattle.settle_spec.specs.Items.{Placed}
 use Rattle.settle_spec.specs.Kept.{Kept, range_or}
 use Rattle.settle_spec.specs.Keeping.Places.{new_place}
-use Rattle.settle_spec.specs.Registers.{with_number, with_bounds, with_place, closed_if_open}
-use Rattle.settle_spec.specs.Keeping.Registers.{is_same_range, with_kept, shown, settled_image}
+use Rattle.settle_spec.specs.Registers.{with_number, with_bounds, with_place, closed_if_open, changing}
+use Rattle.settle_spec.specs.Keeping.Registers.{is_same_range, with_kept, shown, with_wish, settled_image}
 use Rattle.pci_image.specs.declared.bar.Bar.{Bar as CodeBar}
 use Rattle.pci_image.specs.Bars.{decoded_kind_of, decoded_bar_of}
 use Rattle.pci_function.specs.declared.record.Bridge.{Bridge}
@@ -336,6 +336,7 @@ module _ (q : Request) (s : System) (keep : Kept) (f : Function) (r : Record) (i
       ∙ ap (λ im. step_if (windows_step im) Rom) bars_are
       ∙ sym (fold-append step_if f.image (header_bars f) others)
       ∙ sym (fold_kept (λ im (x : FunctionPart). shown keep x (new_place q s keep x) im) region changes f.image (header_bars f ++ others))
+      ∙ sym (ap (λ (w : FunctionPart → Option decoded.Range). fold (λ im r. with_wish r (w r) (shown keep r (new_place q s keep r) im)) f.image (changing q s f)) placed.none)
 
   pub images_are : with_parts image p kept grown r ≡ settled_image q s keep f
   images_are = ap (λ im. with_parts im p kept grown r) image_is ∙ same_parts

@@ -14,6 +14,7 @@ use Rattle.settle_spec.specs.Parts.{addresses}
 use Rattle.settle_spec.specs.Stands.{window_part}
 use Rattle.settle_spec.specs.Kept.{Kept, range_or}
 use Rattle.settle_spec.specs.Keeping.Places.{new_place}
+use Rattle.settle_laws.specs.KeptLaws.{WishesNothing}
 use Rattle.pci_base.specs.declared.range.Range.{Range}
 use Rattle.pci_base.specs.declared.window_kind.ByKind.{ByKind}
 use Rattle.pci_base.specs.Ranges.{decoded_range_of}
@@ -79,7 +80,7 @@ is_window_kept kept IoWindow = kept.io
 is_window_kept kept MemoryWindow = kept.memory
 is_window_kept kept PrefetchWindow = kept.prefetchable
 
--- and the windows that stay: to what they grow
+-- and the windows that stay: to what they grow; nothing is wished
 pub record HasPlacesAndWindows (q : Request) (s : System) (keep : Kept) (f : Function) (r : Record)
     (p : Places) (kept : ByKind Bool) (grown : ByKind (Option Range)) : Type 0 where
   pub places : HasPartPlaces q s keep f r p
@@ -91,3 +92,4 @@ pub record HasPlacesAndWindows (q : Request) (s : System) (keep : Kept) (f : Fun
       → IsTrue (keep.stays (window_part c f))
       → keep.range (window_part c f)
       ≡ range_or (option_map decoded_range_of (told_of_kind grown c)) (addresses (window_part c f))
+  pub none : WishesNothing keep

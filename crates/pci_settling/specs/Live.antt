@@ -10,6 +10,7 @@ use Rattle.pci_function.specs.declared.record.Bridge.{Bridge}
 use Rattle.pci_function.specs.declared.record.Record.{Record}
 use Rattle.pci_place.specs.declared.above.Above.{Above}
 use Rattle.pci_settle.specs.declared.own.Terms.{Terms}
+use Rattle.pci_settle.specs.Slots.{demand_of}
 use Rattle.pci_settle.specs.Own.{AreTerms}
 use Rattle.pci_settled.specs.declared.places.Places.{Places}
 use Rattle.pci_settled.specs.Places.{place_range_in, placed_at}
@@ -23,10 +24,10 @@ is_live q s keep space f = is_live_within q s keep space 256 f
 abbrev pub is_live_on : Request → System → Kept → Space → ℕ → Bool
 is_live_on q s keep space bus = list_any (λ g. g.slot.bus == bus && is_live q s keep space g) s
 
--- what is asked for has these roots, and lists that tell this
+-- what is asked for has these roots, and this is told of it
 pub record IsRequestOfTerms (q : Request) (roots : List ℕ) (t : Terms) : Type 0 where
   pub rooted : q.roots ≡ roots
-  pub terms : AreTerms q.lists t
+  pub terms : AreTerms (demand_of q) t
 
 -- a table by function has the place that each part gets: none for what stays
 pub record HasAllPlaces (q : Request) (s : System) (keep : Kept) (table : List Places) : Type 0 where

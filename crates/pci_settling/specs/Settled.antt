@@ -9,6 +9,7 @@ use Rattle.pci_function.specs.declared.record.Record.{Record}
 use Rattle.pci_place.specs.declared.above.Above.{Above}
 use Rattle.pci_place.specs.Above.{IsAbove}
 use Rattle.pci_settle.specs.declared.own.Terms.{Terms}
+use Rattle.pci_settle.specs.Slots.{demand_of}
 use Rattle.pci_settle.specs.Own.{AreTerms}
 use Rattle.pci_settled.specs.declared.places.Places.{Places}
 use Rattle.pci_settling.specs.declared.settled.Behind.{Behind}
@@ -25,6 +26,6 @@ command_by p above t r io memory =
 pub record IsCommandTold (q : Request) (s : System) (keep : Kept) (f : Function) (above : Above)
     (t : Terms) (behind : Behind) : Type 0 where
   pub over : IsAbove s f.slot.bus above
-  pub terms : AreTerms q.lists t
+  pub terms : AreTerms (demand_of q) t
   pub io : behind.io ≡ has_live_behind s (is_live q s keep Io) f
   pub memory : behind.memory ≡ has_live_behind s (is_live q s keep Memory) f

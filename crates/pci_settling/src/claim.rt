@@ -27,7 +27,7 @@ pub fn is_bar_of(space: Space, bar: &Bar) -> bool
 
 /// Whether a function has an I/O BAR that is left.
 pub fn has_left_bar(record: &Record, above: Above, terms: Terms) -> bool
-    ensures { result ≡ has_left_bar «record».now above terms }
+    ensures { result ≡ has_left_bar «record».now above terms.entry }
 {
     for bar in record.bars.as_slice() {
         if is_left_bar(bar, above, terms) {
@@ -87,7 +87,7 @@ fn has_placed(space: Space, places: &Places, record: &Record) -> bool
 
 /// Whether one of some BARs is of a space and isn't left.
 fn has_kept_bar(space: Space, above: Above, terms: Terms, bars: &[Bar]) -> bool
-    ensures { result ≡ list_any (is_kept_bar (space_of space) above terms) bars.now }
+    ensures { result ≡ list_any (is_kept_bar (space_of space) above terms.entry) bars.now }
 {
     for bar in bars {
         if is_bar_of(space, bar) && !is_left_bar(bar, above, terms) {
@@ -109,7 +109,7 @@ pub fn is_rom_on(rom: Option<Rom>) -> bool
 
 /// Whether a function has a BAR of a space that isn't left, or a ROM that is on.
 pub fn has_kept(space: Space, above: Above, terms: Terms, record: &Record) -> bool
-    ensures { result ≡ claims.has_kept (space_of space) above terms «record».now }
+    ensures { result ≡ claims.has_kept (space_of space) above terms.entry «record».now }
 {
     has_kept_bar(space, above, terms, record.bars.as_slice())
         || space == Space::Mem && is_rom_on(record.rom)
@@ -128,7 +128,7 @@ pub fn is_enabled(
     // places are told by the number of a BAR's register, so each has one
     requires { All HasRegister «record».now.bars.items }
     ensures { result
-        ≡ claims.is_enabled_by (space_of space) places.now above terms «record».now behind }
+        ≡ claims.is_enabled_by (space_of space) places.now above terms.entry «record».now behind }
 {
     !(space == Space::Io && has_left_bar(record, above, terms))
         && (space.is_on(record.command) || has_placed(space, places, record) || behind)

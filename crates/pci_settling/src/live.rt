@@ -37,7 +37,7 @@ fn is_live(
 ) -> bool
     requires { All HasRegister «record».now.bars.items }
     ensures { result
-        ≡ is_live_by (space_of space) places.now above terms «record».now behind }
+        ≡ is_live_by (space_of space) places.now above terms.entry «record».now behind }
 {
     is_enabled(space, places, above, terms, record, behind)
         && (has_kept(space, above, terms, record) || behind)
@@ -56,7 +56,7 @@ pub fn live_buses<A: Allocator>(
     requires above { AreAboves (system_in admitted.now) aboves.now }
     // a function's places stand where its record does
     requires count { length table.now ≡ length (system_in admitted.now) }
-    ensures { AreLiveBuses admitted.now.roots (system_in admitted.now) (space_of space) terms
+    ensures { AreLiveBuses admitted.now.roots (system_in admitted.now) (space_of space) terms.entry
         table.now result }
 {
     let mut live = [false; BUSES];

@@ -38,7 +38,7 @@ fn settled_command(
 ) -> u16
     requires { All HasRegister «record».now.bars.items }
     ensures { result
-        ≡ command_by places.now above terms «record».now behind.io behind.memory }
+        ≡ command_by places.now above terms.entry «record».now behind.io behind.memory }
 {
     let io = is_enabled(Space::Io, places, above, terms, record, behind.io);
     let memory = is_enabled(Space::Mem, places, above, terms, record, behind.memory);
@@ -61,7 +61,7 @@ pub fn settled_function(
     ensures { (q : Request) (s : System) (keep : Kept) (f : Function)
         → image.now.0 ≡ f.image → HasPlacesAndWindows q s keep f «record».now places.now
         staying.now.kept.now.windows staying.now.grown.now
-        → IsCommandTold q s keep f above terms behind
+        → IsCommandTold q s keep f above terms.entry behind
         → result.0 ≡ (registers.settled_function q s keep f).image }
 {
     let mut settled = settled_image(record, image, places, staying);
