@@ -23,6 +23,7 @@ use Rattle.pci_place.specs.Items.{no_function, function_in}
 use Rattle.pci_place.proofs.Records.{lent}
 use Rattle.pci_settle.specs.declared.kept.Kept.{Kept}
 use Rattle.pci_settle.specs.declared.kept.Part.{Part as CodePart}
+use Rattle.pci_settle.specs.Slots.{Demand}
 use Rattle.pci_settle.specs.Kept.{spec_part}
 use Rattle.pci_stand.specs.declared.region.Region.{Region}
 use Rattle.pci_stand.specs.Boards.{IsBoard}
@@ -58,11 +59,11 @@ module _ (q : Request) (s : System) (records : List Record) (lists : Lists) (row
       ∙ untold_is class
 
 -- so it is of what is asked for of an admitted system
-pub rows_of : (a : Admission) (l : Lists) (fixed : List Slot) → IsAdmitted a → (records : List Record) {values : List decoded.Record} → map record_value records ≡ values → HasRecords (system_in a) values
-    → (regions : List Region) → AreParts (asked a.roots l fixed) (system_in a) regions → (kept : List Kept) → AreStanding (asked a.roots l fixed) (system_in a) kept
-    → (rows : List Region) → AreRows regions kept rows → (slice : List Region) → slice ≡ rows → StandsInRows (asked a.roots l fixed) (system_in a) records l slice
-rows_of a l fixed admitted records same has regions parts kept stand rows sorted slice slice_is =
-    subst (StandsInRows (asked a.roots l fixed) (system_in a) records l) (sym slice_is)
-    (stand_in_rows (asked a.roots l fixed) (system_in a) records l
+pub rows_of : (a : Admission) (d : Demand) (fixed : List Slot) → IsAdmitted a → (records : List Record) {values : List decoded.Record} → map record_value records ≡ values → HasRecords (system_in a) values
+    → (regions : List Region) → AreParts (asked a.roots d fixed) (system_in a) regions → (kept : List Kept) → AreStanding (asked a.roots d fixed) (system_in a) kept
+    → (rows : List Region) → AreRows regions kept rows → (slice : List Region) → slice ≡ rows → StandsInRows (asked a.roots d fixed) (system_in a) records d.lists slice
+rows_of a d fixed admitted records same has regions parts kept stand rows sorted slice slice_is =
+    subst (StandsInRows (asked a.roots d fixed) (system_in a) records d.lists) (sym slice_is)
+    (stand_in_rows (asked a.roots d fixed) (system_in a) records d.lists
     record { has = lent (system_in a) records same has; system = admitted.system; nested = admitted.nested; same = refl; stands = refl }
     admitted.profile regions parts kept stand rows sorted)

@@ -16,6 +16,7 @@ use Rattle.pci_settle.specs.declared.extent.Extent.{Extent}
 use Rattle.pci_settle.specs.declared.kept.Kept.{Kept}
 use Rattle.pci_settle.specs.declared.over.OpenWindows.{OpenWindows}
 use Rattle.pci_settle.specs.declared.own.Terms.{Terms}
+use Rattle.pci_settle.specs.Slots.{Demand}
 use Rattle.pci_settle.specs.Buses.{Classing, classing_of, TellsClasses}
 use Rattle.pci_stand.specs.declared.region.Region.{Region}
 use Rattle.pci_stand.specs.Boards.{IsBoard}
@@ -78,28 +79,28 @@ module _ (q : Request) (p : Classing) (lists : Lists) (windows : ByKind (List (O
   }
 
 -- so it is with what is asked for of an admitted system, where no bridge is named
-pub can_grow : (a : Admission) (l : Lists) (fixed : List Slot) → IsAdmitted a → (terms : Terms) (over : List OpenWindows) → TellsClasses (classing_of a terms over) (asked a.roots l fixed)
+pub can_grow : (a : Admission) (d : Demand) (fixed : List Slot) → IsAdmitted a → (terms : Terms) (over : List OpenWindows) → TellsClasses (classing_of a terms over) (asked a.roots d fixed)
     → (windows : ByKind (List (Option Extent))) (large : Option TooLarge) → AreAllNew (classing_of a terms over) windows large
-    → (x : Reaching) → IsReaching (asked a.roots l fixed) (system_in a) x → (large ≡ None) ⊎ All (λ ranges. tells_whole ranges ≡ false) x.reaches
-    → CanGrow (asked a.roots l fixed) (classing_of a terms over) l windows x
-can_grow a l fixed admitted terms over left windows large all x is none = record {
+    → (x : Reaching) → IsReaching (asked a.roots d fixed) (system_in a) x → (large ≡ None) ⊎ All (λ ranges. tells_whole ranges ≡ false) x.reaches
+    → CanGrow (asked a.roots d fixed) (classing_of a terms over) d.lists windows x
+can_grow a d fixed admitted terms over left windows large all x is none = record {
   system = admitted.system;
   nested = admitted.nested;
   same = refl;
   standing = refl;
-  low = windows_low (asked a.roots l fixed) (system_in a) admitted.system admitted.nested admitted.profile;
+  low = windows_low (asked a.roots d fixed) (system_in a) admitted.system admitted.nested admitted.profile;
   left = left;
   reaching = is;
-  new = new_around (classing_of a terms over) (asked a.roots l fixed) left windows large all
-      (known_around (asked a.roots l fixed) (system_in a) admitted.system admitted.nested x is large none);
+  new = new_around (classing_of a terms over) (asked a.roots d fixed) left windows large all
+      (known_around (asked a.roots d fixed) (system_in a) admitted.system admitted.nested x is large none);
 }
 
 -- and a bridge that is named has too large a new window, where a window can grow to all addresses
-pub large_of : (a : Admission) (l : Lists) (fixed : List Slot) → IsAdmitted a → (terms : Terms) (over : List OpenWindows) → TellsClasses (classing_of a terms over) (asked a.roots l fixed)
+pub large_of : (a : Admission) (d : Demand) (fixed : List Slot) → IsAdmitted a → (terms : Terms) (over : List OpenWindows) → TellsClasses (classing_of a terms over) (asked a.roots d fixed)
     → (windows : ByKind (List (Option Extent))) (large : Option TooLarge) → AreAllNew (classing_of a terms over) windows large
-    → (x : Reaching) → IsReaching (asked a.roots l fixed) (system_in a) x → (w : TooLarge) → (large ≡ Some w) × TellsWhole x.reaches
-    → IsTooLargeAround (asked a.roots l fixed) (system_in a) (refused.Fault w)
-large_of a l fixed admitted terms over left windows large all x is w (named, whole) = (
-  large_around (classing_of a terms over) (asked a.roots l fixed) left windows large all w named,
-  whole_reach (asked a.roots l fixed) (system_in a) admitted.system admitted.nested x is whole,
+    → (x : Reaching) → IsReaching (asked a.roots d fixed) (system_in a) x → (w : TooLarge) → (large ≡ Some w) × TellsWhole x.reaches
+    → IsTooLargeAround (asked a.roots d fixed) (system_in a) (refused.Fault w)
+large_of a d fixed admitted terms over left windows large all x is w (named, whole) = (
+  large_around (classing_of a terms over) (asked a.roots d fixed) left windows large all w named,
+  whole_reach (asked a.roots d fixed) (system_in a) admitted.system admitted.nested x is whole,
 )

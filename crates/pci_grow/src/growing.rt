@@ -12,6 +12,7 @@ ghost use Rattle.pci_place.specs.Above.{AreAboves, system_in};
 ghost use Rattle.pci_settle.specs.Buses.{classing_value};
 ghost use Rattle.pci_settle.specs.Keeping.{TellsKept};
 ghost use Rattle.pci_settle.specs.Lists.{lists_value};
+ghost use Rattle.pci_settle.specs.Slots.{demand_value};
 ghost use Rattle.pci_stand.specs.Boards.{IsBoard};
 ghost use Rattle.pci_stand.specs.Known.{asked, AreParts};
 ghost use Rattle.pci_stand.specs.Passing.{CanBeNoted};
@@ -181,10 +182,10 @@ pub fn growing<A: Allocator + Copy, B: Allocator>(
     fixed: &[Slot],
 ) -> Result<Grown<A>, Refused<TooLarge>>
     ensures grown { IfOk result (λ grown. AreGrown
-        (asked admitted.now.roots (lists_value lists.now) fixed.now) (system_in admitted.now)
+        (asked admitted.now.roots (demand_value lists.now) fixed.now) (system_in admitted.now)
         (grown_value grown)) }
     ensures fault { IfErr result (IsTooLargeAround
-        (asked admitted.now.roots (lists_value lists.now) fixed.now) (system_in admitted.now)) }
+        (asked admitted.now.roots (demand_value lists.now) fixed.now) (system_in admitted.now)) }
 {
     let aboves = aboves(admitted);
     let opened = open_windows(admitted.outline().records());

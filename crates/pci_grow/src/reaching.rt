@@ -2,7 +2,7 @@
 ghost use Rattle.std.specs.Prelude.{◌≡◌, ◌⊎◌, None, Some, IsTrue, IsFalse, IfSome, IfOk};
 ghost use Rattle.std.specs.List.{All};
 ghost use Rattle.pci_place.specs.Above.{system_in};
-ghost use Rattle.pci_settle.specs.Lists.{lists_value};
+ghost use Rattle.pci_settle.specs.Slots.{demand_value};
 ghost use Rattle.pci_stand.specs.Known.{asked};
 ghost use Rattle.pci_grow.specs.Reaching.{reaching_value, IsReaching, tells_whole, TellsWhole};
 
@@ -42,7 +42,7 @@ pub fn all_reaches<A: Allocator + Copy, B: Allocator>(
     fixed: &[Slot],
 ) -> Result<Reaching<A>, OutOfMemory>
     ensures { IfOk result (λ reaching. IsReaching
-        (asked admitted.now.roots (lists_value lists.now) fixed.now) (system_in admitted.now)
+        (asked admitted.now.roots (demand_value lists.now) fixed.now) (system_in admitted.now)
         (reaching_value reaching)) }
 {
     let records = admitted.outline().records();

@@ -1,7 +1,7 @@
 use Rattle.std.proofs.Common.{length, arith, ap, sym, subst, ◌∙◌}
 use Rattle.pci_place.specs.Above.{system_in}
 use Rattle.pci_place.proofs.Records.{lent, same_count}
-use Rattle.pci_settle.specs.Lists.{lists_value}
+use Rattle.pci_settle.specs.Slots.{demand_value}
 use Rattle.pci_stand.specs.Known.{asked}
 use Rattle.pci_stand.proofs.Whole.{slice_back}
 use Rattle.pci_grow.specs.Reaches.{AreReaches}
@@ -13,25 +13,25 @@ use Rattle.pci_grow.proofs.reaching.all_reaches.Goals as goal
 pub find_reaches-requires-clause-rows : goal.find_reaches-requires-clause-rows
 find_reaches-requires-clause-rows g c =
     let a = c.args.admitted.now in
-    let l = lists_value c.args.lists.now in
+    let d = demand_value c.args.lists.now in
     let rows = c.in_ok-rows.rows.items in
     let sorted = subst (λ xs. AreRows xs c.in_ok-kept.kept.items rows) c.as_slice.ensures.value (subst (λ ks. AreRows c.as_slice.result.now ks rows) c.as_slice-2.ensures.value c.in_ok-rows.ensures.rows) in (
-      asked a.roots l c.args.fixed.now,
+      asked a.roots d c.args.fixed.now,
       system_in a,
-      rows_of a l c.args.fixed.now c.outline.ensures.admitted c.records-records.result.now c.records-records.ensures.value c.outline.ensures.records
+      rows_of a d c.args.fixed.now c.outline.ensures.admitted c.records-records.result.now c.records-records.ensures.value c.outline.ensures.records
           c.in_ok-regions.regions.items c.in_ok-regions.ensures c.in_ok-kept.kept.items c.in_ok-kept.ensures rows sorted c.as_slice-3.result.now c.as_slice-3.ensures.value,
     )
 
 pub returns : goal.returns
 returns g c =
     let a = c.args.admitted.now in
-    let l = lists_value c.args.lists.now in
+    let d = demand_value c.args.lists.now in
     let s = system_in a in
-    let q = asked a.roots l c.args.fixed.now in
+    let q = asked a.roots d c.args.fixed.now in
     let records = c.records-records.result.now in
     let rows = c.in_ok-rows.rows.items in
     let sorted = subst (λ xs. AreRows xs c.in_ok-kept.kept.items rows) c.as_slice.ensures.value (subst (λ ks. AreRows c.as_slice.result.now ks rows) c.as_slice-2.ensures.value c.in_ok-rows.ensures.rows) in
-    let are = rows_of a l c.args.fixed.now c.outline.ensures.admitted records c.records-records.ensures.value c.outline.ensures.records
+    let are = rows_of a d c.args.fixed.now c.outline.ensures.admitted records c.records-records.ensures.value c.outline.ensures.records
     c.in_ok-regions.regions.items c.in_ok-regions.ensures c.in_ok-kept.kept.items c.in_ok-kept.ensures rows sorted c.as_slice-3.result.now c.as_slice-3.ensures.value in
     let old = c.as_mut_slice.result.now in
     let new = c.find_reaches.new.reaches in
@@ -45,5 +45,5 @@ returns g c =
       rise = c.in_ok-rows.ensures.order;
       count = ap length back ∙ c.find_reaches.ensures.count ∙ ap length c.as_mut_slice.ensures.value ∙ c.in_ok-reaches.ensures.count ∙ sym (same_count s records (lent s records c.records-records.ensures.value c.outline.ensures.records));
       told_reaches = subst (AreReaches q s) (sym back) (c.find_reaches.ensures.reaches q s are);
-      only = λ k f class at off. ap (λ t. told t k class) back ∙ only_standing q s records l c.as_slice-3.result.now are old new none c.find_reaches.ensures.others k f class at off;
+      only = λ k f class at off. ap (λ t. told t k class) back ∙ only_standing q s records d.lists c.as_slice-3.result.now are old new none c.find_reaches.ensures.others k f class at off;
     }
