@@ -1,0 +1,37 @@
+use Rattle.std.proofs.Common.{sym, subst, ◌∙◌, ap, length}
+use Rattle.pci_spare.specs.Tables.{told}
+use Rattle.pci_spare.specs.Spots.{FirstsRise}
+use Rattle.pci_spare.proofs.Rooms.{row_of, row_put, row_rest, rows_long, rows_order, rewritten, added_in, tells_in}
+use Rattle.pci_spare.proofs.room.Room.open.Goals as goal
+
+pub add-requires : goal.add-requires
+add-requires g c =
+    subst FirstsRise (sym (row_of c.args.self.now.rows.items c.args.row c.index_mut.result.now c.requires.row c.index_mut.ensures.value)) (c.requires.order c.args.row)
+
+pub returns-in_err-add-clause-room : goal.returns-in_err-add-clause-room
+returns-in_err-add-clause-room g c = λ functions room. record {
+  wished = room.wished;
+  rows = rows_long c.args.self.now.rows.items c.args.row c.add.new.row ∙ room.rows;
+  order = rows_order c.args.self.now.rows.items c.args.row c.add.new.row c.requires.row c.requires.order c.add.ensures.order;
+}
+
+pub returns-clause-opened : goal.returns-clause-opened
+returns-clause-opened g c =
+    let rows = c.args.self.now.rows.items in
+    let was = row_of rows c.args.row c.index_mut.result.now c.requires.row c.index_mut.ensures.value in
+    let table = rewritten c.args.self.now.wished c.as_mut_slice.result.now c.tell.new.table c.as_mut_slice.ensures.value c.tell.ensures.count in
+    record {
+      told_is = ap (λ t. told t c.args.window.bridge c.args.window.class) table ∙ c.tell.ensures.told;
+      others = tells_in _ _ _ _ _ _ c.as_mut_slice.ensures.value table c.tell.ensures.others;
+      added = added_in _ _ _ _ _ was (row_put rows c.args.row c.add.new.row c.requires.row) c.in_ok-add.ensures.added;
+      rest = row_rest rows c.args.row c.add.new.row;
+    }
+
+pub returns-clause-room : goal.returns-clause-room
+returns-clause-room g c = λ functions room.
+    let table = rewritten c.args.self.now.wished c.as_mut_slice.result.now c.tell.new.table c.as_mut_slice.ensures.value c.tell.ensures.count in
+    record {
+      wished = ap length table ∙ c.tell.ensures.count ∙ ap length c.as_mut_slice.ensures.value ∙ room.wished;
+      rows = rows_long c.args.self.now.rows.items c.args.row c.add.new.row ∙ room.rows;
+      order = rows_order c.args.self.now.rows.items c.args.row c.add.new.row c.requires.row c.requires.order c.add.ensures.order;
+    }

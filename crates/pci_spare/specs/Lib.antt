@@ -1,0 +1,9 @@
+pub mod Spots
+pub mod Tables
+pub mod Lists
+pub mod Rows
+pub mod Highest
+pub mod Board
+pub mod Endings
+pub mod Granting
+pub mod Located
