@@ -19,7 +19,7 @@ use Rattle.pci_spare.specs.Spots.{extent_value}
 use Rattle.pci_spare.specs.Board.{bridge_of, class_of, Room, IsTold, AreFacts}
 use Rattle.pci_spare.specs.Endings.{IsSparedAs}
 use Rattle.pci_spare.proofs.Walks.{nothing_left}
-use Rattle.pci_spare.specs.Granting.{spare_in, spare_below, AreSpares, part_of, AreGranted}
+use Rattle.pci_spare.specs.Granting.{spare_in, spare_up_to, AreSpares, part_of, AreGranted}
 
 module _ (q : Request) (s : System) (b : Board) (slots : List Bool) (spares : ByKind (Option Extent)) (spare : WindowKind → Function → Option ExtentValue) (are : AreSpares s slots spares spare)
     (w : BridgeWindow) (within : w.bridge < length s) (g : Granted) (old : Room) (denied : List BridgeWindow) (was : AreGranted q s b g old denied) where
@@ -38,14 +38,14 @@ module _ (q : Request) (s : System) (b : Board) (slots : List Bool) (spares : By
 
   pub no_wish : spare_in slots spares w ≡ None → AreGranted q s b (granted_by (spare c f)) old denied
   no_wish none =
-      same_none (are w within ∙ ap (λ o. cond (is_bridge f) (option_map (spare_below (highest_in c f.probe)) o) None) none ∙ both (is_bridge f))
+      same_none (are w within ∙ ap (λ o. cond (is_bridge f) (option_map (spare_up_to (highest_in c f.probe)) o) None) none ∙ both (is_bridge f))
     where
-      both : (x : Bool) → cond x (option_map (spare_below (highest_in c f.probe)) None) None ≡ None
+      both : (x : Bool) → cond x (option_map (spare_up_to (highest_in c f.probe)) None) None ≡ None
       both true = refl
       both false = refl
 
   pub no_bridge : is_bridge f ≡ false → AreGranted q s b (granted_by (spare c f)) old denied
-  no_bridge not = same_none (are w within ∙ ap (λ x. cond x (option_map (spare_below (highest_in c f.probe)) (spare_in slots spares w)) None) not)
+  no_bridge not = same_none (are w within ∙ ap (λ x. cond x (option_map (spare_up_to (highest_in c f.probe)) (spare_in slots spares w)) None) not)
 
   -- nor one without such a window
   pub no_window : has_window c f.probe ≡ false → AreGranted q s b (granted_by (spare c f)) old denied
@@ -63,8 +63,8 @@ module _ (q : Request) (s : System) (b : Board) (slots : List Bool) (spares : By
     spare_is : spare c f ≡ Some (extent_value extent)
     spare_is =
         are w within
-        ∙ ap (λ x. cond x (option_map (spare_below (highest_in c f.probe)) (spare_in slots spares w)) None) known.bridge
-        ∙ ap (option_map (spare_below (highest_in c f.probe))) wish
+        ∙ ap (λ x. cond x (option_map (spare_up_to (highest_in c f.probe)) (spare_in slots spares w)) None) known.bridge
+        ∙ ap (option_map (spare_up_to (highest_in c f.probe))) wish
         ∙ ap (λ n. let x : Option ExtentValue = Some record { size = wanted.size; alignment = wanted.alignment; highest = n } in x) (sym (highest ∙ known.highest))
         ∙ ap (λ n. let x : Option ExtentValue = Some record { size = wanted.size; alignment = n; highest = extent.highest } in x) (sym alignment)
         ∙ ap (λ n. let x : Option ExtentValue = Some record { size = n; alignment = extent.alignment; highest = extent.highest } in x) (sym size)

@@ -17,3 +17,4 @@ pub mod Sparings
 pub mod Granted
 pub mod Located
 pub mod Filled
+pub mod ToldSpares

@@ -9,7 +9,7 @@ ghost use Rattle.settle_spec.specs.Wishes.{Granted, with_spare_of, with_spares_o
 ghost use Rattle.pci_place.specs.Items.{function_in};
 ghost use Rattle.pci_tree.specs.Ways.{IsBridgeToBus};
 ghost use Rattle.pci_spare.specs.Board.{room_value, class_of, bridge_of, IsRoom, IsTold};
-ghost use Rattle.pci_spare.specs.Granting.{spare_in, AreExtents, AreSpares, AreGranted};
+ghost use Rattle.pci_spare.specs.Granting.{spare_in, AreExtents, AreSpares, AreGranted, SparesAreTold};
 
 use crate::board::{Board, BridgeWindow, flag_of};
 use crate::extent::Extent;
@@ -138,3 +138,9 @@ pub fn grant<A: Allocator + Copy>(
     }
     Ok(denied)
 }
+
+/// A law of spares: where flags tell which bridges have a slot, and extents how large the spares are that are asked for, these
+/// are the spares of the definitions.
+pub fn spare_laws()
+    ensures { SparesAreTold }
+{}
