@@ -1,22 +1,21 @@
 -- What is around a window, as the code tells it.
-use Rattle.std.proofs.Common.{◌≡◌, ℕ, true, false, Bool, ap, sym, ◌∙◌, Some, None}
+use Rattle.std.proofs.Common.{◌≡◌, ℕ, false, Bool, ap, sym, ◌∙◌, Some, None}
 use Rattle.pci_spec.specs.Decoded.{Range as DecodedRange}
-use Rattle.pci_spec.specs.System.{System, Function, window_space}
+use Rattle.pci_spec.specs.System.{System, Function}
 use Rattle.pci_spec.specs.Bus.{is_root}
 use Rattle.settle_spec.specs.Lists.{Request}
 use Rattle.settle_spec.specs.Parts.{bridge_over}
-use Rattle.settle_spec.specs.Stands.{is_in_lists}
 use Rattle.settle_spec.proofs.BridgeOver.{over_leads}
 use Rattle.pci_place.specs.Items.{function_in}
 use Rattle.pci_tree.specs.Roots.{buses_of}
 use Rattle.pci_spare.specs.declared.board.Board.{Board}
 use Rattle.pci_spare.specs.declared.board.BridgeWindow.{BridgeWindow}
 use Rattle.pci_spare.specs.declared.board.Facts.{Facts}
-use Rattle.pci_spare.specs.declared.ending.Around.TheVariants.{Nothing, Lists, Window}
+use Rattle.pci_spare.specs.declared.ending.Around.TheVariants.{Nothing, Window}
 use Rattle.pci_spare.specs.Board.{IsAsked, IsWindow, bridge_of, class_of, AreFacts, IsOver}
 use Rattle.pci_spare.specs.Endings.{IsAround, IsOverOne}
 use Rattle.pci_spare.proofs.Wishing.{over_lower}
-use Rattle.pci_spare.proofs.Endings.{on_root, under_bridge}
+use Rattle.pci_spare.proofs.Endings.{under_bridge}
 
 module _ (q : Request) (s : System) (b : Board) (asked : IsAsked q s b) (w : BridgeWindow) (window : IsWindow s w) (facts : Facts) (are : AreFacts q (class_of w) (bridge_of s w) facts) where
   abbrev f : Function
@@ -35,18 +34,6 @@ module _ (q : Request) (s : System) (b : Board) (asked : IsAsked q s b) (w : Bri
       }
 
   module _ (range : DecodedRange) where
-    pub around_lists : is_root (buses_of b.roots.now) facts.bus ≡ true → is_in_lists q facts.bus range (window_space (class_of w)) ≡ true → IsAround q s w range Lists
-    around_lists root held = record {
-      one = tt;
-      kept = λ above k. on_root q s (class_of w) f 0 k above range (root_is true root) true (sym (ap (λ n. is_in_lists q n range (window_space (class_of w))) are.bus) ∙ held);
-    }
-
-    pub around_none : is_root (buses_of b.roots.now) facts.bus ≡ true → is_in_lists q facts.bus range (window_space (class_of w)) ≡ false → IsAround q s w range Nothing
-    around_none root held = record {
-      one = tt;
-      kept = λ above k. on_root q s (class_of w) f 0 k above range (root_is true root) false (sym (ap (λ n. is_in_lists q n range (window_space (class_of w))) are.bus) ∙ held);
-    }
-
     pub around_window : is_root (buses_of b.roots.now) facts.bus ≡ false → (bridge : ℕ) → IsOver s facts.bus (Some bridge) → IsAround q s w range (Window bridge)
     around_window root bridge over = record {
       one = over_one bridge over;

@@ -59,11 +59,6 @@ module _ (q : Request) (s : System) (c : WindowKind) (b : Function) (last : ℕ)
   -- ---- what is around a window
 
   module _ (above : Function → ℕ → Kept → Option Kept) (w : DecodedRange) where
-    pub on_root : is_root q.roots b.slot.bus ≡ true → (held : Bool) → is_in_lists q b.slot.bus w (window_space c) ≡ held → with_room_above q s c above b w k ≡ cond held (Some k) None
-    on_root root held is =
-        ap (λ r. cond r (cond (is_in_lists q b.slot.bus w (window_space c)) (Some k) None) (with_bridge (λ over. above over w.last k) (bridge_over s b.slot.bus))) root
-        ∙ ap (λ h. cond h (Some k) None) is
-
     pub under_bridge : is_root q.roots b.slot.bus ≡ false → (o : Option Function) → bridge_over s b.slot.bus ≡ o → with_room_above q s c above b w k ≡ with_bridge (λ over. above over w.last k) o
     under_bridge root o is =
         ap (λ r. cond r (cond (is_in_lists q b.slot.bus w (window_space c)) (Some k) None) (with_bridge (λ over. above over w.last k) (bridge_over s b.slot.bus))) root

@@ -19,7 +19,6 @@ use Rattle.settle_spec.specs.Wishes.{place_then}
 use Rattle.pci_base.specs.declared.range.Range.{Range}
 use Rattle.pci_base.specs.declared.window_kind.WindowKind.{WindowKind as CodeKind}
 use Rattle.pci_base.specs.declared.window_kind.WindowKind.TheVariants as kinds
-use Rattle.pci_base.specs.declared.space.Space.TheVariants as spaces
 use Rattle.pci_base.specs.declared.window_kind.ByKind.{ByKind}
 use Rattle.pci_base.specs.WindowKinds.{by_kind}
 use Rattle.pci_spare.specs.declared.board.BridgeWindow.{BridgeWindow}
@@ -44,13 +43,6 @@ pub record ArePutTo (roots : List ℕ) (parts : List Located) (old new : List (L
   pub count : length new ≡ length old
   pub put : (n : ℕ) → n < 514 → (weight : DecodedRange → ℕ)
       → total weight (row_at new n) + located_total roots weight n (drop index parts) ≡ total weight (row_at old n) + located_total roots weight n parts
-
-pub put_none : (roots : List ℕ) (parts : List Located) (old : List (List Range)) → ArePutTo roots parts old old 0
-put_none roots parts old = record { count = refl; put = λ n small weight. refl }
-
--- what an index past the end is read as
-abbrev pub no_part : Located
-no_part = record { bus = 0; space = spaces.Io; range = record { first = 0; last = 0 } }
 
 pub put_next : (roots : List ℕ) (parts : List Located) (old new next : List (List Range)) (index row : ℕ) → ArePutTo roots parts old new index → index < length parts → (d : Located)
     → row ≡ row_number (level roots (get_or parts index d).bus) (space_of (get_or parts index d).space) → length next ≡ length new → IsPushed new next row (get_or parts index d).range
@@ -86,9 +78,6 @@ pub record AreSortedTo (old new : List (List Range)) (index : ℕ) : Type 0 wher
   pub count : length new ≡ length old
   pub same : (n : ℕ) (weight : DecodedRange → ℕ) → total weight (row_at new n) ≡ total weight (row_at old n)
   pub order : (n : ℕ) → n < index → FirstsRise (row_at new n)
-
-pub sorted_none : (old : List (List Range)) → AreSortedTo old old 0
-sorted_none old = record { count = refl; same = λ n weight. refl; order = λ n less. absurd (let no : ⊥ = omega (arith, less) in no) }
 
 below : (n m : ℕ) → n < m + 1 → (n ≡ m → ⊥) → n < m
 below n m less not = omega (arith, less, not)

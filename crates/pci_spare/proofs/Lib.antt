@@ -4,7 +4,7 @@ pub mod Walks
 pub mod Wishing
 pub mod Ranks
 pub mod There
-pub mod Inserted
+pub mod Rising
 pub mod Ended
 pub mod Highest
 pub mod Facts

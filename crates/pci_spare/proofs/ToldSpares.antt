@@ -2,16 +2,15 @@
 use Rattle.std.proofs.Common.{◌≡◌, ℕ, cond, get_or, true, false, Bool, ◌&&◌, ap, sym, refl, ◌∙◌, Option, Some, None}
 use Rattle.std.specs.Bool.{nat_lt}
 use Rattle.std.specs.Option.{option_map}
-use Rattle.pci_spec.specs.System.{System, Function, is_bridge}
+use Rattle.pci_spec.specs.System.{is_bridge}
 use Rattle.settle_spec.specs.FirstPlace.{Extent as ExtentValue}
-use Rattle.settle_spec.specs.Lists.{Request, wanted_in}
+use Rattle.settle_spec.specs.Lists.{wanted_in}
 use Rattle.settle_spec.specs.Spares.{spare_extent}
 use Rattle.settle_spec.specs.Items.{highest_in}
-use Rattle.pci_base.specs.declared.window_kind.ByKind.{ByKind}
 use Rattle.pci_base.specs.WindowKinds.{by_kind}
 use Rattle.pci_spare.specs.declared.extent.Extent.{Extent}
 use Rattle.pci_spare.specs.Board.{bridge_of, class_of}
-use Rattle.pci_spare.specs.Granting.{spare_up_to, TellsSpares, SparesAreTold}
+use Rattle.pci_spare.specs.Granting.{spare_up_to, SparesAreTold}
 
 -- a spare is wanted behind a bridge with a slot, where any are
 by_flags : (flag bridge some : Bool) (o : Option Extent) (highest : ℕ) (e : ExtentValue) → option_map (spare_up_to highest) o ≡ cond some (Some e) None
