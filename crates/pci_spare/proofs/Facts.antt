@@ -1,15 +1,13 @@
 -- What is known of a window and its bridge, by records.
-use Rattle.std.proofs.Common.{◌≡◌, ℕ, zero, suc, ◌<◌, List, [], ◌∷◌, length, get_or, false, true, Bool, arith, ap, sym, subst, refl, ◌∙◌, inl, inr, Option, Some, None, IfSome}
+use Rattle.std.proofs.Common.{◌≡◌, ℕ, zero, suc, ◌<◌, List, [], ◌∷◌, length, get_or, false, true, arith, ap, sym, subst, refl, ◌∙◌, inl, inr, Option, Some, None, IfSome}
 use Rattle.std.specs.Option.{is_some}
 use Rattle.std.proofs.lemmas.Bool.{cases_Bool, eqb-true}
 use Rattle.std.proofs.lemmas.Option.{get_or_from_slice_get}
-use Rattle.pci_spec.specs.Slot.{same_slot}
 use Rattle.pci_spec.specs.Header.{layout}
 use Rattle.pci_spec.specs.Window.{WindowKind, IoWindow, MemoryWindow, PrefetchWindow, has_window}
 use Rattle.pci_spec.specs.Decoded.{record_of, optional_window}
 use Rattle.pci_spec.specs.Decoded as decoded
 use Rattle.pci_spec.specs.System.{System, Function, is_bridge}
-use Rattle.pci_spec.specs.Bus.{secondary}
 use Rattle.pci_spec.proofs.Records.{memory_window_there}
 use Rattle.settle_spec.specs.Lists.{Request}
 use Rattle.settle_spec.specs.Parts.{bridge_over}

@@ -226,8 +226,8 @@ module _ (q : Request) (s : System) (k : Kept) (b : Board) (asked : IsAsked q s 
   nothing_wished : (w : BridgeWindow) → told wished w.bridge w.class ≡ None
   nothing_wished w = ap (λ e. by_kind e w.class) (entry w.bridge) ∙ untold_none w.class
 
-  pub told_first : IsTold q s k b (record { wished = wished; rows = sorted })
-  told_first = record {
+  pub told_first : (rising : List Bool) → IsTold q s k b (record { wished = wished; rows = sorted; rising = rising })
+  told_first rising = record {
     asked = asked;
     windows = tells.windows;
     wished = λ w within. ap (option_map decoded_range_of) (nothing_wished w) ∙ sym (tells.unwished (window_part (class_of w) (bridge_of s w)));

@@ -1,5 +1,5 @@
 -- Wishes are granted one after another, as the definition has it.
-use Rattle.std.proofs.Common.{◌≡◌, ℕ, suc, ◌+◌, ◌-◌, ◌<◌, ◌≤◌, List, [], ◌∷◌, ◌++◌, map, length, drop, cond, true, false, Bool, ap, sym, subst, refl, ◌∙◌, Option, Some, None}
+use Rattle.std.proofs.Common.{◌≡◌, ℕ, ◌+◌, ◌<◌, ◌≤◌, List, [], ◌∷◌, ◌++◌, map, length, drop, cond, true, false, Bool, ap, sym, subst, refl, ◌∙◌, Option, Some, None}
 use Rattle.std.specs.Option.{option_map, is_some}
 use Rattle.std.proofs.lemmas.List.{map-append, at_drop_more}
 use Rattle.pci_spec.specs.Window.{WindowKind, has_window}

@@ -18,3 +18,5 @@ pub mod Granted
 pub mod Located
 pub mod Filled
 pub mod ToldSpares
+pub mod FreeBySearch
+pub mod Flags

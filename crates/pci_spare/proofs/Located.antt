@@ -1,5 +1,5 @@
 -- What is there before any wish: BARs and ROMs as they are listed, and windows as a table tells them.
-use Rattle.std.proofs.Common.{◌≡◌, ℕ, zero, suc, ◌+◌, ◌<◌, inl, inr, List, [], ◌∷◌, ◌++◌, map, length, cond, true, false, Bool, ◌&&◌, ◌||◌, not, get_or, arith, ap, sym, refl, ◌∙◌, Option, Some, None}
+use Rattle.std.proofs.Common.{◌≡◌, ℕ, suc, ◌+◌, ◌<◌, inl, inr, List, [], ◌∷◌, ◌++◌, map, length, cond, true, false, Bool, ◌&&◌, ◌||◌, not, get_or, arith, ap, sym, refl, ◌∙◌, Option, Some, None}
 use Rattle.std.specs.Bool.{◌==◌}
 use Rattle.std.specs.Option.{option_map, option_or}
 use Rattle.std.specs.List.{Contains, filter, flat_map, sum_by, range_with_len}

@@ -1,5 +1,5 @@
 -- The rows of a room where one of them is put anew.
-use Rattle.std.proofs.Common.{◌≡◌, ℕ, ◌<◌, inl, inr, List, [], map, length, set, get_or, arith, ap, sym, subst, ◌∙◌, Vec, Option}
+use Rattle.std.proofs.Common.{◌≡◌, ℕ, ◌<◌, inl, inr, List, [], map, length, set, get_or, arith, ap, sym, subst, ◌∙◌, Vec, Option, Bool, true, false}
 use Rattle.std.specs.Vec.{with_items}
 use Rattle.std.proofs.lemmas.Bool.{cases_lt}
 use Rattle.std.proofs.lemmas.List.{with_items_is, get_or-map, get_or-set_same, get_or-set_other, length-map, length-set, map-set}
@@ -8,7 +8,7 @@ use Rattle.pci_base.specs.declared.window_kind.WindowKind.{WindowKind}
 use Rattle.pci_base.specs.declared.window_kind.ByKind.{ByKind}
 use Rattle.pci_spare.specs.Tables.{TellsSame}
 use Rattle.pci_spare.specs.Rows.{row_at, AreSameBut, IsEndedIn, IsAddedTo}
-use Rattle.pci_spare.specs.Spots.{FirstsRise}
+use Rattle.pci_spare.specs.Spots.{FirstsRise, LastsRise}
 
 module _ {A : Type 0} (rows : List (Vec Range A)) (n : ℕ) where
   abbrev items_of : Vec Range A → List Range
@@ -40,6 +40,22 @@ module _ {A : Type 0} (rows : List (Vec Range A)) (n : ℕ) where
         | inr up ↦
             let same : n ≡ m = omega (arith, from, up) in
             subst (λ k. FirstsRise (row_at new k)) same (subst FirstsRise (sym (row_put within)) put)
+      ]
+    ]
+
+    pub rows_rising : (old_flags new_flags : List Bool) → n < length (map items_of rows)
+        → ((m : ℕ) → get_or old_flags m false ≡ true → LastsRise (row_at (map items_of rows) m))
+        → ((m : ℕ) → get_or new_flags m false ≡ true → get_or old_flags m false ≡ true)
+        → (get_or new_flags n false ≡ true → LastsRise v.items)
+        → (m : ℕ) → get_or new_flags m false ≡ true → LastsRise (row_at new m)
+    rows_rising old_flags new_flags within was others put m flag = elim (cases_lt m n) [
+      | inl under ↦ (let other : m ≡ n → ⊥ = λ same. (let no : ⊥ = omega (arith, under, same) in no) in subst LastsRise (sym (row_rest m other)) (was m (others m flag)))
+      | inr from ↦ elim (cases_lt n m) [
+        | inl over ↦ (let other : m ≡ n → ⊥ = λ same. (let no : ⊥ = omega (arith, over, same) in no) in subst LastsRise (sym (row_rest m other)) (was m (others m flag)))
+        | inr up ↦
+            let same : m ≡ n = omega (arith, from, up) in
+            let here = ap (λ k. get_or new_flags k false) (sym same) ∙ flag in
+            subst (λ k. LastsRise (row_at new k)) (sym same) (subst LastsRise (sym (row_put within)) (put here))
       ]
     ]
 

@@ -1,5 +1,5 @@
 -- What is told stays true where a window has other addresses.
-use Rattle.std.proofs.Common.{◌≡◌, ℕ, ◌+◌, ◌<◌, ◌≤◌, ◌⊎◌, inl, inr, List, length, cond, true, false, Bool, ◌&&◌, get_or, arith, ap, sym, subst, refl, ◌∙◌, Option, Some, None}
+use Rattle.std.proofs.Common.{◌≡◌, ℕ, ◌+◌, ◌<◌, ◌≤◌, ◌⊎◌, inl, inr, List, length, cond, true, false, ◌&&◌, get_or, arith, ap, sym, subst, refl, ◌∙◌, Option, Some, None}
 use Rattle.std.specs.Bool.{◌==◌}
 use Rattle.std.specs.Option.{option_map, option_or}
 use Rattle.std.specs.List.{Contains, sum_by}

@@ -1,5 +1,5 @@
 -- A row that has the ranges of a list has each of them, and no other.
-use Rattle.std.proofs.Common.{◌≡◌, ℕ, ◌<◌, List, [], ◌∷◌, map, cond, true, false, Bool, ◌&&◌, arith, ap, sym, subst, refl, ◌∙◌, inl, inr}
+use Rattle.std.proofs.Common.{◌≡◌, ℕ, ◌<◌, List, [], ◌∷◌, map, cond, true, Bool, ◌&&◌, arith, ap, sym, subst, refl, ◌∙◌, inl, inr}
 use Rattle.std.specs.Bool.{◌==◌}
 use Rattle.std.specs.List.{Contains, sum_by, list_all}
 use Rattle.std.proofs.lemmas.Bool.{cases_Bool, and_parts, and_from, eqb-true, eq-eqb, false_from_ne_true, true≢false}

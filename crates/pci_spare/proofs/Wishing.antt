@@ -8,7 +8,7 @@ use Rattle.std.proofs.lemmas.Bool.{eq-eqb, false_from_ne_true, eqb-true}
 use Rattle.std.proofs.lemmas.List.Elements.{All-contains}
 use Rattle.pci_spec.specs.Window.{WindowKind, IoWindow, MemoryWindow, PrefetchWindow, window_register, has_window}
 use Rattle.pci_spec.specs.Decoded.{Range}
-use Rattle.pci_spec.specs.System.{System, Function, IsFunction, IsSystem, Space, Io, Memory, Part, Window, window_space, space_of}
+use Rattle.pci_spec.specs.System.{System, Function, IsFunction, IsSystem, Space, Io, Memory, window_space, space_of}
 use Rattle.pci_spec.specs.Bus.{is_root, IsNested}
 use Rattle.pci_spec.proofs.BusRanges.{ordered}
 use Rattle.plan_spec.specs.Place.{range_from}

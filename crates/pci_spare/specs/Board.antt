@@ -1,5 +1,5 @@
 -- The board that wishes are granted on, and what is told of it.
-use Rattle.std.specs.Prelude.{◌≡◌, ℕ, ◌<◌, true, false, List, map, length, Option, None, Some, slice_index_or}
+use Rattle.std.specs.Prelude.{◌≡◌, ℕ, ◌<◌, Bool, true, false, List, map, length, Option, None, Some, slice_index_or}
 use Rattle.std.specs.List.{list_any}
 use Rattle.std.specs.Option.{option_map, option_or}
 use Rattle.pci_spec.specs.Slot.{same_slot}
@@ -27,7 +27,7 @@ use Rattle.pci_spare.specs.declared.board.Facts.{Facts}
 use Rattle.pci_spare.specs.declared.room.Room.{Room as CodeRoom}
 use Rattle.pci_spare.specs.Lists.{lists_value}
 use Rattle.pci_spare.specs.Rows.{level, row_number, row_at, HasRanges, AreSameBut, IsEndedIn, IsAddedTo}
-use Rattle.pci_spare.specs.Spots.{FirstsRise}
+use Rattle.pci_spare.specs.Spots.{FirstsRise, LastsRise}
 use Rattle.pci_spare.specs.Tables.{told, TellsSame}
 
 -- a lawful system with these records, and what is asked of it
@@ -81,9 +81,20 @@ IsOver s bus (Some k) = (k < length s) × (bridge_over s bus ≡ Some (function_
 pub record Room : Type 0 where
   pub wished : List (ByKind (Option Range))
   pub rows : List (List Range)
+  -- of which rows it is known that last addresses rise, too
+  pub rising : List Bool
 
 abbrev pub room_value : {A : Type 0} → CodeRoom A → Room
-room_value room = record { wished = room.wished.items; rows = map (λ v. v.items) room.rows.items }
+room_value room = record {
+  wished = room.wished.items;
+  rows = map (λ v. v.items) room.rows.items;
+  rising = room.rising.items;
+}
+
+-- last addresses rise in rows of which that is known
+abbrev pub AreRising : Room → Type 0
+AreRising room =
+    (n : ℕ) → slice_index_or room.rising n false ≡ true → LastsRise (row_at room.rows n)
 
 -- what is told of a window
 abbrev pub told_then : List (ByKind (Option Range)) → Room → BridgeWindow → Option Range
@@ -109,6 +120,8 @@ pub record IsTold (q : Request) (s : System) (k : Kept) (b : Board) (room : Room
 pub record IsRoom (functions : ℕ) (room : Room) : Type 0 where
   pub wished : length room.wished ≡ functions
   pub rows : length room.rows ≡ 514
+  pub flags : length room.rising ≡ 514
+  pub rising : AreRising room
   pub order : (n : ℕ) → FirstsRise (row_at room.rows n)
 
 -- a window ends later

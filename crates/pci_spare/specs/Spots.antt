@@ -20,6 +20,12 @@ FirstsRise taken =
     (j k : ℕ) (d : Range) → j < k → k < length taken
     → (slice_index_or taken j d).first ≤ (slice_index_or taken k d).first
 
+-- no last address is below one before it
+abbrev pub LastsRise : List Range → Type 0
+LastsRise taken =
+    (j k : ℕ) (d : Range) → j < k → k < length taken
+    → (slice_index_or taken j d).last ≤ (slice_index_or taken k d).last
+
 -- the addresses of an extent from a on
 abbrev pub extent_range : Extent → ℕ → Range
 extent_range e a = record { first = a; last = (range_from a e.size).last }

@@ -11,7 +11,8 @@ ghost use Rattle.pci_base.specs.WindowKinds.{kind_value};
 ghost use Rattle.pci_tree.specs.Roots.{buses_of};
 ghost use Rattle.pci_tree.specs.Ways.{IsBridgeToBus};
 ghost use Rattle.pci_spare.specs.Rows.{level, row_number, row_at};
-ghost use Rattle.pci_spare.specs.Board.{room_value, IsAsked, IsWindow, AreFacts, bridge_of, class_of, IsRoom, IsTold};
+ghost use Rattle.pci_spare.specs.Board.{room_value, IsAsked, IsWindow, AreFacts, bridge_of, class_of, AreRising, IsRoom, IsTold};
+ghost use Rattle.pci_spare.specs.Spots.{FirstsRise};
 ghost use Rattle.pci_spare.specs.Endings.{IsEndedAs, IsAround, IsAroundIn};
 
 use crate::board::{Board, BridgeWindow, Facts};
@@ -50,12 +51,15 @@ fn can_end_at<A: Allocator>(
     window: Range,
     last: u64,
 ) -> bool
-    requires { row < length (room_value room.now).rows }
+    requires row { row < length (room_value room.now).rows }
+    requires order { FirstsRise (row_at (room_value room.now).rows row) }
+    requires rising { AreRising (room_value room.now) }
     ensures { result ≡ (not facts.now.fixed && (nat_le last facts.now.highest && list_all
         (λ range. ranges_are_apart (gained (decoded_range_of window) last) (decoded_range_of range))
         (row_at (room_value room.now).rows row))) }
 {
-    !facts.fixed && (last <= facts.highest && is_free_to(room.row(row), window, last))
+    !facts.fixed
+        && (last <= facts.highest && is_free_to(room.row(row), room.lasts_rise(row), window, last))
 }
 
 /// What is around a window with these addresses.

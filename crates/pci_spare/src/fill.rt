@@ -1,5 +1,5 @@
 //! What is there before any wish, row by row.
-ghost use Rattle.std.specs.Prelude.{◌≡◌, ◌<◌, ◌+◌, ℕ, IfOk, OnOk, [], length, map};
+ghost use Rattle.std.specs.Prelude.{◌≡◌, ◌<◌, ◌+◌, ℕ, true, false, IfOk, OnOk, [], length, map, slice_index_or};
 ghost use Rattle.std.specs.List.{All};
 ghost use Rattle.pci_spec.specs.Decoded.{Range as DecodedRange};
 ghost use Rattle.pci_spec.specs.System.{System};
@@ -7,12 +7,13 @@ ghost use Rattle.settle_spec.specs.Lists.{Request};
 ghost use Rattle.settle_spec.specs.Kept.{Kept};
 ghost use Rattle.pci_tree.specs.Roots.{buses_of};
 ghost use Rattle.pci_spare.specs.Board.{room_value, IsAsked, IsRoom, IsTold};
-ghost use Rattle.pci_spare.specs.Rows.{total};
+ghost use Rattle.pci_spare.specs.Rows.{total, row_at};
+ghost use Rattle.pci_spare.specs.Spots.{LastsRise};
 ghost use Rattle.pci_spare.specs.Located.{located_total, window_weight, function_weight, windows_total, ArePut, IsPushed, AreSorted, AreOwn, AreWindowsThen};
 
 use crate::board::{Board, BridgeWindow};
 use crate::room::Room;
-use crate::row::{ROWS, row};
+use crate::row::{ROWS, lasts_rise, row};
 use crate::spot::sort_by_first;
 use crate::table::{nothing_told, told_of};
 use pci_base::memory::OutOfMemory;
@@ -137,6 +138,22 @@ fn windows_of<A: Allocator>(alloc: A, board: &Board) -> Result<Vec<Located, A>, 
     Ok(parts)
 }
 
+/// In which rows last addresses rise.
+fn rising_rows<A: Allocator + Copy>(
+    alloc: A,
+    rows: &[Vec<Range, A>],
+) -> Result<Vec<bool, A>, OutOfMemory>
+    ensures count { IfOk result (λ flags. length flags.items ≡ length rows.now) }
+    ensures rising { IfOk result (λ flags. (n : ℕ) → slice_index_or flags.items n false ≡ true
+        → LastsRise (row_at (map (λ v. v.items) rows.now) n)) }
+{
+    let mut flags = Vec::new(alloc);
+    for row in rows {
+        flags.push(lasts_rise(row.as_slice()))?;
+    }
+    Ok(flags)
+}
+
 /// What is there before any wish. `own` are the BARs and ROMs that have a place.
 pub fn room_of<A: Allocator + Copy>(
     alloc: A,
@@ -156,5 +173,10 @@ pub fn room_of<A: Allocator + Copy>(
     put_all(rows.as_mut_slice(), board.roots, windows.as_slice())?;
     sort_rows(rows.as_mut_slice());
     let wished = nothing_told(alloc, board.records.len())?;
-    Ok(Room { wished, rows })
+    let rising = rising_rows(alloc, rows.as_slice())?;
+    Ok(Room {
+        wished,
+        rows,
+        rising,
+    })
 }

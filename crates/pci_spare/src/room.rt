@@ -1,11 +1,11 @@
 //! What is there with the room that is kept free so far.
-ghost use Rattle.std.specs.Prelude.{◌≡◌, ◌<◌, ℕ, OnOk, length};
+ghost use Rattle.std.specs.Prelude.{◌≡◌, ◌<◌, ℕ, false, OnOk, length, slice_index_or};
 ghost use Rattle.pci_spare.specs.Board.{room_value, told_then, IsRoom, IsEnded, IsOpened};
 ghost use Rattle.pci_spare.specs.Rows.{row_at};
 ghost use Rattle.pci_spare.specs.Spots.{FirstsRise};
 
 use crate::board::BridgeWindow;
-use crate::row::{add, end_later};
+use crate::row::{add, end_later, lasts_rise, note};
 use crate::table::{WindowRanges, tell, told_of};
 use pci_base::memory::OutOfMemory;
 use pci_base::range::Range;
@@ -18,6 +18,8 @@ pub struct Room<A: Allocator> {
     pub wished: Vec<WindowRanges, A>,
     /// Row by row the addresses of what is there, by rising first addresses.
     pub rows: Vec<Vec<Range, A>, A>,
+    /// Of which rows it is known that last addresses rise, too.
+    pub rising: Vec<bool, A>,
 }
 
 impl<A: Allocator> Room<A> {
@@ -39,6 +41,16 @@ impl<A: Allocator> Room<A> {
         self.rows[row].as_slice()
     }
 
+    /// Whether last addresses are known to rise in a row.
+    pub fn lasts_rise(&self, row: usize) -> bool
+        ensures { result ≡ slice_index_or (room_value self.now).rising row false }
+    {
+        match self.rising.get(row) {
+            Some(rising) => *rising,
+            None => false,
+        }
+    }
+
     /// Lets a window end later, which is in a row.
     pub fn end_later(&mut self, window: BridgeWindow, row: usize, range: Range, last: u64)
         requires window { window.bridge < length (room_value self.old).wished }
@@ -46,7 +58,8 @@ impl<A: Allocator> Room<A> {
         ensures ended { IsEnded (room_value self.old) (room_value self.new) window row range last }
         ensures room { (functions : ℕ) → IsRoom functions (room_value self.old) → IsRoom functions (room_value self.new) }
     {
-        end_later(self.rows[row].as_mut_slice(), range, last);
+        let rising = end_later(self.rows[row].as_mut_slice(), range, last);
+        note(&mut self.rising, row, rising);
         let first = range.first;
         tell(
             self.wished.as_mut_slice(),
@@ -70,6 +83,8 @@ impl<A: Allocator> Room<A> {
         ensures room { (functions : ℕ) → IsRoom functions (room_value self.old) → IsRoom functions (room_value self.new) }
     {
         add(&mut self.rows[row], range)?;
+        let rising = lasts_rise(self.rows[row].as_slice());
+        note(&mut self.rising, row, rising);
         tell(
             self.wished.as_mut_slice(),
             window.bridge,

@@ -67,3 +67,9 @@ returns-else-not-end_by-clause-ended g t c = λ q s k told window.
     c.in-Some-facts.facts are c.window_row-row.result c.window_row-row.ensures.row c.end_over-end.result c.end_over-end.ensures
     (sym c.can_end_at.ensures ∙ c.if-not-can_end_at.false) c.in-Window.bridge around.one (around.kept (ending_within q s (class_of c.args.window) (c.args.depth - 1)) k) (room_value c.end_by.new.room) (room_value c.end_later-in-Window.new.self)
     (c.if-not-end_by.ensures.ended q s k told around.one.window) c.end_later-in-Window.ensures.ended
+
+pub returns-in-Lists-clause-room : goal.returns-in-Lists-clause-room
+returns-in-Lists-clause-room g t c = c.end_later.ensures.room _ c.requires.room
+
+pub returns-else-not-end_by-clause-room : goal.returns-else-not-end_by-clause-room
+returns-else-not-end_by-clause-room g t c = c.end_later-in-Window.ensures.room _ c.end_by.ensures.room

@@ -1,4 +1,4 @@
-use Rattle.std.proofs.Common.{length, sym, ◌∙◌}
+use Rattle.std.proofs.Common.{sym, ◌∙◌}
 use Rattle.std.proofs.lemmas.List.{length-map}
 use Rattle.pci_spare.proofs.Filled.{put_next, put_whole}
 use Rattle.pci_spare.proofs.fill.put_all.Goals as goal

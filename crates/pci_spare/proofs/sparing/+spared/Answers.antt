@@ -1,5 +1,5 @@
 -- Where room for a spare is found, and what has changed then.
-use Rattle.std.proofs.Common.{◌-◌, ◌∙◌, arith, sym, ap, subst, Some, true, false}
+use Rattle.std.proofs.Common.{◌-◌, ◌∙◌, arith, sym, ap, subst, true, false}
 use Rattle.std.proofs.lemmas.Result.{IfOk-weaker}
 use Rattle.settle_spec.specs.Parts.{bridge_over}
 use Rattle.settle_spec.specs.Wishes.{spared_within}
@@ -85,3 +85,9 @@ returns-clause-spared g t c = λ q s k told window.
     (subst (λ p. IsSparedAs q s c.args.board.now (spared_within q s (class_of c.args.window) (c.args.depth - 1) (function_in s c.in-Some-bridge_over.bridge) (extent_value c.held_by-held.result) k) p (room_value c.args.room.now) (room_value c.spared.new.room))
     c.in-Some-2.is (c.in_ok-at.ensures.spared q s k told over.window))
     c.in_ok-open_at.ensures.opened c.if-not-facts.false
+
+pub returns-in_err-open_at-clause-room : goal.returns-in_err-open_at-clause-room
+returns-in_err-open_at-clause-room g t c = c.open_at.ensures.room _ c.spared.ensures.room
+
+pub returns-clause-room : goal.returns-clause-room
+returns-clause-room g t c = c.open_at.ensures.room _ c.spared.ensures.room

@@ -1,5 +1,5 @@
 -- Where the first place in an open window is, and whether that can end behind it.
-use Rattle.std.proofs.Common.{◌<◌, ◌-◌, ◌∙◌, ◌^◌, rules, arith, sym, ap, map, subst, List}
+use Rattle.std.proofs.Common.{◌<◌, ◌∙◌, ◌^◌, rules, arith, sym, ap, map, subst, List}
 use Rattle.std.proofs.lemmas.Bool.{both_ways}
 use Rattle.settle_spec.specs.FirstPlace.{first_spot}
 use Rattle.pci_base.specs.declared.range.Range.{Range}

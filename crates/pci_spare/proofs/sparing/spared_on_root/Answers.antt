@@ -22,3 +22,9 @@ returns-clause-spared g c = λ q s k told window are there closed.
     list c.of-list.ensures c.in-Some.at
     (ap (λ (xs : List Range). first_place (ranges_had c.args.facts.now.bus list) (map decoded_range_of xs) (extent_value c.args.extent)) (sym c.row.ensures) ∙ sym c.in-Some.ensures.place)
     (room_value c.open_at.new.room) c.in_ok-open_at.ensures.opened there closed
+
+pub returns-in_err-open_at-clause-room : goal.returns-in_err-open_at-clause-room
+returns-in_err-open_at-clause-room g c = c.open_at.ensures.room _ c.requires.room
+
+pub returns-clause-room : goal.returns-clause-room
+returns-clause-room g c = c.open_at.ensures.room _ c.requires.room
