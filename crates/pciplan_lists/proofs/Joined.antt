@@ -4,7 +4,7 @@ use Rattle.std.proofs.lemmas.List.{append_assoc, append-nil}
 use Rattle.pciplan_lists.specs.Joined.{AreJoined, behind}
 use Rattle.pciplan_lists.proofs.Without.{Without, IsBehind, cut_same}
 
-behind_part : (left : Option (Bor (List ℕ))) → IsBehind 44 (behind left)
+pub behind_part : (left : Option (Bor (List ℕ))) → IsBehind 44 (behind left)
 behind_part None = λ some. absurd (omega (arith, some))
 behind_part (Some left) = λ some. refl
 
@@ -38,7 +38,7 @@ module _ {X : Type 0} (Is : List ℕ → X → Type 0) (clean : (word : List ℕ
     pub is : Is first x
     pub are : AreJoined Is rest more
 
-  first_same : (first rest : List ℕ) (x : X) (more : List X) → Without 44 first → IsBehind 44 rest
+  pub first_same : (first rest : List ℕ) (x : X) (more : List X) → Without 44 first → IsBehind 44 rest
       → AreJoined Is (44 ∷ (first ++ rest)) (x ∷ more) → IsFirst first rest x more
   first_same first rest x more none at are =
       let same = cut_same 44 are.1.word first are.0 rest (clean are.1.word x are.1.is) none (behind_joined are.0 more are.2) at

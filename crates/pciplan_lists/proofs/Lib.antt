@@ -7,4 +7,5 @@ pub mod ListWords
 pub mod SlotWords
 pub mod RisingSlots
 pub mod HostLists
+pub mod SpareWords
 mod ModelWords

@@ -5,3 +5,4 @@ pub mod ListWords
 pub mod SlotWords
 pub mod ModelWords
 pub mod NameWords
+pub mod SpareWords

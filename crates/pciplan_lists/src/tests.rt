@@ -1,6 +1,7 @@
 use crate::host_list::is_good_host_list;
 use crate::list_word::list_of_word;
 use crate::slot_list::slots_of_word;
+use crate::spare_word::spares_of_word;
 use pci_base::range::RootRange;
 use pci_base::slot::Slot;
 use pci_tree::roots::Roots;
@@ -131,6 +132,46 @@ const NO_SLOTS: &[&str] = &[
     "0000:00:02.0",
 ];
 
+/// Words of `--spare`, and what they want of I/O, memory and prefetchable memory.
+const SPARE_WORDS: &[(&str, (u64, u64, u64))] = &[
+    ("io:1000", (0x1000, 0, 0)),
+    ("mem:200000", (0, 0x20_0000, 0)),
+    ("pref:1", (0, 0, 1)),
+    (
+        "io:1000,mem:200000,pref:200000",
+        (0x1000, 0x20_0000, 0x20_0000),
+    ),
+    ("io:0f,pref:a", (0xf, 0, 0xa)),
+    ("mem:1,pref:ffffffffffffffff", (0, 1, 0xffff_ffff_ffff_ffff)),
+];
+
+/// Other words.
+const NO_SPARES: &[&str] = &[
+    "",
+    ",",
+    "none",
+    "io",
+    "io:",
+    "io:0",
+    "io:00",
+    "mem:0,pref:1",
+    "io:1,",
+    ",io:1",
+    "io:1,,mem:1",
+    "io:1,io:1",
+    "mem:1,io:1",
+    "pref:1,mem:1",
+    "io:1,mem:1,pref:1,io:1",
+    "io:1, mem:1",
+    "IO:1",
+    "io:A",
+    "io:0x1",
+    "io:10000000000000000",
+    "io:1-2",
+    "memory:1",
+    "1000",
+];
+
 /// Whether a range is as the table has it.
 fn is_range(one: &RootRange, named: &(Option<u8>, u64, u64)) -> bool {
     (one.root, one.range.first, one.range.last) == *named
@@ -187,6 +228,28 @@ fn is_taken(alloc: Global, roots: &Roots, word: &str) -> Option<bool> {
     match list_of_word(alloc, word) {
         Ok(Some(list)) => Some(is_good_host_list(roots, &list)),
         _ => None,
+    }
+}
+
+/// Whether the sizes of a word are as the table has them.
+fn wants(word: &str, sizes: &(u64, u64, u64)) -> bool {
+    match spares_of_word(word) {
+        Some(found) => (found.io, found.memory, found.prefetchable) == *sizes,
+        None => false,
+    }
+}
+
+#[test]
+fn a_word_of_spares_has_its_sizes(rt: HostRuntime) {
+    for (word, sizes) in SPARE_WORDS {
+        assert!(rt; wants(word, sizes), "{word}");
+    }
+}
+
+#[test]
+fn words_of_no_spares_are_refused(rt: HostRuntime) {
+    for word in NO_SPARES {
+        assert!(rt; spares_of_word(word).is_none(), "{word}");
     }
 }
 
