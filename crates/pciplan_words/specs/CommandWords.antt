@@ -51,6 +51,10 @@ pub record HasSettleWords (rows : List Row) (words : SettleWords) : Type 0 where
   pub pref : first_of (codes "pref") rows ≡ Some words.pref.now
   pub fixed : first_of (codes "fixed") rows ≡ word_of words.fixed
   pub anew : IsFlag (one_of (codes "anew") rows) words.anew
+  pub spare : first_of (codes "spare") rows ≡ word_of words.spare
+  pub slots : first_of (codes "slots") rows ≡ word_of words.slots
+  -- slots are said for spares
+  pub beside : words.spare ≡ None → words.slots ≡ None
   pub writes : IsFlag (one_of (codes "writes") rows) words.writes
 
 -- the task of this name, with the words of its options

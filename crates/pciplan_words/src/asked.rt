@@ -28,6 +28,10 @@ pub struct SettleWords<'a> {
     pub fixed: Option<&'a str>,
     /// Whether nothing is left where it stands.
     pub anew: bool,
+    /// How much room is wanted behind hot-plug slots, where it is said.
+    pub spare: Option<&'a str>,
+    /// The list of bridges with a hot-plug slot, where it is said. It is said beside `spare` alone.
+    pub slots: Option<&'a str>,
     /// Whether the writes are asked for, and not the settled dump.
     pub writes: bool,
 }

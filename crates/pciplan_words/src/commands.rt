@@ -37,6 +37,12 @@ pub const FIXED: &str = "fixed";
 /// The name of the option that leaves nothing where it stands.
 pub const ANEW: &str = "anew";
 
+/// The name of the option that says how much room is wanted behind hot-plug slots.
+pub const SPARE: &str = "spare";
+
+/// The name of the option that lists the bridges with a hot-plug slot.
+pub const SLOTS: &str = "slots";
+
 /// The names of the options that name the pools, or lists of ranges.
 pub const IO: &str = "io";
 
@@ -153,6 +159,8 @@ const SUBCOMMANDS: [Subcommand<'static>; 8] = [
             Argument::Word(ROOT),
             Argument::Word(FIXED),
             Argument::Flag(ANEW),
+            Argument::Word(SPARE),
+            Argument::Word(SLOTS),
             Argument::Flag(WRITES),
         ],
     },

@@ -11,8 +11,8 @@ ghost use Rattle.pciplan_words.specs.declared.asked.WordsFault.{WordsFault};
 
 use crate::asked::{Asked, FaultsWords, Given, MapWords, PlanWords, SettleWords, WordsFault};
 use crate::commands::{
-    ANEW, DUMP, EXACT, FIXED, HOST_IO, HOST_MEM, IO, LEAST, MEM, MODEL, PREF, PROBE, ROOT, WHY,
-    WRITES, command,
+    ANEW, DUMP, EXACT, FIXED, HOST_IO, HOST_MEM, IO, LEAST, MEM, MODEL, PREF, PROBE, ROOT, SLOTS,
+    SPARE, WHY, WRITES, command,
 };
 use clap::ArgMatches;
 use std::alloc::{AllocError, Global};
@@ -89,15 +89,21 @@ fn settle_words<'a>(found: &ArgMatches<'a>) -> Option<SettleWords<'a>>
         ((words : SettleWords) → HasSettleWords (rows_of (found_of found.now)) words → ⊥)
         (HasSettleWords (rows_of (found_of found.now))) }
 {
-    Some(SettleWords {
+    let words = SettleWords {
         root: found.get_str(ROOT),
         io: found.get_str(IO)?,
         mem: found.get_str(MEM)?,
         pref: found.get_str(PREF)?,
         fixed: found.get_str(FIXED),
         anew: found.get_flag(ANEW),
+        spare: found.get_str(SPARE),
+        slots: found.get_str(SLOTS),
         writes: found.get_flag(WRITES),
-    })
+    };
+    if words.spare.is_none() && words.slots.is_some() {
+        return None;
+    }
+    Some(words)
 }
 
 /// The task of this name, with the words of its options.
