@@ -34,7 +34,7 @@ _pciplan() {
     faults) options='--host-io --host-mem --model --root --why' ;;
     map | picture) options='--host-io --host-mem --model --root' ;;
     plan) options='--io --mem --pref --root --why --writes' ;;
-    settle) options='--anew --fixed --io --mem --pref --root --writes' ;;
+    settle) options='--anew --fixed --io --mem --pref --root --slots --spare --writes' ;;
     probe) options='--exact --least' ;;
     explain) options='' most=1 words=$commands ;;
     *) return ;;
@@ -44,7 +44,7 @@ _pciplan() {
     for ((at = 2; at < place; at++)); do
         case $ended${line[at]} in
         --) ended=. ;;
-        --root | --model | --host-io | --host-mem | --io | --mem | --pref | --fixed | --domain | --from | --log)
+        --root | --model | --host-io | --host-mem | --io | --mem | --pref | --fixed | --spare | --slots | --domain | --from | --log)
             said+="${line[at]} "
             [ "${line[at + 1]}" != = ] || at=$((at + 1))
             at=$((at + 1))

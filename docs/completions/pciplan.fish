@@ -32,7 +32,7 @@ function __pciplan_wants_text
     set -l words (__pciplan_words)
     contains -- "$words[2]" show check faults map size plan settle probe picture; or return
     set -e words[1..2]
-    set -l valued --root --model --host-io --host-mem --io --mem --pref --fixed
+    set -l valued --root --model --host-io --host-mem --io --mem --pref --fixed --spare --slots
     set -l texts 0
     set -l before ''
     for word in $words
@@ -78,6 +78,8 @@ complete -c pciplan -n '__pciplan_takes mem plan settle' -l mem -x -d 'Pool or r
 complete -c pciplan -n '__pciplan_takes pref plan settle' -l pref -x -d 'Pool or ranges of prefetchable memory addresses'
 complete -c pciplan -n '__pciplan_takes fixed settle' -l fixed -x -d 'Slots that may not be written'
 complete -c pciplan -n '__pciplan_takes anew settle' -l anew -d 'Leave nothing where it stands'
+complete -c pciplan -n '__pciplan_takes spare settle' -l spare -x -d 'Room behind hot-plug slots'
+complete -c pciplan -n '__pciplan_takes slots settle' -l slots -x -d 'Bridges with a hot-plug slot'
 complete -c pciplan -n '__pciplan_takes writes plan settle' -l writes -d 'Print the register writes'
 complete -c pciplan -n '__pciplan_takes why faults plan' -l why -d 'Tell what stands behind a fault'
 complete -c pciplan -n '__pciplan_takes exact probe' -l exact -d 'Assume nothing'

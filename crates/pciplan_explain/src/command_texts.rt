@@ -160,7 +160,7 @@ pciplan plan DUMP PROBE --io A-B --mem A-B --pref A-B [--root LIST] [--writes]
 
 pub const SETTLE: &str = "\
 pciplan settle DUMP PROBE --io LIST --mem LIST --pref LIST [--root LIST]
-    [--fixed SLOTS] [--anew] [--writes[=FORM]]
+    [--fixed SLOTS] [--anew] [--spare WORDS [--slots SLOTS]] [--writes[=FORM]]
   Leaves what works where it is, and places the rest in three lists of ranges,
   each of all root buses or of one, with windows that are as large as what is in
   them; prints the settled dump, the register writes that lead there, or a
@@ -193,6 +193,16 @@ pciplan settle DUMP PROBE --io LIST --mem LIST --pref LIST [--root LIST]
     nothing.
   --anew
     settle leaves nothing where it stands.
+  --spare WORDS
+    settle keeps so many addresses free behind each bridge with a hot-plug slot,
+    for a card that comes later: io:1000,mem:200000,pref:200000. Of the three
+    classes one has to be said, each with a number of 1 to 16 lower-case hex
+    digits that isn't 0. Nothing moves or goes off for it. A window without room
+    for its spare is left as it is. For each of them standard error has a line
+    pciplan: spare, the slot of the bridge, and 1c, 20 or 24 for the window.
+  --slots SLOTS
+    The bridges with a hot-plug slot, in a list as that of --fixed, in place of
+    those whose capabilities say so. It goes with --spare alone.
   --writes
     plan and settle print a line for each register write in place of the planned
     dump: slot, offset and width, and the value. Made in their order they may
