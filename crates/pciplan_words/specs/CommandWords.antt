@@ -1,5 +1,5 @@
 -- What the words of a subcommand say, by the rows in which clap keeps the words of its options and paths.
-use Rattle.std.specs.Prelude.{◌≡◌, Bool, true, false, List, Option, None, Some, codes, option_map}
+use Rattle.std.specs.Prelude.{◌≡◌, ◌≢◌, Bool, true, false, List, Option, None, Some, codes, option_map}
 use Rattle.std.specs.Borrow.{Bor}
 use Rattle.clap.specs.Words.{Row, Text, first_of, one_of}
 use Rattle.pciplan_words.specs.declared.asked.Asked.{Asked}
@@ -53,9 +53,15 @@ pub record HasSettleWords (rows : List Row) (words : SettleWords) : Type 0 where
   pub anew : IsFlag (one_of (codes "anew") rows) words.anew
   pub spare : first_of (codes "spare") rows ≡ word_of words.spare
   pub slots : first_of (codes "slots") rows ≡ word_of words.slots
-  -- slots are said for spares
-  pub beside : words.spare ≡ None → words.slots ≡ None
   pub writes : IsFlag (one_of (codes "writes") rows) words.writes
+
+-- slots are said where spares are
+abbrev pub AreSlotsForSpares : SettleWords → Type 0
+AreSlotsForSpares words = words.spare ≡ None → words.slots ≡ None
+
+-- slots are said, and no spares
+abbrev pub AreSlotsAlone : SettleWords → Type 0
+AreSlotsAlone words = (words.spare ≡ None) × (words.slots ≢ None)
 
 -- the task of this name, with the words of its options
 abbrev pub IsTaskAsked : Text → List Row → Asked → Type 0
@@ -66,7 +72,8 @@ IsTaskAsked name rows (Faults words) = (name ≡ codes "faults") × HasFaultsWor
 IsTaskAsked name rows (Map words) = (name ≡ codes "map") × HasMapWords rows words
 IsTaskAsked name rows Size = name ≡ codes "size"
 IsTaskAsked name rows (Plan words) = (name ≡ codes "plan") × HasPlanWords rows words
-IsTaskAsked name rows (Settle words) = (name ≡ codes "settle") × HasSettleWords rows words
+IsTaskAsked name rows (Settle words) =
+    (name ≡ codes "settle") × HasSettleWords rows words × AreSlotsForSpares words
 IsTaskAsked name rows (Probe exact least) =
     (name ≡ codes "probe") × IsFlag (one_of (codes "exact") rows) exact
     × IsFlag (one_of (codes "least") rows) least

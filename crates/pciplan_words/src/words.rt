@@ -3,7 +3,7 @@ ghost use Rattle.std.specs.Prelude.{◌≡◌, ◌≢◌, ◌⊎◌, List, ℕ, 
 ghost use Rattle.clap.specs.Words.{found_of, kind_of, rows_of};
 ghost use Rattle.clap.specs.declared.error.kind.ErrorKind.{ErrorKind};
 ghost use Rattle.pciplan_words.specs.CommandLines.{IsGiven, HasNoLine};
-ghost use Rattle.pciplan_words.specs.CommandWords.{HasFaultsWords, HasMapWords, HasPlanWords, HasSettleWords, IsTaskAsked, IsSaid};
+ghost use Rattle.pciplan_words.specs.CommandWords.{HasFaultsWords, HasMapWords, HasPlanWords, HasSettleWords, AreSlotsForSpares, AreSlotsAlone, IsTaskAsked, IsSaid};
 ghost use Rattle.pciplan_words.specs.declared.asked.Asked.{Asked};
 ghost use Rattle.pciplan_words.specs.declared.asked.PlanWords.{PlanWords};
 ghost use Rattle.pciplan_words.specs.declared.asked.SettleWords.{SettleWords};
@@ -89,7 +89,7 @@ fn settle_words<'a>(found: &ArgMatches<'a>) -> Option<SettleWords<'a>>
         ((words : SettleWords) → HasSettleWords (rows_of (found_of found.now)) words → ⊥)
         (HasSettleWords (rows_of (found_of found.now))) }
 {
-    let words = SettleWords {
+    Some(SettleWords {
         root: found.get_str(ROOT),
         io: found.get_str(IO)?,
         mem: found.get_str(MEM)?,
@@ -99,15 +99,22 @@ fn settle_words<'a>(found: &ArgMatches<'a>) -> Option<SettleWords<'a>>
         spare: found.get_str(SPARE),
         slots: found.get_str(SLOTS),
         writes: found.get_flag(WRITES),
-    };
-    if words.spare.is_none() && words.slots.is_some() {
-        return None;
+    })
+}
+
+/// The words, where slots are said for spares alone.
+fn slots_for_spares<'a>(words: SettleWords<'a>) -> Option<SettleWords<'a>>
+    ensures { MatchOption result (AreSlotsAlone words.entry)
+        (λ w. (w ≡ words.entry) × AreSlotsForSpares w) }
+{
+    match (words.spare, words.slots) {
+        (None, Some(_)) => None,
+        _ => Some(words),
     }
-    Some(words)
 }
 
 /// The task of this name, with the words of its options.
-#[tactic(auto, using(crate::proofs::CommandWords::word_there, crate::proofs::CommandWords::flag_there))]
+#[tactic(auto, using(crate::proofs::CommandWords::word_there, crate::proofs::CommandWords::flag_there, crate::proofs::CommandWords::slots_alone))]
 fn asked_of<'a>(name: &str, found: &ArgMatches<'a>) -> Option<Asked<'a>>
     ensures { MatchOption result
         ((asked : Asked) → IsTaskAsked name.now (rows_of (found_of found.now)) asked → ⊥)
@@ -122,7 +129,7 @@ fn asked_of<'a>(name: &str, found: &ArgMatches<'a>) -> Option<Asked<'a>>
         "map" => Some(Asked::Map(map_words(found))),
         "size" => Some(Asked::Size),
         "plan" => Some(Asked::Plan(plan_words(found)?)),
-        "settle" => Some(Asked::Settle(settle_words(found)?)),
+        "settle" => Some(Asked::Settle(slots_for_spares(settle_words(found)?)?)),
         "probe" => Some(Asked::Probe {
             exact: found.get_flag(EXACT),
             least: found.get_flag(LEAST),

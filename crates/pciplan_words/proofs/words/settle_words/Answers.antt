@@ -13,5 +13,7 @@ returns c =
       pref = word_there found (codes "pref") (Some c.in_ok-get_str-3.field-0) c.in_ok-get_str-3.ensures;
       fixed = word_there found (codes "fixed") c.get_str-5.result c.get_str-5.ensures;
       anew = flag_there found (codes "anew") c.get_flag.result c.get_flag.ensures.none c.get_flag.ensures.value c.get_flag.ensures.other;
+      spare = word_there found (codes "spare") c.get_str-6.result c.get_str-6.ensures;
+      slots = word_there found (codes "slots") c.get_str-7.result c.get_str-7.ensures;
       writes = flag_there found (codes "writes") c.get_flag-2.result c.get_flag-2.ensures.none c.get_flag-2.ensures.value c.get_flag-2.ensures.other;
     }
