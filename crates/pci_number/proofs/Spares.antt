@@ -18,7 +18,7 @@ read_there now before slot offset value same read = λ v high last image behind 
 
 -- ---- a slot of a PCI Express port
 
-slot_says : (image : List ℕ) (place express capabilities : ℕ) → express ≡ byte_at image (place + 3) → capabilities ≡ byte_at image (place + 20) → (nat_eq (express % 2) 1 && nat_eq (capabilities / 64 % 2) 1) ≡ (has_bit (byte_at image (place + 3)) 0 && has_bit (byte_at image (place + 20)) 6)
+pub slot_says : (image : List ℕ) (place express capabilities : ℕ) → express ≡ byte_at image (place + 3) → capabilities ≡ byte_at image (place + 20) → (nat_eq (express % 2) 1 && nat_eq (capabilities / 64 % 2) 1) ≡ (has_bit (byte_at image (place + 3)) 0 && has_bit (byte_at image (place + 20)) 6)
 slot_says image place express capabilities of_express of_capabilities =
     let whole : byte_at image (place + 3) / 1 % 2 ≡ express % 2 = omega (arith, of_express) in
     rw (whole, of_capabilities) refl
@@ -58,7 +58,7 @@ port_capability image place id has of no_controller port near says =
 
 -- ---- the list
 
-no_list : (image : List ℕ) (status : ℕ) → status ≡ byte_at image 6 → status / 16 % 2 ≡ 0 → has_hot_plug_slot image ≡ false
+pub no_list : (image : List ℕ) (status : ℕ) → status ≡ byte_at image 6 → status / 16 % 2 ≡ 0 → has_hot_plug_slot image ≡ false
 no_list image status of none =
     let bit : has_bit (number_at image 6 2) 4 ≡ false = ne_eqb (number_at image 6 2 / 16 % 2) 1 (omega (arith, of, none)) in
     rw bit refl

@@ -4,6 +4,7 @@
 #![tactic(auto)]
 
 pub mod board_laws;
+pub mod hot_plug;
 mod hush;
 mod lead;
 mod look;

@@ -11,27 +11,27 @@ use pci_base::offset::{CAPABILITIES_POINTER, STATUS};
 use pci_base::slot::Slot;
 
 /// The Capability IDs of a Standard Hot-Plug Controller and of PCI Express (PCI 3.0, appendix H).
-const HOT_PLUG_CONTROLLER: u8 = 0x0c;
+pub const HOT_PLUG_CONTROLLER: u8 = 0x0c;
 
-const EXPRESS: u8 = 0x10;
+pub const EXPRESS: u8 = 0x10;
 
 /// Where the upper byte of PCI Express Capabilities, and Slot Capabilities, stand in a PCI Express
 /// capability.
-const EXPRESS_CAPABILITIES_HIGH: u8 = 0x03;
+pub const EXPRESS_CAPABILITIES_HIGH: u8 = 0x03;
 
-const SLOT_CAPABILITIES: u8 = 0x14;
+pub const SLOT_CAPABILITIES: u8 = 0x14;
 
 /// From here on Slot Capabilities would begin behind the 256 bytes.
-const NO_SLOT_FROM: u8 = 0xec;
+pub const NO_SLOT_FROM: u8 = 0xec;
 
 /// The first place behind the header.
-const FIRST_PLACE: u8 = 0x40;
+pub const FIRST_PLACE: u8 = 0x40;
 
 /// The most places that a list can have without coming to one twice.
-const MOST_PLACES: u8 = 48;
+pub const MOST_PLACES: u8 = 48;
 
 /// The place that a pointer leads to: its two low bits are reserved.
-fn place_of(pointer: u8) -> u8
+pub fn place_of(pointer: u8) -> u8
     ensures { result ≡ pointer / 4 * 4 }
 {
     pointer / 4 * 4
