@@ -4,15 +4,16 @@ use Rattle.std.specs.Option.{is_some}
 use Rattle.std.specs.List.{slice_get}
 use Rattle.std.proofs.lemmas.List.{map-append, take_all, take_more}
 use Rattle.std.proofs.lemmas.Option.{slice_get_within, get_or_from_slice_get}
+use Rattle.settle_laws.specs.KeptLaws.{WishesNothing}
 use Rattle.pci_spec.specs.Decoded as decoded
 use Rattle.pci_spec.specs.Text.{Block}
 use Rattle.pci_spec.specs.Window.{WindowKind}
-use Rattle.pci_spec.specs.System.{System, Function, Space, IsSystem, Window, is_bridge}
+use Rattle.pci_spec.specs.System.{System, Function, Space, IsSystem, is_bridge}
 use Rattle.pci_spec.specs.Bus.{secondary, IsNested}
 use Rattle.settle_spec.specs.Lists.{Request}
 use Rattle.settle_spec.specs.Kept.{Kept}
 use Rattle.settle_spec.specs.Keeping.Registers.{settled_function}
-use Rattle.settle_spec.specs.Keeping.Writes.{changes_at, is_shut_itself, closing_command}
+use Rattle.settle_spec.specs.Keeping.Writes.{changes_window, is_shut_itself, closing_command}
 use Rattle.pci_base.specs.Space.{is_on}
 use Rattle.pci_function.specs.declared.record.Bridge.{Bridge}
 use Rattle.pci_function.specs.declared.record.Record.{Record}
@@ -29,6 +30,7 @@ use Rattle.pci_settle_writes.specs.Stages.{AreOf, AreSettledBlocks}
 use Rattle.pci_settle_writes.proofs.StagedWrites.{same_at}
 use Rattle.pci_settle_writes.proofs.Ways.{no_way, on_root, behind_bridge}
 use Rattle.pci_settle_writes.proofs.Moving.{window_is, itself_is, shut_is, closing_is}
+use Rattle.pci_settle_writes.proofs.Unwished.{changes_alike}
 
 -- the first k functions are passed
 pub record AreClosedTo (q : Request) (roots : List ℕ) (s : System) (keep : Kept) (k : ℕ) (ways : List Way)
@@ -79,13 +81,13 @@ module _ (q : Request) (roots : List ℕ) (s : System) (keep : Kept) (system : I
           let off : is_bridge f ≡ false = sym (same_bridge r f is.value) ∙ ap is_some none in
           record { marks = same_after (IsWay q s keep) roots s system nested k f at ways was.marks off; values = values_more }
 
-      pub closed_more : (b : Bridge) → r.bridge ≡ Some b → (to : ℕ) → to ≡ b.secondary → (same : ByClass) → ((c : WindowKind) → in_class same c ≡ not (is_window_changed c old new)) → (next : Way)
+      pub closed_more : WishesNothing keep → (b : Bridge) → r.bridge ≡ Some b → (to : ℕ) → to ≡ b.secondary → (same : ByClass) → ((c : WindowKind) → in_class same c ≡ not (is_window_changed c old new)) → (next : Way)
           → ((x : Space) → in_space next.on x ≡ (in_space o.way.on x && is_on r.command x)) → ((x : Space) → in_space next.clear x ≡ (in_space o.way.clear x && not (in_space itself x)))
           → ((c : WindowKind) → in_class next.same c ≡ (in_class o.way.same c && in_class same c)) → AreClosedTo q roots s keep (k + 1) (set ways to next) cs
-      closed_more b some to to_is same same_by next on clear stay =
+      closed_more none b some to to_is same same_by next on clear stay =
           let bridge : is_bridge f ≡ true = sym (same_bridge r f is.value) ∙ ap is_some some in
           let leads : to ≡ secondary f = to_is ∙ ap (λ (x : decoded.Bridge). x.secondary) (same_bridge_of r f b is.value some) in
-          let stays : (c : WindowKind) → in_class same c ≡ not (changes_at q s keep f (Window c)) = λ c. same_by c ∙ ap not (window_is q s keep f old new old_is new_is c) in
+          let stays : (c : WindowKind) → in_class same c ≡ not (changes_window q s keep c f) = λ c. same_by c ∙ ap not (window_is q s keep f old new old_is new_is c ∙ sym (changes_alike q s keep none c f)) in
           record {
             marks = put_after (IsWay q s keep) roots s system nested k f at ways was.marks to next bridge leads
                 (behind_bridge roots q s keep system nested f r is bridge o.way next itself same around.way itself_same stays on clear stay);

@@ -27,6 +27,7 @@ use Rattle.pci_place.specs.Above.{IsAbove}
 use Rattle.pci_place.specs.Records.{IsRecordOf}
 use Rattle.pci_place.proofs.Parts.{bars_in, bars_of, rom_of}
 use Rattle.pci_settle.specs.declared.own.Terms.{Terms}
+use Rattle.pci_settle.specs.Slots.{demand_of}
 use Rattle.pci_settle.specs.Own.{AreTerms}
 use Rattle.pci_settling.proofs.KeptClaims.{left_is, rom_on_is}
 use Rattle.pci_settling.proofs.PlacedImages.{register_place}
@@ -56,7 +57,7 @@ first_of_four value false false true d x y z w = refl
 first_of_four value false false false true x y z w = refl
 first_of_four value false false false false x y z w = refl
 
-module _ (q : Request) (s : System) (f : Function) (r : Record) (is : IsRecordOf s f r) (above : Above) (over : IsAbove s f.slot.bus above) (t : Terms) (terms : AreTerms q.lists t) (told : Kept) (test : FunctionPart → Bool) where
+module _ (q : Request) (s : System) (f : Function) (r : Record) (is : IsRecordOf s f r) (above : Above) (over : IsAbove s f.slot.bus above) (t : Terms) (terms : AreTerms (demand_of q) t) (told : Kept) (test : FunctionPart → Bool) where
   abbrev region : Part → FunctionPart
   region part = record { function = f; part = part }
 

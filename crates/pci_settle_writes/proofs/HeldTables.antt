@@ -8,7 +8,7 @@ use Rattle.pci_spec.specs.Slot.{Slot}
 use Rattle.pci_spec.specs.System.{System}
 use Rattle.pci_spec.specs.Decoded.{HasRecords}
 use Rattle.pci_spec.specs.Decoded as decoded
-use Rattle.settle_spec.specs.Lists.{Lists, Request}
+use Rattle.settle_spec.specs.Lists.{Request}
 use Rattle.settle_spec.specs.Parts.{FunctionPart, system_parts}
 use Rattle.settle_spec.specs.Stands.{stands}
 use Rattle.settle_spec.specs.Items.{has_room_behind, stays}
@@ -21,6 +21,7 @@ use Rattle.pci_place.specs.Above.{system_in}
 use Rattle.pci_settle.specs.declared.kept.Kept.{Kept}
 use Rattle.pci_settle.specs.declared.over.Left.{Left}
 use Rattle.pci_settle.specs.declared.over.OpenWindows.{OpenWindows}
+use Rattle.pci_settle.specs.Slots.{Demand}
 use Rattle.pci_settle.specs.Kept.{kept_of, nothing_kept, AreNone}
 use Rattle.pci_settle.specs.Keeping.{TellsKept}
 use Rattle.pci_settle.specs.Over.{AreOpenOver}
@@ -64,7 +65,7 @@ pub left_opened : {records : List Record} {overs windows : List OpenWindows} →
     → (q : Request) (s : System) → AreOpenFor q s records overs
 left_opened {records} opened same q s = subst (AreOpenFor q s records) (sym same) (opened q s)
 
-module _ (a : Admission) (l : Lists) where
+module _ (a : Admission) (l : Demand) where
   -- where all is placed anew
   module _ (table : List Kept) (count : length table ≡ length (system_in a)) (none : AreNone table) (q : Request) (is : IsAskedOf q a.roots l) (anew : IsTrue q.anew) where
     pub stand_anew : IsTableOf (system_in a) (stands q (system_in a)) table
@@ -79,14 +80,15 @@ module _ (a : Admission) (l : Lists) where
         → AreAskedFor q (as_it_stands q (system_in a)) a l left table
     told_anew left no_windows none_kept none_grown found = record {
       asked = is;
-      leaving = leaves a.roots (system_in a) l left no_windows none_kept none_grown q record { rooted = is.roots_are; anew = anew; lists = is.lists_are };
+      leaving = leaves a.roots (system_in a) l left no_windows none_kept none_grown q record { rooted = is.roots_are; anew = anew; demands = is.demands_are };
       kept = fixed_kept a q (as_it_stands q (system_in a)) (found (stands q (system_in a)) stand_anew) (found (stays q (system_in a)) stay_anew);
       stay = stay_anew;
+      none = refl;
     }
 
   -- where something may stay
   pub asked_is : (fixed : List Slot) → IsAskedOf (asked a.roots l fixed) a.roots l
-  asked_is fixed = record { roots_are = refl; lists_are = refl }
+  asked_is fixed = record { roots_are = refl; demands_are = refl }
 
   module _ (fixed : List Slot) (table : List Kept) {made : List Kept} (is : table ≡ made) where
     pub table_stand : AreStanding (asked a.roots l fixed) (system_in a) made → IsTableOf (system_in a) (stands (asked a.roots l fixed) (system_in a)) table
@@ -107,7 +109,7 @@ module _ (a : Admission) (l : Lists) where
       pub leaving_rest : IsLeaving (asked a.roots l fixed) (as_it_stands (asked a.roots l fixed) (system_in a)) a.roots (system_in a) l left
       leaving_rest = record {
         rooted = refl;
-        lists = refl;
+        demands = refl;
         overs_are = overs;
         keeps_is = stands_told (asked a.roots l fixed) (system_in a) left none_grown
             (λ k f part at there. ap (λ t. kept_of (slice_index_or t k nothing_kept) part) kept_is ∙ stay.each k f part at there);
@@ -123,13 +125,14 @@ module _ (a : Admission) (l : Lists) where
         leaving = leaving_rest;
         kept = kept;
         stay = table_stay fixed staying stayed_is (has_room_behind (asked a.roots l fixed) (system_in a)) stay;
+        none = refl;
       }
 
     -- where windows grow
     module _ (grown : Grown) (stays_are : grown.stays ≡ stayed) (are : AreGrown (asked a.roots l fixed) (system_in a) grown)
         (tells : TellsKept (asked a.roots l fixed) (system_in a) (growing (asked a.roots l fixed) (system_in a)) left) where
       pub leaving_grown : IsLeaving (asked a.roots l fixed) (growing (asked a.roots l fixed) (system_in a)) a.roots (system_in a) l left
-      leaving_grown = record { rooted = refl; lists = refl; overs_are = overs; keeps_is = tells }
+      leaving_grown = record { rooted = refl; demands = refl; overs_are = overs; keeps_is = tells }
 
       pub grown_can_be_left : CanBeLeft a.roots (system_in a) l left
       grown_can_be_left = record { request = asked a.roots l fixed; keep = growing (asked a.roots l fixed) (system_in a); leaving = leaving_grown }
@@ -140,4 +143,4 @@ module _ (a : Admission) (l : Lists) where
 
       pub told_grown : AreFixedKept (asked a.roots l fixed) (system_in a) (growing (asked a.roots l fixed) (system_in a))
           → AreAskedFor (asked a.roots l fixed) (growing (asked a.roots l fixed) (system_in a)) a l left staying
-      told_grown kept = record { asked = asked_is fixed; leaving = leaving_grown; kept = kept; stay = table_grown }
+      told_grown kept = record { asked = asked_is fixed; leaving = leaving_grown; kept = kept; stay = table_grown; none = refl }

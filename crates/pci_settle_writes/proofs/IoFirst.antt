@@ -22,12 +22,13 @@ use Rattle.pci_base.specs.WindowKinds.{kind_value}
 use Rattle.pci_tree.specs.Admission.{Admission}
 use Rattle.pci_place.specs.Above.{system_in}
 use Rattle.pci_place.specs.Items.{function_in}
+use Rattle.pci_settle.specs.Slots.{Demand, demand_of}
 use Rattle.pci_settle.specs.NewWindows.{IsTooLarge}
 use Rattle.pci_settled.specs.declared.anew.Unplaced.{Unplaced}
 use Rattle.pci_settled.specs.declared.anew.Unplaced.TheVariants as unplaced
 use Rattle.pci_settled.specs.Candidates.{candidate_value}
 use Rattle.pci_settle.specs.declared.over.Left.{Left}
-use Rattle.pci_settled.specs.Placed.{IsFirstWindowTooLarge, IsLeaving, IsUnplacedOff}
+use Rattle.pci_settled.specs.Placed.{IsFirstWindowTooLarge, IsLeaving, CanBeLeft, IsUnplacedOff}
 use Rattle.pci_stay.specs.declared.windows.TooLarge.{TooLarge}
 use Rattle.pci_settle_writes.specs.declared.lack.SettleFault.{SettleFault}
 use Rattle.pci_settle_writes.specs.declared.lack.SettleFault.TheVariants as fault
@@ -180,8 +181,19 @@ large_in_io a q w (fault.NoRoom lack) is of = absurd of
 large_in_io a q w (fault.Fixed slot reg) is of = absurd of
 large_in_io a q w (fault.TooLarge name slot) is of = (ap kind_value of.0 ∙ is.0, record { function = w.function; is = of.1; large = is.1 })
 
+-- lists that are those of I/O alone
+module _ (roots : List ℕ) (s : System) (left : Left) {d x : Demand} (same : x ≡ d) where
+  pub can_alone : CanBeLeft roots s d left → CanBeLeft roots s x left
+  can_alone can = subst (λ y. CanBeLeft roots s y left) (sym same) can
+
+  pub leaving_alone : (q : Request) (keep : Kept) → IsLeaving q keep roots s d left → IsLeaving q keep roots s x left
+  leaving_alone q keep leaving = subst (λ y. IsLeaving q keep roots s y left) (sym same) leaving
+
+  pub unplaced_alone : (e : Refused Unplaced) → IsUnplacedOff roots s x left e → IsUnplacedOff roots s d left e
+  unplaced_alone e is = subst (λ y. IsUnplacedOff roots s y left e) same is
+
 -- whatever leaves what stays by the lists of I/O alone
-pub is_alone : (q : Request) (s : System) (left : Left) → IsLeaving (io_alone q) (as_it_stands (io_alone q) s) q.roots s (io_alone q).lists left → (u : Unplaced) → IsUnplacedOff q.roots s (io_alone q).lists left (refused.Fault u) → IsAlone q s u
+pub is_alone : (q : Request) (s : System) (left : Left) → IsLeaving (io_alone q) (as_it_stands (io_alone q) s) q.roots s (demand_of (io_alone q)) left → (u : Unplaced) → IsUnplacedOff q.roots s (demand_of (io_alone q)) left (refused.Fault u) → IsAlone q s u
 is_alone q s left leaving (unplaced.Lacks x) is = is (io_alone q) (as_it_stands (io_alone q) s) leaving
 is_alone q s left leaving (unplaced.TooLarge class k) is = is (io_alone q) (as_it_stands (io_alone q) s) leaving
 

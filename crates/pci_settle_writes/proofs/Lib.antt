@@ -1,3 +1,4 @@
+pub mod Unwished
 pub mod Ways
 pub mod StagedWrites
 pub mod Moving

@@ -21,7 +21,7 @@ use Rattle.settle_spec.specs.Registers.{has_own}
 use Rattle.settle_spec.specs.Writes.{differs_at, part_registers, is_cut_off_in}
 use Rattle.settle_spec.specs.Kept.{Kept}
 use Rattle.settle_spec.specs.Keeping.Registers.{settled_function}
-use Rattle.settle_spec.specs.Keeping.Writes.{changes_at, changes_above, moves, has_moving, is_shut_itself, is_shut, closing_command}
+use Rattle.settle_spec.specs.Keeping.Writes.{changes_at, changes_window, changes_above, moves, has_moving, is_shut_itself, is_shut, closing_command}
 use Rattle.pci_base.specs.Space.{is_on}
 use Rattle.pci_image.specs.declared.bar.Bar.{Bar as CodeBar}
 use Rattle.pci_image.specs.Bars.{decoded_bar_of}
@@ -89,7 +89,7 @@ module _ (q : Request) (s : System) (keep : Kept) (f : Function) (old new : List
 
 module _ (q : Request) (s : System) (keep : Kept) (f : Function) (r : Record) (is : IsRecordOf s f r) (o : Around) (at : IsAround q s keep f o) where
   above_is : (c : WindowKind) → not (in_class o.way.same c) ≡ changes_above q s keep c f.slot.bus
-  above_is c = ap not (at.way.same c) ∙ not_none (λ b. changes_at q s keep b (Window c)) (bridges_above s f.slot.bus)
+  above_is c = ap not (at.way.same c) ∙ not_none (changes_window q s keep c) (bridges_above s f.slot.bus)
 
   abbrev region : Part → FunctionPart
   region part = record { function = f; part = part }

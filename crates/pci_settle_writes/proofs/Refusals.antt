@@ -7,7 +7,7 @@ use Rattle.std.proofs.lemmas.Option.{none-some, same_Some}
 use Rattle.pci_spec.specs.Machine.{Write}
 use Rattle.pci_spec.specs.Slot.{same_slot}
 use Rattle.pci_spec.specs.System.{System, IsSystem, Io, Memory, window_space}
-use Rattle.settle_spec.specs.Lists.{Lists, Request}
+use Rattle.settle_spec.specs.Lists.{Request}
 use Rattle.settle_spec.specs.Parts.{FunctionPart, system_parts}
 use Rattle.settle_spec.specs.Stands.{is_fixed_part, stands}
 use Rattle.settle_spec.specs.Writes.{Settled, or_lack, fixed_without, fixed_write}
@@ -20,6 +20,7 @@ use Rattle.pci_base.specs.WindowKinds.{kind_value}
 use Rattle.pci_tree.specs.Admission.{Admission}
 use Rattle.pci_place.specs.Above.{system_in}
 use Rattle.pci_settle.specs.declared.over.Left.{Left}
+use Rattle.pci_settle.specs.Slots.{Demand}
 use Rattle.pci_settle.specs.NewWindows.{IsTooLarge}
 use Rattle.pci_settled.specs.declared.anew.Unplaced.{Unplaced}
 use Rattle.pci_settled.specs.declared.anew.Unplaced.TheVariants as unplaced
@@ -35,7 +36,7 @@ use Rattle.pci_settle_writes.specs.Endings.{then_writes, after_lists, AreFixedKe
 use Rattle.pci_settle_writes.proofs.Lacking.{lack_named}
 use Rattle.pci_settle_writes.proofs.Endings.{ends_unstanding, ends_unstaying, ends_written, ends_settled, past_fixed}
 
-module _ (roots : List ℕ) (l : Lists) (left : Left) where
+module _ (roots : List ℕ) (l : Demand) (left : Left) where
   pub named : (s : System) → IsSystem s → CanBeLeft roots s l left → (u : Unplaced) → IsUnplacedOff roots s l left (refused.Fault u) → IsOfSystem s u
   named s system can (unplaced.Lacks x) is = lack_named s system x can.request can.keep (is can.request can.keep can.leaving)
   named s system can (unplaced.TooLarge class k) is = (is can.request can.keep can.leaving).large.within
@@ -49,7 +50,7 @@ none_in : {X : Type 0} (p : X → Bool) → ((x : X) → p x ≡ false) → (xs 
 none_in p none [] = refl
 none_in p none (x ∷ xs) = ap (λ b. cond b (Some x) (find p xs)) (none x) ∙ none_in p none xs
 
-module _ (a : Admission) (l : Lists) (left : Left) where
+module _ (a : Admission) (l : Demand) (left : Left) where
   pub lack_of_fault : (u : Unplaced) (f : SettleFault) → IsUnplacedOff a.roots (system_in a) l left (refused.Fault u) → IsSettleFaultOf (system_in a) u f
       → IsLackOff a l left (refused.Fault f)
   lack_of_fault (unplaced.Lacks x) fault.BadLists is of = absurd of

@@ -11,7 +11,7 @@ use Rattle.pci_spec.specs.Bus.{secondary, IsNested}
 use Rattle.pci_spec.specs.Decoded.{HasRecords}
 use Rattle.pci_spec.specs.Decoded as decoded
 use Rattle.pci_spec.proofs.Pairing.{same_length}
-use Rattle.settle_spec.specs.Lists.{Request, Lists}
+use Rattle.settle_spec.specs.Lists.{Request}
 use Rattle.settle_spec.specs.Parts.{addresses}
 use Rattle.settle_spec.specs.Stands.{window_part}
 use Rattle.settle_spec.specs.LiveLaws.{has_live_behind}
@@ -31,6 +31,7 @@ use Rattle.pci_place.specs.declared.above.Above.{Above}
 use Rattle.pci_place.specs.Above.{IsAbove, AreAboves, system_in}
 use Rattle.pci_place.specs.Records.{IsRecordOf}
 use Rattle.pci_settle.specs.declared.own.Terms.{Terms}
+use Rattle.pci_settle.specs.Slots.{Demand}
 use Rattle.pci_settle.specs.Own.{AreTerms}
 use Rattle.pci_settled.specs.declared.places.Places.{Places}
 use Rattle.pci_settled.specs.Places.{place_range_in}
@@ -49,8 +50,8 @@ use Rattle.pci_settle_writes.proofs.StagedWrites.{kept_window}
 
 -- ---- what is asked for
 
-pub request_by : (q : Request) (roots : List ℕ) (l : Lists) (t : Terms) → IsAskedOf q roots l → AreTerms l t → IsRequestOfTerms q roots t
-request_by q roots l t asked terms = record { rooted = asked.roots_are; terms = subst (λ x. AreTerms x t) (sym asked.lists_are) terms }
+pub request_by : (q : Request) (roots : List ℕ) (l : Demand) (t : Terms) → IsAskedOf q roots l → AreTerms l t → IsRequestOfTerms q roots t
+request_by q roots l t asked terms = record { rooted = asked.roots_are; terms = subst (λ x. AreTerms x t) (sym asked.demands_are) terms }
 
 -- ---- what is told of a function
 
@@ -88,6 +89,7 @@ module _ (roots : List ℕ) (s : System) (system : IsSystem s) (nested : IsNeste
     ranges = λ c there stays.
         tells.ranges_are k f (Window c) at there stays
         ∙ ap (λ x. range_or (option_map decoded_range_of (told_of_kind x c)) (addresses (window_part c f))) (sym g_is);
+    none = tells.none;
   }
 
   -- and so is what tells its Command
@@ -104,13 +106,13 @@ module _ (roots : List ℕ) (s : System) (system : IsSystem s) (nested : IsNeste
 -- ---- block by block
 
 -- what is asked for, with the places that parts get and what stays by these tables
-pub record IsAskedBy (q : Request) (keep : Keeping) (roots : List ℕ) (s : System) (l : Lists) (table : List Places) (grown : List (ByKind (Option Range))) (staying : List Kept) : Type 0 where
+pub record IsAskedBy (q : Request) (keep : Keeping) (roots : List ℕ) (s : System) (l : Demand) (table : List Places) (grown : List (ByKind (Option Range))) (staying : List Kept) : Type 0 where
   pub asked : IsAskedOf q roots l
   pub places : HasAllPlaces q s keep table
   pub tells : TellsKeeping q s keep grown staying
 
 -- a function is as it is to be, whatever is asked for
-abbrev pub IsSettledOf : List ℕ → System → Lists → List Places → List (ByKind (Option Range)) → List Kept → Function → Function → Type 0
+abbrev pub IsSettledOf : List ℕ → System → Demand → List Places → List (ByKind (Option Range)) → List Kept → Function → Function → Type 0
 IsSettledOf roots s l table grown staying f g = (q : Request) (keep : Keeping) → IsAskedBy q keep roots s l table grown staying → g ≡ settled_function q s keep f
 
 -- the function of a block, with its record and its read backs
@@ -131,7 +133,7 @@ block_here a records is has k b r inside b_at r_at =
 abbrev made : Slot → List ℕ → List ℕ → Function
 made slot image probe = record { slot = slot; image = image; probe = probe }
 
-module _ (a : Admission) (is : IsAdmitted a) (l : Lists) (table : List Places) (grown : List (ByKind (Option Range))) (staying : List Kept) where
+module _ (a : Admission) (is : IsAdmitted a) (l : Demand) (table : List Places) (grown : List (ByKind (Option Range))) (staying : List Kept) where
   abbrev P : Function → Function → Type 0
   P f g = IsSettledOf a.roots (system_in a) l table grown staying f g
 
@@ -143,7 +145,7 @@ module _ (a : Admission) (is : IsAdmitted a) (l : Lists) (table : List Places) (
       next_planned P a.dump a.probe is.slots k found so_far new b p inside b_at here.beside slot title planned
 
 -- once all are there, they and the probe are the settled system
-module _ (roots : List ℕ) (s : System) (l : Lists) (table : List Places) (grown : List (ByKind (Option Range))) (staying : List Kept) (q : Request) (keep : Keeping) (asked : IsAskedBy q keep roots s l table grown staying) where
+module _ (roots : List ℕ) (s : System) (l : Demand) (table : List Places) (grown : List (ByKind (Option Range))) (staying : List Kept) (q : Request) (keep : Keeping) (asked : IsAskedBy q keep roots s l table grown staying) where
   pub all_settled : (xs ys : List Function) → AllZip (IsSettledOf roots s l table grown staying) xs ys → ys ≡ map (settled_function q s keep) xs
   all_settled [] [] all = refl
   all_settled [] (y ∷ ys) all = absurd all

@@ -8,7 +8,7 @@ use Rattle.pci_spec.specs.Sound.{IsSound}
 use Rattle.pci_spec.specs.System.{System, system_of}
 use Rattle.pci_spec.specs.Machine.{Write, system_after}
 use Rattle.plan_spec.specs.Planning.Fitting.{FitsAt}
-use Rattle.settle_spec.specs.Lists.{Lists, RootRange, Request, are_bad_lists}
+use Rattle.settle_spec.specs.Lists.{RootRange, Request, are_bad_lists}
 use Rattle.settle_spec.specs.Writes.{Settling, BadLists, Fixed, NoRoom, Settled}
 use Rattle.settle_spec.specs.Kept.{Kept, as_it_stands, growing}
 use Rattle.settle_spec.specs.Keeping.Places.{lacking}
@@ -20,6 +20,7 @@ use Rattle.settle_laws.proofs.Keeping.SettledSound.{settled_sound}
 use Rattle.settle_laws.proofs.Keeping.Stopping.{stop_sound, writes_fit, writes_settle}
 use Rattle.settle_laws.proofs.SoundKept.{standing_is_sound, growing_is_sound}
 use Rattle.pci_base.specs.declared.range.RootRange.{RootRange as CodeRange}
+use Rattle.pci_settle.specs.Slots.{Demand}
 use Rattle.pci_settle.specs.Lists.{root_range_value}
 use Rattle.pci_tree.specs.Admission.{Admission, IsAdmitted}
 use Rattle.pci_place.specs.Above.{system_in}
@@ -36,11 +37,11 @@ kept_sound q s BadLists own other = other
 kept_sound q s (Fixed slot register) own other = other
 kept_sound q s (NoRoom class slot register size alignment) own other = other
 
-module _ (a : Admission) (admitted : IsAdmitted a) (l : Lists) (fine : are_bad_lists a.roots l ≡ false) (ranges : List CodeRange) (are_ranges : l.prefetch ≡ map root_range_value ranges)
+module _ (a : Admission) (admitted : IsAdmitted a) (d : Demand) (fine : are_bad_lists a.roots d.lists ≡ false) (ranges : List CodeRange) (are_ranges : d.lists.prefetch ≡ map root_range_value ranges)
     (small : All (λ r. r.range.last < 2 ^ 64) ranges) (fixed : List Slot) (anew : Bool)
-    (room : lacking (request a.roots l fixed anew) (system_in a) (kept_after (request a.roots l fixed anew) (system_in a)) ≡ None) where
+    (room : lacking (request a.roots d fixed anew) (system_in a) (kept_after (request a.roots d fixed anew) (system_in a)) ≡ None) where
   abbrev q : Request
-  q = request a.roots l fixed anew
+  q = request a.roots d fixed anew
 
   abbrev s : System
   s = system_in a

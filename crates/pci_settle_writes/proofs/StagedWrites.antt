@@ -7,6 +7,7 @@ use Rattle.std.proofs.lemmas.List.{append_assoc, append-nil, get_or-map, get_or_
 use Rattle.std.proofs.lemmas.List.Elements.{All-contains, Contains-get_or}
 use Rattle.std.proofs.lemmas.Option.{slice_get-get_or}
 use Rattle.std.proofs.Math.Seq.{drop-cons}
+use Rattle.settle_laws.specs.KeptLaws.{WishesNothing}
 use Rattle.pci_spec.specs.Number.{number_at, IsImage}
 use Rattle.pci_spec.specs.Header.{command, layout, registers_by}
 use Rattle.pci_spec.specs.Slot.{Slot}
@@ -61,7 +62,7 @@ same_writes f old closed new ((o, w) ∷ rs) same past =
     ap (λ n. (if number_at new o w == n then [] else write ∷ []) ++ flat_map (register_write (images_change f.slot old new)) rs) (sym (same o w (leb-true 6 o parts.0)))
     ∙ ap (λ ws. (if number_at new o w == number_at closed o w then [] else write ∷ []) ++ ws) (same_writes f old closed new rs same parts.1)
 
-module _ (q : Request) (s : System) (keep : Kept) (f : Function) (is : IsImage f.image) (kept : ByKind Bool) (told : is_bridge f ≡ true → (c : WindowKind) → is_window_kept kept c ≡ keep.stays (window_part c f)) where
+module _ (q : Request) (s : System) (keep : Kept) (f : Function) (is : IsImage f.image) (kept : ByKind Bool) (told : is_bridge f ≡ true → (c : WindowKind) → is_window_kept kept c ≡ keep.stays (window_part c f)) (none : WishesNothing keep) where
   abbrev value : ℕ
   value = closing_command q s keep f
 
@@ -80,7 +81,7 @@ module _ (q : Request) (s : System) (keep : Kept) (f : Function) (is : IsImage f
       elim (cases_Bool (is_bridge f)) [
         | inl bridge ↦
             ap (λ b. cond b windows alone) bridge
-            ∙ ap (λ x. flat_map (register_write (images_change f.slot f.image x)) bridge_closing) (image_by q s keep f bridge kept (told bridge))
+            ∙ ap (λ x. flat_map (register_write (images_change f.slot f.image x)) bridge_closing) (image_by q s keep f bridge kept (told bridge) none)
             ∙ sym (ap all bridge)
         | inr device ↦
             ap (λ b. cond b windows alone) device
@@ -98,7 +99,7 @@ module _ (q : Request) (s : System) (keep : Kept) (f : Function) (is : IsImage f
       elim (cases_Bool (is_bridge f)) [
         | inl bridge ↦
             ap (λ b. cond b (by (closed_image_by f.image f.probe new kept value)) (alone (is_bridge f))) bridge
-            ∙ ap by (image_by q s keep f bridge kept (told bridge))
+            ∙ ap by (image_by q s keep f bridge kept (told bridge) none)
             ∙ sym (ap all (same ∙ bridge))
         | inr device ↦
             ap (λ b. cond b (by (closed_image_by f.image f.probe new kept value)) (alone (is_bridge f))) device
@@ -173,13 +174,13 @@ module _ (q : Request) (s : System) (keep : Kept) (st : Stages) (are : AreStages
         ∙ ap (λ x. make f.slot f.image f.probe x h.windows c) settled_is ∙ ap (make f.slot f.image f.probe (settled_function q s keep f).image h.windows) value_is
 
     closing_is : closing_at b.slot b.image p.image n.image h.windows c ≡ closing_from q s keep f
-    closing_is = by_parts closing_at ∙ closing_same q s keep f (image_at k at) h.windows kept_is
+    closing_is = by_parts closing_at ∙ closing_same q s keep f (image_at k at) h.windows kept_is are.none
 
     setting_is : setting_at b.slot b.image p.image n.image h.windows c ≡ setting_from q s keep f
-    setting_is = by_parts setting_at ∙ setting_same q s keep f (image_at k at) h.windows kept_is
+    setting_is = by_parts setting_at ∙ setting_same q s keep f (image_at k at) h.windows kept_is are.none
 
     opening_is : command_at b.slot c (command n.image) ≡ opening_from q s keep f
-    opening_is = by_parts (λ slot old probe new kept value. command_at slot value (command new)) ∙ opening_same q s keep f (image_at k at) h.windows kept_is
+    opening_is = by_parts (λ slot old probe new kept value. command_at slot value (command new)) ∙ opening_same q s keep f (image_at k at) h.windows kept_is are.none
 
   -- ---- one function more
 

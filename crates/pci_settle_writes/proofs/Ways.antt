@@ -2,13 +2,13 @@
 use Rattle.std.proofs.Common.{◌≡◌, ℕ, List, [], ◌∷◌, Bool, true, false, ◌&&◌, ◌||◌, not, refl, sym, ◌∙◌, ap}
 use Rattle.std.specs.List.{Contains, list_any, list_all}
 use Rattle.pci_spec.specs.Window.{WindowKind, IoWindow, MemoryWindow, PrefetchWindow}
-use Rattle.pci_spec.specs.System.{System, Function, Space, Io, Memory, Window, IsSystem, is_bridge, is_space_on}
+use Rattle.pci_spec.specs.System.{System, Function, Space, Io, Memory, IsSystem, is_bridge, is_space_on}
 use Rattle.pci_spec.specs.Bus.{secondary, IsNested}
 use Rattle.plan_spec.specs.Plan.{bridges_above}
 use Rattle.plan_spec.proofs.Planning.AboveBuses.{all_above, all_above_root}
 use Rattle.settle_spec.specs.Lists.{Request}
 use Rattle.settle_spec.specs.Kept.{Kept}
-use Rattle.settle_spec.specs.Keeping.Writes.{changes_at, is_shut_itself}
+use Rattle.settle_spec.specs.Keeping.Writes.{changes_window, is_shut_itself}
 use Rattle.pci_base.specs.Space.{is_on}
 use Rattle.pci_function.specs.declared.record.Record.{Record}
 use Rattle.pci_place.specs.Records.{IsRecordOf}
@@ -70,7 +70,7 @@ module _ (roots : List ℕ) (q : Request) (s : System) (keep : Kept) (system : I
   on_root bus root = record {
     on = λ x. each_space x ∙ sym (all_above_root roots s system nested (λ b. is_space_on b x) bus root);
     clear = λ x. each_space x ∙ sym (all_above_root roots s system nested (λ b. not (is_shut_itself q s keep x b)) bus root);
-    same = λ c. each_class c ∙ sym (all_above_root roots s system nested (λ b. not (changes_at q s keep b (Window c))) bus root);
+    same = λ c. each_class c ∙ sym (all_above_root roots s system nested (λ b. not (changes_window q s keep c b)) bus root);
   }
 
   one_more : (f : Function) → Contains s f → is_bridge f ≡ true → (test : Function → Bool) (old here all : Bool) → old ≡ list_all test (bridges_above s f.slot.bus) → here ≡ test f → all ≡ (old && here)
@@ -79,11 +79,11 @@ module _ (roots : List ℕ) (q : Request) (s : System) (keep : Kept) (system : I
       e_all ∙ ap (λ x. x && here) e_old ∙ ap (λ x. list_all test (bridges_above s f.slot.bus) && x) e_here ∙ sym (all_above roots s system nested test f listed bridge)
 
   pub behind_bridge : (f : Function) (r : Record) (is : IsRecordOf s f r) → is_bridge f ≡ true → (way new : Way) (shut : BySpace) (same : ByClass) → IsWay q s keep f.slot.bus way
-      → ((x : Space) → in_space shut x ≡ is_shut_itself q s keep x f) → ((c : WindowKind) → in_class same c ≡ not (changes_at q s keep f (Window c)))
+      → ((x : Space) → in_space shut x ≡ is_shut_itself q s keep x f) → ((c : WindowKind) → in_class same c ≡ not (changes_window q s keep c f))
       → ((x : Space) → in_space new.on x ≡ (in_space way.on x && is_on r.command x)) → ((x : Space) → in_space new.clear x ≡ (in_space way.clear x && not (in_space shut x)))
       → ((c : WindowKind) → in_class new.same c ≡ (in_class way.same c && in_class same c)) → IsWay q s keep (secondary f) new
   behind_bridge f r is bridge way new shut same at shut_is same_is on clear stay = record {
     on = λ x. one_more f is.listed bridge (λ b. is_space_on b x) (in_space way.on x) (is_on r.command x) (in_space new.on x) (at.on x) (on_is s f r is x) (on x);
     clear = λ x. one_more f is.listed bridge (λ b. not (is_shut_itself q s keep x b)) (in_space way.clear x) (not (in_space shut x)) (in_space new.clear x) (at.clear x) (ap not (shut_is x)) (clear x);
-    same = λ c. one_more f is.listed bridge (λ b. not (changes_at q s keep b (Window c))) (in_class way.same c) (in_class same c) (in_class new.same c) (at.same c) (same_is c) (stay c);
+    same = λ c. one_more f is.listed bridge (λ b. not (changes_window q s keep c b)) (in_class way.same c) (in_class same c) (in_class new.same c) (at.same c) (same_is c) (stay c);
   }

@@ -1,13 +1,14 @@
 -- How settling ends once its lists are fine, and why nothing is settled.
 use Rattle.std.specs.Prelude.{◌≡◌, ℕ, ◌⊎◌, IsTrue, IsFalse, List, [], None, Some, ⊤}
 use Rattle.std.specs.Option.{option_map}
+use Rattle.settle_laws.specs.KeptLaws.{WishesNothing}
 use Rattle.pci_spec.specs.Mark.{all_named}
 use Rattle.pci_spec.specs.Slot.{Slot}
 use Rattle.pci_spec.specs.Text.{Block}
 use Rattle.pci_spec.specs.Window.{WindowKind, IoWindow}
 use Rattle.pci_spec.specs.System.{System, Io, Memory, window_space}
 use Rattle.pci_spec.specs.Machine.{Write}
-use Rattle.settle_spec.specs.Lists.{Lists, Request, are_bad_lists}
+use Rattle.settle_spec.specs.Lists.{Request, are_bad_lists}
 use Rattle.settle_spec.specs.Assumed.{assumed_region}
 use Rattle.settle_spec.specs.Stands.{stands}
 use Rattle.settle_spec.specs.Writes.{Settling, BadLists, Settled, or_fixed, or_lack, or_write, fixed_without, fixed_write}
@@ -24,6 +25,7 @@ use Rattle.pci_place.specs.Above.{system_in}
 use Rattle.pci_place.specs.Items.{function_in}
 use Rattle.pci_settle.specs.declared.kept.Kept.{Kept}
 use Rattle.pci_settle.specs.declared.over.Left.{Left}
+use Rattle.pci_settle.specs.Slots.{Demand}
 use Rattle.pci_settle.specs.NewWindows.{IsTooLarge}
 use Rattle.pci_settled.specs.Spaces.{space_lack}
 use Rattle.pci_settled.specs.Placed.{IsLeaving}
@@ -86,9 +88,9 @@ IsLack a q keep (refused.Fault (fault.TooLarge class slot)) =
 IsLack a q keep (refused.Fault (fault.Fixed slot reg)) = ⊥
 
 -- something has no place of whatever leaves these windows and parts where they stand
-abbrev pub IsLackOff : Admission → Lists → Left → Refused SettleFault → Type 0
-IsLackOff a l left e =
-    (q : Request) (keep : Keeping) → IsLeaving q keep a.roots (system_in a) l left → IsLack a q keep e
+abbrev pub IsLackOff : Admission → Demand → Left → Refused SettleFault → Type 0
+IsLackOff a d left e =
+    (q : Request) (keep : Keeping) → IsLeaving q keep a.roots (system_in a) d left → IsLack a q keep e
 
 -- ---- beside what stays as it stands
 
@@ -124,12 +126,13 @@ IsTooLargeAsked a q (refused.Fault (fault.Fixed slot reg)) = ⊥
 -- ---- with tables of what is kept
 
 -- they are those of what is asked for, and nothing fixed is in the way
-pub record AreAskedFor (q : Request) (keep : Keeping) (a : Admission) (l : Lists) (left : Left)
+pub record AreAskedFor (q : Request) (keep : Keeping) (a : Admission) (d : Demand) (left : Left)
     (staying : List Kept) : Type 0 where
-  pub asked : IsAskedOf q a.roots l
-  pub leaving : IsLeaving q keep a.roots (system_in a) l left
+  pub asked : IsAskedOf q a.roots d
+  pub leaving : IsLeaving q keep a.roots (system_in a) d left
   pub kept : AreFixedKept q (system_in a) keep
   pub stay : IsTableOf (system_in a) keep.stays staying
+  pub none : WishesNothing keep
 
 -- it ends with the writes to the dump, and nothing lacks a place
 pub record IsEnded (q : Request) (keep : Keeping) (a : Admission) (dump : List Block)

@@ -1,14 +1,22 @@
 -- What is asked for.
 use Rattle.std.specs.Prelude.{◌≡◌, ℕ, Bool, List}
 use Rattle.pci_spec.specs.Slot.{Slot}
-use Rattle.settle_spec.specs.Lists.{Lists, Request}
+use Rattle.settle_spec.specs.Lists.{Request}
+use Rattle.pci_settle.specs.Slots.{Demand, demand_of}
 
--- settling below these roots, in these lists; functions that may not be written, and whether all is placed anew
-abbrev pub request : List ℕ → Lists → List Slot → Bool → Request
-request roots lists fixed anew =
-    record { roots = roots; lists = lists; fixed = fixed; anew = anew }
+-- settling below these roots, in these lists and with this room behind slots; functions that may not be written, and whether all
+-- is placed anew
+abbrev pub request : List ℕ → Demand → List Slot → Bool → Request
+request roots d fixed anew = record {
+  roots = roots;
+  lists = d.lists;
+  fixed = fixed;
+  anew = anew;
+  slots = d.slots;
+  spares = d.spares;
+}
 
--- it is asked for below these roots, in these lists, whatever is to keep its place
-pub record IsAskedOf (q : Request) (roots : List ℕ) (lists : Lists) : Type 0 where
+-- it is asked for below these roots, in these lists and behind these slots, whatever is to keep its place
+pub record IsAskedOf (q : Request) (roots : List ℕ) (d : Demand) : Type 0 where
   pub roots_are : q.roots ≡ roots
-  pub lists_are : q.lists ≡ lists
+  pub demands_are : demand_of q ≡ d

@@ -7,16 +7,17 @@ use Rattle.pci_spec.specs.Registers.{BASE_ADDRESS, IO_BASE, IO_BASE_UPPER, MEMOR
 use Rattle.pci_spec.specs.Header.{rom_place}
 use Rattle.pci_spec.specs.Machine.{without_low}
 use Rattle.pci_spec.specs.Window.{WindowKind, IoWindow, MemoryWindow, PrefetchWindow}
-use Rattle.pci_spec.specs.System.{System, Function, Space, Io, Memory, Part, Bar, Window, has_part, is_space_on}
+use Rattle.pci_spec.specs.System.{System, Function, Space, Io, Memory, Part, Bar, has_part, is_space_on}
 use Rattle.plan_spec.specs.Plan.{bridges_above}
 use Rattle.settle_spec.specs.Lists.{Request}
 use Rattle.settle_spec.specs.Parts.{are_same_space}
 use Rattle.settle_spec.specs.Kept.{Kept}
-use Rattle.settle_spec.specs.Keeping.Writes.{changes_at, is_shut_itself}
+use Rattle.settle_spec.specs.Keeping.Writes.{changes_window, is_shut_itself}
 use Rattle.pci_base.specs.Space.{is_on}
 use Rattle.pci_image.specs.declared.bar.Bar.{Bar as CodeBar}
 use Rattle.pci_function.specs.declared.record.Record.{Record}
 use Rattle.pci_place.specs.Classes.{is_wide_kind}
+use Rattle.pci_settle.specs.Slots.{demand_of}
 use Rattle.pci_settle.specs.Kept.{kept_of}
 use Rattle.pci_settle.specs.Own.{AreTerms, is_left_bar, bar_class_of}
 use Rattle.pci_settle.specs.Over.{IsOverBus}
@@ -44,12 +45,12 @@ pub record IsWay (q : Request) (s : System) (keep : Kept) (bus : ℕ) (way : Way
   pub clear : (x : Space) → in_space way.clear x
       ≡ list_all (λ b. not (is_shut_itself q s keep x b)) (bridges_above s bus)
   pub same : (c : WindowKind) → in_class way.same c
-      ≡ list_all (λ b. not (changes_at q s keep b (Window c))) (bridges_above s bus)
+      ≡ list_all (λ b. not (changes_window q s keep c b)) (bridges_above s bus)
 
 -- what is around a function, and what of it stays
 pub record IsAround (q : Request) (s : System) (keep : Kept) (f : Function) (o : Around) : Type 0 where
   pub over : IsOverBus q s f.slot.bus o.over
-  pub terms : AreTerms q.lists o.terms
+  pub terms : AreTerms (demand_of q) o.terms
   pub way : IsWay q s keep f.slot.bus o.way
   pub kept : (part : Part) → IsTrue (has_part f part)
       → kept_of o.kept.now part ≡ keep.stays record { function = f; part = part }

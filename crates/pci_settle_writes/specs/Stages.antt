@@ -1,6 +1,7 @@
 -- The states of each function on the way, and the writes between them, as lists of the code have them.
 use Rattle.std.specs.Prelude.{◌≡◌, ℕ, ◌==◌, nat_lt, Bool, ◌&&◌, not, if◌then◌else◌, List, [], ◌∷◌, ◌++◌, length, map}
 use Rattle.std.specs.List.{flat_map}
+use Rattle.settle_laws.specs.KeptLaws.{WishesNothing}
 use Rattle.pci_spec.specs.Number.{number_at}
 use Rattle.pci_spec.specs.Registers.{COMMAND, IO_BASE, IO_BASE_UPPER, MEMORY_BASE, PREFETCHABLE_BASE, PREFETCHABLE_BASE_UPPER, PREFETCHABLE_LIMIT_UPPER, BRIDGE_EXPANSION_ROM}
 use Rattle.pci_spec.specs.Header.{command, layout, bar_register}
@@ -54,6 +55,7 @@ pub record AreStages (q : Request) (s : System) (keep : Kept) (st : Stages) : Ty
   pub commands : AreClosed q s keep st.commands.now
   pub settled : AreSettledBlocks q s keep st.settled.now
   pub staying : IsTableOf s keep.stays st.staying.now
+  pub none : WishesNothing keep
 
 -- ---- closed windows
 

@@ -3,7 +3,7 @@ ghost use Rattle.std.specs.Prelude.{◌≡◌, IfOk, length, map};
 ghost use Rattle.settle_spec.specs.Lists.{Request};
 ghost use Rattle.settle_spec.specs.Kept.{Kept as Keeping};
 ghost use Rattle.pci_place.specs.Above.{system_in};
-ghost use Rattle.pci_settle.specs.Lists.{lists_value};
+ghost use Rattle.pci_settle.specs.Slots.{demand_value};
 ghost use Rattle.pci_settling.specs.Live.{HasAllPlaces};
 ghost use Rattle.pci_settle_writes.specs.Requests.{IsAskedOf};
 ghost use Rattle.pci_settle_writes.specs.Told.{TellsKeeping};
@@ -45,7 +45,7 @@ pub fn settled_dump<A: Allocator, B: Allocator>(
     ensures titles { IfOk result
         (λ dump. map (λ b. b.title) dump ≡ map (λ b. b.title) admitted.now.dump) }
     ensures settled { IfOk result (λ dump. (q : Request) (keep : Keeping)
-        → IsAskedOf q admitted.now.roots (lists_value lists.now)
+        → IsAskedOf q admitted.now.roots (demand_value lists.now)
         → HasAllPlaces q (system_in admitted.now) keep table.now
         → TellsKeeping q (system_in admitted.now) keep grown.now staying.now
         → IsSettledDump q keep admitted.now dump) }

@@ -8,7 +8,7 @@ ghost use Rattle.settle_spec.specs.Writes as spec;
 ghost use Rattle.pci_base.specs.WindowKinds.{kind_value};
 ghost use Rattle.pci_place.specs.Above.{system_in};
 ghost use Rattle.pci_plan.specs.Writes.{write_value};
-ghost use Rattle.pci_settle.specs.Lists.{lists_value};
+ghost use Rattle.pci_settle.specs.Slots.{demand_value};
 ghost use Rattle.pci_settling.specs.Shown.{HasRegister};
 ghost use Rattle.pci_stand.specs.Flags.{AreFlags};
 ghost use Rattle.pci_settle_writes.specs.Requests.{IsAskedOf};
@@ -33,7 +33,7 @@ use std::alloc::Allocator;
 /// Whether a BAR that isn't left is one that a table says no to.
 fn is_bar_without(bar: &Bar, above: Above, terms: Terms, told: &Kept) -> bool
     requires { HasRegister bar.now }
-    ensures { result ≡ is_bar_without above terms told.now bar.now }
+    ensures { result ≡ is_bar_without above terms.entry told.now bar.now }
 {
     !is_left_bar(bar, above, terms) && !told.bars[usize::from((bar.reg - BASE_ADDRESS) / 4)]
 }
@@ -41,7 +41,7 @@ fn is_bar_without(bar: &Bar, above: Above, terms: Terms, told: &Kept) -> bool
 /// The offset of the first such BAR.
 fn bar_without(bars: &[Bar], above: Above, terms: Terms, told: &Kept) -> Option<u8>
     requires { All HasRegister bars.now }
-    ensures { result ≡ bar_without above terms told.now bars.now }
+    ensures { result ≡ bar_without above terms.entry told.now bars.now }
 {
     for bar in bars {
         if is_bar_without(bar, above, terms, told) {
@@ -85,7 +85,7 @@ fn rom_without(record: &Record, told: &Kept) -> Option<u8>
 /// The offset of the first part of a function that a table says no to.
 fn part_without(record: &Record, above: Above, terms: Terms, told: &Kept) -> Option<u8>
     requires { All HasRegister «record».now.bars.items }
-    ensures { result ≡ part_without above terms told.now «record».now }
+    ensures { result ≡ part_without above terms.entry told.now «record».now }
 {
     bar_without(record.bars.as_slice(), above, terms, told)
         .or(bridge_without(record.bridge, told))
@@ -101,7 +101,7 @@ fn record_without(
     told: &Kept,
 ) -> Option<SettleFault>
     requires { All HasRegister «record».now.bars.items }
-    ensures { result ≡ record_without fixed above terms told.now «record».now }
+    ensures { result ≡ record_without fixed above terms.entry told.now «record».now }
 {
     if !fixed {
         return None;
@@ -126,7 +126,7 @@ pub fn fixed_without<A: Allocator>(
     // a function's entry stands where its record does
     requires count { length table.now ≡ length (system_in admitted.now) }
     ensures { (q : Request) (test : FunctionPart → Bool)
-        → IsAskedOf q admitted.now.roots (lists_value lists.now) → AreFlags q.fixed fixed.now
+        → IsAskedOf q admitted.now.roots (demand_value lists.now) → AreFlags q.fixed fixed.now
         → IsTableOf (system_in admitted.now) test table.now
         → result ≡ option_map fixed_part (spec.fixed_without test q (system_in admitted.now)) }
 {

@@ -3,7 +3,7 @@ ghost use Rattle.std.specs.Prelude.{◌≡◌, IfOk, IfErr, map};
 ghost use Rattle.settle_spec.specs.Kept.{growing as growing_kept};
 ghost use Rattle.pci_place.specs.Above.{system_in};
 ghost use Rattle.pci_plan.specs.Writes.{write_value};
-ghost use Rattle.pci_settle.specs.Lists.{lists_value};
+ghost use Rattle.pci_settle.specs.Slots.{demand_value};
 ghost use Rattle.pci_stand.specs.Flags.{AreFlags};
 ghost use Rattle.pci_stand.specs.Known.{asked};
 ghost use Rattle.pci_grow.specs.Growing.{AreGrown, grown_value};
@@ -29,10 +29,10 @@ fn grown_windows<A: Allocator + Copy, B: Allocator>(
     fixed: &[Slot],
 ) -> Result<Grown<A>, Refused<SettleFault>>
     ensures grown { IfOk result (λ grown. AreGrown
-        (asked admitted.now.roots (lists_value lists.now) fixed.now) (system_in admitted.now)
+        (asked admitted.now.roots (demand_value lists.now) fixed.now) (system_in admitted.now)
         (grown_value grown)) }
     ensures fault { IfErr result (IsNotGrown admitted.now
-        (asked admitted.now.roots (lists_value lists.now) fixed.now)) }
+        (asked admitted.now.roots (demand_value lists.now) fixed.now)) }
 {
     match growing(alloc, admitted, lists, fixed) {
         Ok(grown) => Ok(grown),
@@ -53,12 +53,12 @@ pub fn settle_grown<A: Allocator + Copy, B: Allocator>(
     ensures titles { IfOk result
         (λ x. map (λ b. b.title) x.dump ≡ map (λ b. b.title) admitted.now.dump) }
     ensures ends { IfOk result (λ x. IsEnded
-        (asked admitted.now.roots (lists_value lists.now) fixed.now)
-        (growing_kept (asked admitted.now.roots (lists_value lists.now) fixed.now)
+        (asked admitted.now.roots (demand_value lists.now) fixed.now)
+        (growing_kept (asked admitted.now.roots (demand_value lists.now) fixed.now)
         (system_in admitted.now)) admitted.now x.dump
         (map write_value x.writes.all.items) x.writes.closings) }
     ensures refusal { IfErr result (IsNotGrown admitted.now
-        (asked admitted.now.roots (lists_value lists.now) fixed.now)) }
+        (asked admitted.now.roots (demand_value lists.now) fixed.now)) }
 {
     let outline = admitted.outline();
     let over = open_windows(outline.records());

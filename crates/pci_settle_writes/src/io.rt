@@ -6,7 +6,7 @@ ghost use Rattle.plan_spec.specs.Plan.{same_class};
 ghost use Rattle.settle_spec.specs.Kept.{as_it_stands};
 ghost use Rattle.pci_base.specs.WindowKinds.{kind_value};
 ghost use Rattle.pci_place.specs.Above.{system_in};
-ghost use Rattle.pci_settle.specs.Lists.{lists_value};
+ghost use Rattle.pci_settle.specs.Slots.{demand_value};
 ghost use Rattle.pci_settled.specs.Spaces.{space_lack};
 ghost use Rattle.pci_stand.specs.Known.{asked};
 ghost use Rattle.pci_stay.specs.Staying.{AreStaying, asked_in_io};
@@ -15,7 +15,6 @@ ghost use Rattle.pci_settle_writes.specs.Endings.{IsLack, IsLargeInIo, IsUnfixed
 
 use crate::lack::{SettleFault, fault_of};
 use pci_base::memory::Refused;
-use pci_base::range::RootRange;
 use pci_base::slot::Slot;
 use pci_base::window_kind::WindowKind;
 use pci_settle::kept::Kept;
@@ -45,15 +44,16 @@ pub fn fault_of_window<A: Allocator>(admitted: &Admitted<A>, window: TooLarge) -
 fn io_staying<A: Allocator + Copy, B: Allocator>(
     alloc: A,
     admitted: &Admitted<B>,
-    io: &[RootRange],
+    lists: &Lists,
     fixed: &[Slot],
 ) -> Result<Vec<Kept, A>, Refused<SettleFault>>
-    ensures stay { IfOk result (λ table. AreStaying (asked_in_io admitted.now.roots io.now fixed.now)
-        (system_in admitted.now) table.items) }
+    ensures stay { IfOk result (λ table. AreStaying
+        (asked_in_io admitted.now.roots (demand_value lists.now) fixed.now) (system_in admitted.now)
+        table.items) }
     ensures fault { IfErr result (IsLargeInIo admitted.now
-        (asked_in_io admitted.now.roots io.now fixed.now)) }
+        (asked_in_io admitted.now.roots (demand_value lists.now) fixed.now)) }
 {
-    match staying_in_io(alloc, admitted, io, fixed) {
+    match staying_in_io(alloc, admitted, lists, fixed) {
         Ok(table) => Ok(table),
         Err(Refused::Memory) => Err(Refused::Memory),
         Err(Refused::Fault(window)) => Err(Refused::Fault(fault_of_window(admitted, window))),
@@ -80,16 +80,16 @@ fn place_io<A: Allocator + Copy, B: Allocator>(
     fixed: &[Slot],
 ) -> Result<(), Refused<SettleFault>>
     ensures room { OnOk result (space_lack
-        (asked admitted.now.roots (lists_value lists.now) fixed.now) (system_in admitted.now)
-        (as_it_stands (asked admitted.now.roots (lists_value lists.now) fixed.now)
+        (asked admitted.now.roots (demand_value lists.now) fixed.now) (system_in admitted.now)
+        (as_it_stands (asked admitted.now.roots (demand_value lists.now) fixed.now)
         (system_in admitted.now)) Io admitted.now.roots ≡ None) }
     ensures fault { IfErr result (IsLack admitted.now
-        (asked admitted.now.roots (lists_value lists.now) fixed.now)
-        (as_it_stands (asked admitted.now.roots (lists_value lists.now) fixed.now)
+        (asked admitted.now.roots (demand_value lists.now) fixed.now)
+        (as_it_stands (asked admitted.now.roots (demand_value lists.now) fixed.now)
         (system_in admitted.now))) }
 {
     let outline = admitted.outline();
-    let table = io_staying(alloc, admitted, lists.io, fixed)?;
+    let table = io_staying(alloc, admitted, lists, fixed)?;
     let over = open_windows(outline.records());
     let left = Left {
         over: &over,
@@ -97,12 +97,7 @@ fn place_io<A: Allocator + Copy, B: Allocator>(
         grown: &[],
         places: &[],
     };
-    let alone = Lists {
-        io: lists.io,
-        mem: &[],
-        pref: &[],
-    };
-    match place(alloc, admitted, &alone, &left) {
+    match place(alloc, admitted, &lists.io_alone(), &left) {
         Ok(_) => Ok(()),
         Err(Refused::Memory) => Err(Refused::Memory),
         Err(Refused::Fault(unplaced)) => {
@@ -123,11 +118,11 @@ pub fn place_io_unfixed<A: Allocator + Copy, B: Allocator>(
     fixed: &[Slot],
 ) -> Result<(), Refused<SettleFault>>
     ensures room { OnOk result (fixed.now ≡ [] → space_lack
-        (asked admitted.now.roots (lists_value lists.now) fixed.now) (system_in admitted.now)
-        (as_it_stands (asked admitted.now.roots (lists_value lists.now) fixed.now)
+        (asked admitted.now.roots (demand_value lists.now) fixed.now) (system_in admitted.now)
+        (as_it_stands (asked admitted.now.roots (demand_value lists.now) fixed.now)
         (system_in admitted.now)) Io admitted.now.roots ≡ None) }
     ensures fault { IfErr result (IsUnfixedLack admitted.now
-        (asked admitted.now.roots (lists_value lists.now) fixed.now)) }
+        (asked admitted.now.roots (demand_value lists.now) fixed.now)) }
 {
     if !fixed.is_empty() {
         return Ok(());

@@ -13,7 +13,7 @@ ghost use Rattle.pci_base.specs.declared.memory.Refused.TheVariants as refused;
 ghost use Rattle.pci_place.specs.Above.{system_in};
 ghost use Rattle.pci_plan.specs.Moves.{IsMove};
 ghost use Rattle.pci_plan.specs.Writes.{write_value};
-ghost use Rattle.pci_settle.specs.Lists.{lists_value};
+ghost use Rattle.pci_settle.specs.Slots.{demand_value};
 ghost use Rattle.pci_settle.specs.Over.{AreOpenOver};
 ghost use Rattle.pci_stand.specs.Flags.{AreFlags};
 ghost use Rattle.pci_stand.specs.Known.{asked};
@@ -85,10 +85,10 @@ fn places<A: Allocator + Copy, B: Allocator>(
     lists: &Lists,
     left: &Left,
 ) -> Result<Vec<Places, A>, Refused<SettleFault>>
-    requires { CanBeLeft admitted.now.roots (system_in admitted.now) (lists_value lists.now) left.now }
+    requires { CanBeLeft admitted.now.roots (system_in admitted.now) (demand_value lists.now) left.now }
     ensures places { IfOk result (λ table. ArePlacesOff admitted.now.roots (system_in admitted.now)
-        (lists_value lists.now) left.now table.items) }
-    ensures fault { IfErr result (IsLackOff admitted.now (lists_value lists.now) left.now) }
+        (demand_value lists.now) left.now table.items) }
+    ensures fault { IfErr result (IsLackOff admitted.now (demand_value lists.now) left.now) }
 {
     // what it was admitted by: the contract speaks of the system that it makes
     let _outline = admitted.outline();
@@ -120,7 +120,7 @@ pub fn settled_at<A: Allocator + Copy, B: Allocator>(
     ensures titles { IfOk result
         (λ x. map (λ b. b.title) x.dump ≡ map (λ b. b.title) admitted.now.dump) }
     ensures settled { IfOk result (λ x. (q : Request) (keep : Keeping)
-        → IsAskedOf q admitted.now.roots (lists_value lists.now)
+        → IsAskedOf q admitted.now.roots (demand_value lists.now)
         → AreOpenOver q (system_in admitted.now) left.now.over.now
         → HasAllPlaces q (system_in admitted.now) keep table.now
         → TellsKeeping q (system_in admitted.now) keep left.now.grown.now staying.now
@@ -144,16 +144,16 @@ pub fn settle_held<A: Allocator + Copy, B: Allocator>(
 ) -> Result<Settled<A>, Refused<SettleFault>>
     requires flags { length fixed.now ≡ 65536 }
     requires staying { length staying.now ≡ length (system_in admitted.now) }
-    requires left { CanBeLeft admitted.now.roots (system_in admitted.now) (lists_value lists.now) left.now }
+    requires left { CanBeLeft admitted.now.roots (system_in admitted.now) (demand_value lists.now) left.now }
     ensures titles { IfOk result
         (λ x. map (λ b. b.title) x.dump ≡ map (λ b. b.title) admitted.now.dump) }
     ensures ends { IfOk result (λ x. (q : Request) (keep : Keeping)
         → AreFlags q.fixed fixed.now
-        → AreAskedFor q keep admitted.now (lists_value lists.now) left.now staying.now
+        → AreAskedFor q keep admitted.now (demand_value lists.now) left.now staying.now
         → IsEnded q keep admitted.now x.dump (map write_value x.writes.all.items) x.writes.closings) }
     ensures refusal { IfErr result (λ e. (q : Request) (keep : Keeping)
         → AreFlags q.fixed fixed.now
-        → AreAskedFor q keep admitted.now (lists_value lists.now) left.now staying.now
+        → AreAskedFor q keep admitted.now (demand_value lists.now) left.now staying.now
         → IsEndedBy admitted.now q keep e) }
 {
     let table = places(alloc, admitted, lists, left)?;
@@ -177,16 +177,16 @@ fn settle_ungrown<A: Allocator + Copy, B: Allocator>(
     requires flags { AreFlags fixed.now flags.now }
     // else windows would grow
     requires fault { IsNotGrown admitted.now
-        (asked admitted.now.roots (lists_value lists.now) fixed.now) (refused.Fault fault) }
+        (asked admitted.now.roots (demand_value lists.now) fixed.now) (refused.Fault fault) }
     ensures titles { IfOk result
         (λ x. map (λ b. b.title) x.dump ≡ map (λ b. b.title) admitted.now.dump) }
     ensures ends { IfOk result (λ x. IsEnded
-        (asked admitted.now.roots (lists_value lists.now) fixed.now)
-        (kept_after (asked admitted.now.roots (lists_value lists.now) fixed.now)
+        (asked admitted.now.roots (demand_value lists.now) fixed.now)
+        (kept_after (asked admitted.now.roots (demand_value lists.now) fixed.now)
         (system_in admitted.now)) admitted.now x.dump
         (map write_value x.writes.all.items) x.writes.closings) }
     ensures refusal { IfErr result (IsEndedAfter admitted.now
-        (asked admitted.now.roots (lists_value lists.now) fixed.now)) }
+        (asked admitted.now.roots (demand_value lists.now) fixed.now)) }
 {
     let settled = settle_standing(alloc, admitted, lists, fixed, flags)?;
     if fault.is_too_large() {
@@ -207,12 +207,12 @@ fn settle_rest<A: Allocator + Copy, B: Allocator>(
     ensures titles { IfOk result
         (λ x. map (λ b. b.title) x.dump ≡ map (λ b. b.title) admitted.now.dump) }
     ensures ends { IfOk result (λ x. IsEnded
-        (asked admitted.now.roots (lists_value lists.now) fixed.now)
-        (kept_after (asked admitted.now.roots (lists_value lists.now) fixed.now)
+        (asked admitted.now.roots (demand_value lists.now) fixed.now)
+        (kept_after (asked admitted.now.roots (demand_value lists.now) fixed.now)
         (system_in admitted.now)) admitted.now x.dump
         (map write_value x.writes.all.items) x.writes.closings) }
     ensures refusal { IfErr result (IsEndedAfter admitted.now
-        (asked admitted.now.roots (lists_value lists.now) fixed.now)) }
+        (asked admitted.now.roots (demand_value lists.now) fixed.now)) }
 {
     match settle_grown(alloc, admitted, lists, fixed, flags) {
         Ok(settled) => Ok(settled),
@@ -234,12 +234,12 @@ fn settle_listed<A: Allocator + Copy, B: Allocator>(
     ensures titles { IfOk result
         (λ x. map (λ b. b.title) x.dump ≡ map (λ b. b.title) admitted.now.dump) }
     ensures ends { IfOk result (λ x. IsEnded
-        (request admitted.now.roots (lists_value lists.now) fixed.now anew)
-        (kept_after (request admitted.now.roots (lists_value lists.now) fixed.now anew)
+        (request admitted.now.roots (demand_value lists.now) fixed.now anew)
+        (kept_after (request admitted.now.roots (demand_value lists.now) fixed.now anew)
         (system_in admitted.now)) admitted.now x.dump
         (map write_value x.writes.all.items) x.writes.closings) }
     ensures refusal { IfErr result (IsEndedAfter admitted.now
-        (request admitted.now.roots (lists_value lists.now) fixed.now anew)) }
+        (request admitted.now.roots (demand_value lists.now) fixed.now anew)) }
 {
     let flags = flags_of(alloc, fixed)?;
     if anew {
@@ -309,19 +309,19 @@ pub fn settle<A: Allocator + Copy, B: Allocator>(
     // what a guessed size would move is never moved
     ensures sized { OnOk result (HasNoAssumed admitted.now) }
     ensures dump { IfOk result (λ x. IsSettledDump
-        (request admitted.now.roots (lists_value lists.now) fixed.now anew)
-        (finally_kept (request admitted.now.roots (lists_value lists.now) fixed.now anew)
+        (request admitted.now.roots (demand_value lists.now) fixed.now anew)
+        (finally_kept (request admitted.now.roots (demand_value lists.now) fixed.now anew)
         (system_in admitted.now)) admitted.now x.dump) }
     ensures settled { IfOk result (λ x. settle_growing
-        (request admitted.now.roots (lists_value lists.now) fixed.now anew) (system_in admitted.now)
+        (request admitted.now.roots (demand_value lists.now) fixed.now anew) (system_in admitted.now)
         ≡ spec.Settled (map write_value x.writes.all.items)) }
     ensures closings { IfOk result (λ x. x.writes.closings ≡ length (closings
-        (request admitted.now.roots (lists_value lists.now) fixed.now anew)
+        (request admitted.now.roots (demand_value lists.now) fixed.now anew)
         (system_in admitted.now)
-        (finally_kept (request admitted.now.roots (lists_value lists.now) fixed.now anew)
+        (finally_kept (request admitted.now.roots (demand_value lists.now) fixed.now anew)
         (system_in admitted.now)) (system_in admitted.now))) }
     ensures refusal { IfErr result (IsRefusal admitted.now
-        (request admitted.now.roots (lists_value lists.now) fixed.now anew)) }
+        (request admitted.now.roots (demand_value lists.now) fixed.now anew)) }
 {
     let roots = admitted.outline().roots();
     end_in_64_bits(lists.pref);

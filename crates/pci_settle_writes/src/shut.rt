@@ -1,13 +1,14 @@
 //! In which spaces functions are shut while registers are set, and what Command holds once all is closed.
 ghost use Rattle.std.specs.Prelude.{◌≡◌, ◌==◌, ◌||◌, IfOk, length, map};
 ghost use Rattle.std.specs.List.{All, list_any};
+ghost use Rattle.settle_laws.specs.KeptLaws.{WishesNothing};
 ghost use Rattle.pci_spec.specs.System.{Io, Memory};
 ghost use Rattle.settle_spec.specs.Lists.{Request};
 ghost use Rattle.settle_spec.specs.Kept.{Kept as Keeping};
 ghost use Rattle.settle_spec.specs.Keeping.Writes as writes;
 ghost use Rattle.pci_base.specs.Space.{space_of};
 ghost use Rattle.pci_place.specs.Above.{system_in};
-ghost use Rattle.pci_settle.specs.Lists.{lists_value};
+ghost use Rattle.pci_settle.specs.Slots.{demand_value};
 ghost use Rattle.pci_settle.specs.Over.{AreOpenOver};
 ghost use Rattle.pci_settling.specs.Shown.{HasRegister};
 ghost use Rattle.pci_settle_writes.specs.Requests.{IsAskedOf};
@@ -38,7 +39,7 @@ use std::alloc::Allocator;
 #[derive(Clone, Copy)]
 struct Around<'a> {
     over: Over,
-    terms: Terms,
+    terms: Terms<'a>,
     way: Way,
     kept: &'a Kept,
 }
@@ -168,9 +169,9 @@ pub fn closing_commands<A: Allocator, B: Allocator>(
     ensures count { IfOk result
         (λ commands. length commands.items ≡ length (system_in admitted.now)) }
     ensures commands { IfOk result (λ commands. (q : Request) (keep : Keeping)
-        → IsAskedOf q admitted.now.roots (lists_value lists.now)
+        → IsAskedOf q admitted.now.roots (demand_value lists.now)
         → AreOpenOver q (system_in admitted.now) overs.now
-        → IsTableOf (system_in admitted.now) keep.stays staying.now
+        → WishesNothing keep → IsTableOf (system_in admitted.now) keep.stays staying.now
         → IsSettledDump q keep admitted.now settled.now
         → commands.items
         ≡ map (writes.closing_command q (system_in admitted.now) keep) (system_in admitted.now)) }

@@ -4,7 +4,7 @@ ghost use Rattle.settle_spec.specs.Lists.{Request};
 ghost use Rattle.settle_spec.specs.Kept.{as_it_stands};
 ghost use Rattle.pci_place.specs.Above.{system_in};
 ghost use Rattle.pci_plan.specs.Writes.{write_value};
-ghost use Rattle.pci_settle.specs.Lists.{lists_value};
+ghost use Rattle.pci_settle.specs.Slots.{demand_value};
 ghost use Rattle.pci_stand.specs.Flags.{AreFlags};
 ghost use Rattle.pci_stand.specs.Known.{asked};
 ghost use Rattle.pci_stay.specs.Staying.{AreStaying};
@@ -37,12 +37,12 @@ pub fn settle_all<A: Allocator + Copy, B: Allocator>(
     ensures titles { IfOk result
         (λ x. map (λ b. b.title) x.dump ≡ map (λ b. b.title) admitted.now.dump) }
     ensures ends { IfOk result (λ x. (q : Request)
-        → IsAskedOf q admitted.now.roots (lists_value lists.now) → IsTrue q.anew
+        → IsAskedOf q admitted.now.roots (demand_value lists.now) → IsTrue q.anew
         → AreFlags q.fixed fixed.now
         → IsEnded q (kept_after q (system_in admitted.now)) admitted.now x.dump
         (map write_value x.writes.all.items) x.writes.closings) }
     ensures refusal { IfErr result (λ e. (q : Request)
-        → IsAskedOf q admitted.now.roots (lists_value lists.now) → IsTrue q.anew
+        → IsAskedOf q admitted.now.roots (demand_value lists.now) → IsTrue q.anew
         → AreFlags q.fixed fixed.now → IsEndedAfter admitted.now q e) }
 {
     let outline = admitted.outline();
@@ -70,10 +70,10 @@ fn staying_parts<A: Allocator + Copy, B: Allocator>(
     fixed: &[Slot],
 ) -> Result<Vec<Kept, A>, Refused<SettleFault>>
     ensures stay { IfOk result (λ table. AreStaying
-        (asked admitted.now.roots (lists_value lists.now) fixed.now) (system_in admitted.now)
+        (asked admitted.now.roots (demand_value lists.now) fixed.now) (system_in admitted.now)
         table.items) }
     ensures fault { IfErr result (IsTooLargeAsked admitted.now
-        (asked admitted.now.roots (lists_value lists.now) fixed.now)) }
+        (asked admitted.now.roots (demand_value lists.now) fixed.now)) }
 {
     match staying(alloc, admitted, lists, fixed) {
         Ok(table) => Ok(table),
@@ -97,13 +97,13 @@ pub fn settle_standing<A: Allocator + Copy, B: Allocator>(
     ensures titles { IfOk result
         (λ x. map (λ b. b.title) x.dump ≡ map (λ b. b.title) admitted.now.dump) }
     ensures ends { IfOk result (λ x. IsEnded
-        (asked admitted.now.roots (lists_value lists.now) fixed.now)
-        (as_it_stands (asked admitted.now.roots (lists_value lists.now) fixed.now)
+        (asked admitted.now.roots (demand_value lists.now) fixed.now)
+        (as_it_stands (asked admitted.now.roots (demand_value lists.now) fixed.now)
         (system_in admitted.now)) admitted.now x.dump
         (map write_value x.writes.all.items) x.writes.closings) }
     ensures refusal { IfErr result (IsEndedBy admitted.now
-        (asked admitted.now.roots (lists_value lists.now) fixed.now)
-        (as_it_stands (asked admitted.now.roots (lists_value lists.now) fixed.now)
+        (asked admitted.now.roots (demand_value lists.now) fixed.now)
+        (as_it_stands (asked admitted.now.roots (demand_value lists.now) fixed.now)
         (system_in admitted.now))) }
 {
     let outline = admitted.outline();

@@ -1,6 +1,7 @@
 //! The writes that lead to the settled dump: what is shut is closed, registers are set, and functions are opened.
 ghost use Rattle.std.specs.Prelude.{◌≡◌, ◌++◌, IfOk, OnOk, IsTrue, length, map};
 ghost use Rattle.std.specs.List.{list_all, flat_map};
+ghost use Rattle.settle_laws.specs.KeptLaws.{WishesNothing};
 ghost use Rattle.pci_spec.specs.System.{System};
 ghost use Rattle.plan_spec.specs.Planning.PlanWrites.{register_write};
 ghost use Rattle.settle_spec.specs.Lists.{Request};
@@ -8,7 +9,7 @@ ghost use Rattle.settle_spec.specs.Kept.{Kept as Keeping};
 ghost use Rattle.settle_spec.specs.Keeping.Writes.{closings, setting_from, opening_from, settle_writes};
 ghost use Rattle.pci_place.specs.Above.{system_in};
 ghost use Rattle.pci_plan.specs.Writes.{write_value};
-ghost use Rattle.pci_settle.specs.Lists.{lists_value};
+ghost use Rattle.pci_settle.specs.Slots.{demand_value};
 ghost use Rattle.pci_settle.specs.Over.{AreOpenOver};
 ghost use Rattle.pci_settle_writes.specs.Requests.{IsAskedOf};
 ghost use Rattle.pci_settle_writes.specs.Told.{IsTableOf};
@@ -322,15 +323,15 @@ pub fn writes_to<A: Allocator + Copy, B: Allocator>(
     // what stays of a function stands where its record does
     requires staying { length staying.now ≡ length (system_in admitted.now) }
     ensures writes { IfOk result (λ writes. (q : Request) (keep : Keeping)
-        → IsAskedOf q admitted.now.roots (lists_value lists.now)
+        → IsAskedOf q admitted.now.roots (demand_value lists.now)
         → AreOpenOver q (system_in admitted.now) overs.now
-        → IsTableOf (system_in admitted.now) keep.stays staying.now
+        → WishesNothing keep → IsTableOf (system_in admitted.now) keep.stays staying.now
         → IsSettledDump q keep admitted.now settled.now
         → map write_value writes.all.items ≡ settle_writes q (system_in admitted.now) keep) }
     ensures closings { IfOk result (λ writes. (q : Request) (keep : Keeping)
-        → IsAskedOf q admitted.now.roots (lists_value lists.now)
+        → IsAskedOf q admitted.now.roots (demand_value lists.now)
         → AreOpenOver q (system_in admitted.now) overs.now
-        → IsTableOf (system_in admitted.now) keep.stays staying.now
+        → WishesNothing keep → IsTableOf (system_in admitted.now) keep.stays staying.now
         → IsSettledDump q keep admitted.now settled.now
         → writes.closings
         ≡ length (closings q (system_in admitted.now) keep (system_in admitted.now))) }

@@ -3,6 +3,7 @@ use pci_base::memory::Refused;
 use pci_base::range::{Range, RootRange};
 use pci_base::window_kind::WindowKind;
 use pci_settle::list::Lists;
+use pci_settle::slots::Slots;
 use pci_settled::anew::{Unplaced, place_anew};
 use pci_settled::places::Places;
 use pci_tree::admit_with;
@@ -103,6 +104,7 @@ fn get(alloc: Global, admitted: &Admitted, mem: &[RootRange], wanted: &[Wanted])
         io: &IO,
         mem,
         pref: &PREFETCH,
+        slots: Slots::none(),
     };
     match place_anew(alloc, admitted, &lists) {
         Ok(table) => are_placed(table.as_slice(), wanted),
@@ -180,6 +182,7 @@ fn unplaced(alloc: Global, board: &[Row], mem: &[Listed]) -> Option<(WindowKind,
         io: &[],
         mem: mem.as_slice(),
         pref: &[],
+        slots: Slots::none(),
     };
     match place_anew(alloc, &admitted, &lists) {
         Err(Refused::Fault(Unplaced::Lacks(lack))) => {

@@ -6,6 +6,7 @@ use pci_base::slot::Slot;
 use pci_base::window_kind::WindowKind;
 use pci_plan::write::Write;
 use pci_settle::list::Lists;
+use pci_settle::slots::Slots;
 use pci_settle_writes::lack::{Lack, SettleFault};
 use pci_settle_writes::settle::settle;
 use pci_settle_writes::writes::Writes;
@@ -46,6 +47,7 @@ fn settled(
         io: &[],
         mem,
         pref: &[],
+        slots: Slots::none(),
     };
     match settle(alloc, admitted, &lists, &[], true) {
         Ok(settled) => Some(Ok(settled.writes)),

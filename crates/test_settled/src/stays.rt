@@ -4,6 +4,7 @@ use pci_base::range::RootRange;
 use pci_base::window_kind::WindowKind;
 use pci_settle::kept::Kept;
 use pci_settle::list::Lists;
+use pci_settle::slots::Slots;
 use pci_stay::staying::staying;
 use pci_tree::admitted::Admitted;
 use std::alloc::Global;
@@ -34,6 +35,7 @@ fn stay_in(alloc: Global, admitted: &Admitted, mem: &[RootRange], wanted: &[Stay
         io: &[],
         mem,
         pref: &[],
+        slots: Slots::none(),
     };
     match staying(alloc, admitted, &lists, &[]) {
         Ok(table) => are_kept(table.as_slice(), wanted),

@@ -5,7 +5,6 @@ use Rattle.pci_spec.specs.Stops.{IsAboveLast, last_slot}
 use Rattle.pci_spec.specs.System.{Function, function_of}
 use Rattle.pci_spec.specs.Decoded.{HasRecords}
 use Rattle.pci_spec.proofs.Pairing.{same_length, length-system_of}
-use Rattle.settle_spec.specs.Lists.{Lists}
 use Rattle.pci_function.specs.declared.record.Record.{Record}
 use Rattle.pci_function.specs.Values.{record_value}
 use Rattle.pci_tree.specs.Admission.{Admission, IsAdmitted}
@@ -13,7 +12,7 @@ use Rattle.pci_tree.proofs.Lifting.{same_slot_of}
 use Rattle.pci_place.specs.Above.{system_in}
 use Rattle.pci_place.proofs.Records.{same_count}
 use Rattle.pci_settle.specs.Kept.{nothing_kept}
-use Rattle.pci_settle.specs.Lists.{lists_value}
+use Rattle.pci_settle.specs.Slots.{Demand, demand_value}
 use Rattle.pci_settling.proofs.Registers.{have_registers}
 use Rattle.pci_plan.proofs.PlannedDumps.{ArePlanned, none_planned, found_count, next_above, all_planned}
 use Rattle.pci_settle_writes.proofs.SettledDumps.{IsSettledOf, IsHere, request_by, placed_here, told_here, block_here, next_settled, all_settled}
@@ -25,8 +24,8 @@ module _ (g : Over) (c : After-empty-dump g) where
   abbrev a : Admission
   a = c.args.admitted.now
 
-  abbrev l : Lists
-  l = lists_value c.args.lists.now
+  abbrev l : Demand
+  l = demand_value c.args.lists.now
 
   abbrev P : Function → Function → Type 0
   P = IsSettledOf a.roots (system_in a) l c.args.table.now c.args.grown.now c.args.staying.now

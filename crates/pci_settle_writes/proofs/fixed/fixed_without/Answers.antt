@@ -9,7 +9,7 @@ use Rattle.pci_tree.proofs.Lifting.{same_slot_of}
 use Rattle.pci_place.specs.declared.above.Above.{Above}
 use Rattle.pci_place.specs.Above.{system_in, IsAbove}
 use Rattle.pci_place.proofs.Records.{FunctionAt, function_read}
-use Rattle.pci_settle.specs.Lists.{lists_value}
+use Rattle.pci_settle.specs.Slots.{demand_value}
 use Rattle.pci_settle.specs.Own.{AreTerms}
 use Rattle.pci_settling.proofs.Registers.{have_registers}
 use Rattle.pci_stand.specs.Flags.{AreFlags}
@@ -46,13 +46,13 @@ module _ (g : Over) (c : After-record_without-fault g) where
   slot : r.slot ≡ here.f.slot
   slot = same_slot_of r here.f here.is.value
 
-  module _ (q : Request) (test : FunctionPart → Bool) (asked : IsAskedOf q c.args.admitted.now.roots (lists_value c.args.lists.now)) (flags : AreFlags q.fixed c.args.fixed.now) (table : IsTableOf s test c.args.table.now) where
+  module _ (q : Request) (test : FunctionPart → Bool) (asked : IsAskedOf q c.args.admitted.now.roots (demand_value c.args.lists.now)) (flags : AreFlags q.fixed c.args.fixed.now) (table : IsTableOf s test c.args.table.now) where
     fault_is : c.record_without-fault.result ≡ first fixed_part (off q test) (function_parts q s here.f)
     fault_is =
         let f = here.f in
         let bus : c.from.result ≡ f.slot.bus = c.from.ensures ∙ c.bus.ensures ∙ ap (λ (x : Slot). x.bus) slot in
         let over = subst (λ n. IsAbove s f.slot.bus (get_or c.aboves-aboves.result n no_above)) (sym bus) (c.aboves-aboves.ensures f no_above here.is.listed) in
-        let terms = subst (λ lists. AreTerms lists c.of-terms.result) (sym asked.lists_are) c.of-terms.ensures in
+        let terms = subst (λ lists. AreTerms lists c.of-terms.result) (sym asked.demands_are) c.of-terms.ensures in
         let flag : get_or c.args.fixed.now c.from-in-loop-k.result false ≡ list_any (same_slot f.slot) q.fixed =
         ap (λ n. get_or c.args.fixed.now n false) (c.from-in-loop-k.ensures ∙ c.number.ensures.number) ∙ flags.each r.slot c.number.ensures.slot ∙ ap (λ x. list_any (same_slot x) q.fixed) slot in
         c.record_without-fault.ensures

@@ -2,7 +2,7 @@ use Rattle.std.proofs.Common.{refl}
 use Rattle.std.proofs.lemmas.Result.{IfOk-weaker, IfErr-weaker}
 use Rattle.settle_spec.specs.Kept.{is_kept, stays_growing, growing}
 use Rattle.pci_place.specs.Above.{system_in}
-use Rattle.pci_settle.specs.Lists.{lists_value}
+use Rattle.pci_settle.specs.Slots.{demand_value}
 use Rattle.pci_stand.specs.Known.{asked}
 use Rattle.pci_grow.specs.Growing.{grown_value}
 use Rattle.pci_settle_writes.proofs.HeldTables.{asked_is, table_stay, left_opened, grown_can_be_left, told_grown}
@@ -12,7 +12,7 @@ use Rattle.pci_settle_writes.proofs.growth.settle_grown.Goals as goal
 pub returns-in-Some-clause-refusal : goal.returns-in-Some-clause-refusal
 returns-in-Some-clause-refusal g c =
     let a = c.args.admitted.now in
-    let l = lists_value c.args.lists.now in
+    let l = demand_value c.args.lists.now in
     let q = asked a.roots l c.args.fixed.now in
     unstaying_grown a q c.in-Some.fault (c.in-Some.ensures q (stays_growing q (system_in a)) (asked_is a l c.args.fixed.now) c.requires
     (table_stay a l c.args.fixed.now c.as_slice-stay.result.now c.as_slice-stay.ensures.value (is_kept q (system_in a)) c.in_ok-grown.ensures.grown.stay))
@@ -20,7 +20,7 @@ returns-in-Some-clause-refusal g c =
 pub settle_held-requires-clause-left : goal.settle_held-requires-clause-left
 settle_held-requires-clause-left g c =
     let a = c.args.admitted.now in
-    let l = lists_value c.args.lists.now in
+    let l = demand_value c.args.lists.now in
     let q = asked a.roots l c.args.fixed.now in
     let admitted = c.outline-outline.ensures.admitted in
     grown_can_be_left a l c.args.fixed.now admitted c.records.result.now c.records.ensures.value c.outline-outline.ensures.records
@@ -31,7 +31,7 @@ settle_held-requires-clause-left g c =
 pub returns-clause-ends : goal.returns-clause-ends
 returns-clause-ends g c =
     let a = c.args.admitted.now in
-    let l = lists_value c.args.lists.now in
+    let l = demand_value c.args.lists.now in
     let q = asked a.roots l c.args.fixed.now in
     let admitted = c.outline-outline.ensures.admitted in
     let kept = growing_fixed q (system_in a) (c.in_default.ensures q (stays_growing q (system_in a)) (asked_is a l c.args.fixed.now) c.requires
@@ -45,7 +45,7 @@ returns-clause-ends g c =
 pub returns-clause-refusal : goal.returns-clause-refusal
 returns-clause-refusal g c =
     let a = c.args.admitted.now in
-    let l = lists_value c.args.lists.now in
+    let l = demand_value c.args.lists.now in
     let q = asked a.roots l c.args.fixed.now in
     let admitted = c.outline-outline.ensures.admitted in
     let kept = growing_fixed q (system_in a) (c.in_default.ensures q (stays_growing q (system_in a)) (asked_is a l c.args.fixed.now) c.requires

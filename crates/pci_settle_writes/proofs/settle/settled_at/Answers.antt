@@ -13,6 +13,6 @@ returns-clause-settled g c = λ q keep asked overs_are places tells.
     let blocks = subst (λ (bs : List Block). IsSettledDump q keep c.args.admitted.now bs) (sym c.blocks-2.ensures.value) to in
     record {
       settled = to;
-      writes_are = c.in_ok-writes.ensures.writes q keep asked overs_are tells.stays_are blocks;
-      closing = c.in_ok-writes.ensures.closings q keep asked overs_are tells.stays_are blocks;
+      writes_are = c.in_ok-writes.ensures.writes q keep asked overs_are tells.none tells.stays_are blocks;
+      closing = c.in_ok-writes.ensures.closings q keep asked overs_are tells.none tells.stays_are blocks;
     }

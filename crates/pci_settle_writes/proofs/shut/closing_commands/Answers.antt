@@ -4,7 +4,7 @@ use Rattle.pci_spec.specs.Slot.{Slot}
 use Rattle.pci_spec.specs.Text.{Block}
 use Rattle.pci_spec.specs.System.{Space}
 use Rattle.pci_spec.proofs.Pairing.{same_length, length-system_of}
-use Rattle.settle_spec.specs.Lists.{Request, Lists}
+use Rattle.settle_spec.specs.Lists.{Request}
 use Rattle.settle_spec.specs.Kept.{Kept as Keeping}
 use Rattle.settle_spec.specs.Keeping.Registers.{settled_function}
 use Rattle.pci_base.specs.Space.{is_on}
@@ -16,7 +16,7 @@ use Rattle.pci_place.specs.Above.{system_in, IsAbove}
 use Rattle.pci_place.proofs.Records.{lent, FunctionAt, same_count, function_read}
 use Rattle.pci_settle.specs.declared.over.Over.{Over}
 use Rattle.pci_settle.specs.Kept.{nothing_kept}
-use Rattle.pci_settle.specs.Lists.{lists_value}
+use Rattle.pci_settle.specs.Slots.{Demand, demand_of, demand_value}
 use Rattle.pci_settle.specs.Over.{AreClassWindows, no_windows}
 use Rattle.pci_settle.specs.Own.{AreTerms}
 use Rattle.pci_settling.proofs.Registers.{have_registers}
@@ -48,8 +48,8 @@ module _ (g : Outer) (c : After-blocks-start g) where
   abbrev a : Admission
   a = c.args.admitted.now
 
-  abbrev l : Lists
-  l = lists_value c.args.lists.now
+  abbrev l : Demand
+  l = demand_value c.args.lists.now
 
   admitted_is : IsAdmitted a
   admitted_is = c.outline-outline.ensures.admitted
@@ -70,8 +70,8 @@ module _ (g : Outer) (c : After-blocks-start g) where
   settled : (q : Request) (keep : Keeping) → IsSettledDump q keep a c.args.settled.now → AreSettledBlocks q (system_in a) keep c.args.settled.now
   settled q keep to = settled_of a admitted_is q keep c.args.settled.now to
 
-  terms : (q : Request) → IsAskedOf q a.roots l → AreTerms q.lists c.of-terms.result
-  terms q asked = subst (λ lists. AreTerms lists c.of-terms.result) (sym asked.lists_are) c.of-terms.ensures
+  terms : (q : Request) → IsAskedOf q a.roots l → AreTerms (demand_of q) c.of-terms.result
+  terms q asked = subst (λ lists. AreTerms lists c.of-terms.result) (sym asked.demands_are) c.of-terms.ensures
 
   -- the function of a record
   function_here : (k : ℕ) (r : Record) → k < length c.records-records.result.now → r ≡ get_or c.records-records.result.now k r → FunctionAt (system_in a) r k
@@ -82,7 +82,7 @@ loop-k-init g c =
     let start = (goal.at.loop-k-init g c).After-blocks-start in
     record {
       count = ap length c.new-commands.ensures.items;
-      closed = λ q keep asked told stay to.
+      closed = λ q keep asked told wishless stay to.
           let none = none_closed q (a g start).roots (system_in (a g start)) keep (admitted_is g start).system (admitted_is g start).nested in
           record { marks = none.marks; values = c.new-commands.ensures.items };
     }
@@ -138,8 +138,8 @@ loop-k-preserved g c =
     c.in_ok-push.ensures.items ∙ ap (λ x. c.loop-k.commands.items ++ x ∷ []) c.closing_command.ensures in
     record {
       count = ap length commands ∙ length-append c.loop-k.commands.items _ ∙ ap (λ n. n + 1) c.loop-k.invariant.count;
-      closed = λ q keep asked told stay to.
-          let was = c.loop-k.invariant.closed q keep asked told stay to in
+      closed = λ q keep asked told wishless stay to.
+          let was = c.loop-k.invariant.closed q keep asked told wishless stay to in
           let is_around : IsAround q s keep f around = record {
             over = record {
               above = subst (λ n. IsAbove s f.slot.bus (get_or c.aboves-aboves.result n no_above)) (sym (c.from-in-loop-k.ensures ∙ bus)) (c.aboves-aboves.ensures f no_above here.is.listed);
@@ -164,7 +164,7 @@ loop-k-preserved g c =
             | in-Some w ↦
                 subst After (sym w.ways-is)
                 (closed_more q roots s keep admitted.system admitted.nested k f r here.at here.is around is_around old new old_is new_is c.shut_itself-itself.result c.shut.result itself_by shut_by
-                c.loop-k.ways c.loop-k.commands.items c.push.new.self.items was commands w.in-Some.bridge w.in-Some.is w.from-in-Some.result w.from-in-Some.ensures w.same_windows-same.result
+                c.loop-k.ways c.loop-k.commands.items c.push.new.self.items was commands wishless w.in-Some.bridge w.in-Some.is w.from-in-Some.result w.from-in-Some.ensures w.same_windows-same.result
                 (by_classes (λ x. in_class w.same_windows-same.result x ≡ not (is_window_changed x old new)) w.same_windows-same.ensures.io w.same_windows-same.ensures.memory w.same_windows-same.ensures.prefetchable)
                 w.and.result
                 (by_spaces (λ x. in_space w.and.result.on x ≡ (in_space way.on x && is_on r.command x)) w.and.ensures.io w.and.ensures.memory)
@@ -191,5 +191,5 @@ returns-clause-commands g c =
     let first = (goal.at.returns-clause-commands g c).After-blocks-start in
     let n = count g first in
     let done = c.loop-k-test.false in
-    λ q keep asked told stay to. all_closed q (a g first).roots (system_in (a g first)) keep (admitted_is g first).system (admitted_is g first).nested c.loop-k.k c.loop-k.ways c.loop-k.commands.items
-    (c.loop-k.invariant.closed q keep asked told stay to) (omega (arith, n, done))
+    λ q keep asked told wishless stay to. all_closed q (a g first).roots (system_in (a g first)) keep (admitted_is g first).system (admitted_is g first).nested c.loop-k.k c.loop-k.ways c.loop-k.commands.items
+    (c.loop-k.invariant.closed q keep asked told wishless stay to) (omega (arith, n, done))

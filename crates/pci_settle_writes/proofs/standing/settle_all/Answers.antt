@@ -7,7 +7,7 @@ use Rattle.settle_spec.specs.Kept.{as_it_stands}
 use Rattle.pci_base.specs.declared.memory.Refused.TheVariants as refused
 use Rattle.pci_place.specs.Above.{system_in}
 use Rattle.pci_place.proofs.Records.{same_count}
-use Rattle.pci_settle.specs.Lists.{lists_value}
+use Rattle.pci_settle.specs.Slots.{demand_value}
 use Rattle.pci_settle.specs.Kept.{AreNone}
 use Rattle.pci_settled.proofs.NothingLeft.{can_be_left}
 use Rattle.pci_plan.specs.Writes.{write_value}
@@ -23,10 +23,10 @@ returns-in-Some-clause-refusal g c = λ q is anew flags.
     = subst (λ rs. HasRecords (system_in a) rs) (sym c.records.ensures.value) c.outline-outline.ensures.records in
     let count = ap length c.as_slice-kept.ensures.value ∙ c.in_ok-none.ensures.count ∙ sym (same_count (system_in a) c.records.result.now has) in
     let none = subst AreNone (sym c.as_slice-kept.ensures.value) c.in_ok-none.ensures.none in
-    after_anew a q anew (refused.Fault c.in-Some.fault) (unstanding a q (as_it_stands q (system_in a)) c.in-Some.fault (c.in-Some.ensures q (stands q (system_in a)) is flags (stand_anew a (lists_value c.args.lists.now) c.as_slice-kept.result.now count none q is anew)))
+    after_anew a q anew (refused.Fault c.in-Some.fault) (unstanding a q (as_it_stands q (system_in a)) c.in-Some.fault (c.in-Some.ensures q (stands q (system_in a)) is flags (stand_anew a (demand_value c.args.lists.now) c.as_slice-kept.result.now count none q is anew)))
 
 pub settle_held-requires-clause-left : goal.settle_held-requires-clause-left
-settle_held-requires-clause-left g c = can_be_left c.args.admitted.now.roots (system_in c.args.admitted.now) (lists_value c.args.lists.now) _ refl refl refl
+settle_held-requires-clause-left g c = can_be_left c.args.admitted.now.roots (system_in c.args.admitted.now) (demand_value c.args.lists.now) _ refl refl refl
 
 pub returns-clause-ends : goal.returns-clause-ends
 returns-clause-ends g c =
@@ -36,7 +36,7 @@ returns-clause-ends g c =
     let none = subst AreNone (sym c.as_slice-kept.ensures.value) c.in_ok-none.ensures.none in
     IfOk-weaker c.settle_held.result _ _
     (λ x ends q is anew flags. ended_anew c.args.admitted.now q x.dump (map write_value x.writes.all.items) x.writes.closings anew
-    (ends q (as_it_stands q (system_in c.args.admitted.now)) flags (told_anew c.args.admitted.now (lists_value c.args.lists.now) c.as_slice-kept.result.now count none q is anew _ refl refl refl
+    (ends q (as_it_stands q (system_in c.args.admitted.now)) flags (told_anew c.args.admitted.now (demand_value c.args.lists.now) c.as_slice-kept.result.now count none q is anew _ refl refl refl
     (λ test told. c.in_default.ensures q test is flags told))))
     c.settle_held.ensures.ends
 
@@ -48,6 +48,6 @@ returns-clause-refusal g c =
     let none = subst AreNone (sym c.as_slice-kept.ensures.value) c.in_ok-none.ensures.none in
     IfErr-weaker c.settle_held.result _ _
     (λ e ends q is anew flags. after_anew c.args.admitted.now q anew e
-    (ends q (as_it_stands q (system_in c.args.admitted.now)) flags (told_anew c.args.admitted.now (lists_value c.args.lists.now) c.as_slice-kept.result.now count none q is anew _ refl refl refl
+    (ends q (as_it_stands q (system_in c.args.admitted.now)) flags (told_anew c.args.admitted.now (demand_value c.args.lists.now) c.as_slice-kept.result.now count none q is anew _ refl refl refl
     (λ test told. c.in_default.ensures q test is flags told))))
     c.settle_held.ensures.refusal

@@ -4,7 +4,7 @@ use Rattle.settle_spec.specs.Stands.{stands}
 use Rattle.settle_spec.specs.Items.{has_room_behind, stays}
 use Rattle.settle_spec.specs.Kept.{as_it_stands}
 use Rattle.pci_place.specs.Above.{system_in}
-use Rattle.pci_settle.specs.Lists.{lists_value}
+use Rattle.pci_settle.specs.Slots.{demand_value}
 use Rattle.pci_stand.specs.Known.{asked}
 use Rattle.pci_settle_writes.proofs.HeldTables.{asked_is, table_stand, table_stay, rest_can_be_left, told_rest}
 use Rattle.pci_settle_writes.proofs.Refusals.{unstanding, unstaying, fixed_kept, ended_too_large}
@@ -13,7 +13,7 @@ use Rattle.pci_settle_writes.proofs.standing.settle_standing.Goals as goal
 pub returns-in-Some-clause-refusal : goal.returns-in-Some-clause-refusal
 returns-in-Some-clause-refusal g c =
     let a = c.args.admitted.now in
-    let l = lists_value c.args.lists.now in
+    let l = demand_value c.args.lists.now in
     let q = asked a.roots l c.args.fixed.now in
     unstanding a q (as_it_stands q (system_in a)) c.in-Some.fault (c.in-Some.ensures q (stands q (system_in a)) (asked_is a l c.args.fixed.now) c.requires
     (table_stand a l c.args.fixed.now c.as_slice.result.now c.as_slice.ensures.value c.in_ok-stand.ensures))
@@ -21,7 +21,7 @@ returns-in-Some-clause-refusal g c =
 pub returns-in_err-table-clause-refusal : goal.returns-in_err-table-clause-refusal
 returns-in_err-table-clause-refusal g c =
     let a = c.args.admitted.now in
-    let l = lists_value c.args.lists.now in
+    let l = demand_value c.args.lists.now in
     let q = asked a.roots l c.args.fixed.now in
     let p = err_from_is_err_and c.from_residual-in_err-table.result c.from_residual-in_err-table.ensures.1 in
     let stand = c.in_default.ensures q (stands q (system_in a)) (asked_is a l c.args.fixed.now) c.requires
@@ -31,7 +31,7 @@ returns-in_err-table-clause-refusal g c =
 pub returns-in-Some-fixed_without-clause-refusal : goal.returns-in-Some-fixed_without-clause-refusal
 returns-in-Some-fixed_without-clause-refusal g c =
     let a = c.args.admitted.now in
-    let l = lists_value c.args.lists.now in
+    let l = demand_value c.args.lists.now in
     let q = asked a.roots l c.args.fixed.now in
     let stand = c.in_default.ensures q (stands q (system_in a)) (asked_is a l c.args.fixed.now) c.requires
     (table_stand a l c.args.fixed.now c.as_slice.result.now c.as_slice.ensures.value c.in_ok-stand.ensures) in
@@ -40,13 +40,13 @@ returns-in-Some-fixed_without-clause-refusal g c =
 
 pub settle_held-requires-clause-left : goal.settle_held-requires-clause-left
 settle_held-requires-clause-left g c =
-    rest_can_be_left c.args.admitted.now (lists_value c.args.lists.now) c.args.fixed.now c.outline-outline.ensures.admitted c.records.result.now c.records.ensures.value c.outline-outline.ensures.records
+    rest_can_be_left c.args.admitted.now (demand_value c.args.lists.now) c.args.fixed.now c.outline-outline.ensures.admitted c.records.result.now c.records.ensures.value c.outline-outline.ensures.records
     _ c.open_windows-over.ensures c.as_slice-stay.result.now c.as_slice-stay.ensures.value c.as_slice-stay.ensures.value refl c.in_ok-table.ensures.stay
 
 pub returns-clause-ends : goal.returns-clause-ends
 returns-clause-ends g c =
     let a = c.args.admitted.now in
-    let l = lists_value c.args.lists.now in
+    let l = demand_value c.args.lists.now in
     let q = asked a.roots l c.args.fixed.now in
     let kept = fixed_kept a q (as_it_stands q (system_in a))
     (c.in_default.ensures q (stands q (system_in a)) (asked_is a l c.args.fixed.now) c.requires (table_stand a l c.args.fixed.now c.as_slice.result.now c.as_slice.ensures.value c.in_ok-stand.ensures))
@@ -58,7 +58,7 @@ returns-clause-ends g c =
 pub returns-clause-refusal : goal.returns-clause-refusal
 returns-clause-refusal g c =
     let a = c.args.admitted.now in
-    let l = lists_value c.args.lists.now in
+    let l = demand_value c.args.lists.now in
     let q = asked a.roots l c.args.fixed.now in
     let kept = fixed_kept a q (as_it_stands q (system_in a))
     (c.in_default.ensures q (stands q (system_in a)) (asked_is a l c.args.fixed.now) c.requires (table_stand a l c.args.fixed.now c.as_slice.result.now c.as_slice.ensures.value c.in_ok-stand.ensures))

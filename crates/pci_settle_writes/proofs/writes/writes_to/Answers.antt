@@ -1,11 +1,12 @@
 use Rattle.std.proofs.Common.{◌≡◌, ◌∙◌, List, length, map, sym, ap, subst}
 use Rattle.std.proofs.lemmas.Result.{IfOk-weaker}
+use Rattle.settle_laws.specs.KeptLaws.{WishesNothing}
 use Rattle.pci_spec.specs.Text.{Block}
-use Rattle.settle_spec.specs.Lists.{Request, Lists}
+use Rattle.settle_spec.specs.Lists.{Request}
 use Rattle.settle_spec.specs.Kept.{Kept}
 use Rattle.pci_tree.specs.Admission.{Admission, IsAdmitted}
 use Rattle.pci_place.specs.Above.{system_in}
-use Rattle.pci_settle.specs.Lists.{lists_value}
+use Rattle.pci_settle.specs.Slots.{Demand, demand_value}
 use Rattle.pci_settle.specs.Over.{AreOpenOver}
 use Rattle.pci_settle_writes.specs.declared.writes.Stages.{Stages}
 use Rattle.pci_settle_writes.specs.Requests.{IsAskedOf}
@@ -22,8 +23,8 @@ module _ (g : Over) (c : After-as_slice g) where
   abbrev a : Admission
   a = c.args.admitted.now
 
-  abbrev l : Lists
-  l = lists_value c.args.lists.now
+  abbrev l : Demand
+  l = demand_value c.args.lists.now
 
   admitted_is : IsAdmitted a
   admitted_is = c.outline-outline.ensures.admitted
@@ -40,14 +41,15 @@ module _ (g : Over) (c : After-as_slice g) where
   abbrev stages : Stages
   stages = record { start = c.blocks-2.result; probe = c.blocks-3.result; commands = c.as_slice.result; settled = c.args.settled; staying = c.args.staying }
 
-  are : (q : Request) (keep : Kept) → IsAskedOf q a.roots l → AreOpenOver q (system_in a) c.args.overs.now → IsTableOf (system_in a) keep.stays c.args.staying.now → IsSettledDump q keep a c.args.settled.now → AreStages q (system_in a) keep stages
-  are q keep asked told stay to = record {
+  are : (q : Request) (keep : Kept) → IsAskedOf q a.roots l → AreOpenOver q (system_in a) c.args.overs.now → WishesNothing keep → IsTableOf (system_in a) keep.stays c.args.staying.now → IsSettledDump q keep a c.args.settled.now → AreStages q (system_in a) keep stages
+  are q keep asked told wishless stay to = record {
     system = admitted_is.system;
     start = start;
     probe = ap (map (λ (b : Block). b.image)) probes_are ∙ probes_of a admitted_is;
-    commands = c.as_slice.ensures.value ∙ c.in_ok-commands.ensures.commands q keep asked told stay to;
+    commands = c.as_slice.ensures.value ∙ c.in_ok-commands.ensures.commands q keep asked told wishless stay to;
     settled = settled_of a admitted_is q keep c.args.settled.now to;
     staying = stay;
+    none = wishless;
   }
 
 pub writes_by-requires : goal.writes_by-requires
@@ -63,9 +65,9 @@ writes_by-requires g c =
 pub returns-clause-writes : goal.returns-clause-writes
 returns-clause-writes g c =
     let first = (goal.at.returns-clause-writes g c).After-as_slice in
-    IfOk-weaker c.writes_by.result _ _ (λ w is q keep asked told stay to. is q (system_in (a g first)) keep (are g first q keep asked told stay to)) c.writes_by.ensures.writes
+    IfOk-weaker c.writes_by.result _ _ (λ w is q keep asked told wishless stay to. is q (system_in (a g first)) keep (are g first q keep asked told wishless stay to)) c.writes_by.ensures.writes
 
 pub returns-clause-closings : goal.returns-clause-closings
 returns-clause-closings g c =
     let first = (goal.at.returns-clause-closings g c).After-as_slice in
-    IfOk-weaker c.writes_by.result _ _ (λ w is q keep asked told stay to. is q (system_in (a g first)) keep (are g first q keep asked told stay to)) c.writes_by.ensures.closings
+    IfOk-weaker c.writes_by.result _ _ (λ w is q keep asked told wishless stay to. is q (system_in (a g first)) keep (are g first q keep asked told wishless stay to)) c.writes_by.ensures.closings
