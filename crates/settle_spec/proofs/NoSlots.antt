@@ -9,9 +9,9 @@ use Rattle.settle_spec.specs.Kept.{Kept, as_it_stands, growing}
 use Rattle.settle_spec.specs.Keeping.Writes.{settle_keeping}
 use Rattle.settle_spec.specs.Growing.{or_else, kept_by, settle_growing, finally_kept}
 use Rattle.settle_spec.specs.Wishes.{Granted, with_all_spares}
-use Rattle.settle_spec.specs.Sparing.{without_slots, have_spares, granted_beside, settle_sparing}
+use Rattle.settle_spec.specs.Sparing.{without_slots, is_settled, have_spares, granted_beside, settle_wished, settle_sparing}
 
-either_way : (b : Bool) (p : Request) → cond b p p ≡ p
+either_way : {T : Type 0} (b : Bool) (p : T) → cond b p p ≡ p
 either_way true p = refl
 either_way false p = refl
 
@@ -32,9 +32,16 @@ module _ (q : Request) where
   ends_by p s (Fixed slot register) is = refl
   ends_by p s (NoRoom class slot register size alignment) is = refl
 
-  pub no_slots_no_spares : (s : System) → settle_sparing (without_slots q) s ≡ settle_growing (without_slots q) s
-  no_slots_no_spares s =
+  -- without slots what is settled with wishes is settled as growing does
+  no_slots_wished : (s : System) → settle_wished (without_slots q) s ≡ settle_growing (without_slots q) s
+  no_slots_wished s =
       let p = without_slots q in
       ap (λ (r : Request). settle_keeping r s (granted_beside p r s).kept) (either_way (have_spares p s) p)
       ∙ ap (λ (k : Kept). settle_keeping p s k) (ap (λ (g : Granted). g.kept) (no_wishes p s record { kept = finally_kept p s; denied = [] } s))
       ∙ ends_by p s (settle_keeping p s (growing p s)) refl
+
+  pub no_slots_no_spares : (s : System) → settle_sparing (without_slots q) s ≡ settle_growing (without_slots q) s
+  no_slots_no_spares s =
+      let p = without_slots q in
+      let alone = settle_growing p s in
+      ap (λ x. cond (is_settled alone) x alone) (no_slots_wished s) ∙ either_way (is_settled alone) alone

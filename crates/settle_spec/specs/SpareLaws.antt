@@ -2,15 +2,14 @@
 use Rattle.std.specs.Prelude.{◌≡◌, ◌^◌, ◌<◌, Bool, ◌&&◌, IsTrue, IsFalse, [], Some}
 use Rattle.std.specs.List.{Contains}
 use Rattle.std.specs.Option.{is_some}
-use Rattle.pci_spec.specs.Decoded.{Range}
 use Rattle.pci_spec.specs.Window.{WindowKind, has_window}
-use Rattle.pci_spec.specs.System.{System, Function, IsSystem, is_window, window_space}
+use Rattle.pci_spec.specs.System.{System, Function, IsSystem, window_space}
 use Rattle.pci_spec.specs.Bus.{secondary, IsNested}
 use Rattle.pci_spec.specs.Sound.{IsInProfile, HasChains}
 use Rattle.plan_spec.specs.Plan.{is_open}
 use Rattle.settle_spec.specs.FirstPlace.{Extent, first_place_in}
 use Rattle.settle_spec.specs.Lists.{RootRange, Request}
-use Rattle.settle_spec.specs.Parts.{FunctionPart, system_parts, addresses, are_same_space, lies_within}
+use Rattle.settle_spec.specs.Parts.{FunctionPart, system_parts, addresses, are_same_space}
 use Rattle.settle_spec.specs.Stands.{part_space, window_part}
 use Rattle.settle_spec.specs.Items.{spare_of}
 use Rattle.settle_spec.specs.Growth.{there_on}
@@ -18,7 +17,6 @@ use Rattle.settle_spec.specs.Writes.{Settled}
 use Rattle.settle_spec.specs.Kept.{Kept}
 use Rattle.settle_spec.specs.Keeping.Registers.{settled_function, settled_command, settled}
 use Rattle.settle_spec.specs.Growing.{settle_growing, finally_kept}
-use Rattle.settle_spec.specs.Wishes.{range_then}
 use Rattle.settle_spec.specs.Sparing.{without_slots, is_settled, placing_request, grants, denied, settle_sparing}
 
 -- A system is admitted, and lists of prefetchable memory end below 2^64.
@@ -48,19 +46,11 @@ NoSlotsNoSpares =
 
 -- ---- nothing goes
 
--- What stays without slots stays with them,
+-- What stays without slots stays with them.
 abbrev pub NothingGoesForSpares : Type 0
 NothingGoesForSpares =
     (q : Request) (s : System) (r : FunctionPart) → Contains (system_parts q s) r
     → IsTrue ((finally_kept (without_slots q) s).stays r) → IsTrue ((kept_sparing q s).stays r)
-
--- a BAR or ROM with its addresses, and a window with all that it had.
-abbrev pub StayingKeepsAll : Type 0
-StayingKeepsAll =
-    (q : Request) (s : System) (r : FunctionPart) → Contains (system_parts q s) r
-    → IsTrue ((kept_sparing q s).stays r)
-    → (w : Range) × (range_then (placing_request q s) s (kept_sparing q s) r ≡ Some w)
-    × IsTrue (lies_within (addresses r) w) × (IsFalse (is_window r.part) → w ≡ addresses r)
 
 -- Command is that without slots.
 abbrev pub SparesSetNoCommand : Type 0

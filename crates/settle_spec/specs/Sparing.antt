@@ -45,5 +45,12 @@ grants q s = granted_beside q (placing_request q s) s
 abbrev pub denied : Request → System → List FunctionPart
 denied q s = (grants q s).denied
 
+-- all is settled beside what is kept then
+abbrev pub settle_wished : Request → System → Settling
+settle_wished q s = settle_keeping (placing_request q s) s (grants q s).kept
+
+-- What is refused without slots is refused with them.
 abbrev pub settle_sparing : Request → System → Settling
-settle_sparing q s = settle_keeping (placing_request q s) s (grants q s).kept
+settle_sparing q s =
+    if is_settled (settle_growing (without_slots q) s) then settle_wished q s
+    else settle_growing (without_slots q) s
