@@ -1,5 +1,5 @@
 -- Room behind slots, and what is asked of places: lists of ranges and that room.
-use Rattle.std.specs.Prelude.{ℕ, nat_lt, if◌then◌else◌, List, [], Option, None, Some}
+use Rattle.std.specs.Prelude.{ℕ, nat_lt, min, if◌then◌else◌, List, [], Option, None, Some}
 use Rattle.std.specs.List.{list_any}
 use Rattle.pci_spec.specs.Slot.{Slot, same_slot}
 use Rattle.pci_spec.specs.Window.{WindowKind, IoWindow, MemoryWindow, PrefetchWindow}
@@ -11,11 +11,15 @@ use Rattle.pci_settle.specs.declared.list.Lists.{Lists}
 use Rattle.pci_settle.specs.declared.slots.Slots.{Slots}
 use Rattle.pci_settle.specs.Lists.{lists_value}
 
+-- a greater number counts as this one, so that whole pages of them are fewer than 2^64
+abbrev pub most_wanted : ℕ
+most_wanted = 0xffff_ffff_fff0_0000
+
 -- how many addresses of a class are wanted behind each slot
 abbrev pub wanted_of : Slots → WindowKind → ℕ
-wanted_of w IoWindow = w.io
-wanted_of w MemoryWindow = w.mem
-wanted_of w PrefetchWindow = w.pref
+wanted_of w IoWindow = min w.io most_wanted
+wanted_of w MemoryWindow = min w.mem most_wanted
+wanted_of w PrefetchWindow = min w.pref most_wanted
 
 -- and behind a bridge: none where it has no slot
 abbrev pub wanted_at : Slots → Slot → WindowKind → ℕ
@@ -36,7 +40,11 @@ abbrev pub demand_of : Request → Demand
 demand_of q = record { lists = q.lists; slots = q.slots; spares = q.spares }
 
 abbrev pub spares_value : Slots → Spares
-spares_value w = record { io = w.io; memory = w.mem; prefetch = w.pref }
+spares_value w = record {
+  io = wanted_of w IoWindow;
+  memory = wanted_of w MemoryWindow;
+  prefetch = wanted_of w PrefetchWindow;
+}
 
 -- nothing is wanted behind any slot
 abbrev pub no_spares : Spares

@@ -8,7 +8,11 @@ ghost use Rattle.pci_settle.specs.Slots.{wanted_of, wanted_at, no_spares, spares
 use pci_base::slot::Slot;
 use pci_base::window_kind::WindowKind;
 
-/// The bridges with such a slot, and how many addresses of each class are wanted behind each of them: 0 where none are.
+/// The most addresses that can be wanted behind a slot: whole pages of so many are fewer than 2^64.
+const MOST_WANTED: u64 = 0xffff_ffff_fff0_0000;
+
+/// The bridges with such a slot, and how many addresses of each class are wanted behind each of them: 0 where none are. More
+/// than `ffff_ffff_fff0_0000h` count as that many.
 #[derive(Clone, Copy, Debug)]
 pub struct Slots<'a> {
     pub bridges: &'a [Slot],
@@ -35,11 +39,12 @@ impl Slots<'_> {
     fn of_class(&self, class: WindowKind) -> u64
         ensures { result ≡ wanted_of self.now (kind_value class) }
     {
-        match class {
+        let wanted = match class {
             WindowKind::Io => self.io,
             WindowKind::Memory => self.mem,
             WindowKind::Prefetchable => self.pref,
-        }
+        };
+        wanted.min(MOST_WANTED)
     }
 
     /// Whether a bridge has a slot.

@@ -1,10 +1,12 @@
 pub mod Requests
 pub mod Dumps
 pub mod Told
+pub mod Wished
 pub mod Shut
 pub mod Stages
 pub mod Lacks
 pub mod Fixed
 pub mod Assumed
 pub mod Endings
+pub mod Denied
 pub mod FaultText

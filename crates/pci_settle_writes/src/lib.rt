@@ -11,5 +11,6 @@ pub mod lack;
 pub mod settle;
 pub mod shut;
 pub mod standing;
+pub mod tables;
 pub mod way;
 pub mod writes;

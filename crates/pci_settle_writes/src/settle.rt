@@ -7,8 +7,9 @@ ghost use Rattle.pci_spec.specs.Machine.{system_after};
 ghost use Rattle.settle_spec.specs.Lists.{Request};
 ghost use Rattle.settle_spec.specs.Writes as spec;
 ghost use Rattle.settle_spec.specs.Kept.{Kept as Keeping};
-ghost use Rattle.settle_spec.specs.Keeping.Writes.{closings};
-ghost use Rattle.settle_spec.specs.Growing.{settle_growing, finally_kept};
+ghost use Rattle.settle_spec.specs.Sparing.{without_slots, placing_request, settle_sparing};
+ghost use Rattle.settle_spec.specs.SpareLaws.{kept_sparing};
+ghost use Rattle.settle_laws.specs.SparingLaws.{sparing_closings};
 ghost use Rattle.pci_base.specs.declared.memory.Refused.TheVariants as refused;
 ghost use Rattle.pci_place.specs.Above.{system_in};
 ghost use Rattle.pci_plan.specs.Moves.{IsMove};
@@ -22,6 +23,7 @@ ghost use Rattle.pci_settling.specs.Live.{HasAllPlaces};
 ghost use Rattle.pci_settle_writes.specs.Requests.{request, IsAskedOf};
 ghost use Rattle.pci_settle_writes.specs.Told.{TellsKeeping};
 ghost use Rattle.pci_settle_writes.specs.Dumps.{IsSettledDump, IsSettledBy};
+ghost use Rattle.pci_settle_writes.specs.Denied.{denied_value, denied_registers};
 ghost use Rattle.pci_settle_writes.specs.Endings.{IsLackOff, AreAskedFor, IsEnded, IsEndedBy, IsNotGrown, kept_after, IsEndedAfter, IsRefusal, HasNoAssumed};
 
 use crate::assumed::first_assumed;
@@ -45,12 +47,23 @@ use pci_stand::fixed::flags_of;
 use pci_tree::admitted::Admitted;
 use std::alloc::{Allocator, Global};
 
+/// A window of a bridge with a slot in which the spare that is wanted has no room.
+#[derive(Clone, Copy, Debug, PartialEq, Eq)]
+pub struct Denied {
+    /// The bridge.
+    pub slot: Slot,
+    /// The byte offset of the window's first register: `1c` of I/O, `20` of memory, `24` of prefetchable memory.
+    pub register: u8,
+}
+
 /// What settling leads to.
 #[derive(Drop)]
 pub struct Settled<A: Allocator = Global> {
     /// The dump after all writes.
     pub dump: Dump<A>,
     pub writes: Writes<A>,
+    /// The windows whose spares have no room, the highest slot first, and of a slot by rising register.
+    pub denied: Vec<Denied, A>,
 }
 
 impl<A: Allocator> Settled<A> {
@@ -129,7 +142,12 @@ pub fn settled_at<A: Allocator + Copy, B: Allocator>(
 {
     let dump = settled_dump(alloc, admitted, lists, table, staying, left.grown)?;
     let writes = writes_to(alloc, admitted, lists, left.over, dump.blocks(), staying)?;
-    Ok(Settled { dump, writes })
+    let denied = Vec::new(alloc);
+    Ok(Settled {
+        dump,
+        writes,
+        denied,
+    })
 }
 
 /// Settles once it is known what is kept: which parts stay, by function in slot order, and what `left` tells of windows that
@@ -309,19 +327,19 @@ pub fn settle<A: Allocator + Copy, B: Allocator>(
     // what a guessed size would move is never moved
     ensures sized { OnOk result (HasNoAssumed admitted.now) }
     ensures dump { IfOk result (λ x. IsSettledDump
-        (request admitted.now.roots (demand_value lists.now) fixed.now anew)
-        (finally_kept (request admitted.now.roots (demand_value lists.now) fixed.now anew)
+        (placing_request (request admitted.now.roots (demand_value lists.now) fixed.now anew) (system_in admitted.now))
+        (kept_sparing (request admitted.now.roots (demand_value lists.now) fixed.now anew)
         (system_in admitted.now)) admitted.now x.dump) }
-    ensures settled { IfOk result (λ x. settle_growing
+    ensures settled { IfOk result (λ x. settle_sparing
         (request admitted.now.roots (demand_value lists.now) fixed.now anew) (system_in admitted.now)
         ≡ spec.Settled (map write_value x.writes.all.items)) }
-    ensures closings { IfOk result (λ x. x.writes.closings ≡ length (closings
-        (request admitted.now.roots (demand_value lists.now) fixed.now anew)
-        (system_in admitted.now)
-        (finally_kept (request admitted.now.roots (demand_value lists.now) fixed.now anew)
-        (system_in admitted.now)) (system_in admitted.now))) }
+    ensures closings { IfOk result (λ x. x.writes.closings ≡ length (sparing_closings
+        (request admitted.now.roots (demand_value lists.now) fixed.now anew) (system_in admitted.now))) }
+    ensures denied { IfOk result (λ x. map denied_value x.denied.items ≡ denied_registers
+        (request admitted.now.roots (demand_value lists.now) fixed.now anew) (system_in admitted.now)) }
+    // slots refuse nothing: what is refused is refused without them
     ensures refusal { IfErr result (IsRefusal admitted.now
-        (request admitted.now.roots (demand_value lists.now) fixed.now anew)) }
+        (without_slots (request admitted.now.roots (demand_value lists.now) fixed.now anew))) }
 {
     let roots = admitted.outline().roots();
     end_in_64_bits(lists.pref);
