@@ -21,3 +21,4 @@ pub mod Spots
 pub mod Still
 pub mod Wider
 pub mod Windows
+pub mod Written

@@ -1,5 +1,5 @@
 -- Laws of settling with room behind slots: wishes change nothing else, what settling comes to is sound, and its writes can stop.
-use Rattle.std.specs.Prelude.{◌≡◌, ℕ, ◌≤◌, ◌⊎◌, Bool, true, false, IsTrue, IsFalse, Some, List, [], length, take}
+use Rattle.std.specs.Prelude.{◌≡◌, ℕ, ◌≤◌, ◌⊎◌, IsTrue, IsFalse, Some, List, [], length, take}
 use Rattle.std.specs.List.{Contains, count_by}
 use Rattle.pci_spec.specs.Slot.{same_slot}
 use Rattle.pci_spec.specs.Window.{WindowKind, has_window}
@@ -12,12 +12,12 @@ use Rattle.settle_spec.specs.FirstPlace.{Extent}
 use Rattle.settle_spec.specs.Lists.{Request}
 use Rattle.settle_spec.specs.Parts.{addresses, lies_within}
 use Rattle.settle_spec.specs.Items.{spare_of}
-use Rattle.settle_spec.specs.Writes.{Settling, Fixed, Settled}
+use Rattle.settle_spec.specs.Writes.{Settled}
 use Rattle.settle_spec.specs.Kept.{Kept, unwished}
-use Rattle.settle_spec.specs.Keeping.Writes.{closings}
+use Rattle.settle_spec.specs.Keeping.Writes.{closings, settle_writes}
 use Rattle.settle_spec.specs.Growing.{settle_growing}
 use Rattle.settle_spec.specs.Wishes.{range_then, range_of_window, ending_if, ending, spared_if, spared_behind, granted}
-use Rattle.settle_spec.specs.Sparing.{without_slots, is_settled, placing_request, grants, settle_sparing}
+use Rattle.settle_spec.specs.Sparing.{without_slots, is_settled, placing_request, grants, settle_wished, settle_sparing}
 use Rattle.settle_spec.specs.SpareLaws.{kept_sparing, result_sparing, has_room_for, result_of}
 use Rattle.settle_laws.specs.WriteLaws.{most_settle_writes}
 use Rattle.settle_laws.specs.GrowingLaws.{CanBeAsked}
@@ -98,18 +98,11 @@ SparesRefuseNoMore =
     (q : Request) (s : System) → CanBeAsked q s
     → IsTrue (is_settled (settle_growing (without_slots q) s)) → IsTrue (is_settled (settle_sparing q s))
 
--- whether it is refused for a function that is fixed
-abbrev pub names_fixed : Settling → Bool
-names_fixed (Fixed slot register) = true
-names_fixed other = false
-
--- What is refused with slots is refused without them, and for the same reason. Where a fixed function would be written,
--- each names the first that it would write.
-abbrev pub SparesRefuseAlike : Type 0
-SparesRefuseAlike =
-    (q : Request) (s : System) → CanBeAsked q s → IsFalse (is_settled (settle_sparing q s))
-    → (settle_sparing q s ≡ settle_growing (without_slots q) s)
-    ⊎ (IsTrue (names_fixed (settle_sparing q s)) × IsTrue (names_fixed (settle_growing (without_slots q) s)))
+-- It is settled beside wishes, too, and the writes are those beside what is kept with them.
+abbrev pub WishedIsSettled : Type 0
+WishedIsSettled =
+    (q : Request) (s : System) → CanBeAsked q s → IsTrue (is_settled (settle_growing (without_slots q) s))
+    → settle_wished q s ≡ Settled (settle_writes (placing_request q s) s (grants q s).kept)
 
 -- ---- what is denied has no room
 

@@ -1,7 +1,7 @@
 //! Laws of settling with room behind slots. These functions do nothing: each contract is a law.
 
-ghost use Rattle.settle_laws.specs.SparingLaws.{EndingIsByBus, SparedIsByBus, WishesChangeRoomAlone, GrantedCanSettle, SettledSparingIsSound, SettlingSparingCanStop, FewSparingWritesEach, SparingKeepsAll, SparesRefuseNoMore, SparesRefuseAlike, SparesAreAnswered, KeptSettleOnce};
-ghost use Rattle.settle_spec.specs.SpareLaws.{NoSlotsNoSpares, NothingGoesForSpares, SparesSetNoCommand, SparesHaveRoom};
+ghost use Rattle.settle_laws.specs.SparingLaws.{EndingIsByBus, SparedIsByBus, WishesChangeRoomAlone, GrantedCanSettle, SettledSparingIsSound, SettlingSparingCanStop, FewSparingWritesEach, SparingKeepsAll, SparesRefuseNoMore, WishedIsSettled, SparesAreAnswered, KeptSettleOnce};
+ghost use Rattle.settle_spec.specs.SpareLaws.{NoSlotsNoSpares, SparesRefuseNothing, NothingGoesForSpares, SparesSetNoCommand, SparesHaveRoom};
 
 /// Room behind a slot is told by the window over its bridge, bus by bus.
 pub fn wishes_are_told_bus_by_bus()
@@ -33,10 +33,12 @@ pub fn nothing_goes_for_spares()
     ensures command { SparesSetNoCommand }
 {}
 
-/// What is settled without slots is settled with them, and what is refused is so for the same reason.
+/// What is settled without slots is settled with them, and its writes are those beside the wishes. What is refused with
+/// slots is refused without them, for the same reason.
 pub fn spares_refuse_nothing()
     ensures settled { SparesRefuseNoMore }
-    ensures refused { SparesRefuseAlike }
+    ensures wished { WishedIsSettled }
+    ensures refused { SparesRefuseNothing }
 {}
 
 /// The spare behind a slot is denied, or else its window has room for it in the result. Where it has none, none could be

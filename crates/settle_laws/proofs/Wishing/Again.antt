@@ -26,7 +26,7 @@ use Rattle.settle_spec.specs.Registers.{changing}
 use Rattle.settle_spec.specs.Keeping.Registers.{settled, settled_function}
 use Rattle.settle_spec.specs.Keeping.Writes.{settle_keeping}
 use Rattle.settle_spec.specs.Wishes.{range_then, there_then, ending_if, ending_within, spot_behind, Spared, spared_if, spared_within, spared_behind, Granted, or_denied, with_spare_of, with_spares_of, with_all_spares, granted}
-use Rattle.settle_spec.specs.Sparing.{without_slots, is_settled, have_spares, placing_request, granted_beside, settle_sparing}
+use Rattle.settle_spec.specs.Sparing.{without_slots, is_settled, have_spares, placing_request, granted_beside, settle_wished, settle_sparing}
 use Rattle.settle_spec.specs.SpareLaws.{kept_sparing, has_room_for, result_sparing}
 use Rattle.settle_spec.proofs.FirstSpot.{least_spot, spot_from, spot_gives}
 use Rattle.settle_laws.specs.GrowingLaws.{CanBeAsked}
@@ -46,8 +46,8 @@ use Rattle.settle_laws.proofs.Wishing.Granted.{spare_is}
 use Rattle.settle_laws.proofs.Wishing.Room.{can_all}
 use Rattle.settle_laws.proofs.Wishing.Answered.{spares_are_answered}
 use Rattle.settle_laws.proofs.Wishing.DeniedAgain.{none_then}
-use Rattle.settle_laws.proofs.Wishing.Still.{stands_alike, finally_is, have, stays_there, only_there}
-use Rattle.settle_laws.proofs.Wishing.Sparing.{placing_roots}
+use Rattle.settle_laws.proofs.Wishing.Still.{stands_alike, finally_is, settled_without, have, stays_there, only_there}
+use Rattle.settle_laws.proofs.Wishing.Sparing.{placing_roots, sparing_is_wished}
 
 if_so : {T : Type 0} (x : Bool) (a b : T) → x ≡ true → cond x a b ≡ a
 if_so true a b is = refl
@@ -168,12 +168,15 @@ module _ (q : Request) (t : System) (system : IsSystem t) (sound : IsSound q.roo
     all_wishes [] in_t = refl
     all_wishes (f ∷ more) in_t = wishes_of f (in_t f (in_head f more)) (with_all_spares q t (spare_of q) (record { kept = k; denied = [] }) more) (all_wishes more (λ g has. in_t g (in_tail f more g has)))
 
-    settles_once : settle_sparing q t ≡ Settled []
-    settles_once =
+    wished_once : settle_wished q t ≡ Settled []
+    wished_once =
         ap (λ x. settle_keeping (cond x q (without_slots q)) t (granted_beside q (cond x q (without_slots q)) t).kept) (have q t system sound all off fine)
         ∙ ap (λ i. settle_keeping q t (granted q t (spare_of q) i).kept) (finally_is q t system sound all off fine)
         ∙ ap (settle_keeping q t) (all_wishes t (λ f has. has))
         ∙ grown_settles q t system sound all off fine
+
+    settles_once : settle_sparing q t ≡ Settled []
+    settles_once = sparing_is_wished q t (settled_without q t system sound all off fine) ∙ wished_once
 
 -- ---- the result of a settling
 

@@ -1,6 +1,6 @@
 -- With slots nothing more is refused, and what is refused is so for the reason that it is without them.
-use Rattle.std.proofs.Common.{◌≡◌, ◌⊎◌, inl, inr, List, Bool, true, false, cond, refl, sym, ◌∙◌, ap, Option, None, Some}
-use Rattle.std.proofs.lemmas.Bool.{both_ways, cond_both}
+use Rattle.std.proofs.Common.{◌≡◌, inl, inr, List, Bool, true, false, cond, refl, ◌∙◌, ap, Option, None, Some}
+use Rattle.std.proofs.lemmas.Bool.{both_ways, cases_Bool, cond_both}
 use Rattle.std.specs.Bool.{if◌then◌else◌}
 use Rattle.pci_spec.specs.Machine.{Write}
 use Rattle.pci_spec.specs.System.{System}
@@ -14,16 +14,17 @@ use Rattle.settle_spec.specs.Keeping.Places.{lacking}
 use Rattle.settle_spec.specs.Keeping.Writes.{settle_writes, settle_keeping}
 use Rattle.settle_spec.specs.Growing.{kept_by, settle_growing, finally_kept}
 use Rattle.settle_spec.specs.Wishes.{granted}
-use Rattle.settle_spec.specs.Sparing.{without_slots, is_settled, have_spares, granted_beside, settle_sparing}
+use Rattle.settle_spec.specs.Sparing.{without_slots, is_settled, have_spares, placing_request, granted_beside, grants, settle_wished, settle_sparing}
+use Rattle.settle_spec.specs.SpareLaws.{SparesRefuseNothing}
 use Rattle.settle_laws.specs.KeptLaws.{WishesNothing}
 use Rattle.settle_laws.specs.GrowingLaws.{CanBeAsked}
-use Rattle.settle_laws.specs.SparingLaws.{names_fixed, SparesRefuseNoMore, SparesRefuseAlike}
+use Rattle.settle_laws.specs.SparingLaws.{SparesRefuseNoMore, WishedIsSettled}
 use Rattle.settle_laws.specs.Keeping.PlacesLaws.{CanSettle}
 use Rattle.settle_laws.proofs.Wishing.Alike.{granted_alike}
 use Rattle.settle_laws.proofs.Wishing.Granted.{all_granted}
 use Rattle.settle_laws.proofs.Wishing.Nothing.{have_spares_gives}
 use Rattle.settle_laws.proofs.Wishing.Refusing.{wishes_write_none}
-use Rattle.settle_laws.proofs.Wishing.Sparing.{finally_settles, finally_sound, lacks_alike}
+use Rattle.settle_laws.proofs.Wishing.Sparing.{finally_settles, finally_sound, lacks_alike, sparing_is_wished}
 
 -- ---- how settling ends
 
@@ -40,17 +41,17 @@ still_settled false None None (Some i) w v own other none is = absurd (both_ways
 still_settled false None None None (Some x) v own other none is = absurd (both_ways false refl is)
 still_settled false None None None None v own other none is = ap (λ o. is_settled (or_write o (Settled other))) (none refl refl refl)
 
--- and what isn't ends alike, or names a fixed function both ways
-ends_alike : (bad : Bool) (a b : Option FunctionPart) (lack : Option Item) (w v : Option Write) (own other : List Write) → (bad ≡ false → lack ≡ None → w ≡ None → v ≡ None)
-    → is_settled (end_by bad a b lack v other) ≡ false
-    → (end_by bad a b lack v other ≡ end_by bad a b lack w own) ⊎ ((names_fixed (end_by bad a b lack v other) ≡ true) × (names_fixed (end_by bad a b lack w own) ≡ true))
-ends_alike true a b lack w v own other none is = inl refl
-ends_alike false (Some r) b lack w v own other none is = inl refl
-ends_alike false None (Some r) lack w v own other none is = inl refl
-ends_alike false None None (Some i) w v own other none is = inl refl
-ends_alike false None None None w None own other none is = absurd (both_ways true is refl)
-ends_alike false None None None (Some y) (Some x) own other none is = inr (refl, refl)
-ends_alike false None None None None (Some x) own other none is = (let no : Some x ≡ None = none refl refl refl in absurd (let differ : ⊥ = cc in differ))
+-- what is settled is so by its writes
+by_writes : (bad : Bool) (a b : Option FunctionPart) (lack : Option Item) (w : Option Write) (own : List Write) → is_settled (end_by bad a b lack w own) ≡ true → end_by bad a b lack w own ≡ Settled own
+by_writes true a b lack w own is = absurd (both_ways false refl is)
+by_writes false (Some r) b lack w own is = absurd (both_ways false refl is)
+by_writes false None (Some r) lack w own is = absurd (both_ways false refl is)
+by_writes false None None (Some i) w own is = absurd (both_ways false refl is)
+by_writes false None None None (Some x) own is = absurd (both_ways false refl is)
+by_writes false None None None None own is = refl
+
+pub settled_by_writes : (q : Request) (s : System) (k : Kept) → is_settled (settle_keeping q s k) ≡ true → settle_keeping q s k ≡ Settled (settle_writes q s k)
+settled_by_writes q s k is = by_writes (are_bad_lists q.roots q.lists) (fixed_without (stands q s) q s) (fixed_without k.stays q s) (lacking q s k) (fixed_write q (settle_writes q s k)) (settle_writes q s k) is
 
 -- ---- beside wishes
 
@@ -92,15 +93,6 @@ module _ (q asked : Request) (s : System) (may : CanBeAsked q s) where
       ∙ still_settled bad (fixed_without (stands q s) q s) (fixed_without k.stays q s) (lacking q s k) (fixed_write q (settle_writes q s k)) (fixed_write q (settle_writes q s j)) (settle_writes q s k) (settle_writes q s j) none_written
       (ap is_settled (finally_settles q s) ∙ is)
 
-  refused_with : is_settled (settle_keeping q s j) ≡ false
-      → (settle_keeping q s j ≡ settle_growing q s) ⊎ ((names_fixed (settle_keeping q s j) ≡ true) × (names_fixed (settle_growing q s) ≡ true))
-  refused_with refused = elim
-      (ends_alike bad (fixed_without (stands q s) q s) (fixed_without k.stays q s) (lacking q s k) (fixed_write q (settle_writes q s k)) (fixed_write q (settle_writes q s j)) (settle_writes q s k) (settle_writes q s j) none_written
-      (sym (ap is_settled ends_with) ∙ refused)) [
-        | inl same ↦ inl (ends_with ∙ same ∙ finally_settles q s)
-        | inr both ↦ inr (ap names_fixed ends_with ∙ both.0, sym (ap names_fixed (finally_settles q s)) ∙ both.1)
-      ]
-
 module _ (q : Request) (s : System) (may : CanBeAsked q s) where
   abbrev w : Request
   w = without_slots q
@@ -111,18 +103,29 @@ module _ (q : Request) (s : System) (may : CanBeAsked q s) where
   abbrev sparing_by : Request → Settling
   sparing_by p = settle_keeping p s (granted_beside q p s).kept
 
-  no_more : is_settled (settle_growing w s) ≡ true → is_settled (settle_sparing q s) ≡ true
-  no_more is = cond_both (have_spares q s) q w (λ p. is_settled (sparing_by p) ≡ true) (λ spares. settled_with q q s may (have_spares_gives q s spares).settled) (λ none. settled_with w q s asked_without is)
+  wished_too : is_settled (settle_growing w s) ≡ true → is_settled (settle_wished q s) ≡ true
+  wished_too is = cond_both (have_spares q s) q w (λ p. is_settled (sparing_by p) ≡ true) (λ spares. settled_with q q s may (have_spares_gives q s spares).settled) (λ none. settled_with w q s asked_without is)
 
-  alike : is_settled (settle_sparing q s) ≡ false → (settle_sparing q s ≡ settle_growing w s) ⊎ ((names_fixed (settle_sparing q s) ≡ true) × (names_fixed (settle_growing w s) ≡ true))
-  alike = cond_both (have_spares q s) q w (λ p. is_settled (sparing_by p) ≡ false → (sparing_by p ≡ settle_growing w s) ⊎ ((names_fixed (sparing_by p) ≡ true) × (names_fixed (settle_growing w s) ≡ true)))
-      (λ spares refused. absurd (both_ways (is_settled (sparing_by q)) refused (settled_with q q s may (have_spares_gives q s spares).settled)))
-      (λ none refused. refused_with w q s asked_without refused)
+  no_more : is_settled (settle_growing w s) ≡ true → is_settled (settle_sparing q s) ≡ true
+  no_more is = ap is_settled (sparing_is_wished q s is) ∙ wished_too is
+
+  refuse_none : is_settled (settle_sparing q s) ≡ false → settle_sparing q s ≡ settle_growing w s
+  refuse_none refused = elim (cases_Bool (is_settled (settle_growing w s))) [
+    | inl settled ↦ absurd (both_ways (is_settled (settle_sparing q s)) refused (no_more settled))
+    | inr alone ↦ ap (λ x. cond x (settle_wished q s) (settle_growing w s)) alone
+  ]
+
+  writes_beside : is_settled (settle_growing w s) ≡ true → settle_wished q s ≡ Settled (settle_writes (placing_request q s) s (grants q s).kept)
+  writes_beside is = settled_by_writes (placing_request q s) s (grants q s).kept (wished_too is)
 
 -- The law: what is settled without slots is settled with them.
 pub spares_refuse_no_more : SparesRefuseNoMore
 spares_refuse_no_more = no_more
 
--- The law: what is refused with slots is refused without them.
-pub spares_refuse_alike : SparesRefuseAlike
-spares_refuse_alike = alike
+-- The law: what is refused with slots is refused without them, for the same reason.
+pub spares_refuse_nothing : SparesRefuseNothing
+spares_refuse_nothing q s ask = refuse_none q s record { high = ask.high; system = ask.system; nested = ask.nested; profile = ask.profile; chains = ask.chains }
+
+-- The law: what is settled without slots is settled beside wishes by their writes.
+pub wished_is_settled : WishedIsSettled
+wished_is_settled = writes_beside

@@ -23,7 +23,7 @@ use Rattle.settle_spec.specs.Kept.{Kept}
 use Rattle.settle_spec.specs.Keeping.Registers.{settled, settled_function}
 use Rattle.settle_spec.specs.Growing.{finally_kept}
 use Rattle.settle_spec.specs.Wishes.{place_then, range_then}
-use Rattle.settle_spec.specs.Sparing.{without_slots, is_settled, have_spares, denied, placing_request, settle_sparing}
+use Rattle.settle_spec.specs.Sparing.{without_slots, is_settled, have_spares, denied, placing_request, settle_wished, settle_sparing}
 use Rattle.settle_spec.specs.SpareLaws.{kept_sparing, has_room_for, result_sparing, result_of, SparesHaveRoom}
 use Rattle.settle_spec.proofs.FirstPlace.{in_none}
 use Rattle.settle_spec.proofs.LastSpot.{place_from}
@@ -43,7 +43,7 @@ use Rattle.settle_laws.proofs.Keeping.InWindows.{kept_range}
 use Rattle.settle_laws.proofs.Keeping.Moves.{moves}
 use Rattle.settle_laws.proofs.Wishing.Added.{within}
 use Rattle.settle_laws.proofs.Wishing.Granted.{spare_is}
-use Rattle.settle_laws.proofs.Wishing.Sparing.{can_before, can_sparing, placing_asked}
+use Rattle.settle_laws.proofs.Wishing.Sparing.{can_before, can_granted, placing_asked, settled_sparing_gives}
 use Rattle.settle_laws.proofs.Wishing.Spots.{HasSpot, spare_has_spot}
 
 -- ---- a spot is there in the result
@@ -117,10 +117,10 @@ module _ (q : Request) (s : System) (may : CanBeAsked q s) (settles : is_settled
     pub then : CanSettle p s j
 
   pub can_all : CanAll
-  can_all = by (settle_sparing q s) refl settles
+  can_all = by (settle_wished q s) refl (settled_sparing_gives q s settles).0
     where
-      by : (o : Settling) → settle_sparing q s ≡ o → is_settled o ≡ true → CanAll
-      by (Settled writes) is settled = record { before = can_before p q s (placing_asked q s may) writes is; then = can_sparing q s may writes is }
+      by : (o : Settling) → settle_wished q s ≡ o → is_settled o ≡ true → CanAll
+      by (Settled writes) is settled = record { before = can_before p q s (placing_asked q s may) writes is; then = can_granted p q s (placing_asked q s may) writes is }
       by BadLists is settled = absurd (both_ways false refl settled)
       by (Fixed slot register) is settled = absurd (both_ways false refl settled)
       by (NoRoom class slot register size alignment) is settled = absurd (both_ways false refl settled)

@@ -1,5 +1,5 @@
 -- What settling with room behind slots comes to is sound, and its writes can stop.
-use Rattle.std.proofs.Common.{◌≡◌, ℕ, ◌≤◌, ◌⊎◌, inl, inr, List, length, take, false, true, refl, sym, ◌∙◌, ap, subst}
+use Rattle.std.proofs.Common.{◌≡◌, ℕ, ◌≤◌, ◌⊎◌, inl, inr, List, length, take, false, true, cond, refl, sym, ◌∙◌, ap, subst}
 use Rattle.std.specs.List.{Contains, count_by}
 use Rattle.std.proofs.lemmas.Bool.{both_ways, cond_both}
 use Rattle.pci_spec.specs.Slot.{same_slot}
@@ -15,7 +15,7 @@ use Rattle.settle_spec.specs.Keeping.Places.{lacking}
 use Rattle.settle_spec.specs.Keeping.Writes.{closings, settle_writes, settle_keeping}
 use Rattle.settle_spec.specs.Growing.{or_else, settle_growing, kept_by, finally_kept}
 use Rattle.settle_spec.specs.Wishes.{granted}
-use Rattle.settle_spec.specs.Sparing.{without_slots, is_settled, have_spares, placing_request, grants, settle_sparing}
+use Rattle.settle_spec.specs.Sparing.{without_slots, is_settled, have_spares, placing_request, grants, settle_wished, settle_sparing}
 use Rattle.settle_laws.specs.WriteLaws.{most_settle_writes}
 use Rattle.settle_laws.specs.KeptLaws.{IsSoundKept}
 use Rattle.settle_laws.specs.GrowingLaws.{CanBeAsked}
@@ -93,6 +93,31 @@ can_finally q s may settled = by (settle_growing q s) refl settled
     by (Fixed slot register) is settled = absurd (both_ways false refl settled)
     by (NoRoom class slot register size alignment) is settled = absurd (both_ways false refl settled)
 
+-- ---- what is settled with slots
+
+-- what is settled so is settled beside wishes, and without slots
+sparing_by : (alone wished : Settling) (writes : List Write) → cond (is_settled alone) wished alone ≡ Settled writes → (wished ≡ Settled writes) × (is_settled alone ≡ true)
+sparing_by (Settled own) wished writes is = (is, refl)
+sparing_by BadLists wished writes is = absurd (both_ways false refl (ap is_settled is))
+sparing_by (Fixed slot register) wished writes is = absurd (both_ways false refl (ap is_settled is))
+sparing_by (NoRoom class slot register size alignment) wished writes is = absurd (both_ways false refl (ap is_settled is))
+
+pub sparing_gives : (q : Request) (s : System) (writes : List Write) → settle_sparing q s ≡ Settled writes → (settle_wished q s ≡ Settled writes) × (is_settled (settle_growing (without_slots q) s) ≡ true)
+sparing_gives q s writes is = sparing_by (settle_growing (without_slots q) s) (settle_wished q s) writes is
+
+settled_by : (alone wished : Settling) → is_settled (cond (is_settled alone) wished alone) ≡ true → (is_settled wished ≡ true) × (is_settled alone ≡ true)
+settled_by (Settled own) wished is = (is, refl)
+settled_by BadLists wished is = absurd (both_ways false refl is)
+settled_by (Fixed slot register) wished is = absurd (both_ways false refl is)
+settled_by (NoRoom class slot register size alignment) wished is = absurd (both_ways false refl is)
+
+pub settled_sparing_gives : (q : Request) (s : System) → is_settled (settle_sparing q s) ≡ true → (is_settled (settle_wished q s) ≡ true) × (is_settled (settle_growing (without_slots q) s) ≡ true)
+settled_sparing_gives q s is = settled_by (settle_growing (without_slots q) s) (settle_wished q s) is
+
+-- what is settled without slots is settled beside wishes
+pub sparing_is_wished : (q : Request) (s : System) → is_settled (settle_growing (without_slots q) s) ≡ true → settle_sparing q s ≡ settle_wished q s
+sparing_is_wished q s is = ap (λ x. cond x (settle_wished q s) (settle_growing (without_slots q) s)) is
+
 -- ---- the request by which new windows are placed
 
 module _ (q : Request) (s : System) where
@@ -113,19 +138,22 @@ module _ (q : Request) (s : System) where
     asked : CanBeAsked p s
     asked = placing_asked may
 
+    beside_wishes : settle_wished q s ≡ Settled writes
+    beside_wishes = (sparing_gives q s writes settled).0
+
     pub can_sparing : CanSettle p s wished
-    can_sparing = can_granted p q s asked writes settled
+    can_sparing = can_granted p q s asked writes beside_wishes
 
     ends_sound : IsSound q.roots (system_after s writes)
-    ends_sound = subst (λ roots. IsSound roots (system_after s writes)) placing_roots (kept_sound p s asked wished can_sparing.sound writes settled)
+    ends_sound = subst (λ roots. IsSound roots (system_after s writes)) placing_roots (kept_sound p s asked wished can_sparing.sound writes beside_wishes)
 
     stops_sound : (n : ℕ) → (length (closings p s wished s) ≤ n) ⊎ IsSound q.roots s → IsSound q.roots (system_after s (take n writes))
     stops_sound n from = subst (λ roots. IsSound roots (system_after s (take n writes))) placing_roots
-        (kept_stop p s asked wished can_sparing.sound writes n settled
+        (kept_stop p s asked wished can_sparing.sound writes n beside_wishes
         (elim from [ inl closed ↦ inl closed | inr sound ↦ inr (subst (λ roots. IsSound roots s) (sym placing_roots) sound) ]))
 
     ends_few : (f : Function) → Contains s f → count_by (λ w. same_slot w.slot f.slot) writes ≤ most_settle_writes f
-    ends_few f listed = kept_few p s asked wished can_sparing.sound writes f listed settled
+    ends_few f listed = kept_few p s asked wished can_sparing.sound writes f listed beside_wishes
 
 pub settled_sparing_is_sound : SettledSparingIsSound
 settled_sparing_is_sound q s writes may settled = ends_sound q s may writes settled

@@ -49,6 +49,9 @@ module _ (q : Request) (t : System) (system : IsSystem t) (sound : IsSound q.roo
   finally_without : finally_kept w t ≡ growing w t
   finally_without = ap (λ o. kept_by o (growing w t) (as_it_stands w t)) (grown_settles w t system sound all_without off fine)
 
+  pub settled_without : is_settled (settle_growing w t) ≡ true
+  settled_without = ap is_settled (nothing_grows w t system sound all_without off fine)
+
   both_keep : (r : FunctionPart) → Contains (system_parts q t) r → beq ((finally_kept w t).stays r) ((finally_kept q t).stays r) ≡ true
   both_keep r has =
       let without = ap (λ i. i.stays r) finally_without ∙ keeps_growing w t system sound all_without off r has in
