@@ -24,7 +24,7 @@ use Rattle.settle_laws.proofs.Wishing.Alike.{granted_alike}
 use Rattle.settle_laws.proofs.Wishing.Granted.{all_granted}
 use Rattle.settle_laws.proofs.Wishing.Nothing.{have_spares_gives}
 use Rattle.settle_laws.proofs.Wishing.Refusing.{wishes_write_none}
-use Rattle.settle_laws.proofs.Wishing.Sparing.{finally_settles, finally_sound, lacks_alike, sparing_is_wished}
+use Rattle.settle_laws.proofs.Wishing.Sparing.{finally_settles, finally_sound, lacks_alike, sparing_is_wished, refused_alone}
 
 -- ---- how settling ends
 
@@ -112,7 +112,7 @@ module _ (q : Request) (s : System) (may : CanBeAsked q s) where
   refuse_none : is_settled (settle_sparing q s) ≡ false → settle_sparing q s ≡ settle_growing w s
   refuse_none refused = elim (cases_Bool (is_settled (settle_growing w s))) [
     | inl settled ↦ absurd (both_ways (is_settled (settle_sparing q s)) refused (no_more settled))
-    | inr alone ↦ ap (λ x. cond x (settle_wished q s) (settle_growing w s)) alone
+    | inr alone ↦ refused_alone q s alone
   ]
 
   writes_beside : is_settled (settle_growing w s) ≡ true → settle_wished q s ≡ Settled (settle_writes (placing_request q s) s (grants q s).kept)

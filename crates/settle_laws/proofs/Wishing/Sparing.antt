@@ -118,6 +118,10 @@ settled_sparing_gives q s is = settled_by (settle_growing (without_slots q) s) (
 pub sparing_is_wished : (q : Request) (s : System) → is_settled (settle_growing (without_slots q) s) ≡ true → settle_sparing q s ≡ settle_wished q s
 sparing_is_wished q s is = ap (λ x. cond x (settle_wished q s) (settle_growing (without_slots q) s)) is
 
+-- and what is refused without them is refused so
+pub refused_alone : (q : Request) (s : System) → is_settled (settle_growing (without_slots q) s) ≡ false → settle_sparing q s ≡ settle_growing (without_slots q) s
+refused_alone q s is = ap (λ x. cond x (settle_wished q s) (settle_growing (without_slots q) s)) is
+
 -- ---- the request by which new windows are placed
 
 module _ (q : Request) (s : System) where
