@@ -25,7 +25,7 @@ use Rattle.settle_spec.specs.Stands.{window_part}
 use Rattle.settle_spec.specs.Items.{Placed}
 use Rattle.settle_spec.specs.Kept.{Kept, range_or}
 use Rattle.settle_spec.specs.Keeping.Places.{new_place}
-use Rattle.settle_spec.specs.Registers.{with_number, with_bounds, with_place, closed_if_open, changing}
+use Rattle.settle_spec.specs.Registers.{with_number, with_bounds, with_place, closed_if_open}
 use Rattle.settle_spec.specs.Keeping.Registers.{is_same_range, with_kept, shown, with_wish, settled_image}
 use Rattle.pci_image.specs.declared.bar.Bar.{Bar as CodeBar}
 use Rattle.pci_image.specs.Bars.{decoded_kind_of, decoded_bar_of}
@@ -42,7 +42,7 @@ use Rattle.pci_base.specs.Ranges.{decoded_range_of}
 use Rattle.pci_settled.specs.declared.places.Places.{Places}
 use Rattle.pci_settled.specs.Places.{place_range_in, placed_at}
 use Rattle.pci_settle.specs.Keeping.{told_of_kind}
-use Rattle.pci_settling.specs.Shown.{nibble, with_bar, with_closed, has_range, with_grown, with_window, with_optional}
+use Rattle.pci_settling.specs.Shown.{nibble, with_bar, with_closed, has_range, with_grown, with_window, with_optional, with_room, with_wished}
 use Rattle.pci_settling.specs.Images.{where_placed, with_placed_bar, with_bars, with_bridge, with_placed_rom, with_parts, is_window_kept, HasPartPlaces, HasPlacesAndWindows}
 use Rattle.pci_settling.proofs.PlacedParts.{placed_is_part}
 
@@ -125,7 +125,7 @@ low_bus q s keep f r p has = (All-contains IsFunction s f has.system.each has.is
 same_itself : (r : decoded.Range) → is_same_range r r ≡ true
 same_itself r = and_from (r.first == r.first) (r.last == r.last) (eq-eqb r.first r.first refl) (eq-eqb r.last r.last refl)
 
-module _ (q : Request) (s : System) (keep : Kept) (f : Function) (r : Record) (image : List ℕ) (p : Places) (kept : ByKind Bool) (grown : ByKind (Option Range)) (image_is : image ≡ f.image) (placed : HasPlacesAndWindows q s keep f r p kept grown) where
+module _ (q : Request) (s : System) (keep : Kept) (f : Function) (r : Record) (image : List ℕ) (p : Places) (kept : ByKind Bool) (grown wished : ByKind (Option Range)) (image_is : image ≡ f.image) (placed : HasPlacesAndWindows q s keep f r p kept grown wished) where
   abbrev has : HasPartPlaces q s keep f r p
   has = placed.places
 
@@ -136,7 +136,7 @@ module _ (q : Request) (s : System) (keep : Kept) (f : Function) (r : Record) (i
   place part = new_place q s keep (region part)
 
   abbrev step : List ℕ → Part → List ℕ
-  step im part = shown keep (region part) (place part) im
+  step im part = with_wish (region part) (keep.wished (region part)) (shown keep (region part) (place part) im)
 
   abbrev changes : Part → Bool
   changes part = is_part q s f part || (is_window part && is_implemented f part)
@@ -172,7 +172,8 @@ module _ (q : Request) (s : System) (keep : Kept) (f : Function) (r : Record) (i
   -- a part shows its place, where it has one
   own_step : (part : Part) → has_part f part ≡ true → is_window part ≡ false → (im : List ℕ) → step_if im part ≡ where_placed (at_place part) (place_range_in p part) im
   own_step part there plain im =
-      by_place (place part) (changes part) (λ x. with_place f part x im) im (λ o. shown keep (region part) o im)
+      ap (λ w. cond (changes part) (with_wish (region part) w (shown keep (region part) (place part) im)) im) (placed.others part plain)
+      ∙ by_place (place part) (changes part) (λ x. with_place f part x im) im (λ o. shown keep (region part) o im)
       (λ none. own_none (keep.stays (region part)) part im plain)
       (λ x some. (refl, ap (λ b. b || (is_window part && is_implemented f part)) (placed_is_part q s keep has.system has.nested f has.is.listed (low_bus q s keep f r p has) part there plain x some)))
       (λ o. where_placed (at_place part) (placed_at o) im) refl (λ x. sym (own_some part x im plain))
@@ -272,7 +273,14 @@ module _ (q : Request) (s : System) (keep : Kept) (f : Function) (r : Record) (i
     none_is true stays im = grown_is stays im
     none_is false stays im = ap (λ b. cond b (with_bounds c (closed_bounds c (nibble w.wide)) im) im) opened
 
-    window_on : (im : List ℕ) → with_window c (is_window_kept kept c) (told c) w (place_range_in p (Window c)) im ≡ step_if im (Window c)
+    -- what is wished of it
+    room_is : (im : List ℕ) → with_room c (told_of_kind wished c) w im ≡ with_wish (window_part c f) (keep.wished (window_part c f)) im
+    room_is im =
+        let each : (o : Option Range) → with_room c o w im ≡ with_wish (window_part c f) (option_map decoded_range_of o) im = λ o.
+        elim o as (λ o. with_room c o w im ≡ with_wish (window_part c f) (option_map decoded_range_of o) im) [ None ↦ refl | Some x ↦ refl ] in
+        each (told_of_kind wished c) ∙ sym (ap (λ o. with_wish (window_part c f) o im) (placed.wishes c))
+
+    window_on : (im : List ℕ) → with_room c (told_of_kind wished c) w (with_window c (is_window_kept kept c) (told c) w (place_range_in p (Window c)) im) ≡ step_if im (Window c)
     window_on im =
         let each : (o : Option Placed) → with_window c (is_window_kept kept c) (told c) w (placed_at o) im ≡ shown keep (region (Window c)) o im = λ o.
         elim o as (λ o. with_window c (is_window_kept kept c) (told c) w (placed_at o) im ≡ shown keep (region (Window c)) o im) [
@@ -281,24 +289,29 @@ module _ (q : Request) (s : System) (keep : Kept) (f : Function) (r : Record) (i
               ∙ none_is (keep.stays (window_part c f)) refl im
           | Some x ↦ refl
         ] in
-        ap (λ o. with_window c (is_window_kept kept c) (told c) w o im) (has.each (Window c) there)
-        ∙ each (place (Window c))
+        ap (λ o. with_room c (told_of_kind wished c) w (with_window c (is_window_kept kept c) (told c) w o im)) (has.each (Window c) there)
+        ∙ ap (with_room c (told_of_kind wished c) w) (each (place (Window c)))
+        ∙ room_is (shown keep (region (Window c)) (place (Window c)) im)
         ∙ sym (ap (λ b. cond b (step im (Window c)) im) (window_changes (is_bridge f) (has_window c f.probe) (is_closed c f.image) ∙ on))
 
-  optional_is : (c : WindowKind) → is_bridge f ≡ true → (im : List ℕ) → with_optional c (is_window_kept kept c) (told c) (optional_window c f.image f.probe) (place_range_in p (Window c)) im ≡ step_if im (Window c)
+  -- a window of a class at its place, and with what is wished of it
+  abbrev with_both : (c : WindowKind) → Option decoded.DecodedWindow → List ℕ → List ℕ
+  with_both c o im = with_wished c (told_of_kind wished c) o (with_optional c (is_window_kept kept c) (told c) o (place_range_in p (Window c)) im)
+
+  optional_is : (c : WindowKind) → is_bridge f ≡ true → (im : List ℕ) → with_both c (optional_window c f.image f.probe) im ≡ step_if im (Window c)
   optional_is c bridge im = elim (cases_Bool (has_window c f.probe)) [
     | inl has ↦
-        ap (λ b. with_optional c (is_window_kept kept c) (told c) (if b then Some (decoded_window c f.image f.probe) else None) (place_range_in p (Window c)) im) has
+        ap (λ b. with_both c (if b then Some (decoded_window c f.image f.probe) else None) im) has
         ∙ window_on c (and_from (is_bridge f) (has_window c f.probe) bridge has) im
     | inr none ↦
-        ap (λ b. with_optional c (is_window_kept kept c) (told c) (if b then Some (decoded_window c f.image f.probe) else None) (place_range_in p (Window c)) im) none
+        ap (λ b. with_both c (if b then Some (decoded_window c f.image f.probe) else None) im) none
         ∙ sym (window_off c (ap (λ b. is_bridge f && b) none ∙ and_false (is_bridge f)) im)
   ]
 
   abbrev windows_step : List ℕ → List ℕ
   windows_step im = step_if (step_if (step_if im (Window IoWindow)) (Window MemoryWindow)) (Window PrefetchWindow)
 
-  windows_are : (o : Option Bridge) → r.bridge ≡ o → (im : List ℕ) → with_bridge p kept grown o im ≡ windows_step im
+  windows_are : (o : Option Bridge) → r.bridge ≡ o → (im : List ℕ) → with_bridge p kept grown wished o im ≡ windows_step im
   windows_are None e im =
       let off : is_bridge f ≡ false = sym (same_bridge r f has.is.value) ∙ ap is_some e in
       let none : (c : WindowKind) → is_implemented f (Window c) ≡ false = λ c. ap (λ b. b && has_window c f.probe) off in
@@ -314,14 +327,14 @@ module _ (q : Request) (s : System) (keep : Kept) (f : Function) (r : Record) (i
       let memory_is : w.mem ≡ decoded_window MemoryWindow f.image f.probe = ap (λ (x : decoded.Bridge). x.windows.memory) value in
       let prefetch_is : w.pref ≡ optional_window PrefetchWindow f.image f.probe = ap (λ (x : decoded.Bridge). x.windows.prefetch) value in
       let memory_has = memory_window_there f.image f.probe (has.is.decodable.windows MemoryWindow (eqb-true (layout f.image) 1 bridge)) in
-      let first : (x : List ℕ) → with_optional IoWindow kept.io grown.io w.io p.windows.io x ≡ step_if x (Window IoWindow) = λ x.
-      ap (λ o. with_optional IoWindow kept.io grown.io o p.windows.io x) io_is ∙ optional_is IoWindow bridge x in
-      let second : (x : List ℕ) → with_optional MemoryWindow kept.memory grown.memory (Some w.mem) p.windows.memory x ≡ step_if x (Window MemoryWindow) = λ x.
-      ap (λ o. with_window MemoryWindow kept.memory grown.memory o p.windows.memory x) memory_is ∙ window_on MemoryWindow (and_from (is_bridge f) (has_window MemoryWindow f.probe) bridge memory_has) x in
-      let third : (x : List ℕ) → with_optional PrefetchWindow kept.prefetchable grown.prefetchable w.pref p.windows.prefetchable x ≡ step_if x (Window PrefetchWindow) = λ x.
-      ap (λ o. with_optional PrefetchWindow kept.prefetchable grown.prefetchable o p.windows.prefetchable x) prefetch_is ∙ optional_is PrefetchWindow bridge x in
-      ap (λ x. with_optional PrefetchWindow kept.prefetchable grown.prefetchable w.pref p.windows.prefetchable (with_optional MemoryWindow kept.memory grown.memory (Some w.mem) p.windows.memory x)) (first im)
-      ∙ ap (λ x. with_optional PrefetchWindow kept.prefetchable grown.prefetchable w.pref p.windows.prefetchable x) (second (step_if im (Window IoWindow)))
+      let first : (x : List ℕ) → with_both IoWindow w.io x ≡ step_if x (Window IoWindow) = λ x.
+      ap (λ o. with_both IoWindow o x) io_is ∙ optional_is IoWindow bridge x in
+      let second : (x : List ℕ) → with_both MemoryWindow (Some w.mem) x ≡ step_if x (Window MemoryWindow) = λ x.
+      ap (λ o. with_both MemoryWindow (Some o) x) memory_is ∙ window_on MemoryWindow (and_from (is_bridge f) (has_window MemoryWindow f.probe) bridge memory_has) x in
+      let third : (x : List ℕ) → with_both PrefetchWindow w.pref x ≡ step_if x (Window PrefetchWindow) = λ x.
+      ap (λ o. with_both PrefetchWindow o x) prefetch_is ∙ optional_is PrefetchWindow bridge x in
+      ap (λ x. with_both PrefetchWindow w.pref (with_both MemoryWindow (Some w.mem) x)) (first im)
+      ∙ ap (with_both PrefetchWindow w.pref) (second (step_if im (Window IoWindow)))
       ∙ third (step_if (step_if im (Window IoWindow)) (Window MemoryWindow))
 
   -- ---- all of it
@@ -329,14 +342,13 @@ module _ (q : Request) (s : System) (keep : Kept) (f : Function) (r : Record) (i
   abbrev others : List Part
   others = Window IoWindow ∷ Window MemoryWindow ∷ Window PrefetchWindow ∷ Rom ∷ []
 
-  same_parts : with_parts f.image p kept grown r ≡ settled_image q s keep f
+  same_parts : with_parts f.image p kept grown wished r ≡ settled_image q s keep f
   same_parts =
-      rom_is (with_bridge p kept grown r.bridge (with_bars f.image p r.bars.items f.image))
+      rom_is (with_bridge p kept grown wished r.bridge (with_bars f.image p r.bars.items f.image))
       ∙ ap (λ im. step_if im Rom) (windows_are r.bridge refl (with_bars f.image p r.bars.items f.image))
       ∙ ap (λ im. step_if (windows_step im) Rom) bars_are
       ∙ sym (fold-append step_if f.image (header_bars f) others)
-      ∙ sym (fold_kept (λ im (x : FunctionPart). shown keep x (new_place q s keep x) im) region changes f.image (header_bars f ++ others))
-      ∙ sym (ap (λ (w : FunctionPart → Option decoded.Range). fold (λ im r. with_wish r (w r) (shown keep r (new_place q s keep r) im)) f.image (changing q s f)) placed.none)
+      ∙ sym (fold_kept (λ im (x : FunctionPart). with_wish x (keep.wished x) (shown keep x (new_place q s keep x) im)) region changes f.image (header_bars f ++ others))
 
-  pub images_are : with_parts image p kept grown r ≡ settled_image q s keep f
-  images_are = ap (λ im. with_parts im p kept grown r) image_is ∙ same_parts
+  pub images_are : with_parts image p kept grown wished r ≡ settled_image q s keep f
+  images_are = ap (λ im. with_parts im p kept grown wished r) image_is ∙ same_parts

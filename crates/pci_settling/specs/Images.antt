@@ -1,12 +1,12 @@
 -- The image of a function with its parts at the places that they get.
-use Rattle.std.specs.Prelude.{◌≡◌, ℕ, ◌-◌, ◌/◌, Bool, IsTrue, List, Option, None, Some}
+use Rattle.std.specs.Prelude.{◌≡◌, ℕ, ◌-◌, ◌/◌, Bool, IsTrue, IsFalse, List, Option, None, Some}
 use Rattle.std.specs.Option.{is_some, option_map}
 use Rattle.std.specs.List.{fold}
 use Rattle.pci_spec.specs.Number.{number_at}
 use Rattle.pci_spec.specs.Registers.{BASE_ADDRESS}
 use Rattle.pci_spec.specs.Header.{rom_place}
 use Rattle.pci_spec.specs.Window.{WindowKind, IoWindow, MemoryWindow, PrefetchWindow}
-use Rattle.pci_spec.specs.System.{System, Function, Part, Bar, Window, IsSystem, has_part}
+use Rattle.pci_spec.specs.System.{System, Function, Part, Bar, Window, IsSystem, has_part, is_window}
 use Rattle.pci_spec.specs.Bus.{IsNested}
 use Rattle.plan_spec.specs.Plan.{is_open}
 use Rattle.settle_spec.specs.Lists.{Request}
@@ -14,7 +14,6 @@ use Rattle.settle_spec.specs.Parts.{addresses}
 use Rattle.settle_spec.specs.Stands.{window_part}
 use Rattle.settle_spec.specs.Kept.{Kept, range_or}
 use Rattle.settle_spec.specs.Keeping.Places.{new_place}
-use Rattle.settle_laws.specs.KeptLaws.{WishesNothing}
 use Rattle.pci_base.specs.declared.range.Range.{Range}
 use Rattle.pci_base.specs.declared.window_kind.ByKind.{ByKind}
 use Rattle.pci_base.specs.Ranges.{decoded_range_of}
@@ -26,7 +25,7 @@ use Rattle.pci_place.specs.Records.{IsRecordOf}
 use Rattle.pci_settle.specs.Keeping.{told_of_kind}
 use Rattle.pci_settled.specs.declared.places.Places.{Places}
 use Rattle.pci_settled.specs.Places.{place_range_in, placed_at}
-use Rattle.pci_settling.specs.Shown.{with_bar, with_rom, with_optional}
+use Rattle.pci_settling.specs.Shown.{with_bar, with_rom, with_optional, with_wished}
 
 -- ---- by what is decoded
 
@@ -43,25 +42,28 @@ with_placed_bar old p image bar =
 abbrev pub with_bars : List ℕ → Places → List CodeBar → List ℕ → List ℕ
 with_bars old p bars image = fold (with_placed_bar old p) image bars
 
-abbrev pub with_windows : Places → ByKind Bool → ByKind (Option Range) → Windows → List ℕ → List ℕ
-with_windows p kept grown w image =
-    with_optional PrefetchWindow kept.prefetchable grown.prefetchable w.pref p.windows.prefetchable
+abbrev pub with_windows : Places → ByKind Bool → ByKind (Option Range) → ByKind (Option Range) → Windows → List ℕ → List ℕ
+with_windows p kept grown wished w image =
+    with_wished PrefetchWindow wished.prefetchable w.pref
+    (with_optional PrefetchWindow kept.prefetchable grown.prefetchable w.pref p.windows.prefetchable
+    (with_wished MemoryWindow wished.memory (Some w.mem)
     (with_optional MemoryWindow kept.memory grown.memory (Some w.mem) p.windows.memory
-    (with_optional IoWindow kept.io grown.io w.io p.windows.io image))
+    (with_wished IoWindow wished.io w.io
+    (with_optional IoWindow kept.io grown.io w.io p.windows.io image)))))
 
-abbrev pub with_bridge : Places → ByKind Bool → ByKind (Option Range) → Option Bridge → List ℕ → List ℕ
-with_bridge p kept grown None image = image
-with_bridge p kept grown (Some b) image = with_windows p kept grown b.windows image
+abbrev pub with_bridge : Places → ByKind Bool → ByKind (Option Range) → ByKind (Option Range) → Option Bridge → List ℕ → List ℕ
+with_bridge p kept grown wished None image = image
+with_bridge p kept grown wished (Some b) image = with_windows p kept grown wished b.windows image
 
 abbrev pub with_placed_rom : List ℕ → Places → ℕ → List ℕ → List ℕ
 with_placed_rom old p register image =
     where_placed (with_rom (number_at old register 4) register) p.rom image
 
 -- BARs, windows and the ROM of a record
-abbrev pub with_parts : List ℕ → Places → ByKind Bool → ByKind (Option Range) → Record → List ℕ
-with_parts old p kept grown r =
+abbrev pub with_parts : List ℕ → Places → ByKind Bool → ByKind (Option Range) → ByKind (Option Range) → Record → List ℕ
+with_parts old p kept grown wished r =
     with_placed_rom old p (rom_place (is_some r.bridge))
-    (with_bridge p kept grown r.bridge (with_bars old p r.bars.items old))
+    (with_bridge p kept grown wished r.bridge (with_bars old p r.bars.items old))
 
 -- ---- by the definitions
 
@@ -80,9 +82,9 @@ is_window_kept kept IoWindow = kept.io
 is_window_kept kept MemoryWindow = kept.memory
 is_window_kept kept PrefetchWindow = kept.prefetchable
 
--- and the windows that stay: to what they grow; nothing is wished
+-- and the windows that stay: to what they grow; and the addresses of those in which room is kept free
 pub record HasPlacesAndWindows (q : Request) (s : System) (keep : Kept) (f : Function) (r : Record)
-    (p : Places) (kept : ByKind Bool) (grown : ByKind (Option Range)) : Type 0 where
+    (p : Places) (kept : ByKind Bool) (grown wished : ByKind (Option Range)) : Type 0 where
   pub places : HasPartPlaces q s keep f r p
   pub windows : (c : WindowKind) → IsTrue (has_part f (Window c))
       → is_window_kept kept c ≡ keep.stays (window_part c f)
@@ -92,4 +94,8 @@ pub record HasPlacesAndWindows (q : Request) (s : System) (keep : Kept) (f : Fun
       → IsTrue (keep.stays (window_part c f))
       → keep.range (window_part c f)
       ≡ range_or (option_map decoded_range_of (told_of_kind grown c)) (addresses (window_part c f))
-  pub none : WishesNothing keep
+  pub wishes : (c : WindowKind)
+      → keep.wished (window_part c f) ≡ option_map decoded_range_of (told_of_kind wished c)
+  -- it is of windows alone
+  pub others : (part : Part) → IsFalse (is_window part)
+      → keep.wished record { function = f; part = part } ≡ None

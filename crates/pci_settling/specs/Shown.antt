@@ -58,3 +58,13 @@ with_window c kept grown w (Some place) image = with_range c w place image
 abbrev pub with_optional : WindowKind → Bool → Option Range → Option DecodedWindow → Option Range → List ℕ → List ℕ
 with_optional c kept grown None place image = image
 with_optional c kept grown (Some w) place image = with_window c kept grown w place image
+
+-- a window in which room is kept free shows that, whatever its place
+abbrev pub with_room : WindowKind → Option Range → DecodedWindow → List ℕ → List ℕ
+with_room c None w image = image
+with_room c (Some r) w image = with_range c w r image
+
+-- one that may not be there
+abbrev pub with_wished : WindowKind → Option Range → Option DecodedWindow → List ℕ → List ℕ
+with_wished c wished None image = image
+with_wished c wished (Some w) image = with_room c wished w image

@@ -10,7 +10,7 @@ ghost use Rattle.pci_settling.specs.Images.{HasPlacesAndWindows};
 ghost use Rattle.pci_settling.specs.Settled.{command_by, IsCommandTold};
 
 use crate::claim::is_enabled;
-use crate::image::settled_image;
+use crate::image::{ShownWindows, settled_image};
 use crate::write::write;
 use pci_base::image::Image;
 use pci_base::offset::COMMAND;
@@ -19,7 +19,6 @@ use pci_function::record::Record;
 use pci_place::above::Above;
 use pci_settle::own::Terms;
 use pci_settled::places::Places;
-use pci_settled::window::BridgeWindows;
 
 /// Whether something live is behind a function.
 #[derive(Clone, Copy, Debug)]
@@ -46,12 +45,12 @@ fn settled_command(
 }
 
 /// The image of a function once all has its place: its registers show the places that its parts get, windows stay, grow or
-/// are closed that get none, and Command enables what gets one, what was enabled, and what is needed for what is live behind it.
+/// are closed that get none, those in which room is kept free show it, and Command enables what gets one, what was enabled, and what is needed for what is live behind it.
 pub fn settled_function(
     record: &Record,
     image: &Image,
     places: &Places,
-    staying: &BridgeWindows,
+    shown: &ShownWindows,
     above: Above,
     terms: Terms,
     behind: Behind,
@@ -60,11 +59,11 @@ pub fn settled_function(
     requires { All HasRegister «record».now.bars.items }
     ensures { (q : Request) (s : System) (keep : Kept) (f : Function)
         → image.now.0 ≡ f.image → HasPlacesAndWindows q s keep f «record».now places.now
-        staying.now.kept.now.windows staying.now.grown.now
+        shown.now.staying.kept.now.windows shown.now.staying.grown.now shown.now.wished.now
         → IsCommandTold q s keep f above terms.entry behind
         → result.0 ≡ (registers.settled_function q s keep f).image }
 {
-    let mut settled = settled_image(record, image, places, staying);
+    let mut settled = settled_image(record, image, places, shown);
     let command = settled_command(record, places, above, terms, behind);
     write(&mut settled.0, COMMAND, 2, command.into());
     settled

@@ -5,7 +5,7 @@ ghost use Rattle.pci_spec.specs.Window.{bounds_for};
 ghost use Rattle.settle_spec.specs.Registers.{with_number, with_bounds};
 ghost use Rattle.pci_base.specs.WindowKinds.{kind_value};
 ghost use Rattle.pci_base.specs.Bounds.{spec_bounds_of};
-ghost use Rattle.pci_settling.specs.Shown.{HasRegister, with_bar, with_rom, with_closed, with_range, with_grown, with_optional};
+ghost use Rattle.pci_settling.specs.Shown.{HasRegister, with_bar, with_rom, with_closed, with_range, with_grown, with_optional, with_wished};
 
 use pci_base::bounds::Bounds;
 use pci_base::image::{IMAGE_LEN, put};
@@ -162,5 +162,21 @@ pub fn write_window(
         Some(place) => write_range(bytes, class, window, place),
         None if kept => write_grown(bytes, class, window, grown),
         None => write_closed(bytes, class, window),
+    }
+}
+
+/// Writes a window with the addresses that it has to show for room that is kept free in it; where none are given, all bits stay.
+pub fn write_wished(
+    bytes: &mut [u8; IMAGE_LEN],
+    class: WindowKind,
+    window: Option<Window>,
+    wished: Option<Range>,
+)
+    ensures { bytes.new ≡ with_wished (kind_value class) wished window bytes.old }
+{
+    if let Some(window) = window {
+        if let Some(range) = wished {
+            write_range(bytes, class, window, range);
+        }
     }
 }
