@@ -2,7 +2,7 @@ pub mod Unwished
 pub mod Ways
 pub mod StagedWrites
 pub mod Moving
-pub mod ClosedBridges
+pub mod ChangedWindows
 pub mod States
 pub mod Closings
 pub mod SettledDumps

@@ -46,6 +46,7 @@ use Rattle.pci_settle.specs.Tables.{untold}
 use Rattle.pci_settle.specs.Keeping.{told_of_kind}
 use Rattle.pci_settle_writes.specs.Requests.{IsAskedOf}
 use Rattle.pci_settle_writes.specs.Told.{TellsKeeping}
+use Rattle.pci_settle_writes.specs.Wished.{TellsWishes}
 use Rattle.pci_settle_writes.proofs.StagedWrites.{kept_window}
 
 -- ---- what is asked for
@@ -74,10 +75,10 @@ module _ (roots : List ℕ) (s : System) (system : IsSystem s) (nested : IsNeste
   nested_for : IsNested q.roots s
   nested_for = subst (λ xs. IsNested xs s) (sym of.rooted) nested
 
-  -- the places of a function are right, and the windows that stay, and to what they grow
-  pub placed_here : (grown : List (ByKind (Option Range))) (staying : List Kept) → TellsKeeping q s keep grown staying → (k : ℕ) (f : Function) (r : Record) → slice_get s k ≡ Some f → IsRecordOf s f r
-      → (d p : Places) → p ≡ get_or table k d → (n h : Kept) → h ≡ get_or staying k n → (g : ByKind (Option Range)) → g ≡ get_or grown k untold → HasPlacesAndWindows q s keep f r p h.windows g
-  placed_here grown staying tells k f r at is d p p_is n h h_is g g_is = record {
+  -- the places of a function are right, and the windows that stay, to what they grow, and what is wished of them
+  pub placed_here : (grown wished : List (ByKind (Option Range))) (staying : List Kept) → TellsKeeping q s keep grown staying → TellsWishes s keep wished → (k : ℕ) (f : Function) (r : Record) → slice_get s k ≡ Some f → IsRecordOf s f r
+      → (d p : Places) → p ≡ get_or table k d → (n h : Kept) → h ≡ get_or staying k n → (g w : ByKind (Option Range)) → g ≡ get_or grown k untold → w ≡ get_or wished k untold → HasPlacesAndWindows q s keep f r p h.windows g w
+  placed_here grown wished staying tells wishes k f r at is d p p_is n h h_is g w g_is w_is = record {
     places = record {
       system = system;
       nested = nested_for;
@@ -89,7 +90,8 @@ module _ (roots : List ℕ) (s : System) (system : IsSystem s) (nested : IsNeste
     ranges = λ c there stays.
         tells.ranges_are k f (Window c) at there stays
         ∙ ap (λ x. range_or (option_map decoded_range_of (told_of_kind x c)) (addresses (window_part c f))) (sym g_is);
-    none = tells.none;
+    wishes = λ c. wishes.each k f c at ∙ ap (λ x. option_map decoded_range_of (told_of_kind x c)) (sym w_is);
+    others = λ part other. wishes.others f part is.listed other;
   }
 
   -- and so is what tells its Command
@@ -105,15 +107,16 @@ module _ (roots : List ℕ) (s : System) (system : IsSystem s) (nested : IsNeste
 
 -- ---- block by block
 
--- what is asked for, with the places that parts get and what stays by these tables
-pub record IsAskedBy (q : Request) (keep : Keeping) (roots : List ℕ) (s : System) (l : Demand) (table : List Places) (grown : List (ByKind (Option Range))) (staying : List Kept) : Type 0 where
+-- what is asked for, with the places that parts get, what stays and what is wished by these tables
+pub record IsAskedBy (q : Request) (keep : Keeping) (roots : List ℕ) (s : System) (l : Demand) (table : List Places) (grown wished : List (ByKind (Option Range))) (staying : List Kept) : Type 0 where
   pub asked : IsAskedOf q roots l
   pub places : HasAllPlaces q s keep table
   pub tells : TellsKeeping q s keep grown staying
+  pub wishes : TellsWishes s keep wished
 
 -- a function is as it is to be, whatever is asked for
-abbrev pub IsSettledOf : List ℕ → System → Demand → List Places → List (ByKind (Option Range)) → List Kept → Function → Function → Type 0
-IsSettledOf roots s l table grown staying f g = (q : Request) (keep : Keeping) → IsAskedBy q keep roots s l table grown staying → g ≡ settled_function q s keep f
+abbrev pub IsSettledOf : List ℕ → System → Demand → List Places → List (ByKind (Option Range)) → List (ByKind (Option Range)) → List Kept → Function → Function → Type 0
+IsSettledOf roots s l table grown wished staying f g = (q : Request) (keep : Keeping) → IsAskedBy q keep roots s l table grown wished staying → g ≡ settled_function q s keep f
 
 -- the function of a block, with its record and its read backs
 pub record IsHere (a : Admission) (k : ℕ) (b : Block) (r : Record) : Type 0 where
@@ -133,20 +136,20 @@ block_here a records is has k b r inside b_at r_at =
 abbrev made : Slot → List ℕ → List ℕ → Function
 made slot image probe = record { slot = slot; image = image; probe = probe }
 
-module _ (a : Admission) (is : IsAdmitted a) (l : Demand) (table : List Places) (grown : List (ByKind (Option Range))) (staying : List Kept) where
+module _ (a : Admission) (is : IsAdmitted a) (l : Demand) (table : List Places) (grown wished : List (ByKind (Option Range))) (staying : List Kept) where
   abbrev P : Function → Function → Type 0
-  P f g = IsSettledOf a.roots (system_in a) l table grown staying f g
+  P f g = IsSettledOf a.roots (system_in a) l table grown wished staying f g
 
   pub next_settled : (k : ℕ) (found : List Block) → ArePlanned P a.dump a.probe k found → (b new : Block) (r : Record) (here : IsHere a k b r) → k < length a.dump → b ≡ get_or a.dump k b
-      → new.slot ≡ b.slot → new.title ≡ b.title → ((q : Request) (keep : Keeping) → IsAskedBy q keep a.roots (system_in a) l table grown staying → new.image ≡ (settled_function q (system_in a) keep (function_of b here.probe)).image) → ArePlanned P a.dump a.probe (k + 1) (found ++ new ∷ [])
+      → new.slot ≡ b.slot → new.title ≡ b.title → ((q : Request) (keep : Keeping) → IsAskedBy q keep a.roots (system_in a) l table grown wished staying → new.image ≡ (settled_function q (system_in a) keep (function_of b here.probe)).image) → ArePlanned P a.dump a.probe (k + 1) (found ++ new ∷ [])
   next_settled k found so_far b new r here inside b_at slot title image =
       let p = here.probe in
       let planned : P (function_of b p) (function_of new p) = λ q keep asked. ap (λ (x : Slot). made x new.image p.image) slot ∙ ap (λ (x : List ℕ). made b.slot x p.image) (image q keep asked) in
       next_planned P a.dump a.probe is.slots k found so_far new b p inside b_at here.beside slot title planned
 
 -- once all are there, they and the probe are the settled system
-module _ (roots : List ℕ) (s : System) (l : Demand) (table : List Places) (grown : List (ByKind (Option Range))) (staying : List Kept) (q : Request) (keep : Keeping) (asked : IsAskedBy q keep roots s l table grown staying) where
-  pub all_settled : (xs ys : List Function) → AllZip (IsSettledOf roots s l table grown staying) xs ys → ys ≡ map (settled_function q s keep) xs
+module _ (roots : List ℕ) (s : System) (l : Demand) (table : List Places) (grown wished : List (ByKind (Option Range))) (staying : List Kept) (q : Request) (keep : Keeping) (asked : IsAskedBy q keep roots s l table grown wished staying) where
+  pub all_settled : (xs ys : List Function) → AllZip (IsSettledOf roots s l table grown wished staying) xs ys → ys ≡ map (settled_function q s keep) xs
   all_settled [] [] all = refl
   all_settled [] (y ∷ ys) all = absurd all
   all_settled (x ∷ xs) [] all = absurd all

@@ -1,13 +1,11 @@
 -- The writes of settling, a function at a time.
-use Rattle.std.proofs.Common.{◌≡◌, ℕ, suc, ◌+◌, ◌-◌, ◌%◌, ◌<◌, ◌≤◌, List, [], ◌∷◌, ◌++◌, Bool, true, false, cond, map, length, get_or, take, drop, inl, inr, arith, refl, sym, ◌∙◌, ap, Some}
+use Rattle.std.proofs.Common.{◌≡◌, ℕ, suc, ◌+◌, ◌-◌, ◌%◌, ◌<◌, ◌≤◌, List, [], ◌∷◌, ◌++◌, Bool, true, false, cond, map, length, get_or, take, drop, inl, inr, arith, refl, sym, ◌∙◌, ap}
 use Rattle.std.specs.Bool.{◌==◌, nat_le, if◌then◌else◌}
 use Rattle.std.specs.List.{flat_map, list_all}
 use Rattle.std.proofs.lemmas.Bool.{cases_Bool, and_parts, leb-true}
 use Rattle.std.proofs.lemmas.List.{append_assoc, append-nil, get_or-map, get_or_default, length-map, take_more}
 use Rattle.std.proofs.lemmas.List.Elements.{All-contains, Contains-get_or}
-use Rattle.std.proofs.lemmas.Option.{slice_get-get_or}
 use Rattle.std.proofs.Math.Seq.{drop-cons}
-use Rattle.settle_laws.specs.KeptLaws.{WishesNothing}
 use Rattle.pci_spec.specs.Number.{number_at, IsImage}
 use Rattle.pci_spec.specs.Header.{command, layout, registers_by}
 use Rattle.pci_spec.specs.Slot.{Slot}
@@ -18,21 +16,20 @@ use Rattle.pci_spec.specs.System.{System, Function, Window, IsFunction, is_bridg
 use Rattle.plan_spec.specs.Planning.PlanWrites.{register_write}
 use Rattle.plan_spec.proofs.Planning.Behind.{all_gives}
 use Rattle.settle_spec.specs.Lists.{Request}
-use Rattle.settle_spec.specs.Stands.{window_part}
 use Rattle.settle_spec.specs.Kept.{Kept}
 use Rattle.settle_spec.specs.Keeping.Registers.{settled_function}
-use Rattle.settle_spec.specs.Keeping.Writes.{closing_command, closed_function, closing_of, setting_of, closing_from, setting_from, opening_from, closings}
+use Rattle.settle_spec.specs.Keeping.Writes.{closed_function, closing_of, setting_of, closing_from, setting_from, opening_from, closings}
 use Rattle.settle_laws.proofs.Keeping.ClosedImages.{closed_low, closed_device, closed_command}
-use Rattle.pci_base.specs.declared.window_kind.ByKind.{ByKind}
 use Rattle.pci_settle.specs.declared.kept.Kept.{Kept as CodeKept}
-use Rattle.pci_settle.specs.Kept.{kept_of, nothing_kept}
+use Rattle.pci_settle.specs.Kept.{kept_of}
 use Rattle.pci_settling.specs.Images.{is_window_kept}
 use Rattle.settle_laws.proofs.Images.{same_number}
 use Rattle.pci_plan.proofs.WriteLists.{flat_map_more}
 use Rattle.pci_settle_writes.specs.declared.writes.Span.{Span}
 use Rattle.pci_settle_writes.specs.declared.writes.Stages.{Stages}
-use Rattle.pci_settle_writes.specs.Stages.{is_access_of, AreOf, AreStages, images_change, bridge_closing, bridge_settings, closed_image_by, command_at, closing_at, setting_at}
-use Rattle.pci_settle_writes.proofs.ClosedBridges.{image_by}
+use Rattle.pci_settle_writes.specs.declared.closed.Closing.{Closing}
+use Rattle.pci_settle_writes.specs.Shut.{closing_in}
+use Rattle.pci_settle_writes.specs.Stages.{is_access_of, AreOf, AreStages, images_change, bridge_closing, bridge_settings, command_at, closing_at, setting_at}
 
 -- ---- what stands side by side
 
@@ -62,9 +59,9 @@ same_writes f old closed new ((o, w) ∷ rs) same past =
     ap (λ n. (if number_at new o w == n then [] else write ∷ []) ++ flat_map (register_write (images_change f.slot old new)) rs) (sym (same o w (leb-true 6 o parts.0)))
     ∙ ap (λ ws. (if number_at new o w == number_at closed o w then [] else write ∷ []) ++ ws) (same_writes f old closed new rs same parts.1)
 
-module _ (q : Request) (s : System) (keep : Kept) (f : Function) (is : IsImage f.image) (kept : ByKind Bool) (told : is_bridge f ≡ true → (c : WindowKind) → is_window_kept kept c ≡ keep.stays (window_part c f)) (none : WishesNothing keep) where
-  abbrev value : ℕ
-  value = closing_command q s keep f
+module _ (q : Request) (s : System) (keep : Kept) (f : Function) (is : IsImage f.image) where
+  abbrev left : Closing
+  left = closing_in q s keep f
 
   abbrev closed : List ℕ
   closed = (closed_function q s keep f).image
@@ -72,17 +69,14 @@ module _ (q : Request) (s : System) (keep : Kept) (f : Function) (is : IsImage f
   abbrev new : List ℕ
   new = (settled_function q s keep f).image
 
-  pub closing_same : closing_at f.slot f.image f.probe new kept value ≡ closing_from q s keep f
+  pub closing_same : closing_at f.slot f.image f.probe left ≡ closing_from q s keep f
   closing_same =
-      let windows = flat_map (register_write (images_change f.slot f.image (closed_image_by f.image f.probe new kept value))) bridge_closing in
-      let alone = command_at f.slot (command f.image) value in
+      let windows = flat_map (register_write (images_change f.slot f.image closed)) bridge_closing in
+      let alone = command_at f.slot (command f.image) left.command in
       let write = register_write (closing_of q s keep f) in
       let all : Bool → List Write = λ b. flat_map write ((0x04, 2) ∷ (if b then (0x1c, 2) ∷ (0x30, 4) ∷ (0x20, 4) ∷ (0x24, 4) ∷ (0x2c, 4) ∷ [] else [])) in
       elim (cases_Bool (is_bridge f)) [
-        | inl bridge ↦
-            ap (λ b. cond b windows alone) bridge
-            ∙ ap (λ x. flat_map (register_write (images_change f.slot f.image x)) bridge_closing) (image_by q s keep f bridge kept (told bridge) none)
-            ∙ sym (ap all bridge)
+        | inl bridge ↦ ap (λ b. cond b windows alone) bridge ∙ sym (ap all bridge)
         | inr device ↦
             ap (λ b. cond b windows alone) device
             ∙ ap (command_at f.slot (command f.image)) (sym (closed_command q s keep f is))
@@ -90,27 +84,28 @@ module _ (q : Request) (s : System) (keep : Kept) (f : Function) (is : IsImage f
             ∙ sym (ap all device)
       ]
 
-  pub setting_same : setting_at f.slot f.image f.probe new kept value ≡ setting_from q s keep f
+  pub setting_same : setting_at f.slot f.image f.probe new left ≡ setting_from q s keep f
   setting_same =
-      let by : List ℕ → List Write = λ x. flat_map (register_write (images_change f.slot x new)) (bridge_settings x new) in
+      let by : List Write = flat_map (register_write (images_change f.slot closed new)) (bridge_settings closed new) in
       let alone : Bool → List Write = λ b. flat_map (register_write (images_change f.slot f.image new)) (registers_by b) in
       let all : Bool → List Write = λ b. flat_map (register_write (setting_of q s keep f)) (if b then bridge_settings closed new else registers_by (layout closed == 1)) in
       let same : (layout closed == 1) ≡ is_bridge f = ap (λ n. n % 128 == 1) (closed_low q s keep f 0x0e (omega arith) (omega arith)) in
       elim (cases_Bool (is_bridge f)) [
-        | inl bridge ↦
-            ap (λ b. cond b (by (closed_image_by f.image f.probe new kept value)) (alone (is_bridge f))) bridge
-            ∙ ap by (image_by q s keep f bridge kept (told bridge) none)
-            ∙ sym (ap all (same ∙ bridge))
+        | inl bridge ↦ ap (λ b. cond b by (alone (is_bridge f))) bridge ∙ sym (ap all (same ∙ bridge))
         | inr device ↦
-            ap (λ b. cond b (by (closed_image_by f.image f.probe new kept value)) (alone (is_bridge f))) device
+            ap (λ b. cond b by (alone (is_bridge f))) device
             ∙ ap alone device
             ∙ same_writes f f.image closed new (registers_by false)
             (λ o w past. same_number closed f.image o w (λ j less. closed_device q s keep f device (o + j) (inr (omega (arith, past))))) refl
             ∙ sym (ap all (same ∙ device) ∙ ap (λ b. flat_map (register_write (setting_of q s keep f)) (registers_by b)) (same ∙ device))
       ]
 
-  pub opening_same : command_at f.slot value (command new) ≡ opening_from q s keep f
+  pub opening_same : command_at f.slot left.command (command new) ≡ opening_from q s keep f
   opening_same = ap (λ n. command_at f.slot n (command new)) (sym (closed_command q s keep f is))
+
+-- what stands there where a table has no function
+abbrev pub nothing_left : Closing
+nothing_left = record { command = 0; windows = record { io = false; memory = false; prefetchable = false } }
 
 -- each register of a table is a lawful access
 pub access_at : (spans : List Span) → list_all is_access_of spans ≡ true → (i : ℕ) (d : Span) → i < length spans → is_access_of (get_or spans i d) ≡ true
@@ -141,16 +136,9 @@ module _ (q : Request) (s : System) (keep : Kept) (st : Stages) (are : AreStages
   image_at : (k : ℕ) (at : IsAt s k) → IsImage at.f.image
   image_at k at = (All-contains IsFunction s at.f are.system.each (k, at.within, sym at.is)).image
 
-  module _ (k : ℕ) (at : IsAt s k) (b p n : Block) (c : ℕ) (b_at : b ≡ get_or st.start.now k b) (p_at : p ≡ get_or st.probe.now k p) (n_at : n ≡ get_or st.settled.now k n) (c_at : c ≡ get_or st.commands.now k c)
-      (d h : CodeKept) (h_at : h ≡ get_or st.staying.now k d) where
+  module _ (k : ℕ) (at : IsAt s k) (b p n : Block) (c : Closing) (b_at : b ≡ get_or st.start.now k b) (p_at : p ≡ get_or st.probe.now k p) (n_at : n ≡ get_or st.settled.now k n) (c_at : c ≡ get_or st.closings.now k c) where
     abbrev f : Function
     f = at.f
-
-    -- the windows that stay
-    kept_is : is_bridge f ≡ true → (c : WindowKind) → is_window_kept h.windows c ≡ keep.stays (window_part c f)
-    kept_is bridge c =
-        kept_window h c ∙ ap (λ x. kept_of x (Window c)) h_at
-        ∙ are.staying.each k f d (Window c) (slice_get-get_or s k f at.within ∙ ap Some (sym at.is)) bridge
 
     slot_is : b.slot ≡ f.slot
     slot_is = same_at (λ (x : Block). x.slot) (λ (x : Function). x.slot) st.start.now s are.start.slots k b f at.within b_at at.is
@@ -164,23 +152,23 @@ module _ (q : Request) (s : System) (keep : Kept) (st : Stages) (are : AreStages
     settled_is : n.image ≡ (settled_function q s keep f).image
     settled_is = same_at (λ (x : Block). x.image) (λ (x : Function). (settled_function q s keep x).image) st.settled.now s are.settled k n f at.within n_at at.is
 
-    value_is : c ≡ closing_command q s keep f
-    value_is = c_at ∙ ap (λ cs. get_or cs k c) are.commands ∙ get_or-map (closing_command q s keep) s k f c at.within ∙ ap (closing_command q s keep) (sym at.is)
+    left_is : c ≡ closing_in q s keep f
+    left_is = c_at ∙ ap (λ cs. get_or cs k c) are.closings ∙ get_or-map (closing_in q s keep) s k f c at.within ∙ ap (closing_in q s keep) (sym at.is)
 
-    by_parts : (make : Slot → List ℕ → List ℕ → List ℕ → ByKind Bool → ℕ → List Write)
-        → make b.slot b.image p.image n.image h.windows c ≡ make f.slot f.image f.probe (settled_function q s keep f).image h.windows (closing_command q s keep f)
+    by_parts : (make : Slot → List ℕ → List ℕ → List ℕ → Closing → List Write)
+        → make b.slot b.image p.image n.image c ≡ make f.slot f.image f.probe (settled_function q s keep f).image (closing_in q s keep f)
     by_parts make =
-        ap (λ x. make x b.image p.image n.image h.windows c) slot_is ∙ ap (λ x. make f.slot x p.image n.image h.windows c) image_is ∙ ap (λ x. make f.slot f.image x n.image h.windows c) probe_is
-        ∙ ap (λ x. make f.slot f.image f.probe x h.windows c) settled_is ∙ ap (make f.slot f.image f.probe (settled_function q s keep f).image h.windows) value_is
+        ap (λ x. make x b.image p.image n.image c) slot_is ∙ ap (λ x. make f.slot x p.image n.image c) image_is ∙ ap (λ x. make f.slot f.image x n.image c) probe_is
+        ∙ ap (λ x. make f.slot f.image f.probe x c) settled_is ∙ ap (make f.slot f.image f.probe (settled_function q s keep f).image) left_is
 
-    closing_is : closing_at b.slot b.image p.image n.image h.windows c ≡ closing_from q s keep f
-    closing_is = by_parts closing_at ∙ closing_same q s keep f (image_at k at) h.windows kept_is are.none
+    closing_is : closing_at b.slot b.image p.image c ≡ closing_from q s keep f
+    closing_is = by_parts (λ slot old probe new closing. closing_at slot old probe closing) ∙ closing_same q s keep f (image_at k at)
 
-    setting_is : setting_at b.slot b.image p.image n.image h.windows c ≡ setting_from q s keep f
-    setting_is = by_parts setting_at ∙ setting_same q s keep f (image_at k at) h.windows kept_is are.none
+    setting_is : setting_at b.slot b.image p.image n.image c ≡ setting_from q s keep f
+    setting_is = by_parts setting_at ∙ setting_same q s keep f (image_at k at)
 
-    opening_is : command_at b.slot c (command n.image) ≡ opening_from q s keep f
-    opening_is = by_parts (λ slot old probe new kept value. command_at slot value (command new)) ∙ opening_same q s keep f (image_at k at) h.windows kept_is are.none
+    opening_is : command_at b.slot c.command (command n.image) ≡ opening_from q s keep f
+    opening_is = by_parts (λ slot old probe new closing. command_at slot closing.command (command new)) ∙ opening_same q s keep f (image_at k at)
 
   -- ---- one function more
 
@@ -197,30 +185,34 @@ module _ (q : Request) (s : System) (keep : Kept) (st : Stages) (are : AreStages
       ∙ ap (λ f. before ++ (closings q s keep (drop (suc k) s) ++ closing_from q s keep f)) at.is
       ∙ ap (λ ws. before ++ ws) (sym (ap (closings q s keep) (drop-cons s k at.f at.within)))
 
-  -- Command of a function once all is closed
-  abbrev value_at : ℕ → ℕ
-  value_at k = get_or st.commands.now k 0
+  -- what closing leaves of a function
+  abbrev left_at : ℕ → Closing
+  left_at k = get_or st.closings.now k nothing_left
 
-  value_is_at : (k : ℕ) → IsAt s k → value_at k ≡ get_or st.commands.now k (value_at k)
-  value_is_at k at =
+  left_is_at : (k : ℕ) → IsAt s k → left_at k ≡ get_or st.closings.now k (left_at k)
+  left_is_at k at =
       let within = at.within in
-      let l = ap length are.commands in
-      let m = length-map s (closing_command q s keep) in
-      get_or_default st.commands.now k 0 (value_at k) (omega (arith, within, l, m))
+      let l = ap length are.closings in
+      let m = length-map s (closing_in q s keep) in
+      get_or_default st.closings.now k nothing_left (left_at k) (omega (arith, within, l, m))
 
-  pub closing_step : (done : ℕ) → done < length st.start.now → (b p n : Block) → (k : ℕ) → k ≡ length st.start.now - 1 - done → b ≡ get_or st.start.now k b → p ≡ get_or st.probe.now k p → n ≡ get_or st.settled.now k n
-      → (d h : CodeKept) → h ≡ get_or st.staying.now k d → (probe new : List ℕ) → probe ≡ p.image → new ≡ n.image → (before so_far all : List Write) → all ≡ so_far ++ closing_at b.slot b.image probe new h.windows (value_at k) → so_far ≡ before ++ closings q s keep (drop (length s - done) s)
+  pub closing_step : (done : ℕ) → done < length st.start.now → (b p : Block) → (k : ℕ) → k ≡ length st.start.now - 1 - done → b ≡ get_or st.start.now k b → p ≡ get_or st.probe.now k p
+      → (probe : List ℕ) → probe ≡ p.image → (before so_far all : List Write) → all ≡ so_far ++ closing_at b.slot b.image probe (left_at k) → so_far ≡ before ++ closings q s keep (drop (length s - done) s)
       → all ≡ before ++ closings q s keep (drop (length s - (done + 1)) s)
-  closing_step done less b p n k k_is b_at p_at n_at d h h_at probe new probe_at new_at before so_far all all_is so_is =
+  closing_step done less b p k k_is b_at p_at probe probe_at before so_far all all_is so_is =
       let count = count_of s st.start.now are.start in
       let at : IsAt s k = function_of_place s k (omega (arith, count, less, k_is)) in
       let next : suc k ≡ length s - done = omega (arith, count, less, k_is) in
       let last : k ≡ length s - (done + 1) = omega (arith, count, less, k_is) in
-      all_is ∙ ap (λ ws. ws ++ closing_at b.slot b.image probe new h.windows (value_at k)) so_is
-      ∙ ap (λ m. (before ++ closings q s keep (drop m s)) ++ closing_at b.slot b.image probe new h.windows (value_at k)) (sym next)
-      ∙ ap (λ x. (before ++ closings q s keep (drop (suc k) s)) ++ closing_at b.slot b.image x new h.windows (value_at k)) probe_at
-      ∙ ap (λ x. (before ++ closings q s keep (drop (suc k) s)) ++ closing_at b.slot b.image p.image x h.windows (value_at k)) new_at
-      ∙ ap (λ ws. (before ++ closings q s keep (drop (suc k) s)) ++ ws) (closing_is k at b p n (value_at k) b_at p_at n_at (value_is_at k at) d h h_at)
+      let own = length-map st.settled.now (λ (x : Block). x.image) in
+      let all_new = length-map s (λ (x : Function). (settled_function q s keep x).image) in
+      let same = ap length are.settled in
+      let n = get_or st.settled.now k b in
+      let n_at = get_or_default st.settled.now k b n (omega (arith, own, all_new, same, count, less, k_is)) in
+      all_is ∙ ap (λ ws. ws ++ closing_at b.slot b.image probe (left_at k)) so_is
+      ∙ ap (λ m. (before ++ closings q s keep (drop m s)) ++ closing_at b.slot b.image probe (left_at k)) (sym next)
+      ∙ ap (λ x. (before ++ closings q s keep (drop (suc k) s)) ++ closing_at b.slot b.image x (left_at k)) probe_at
+      ∙ ap (λ ws. (before ++ closings q s keep (drop (suc k) s)) ++ ws) (closing_is k at b p n (left_at k) b_at p_at n_at (left_is_at k at))
       ∙ closing_more before k at
       ∙ ap (λ m. before ++ closings q s keep (drop m s)) last
 
@@ -228,15 +220,15 @@ module _ (q : Request) (s : System) (keep : Kept) (st : Stages) (are : AreStages
   place k less = let count = count_of s st.start.now are.start in function_of_place s k (omega (arith, count, less))
 
   module _ (k : ℕ) (less : k < length st.start.now) (b n : Block) (b_at : b ≡ get_or st.start.now k b) (n_at : n ≡ get_or st.settled.now k n) (before so_far all : List Write) where
-    pub setting_step : (p : Block) → p ≡ get_or st.probe.now k p → (d h : CodeKept) → h ≡ get_or st.staying.now k d → (probe : List ℕ) → probe ≡ p.image → all ≡ so_far ++ setting_at b.slot b.image probe n.image h.windows (value_at k) → so_far ≡ before ++ flat_map (setting_from q s keep) (take k s)
+    pub setting_step : (p : Block) → p ≡ get_or st.probe.now k p → (probe : List ℕ) → probe ≡ p.image → all ≡ so_far ++ setting_at b.slot b.image probe n.image (left_at k) → so_far ≡ before ++ flat_map (setting_from q s keep) (take k s)
         → all ≡ before ++ flat_map (setting_from q s keep) (take (k + 1) s)
-    setting_step p p_at d h h_at probe probe_at all_is so_is =
-        all_is ∙ ap (λ ws. ws ++ setting_at b.slot b.image probe n.image h.windows (value_at k)) so_is
-        ∙ ap (λ x. (before ++ flat_map (setting_from q s keep) (take k s)) ++ setting_at b.slot b.image x n.image h.windows (value_at k)) probe_at
-        ∙ ap (λ ws. (before ++ flat_map (setting_from q s keep) (take k s)) ++ ws) (setting_is k (place k less) b p n (value_at k) b_at p_at n_at (value_is_at k (place k less)) d h h_at)
+    setting_step p p_at probe probe_at all_is so_is =
+        all_is ∙ ap (λ ws. ws ++ setting_at b.slot b.image probe n.image (left_at k)) so_is
+        ∙ ap (λ x. (before ++ flat_map (setting_from q s keep) (take k s)) ++ setting_at b.slot b.image x n.image (left_at k)) probe_at
+        ∙ ap (λ ws. (before ++ flat_map (setting_from q s keep) (take k s)) ++ ws) (setting_is k (place k less) b p n (left_at k) b_at p_at n_at (left_is_at k (place k less)))
         ∙ flat_more (setting_from q s keep) before k (place k less)
 
-    pub opening_step : (slot : Slot) (new : ℕ) → all ≡ so_far ++ command_at slot (value_at k) new → slot ≡ b.slot → new ≡ command n.image → so_far ≡ before ++ flat_map (opening_from q s keep) (take k s)
+    pub opening_step : (slot : Slot) (new : ℕ) → all ≡ so_far ++ command_at slot (left_at k).command new → slot ≡ b.slot → new ≡ command n.image → so_far ≡ before ++ flat_map (opening_from q s keep) (take k s)
         → all ≡ before ++ flat_map (opening_from q s keep) (take (k + 1) s)
     opening_step slot new all_is slot_at new_at so_is =
         let own = length-map st.probe.now (λ (x : Block). x.image) in
@@ -245,9 +237,8 @@ module _ (q : Request) (s : System) (keep : Kept) (st : Stages) (are : AreStages
         let count = count_of s st.start.now are.start in
         let p = get_or st.probe.now k b in
         let p_at = get_or_default st.probe.now k b p (omega (arith, own, read, same, count, less)) in
-        let h = get_or st.staying.now k nothing_kept in
-        all_is ∙ ap (λ ws. ws ++ command_at slot (value_at k) new) so_is
-        ∙ ap (λ x. (before ++ flat_map (opening_from q s keep) (take k s)) ++ command_at x (value_at k) new) slot_at
-        ∙ ap (λ x. (before ++ flat_map (opening_from q s keep) (take k s)) ++ command_at b.slot (value_at k) x) new_at
-        ∙ ap (λ ws. (before ++ flat_map (opening_from q s keep) (take k s)) ++ ws) (opening_is k (place k less) b p n (value_at k) b_at p_at n_at (value_is_at k (place k less)) nothing_kept h refl)
+        all_is ∙ ap (λ ws. ws ++ command_at slot (left_at k).command new) so_is
+        ∙ ap (λ x. (before ++ flat_map (opening_from q s keep) (take k s)) ++ command_at x (left_at k).command new) slot_at
+        ∙ ap (λ x. (before ++ flat_map (opening_from q s keep) (take k s)) ++ command_at b.slot (left_at k).command x) new_at
+        ∙ ap (λ ws. (before ++ flat_map (opening_from q s keep) (take k s)) ++ ws) (opening_is k (place k less) b p n (left_at k) b_at p_at n_at (left_is_at k (place k less)))
         ∙ flat_more (opening_from q s keep) before k (place k less)

@@ -1,5 +1,5 @@
 -- Which functions are shut in a space, by what is decoded of each and by what is above its bus.
-use Rattle.std.specs.Prelude.{◌≡◌, ℕ, ◌+◌, ◌-◌, ◌/◌, ◌==◌, Bool, IsTrue, ◌&&◌, ◌||◌, not, if◌then◌else◌, List, [], ◌∷◌}
+use Rattle.std.specs.Prelude.{◌≡◌, ℕ, ◌+◌, ◌-◌, ◌/◌, ◌==◌, Bool, false, IsTrue, ◌&&◌, ◌||◌, not, if◌then◌else◌, List, [], ◌∷◌, map, Option, None, Some}
 use Rattle.std.specs.Option.{is_some}
 use Rattle.std.specs.List.{list_any, list_all}
 use Rattle.pci_spec.specs.Number.{number_at}
@@ -12,16 +12,20 @@ use Rattle.plan_spec.specs.Plan.{bridges_above}
 use Rattle.settle_spec.specs.Lists.{Request}
 use Rattle.settle_spec.specs.Parts.{are_same_space}
 use Rattle.settle_spec.specs.Kept.{Kept}
-use Rattle.settle_spec.specs.Keeping.Writes.{changes_window, is_shut_itself}
+use Rattle.settle_spec.specs.Keeping.Writes.{changes_window, is_shut_itself, closing_command, is_replaced}
 use Rattle.pci_base.specs.Space.{is_on}
 use Rattle.pci_image.specs.declared.bar.Bar.{Bar as CodeBar}
+use Rattle.pci_image.specs.Windows.{window_of}
+use Rattle.pci_function.specs.declared.record.Bridge.{Bridge}
 use Rattle.pci_function.specs.declared.record.Record.{Record}
+use Rattle.pci_tree.specs.Passes.{range_in}
 use Rattle.pci_place.specs.Classes.{is_wide_kind}
 use Rattle.pci_settle.specs.Slots.{demand_of}
 use Rattle.pci_settle.specs.Kept.{kept_of}
 use Rattle.pci_settle.specs.Own.{AreTerms, is_left_bar, bar_class_of}
 use Rattle.pci_settle.specs.Over.{IsOverBus}
 use Rattle.pci_settling.specs.Claims.{is_bar_in, has_left_bar, is_rom_on, has_kept}
+use Rattle.pci_settle_writes.specs.declared.closed.Closing.{Closing}
 use Rattle.pci_settle_writes.specs.declared.shut.Around.{Around}
 use Rattle.pci_settle_writes.specs.declared.way.BySpace.{BySpace}
 use Rattle.pci_settle_writes.specs.declared.way.ByClass.{ByClass}
@@ -37,6 +41,13 @@ abbrev pub in_class : ByClass → WindowKind → Bool
 in_class b IoWindow = b.io
 in_class b MemoryWindow = b.memory
 in_class b PrefetchWindow = b.prefetchable
+
+abbrev pub by_class : (WindowKind → Bool) → ByClass
+by_class test = record {
+  io = test IoWindow;
+  memory = test MemoryWindow;
+  prefetchable = test PrefetchWindow;
+}
 
 -- of the bridges between the host and a bus: which spaces all enable, in which none is shut itself, and of which classes no
 -- window changes
@@ -69,6 +80,16 @@ window_registers PrefetchWindow =
 
 abbrev pub is_window_changed : WindowKind → List ℕ → List ℕ → Bool
 is_window_changed c old new = list_any (differs_in old new) (window_registers c)
+
+-- a window changes that is open or not: an open one for more than room that is kept free, where `plain` shows no such room
+abbrev pub is_window_changed_for_more : Bool → WindowKind → List ℕ → List ℕ → List ℕ → Bool
+is_window_changed_for_more opens c old plain new =
+    is_window_changed c old new && (not opens || is_window_changed c old plain)
+
+abbrev pub changed_window : Option Bridge → List ℕ → List ℕ → List ℕ → WindowKind → Bool
+changed_window None old plain new c = false
+changed_window (Some b) old plain new c =
+    is_window_changed_for_more (is_some (range_in (window_of b.windows c))) c old plain new
 
 abbrev pub is_bar_changed : List ℕ → List ℕ → CodeBar → Bool
 is_bar_changed old new bar =
@@ -114,3 +135,16 @@ closing_by o r shut =
     + (if not shut.io && (not (has_left_bar r o.over.above o.terms) && is_on r.command Io)
     then 1 else 0)
     + (if not shut.memory && is_on r.command Memory then 2 else 0)
+
+-- ---- what closing leaves
+
+-- Command, and which windows are closed meanwhile
+abbrev pub closing_in : Request → System → Kept → Function → Closing
+closing_in q s keep f = record {
+  command = closing_command q s keep f;
+  windows = by_class (is_replaced q s keep f);
+}
+
+-- of all functions
+abbrev pub AreClosings : Request → System → Kept → List Closing → Type 0
+AreClosings q s keep closings = closings ≡ map (closing_in q s keep) s

@@ -1,7 +1,6 @@
 -- The states of each function on the way, and the writes between them, as lists of the code have them.
-use Rattle.std.specs.Prelude.{◌≡◌, ℕ, ◌==◌, nat_lt, Bool, ◌&&◌, not, if◌then◌else◌, List, [], ◌∷◌, ◌++◌, length, map}
+use Rattle.std.specs.Prelude.{◌≡◌, ℕ, ◌==◌, nat_lt, Bool, if◌then◌else◌, List, [], ◌∷◌, ◌++◌, length, map}
 use Rattle.std.specs.List.{flat_map}
-use Rattle.settle_laws.specs.KeptLaws.{WishesNothing}
 use Rattle.pci_spec.specs.Number.{number_at}
 use Rattle.pci_spec.specs.Registers.{COMMAND, IO_BASE, IO_BASE_UPPER, MEMORY_BASE, PREFETCHABLE_BASE, PREFETCHABLE_BASE_UPPER, PREFETCHABLE_LIMIT_UPPER, BRIDGE_EXPANSION_ROM}
 use Rattle.pci_spec.specs.Header.{command, layout, bar_register}
@@ -17,12 +16,10 @@ use Rattle.settle_spec.specs.Registers.{with_number, with_bounds}
 use Rattle.settle_spec.specs.Writes.{shut_bounds}
 use Rattle.settle_spec.specs.Kept.{Kept}
 use Rattle.settle_spec.specs.Keeping.Registers.{settled_function}
-use Rattle.settle_spec.specs.Keeping.Writes.{closing_command}
-use Rattle.pci_base.specs.declared.window_kind.ByKind.{ByKind}
+use Rattle.pci_settle_writes.specs.declared.closed.Closing.{Closing}
 use Rattle.pci_settle_writes.specs.declared.writes.Span.{Span}
 use Rattle.pci_settle_writes.specs.declared.writes.Stages.{Stages}
-use Rattle.pci_settle_writes.specs.Shut.{is_window_changed}
-use Rattle.pci_settle_writes.specs.Told.{IsTableOf}
+use Rattle.pci_settle_writes.specs.Shut.{AreClosings}
 
 -- ---- the states
 
@@ -30,10 +27,6 @@ use Rattle.pci_settle_writes.specs.Told.{IsTableOf}
 pub record AreOf (s : System) (start : List Block) : Type 0 where
   pub slots : map (λ (b : Block). b.slot) start ≡ map (λ f. f.slot) s
   pub images : map (λ (b : Block). b.image) start ≡ map (λ f. f.image) s
-
--- what Command holds once all is closed
-abbrev pub AreClosed : Request → System → Kept → List ℕ → Type 0
-AreClosed q s keep closed = closed ≡ map (closing_command q s keep) s
 
 -- blocks of the functions as they are to be
 abbrev pub AreSettledBlocks : Request → System → Kept → List Block → Type 0
@@ -43,19 +36,16 @@ AreSettledBlocks q s keep settled =
 -- there is one of each state for each function
 pub record HasEachStage (st : Stages) : Type 0 where
   pub probe : length st.probe.now ≡ length st.start.now
-  pub commands : length st.commands.now ≡ length st.start.now
+  pub closings : length st.closings.now ≡ length st.start.now
   pub settled : length st.settled.now ≡ length st.start.now
-  pub staying : length st.staying.now ≡ length st.start.now
 
 -- they are those of the functions of a system
 pub record AreStages (q : Request) (s : System) (keep : Kept) (st : Stages) : Type 0 where
   pub system : IsSystem s
   pub start : AreOf s st.start.now
   pub probe : map (λ (b : Block). b.image) st.probe.now ≡ map (λ f. f.probe) s
-  pub commands : AreClosed q s keep st.commands.now
+  pub closings : AreClosings q s keep st.closings.now
   pub settled : AreSettledBlocks q s keep st.settled.now
-  pub staying : IsTableOf s keep.stays st.staying.now
-  pub none : WishesNothing keep
 
 -- ---- closed windows
 
@@ -65,19 +55,19 @@ is_bridge_image image = layout image == 1
 abbrev pub nibble_in : WindowKind → List ℕ → ℕ
 nibble_in c probe = if is_wide_window c probe then 1 else 0
 
--- a window that changes is closed, where it isn't kept
-abbrev pub with_closed_window : WindowKind → Bool → List ℕ → List ℕ → List ℕ → List ℕ → List ℕ
-with_closed_window c kept old probe new image =
-    if not kept && is_window_changed c old new
-    then with_bounds c (shut_bounds c (nibble_in c probe) (bounds_at c old)) image else image
+-- a window is closed, or isn't
+abbrev pub with_closed_window : WindowKind → Bool → List ℕ → List ℕ → List ℕ → List ℕ
+with_closed_window c closes old probe image =
+    if closes then with_bounds c (shut_bounds c (nibble_in c probe) (bounds_at c old)) image
+    else image
 
 -- a bridge once all is closed
-abbrev pub closed_image_by : List ℕ → List ℕ → List ℕ → ByKind Bool → ℕ → List ℕ
-closed_image_by old probe new kept value =
-    with_number 2 COMMAND value
-    (with_closed_window PrefetchWindow kept.prefetchable old probe new
-    (with_closed_window MemoryWindow kept.memory old probe new
-    (with_closed_window IoWindow kept.io old probe new old)))
+abbrev pub closed_image_by : List ℕ → List ℕ → Closing → List ℕ
+closed_image_by old probe closing =
+    with_number 2 COMMAND closing.command
+    (with_closed_window PrefetchWindow closing.windows.prefetchable old probe
+    (with_closed_window MemoryWindow closing.windows.memory old probe
+    (with_closed_window IoWindow closing.windows.io old probe old)))
 
 -- ---- the writes
 
@@ -124,17 +114,17 @@ command_at slot old new =
     else record { slot = slot; offset = COMMAND; width = 2; value = new } ∷ []
 
 -- what closes a function: of a device Command alone
-abbrev pub closing_at : Slot → List ℕ → List ℕ → List ℕ → ByKind Bool → ℕ → List Write
-closing_at slot old probe new kept value =
+abbrev pub closing_at : Slot → List ℕ → List ℕ → Closing → List Write
+closing_at slot old probe closing =
     if is_bridge_image old
-    then flat_map (register_write (images_change slot old (closed_image_by old probe new kept value)))
+    then flat_map (register_write (images_change slot old (closed_image_by old probe closing)))
     bridge_closing
-    else command_at slot (command old) value
+    else command_at slot (command old) closing.command
 
 -- what sets its address registers: a device's don't change by closing
-abbrev pub setting_at : Slot → List ℕ → List ℕ → List ℕ → ByKind Bool → ℕ → List Write
-setting_at slot old probe new kept value =
-    let closed = closed_image_by old probe new kept value in
+abbrev pub setting_at : Slot → List ℕ → List ℕ → List ℕ → Closing → List Write
+setting_at slot old probe new closing =
+    let closed = closed_image_by old probe closing in
     if is_bridge_image old
     then flat_map (register_write (images_change slot closed new)) (bridge_settings closed new)
     else registers_of (images_change slot old new)

@@ -1,6 +1,5 @@
 -- What a table by function tells of parts.
 use Rattle.std.specs.Prelude.{◌≡◌, ℕ, Bool, IsTrue, List, Option, Some, length, slice_get, slice_index_or}
-use Rattle.settle_laws.specs.KeptLaws.{WishesNothing}
 use Rattle.pci_spec.specs.System.{System, Function, Part, has_part}
 use Rattle.settle_spec.specs.Lists.{Request}
 use Rattle.settle_spec.specs.Parts.{FunctionPart}
@@ -24,5 +23,4 @@ pub record TellsKeeping (q : Request) (s : System) (keep : Keeping) (grown : Lis
     (staying : List Kept) : Type 0 where
   pub standing : (r : FunctionPart) → IsTrue (keep.stays r) → IsTrue (stands q s r)
   pub stays_are : IsTableOf s keep.stays staying
-  pub none : WishesNothing keep
   pub ranges_are : AreKeptRanges s keep grown

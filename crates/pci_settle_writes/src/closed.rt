@@ -1,10 +1,12 @@
 //! A bridge once all is closed: windows that change hold nothing, but for those that stay.
-ghost use Rattle.std.specs.Prelude.{◌≡◌, ◌<◌, ◌%◌, not};
+ghost use Rattle.std.specs.Prelude.{◌≡◌, ◌<◌, ◌%◌};
+ghost use Rattle.std.specs.Option.{is_some};
 ghost use Rattle.pci_base.specs.Bounds.{spec_bounds_of};
 ghost use Rattle.pci_base.specs.WindowKinds.{kind_value};
-ghost use Rattle.pci_spec.specs.Window.{IoWindow, MemoryWindow, PrefetchWindow};
+ghost use Rattle.pci_image.specs.Windows.{window_of};
+ghost use Rattle.pci_tree.specs.Passes.{range_in};
 ghost use Rattle.settle_spec.specs.Writes as writes;
-ghost use Rattle.pci_settle_writes.specs.Shut.{differs_in, is_window_changed};
+ghost use Rattle.pci_settle_writes.specs.Shut.{differs_in, is_window_changed, is_window_changed_for_more, by_class, changed_window};
 ghost use Rattle.pci_settle_writes.specs.Stages.{nibble_in, with_closed_window, closed_image_by};
 
 use crate::way::ByClass;
@@ -14,7 +16,10 @@ use pci_base::offset::{
     COMMAND, IO_BASE, IO_BASE_UPPER, MEMORY_BASE, PREFETCHABLE_BASE, PREFETCHABLE_BASE_UPPER,
     PREFETCHABLE_LIMIT_UPPER,
 };
-use pci_base::window_kind::{ByKind, WindowKind};
+use pci_base::window_kind::WindowKind;
+use pci_function::record::Record;
+use pci_image::window::Windows;
+use pci_settle::over::open_range;
 use pci_settling::write::{write, write_bounds};
 
 /// Whether a register of four bytes of a window changes.
@@ -42,17 +47,47 @@ fn is_window_changed(class: WindowKind, old: &Image, new: &Image) -> bool
     }
 }
 
-/// Of which classes the windows stay as they are.
-pub fn same_windows(old: &Image, new: &Image) -> ByClass
-    ensures io { result.io ≡ not (is_window_changed IoWindow old.now.0 new.now.0) }
-    ensures memory { result.memory ≡ not (is_window_changed MemoryWindow old.now.0 new.now.0) }
-    ensures prefetchable { result.prefetchable ≡ not (is_window_changed PrefetchWindow old.now.0 new.now.0) }
+/// Whether the window of a class changes, an open one for more than room that is kept free. `plain` shows no such room.
+fn is_window_changed_for_more(
+    class: WindowKind,
+    windows: &Windows,
+    old: &Image,
+    plain: &Image,
+    new: &Image,
+) -> bool
+    ensures { result ≡ is_window_changed_for_more
+        (is_some (range_in (window_of windows.now (kind_value class)))) (kind_value class)
+        old.now.0 plain.now.0 new.now.0 }
 {
+    is_window_changed(class, old, new)
+        && (open_range(windows, class).is_none() || is_window_changed(class, old, plain))
+}
+
+/// Of which classes the windows of a function change: those of a bridge.
+pub fn changed_windows(record: &Record, old: &Image, plain: &Image, new: &Image) -> ByClass
+    ensures { result
+        ≡ by_class (changed_window «record».now.bridge old.now.0 plain.now.0 new.now.0) }
+{
+    let Some(bridge) = &record.bridge else {
+        return ByClass::NONE;
+    };
+    let windows = &bridge.windows;
+    let (io, memory) = (WindowKind::Io, WindowKind::Memory);
+    let prefetchable = WindowKind::Prefetchable;
     ByClass {
-        io: !is_window_changed(WindowKind::Io, old, new),
-        memory: !is_window_changed(WindowKind::Memory, old, new),
-        prefetchable: !is_window_changed(WindowKind::Prefetchable, old, new),
+        io: is_window_changed_for_more(io, windows, old, plain, new),
+        memory: is_window_changed_for_more(memory, windows, old, plain, new),
+        prefetchable: is_window_changed_for_more(prefetchable, windows, old, plain, new),
     }
+}
+
+/// What closing leaves of a function.
+#[derive(Clone, Copy, Debug)]
+pub struct Closing {
+    /// The value of Command.
+    pub command: u16,
+    /// The windows that are closed meanwhile.
+    pub windows: ByClass,
 }
 
 /// The low nibble of base and limit of a window, by its read back (Bridge 1.2, 3.2.5).
@@ -83,41 +118,34 @@ fn shut_bounds(class: WindowKind, nibble: u16, bounds: Bounds) -> Bounds
     }
 }
 
-/// Closes the window of a class, where it changes and doesn't stay.
+/// Closes the window of a class, where it is one of those to close.
 fn close_window(
     bytes: &mut [u8; IMAGE_LEN],
     class: WindowKind,
-    kept: bool,
+    closes: bool,
     old: &Image,
     probe: &Image,
-    new: &Image,
 )
     ensures { bytes.new
-        ≡ with_closed_window (kind_value class) kept old.now.0 probe.now.0 new.now.0 bytes.old }
+        ≡ with_closed_window (kind_value class) closes old.now.0 probe.now.0 bytes.old }
 {
-    if !kept && is_window_changed(class, old, new) {
+    if closes {
         let bounds = shut_bounds(class, nibble_of(class, probe), class.bounds(old));
         write_bounds(bytes, class, bounds);
     }
 }
 
-/// The image of a bridge once all is closed, with this value of Command. `probe` holds what its registers read back, `new` is
-/// its image as it is to be, and `kept` tells which of its windows stay.
-pub fn closed_image(
-    old: &Image,
-    probe: &Image,
-    new: &Image,
-    kept: &ByKind<bool>,
-    command: u16,
-) -> Image
-    ensures { result.0 ≡ closed_image_by old.now.0 probe.now.0 new.now.0 kept.now command }
+/// The image of a bridge once all is closed. `probe` holds what its registers read back.
+pub fn closed_image(old: &Image, probe: &Image, closing: Closing) -> Image
+    ensures { result.0 ≡ closed_image_by old.now.0 probe.now.0 closing }
 {
     let mut closed = *old;
     let bytes = &mut closed.0;
-    close_window(bytes, WindowKind::Io, kept.io, old, probe, new);
-    close_window(bytes, WindowKind::Memory, kept.memory, old, probe, new);
+    let windows = closing.windows;
+    close_window(bytes, WindowKind::Io, windows.io, old, probe);
+    close_window(bytes, WindowKind::Memory, windows.memory, old, probe);
     let class = WindowKind::Prefetchable;
-    close_window(bytes, class, kept.prefetchable, old, probe, new);
-    write(&mut closed.0, COMMAND, 2, command.into());
+    close_window(bytes, class, windows.prefetchable, old, probe);
+    write(&mut closed.0, COMMAND, 2, closing.command.into());
     closed
 }

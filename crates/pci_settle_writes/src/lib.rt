@@ -13,4 +13,5 @@ pub mod shut;
 pub mod standing;
 pub mod tables;
 pub mod way;
+pub mod wished;
 pub mod writes;

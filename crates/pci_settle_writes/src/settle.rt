@@ -9,6 +9,7 @@ ghost use Rattle.settle_spec.specs.Writes as spec;
 ghost use Rattle.settle_spec.specs.Kept.{Kept as Keeping};
 ghost use Rattle.settle_spec.specs.Sparing.{without_slots, placing_request, settle_sparing};
 ghost use Rattle.settle_spec.specs.SpareLaws.{kept_sparing};
+ghost use Rattle.settle_laws.specs.KeptLaws.{WishesNothing};
 ghost use Rattle.settle_laws.specs.SparingLaws.{sparing_closings};
 ghost use Rattle.pci_base.specs.declared.memory.Refused.TheVariants as refused;
 ghost use Rattle.pci_place.specs.Above.{system_in};
@@ -27,11 +28,12 @@ ghost use Rattle.pci_settle_writes.specs.Denied.{denied_value, denied_registers}
 ghost use Rattle.pci_settle_writes.specs.Endings.{IsLackOff, AreAskedFor, IsEnded, IsEndedBy, IsNotGrown, kept_after, IsEndedAfter, IsRefusal, HasNoAssumed};
 
 use crate::assumed::first_assumed;
-use crate::dump::settled_dump;
+use crate::dump::{Images, settled_dump};
 use crate::fixed::fixed_write;
 use crate::growth::settle_grown;
 use crate::lack::{SettleFault, fault_of};
 use crate::standing::{settle_all, settle_standing};
+use crate::tables::Tables;
 use crate::writes::{Writes, writes_to};
 use pci_base::memory::{OutOfMemory, Refused};
 use pci_base::range::RootRange;
@@ -117,13 +119,13 @@ fn places<A: Allocator + Copy, B: Allocator>(
 /// grow come to.
 ///
 /// Errors: 2 `OutOfMemory` where a growth was refused.
-pub fn settled_at<A: Allocator + Copy, B: Allocator>(
+pub fn settled_at<'a, A: Allocator + Copy, B: Allocator>(
     alloc: A,
     admitted: &Admitted<B>,
     lists: &Lists,
-    left: &Left,
-    table: &[Places],
-    staying: &[Kept],
+    left: &Left<'a>,
+    table: &'a [Places],
+    staying: &'a [Kept],
 ) -> Result<Settled<A>, OutOfMemory>
     // a function's places stand where its record does
     requires places { length table.now ≡ length (system_in admitted.now) }
@@ -137,11 +139,21 @@ pub fn settled_at<A: Allocator + Copy, B: Allocator>(
         → AreOpenOver q (system_in admitted.now) left.now.over.now
         → HasAllPlaces q (system_in admitted.now) keep table.now
         → TellsKeeping q (system_in admitted.now) keep left.now.grown.now staying.now
+        → WishesNothing keep
         → IsSettledBy q keep admitted.now x.dump (map write_value x.writes.all.items)
         x.writes.closings) }
 {
-    let dump = settled_dump(alloc, admitted, lists, table, staying, left.grown)?;
-    let writes = writes_to(alloc, admitted, lists, left.over, dump.blocks(), staying)?;
+    let tables = Tables {
+        places: table,
+        staying,
+        grown: left.grown,
+    };
+    let dump = settled_dump(alloc, admitted, lists, &tables, &[])?;
+    let images = Images {
+        plain: dump.blocks(),
+        settled: dump.blocks(),
+    };
+    let writes = writes_to(alloc, admitted, lists, left.over, &images, staying)?;
     let denied = Vec::new(alloc);
     Ok(Settled {
         dump,

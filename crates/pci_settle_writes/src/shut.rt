@@ -1,11 +1,9 @@
 //! In which spaces functions are shut while registers are set, and what Command holds once all is closed.
-ghost use Rattle.std.specs.Prelude.{◌≡◌, ◌==◌, ◌||◌, IfOk, length, map};
+ghost use Rattle.std.specs.Prelude.{◌≡◌, ◌==◌, ◌||◌, IfOk, length};
 ghost use Rattle.std.specs.List.{All, list_any};
-ghost use Rattle.settle_laws.specs.KeptLaws.{WishesNothing};
 ghost use Rattle.pci_spec.specs.System.{Io, Memory};
 ghost use Rattle.settle_spec.specs.Lists.{Request};
-ghost use Rattle.settle_spec.specs.Kept.{Kept as Keeping};
-ghost use Rattle.settle_spec.specs.Keeping.Writes as writes;
+ghost use Rattle.settle_spec.specs.Kept.{Kept as Keeping, unwished};
 ghost use Rattle.pci_base.specs.Space.{space_of};
 ghost use Rattle.pci_place.specs.Above.{system_in};
 ghost use Rattle.pci_settle.specs.Slots.{demand_value};
@@ -14,16 +12,16 @@ ghost use Rattle.pci_settling.specs.Shown.{HasRegister};
 ghost use Rattle.pci_settle_writes.specs.Requests.{IsAskedOf};
 ghost use Rattle.pci_settle_writes.specs.Told.{IsTableOf};
 ghost use Rattle.pci_settle_writes.specs.Dumps.{IsSettledDump};
-ghost use Rattle.pci_settle_writes.specs.Shut.{is_same_above, is_bar_changed, is_moving_bar, has_moving_rom, has_moving_by, is_cut_off_by, is_shut_by, closing_by};
+ghost use Rattle.pci_settle_writes.specs.Shut.{is_same_above, is_bar_changed, is_moving_bar, has_moving_rom, has_moving_by, is_cut_off_by, is_shut_by, closing_by, AreClosings};
 
-use crate::closed::same_windows;
+use crate::closed::{Closing, changed_windows};
+use crate::dump::Images;
 use crate::way::{BySpace, Way};
 use pci_base::image::Image;
 use pci_base::memory::OutOfMemory;
 use pci_base::offset::BASE_ADDRESS;
 use pci_base::slot::BUSES;
 use pci_base::space::Space;
-use pci_dump::block::Block;
 use pci_function::record::Record;
 use pci_image::bar::{Bar, BarKind};
 use pci_place::above::aboves;
@@ -150,31 +148,32 @@ fn closing_command(around: &Around, record: &Record, shut: BySpace) -> u16
     record.command / 4 * 4 + enables
 }
 
-/// What Command of each function holds once all is closed, in slot order. `settled` is the dump as it is to be, `overs` has the
-/// open windows over each bus, and `staying` is what stays. What is shut and which windows change is known of each bridge above
-/// a function before the function itself, as a bridge has a lower slot than what is behind it.
-pub fn closing_commands<A: Allocator, B: Allocator>(
+/// What closing leaves of each function, in slot order. `overs` has the open windows over each bus, and `staying` is what stays.
+/// What is shut and which windows change is known of each bridge above a function before the function itself, as a bridge has a
+/// lower slot than what is behind it.
+pub fn all_closings<A: Allocator, B: Allocator>(
     alloc: A,
     admitted: &Admitted<B>,
     lists: &Lists,
     overs: &[OpenWindows],
-    settled: &[Block],
+    images: &Images,
     staying: &[Kept],
-) -> Result<Vec<u16, A>, OutOfMemory>
+) -> Result<Vec<Closing, A>, OutOfMemory>
     // old and new of a function have one index
-    requires settled { length settled.now ≡ length admitted.now.dump }
+    requires plain { length images.now.plain.now ≡ length admitted.now.dump }
+    requires settled { length images.now.settled.now ≡ length admitted.now.dump }
     // what stays of a function stands where its record does
     requires staying { length staying.now ≡ length (system_in admitted.now) }
-    // a function's Command stands where its record does
+    // a function's entry stands where its record does
     ensures count { IfOk result
-        (λ commands. length commands.items ≡ length (system_in admitted.now)) }
-    ensures commands { IfOk result (λ commands. (q : Request) (keep : Keeping)
+        (λ closings. length closings.items ≡ length (system_in admitted.now)) }
+    ensures closings { IfOk result (λ closings. (q : Request) (keep : Keeping)
         → IsAskedOf q admitted.now.roots (demand_value lists.now)
         → AreOpenOver q (system_in admitted.now) overs.now
-        → WishesNothing keep → IsTableOf (system_in admitted.now) keep.stays staying.now
-        → IsSettledDump q keep admitted.now settled.now
-        → commands.items
-        ≡ map (writes.closing_command q (system_in admitted.now) keep) (system_in admitted.now)) }
+        → IsTableOf (system_in admitted.now) keep.stays staying.now
+        → IsSettledDump q (unwished keep) admitted.now images.now.plain.now
+        → IsSettledDump q keep admitted.now images.now.settled.now
+        → AreClosings q (system_in admitted.now) keep closings.items) }
 {
     let aboves = aboves(admitted);
     let terms = Terms::of(lists);
@@ -182,7 +181,7 @@ pub fn closing_commands<A: Allocator, B: Allocator>(
     let records = outline.records();
     let start = admitted.dump().blocks();
     let mut ways = [Way::NONE; BUSES];
-    let mut commands = Vec::new(alloc);
+    let mut closings = Vec::new(alloc);
     for k in 0..records.len() {
         let record = &records[k];
         let bus = record.slot.bus();
@@ -199,13 +198,17 @@ pub fn closing_commands<A: Allocator, B: Allocator>(
             kept,
         };
         let old = &start[k];
-        let new = &settled[k];
+        let plain = &images.plain[k];
+        let new = &images.settled[k];
         let itself = shut_itself(&around, &old.image, &new.image, record);
-        commands.push(closing_command(&around, record, way.shut(itself)))?;
+        let changed = changed_windows(record, &old.image, &plain.image, &new.image);
+        closings.push(Closing {
+            command: closing_command(&around, record, way.shut(itself)),
+            windows: changed.without(&kept.windows),
+        })?;
         if let Some(bridge) = &record.bridge {
-            let same = same_windows(&old.image, &new.image);
-            ways[usize::from(bridge.secondary)] = way.and(record.command, itself, same);
+            ways[usize::from(bridge.secondary)] = way.and(record.command, itself, changed);
         }
     }
-    Ok(commands)
+    Ok(closings)
 }

@@ -6,7 +6,7 @@ ghost use Rattle.pci_base.specs.WindowKinds.{kind_value};
 ghost use Rattle.pci_settle_writes.specs.Shut.{in_space, in_class};
 
 use pci_base::space::Space;
-use pci_base::window_kind::WindowKind;
+use pci_base::window_kind::{ByKind, WindowKind};
 
 /// What holds in each space.
 #[derive(Clone, Copy, Debug, PartialEq, Eq)]
@@ -36,6 +36,26 @@ pub struct ByClass {
 }
 
 impl ByClass {
+    /// It holds of none.
+    pub const NONE: ByClass = ByClass {
+        io: false,
+        memory: false,
+        prefetchable: false,
+    };
+
+    /// The same but for these windows.
+    pub fn without(self, windows: &ByKind<bool>) -> ByClass
+        ensures io { result.io ≡ (not windows.now.io && self.io) }
+        ensures memory { result.memory ≡ (not windows.now.memory && self.memory) }
+        ensures prefetchable { result.prefetchable ≡ (not windows.now.prefetchable && self.prefetchable) }
+    {
+        ByClass {
+            io: !windows.io && self.io,
+            memory: !windows.memory && self.memory,
+            prefetchable: !windows.prefetchable && self.prefetchable,
+        }
+    }
+
     /// Whether it holds of a class.
     pub fn get(self, class: WindowKind) -> bool
         ensures { result ≡ in_class self (kind_value class) }
@@ -89,15 +109,15 @@ impl Way {
     }
 
     /// The same below one more bridge, with this Command, which is shut itself in these spaces, and whose windows of these
-    /// classes stay as they are.
-    pub fn and(self, command: u16, shut: BySpace, same: ByClass) -> Way
+    /// classes change.
+    pub fn and(self, command: u16, shut: BySpace, changed: ByClass) -> Way
         ensures io { result.on.io ≡ (self.on.io && is_on command Io) }
         ensures memory { result.on.memory ≡ (self.on.memory && is_on command Memory) }
         ensures clear_io { result.clear.io ≡ (self.clear.io && not shut.io) }
         ensures clear_memory { result.clear.memory ≡ (self.clear.memory && not shut.memory) }
-        ensures same_io { result.same.io ≡ (self.same.io && same.io) }
-        ensures same_memory { result.same.memory ≡ (self.same.memory && same.memory) }
-        ensures same_prefetchable { result.same.prefetchable ≡ (self.same.prefetchable && same.prefetchable) }
+        ensures same_io { result.same.io ≡ (self.same.io && not changed.io) }
+        ensures same_memory { result.same.memory ≡ (self.same.memory && not changed.memory) }
+        ensures same_prefetchable { result.same.prefetchable ≡ (self.same.prefetchable && not changed.prefetchable) }
     {
         Way {
             on: BySpace {
@@ -109,9 +129,9 @@ impl Way {
                 memory: self.clear.memory && !shut.memory,
             },
             same: ByClass {
-                io: self.same.io && same.io,
-                memory: self.same.memory && same.memory,
-                prefetchable: self.same.prefetchable && same.prefetchable,
+                io: self.same.io && !changed.io,
+                memory: self.same.memory && !changed.memory,
+                prefetchable: self.same.prefetchable && !changed.prefetchable,
             },
         }
     }

@@ -1,11 +1,10 @@
 //! The writes that lead to the settled dump: what is shut is closed, registers are set, and functions are opened.
 ghost use Rattle.std.specs.Prelude.{◌≡◌, ◌++◌, IfOk, OnOk, IsTrue, length, map};
 ghost use Rattle.std.specs.List.{list_all, flat_map};
-ghost use Rattle.settle_laws.specs.KeptLaws.{WishesNothing};
 ghost use Rattle.pci_spec.specs.System.{System};
 ghost use Rattle.plan_spec.specs.Planning.PlanWrites.{register_write};
 ghost use Rattle.settle_spec.specs.Lists.{Request};
-ghost use Rattle.settle_spec.specs.Kept.{Kept as Keeping};
+ghost use Rattle.settle_spec.specs.Kept.{Kept as Keeping, unwished};
 ghost use Rattle.settle_spec.specs.Keeping.Writes.{closings, setting_from, opening_from, settle_writes};
 ghost use Rattle.pci_place.specs.Above.{system_in};
 ghost use Rattle.pci_plan.specs.Writes.{write_value};
@@ -16,8 +15,9 @@ ghost use Rattle.pci_settle_writes.specs.Told.{IsTableOf};
 ghost use Rattle.pci_settle_writes.specs.Dumps.{IsSettledDump};
 ghost use Rattle.pci_settle_writes.specs.Stages.{pair_of, is_access_of, images_change, bridge_closing, bridge_settings, is_bridge_image, HasEachStage, AreStages, command_at, closing_at, setting_at};
 
-use crate::closed::closed_image;
-use crate::shut::closing_commands;
+use crate::closed::{Closing, closed_image};
+use crate::dump::Images;
+use crate::shut::all_closings;
 use pci_base::image::Image;
 use pci_base::memory::OutOfMemory;
 use pci_base::offset::{
@@ -25,7 +25,6 @@ use pci_base::offset::{
     PREFETCHABLE_BASE, PREFETCHABLE_BASE_UPPER, PREFETCHABLE_LIMIT_UPPER,
 };
 use pci_base::slot::Slot;
-use pci_base::window_kind::ByKind;
 use pci_dump::block::Block;
 use pci_image::layout::Layout;
 use pci_plan::write::Write;
@@ -172,11 +171,8 @@ struct Stages<'a> {
     start: &'a [Block],
     /// What registers read back.
     probe: &'a [Block],
-    /// What Command holds once all is closed.
-    commands: &'a [u16],
+    closings: &'a [Closing],
     settled: &'a [Block],
-    /// What stays.
-    staying: &'a [Kept],
 }
 
 /// Whether a function is a bridge.
@@ -191,18 +187,16 @@ fn add_closing<A: Allocator>(
     writes: &mut Vec<Write, A>,
     old: &Block,
     probe: &Image,
-    new: &Image,
-    kept: &ByKind<bool>,
-    command: u16,
+    closing: Closing,
 ) -> Result<(), OutOfMemory>
     ensures { OnOk result (map write_value writes.new.items ≡ map write_value writes.old.items
-        ++ closing_at old.now.slot old.now.image probe.now.0 new.now.0 kept.now command) }
+        ++ closing_at old.now.slot old.now.image probe.now.0 closing) }
 {
     if is_bridge(&old.image) {
-        let closed = closed_image(&old.image, probe, new, kept, command);
+        let closed = closed_image(&old.image, probe, closing);
         add_changes(writes, old.slot, &old.image, &closed, closing_spans())
     } else {
-        add_command(writes, old.slot, old.image.u16(COMMAND), command)
+        add_command(writes, old.slot, old.image.u16(COMMAND), closing.command)
     }
 }
 
@@ -219,10 +213,7 @@ fn add_closings<A: Allocator>(
         let k = stages.start.len() - 1 - done;
         let old = &stages.start[k];
         let probe = &stages.probe[k];
-        let new = &stages.settled[k];
-        let kept = &stages.staying[k].windows;
-        let command = stages.commands[k];
-        add_closing(writes, old, &probe.image, &new.image, kept, command)?;
+        add_closing(writes, old, &probe.image, stages.closings[k])?;
     }
     Ok(())
 }
@@ -234,14 +225,13 @@ fn add_setting<A: Allocator>(
     old: &Block,
     probe: &Image,
     new: &Block,
-    kept: &ByKind<bool>,
-    command: u16,
+    closing: Closing,
 ) -> Result<(), OutOfMemory>
     ensures { OnOk result (map write_value writes.new.items ≡ map write_value writes.old.items
-        ++ setting_at old.now.slot old.now.image probe.now.0 new.now.image kept.now command) }
+        ++ setting_at old.now.slot old.now.image probe.now.0 new.now.image closing) }
 {
     if is_bridge(&old.image) {
-        let closed = closed_image(&old.image, probe, &new.image, kept, command);
+        let closed = closed_image(&old.image, probe, closing);
         let spans = setting_spans(&closed, &new.image);
         add_changes(writes, old.slot, &closed, &new.image, spans)
     } else {
@@ -263,8 +253,7 @@ fn add_settings<A: Allocator>(
         let old = &stages.start[k];
         let probe = &stages.probe[k];
         let new = &stages.settled[k];
-        let kept = &stages.staying[k].windows;
-        add_setting(writes, old, &probe.image, new, kept, stages.commands[k])?;
+        add_setting(writes, old, &probe.image, new, stages.closings[k])?;
     }
     Ok(())
 }
@@ -283,7 +272,7 @@ fn add_openings<A: Allocator>(
         let old = &stages.start[k];
         let new = &stages.settled[k];
         let command = new.image.u16(COMMAND);
-        add_command(writes, old.slot, stages.commands[k], command)?;
+        add_command(writes, old.slot, stages.closings[k].command, command)?;
     }
     Ok(())
 }
@@ -305,9 +294,10 @@ fn writes_by<A: Allocator>(alloc: A, stages: &Stages) -> Result<Writes<A>, OutOf
 }
 
 /// The writes that lead to the settled dump. First Command is written of functions that are shut in a space or have an I/O BAR
-/// that is left, and windows that change and don't stay are closed, the highest slot first. Then the address registers are set
-/// that change, and then functions are opened, both the lowest slot first. None of them would change nothing. `overs` has the
-/// open windows over each bus, and is empty where all is placed anew; `staying` is what stays.
+/// that is left, and windows that change and don't stay are closed, the highest slot first. A window that was open and only gets
+/// room that is kept free isn't. Then the address registers are set that change, and then functions are opened, both the lowest
+/// slot first. None of them would change nothing. `overs` has the open windows over each bus, and is empty where all is placed
+/// anew; `staying` is what stays.
 ///
 /// Errors: 2 `OutOfMemory` where a growth was refused.
 pub fn writes_to<A: Allocator + Copy, B: Allocator>(
@@ -315,36 +305,38 @@ pub fn writes_to<A: Allocator + Copy, B: Allocator>(
     admitted: &Admitted<B>,
     lists: &Lists,
     overs: &[OpenWindows],
-    settled: &[Block],
+    images: &Images,
     staying: &[Kept],
 ) -> Result<Writes<A>, OutOfMemory>
     // old and new of a function have one index
-    requires settled { length settled.now ≡ length admitted.now.dump }
+    requires plain { length images.now.plain.now ≡ length admitted.now.dump }
+    requires settled { length images.now.settled.now ≡ length admitted.now.dump }
     // what stays of a function stands where its record does
     requires staying { length staying.now ≡ length (system_in admitted.now) }
     ensures writes { IfOk result (λ writes. (q : Request) (keep : Keeping)
         → IsAskedOf q admitted.now.roots (demand_value lists.now)
         → AreOpenOver q (system_in admitted.now) overs.now
-        → WishesNothing keep → IsTableOf (system_in admitted.now) keep.stays staying.now
-        → IsSettledDump q keep admitted.now settled.now
+        → IsTableOf (system_in admitted.now) keep.stays staying.now
+        → IsSettledDump q (unwished keep) admitted.now images.now.plain.now
+        → IsSettledDump q keep admitted.now images.now.settled.now
         → map write_value writes.all.items ≡ settle_writes q (system_in admitted.now) keep) }
     ensures closings { IfOk result (λ writes. (q : Request) (keep : Keeping)
         → IsAskedOf q admitted.now.roots (demand_value lists.now)
         → AreOpenOver q (system_in admitted.now) overs.now
-        → WishesNothing keep → IsTableOf (system_in admitted.now) keep.stays staying.now
-        → IsSettledDump q keep admitted.now settled.now
+        → IsTableOf (system_in admitted.now) keep.stays staying.now
+        → IsSettledDump q (unwished keep) admitted.now images.now.plain.now
+        → IsSettledDump q keep admitted.now images.now.settled.now
         → writes.closings
         ≡ length (closings q (system_in admitted.now) keep (system_in admitted.now))) }
 {
     // What the dump was admitted by: the contract speaks of the system that it makes.
     let _outline = admitted.outline();
-    let commands = closing_commands(alloc, admitted, lists, overs, settled, staying)?;
+    let closings = all_closings(alloc, admitted, lists, overs, images, staying)?;
     let stages = Stages {
         start: admitted.dump().blocks(),
         probe: admitted.probe().blocks(),
-        commands: commands.as_slice(),
-        settled,
-        staying,
+        closings: closings.as_slice(),
+        settled: images.settled,
     };
     writes_by(alloc, &stages)
 }

@@ -28,7 +28,7 @@ module _ (g : Over) (c : After-empty-dump g) where
   l = demand_value c.args.lists.now
 
   abbrev P : Function → Function → Type 0
-  P = IsSettledOf a.roots (system_in a) l c.args.table.now c.args.grown.now c.args.staying.now
+  P = IsSettledOf a.roots (system_in a) l c.args.tables.now.places.now c.args.tables.now.grown.now c.args.wished.now c.args.tables.now.staying.now
 
   admitted_is : IsAdmitted a
   admitted_is = c.outline-outline.ensures.admitted
@@ -72,17 +72,17 @@ bounds-records-k g c =
     let more = c.loop-k-test.true in
     omega (arith, s, n, more)
 
-pub bounds-table-k : goal.bounds-table-k
-bounds-table-k g c =
-    let start = (goal.at.bounds-table-k g c).After-empty-dump in
+pub bounds-tables-k : goal.bounds-tables-k
+bounds-tables-k g c =
+    let start = (goal.at.bounds-tables-k g c).After-empty-dump in
     let s = size g start in
     let n = c.requires.places in
     let more = c.loop-k-test.true in
     omega (arith, s, n, more)
 
-pub bounds-staying-k : goal.bounds-staying-k
-bounds-staying-k g c =
-    let start = (goal.at.bounds-staying-k g c).After-empty-dump in
+pub shown_windows-shown-requires : goal.shown_windows-shown-requires
+shown_windows-shown-requires g c =
+    let start = (goal.at.shown_windows-shown-requires g c).After-empty-dump in
     let s = size g start in
     let n = c.requires.staying in
     let more = c.loop-k-test.true in
@@ -110,12 +110,12 @@ loop-k-preserved g c =
     let new : Block = record { slot = c.push_next.inside.slot; title = c.push_next.inside.title; image = c.settled_function-image.result.0 } in
     let bus = c.from.ensures ∙ c.bus.ensures ∙ ap (λ (x : Slot). x.bus) (same_slot_of r f at.is.value) in
     subst (λ (found : List Block). ArePlanned (P g start) (a g start).dump (a g start).probe (k + 1) found) (sym c.in_ok-push_next.ensures)
-    (next_settled (a g start) (admitted_is g start) (l g start) c.args.table.now c.args.grown.now c.args.staying.now k c.loop-k.dump c.loop-k.invariant old new r at less b slot title
+    (next_settled (a g start) (admitted_is g start) (l g start) c.args.tables.now.places.now c.args.tables.now.grown.now c.args.wished.now c.args.tables.now.staying.now k c.loop-k.dump c.loop-k.invariant old new r at less b slot title
     (λ q keep by.
     let of = request_by q (a g start).roots (l g start) c.of-terms.result by.asked c.of-terms.ensures in
     c.settled_function-image.ensures q s keep f (ap (λ (x : Block). x.image) c.block.view_is)
-    (placed_here (a g start).roots s (admitted_is g start).system (admitted_is g start).nested q keep c.of-terms.result c.args.table.now of by.places c.args.grown.now c.args.staying.now by.tells k f r at.at at.is _ _ refl nothing_kept (get_or c.args.staying.now k nothing_kept) refl _ c.ranges_told.ensures)
-    (told_here (a g start).roots s (admitted_is g start).system (admitted_is g start).nested q keep c.of-terms.result c.args.table.now of by.places
+    (placed_here (a g start).roots s (admitted_is g start).system (admitted_is g start).nested q keep c.of-terms.result c.args.tables.now.places.now of by.places c.args.tables.now.grown.now c.args.wished.now c.args.tables.now.staying.now by.tells by.wishes k f r at.at at.is _ _ refl nothing_kept c.shown_windows-shown.result.staying.kept.now c.shown_windows-shown.ensures.kept _ _ c.shown_windows-shown.ensures.grown c.shown_windows-shown.ensures.wished)
+    (told_here (a g start).roots s (admitted_is g start).system (admitted_is g start).nested q keep c.of-terms.result c.args.tables.now.places.now of by.places
     c.live_buses-io.result c.live_buses-memory.result c.live_buses-io.ensures c.live_buses-memory.ensures c.aboves-aboves.result c.aboves-aboves.ensures
     f r at.is c.from.result bus _ record { io = c.is_live_behind.result; memory = c.is_live_behind-in-loop-k.result } c.is_live_behind.ensures c.is_live_behind-in-loop-k.ensures)))
 
@@ -150,7 +150,7 @@ returns-clause-settled g c =
     let e = ap length (blocks_are g start) in
     let done = c.loop-k-test.false in
     let all = all_planned (P g start) (a g start).dump (a g start).probe (admitted_is g start).slots c.loop-k.k c.loop-k.dump c.loop-k.invariant (omega (arith, e, done)) in
-    λ q keep asked places tells. record {
+    λ q keep asked places tells wishes. record {
       slots = all.0;
-      system = all_settled (a g start).roots (system_in (a g start)) (l g start) c.args.table.now c.args.grown.now c.args.staying.now q keep (record { asked = asked; places = places; tells = tells }) (system_in (a g start)) _ all.2;
+      system = all_settled (a g start).roots (system_in (a g start)) (l g start) c.args.tables.now.places.now c.args.tables.now.grown.now c.args.wished.now c.args.tables.now.staying.now q keep (record { asked = asked; places = places; tells = tells; wishes = wishes }) (system_in (a g start)) _ all.2;
     }

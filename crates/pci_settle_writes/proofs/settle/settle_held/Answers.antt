@@ -25,8 +25,8 @@ returns-in-Some-clause-refusal g c = λ q keep flags told.
     let placed = c.in_ok-table.ensures.places q keep told.leaving in
     let places = subst (HasAllPlaces q s keep) (sym c.as_slice.ensures.value) record { count = placed.count; each = placed.each } in
     let keeps = told.leaving.keeps_is in
-    let tells : TellsKeeping q s keep c.args.left.now.grown.now c.args.staying.now = record { standing = keeps.standing; stays_are = told.stay; none = told.none; ranges_are = keeps.ranges_are } in
-    let by = c.in_ok-settled.ensures.settled q keep told.asked told.leaving.overs_are places tells in
+    let tells : TellsKeeping q s keep c.args.left.now.grown.now c.args.staying.now = record { standing = keeps.standing; stays_are = told.stay; ranges_are = keeps.ranges_are } in
+    let by = c.in_ok-settled.ensures.settled q keep told.asked told.leaving.overs_are places tells told.none in
     written c.args.admitted.now q keep told.kept placed.lack (map write_value c.in_ok-settled.settled.writes.all.items) by.writes_are c.in-Some.fault
     (c.in-Some.ensures q flags ∙ ap (λ ws. option_map fixed_register (fixed_write q (map write_value ws))) c.as_slice-2.ensures.value)
 
@@ -36,8 +36,8 @@ returns-clause-ends g c = λ q keep flags told.
     let placed = c.in_ok-table.ensures.places q keep told.leaving in
     let places = subst (HasAllPlaces q s keep) (sym c.as_slice.ensures.value) record { count = placed.count; each = placed.each } in
     let keeps = told.leaving.keeps_is in
-    let tells : TellsKeeping q s keep c.args.left.now.grown.now c.args.staying.now = record { standing = keeps.standing; stays_are = told.stay; none = told.none; ranges_are = keeps.ranges_are } in
-    let by = c.in_ok-settled.ensures.settled q keep told.asked told.leaving.overs_are places tells in
+    let tells : TellsKeeping q s keep c.args.left.now.grown.now c.args.staying.now = record { standing = keeps.standing; stays_are = told.stay; ranges_are = keeps.ranges_are } in
+    let by = c.in_ok-settled.ensures.settled q keep told.asked told.leaving.overs_are places tells told.none in
     record {
       by = by;
       room = placed.lack;

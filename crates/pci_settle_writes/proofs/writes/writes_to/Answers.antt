@@ -1,9 +1,8 @@
 use Rattle.std.proofs.Common.{◌≡◌, ◌∙◌, List, length, map, sym, ap, subst}
 use Rattle.std.proofs.lemmas.Result.{IfOk-weaker}
-use Rattle.settle_laws.specs.KeptLaws.{WishesNothing}
 use Rattle.pci_spec.specs.Text.{Block}
 use Rattle.settle_spec.specs.Lists.{Request}
-use Rattle.settle_spec.specs.Kept.{Kept}
+use Rattle.settle_spec.specs.Kept.{Kept, unwished}
 use Rattle.pci_tree.specs.Admission.{Admission, IsAdmitted}
 use Rattle.pci_place.specs.Above.{system_in}
 use Rattle.pci_settle.specs.Slots.{Demand, demand_value}
@@ -39,17 +38,16 @@ module _ (g : Over) (c : After-as_slice g) where
   start = subst (λ (bs : List Block). AreOf (system_in a) bs) (sym blocks_are) (start_of a admitted_is)
 
   abbrev stages : Stages
-  stages = record { start = c.blocks-2.result; probe = c.blocks-3.result; commands = c.as_slice.result; settled = c.args.settled; staying = c.args.staying }
+  stages = record { start = c.blocks-2.result; probe = c.blocks-3.result; closings = c.as_slice.result; settled = c.args.images.now.settled }
 
-  are : (q : Request) (keep : Kept) → IsAskedOf q a.roots l → AreOpenOver q (system_in a) c.args.overs.now → WishesNothing keep → IsTableOf (system_in a) keep.stays c.args.staying.now → IsSettledDump q keep a c.args.settled.now → AreStages q (system_in a) keep stages
-  are q keep asked told wishless stay to = record {
+  are : (q : Request) (keep : Kept) → IsAskedOf q a.roots l → AreOpenOver q (system_in a) c.args.overs.now → IsTableOf (system_in a) keep.stays c.args.staying.now
+      → IsSettledDump q (unwished keep) a c.args.images.now.plain.now → IsSettledDump q keep a c.args.images.now.settled.now → AreStages q (system_in a) keep stages
+  are q keep asked told stay plainly to = record {
     system = admitted_is.system;
     start = start;
     probe = ap (map (λ (b : Block). b.image)) probes_are ∙ probes_of a admitted_is;
-    commands = c.as_slice.ensures.value ∙ c.in_ok-commands.ensures.commands q keep asked told wishless stay to;
-    settled = settled_of a admitted_is q keep c.args.settled.now to;
-    staying = stay;
-    none = wishless;
+    closings = c.as_slice.ensures.value ∙ c.in_ok-closings.ensures.closings q keep asked told stay plainly to;
+    settled = settled_of a admitted_is q keep c.args.images.now.settled.now to;
   }
 
 pub writes_by-requires : goal.writes_by-requires
@@ -57,17 +55,16 @@ writes_by-requires g c =
     let first = (goal.at.writes_by-requires g c).After-as_slice in
     record {
       probe = ap length (probes_are g first) ∙ probe_count (a g first) (admitted_is g first) ∙ sym (ap length (blocks_are g first));
-      commands = ap length c.as_slice.ensures.value ∙ c.in_ok-commands.ensures.count ∙ count_of (system_in (a g first)) c.blocks-2.result.now (start g first);
+      closings = ap length c.as_slice.ensures.value ∙ c.in_ok-closings.ensures.count ∙ count_of (system_in (a g first)) c.blocks-2.result.now (start g first);
       settled = c.requires.settled ∙ sym (ap length (blocks_are g first));
-      staying = c.requires.staying ∙ count_of (system_in (a g first)) c.blocks-2.result.now (start g first);
     }
 
 pub returns-clause-writes : goal.returns-clause-writes
 returns-clause-writes g c =
     let first = (goal.at.returns-clause-writes g c).After-as_slice in
-    IfOk-weaker c.writes_by.result _ _ (λ w is q keep asked told wishless stay to. is q (system_in (a g first)) keep (are g first q keep asked told wishless stay to)) c.writes_by.ensures.writes
+    IfOk-weaker c.writes_by.result _ _ (λ w is q keep asked told stay plainly to. is q (system_in (a g first)) keep (are g first q keep asked told stay plainly to)) c.writes_by.ensures.writes
 
 pub returns-clause-closings : goal.returns-clause-closings
 returns-clause-closings g c =
     let first = (goal.at.returns-clause-closings g c).After-as_slice in
-    IfOk-weaker c.writes_by.result _ _ (λ w is q keep asked told wishless stay to. is q (system_in (a g first)) keep (are g first q keep asked told wishless stay to)) c.writes_by.ensures.closings
+    IfOk-weaker c.writes_by.result _ _ (λ w is q keep asked told stay plainly to. is q (system_in (a g first)) keep (are g first q keep asked told stay plainly to)) c.writes_by.ensures.closings

@@ -2,10 +2,11 @@ use Rattle.std.proofs.Common.{◌≡◌, ◌∙◌, ◌+◌, ◌<◌, ◌++◌, 
 use Rattle.std.proofs.lemmas.List.{length-append}
 use Rattle.pci_spec.specs.Slot.{Slot}
 use Rattle.pci_spec.specs.Text.{Block}
+use Rattle.pci_spec.specs.Window.{WindowKind}
 use Rattle.pci_spec.specs.System.{Space}
 use Rattle.pci_spec.proofs.Pairing.{same_length, length-system_of}
 use Rattle.settle_spec.specs.Lists.{Request}
-use Rattle.settle_spec.specs.Kept.{Kept as Keeping}
+use Rattle.settle_spec.specs.Kept.{Kept as Keeping, unwished}
 use Rattle.settle_spec.specs.Keeping.Registers.{settled_function}
 use Rattle.pci_base.specs.Space.{is_on}
 use Rattle.pci_function.specs.declared.record.Record.{Record}
@@ -20,18 +21,20 @@ use Rattle.pci_settle.specs.Slots.{Demand, demand_of, demand_value}
 use Rattle.pci_settle.specs.Over.{AreClassWindows, no_windows}
 use Rattle.pci_settle.specs.Own.{AreTerms}
 use Rattle.pci_settling.proofs.Registers.{have_registers}
+use Rattle.pci_settling.specs.Images.{is_window_kept}
+use Rattle.pci_settle_writes.specs.declared.closed.Closing.{Closing}
 use Rattle.pci_settle_writes.specs.declared.shut.Around.{Around}
 use Rattle.pci_settle_writes.specs.declared.way.Way.{Way}
 use Rattle.pci_settle_writes.specs.Requests.{IsAskedOf}
 use Rattle.pci_settle_writes.specs.Dumps.{IsSettledDump}
-use Rattle.pci_settle_writes.specs.Shut.{IsWay, IsAround, in_space, in_class, is_window_changed, is_shut_by, closing_by}
+use Rattle.pci_settle_writes.specs.Shut.{IsWay, IsAround, in_space, in_class, is_shut_by, closing_by}
 use Rattle.pci_settle_writes.specs.Stages.{AreOf, AreSettledBlocks}
 use Rattle.pci_settle_writes.proofs.States.{start_of, settled_of}
 use Rattle.pci_settle_writes.proofs.Ways.{by_spaces, by_classes}
 use Rattle.pci_settle_writes.proofs.Closings.{AreClosedTo, none_closed, all_closed, start_image, settled_image, way_at, closed_same, closed_more}
-use Rattle.pci_settle_writes.proofs.shut.closing_commands.Goals as goal
-use Rattle.pci_settle_writes.proofs.shut.closing_commands.Goals.{After-blocks-start, in-Some, in_default}
-use Rattle.pci_settle_writes.proofs.shut.closing_commands.Given.{Over as Outer}
+use Rattle.pci_settle_writes.proofs.shut.all_closings.Goals as goal
+use Rattle.pci_settle_writes.proofs.shut.all_closings.Goals.{After-blocks-start, in-Some, in_default}
+use Rattle.pci_settle_writes.proofs.shut.all_closings.Given.{Over as Outer}
 
 -- what stands there where a table has no bus
 abbrev no_above : Above
@@ -67,8 +70,8 @@ module _ (g : Outer) (c : After-blocks-start g) where
   start : AreOf (system_in a) c.blocks-start.result.now
   start = subst (λ (bs : List Block). AreOf (system_in a) bs) (sym blocks_are) (start_of a admitted_is)
 
-  settled : (q : Request) (keep : Keeping) → IsSettledDump q keep a c.args.settled.now → AreSettledBlocks q (system_in a) keep c.args.settled.now
-  settled q keep to = settled_of a admitted_is q keep c.args.settled.now to
+  settled : (q : Request) (keep : Keeping) (blocks : List Block) → IsSettledDump q keep a blocks → AreSettledBlocks q (system_in a) keep blocks
+  settled q keep blocks to = settled_of a admitted_is q keep blocks to
 
   terms : (q : Request) → IsAskedOf q a.roots l → AreTerms (demand_of q) c.of-terms.result
   terms q asked = subst (λ lists. AreTerms lists c.of-terms.result) (sym asked.demands_are) c.of-terms.ensures
@@ -81,10 +84,10 @@ pub loop-k-init : goal.loop-k-init
 loop-k-init g c =
     let start = (goal.at.loop-k-init g c).After-blocks-start in
     record {
-      count = ap length c.new-commands.ensures.items;
-      closed = λ q keep asked told wishless stay to.
+      count = ap length c.new-closings.ensures.items;
+      closed = λ q keep asked told stay plainly to.
           let none = none_closed q (a g start).roots (system_in (a g start)) keep (admitted_is g start).system (admitted_is g start).nested in
-          record { marks = none.marks; values = c.new-commands.ensures.items };
+          record { marks = none.marks; values = c.new-closings.ensures.items };
     }
 
 pub bounds-start-k : goal.bounds-start-k
@@ -96,9 +99,18 @@ bounds-start-k g c =
     let more = c.loop-k-test.true in
     omega (arith, s, n, e, more)
 
-pub bounds-settled-k : goal.bounds-settled-k
-bounds-settled-k g c =
-    let start = (goal.at.bounds-settled-k g c).After-blocks-start in
+pub bounds-images-k : goal.bounds-images-k
+bounds-images-k g c =
+    let start = (goal.at.bounds-images-k g c).After-blocks-start in
+    let s = size g start in
+    let n = count g start in
+    let e = c.requires.plain in
+    let more = c.loop-k-test.true in
+    omega (arith, s, n, e, more)
+
+pub bounds-images-k-in-loop-k : goal.bounds-images-k-in-loop-k
+bounds-images-k-in-loop-k g c =
+    let start = (goal.at.bounds-images-k-in-loop-k g c).After-blocks-start in
     let s = size g start in
     let n = count g start in
     let e = c.requires.settled in
@@ -134,46 +146,55 @@ loop-k-preserved g c =
     let above : Above = get_or c.aboves-aboves.result c.from-in-loop-k.result no_above in
     let over : Over = record { above = above; windows = c.open_over.result } in
     let around : Around = record { over = over; terms = c.of-terms.result; way = way; kept = record { ref_ptr = c.args.staying.ref_ptr; now = get_or c.args.staying.now k nothing_kept } } in
-    let commands : c.push.new.self.items ≡ c.loop-k.commands.items ++ closing_by around r c.shut.result ∷ [] =
-    c.in_ok-push.ensures.items ∙ ap (λ x. c.loop-k.commands.items ++ x ∷ []) c.closing_command.ensures in
+    let left : Closing = record { command = closing_by around r c.shut.result; windows = c.without.result } in
+    let closings : c.push.new.self.items ≡ c.loop-k.closings.items ++ left ∷ [] =
+    c.in_ok-push.ensures.items ∙ ap (λ n. c.loop-k.closings.items ++ (record { command = n; windows = c.without.result }) ∷ []) c.closing_command.ensures in
     record {
-      count = ap length commands ∙ length-append c.loop-k.commands.items _ ∙ ap (λ n. n + 1) c.loop-k.invariant.count;
-      closed = λ q keep asked told wishless stay to.
-          let was = c.loop-k.invariant.closed q keep asked told wishless stay to in
+      count = ap length closings ∙ length-append c.loop-k.closings.items _ ∙ ap (λ n. n + 1) c.loop-k.invariant.count;
+      closed = λ q keep asked told stay plainly to.
+          let was = c.loop-k.invariant.closed q keep asked told stay plainly to in
           let is_around : IsAround q s keep f around = record {
             over = record {
               above = subst (λ n. IsAbove s f.slot.bus (get_or c.aboves-aboves.result n no_above)) (sym (c.from-in-loop-k.ensures ∙ bus)) (c.aboves-aboves.ensures f no_above here.is.listed);
               windows_are = subst (AreClassWindows q s f.slot.bus) (sym (c.open_over.ensures ∙ ap (λ n. get_or c.args.overs.now n no_windows) bus)) (told f here.is.listed);
             };
             terms = terms g first q asked;
-            way = subst (λ n. IsWay q s keep f.slot.bus (get_or c.loop-k.ways n no_way)) (sym (c.from.ensures ∙ bus)) (way_at q roots s keep admitted.system admitted.nested k f r here.at here.is c.loop-k.ways c.loop-k.commands.items was no_way);
+            way = subst (λ n. IsWay q s keep f.slot.bus (get_or c.loop-k.ways n no_way)) (sym (c.from.ensures ∙ bus)) (way_at q roots s keep admitted.system admitted.nested k f r here.at here.is c.loop-k.ways c.loop-k.closings.items was no_way);
             kept = λ part there. stay.each k f nothing_kept part here.at there;
           } in
           let old : List ℕ = c.old.inside.image.0 in
+          let plain : List ℕ = c.plain.inside.image.0 in
           let new : List ℕ = c.new.inside.image.0 in
           let old_is : old ≡ f.image = ap (λ (x : Block). x.image) c.old.view_is
-          ∙ start_image q roots s keep admitted.system admitted.nested k f r here.at here.is c.blocks-start.result.now c.args.settled.now c.index-start-k.result c.index-settled-k.result c.index-start-k.is c.index-settled-k.is (start g first) in
-          let new_is : new ≡ (settled_function q s keep f).image = ap (λ (x : Block). x.image) c.new.view_is
-          ∙ settled_image q roots s keep admitted.system admitted.nested k f r here.at here.is c.blocks-start.result.now c.args.settled.now c.index-start-k.result c.index-settled-k.result c.index-start-k.is c.index-settled-k.is (settled g first q keep to) in
+          ∙ start_image q roots s keep admitted.system admitted.nested k f r here.at here.is c.blocks-start.result.now c.index-start-k.result c.index-start-k.is (start g first) in
+          let plain_is : plain ≡ (settled_function q s (unwished keep) f).image = ap (λ (x : Block). x.image) (c.plain.view_is ∙ sym c.index-images-k.is)
+          ∙ settled_image q roots s keep admitted.system admitted.nested k f r here.at here.is (unwished keep) c.args.images.now.plain.now c.index-images-k.result c.index-images-k.is
+          (settled g first q (unwished keep) c.args.images.now.plain.now plainly) in
+          let new_is : new ≡ (settled_function q s keep f).image = ap (λ (x : Block). x.image) (c.new.view_is ∙ sym c.index-images-k-in-loop-k.is)
+          ∙ settled_image q roots s keep admitted.system admitted.nested k f r here.at here.is keep c.args.images.now.settled.now c.index-images-k-in-loop-k.result c.index-images-k-in-loop-k.is
+          (settled g first q keep c.args.images.now.settled.now to) in
           let itself_by : (x : Space) → in_space c.shut_itself-itself.result x ≡ is_shut_by around x old new r =
           by_spaces (λ x. in_space c.shut_itself-itself.result x ≡ is_shut_by around x old new r) c.shut_itself-itself.ensures.io c.shut_itself-itself.ensures.memory in
           let shut_by : (x : Space) → in_space c.shut.result x ≡ (in_space c.shut_itself-itself.result x || not (in_space way.clear x)) =
           by_spaces (λ x. in_space c.shut.result x ≡ (in_space c.shut_itself-itself.result x || not (in_space way.clear x))) c.shut.ensures.io c.shut.ensures.memory in
+          let kept = get_or c.args.staying.now k nothing_kept in
+          let windows_by : (x : WindowKind) → in_class c.without.result x ≡ (not (is_window_kept kept.windows x) && in_class c.changed_windows-changed.result x) =
+          by_classes (λ x. in_class c.without.result x ≡ (not (is_window_kept kept.windows x) && in_class c.changed_windows-changed.result x)) c.without.ensures.io c.without.ensures.memory c.without.ensures.prefetchable in
           let After : List Way → Type 0 = λ ways. AreClosedTo q roots s keep (k + 1) ways c.push.new.self.items in
           elim c.match-record.branch [
             | in-Some w ↦
                 subst After (sym w.ways-is)
-                (closed_more q roots s keep admitted.system admitted.nested k f r here.at here.is around is_around old new old_is new_is c.shut_itself-itself.result c.shut.result itself_by shut_by
-                c.loop-k.ways c.loop-k.commands.items c.push.new.self.items was commands wishless w.in-Some.bridge w.in-Some.is w.from-in-Some.result w.from-in-Some.ensures w.same_windows-same.result
-                (by_classes (λ x. in_class w.same_windows-same.result x ≡ not (is_window_changed x old new)) w.same_windows-same.ensures.io w.same_windows-same.ensures.memory w.same_windows-same.ensures.prefetchable)
-                w.and.result
+                (closed_more q roots s keep admitted.system admitted.nested k f r here.at here.is around is_around old plain new old_is plain_is new_is c.shut_itself-itself.result c.shut.result itself_by shut_by
+                c.changed_windows-changed.result c.without.result c.changed_windows-changed.ensures windows_by
+                c.loop-k.ways c.loop-k.closings.items c.push.new.self.items was closings w.in-Some.bridge w.in-Some.is w.from-in-Some.result w.from-in-Some.ensures w.and.result
                 (by_spaces (λ x. in_space w.and.result.on x ≡ (in_space way.on x && is_on r.command x)) w.and.ensures.io w.and.ensures.memory)
                 (by_spaces (λ x. in_space w.and.result.clear x ≡ (in_space way.clear x && not (in_space c.shut_itself-itself.result x))) w.and.ensures.clear_io w.and.ensures.clear_memory)
-                (by_classes (λ x. in_class w.and.result.same x ≡ (in_class way.same x && in_class w.same_windows-same.result x)) w.and.ensures.same_io w.and.ensures.same_memory w.and.ensures.same_prefetchable))
+                (by_classes (λ x. in_class w.and.result.same x ≡ (in_class way.same x && not (in_class c.changed_windows-changed.result x))) w.and.ensures.same_io w.and.ensures.same_memory w.and.ensures.same_prefetchable))
             | in_default w ↦
                 subst After (sym w.ways-is)
-                (closed_same q roots s keep admitted.system admitted.nested k f r here.at here.is around is_around old new old_is new_is c.shut_itself-itself.result c.shut.result itself_by shut_by
-                c.loop-k.ways c.loop-k.commands.items c.push.new.self.items was commands w.in_default.is)
+                (closed_same q roots s keep admitted.system admitted.nested k f r here.at here.is around is_around old plain new old_is plain_is new_is c.shut_itself-itself.result c.shut.result itself_by shut_by
+                c.changed_windows-changed.result c.without.result c.changed_windows-changed.ensures windows_by
+                c.loop-k.ways c.loop-k.closings.items c.push.new.self.items was closings w.in_default.is)
           ];
     }
 
@@ -186,10 +207,10 @@ returns-clause-count g c =
     let so_far = c.loop-k.invariant.count in
     omega (arith, n, done, most, so_far)
 
-pub returns-clause-commands : goal.returns-clause-commands
-returns-clause-commands g c =
-    let first = (goal.at.returns-clause-commands g c).After-blocks-start in
+pub returns-clause-closings : goal.returns-clause-closings
+returns-clause-closings g c =
+    let first = (goal.at.returns-clause-closings g c).After-blocks-start in
     let n = count g first in
     let done = c.loop-k-test.false in
-    λ q keep asked told wishless stay to. all_closed q (a g first).roots (system_in (a g first)) keep (admitted_is g first).system (admitted_is g first).nested c.loop-k.k c.loop-k.ways c.loop-k.commands.items
-    (c.loop-k.invariant.closed q keep asked told wishless stay to) (omega (arith, n, done))
+    λ q keep asked told stay plainly to. all_closed q (a g first).roots (system_in (a g first)) keep (admitted_is g first).system (admitted_is g first).nested c.loop-k.k c.loop-k.ways c.loop-k.closings.items
+    (c.loop-k.invariant.closed q keep asked told stay plainly to) (omega (arith, n, done))
