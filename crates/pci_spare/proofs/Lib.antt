@@ -16,6 +16,7 @@ pub mod Rooms
 pub mod Sparings
 pub mod Granted
 pub mod Located
+pub mod OwnParts
 pub mod Filled
 pub mod ToldSpares
 pub mod FreeBySearch

@@ -36,7 +36,7 @@ use Rattle.pci_spare.proofs.Told.{same_row, other_row}
 -- ---- sums
 
 module _ {X : Type 0} (f g : X → ℕ) where
-  same_sums : (xs : List X) → ((x : X) → Contains xs x → f x ≡ g x) → sum_by f xs ≡ sum_by g xs
+  pub same_sums : (xs : List X) → ((x : X) → Contains xs x → f x ≡ g x) → sum_by f xs ≡ sum_by g xs
   same_sums [] same = refl
   same_sums (x ∷ xs) same =
       let a = sum_by-cons f x xs in
@@ -57,7 +57,7 @@ module _ {X : Type 0} (f g h : X → ℕ) where
       omega (arith, a, b, d, here, rest)
 
 module _ {X Y : Type 0} (f : Y → ℕ) (h : X → Y) where
-  sum_map : (xs : List X) → sum_by f (map h xs) ≡ sum_by (λ x. f (h x)) xs
+  pub sum_map : (xs : List X) → sum_by f (map h xs) ≡ sum_by (λ x. f (h x)) xs
   sum_map [] = refl
   sum_map (x ∷ xs) =
       let a = sum_by-cons f (h x) (map h xs) in
@@ -66,7 +66,7 @@ module _ {X Y : Type 0} (f : Y → ℕ) (h : X → Y) where
       omega (arith, a, b, rest)
 
 module _ {X Y : Type 0} (f : Y → ℕ) (h : X → List Y) where
-  sum_flat : (xs : List X) → sum_by f (flat_map h xs) ≡ sum_by (λ x. sum_by f (h x)) xs
+  pub sum_flat : (xs : List X) → sum_by f (flat_map h xs) ≡ sum_by (λ x. sum_by f (h x)) xs
   sum_flat [] = refl
   sum_flat (x ∷ xs) =
       let a = sum_by-append f (h x) (flat_map h xs) in
@@ -75,7 +75,7 @@ module _ {X Y : Type 0} (f : Y → ℕ) (h : X → List Y) where
       omega (arith, a, b, rest)
 
 module _ {X : Type 0} (f : X → ℕ) (test : X → Bool) where
-  sum_filter : (xs : List X) → sum_by f (filter test xs) ≡ sum_by (λ x. cond (test x) (f x) 0) xs
+  pub sum_filter : (xs : List X) → sum_by f (filter test xs) ≡ sum_by (λ x. cond (test x) (f x) 0) xs
   sum_filter [] = refl
   sum_filter (x ∷ xs) =
       let b = sum_by-cons (λ x. cond (test x) (f x) 0) x xs in
@@ -101,7 +101,7 @@ sum_none f (x ∷ xs) none =
     omega (arith, a, here, rest)
 
 -- of a list by its indices
-sum_indices : (f : Function → ℕ) (xs : List Function) (low : ℕ) (at : ℕ → Function) → ((i : ℕ) → i < length xs → at (low + i) ≡ get_or xs i no_function) → sum_by (λ k. f (at k)) (range_with_len low (length xs)) ≡ sum_by f xs
+pub sum_indices : (f : Function → ℕ) (xs : List Function) (low : ℕ) (at : ℕ → Function) → ((i : ℕ) → i < length xs → at (low + i) ≡ get_or xs i no_function) → sum_by (λ k. f (at k)) (range_with_len low (length xs)) ≡ sum_by f xs
 sum_indices f [] low at same = refl
 sum_indices f (x ∷ xs) low at same =
     let a = sum_by-cons (λ k. f (at k)) low (range_with_len (low + 1) (length xs)) in
@@ -120,7 +120,7 @@ and_true : (b : Bool) → (b && true) ≡ b
 and_true true = refl
 and_true false = refl
 
-if_zero : (b : Bool) (m : ℕ) → m ≡ 0 → cond b m 0 ≡ 0
+pub if_zero : (b : Bool) (m : ℕ) → m ≡ 0 → cond b m 0 ≡ 0
 if_zero true m is = is
 if_zero false m is = refl
 

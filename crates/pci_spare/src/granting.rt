@@ -1,5 +1,6 @@
 //! One wish after another, from the highest slot down: I/O first, then memory, then prefetchable memory.
 ghost use Rattle.std.specs.Prelude.{◌≡◌, ◌<◌, IfOk, OnOk, Option, length};
+ghost use Rattle.std.specs.List.{All};
 ghost use Rattle.pci_spec.specs.System.{System, Function};
 ghost use Rattle.pci_spec.specs.Window.{WindowKind as KindValue};
 ghost use Rattle.settle_spec.specs.FirstPlace.{Extent as ExtentValue};
@@ -53,7 +54,9 @@ fn grant_window<A: Allocator>(
     requires room { IsRoom (length board.now.records.now) (room_value room.old) }
     requires window { window.bridge < length board.now.records.now }
     requires spares { AreExtents wanted.now.spares.now }
+    requires within { All (λ w. w.bridge < length board.now.records.now) denied.old.items }
     ensures room { IsRoom (length board.now.records.now) (room_value room.new) }
+    ensures within { All (λ w. w.bridge < length board.now.records.now) denied.new.items }
     ensures granted { OnOk result ((q : Request) → (s : System)
         → (spare : KindValue → Function → Option ExtentValue) → (g : Granted)
         → AreSpares s wanted.now.slots.now wanted.now.spares.now spare
@@ -94,7 +97,9 @@ fn grant_bridge<A: Allocator>(
     requires room { IsRoom (length board.now.records.now) (room_value room.old) }
     requires bridge { bridge < length board.now.records.now }
     requires spares { AreExtents wanted.now.spares.now }
+    requires within { All (λ w. w.bridge < length board.now.records.now) denied.old.items }
     ensures room { IsRoom (length board.now.records.now) (room_value room.new) }
+    ensures within { All (λ w. w.bridge < length board.now.records.now) denied.new.items }
     ensures granted { OnOk result ((q : Request) → (s : System)
         → (spare : KindValue → Function → Option ExtentValue) → (g : Granted)
         → AreSpares s wanted.now.slots.now wanted.now.spares.now spare
@@ -125,6 +130,8 @@ pub fn grant<A: Allocator + Copy>(
     // without an address an extent has no last one, and of 0 there is no multiple
     requires spares { AreExtents wanted.now.spares.now }
     ensures room { IsRoom (length board.now.records.now) (room_value room.new) }
+    // so each has a record
+    ensures within { IfOk result (λ denied. All (λ w. w.bridge < length board.now.records.now) denied.items) }
     ensures granted { IfOk result (λ denied. (q : Request) → (s : System)
         → (spare : KindValue → Function → Option ExtentValue) → (k : Kept)
         → AreSpares s wanted.now.slots.now wanted.now.spares.now spare

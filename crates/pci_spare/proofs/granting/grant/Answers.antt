@@ -1,6 +1,9 @@
-use Rattle.std.proofs.Common.{◌≡◌, ◌+◌, ◌-◌, ℕ, length, arith, sym, subst, refl, []}
+use Rattle.std.proofs.Common.{◌≡◌, ◌+◌, ◌-◌, ◌<◌, ℕ, length, arith, sym, subst, refl, []}
+use Rattle.std.specs.List.{All}
+use Rattle.std.proofs.lemmas.List.Elements.{All-nil}
 use Rattle.settle_spec.specs.Wishes.{Granted, with_spares_of}
 use Rattle.pci_place.specs.Items.{function_in}
+use Rattle.pci_spare.specs.declared.board.BridgeWindow.{BridgeWindow}
 use Rattle.pci_spare.specs.Board.{room_value}
 use Rattle.pci_spare.specs.Granting.{AreGranted}
 use Rattle.pci_spare.proofs.Facts.{long}
@@ -10,6 +13,7 @@ use Rattle.pci_spare.proofs.granting.grant.Goals as goal
 pub loop-done-init : goal.loop-done-init
 loop-done-init gg c = record {
   room = c.requires.room;
+  within = subst (All (λ (w : BridgeWindow). w.bridge < length c.args.board.now.records.now)) (sym c.new-denied.ensures.items) (All-nil (λ (w : BridgeWindow). w.bridge < length c.args.board.now.records.now));
   granted = λ q s spare k are told.
       let size = long q s c.args.board.now told.asked in
       let first : Granted = record { kept = k; denied = [] } in
@@ -20,6 +24,7 @@ loop-done-init gg c = record {
 pub loop-done-preserved : goal.loop-done-preserved
 loop-done-preserved gg c = record {
   room = c.grant_bridge.ensures.room;
+  within = c.grant_bridge.ensures.within;
   granted = λ q s spare k are told.
       let size = long q s c.args.board.now told.asked in
       let count = length c.args.board.now.records.now in
