@@ -19,3 +19,7 @@ pub mod AssumedParts
 pub mod Written
 pub mod RegisterWrites
 pub mod SettledSound
+pub mod WishesLists
+pub mod WishesBefore
+pub mod WishesExtents
+pub mod WishesGranted

@@ -2,6 +2,8 @@ pub mod Requests
 pub mod Dumps
 pub mod Told
 pub mod Wished
+pub mod Before
+pub mod Wishes
 pub mod Shut
 pub mod Stages
 pub mod Lacks

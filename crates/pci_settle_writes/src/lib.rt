@@ -14,4 +14,7 @@ pub mod standing;
 pub mod tables;
 pub mod way;
 pub mod wished;
+pub mod wishes;
+pub mod wishes_asked;
+pub mod wishes_before;
 pub mod writes;
