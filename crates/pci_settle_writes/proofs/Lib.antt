@@ -19,6 +19,8 @@ pub mod AssumedParts
 pub mod Written
 pub mod RegisterWrites
 pub mod SettledSound
+pub mod WishesThere
+pub mod WishesPlain
 pub mod WishesLists
 pub mod WishesBefore
 pub mod WishesExtents

@@ -1,19 +1,20 @@
 -- What tables tell of parts before any wish is what the definitions say.
-use Rattle.std.proofs.Common.{◌≡◌, ℕ, ◌-◌, ◌/◌, ◌<◌, inl, inr, List, [], ◌∷◌, map, length, cond, true, false, Bool, not, get_or, arith, ap, sym, refl, ◌∙◌, Option, Some, None}
+use Rattle.std.proofs.Common.{◌&&◌, ◌≡◌, ℕ, ◌-◌, ◌/◌, ◌<◌, inl, inr, List, [], ◌∷◌, map, length, cond, true, false, Bool, not, get_or, arith, ap, sym, refl, ◌∙◌, Option, Some, None}
 use Rattle.std.specs.Option.{option_map, option_or, is_some}
 use Rattle.std.specs.List.{Contains, sum_by, range_with_len}
 use Rattle.std.proofs.lemmas.Bool.{cases_Bool, and_parts, both_ways, lt-ltb}
 use Rattle.std.proofs.lemmas.List.{get_or_default}
 use Rattle.std.proofs.lemmas.List.Sums.{sum_by-cons}
-use Rattle.std.proofs.lemmas.List.Elements.{Contains-get_or}
+use Rattle.std.proofs.lemmas.List.Elements.{All-contains}
 use Rattle.std.proofs.lemmas.Option.{slice_get_read, get_or_from_slice_get}
 use Rattle.pci_spec.specs.Header.{layout, bar_count}
 use Rattle.pci_spec.specs.Bar.{has_bar}
 use Rattle.pci_spec.specs.Rom.{has_rom, rom_is_on}
 use Rattle.pci_spec.specs.Slot.{Slot}
-use Rattle.pci_spec.specs.Window.{WindowKind}
-use Rattle.pci_spec.specs.Decoded.{DecodedBar, DecodedRom, HasRecords, decoded_bar, Range as DecodedRange}
-use Rattle.pci_spec.specs.System.{System, Function, Space, Io, Memory, Part, Bar, Rom, Window, is_bridge, is_window, has_part, space_of}
+use Rattle.pci_spec.specs.Window.{WindowKind, has_window, is_closed}
+use Rattle.pci_spec.specs.Decoded.{IsDecodable, DecodedBar, DecodedRom, HasRecords, decoded_bar, Range as DecodedRange}
+use Rattle.pci_spec.specs.System.{System, Function, IsFunction, IsSystem, Space, Io, Memory, Part, Bar, Rom, Window, is_bridge, is_window, has_part, space_of}
+use Rattle.pci_spec.specs.Bus.{IsNested}
 use Rattle.pci_spec.proofs.Members.{in_head, in_tail, in_filter_to, in_range_to}
 use Rattle.plan_spec.specs.Planning.Layout.{range_of}
 use Rattle.settle_spec.specs.Lists.{Request}
@@ -24,12 +25,9 @@ use Rattle.settle_spec.specs.Items.{Placed, taken_by}
 use Rattle.settle_spec.specs.Kept.{Kept as Keeping, range_or}
 use Rattle.settle_spec.specs.Keeping.Places.{new_place}
 use Rattle.settle_spec.specs.Wishes.{place_then}
+use Rattle.stand_laws.proofs.Standing.{stands_by_itself}
 use Rattle.settle_laws.specs.KeptLaws.{WishesNothing}
-use Rattle.settle_laws.specs.Keeping.PlacesLaws.{CanSettle}
-use Rattle.settle_laws.proofs.Keeping.Kept.{stays_part}
 use Rattle.settle_laws.proofs.Keeping.InWindows.{kept_range, placed_range, place_of_range}
-use Rattle.settle_laws.proofs.Keeping.ShownParts.{own_placed}
-use Rattle.settle_laws.proofs.Wishing.Windows.{window_end_is}
 use Rattle.pci_base.specs.declared.range.Range.{Range}
 use Rattle.pci_base.specs.declared.window_kind.ByKind.{ByKind}
 use Rattle.pci_base.specs.Ranges.{decoded_range_of, range_of_decoded}
@@ -60,6 +58,7 @@ use Rattle.pci_settled.specs.declared.places.Places.{Places}
 use Rattle.pci_settled.specs.Places.{place_range_in, placed_at}
 use Rattle.pci_stand.proofs.OfRecord.{window_is}
 use Rattle.pci_settling.specs.Live.{HasAllPlaces}
+use Rattle.pci_settling.proofs.PlacedParts.{placed_is_part}
 use Rattle.pci_settling.proofs.PlacedImages.{register_place}
 use Rattle.pci_settling.proofs.Registers.{registers_at}
 use Rattle.pci_spare.specs.declared.board.BridgeWindow.{BridgeWindow}
@@ -72,6 +71,7 @@ use Rattle.pci_spare.proofs.OwnParts.{IsToldThen, own_weight, told_own, function
 use Rattle.pci_settle_writes.specs.declared.tables.Tables.{Tables}
 use Rattle.pci_settle_writes.specs.Told.{TellsKeeping}
 use Rattle.pci_settle_writes.specs.Before.{windows_before, IsToldAt, AreWindowsBefore, bar_before, rom_before, bar_weight, rom_weight, bars_weight, record_weight, AreOwnBefore, HaveRegisters}
+use Rattle.pci_settle_writes.proofs.WishesThere.{placed_there}
 
 -- ---- options of ranges
 
@@ -121,7 +121,7 @@ space_is bar_kinds.Io = refl
 space_is bar_kinds.Mem32 = refl
 space_is bar_kinds.Mem64 = refl
 
-module _ (q : Request) (s : System) (keep : Keeping) (can : CanSettle q s keep) (t : Tables) (places : HasAllPlaces q s keep t.places.now) (tells : TellsKeeping q s keep t.grown.now t.staying.now) (none : WishesNothing keep)
+module _ (q : Request) (s : System) (keep : Keeping) (system : IsSystem s) (nested : IsNested q.roots s) (t : Tables) (places : HasAllPlaces q s keep t.places.now) (tells : TellsKeeping q s keep t.grown.now t.staying.now) (none : WishesNothing keep)
     (records : List Record) (has : HasRecords s (map record_value records)) where
   nothing_wished : (r : FunctionPart) → keep.wished r ≡ None
   nothing_wished r = ap (λ w. w r) none
@@ -141,6 +141,9 @@ module _ (q : Request) (s : System) (keep : Keeping) (can : CanSettle q s keep) 
     pub here : function_in s k ≡ f
     here = get_or_from_slice_get s k f no_function found.at
 
+    low_bus : f.slot.bus < 256
+    low_bus = (All-contains IsFunction s f system.each listed).slot.0
+
     abbrev region : Part → FunctionPart
     region part = record { function = f; part = part }
 
@@ -149,6 +152,9 @@ module _ (q : Request) (s : System) (keep : Keeping) (can : CanSettle q s keep) 
 
     place_is : (part : Part) → has_part f part ≡ true → place_range_in p part ≡ placed_at (new_place q s keep (region part))
     place_is part there = ap (λ x. place_range_in x part) at.places_are ∙ places.each k f p part found.at there
+
+    stays_part : (part : Part) → keep.stays (region part) ≡ true → is_part q s f part ≡ true
+    stays_part part keeps = (stands_by_itself q s nested).only (region part) listed (tells.standing (region part) keeps)
 
     -- a part that stays is somewhere, and any other is at its place
     then_is : (part : Part) → has_part f part ≡ true → (own : Option DecodedRange) → (keep.stays (region part) ≡ true → own ≡ Some (keep.range (region part)))
@@ -170,7 +176,7 @@ module _ (q : Request) (s : System) (keep : Keeping) (can : CanSettle q s keep) 
 
       window_own : (b : Bridge) → r.bridge ≡ Some b → is_bridge f ≡ true → keep.stays (region (Window c)) ≡ true → option_or grown (range_in (window_of b.windows c)) ≡ Some (keep.range (region (Window c)))
       window_own b e bridge keeps =
-          ap (option_or grown) (window_is s f r b found.is e c ∙ ap (λ x. cond x (Some (range_of f (Window c))) None) (stays_part q s keep can (region (Window c)) listed keeps))
+          ap (option_or grown) (window_is s f r b found.is e c ∙ ap (λ x. cond x (Some (range_of f (Window c))) None) (stays_part (Window c) keeps))
           ∙ grown_or grown (range_of f (Window c))
           ∙ ap Some (sym (tells.ranges_are k f (Window c) found.at bridge keeps))
 
@@ -188,6 +194,15 @@ module _ (q : Request) (s : System) (keep : Keeping) (can : CanSettle q s keep) 
       pub devices_are : is_bridge f ≡ false → windows_before r.bridge p kept (get_or t.grown.now k untold) c ≡ None
       devices_are = device_by r.bridge refl
 
+      -- one that is somewhere is there
+      pub window_there : is_bridge f ≡ true → (x : DecodedRange) → place_then q s keep (region (Window c)) ≡ Some x → has_window c f.probe ≡ true
+      window_there bridge x e = elim (cases_Bool (keep.stays (region (Window c)))) [
+        | inl keeps ↦ (and_parts (is_bridge f) (has_window c f.probe) (and_parts (is_bridge f && has_window c f.probe) (not (is_closed c f.image)) (stays_part (Window c) keeps)).0).1
+        | inr moves ↦
+            let placed = place_of_range q s keep (new_place q s keep (region (Window c))) x (sym (placed_range q s keep (region (Window c)) moves) ∙ e) in
+            placed_there q s system nested (λ g in_s. All-contains IsDecodable s g has.decodable in_s) keep c f listed bridge placed.0 placed.1
+      ]
+
     -- ---- its BARs and its ROM
 
     abbrev own_at : Part → Option Range
@@ -195,10 +210,10 @@ module _ (q : Request) (s : System) (keep : Keeping) (can : CanSettle q s keep) 
 
     looked_at : (part : Part) → is_window part ≡ false → has_part f part ≡ true → (x : DecodedRange) → place_then q s keep (region part) ≡ Some x → is_part q s f part ≡ true
     looked_at part plain there x e = elim (cases_Bool (keep.stays (region part))) [
-      | inl keeps ↦ stays_part q s keep can (region part) listed keeps
+      | inl keeps ↦ stays_part part keeps
       | inr moves ↦
           let placed = place_of_range q s keep (new_place q s keep (region part)) x (sym (placed_range q s keep (region part) moves) ∙ e) in
-          own_placed q s keep can f listed part plain there placed.0 placed.1
+          placed_is_part q s keep system nested f listed low_bus part there plain placed.0 placed.1
     ]
 
     own_told : (part : Part) → is_window part ≡ false → has_part f part ≡ true → IsToldThen q s keep (region part) (own_at part)
@@ -230,7 +245,7 @@ module _ (q : Request) (s : System) (keep : Keeping) (can : CanSettle q s keep) 
     rom_by : (o : Option CodeRom) → r.rom ≡ o → rom_before o p kept ≡ own_at Rom
     rom_by None e =
         let off : keep.stays (region Rom) ≡ true → ⊥ = λ keeps.
-        rom_gives (has_rom f.image f.probe) _ (and_parts (has_rom f.image f.probe) (rom_is_on f.image) (stays_part q s keep can (region Rom) listed keeps)).0 (sym (rom_of s f r found.is) ∙ ap (option_map decoded_rom_of) e) in
+        rom_gives (has_rom f.image f.probe) _ (and_parts (has_rom f.image f.probe) (rom_is_on f.image) (stays_part Rom keeps)).0 (sym (rom_of s f r found.is) ∙ ap (option_map decoded_rom_of) e) in
         elim (cases_Bool (kept_of kept Rom)) [
           | inl keeps ↦ absurd (off (sym (stays_is Rom refl) ∙ keeps))
           | inr moves ↦ sym (ap (λ b. let o : Option Range = cond b None p.rom in o) moves) ∙ own_then Rom refl refl None (λ keeps. absurd (off keeps))
@@ -345,10 +360,11 @@ module _ (q : Request) (s : System) (keep : Keeping) (can : CanSettle q s keep) 
           let f_is = here w.bridge of.r of.p of.kept of.at in
           none_from (told table w.bridge w.class) (told_is w of ∙ devices_are w.bridge of.r of.p of.kept of.at (kind_value w.class) (ap is_bridge (sym f_is) ∙ device));
       there = λ w is x e.
-          let c = kind_value w.class in
-          let g = function_in s w.bridge in
-          let in_s : Contains s g = Contains-get_or s w.bridge no_function is.within in
-          (window_end_is q s keep can c g in_s is.bridge x (ap (λ o. option_or o (place_then q s keep (window_part c g))) (nothing_wished (window_part c g)) ∙ e)).there;
+          let of = entries w.bridge is.within in
+          let f_is = here w.bridge of.r of.p of.kept of.at in
+          ap (λ (g : Function). has_window (kind_value w.class) g.probe) f_is
+          ∙ window_there w.bridge of.r of.p of.kept of.at (kind_value w.class) (ap is_bridge (sym f_is) ∙ is.bridge) x
+          (ap (λ g. place_then q s keep (window_part (kind_value w.class) g)) (sym f_is) ∙ e);
     }
 
 -- each BAR is at a Base Address register

@@ -8,15 +8,14 @@ use Rattle.std.proofs.lemmas.Option.{slice_get_within, slice_get_read, get_or_fr
 use Rattle.pci_spec.specs.Slot.{Slot, same_slot}
 use Rattle.pci_spec.specs.Window.{WindowKind, IoWindow, MemoryWindow, PrefetchWindow, window_register}
 use Rattle.pci_spec.specs.Decoded.{HasRecords}
-use Rattle.pci_spec.specs.System.{System, Function}
+use Rattle.pci_spec.specs.System.{System, Function, IsSystem}
 use Rattle.settle_spec.specs.Lists.{Request, wanted_in}
 use Rattle.settle_spec.specs.Stands.{window_part}
 use Rattle.settle_spec.specs.Spares.{spare_extent}
 use Rattle.settle_spec.specs.Items.{spare_of}
 use Rattle.settle_spec.specs.Kept.{Kept as Keeping}
 use Rattle.settle_spec.specs.Wishes.{Granted, granted}
-use Rattle.settle_laws.specs.Keeping.PlacesLaws.{CanSettle}
-use Rattle.settle_laws.proofs.Wishing.Granted.{all_granted}
+use Rattle.settle_laws.specs.KeptLaws.{WishesNothing}
 use Rattle.pci_base.specs.declared.range.Range.{Range}
 use Rattle.pci_base.specs.declared.window_kind.ByKind.{ByKind}
 use Rattle.pci_base.specs.declared.window_kind.WindowKind.{WindowKind as CodeKind}
@@ -50,6 +49,7 @@ use Rattle.pci_settle_writes.specs.declared.settle.Denied.{Denied}
 use Rattle.pci_settle_writes.specs.Before.{AreFlagsOf}
 use Rattle.pci_settle_writes.specs.Denied.{register_at, denied_value}
 use Rattle.pci_settle_writes.specs.Wishes.{AreOfGranted, IsAskedIn, AreWishes}
+use Rattle.pci_settle_writes.proofs.WishesPlain.{plain_same}
 
 -- ---- functions by their records
 
@@ -136,11 +136,11 @@ module _ (q : Request) (s : System) (b : Board) (g : Granted) (room : Room) (den
   }
 
 -- no BAR or ROM keeps room free
-pub all_wishes : (q p : Request) (s : System) (keep : Keeping) (wished : List (ByKind (Option Range))) (denied : List Denied) → CanSettle p s keep → AreOfGranted s (granted p s (spare_of q) keep) wished denied → AreWishes q p s keep wished denied
-all_wishes q p s keep wished denied can are = (
+pub all_wishes : (q p : Request) (s : System) (keep : Keeping) (wished : List (ByKind (Option Range))) (denied : List Denied) → IsSystem s → WishesNothing keep → AreOfGranted s (granted p s (spare_of q) keep) wished denied → AreWishes q p s keep wished denied
+all_wishes q p s keep wished denied system none are = (
   record {
     each = are.each;
-    others = λ f part listed there plain. (all_granted p q s keep can).can.sound.wished.plain record { function = f; part = part } listed there plain;
+    others = λ f part listed there plain. plain_same p q s keep system f part listed there plain ∙ ap (λ w. w record { function = f; part = part }) none;
   },
   are.denied_are,
 )

@@ -5,7 +5,6 @@ ghost use Rattle.pci_spec.specs.Slot.{Slot as SlotValue};
 ghost use Rattle.settle_spec.specs.Lists.{Request};
 ghost use Rattle.settle_spec.specs.Kept.{Kept as Keeping};
 ghost use Rattle.settle_laws.specs.KeptLaws.{WishesNothing};
-ghost use Rattle.settle_laws.specs.Keeping.PlacesLaws.{CanSettle};
 ghost use Rattle.pci_place.specs.Above.{system_in};
 ghost use Rattle.pci_tree.specs.Ways.{IsBridgeToBus};
 ghost use Rattle.pci_settle.specs.Slots.{demand_value};
@@ -188,7 +187,6 @@ pub fn wishes_of<A: Allocator + Copy, B: Allocator>(
         → TellsKeeping (behind_slots q slots) (system_in admitted.now) keep tables.now.grown.now
         tables.now.staying.now
         → WishesNothing keep
-        → CanSettle (behind_slots q slots) (system_in admitted.now) keep
         → AreWishes q (behind_slots q slots) (system_in admitted.now) keep w.wished.items
         w.denied.items) }
 {

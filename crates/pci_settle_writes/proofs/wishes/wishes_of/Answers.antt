@@ -64,9 +64,9 @@ returns-clause-granted g c =
     let places_count = c.requires.places ∙ count g start in
     let staying_count = c.requires.staying ∙ count g start in
     IfOk-weaker c.grant_by.result _ _
-    (λ w all q slots keep asked flags places tells none can.
+    (λ w all q slots keep asked flags places tells none.
     let p = behind_slots q slots in
-    all_wishes q p sys keep w.wished.items w.denied.items can
+    all_wishes q p sys keep w.wished.items w.denied.items (is_admitted g start).system none
     (all p sys keep (spare_of q)
     (record {
       has = has_them;
@@ -76,8 +76,8 @@ returns-clause-granted g c =
       lists_are = ap (λ (d : Demand). d.lists) asked.demands_are;
       fixed_are = told.fixed_are q.fixed flags;
     })
-    (windows_then_are p sys keep can c.args.tables.now places tells none recs has_them places_count staying_count basis.windows.items told.windows_are)
-    (own_then_are p sys keep can c.args.tables.now places tells none recs has_them basis.own.items told.own_are)
+    (windows_then_are p sys keep (is_admitted g start).system (subst (λ xs. IsNested xs sys) (sym asked.roots_are) (is_admitted g start).nested) c.args.tables.now places tells none recs has_them places_count staying_count basis.windows.items told.windows_are)
+    (own_then_are p sys keep (is_admitted g start).system (subst (λ xs. IsNested xs sys) (sym asked.roots_are) (is_admitted g start).nested) c.args.tables.now places tells none recs has_them basis.own.items told.own_are)
     (spares_are_told q sys basis.slots.items basis.spares
     (spares_told q sys recs has_them c.args.lists.now.slots basis.slots.items basis.spares (ap (λ (d : Demand). d.slots) asked.demands_are) (ap (λ (d : Demand). d.spares) asked.demands_are) told.slots_are told.spares_are))))
     c.grant_by.ensures.granted
