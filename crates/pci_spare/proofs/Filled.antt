@@ -137,7 +137,7 @@ module _ {A : Type 0} (rows : List (Vec Range A)) (n : ℕ) (within : n < length
 
 -- ---- windows
 
-sum_more : (f : ℕ → ℕ) (a n : ℕ) → sum_by f (range_with_len a (suc n)) ≡ sum_by f (range_with_len a n) + f (a + n)
+pub sum_more : (f : ℕ → ℕ) (a n : ℕ) → sum_by f (range_with_len a (suc n)) ≡ sum_by f (range_with_len a n) + f (a + n)
 sum_more f a zero =
     let first = sum_by-cons f a [] in
     let same : a + 0 ≡ a = omega arith in

@@ -1,5 +1,5 @@
 -- The BARs and ROMs that are there before any wish, function by function.
-use Rattle.std.proofs.Common.{◌≡◌, ℕ, ◌+◌, ◌<◌, inl, inr, List, [], ◌∷◌, ◌++◌, map, length, cond, true, false, Bool, ◌&&◌, ◌||◌, not, get_or, arith, ap, sym, refl, ◌∙◌, Option, Some, None}
+use Rattle.std.proofs.Common.{◌≡◌, ℕ, ◌+◌, ◌<◌, inl, inr, List, [], ◌∷◌, ◌++◌, length, cond, true, false, Bool, ◌&&◌, ◌||◌, not, get_or, arith, ap, sym, refl, ◌∙◌, Option, Some, None}
 use Rattle.std.specs.Bool.{◌==◌}
 use Rattle.std.specs.Option.{option_map}
 use Rattle.std.specs.List.{filter, flat_map, sum_by, range_with_len}
