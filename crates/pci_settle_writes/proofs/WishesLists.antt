@@ -3,7 +3,8 @@ use Rattle.std.proofs.Common.{◌≡◌, ℕ, zero, suc, ◌+◌, ◌<◌, ◌�
 use Rattle.std.specs.Option.{option_map}
 use Rattle.std.specs.List.{list_any, sum_by, range_with_len}
 use Rattle.std.proofs.lemmas.Bool.{cases_eq}
-use Rattle.std.proofs.lemmas.List.{get_or_default, at_drop_more}
+use Rattle.std.proofs.Math.Seq.{get_or-append_seam}
+use Rattle.std.proofs.lemmas.List.{get_or_default, get_or_append_left, at_drop_more, length-append}
 use Rattle.std.proofs.lemmas.List.Sums.{sum_by-cons}
 use Rattle.pci_spec.specs.Slot.{Slot, same_slot}
 use Rattle.pci_spec.specs.Listing.{kind_space}
@@ -25,6 +26,7 @@ use Rattle.pci_settle.specs.declared.kept.Kept.{Kept}
 use Rattle.pci_settle.specs.Tables.{untold, told}
 use Rattle.pci_settled.specs.declared.places.Places.{Places}
 use Rattle.pci_spare.specs.declared.fill.Located.{Located}
+use Rattle.pci_spare.proofs.Filled.{sum_more}
 use Rattle.pci_spare.specs.Rows.{level, row_number}
 use Rattle.pci_spare.specs.Located.{told_weight, located_total}
 use Rattle.pci_settle_writes.specs.declared.tables.Tables.{Tables}
@@ -33,19 +35,6 @@ use Rattle.pci_settle_writes.specs.Before.{windows_before, IsToldAt, AreWindowsB
 -- what stands at an index
 pub one_at : {X : Type 0} (xs : List X) (k : ℕ) (x y : X) → k < length xs → x ≡ get_or xs k x → y ≡ get_or xs k y → x ≡ y
 one_at xs k x y within first second = first ∙ get_or_default xs k x y within ∙ sym second
-
-end_of : {X : Type 0} (xs : List X) (x d : X) → get_or (xs ++ x ∷ []) (length xs) d ≡ x
-end_of [] x d = refl
-end_of (y ∷ xs) x d = end_of xs x d
-
-before_end : {X : Type 0} (xs : List X) (x d : X) (k : ℕ) → k < length xs → get_or (xs ++ x ∷ []) k d ≡ get_or xs k d
-before_end [] x d k less = absurd (let no : ⊥ = omega (arith, less) in no)
-before_end (y ∷ xs) x d zero less = refl
-before_end (y ∷ xs) x d (suc k) less = before_end xs x d k (omega (arith, less))
-
-longer : {X : Type 0} (xs : List X) (x : X) → length (xs ++ x ∷ []) ≡ length xs + 1
-longer [] x = refl
-longer (y ∷ xs) x = (let rest = longer xs x in omega (arith, rest))
 
 -- what is told of a function where its record stands
 pub told_at : (records : List Record) (t : Tables) (k : ℕ) (r : Record) (d : Places) (e : Kept) → k < length records → r ≡ get_or records k r → length t.places.now ≡ length records → length t.staying.now ≡ length records
@@ -67,7 +56,7 @@ pub record AreWindowsTo (records : List Record) (t : Tables) (k : ℕ) (table : 
 module _ (records : List Record) (t : Tables) (k : ℕ) (table new : List (ByKind (Option Range))) (r : Record) (p : Places) (kept : Kept) (windows : ByKind (Option Range)) (at : IsToldAt records t k r p kept) (places : k < length t.places.now) (staying : k < length t.staying.now)
     (is : (class : CodeKind) → option_map decoded_range_of (by_kind windows class) ≡ windows_before r.bridge p kept (get_or t.grown.now k untold) (kind_value class)) (pushed : new ≡ table ++ windows ∷ []) (count : length table ≡ k) where
   windows_count : length new ≡ k + 1
-  windows_count = (let one = ap length pushed in let more = longer table windows in omega (arith, one, more, count))
+  windows_count = (let one = ap length pushed in let more = length-append table (windows ∷ []) in omega (arith, one, more, count))
 
   windows_next : AreWindowsBefore records t k table → AreWindowsBefore records t (k + 1) new
   windows_next so_far j r2 p2 kept2 class less at2 = elim (cases_eq j k) [
@@ -78,7 +67,7 @@ module _ (records : List Record) (t : Tables) (k : ℕ) (table new : List (ByKin
         let kept_is = one_at t.staying.now k kept kept2 staying at.kept_is here.kept_is in
         ap (λ i. option_map decoded_range_of (told new i class)) (same ∙ sym count)
         ∙ ap (λ xs. option_map decoded_range_of (by_kind (get_or xs (length table) untold) class)) pushed
-        ∙ ap (λ e. option_map decoded_range_of (by_kind e class)) (end_of table windows untold)
+        ∙ ap (λ e. option_map decoded_range_of (by_kind e class)) (get_or-append_seam table windows [] untold)
         ∙ is class
         ∙ ap (λ x. windows_before x.bridge p kept (get_or t.grown.now k untold) (kind_value class)) r_is
         ∙ ap (λ x. windows_before r2.bridge x kept (get_or t.grown.now k untold) (kind_value class)) p_is
@@ -87,7 +76,7 @@ module _ (records : List Record) (t : Tables) (k : ℕ) (table new : List (ByKin
     | inr differ ↦
         let low : j < k = omega (arith, less, differ) in
         ap (λ xs. option_map decoded_range_of (by_kind (get_or xs j untold) class)) pushed
-        ∙ ap (λ e. option_map decoded_range_of (by_kind e class)) (before_end table windows untold j (omega (arith, low, count)))
+        ∙ ap (λ e. option_map decoded_range_of (by_kind e class)) (get_or_append_left table (windows ∷ []) untold j (omega (arith, low, count)))
         ∙ so_far j r2 p2 kept2 class low at2
   ]
 
@@ -104,21 +93,6 @@ module _ (records : List Record) (t : Tables) (places : length t.places.now ≡ 
       }
 
 -- ---- BARs and ROMs
-
-sum_more : (f : ℕ → ℕ) (a n : ℕ) → sum_by f (range_with_len a (suc n)) ≡ sum_by f (range_with_len a n) + f (a + n)
-sum_more f a zero =
-    let first = sum_by-cons f a [] in
-    let same : a + 0 ≡ a = omega arith in
-    let here = ap f same in
-    let nothing : sum_by f [] ≡ 0 = refl in
-    omega (arith, first, here, nothing)
-sum_more f a (suc n) =
-    let first = sum_by-cons f a (range_with_len (a + 1) (suc n)) in
-    let second = sum_by-cons f a (range_with_len (a + 1) n) in
-    let rest = sum_more f (a + 1) n in
-    let same : a + 1 + n ≡ a + suc n = omega arith in
-    let here = ap f same in
-    omega (arith, first, second, rest, here)
 
 pub own_next : (records : List Record) (t : Tables) (k : ℕ) (old new : List Located) (r : Record) (p : Places) (kept : Kept) → IsToldAt records t k r p kept
     → ((roots : List ℕ) (weight : DecodedRange → ℕ) (n : ℕ) → located_total roots weight n new ≡ located_total roots weight n old + record_weight roots weight n r p kept)
@@ -176,15 +150,15 @@ flags_none records slots flags none = record { count_is = ap length none; each =
 pub flags_next : (records : List Record) (slots : List Slot) (k : ℕ) (old new : List Bool) (r : Record) (flag : Bool) → r ≡ get_or records k r → flag ≡ list_any (same_slot r.slot) slots → new ≡ old ++ flag ∷ []
     → AreFlagsTo records slots k old → AreFlagsTo records slots (k + 1) new
 flags_next records slots k old new r flag r_is flag_is pushed so_far = record {
-  count_is = (let one = ap length pushed in let more = longer old flag in let was = so_far.count_is in omega (arith, one, more, was));
+  count_is = (let one = ap length pushed in let more = length-append old (flag ∷ []) in let was = so_far.count_is in omega (arith, one, more, was));
   each = λ j r2 less within at. elim (cases_eq j k) [
     | inl same ↦
-        ap (λ i. get_or new i false) (same ∙ sym so_far.count_is) ∙ ap (λ xs. get_or xs (length old) false) pushed ∙ end_of old flag false ∙ flag_is
+        ap (λ i. get_or new i false) (same ∙ sym so_far.count_is) ∙ ap (λ xs. get_or xs (length old) false) pushed ∙ get_or-append_seam old flag [] false ∙ flag_is
         ∙ ap (λ x. list_any (same_slot x.slot) slots) (one_at records k r r2 (subst (λ i. i < length records) same within) r_is (subst (λ i. r2 ≡ get_or records i r2) same at))
     | inr differ ↦
         let low : j < k = omega (arith, less, differ) in
         let count = so_far.count_is in
-        ap (λ xs. get_or xs j false) pushed ∙ before_end old flag false j (omega (arith, low, count)) ∙ so_far.each j r2 low within at
+        ap (λ xs. get_or xs j false) pushed ∙ get_or_append_left old (flag ∷ []) false j (omega (arith, low, count)) ∙ so_far.each j r2 low within at
   ];
 }
 

@@ -1,8 +1,8 @@
 -- A window that gets a place is there.
-use Rattle.std.proofs.Common.{◌≡◌, ℕ, ◌<◌, inl, inr, List, [], ◌∷◌, Bool, true, false, cond, ◌||◌, not, refl, sym, ◌∙◌, ap, subst, Some}
+use Rattle.std.proofs.Common.{◌≡◌, ℕ, ◌<◌, inl, inr, true, false, ◌||◌, not, refl, ◌∙◌, ap, subst, Some}
 use Rattle.std.specs.Bool.{◌==◌}
-use Rattle.std.specs.List.{Contains, find, list_any}
-use Rattle.std.proofs.lemmas.Bool.{and_parts, both_ways, cases_Bool, eqb-true, not-false, not-true, or_parts}
+use Rattle.std.specs.List.{Contains, list_any}
+use Rattle.std.proofs.lemmas.Bool.{and_parts, both_ways, eqb-true, not-false, not-true, or_parts}
 use Rattle.std.proofs.lemmas.List.Elements.{All-contains}
 use Rattle.pci_spec.specs.Header.{layout}
 use Rattle.pci_spec.specs.Bar.{has_bar}
@@ -10,7 +10,6 @@ use Rattle.pci_spec.specs.Window.{WindowKind, IoWindow, MemoryWindow, PrefetchWi
 use Rattle.pci_spec.specs.Decoded.{IsDecodable}
 use Rattle.pci_spec.specs.System.{System, Function, Space, IsFunction, IsSystem, Bar, Window, is_bridge, is_window, window_space}
 use Rattle.pci_spec.specs.Bus.{IsNested}
-use Rattle.pci_spec.proofs.Members.{in_head, in_tail}
 use Rattle.pci_spec.proofs.Records.{memory_window_there}
 use Rattle.plan_spec.specs.Plan.{bridges_above, is_io_part, same_class}
 use Rattle.settle_spec.specs.Lists.{Request}
@@ -20,6 +19,7 @@ use Rattle.settle_spec.specs.Items.{Item, Placed, has_of}
 use Rattle.settle_spec.specs.Places.{placed_of}
 use Rattle.settle_spec.specs.Kept.{Kept}
 use Rattle.settle_spec.specs.Keeping.Places.{space_items, placing_on, new_place}
+use Rattle.settle_laws.proofs.Finding.{found}
 use Rattle.settle_laws.proofs.HeaderParts.{part_cases}
 use Rattle.settle_laws.proofs.Held.{and_second_false}
 use Rattle.settle_laws.proofs.Keeping.Buses.{of_space}
@@ -28,19 +28,6 @@ use Rattle.settle_laws.proofs.PartClasses.{io_of_class, prefetch_windows}
 use Rattle.settle_laws.proofs.PartPlaces.{IsBehindOf, behind_of}
 use Rattle.pci_settled.proofs.Parts.{each_in, real_in, rank_one}
 use Rattle.pci_settled.proofs.Reached.{item_here}
-
--- what a search finds is in the list, and passes its test
-find_gives : {X : Type 0} (test : X → Bool) (xs : List X) (x : X) → find test xs ≡ Some x → Contains xs x × (test x ≡ true)
-find_gives test [] x e = cc
-find_gives test (y ∷ xs) x e = elim (cases_Bool (test y)) [
-  | inl fine ↦
-      let here : Some y ≡ Some x = sym (ap (λ b. cond b (Some y) (find test xs)) fine) ∙ e in
-      let same : y ≡ x = cc in
-      (subst (Contains (y ∷ xs)) same (in_head y xs), ap test (sym same) ∙ fine)
-  | inr off ↦
-      let more = find_gives test xs x (sym (ap (λ b. cond b (Some y) (find test xs)) off) ∙ e) in
-      (in_tail y xs x more.0, more.1)
-]
 
 -- a window is placed where something of its class is behind its bridge
 abbrev HasBehind : Request → System → Item → Type 0
@@ -78,10 +65,10 @@ module _ (q : Request) (s : System) (system : IsSystem s) (nested : IsNested q.r
       let space = window_space c in
       let bus = f.slot.bus in
       let low : bus < 256 = (All-contains IsFunction s f system.each listed).slot.0 in
-      let found = find_gives (λ (y : Placed). rank y.item.region == rank (window_part c f)) (placed_of (placing_on q s keep space bus)) x placed in
-      let item = item_here q s keep system nested space bus low x found.0 in
+      let hit = found (λ (y : Placed). rank y.item.region == rank (window_part c f)) (placed_of (placing_on q s keep space bus)) x placed in
+      let item = item_here q s keep system nested space bus low x hit.0 in
       let real = real_in q s keep space bus x.item item in
       let of = of_space q s keep space bus x.item item in
-      let one = rank_one s system x.item.region.function f x.item.region.part (Window c) of.listed listed real.there bridge (eqb-true (rank x.item.region) (rank (window_part c f)) found.1) in
+      let one = rank_one s system x.item.region.function f x.item.region.part (Window c) of.listed listed real.there bridge (eqb-true (rank x.item.region) (rank (window_part c f)) hit.1) in
       let has = behind_in q s keep space bus x.item item c one.part in
       needed c f listed bridge (behind_of q s c f listed bridge (subst (λ g. has_of q s c g ≡ true) one.function has))
