@@ -25,3 +25,4 @@ pub mod WishesLists
 pub mod WishesBefore
 pub mod WishesExtents
 pub mod WishesGranted
+pub mod AlikeParts

@@ -12,3 +12,4 @@ pub mod Assumed
 pub mod Endings
 pub mod Denied
 pub mod FaultText
+pub mod Alike

@@ -1,6 +1,7 @@
 //! The settled dump, and the writes that lead to it.
 #![tactic(auto)]
 
+pub mod alike;
 pub mod assumed;
 pub mod closed;
 pub mod dump;
