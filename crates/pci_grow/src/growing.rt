@@ -62,6 +62,7 @@ impl<A: Allocator> Grown<A> {
     /// What is left, by the open windows over each bus.
     pub fn left<'a>(&'a self, over: &'a [OpenWindows]) -> Left<'a>
         ensures over { result.over.now ≡ over.now }
+        ensures grown { result.grown.now ≡ self.now.coming.items }
         ensures tells { (q : Request) → (s : System) → IsSystem s → IsNested q.roots s
             → IsInProfile q.roots s → AreGrown q s (grown_value self.now)
             → TellsKept q s (growing_kept q s) result }

@@ -19,6 +19,9 @@ pub mod AssumedParts
 pub mod Written
 pub mod RegisterWrites
 pub mod SettledSound
+pub mod Granted
+pub mod Spared
+pub mod HaveSpares
 pub mod WishesThere
 pub mod WishesPlain
 pub mod WishesLists

@@ -1,12 +1,10 @@
 -- Settling where windows grow, or else beside what stays as it stands: which of the two it is, and how it ends.
-use Rattle.std.proofs.Common.{◌≡◌, ℕ, inl, List, [], ◌∷◌, Bool, true, false, cond, not, ◌&&◌, Option, None, Some, refl, sym, ◌∙◌, ap, subst}
+use Rattle.std.proofs.Common.{◌≡◌, ◌⊎◌, inl, inr, List, [], ◌∷◌, Bool, true, false, cond, not, ◌&&◌, Option, None, Some, refl, sym, ◌∙◌, ap, subst}
 use Rattle.std.specs.List.{find}
 use Rattle.std.specs.Option.{option_map}
 use Rattle.std.proofs.lemmas.Bool.{and_parts, and_from, both_ways}
 use Rattle.std.proofs.lemmas.Option.{none-some}
-use Rattle.pci_spec.specs.Machine.{Write}
 use Rattle.pci_spec.specs.System.{System}
-use Rattle.pci_spec.specs.Text.{Block}
 use Rattle.settle_spec.specs.Lists.{Request, are_bad_lists}
 use Rattle.settle_spec.specs.Parts.{FunctionPart, system_parts}
 use Rattle.settle_spec.specs.Stands.{is_fixed_part, stands}
@@ -15,6 +13,7 @@ use Rattle.settle_spec.specs.Kept.{Kept, as_it_stands, growing}
 use Rattle.settle_spec.specs.Keeping.Places.{lacking}
 use Rattle.settle_spec.specs.Keeping.Writes.{settle_writes, settle_keeping}
 use Rattle.settle_spec.specs.Growing.{or_else, settle_growing, kept_by, finally_kept}
+use Rattle.settle_spec.specs.Sparing.{is_settled}
 use Rattle.settle_laws.proofs.NothingGrows.{growing_is_standing}
 use Rattle.stand_laws.proofs.GrowingKept.{growing_stands}
 use Rattle.pci_base.specs.declared.memory.Refused.{Refused}
@@ -26,9 +25,10 @@ use Rattle.pci_settle.specs.NewWindows.{IsTooLarge}
 use Rattle.pci_stay.specs.declared.windows.TooLarge.{TooLarge}
 use Rattle.pci_settle_writes.specs.declared.lack.SettleFault.{SettleFault}
 use Rattle.pci_settle_writes.specs.declared.lack.SettleFault.TheVariants as fault
-use Rattle.pci_settle_writes.specs.Lacks.{IsSettleFaultOf, too_large, no_room}
+use Rattle.pci_settle_writes.specs.Lacks.{is_too_large, IsSettleFaultOf, too_large, no_room}
 use Rattle.pci_settle_writes.specs.Fixed.{fixed_part}
-use Rattle.pci_settle_writes.specs.Endings.{then_writes, after_lists, AreFixedKept, IsEnded, IsEndedBy, IsRefused, IsRefusedGrowing, IsNotGrown, kept_after, IsEndedAfter}
+use Rattle.pci_settle_writes.specs.Ended.{Ended, IsEnded}
+use Rattle.pci_settle_writes.specs.Endings.{then_writes, after_lists, AreFixedKept, IsEndedBy, IsRefused, IsRefusedGrowing, HasLarge, IsNotGrown, kept_after, EndsAfter, IsEndedAfter, HasNoAssumed, EndsWith, IsRefusal}
 use Rattle.pci_settle_writes.proofs.Endings.{ends_fine}
 use Rattle.pci_settle_writes.proofs.Refusals.{none_found}
 
@@ -119,13 +119,29 @@ module _ (a : Admission) (q : Request) where
 
   -- ---- which of the two is kept
 
-  module _ (dump : List Block) (writes : List Write) (count : ℕ) where
-    pub ended_growing : IsEnded q (growing q s) a dump writes count → IsEnded q (kept_after q s) a dump writes count
-    ended_growing is = subst (λ (k : Kept). IsEnded q k a dump writes count)
-        (sym (ap (λ o. kept_by o (growing q s) (as_it_stands q s)) is.ends)) is
+  module _ (o : Ended) where
+    pub ended_growing : IsEnded q (growing q s) a o → IsEnded q (kept_after q s) a o
+    ended_growing is = subst (λ (k : Kept). IsEnded q k a o)
+        (sym (ap (λ end. kept_by end (growing q s) (as_it_stands q s)) is.ends)) is
 
-    pub ended_anew : q.anew ≡ true → IsEnded q (as_it_stands q s) a dump writes count → IsEnded q (kept_after q s) a dump writes count
-    ended_anew anew is = ended_growing (subst (λ (k : Kept). IsEnded q k a dump writes count) (sym (growing_is_standing q s anew)) is)
+    pub ended_anew : q.anew ≡ true → IsEnded q (as_it_stands q s) a o → IsEnded q (kept_after q s) a o
+    ended_anew anew is = ended_growing (subst (λ (k : Kept). IsEnded q k a o) (sym (growing_is_standing q s anew)) is)
+
+    refused_kept : (end : Settling) (own other : Kept) → IsRefused end → kept_by end own other ≡ other
+    refused_kept (Settled writes) own other is = absurd is
+    refused_kept BadLists own other is = refl
+    refused_kept (Fixed slot register) own other is = refl
+    refused_kept (NoRoom class slot register size alignment) own other is = refl
+
+    standing_after : IsRefusedGrowing a q → IsEnded q (as_it_stands q s) a o → IsEnded q (kept_after q s) a o
+    standing_after refused is = subst (λ (k : Kept). IsEnded q k a o) (sym (refused_kept (after_lists q s (growing q s)) (growing q s) (as_it_stands q s) refused)) is
+
+    pub ended_standing : (f : SettleFault) → IsNotGrown a q (refused.Fault f) → is_too_large f ≡ false → IsEnded q (as_it_stands q s) a o → IsEnded q (kept_after q s) a o
+    ended_standing fault.BadLists none small is = absurd none
+    ended_standing (fault.Assumed slot reg) none small is = absurd none
+    ended_standing (fault.NoRoom lack) none small is = standing_after none is
+    ended_standing (fault.TooLarge class slot) none small is = absurd (both_ways true small refl)
+    ended_standing (fault.Fixed slot reg) none small is = standing_after none is
 
   anew_refused : q.anew ≡ true → (end : Settling) → after_lists q s (as_it_stands q s) ≡ end → IsRefused end → IsRefusedGrowing a q
   anew_refused anew end is refused = subst IsRefused (sym (ap (after_lists q s) (growing_is_standing q s anew) ∙ is)) refused
@@ -154,9 +170,44 @@ module _ (a : Admission) (q : Request) where
     at_last f own other (Fixed slot register) e = refl
     at_last f own other (NoRoom class slot register size alignment) e = refl
 
-    module _ (dump : List Block) (writes : List Write) (count : ℕ) (is : IsEnded q (kept_after q s) a dump writes count) where
-      pub settles : settle_growing q s ≡ Settled writes
+    module _ (o : Ended) (is : IsEnded q (kept_after q s) a o) where
+      pub settles : settle_growing q s ≡ Settled o.writes
       settles = growing_ends ∙ at_last (after_lists q s) (growing q s) (as_it_stands q s) (after_lists q s (growing q s)) refl ∙ is.ends
 
-      pub ended : IsEnded q (finally_kept q s) a dump writes count
-      ended = subst (λ (k : Kept). IsEnded q k a dump writes count) (sym same_kept) is
+      pub ended : IsEnded q (finally_kept q s) a o
+      ended = subst (λ (k : Kept). IsEnded q k a o) (sym same_kept) is
+
+    -- what is refused is refused, or some new window is too large
+    or_else_refused : (own other : Settling) → IsRefused own → or_else own other ≡ other
+    or_else_refused (Settled writes) other is = absurd is
+    or_else_refused BadLists other is = refl
+    or_else_refused (Fixed slot register) other is = refl
+    or_else_refused (NoRoom class slot register size alignment) other is = refl
+
+    unsettled_after : (end : Settling) → EndsAfter a q end → is_settled end ≡ false → (is_settled (settle_growing q s) ≡ false) ⊎ HasLarge a q
+    unsettled_after end is refused = elim is.1 [
+      | inl grown ↦ inl (ap is_settled (growing_ends ∙ or_else_refused (after_lists q s (growing q s)) (after_lists q s (as_it_stands q s)) grown ∙ is.0) ∙ refused)
+      | inr large ↦ inr large
+    ]
+
+    pub unsettled : (f : SettleFault) → IsEndedAfter a q (refused.Fault f) → (is_settled (settle_growing q s) ≡ false) ⊎ HasLarge a q
+    unsettled fault.BadLists is = absurd is
+    unsettled (fault.Assumed slot reg) is = absurd is
+    unsettled (fault.NoRoom lack) is = unsettled_after (no_room lack) is refl
+    unsettled (fault.TooLarge class slot) is = inr record { class = kind_value class; slot = slot; at = is.at }
+    unsettled (fault.Fixed slot reg) is = unsettled_after (Fixed slot reg) is refl
+
+    -- and how the refusal is told
+    refusal_ends : (end : Settling) → EndsAfter a q end → EndsWith a q end
+    refusal_ends end is = elim is.1 [
+      | inl grown ↦ inl (growing_ends ∙ or_else_refused (after_lists q s (growing q s)) (after_lists q s (as_it_stands q s)) grown ∙ is.0)
+      | inr large ↦ inr (large, ends_fine q s (as_it_stands q s) fine ∙ is.0)
+    ]
+
+    pub refusal_of : HasNoAssumed a → (e : Refused SettleFault) → IsEndedAfter a q e → IsRefusal a q e
+    refusal_of sized refused.Memory is = tt
+    refusal_of sized (refused.Fault fault.BadLists) is = absurd is
+    refusal_of sized (refused.Fault (fault.Assumed slot reg)) is = absurd is
+    refusal_of sized (refused.Fault (fault.NoRoom lack)) is = (sized, refusal_ends (no_room lack) is)
+    refusal_of sized (refused.Fault (fault.TooLarge class slot)) is = (fine, sized, is)
+    refusal_of sized (refused.Fault (fault.Fixed slot reg)) is = (sized, refusal_ends (Fixed slot reg) is)

@@ -4,7 +4,6 @@ use Rattle.std.specs.Option.{option_map}
 use Rattle.settle_laws.specs.KeptLaws.{WishesNothing}
 use Rattle.pci_spec.specs.Mark.{all_named}
 use Rattle.pci_spec.specs.Slot.{Slot}
-use Rattle.pci_spec.specs.Text.{Block}
 use Rattle.pci_spec.specs.Window.{WindowKind, IoWindow}
 use Rattle.pci_spec.specs.System.{System, Io, Memory, window_space}
 use Rattle.pci_spec.specs.Machine.{Write}
@@ -34,7 +33,6 @@ use Rattle.pci_settle_writes.specs.declared.lack.SettleFault.{SettleFault}
 use Rattle.pci_settle_writes.specs.declared.lack.SettleFault.TheVariants as fault
 use Rattle.pci_settle_writes.specs.Requests.{IsAskedOf}
 use Rattle.pci_settle_writes.specs.Told.{IsTableOf}
-use Rattle.pci_settle_writes.specs.Dumps.{IsSettledBy}
 use Rattle.pci_settle_writes.specs.Lacks.{no_room}
 use Rattle.pci_settle_writes.specs.Fixed.{assumed_part}
 
@@ -133,13 +131,6 @@ pub record AreAskedFor (q : Request) (keep : Keeping) (a : Admission) (d : Deman
   pub kept : AreFixedKept q (system_in a) keep
   pub stay : IsTableOf (system_in a) keep.stays staying
   pub none : WishesNothing keep
-
--- it ends with the writes to the dump, and nothing lacks a place
-pub record IsEnded (q : Request) (keep : Keeping) (a : Admission) (dump : List Block)
-    (writes : List Write) (closings : ℕ) : Type 0 where
-  pub by : IsSettledBy q keep a dump writes closings
-  pub room : lacking q (system_in a) keep ≡ None
-  pub ends : after_lists q (system_in a) keep ≡ Settled writes
 
 -- it ends so where the lists are fine, or a new window is too large, or there was no memory
 abbrev pub IsEndedBy : Admission → Request → Keeping → Refused SettleFault → Type 0

@@ -10,6 +10,8 @@ pub mod Lacks
 pub mod Fixed
 pub mod Assumed
 pub mod Endings
+pub mod Ended
 pub mod Denied
+pub mod Sparing
 pub mod FaultText
 pub mod Alike

@@ -2,17 +2,18 @@
 ghost use Rattle.std.specs.Prelude.{◌≡◌, IfOk, IfErr, map};
 ghost use Rattle.settle_spec.specs.Kept.{growing as growing_kept};
 ghost use Rattle.pci_place.specs.Above.{system_in};
-ghost use Rattle.pci_plan.specs.Writes.{write_value};
 ghost use Rattle.pci_settle.specs.Slots.{demand_value};
 ghost use Rattle.pci_stand.specs.Flags.{AreFlags};
 ghost use Rattle.pci_stand.specs.Known.{asked};
 ghost use Rattle.pci_grow.specs.Growing.{AreGrown, grown_value};
-ghost use Rattle.pci_settle_writes.specs.Endings.{IsEnded, IsNotGrown};
+ghost use Rattle.pci_settle_writes.specs.Ended.{ended_value, IsEnded};
+ghost use Rattle.pci_settle_writes.specs.Endings.{IsNotGrown};
 
 use crate::fixed::fixed_without;
 use crate::io::fault_of_window;
+use crate::ended::Ended;
 use crate::lack::SettleFault;
-use crate::settle::{Settled, settle_held};
+use crate::settle::settle_held;
 use pci_base::memory::Refused;
 use pci_base::slot::Slot;
 use pci_grow::growing::{Grown, growing};
@@ -48,15 +49,14 @@ pub fn settle_grown<A: Allocator + Copy, B: Allocator>(
     lists: &Lists,
     fixed: &[Slot],
     flags: &[bool],
-) -> Result<Settled<A>, Refused<SettleFault>>
+) -> Result<Ended<A>, Refused<SettleFault>>
     requires { AreFlags fixed.now flags.now }
     ensures titles { IfOk result
-        (λ x. map (λ b. b.title) x.dump ≡ map (λ b. b.title) admitted.now.dump) }
+        (λ x. map (λ b. b.title) x.settled.dump ≡ map (λ b. b.title) admitted.now.dump) }
     ensures ends { IfOk result (λ x. IsEnded
         (asked admitted.now.roots (demand_value lists.now) fixed.now)
         (growing_kept (asked admitted.now.roots (demand_value lists.now) fixed.now)
-        (system_in admitted.now)) admitted.now x.dump
-        (map write_value x.writes.all.items) x.writes.closings) }
+        (system_in admitted.now)) admitted.now (ended_value x)) }
     ensures refusal { IfErr result (IsNotGrown admitted.now
         (asked admitted.now.roots (demand_value lists.now) fixed.now)) }
 {
@@ -69,5 +69,11 @@ pub fn settle_grown<A: Allocator + Copy, B: Allocator>(
         return Err(Refused::Fault(fault));
     }
     let left = grown.left(&over);
-    settle_held(alloc, admitted, lists, flags, &left, stay)
+    let held = settle_held(alloc, admitted, lists, flags, &left, stay)?;
+    Ok(Ended {
+        settled: held.settled,
+        places: held.places,
+        staying: grown.stays,
+        grown: grown.coming,
+    })
 }

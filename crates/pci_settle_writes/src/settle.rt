@@ -5,12 +5,10 @@ ghost use Rattle.pci_spec.specs.Sound.{IsSound};
 ghost use Rattle.pci_spec.specs.System.{system_of};
 ghost use Rattle.pci_spec.specs.Machine.{system_after};
 ghost use Rattle.settle_spec.specs.Lists.{Request};
+ghost use Rattle.settle_laws.specs.KeptLaws.{WishesNothing};
 ghost use Rattle.settle_spec.specs.Writes as spec;
 ghost use Rattle.settle_spec.specs.Kept.{Kept as Keeping};
-ghost use Rattle.settle_spec.specs.Sparing.{without_slots, placing_request, settle_sparing};
-ghost use Rattle.settle_spec.specs.SpareLaws.{kept_sparing};
-ghost use Rattle.settle_laws.specs.KeptLaws.{WishesNothing};
-ghost use Rattle.settle_laws.specs.SparingLaws.{sparing_closings};
+ghost use Rattle.settle_spec.specs.Sparing.{without_slots};
 ghost use Rattle.pci_base.specs.declared.memory.Refused.TheVariants as refused;
 ghost use Rattle.pci_place.specs.Above.{system_in};
 ghost use Rattle.pci_plan.specs.Moves.{IsMove};
@@ -24,14 +22,17 @@ ghost use Rattle.pci_settling.specs.Live.{HasAllPlaces};
 ghost use Rattle.pci_settle_writes.specs.Requests.{request, IsAskedOf};
 ghost use Rattle.pci_settle_writes.specs.Told.{TellsKeeping};
 ghost use Rattle.pci_settle_writes.specs.Dumps.{IsSettledDump, IsSettledBy};
-ghost use Rattle.pci_settle_writes.specs.Denied.{denied_value, denied_registers};
-ghost use Rattle.pci_settle_writes.specs.Endings.{IsLackOff, AreAskedFor, IsEnded, IsEndedBy, IsNotGrown, kept_after, IsEndedAfter, IsRefusal, HasNoAssumed};
+ghost use Rattle.pci_settle_writes.specs.Denied.{denied_value, IsSpared};
+ghost use Rattle.pci_settle_writes.specs.Ended.{ended_value, held_value, IsEnded};
+ghost use Rattle.pci_settle_writes.specs.Endings.{IsLackOff, AreAskedFor, IsEndedBy, IsNotGrown, kept_after, IsEndedAfter, IsRefusal, HasNoAssumed};
 
 use crate::assumed::first_assumed;
 use crate::dump::{Images, settled_dump};
+use crate::ended::{Ended, Held};
 use crate::fixed::fixed_write;
 use crate::growth::settle_grown;
 use crate::lack::{SettleFault, fault_of};
+use crate::sparing::settle_sparing;
 use crate::standing::{settle_all, settle_standing};
 use crate::tables::Tables;
 use crate::writes::{Writes, writes_to};
@@ -45,7 +46,6 @@ use pci_settle::list::Lists;
 use pci_settle::over::Left;
 use pci_settled::place::place;
 use pci_settled::places::Places;
-use pci_stand::fixed::flags_of;
 use pci_tree::admitted::Admitted;
 use std::alloc::{Allocator, Global};
 
@@ -171,16 +171,16 @@ pub fn settle_held<A: Allocator + Copy, B: Allocator>(
     fixed: &[bool],
     left: &Left,
     staying: &[Kept],
-) -> Result<Settled<A>, Refused<SettleFault>>
+) -> Result<Held<A>, Refused<SettleFault>>
     requires flags { length fixed.now ≡ 65536 }
     requires staying { length staying.now ≡ length (system_in admitted.now) }
     requires left { CanBeLeft admitted.now.roots (system_in admitted.now) (demand_value lists.now) left.now }
     ensures titles { IfOk result
-        (λ x. map (λ b. b.title) x.dump ≡ map (λ b. b.title) admitted.now.dump) }
+        (λ x. map (λ b. b.title) x.settled.dump ≡ map (λ b. b.title) admitted.now.dump) }
     ensures ends { IfOk result (λ x. (q : Request) (keep : Keeping)
         → AreFlags q.fixed fixed.now
         → AreAskedFor q keep admitted.now (demand_value lists.now) left.now staying.now
-        → IsEnded q keep admitted.now x.dump (map write_value x.writes.all.items) x.writes.closings) }
+        → IsEnded q keep admitted.now (held_value x staying.now left.now.grown.now)) }
     ensures refusal { IfErr result (λ e. (q : Request) (keep : Keeping)
         → AreFlags q.fixed fixed.now
         → AreAskedFor q keep admitted.now (demand_value lists.now) left.now staying.now
@@ -191,7 +191,10 @@ pub fn settle_held<A: Allocator + Copy, B: Allocator>(
     if let Some(fault) = fixed_write(fixed, settled.writes.all.as_slice()) {
         return Err(Refused::Fault(fault));
     }
-    Ok(settled)
+    Ok(Held {
+        settled,
+        places: table,
+    })
 }
 
 /// Settles beside what stays as it stands, once windows that grow were refused by this fault. A new window that is too large for
@@ -203,26 +206,25 @@ fn settle_ungrown<A: Allocator + Copy, B: Allocator>(
     fixed: &[Slot],
     flags: &[bool],
     fault: SettleFault,
-) -> Result<Settled<A>, Refused<SettleFault>>
+) -> Result<Ended<A>, Refused<SettleFault>>
     requires flags { AreFlags fixed.now flags.now }
     // else windows would grow
     requires fault { IsNotGrown admitted.now
         (asked admitted.now.roots (demand_value lists.now) fixed.now) (refused.Fault fault) }
     ensures titles { IfOk result
-        (λ x. map (λ b. b.title) x.dump ≡ map (λ b. b.title) admitted.now.dump) }
+        (λ x. map (λ b. b.title) x.settled.dump ≡ map (λ b. b.title) admitted.now.dump) }
     ensures ends { IfOk result (λ x. IsEnded
         (asked admitted.now.roots (demand_value lists.now) fixed.now)
         (kept_after (asked admitted.now.roots (demand_value lists.now) fixed.now)
-        (system_in admitted.now)) admitted.now x.dump
-        (map write_value x.writes.all.items) x.writes.closings) }
+        (system_in admitted.now)) admitted.now (ended_value x)) }
     ensures refusal { IfErr result (IsEndedAfter admitted.now
         (asked admitted.now.roots (demand_value lists.now) fixed.now)) }
 {
-    let settled = settle_standing(alloc, admitted, lists, fixed, flags)?;
+    let ended = settle_standing(alloc, admitted, lists, fixed, flags)?;
     if fault.is_too_large() {
         return Err(Refused::Fault(fault));
     }
-    Ok(settled)
+    Ok(ended)
 }
 
 /// Settles where windows grow, or else beside what stays as it stands.
@@ -232,20 +234,19 @@ fn settle_rest<A: Allocator + Copy, B: Allocator>(
     lists: &Lists,
     fixed: &[Slot],
     flags: &[bool],
-) -> Result<Settled<A>, Refused<SettleFault>>
+) -> Result<Ended<A>, Refused<SettleFault>>
     requires { AreFlags fixed.now flags.now }
     ensures titles { IfOk result
-        (λ x. map (λ b. b.title) x.dump ≡ map (λ b. b.title) admitted.now.dump) }
+        (λ x. map (λ b. b.title) x.settled.dump ≡ map (λ b. b.title) admitted.now.dump) }
     ensures ends { IfOk result (λ x. IsEnded
         (asked admitted.now.roots (demand_value lists.now) fixed.now)
         (kept_after (asked admitted.now.roots (demand_value lists.now) fixed.now)
-        (system_in admitted.now)) admitted.now x.dump
-        (map write_value x.writes.all.items) x.writes.closings) }
+        (system_in admitted.now)) admitted.now (ended_value x)) }
     ensures refusal { IfErr result (IsEndedAfter admitted.now
         (asked admitted.now.roots (demand_value lists.now) fixed.now)) }
 {
     match settle_grown(alloc, admitted, lists, fixed, flags) {
-        Ok(settled) => Ok(settled),
+        Ok(ended) => Ok(ended),
         Err(Refused::Memory) => Err(Refused::Memory),
         Err(Refused::Fault(fault)) => {
             settle_ungrown(alloc, admitted, lists, fixed, flags, fault)
@@ -254,28 +255,28 @@ fn settle_rest<A: Allocator + Copy, B: Allocator>(
 }
 
 /// Settles in lists that are fine.
-fn settle_listed<A: Allocator + Copy, B: Allocator>(
+pub fn settle_listed<A: Allocator + Copy, B: Allocator>(
     alloc: A,
     admitted: &Admitted<B>,
     lists: &Lists,
     fixed: &[Slot],
+    flags: &[bool],
     anew: bool,
-) -> Result<Settled<A>, Refused<SettleFault>>
+) -> Result<Ended<A>, Refused<SettleFault>>
+    requires { AreFlags fixed.now flags.now }
     ensures titles { IfOk result
-        (λ x. map (λ b. b.title) x.dump ≡ map (λ b. b.title) admitted.now.dump) }
+        (λ x. map (λ b. b.title) x.settled.dump ≡ map (λ b. b.title) admitted.now.dump) }
     ensures ends { IfOk result (λ x. IsEnded
         (request admitted.now.roots (demand_value lists.now) fixed.now anew)
         (kept_after (request admitted.now.roots (demand_value lists.now) fixed.now anew)
-        (system_in admitted.now)) admitted.now x.dump
-        (map write_value x.writes.all.items) x.writes.closings) }
+        (system_in admitted.now)) admitted.now (ended_value x)) }
     ensures refusal { IfErr result (IsEndedAfter admitted.now
         (request admitted.now.roots (demand_value lists.now) fixed.now anew)) }
 {
-    let flags = flags_of(alloc, fixed)?;
     if anew {
-        settle_all(alloc, admitted, lists, flags.as_slice())
+        settle_all(alloc, admitted, lists, flags)
     } else {
-        settle_rest(alloc, admitted, lists, fixed, flags.as_slice())
+        settle_rest(alloc, admitted, lists, fixed, flags)
     }
 }
 
@@ -338,17 +339,11 @@ pub fn settle<A: Allocator + Copy, B: Allocator>(
         (λ x. map (λ b. b.title) x.dump ≡ map (λ b. b.title) admitted.now.dump) }
     // what a guessed size would move is never moved
     ensures sized { OnOk result (HasNoAssumed admitted.now) }
-    ensures dump { IfOk result (λ x. IsSettledDump
-        (placing_request (request admitted.now.roots (demand_value lists.now) fixed.now anew) (system_in admitted.now))
-        (kept_sparing (request admitted.now.roots (demand_value lists.now) fixed.now anew)
-        (system_in admitted.now)) admitted.now x.dump) }
-    ensures settled { IfOk result (λ x. settle_sparing
-        (request admitted.now.roots (demand_value lists.now) fixed.now anew) (system_in admitted.now)
-        ≡ spec.Settled (map write_value x.writes.all.items)) }
-    ensures closings { IfOk result (λ x. x.writes.closings ≡ length (sparing_closings
-        (request admitted.now.roots (demand_value lists.now) fixed.now anew) (system_in admitted.now))) }
-    ensures denied { IfOk result (λ x. map denied_value x.denied.items ≡ denied_registers
-        (request admitted.now.roots (demand_value lists.now) fixed.now anew) (system_in admitted.now)) }
+    // Each spare is denied or has room. Where no new window with its spare would have 2^64 addresses or more, it is settled as
+    // the definitions say.
+    ensures spared { IfOk result (λ x. IsSpared
+        (request admitted.now.roots (demand_value lists.now) fixed.now anew) admitted.now x.dump
+        (map write_value x.writes.all.items) x.writes.closings (map denied_value x.denied.items)) }
     // slots refuse nothing: what is refused is refused without them
     ensures refusal { IfErr result (IsRefusal admitted.now
         (without_slots (request admitted.now.roots (demand_value lists.now) fixed.now anew))) }
@@ -361,6 +356,6 @@ pub fn settle<A: Allocator + Copy, B: Allocator>(
     if let Some(fault) = first_assumed(admitted) {
         return Err(Refused::Fault(fault));
     }
-    let settled = settle_listed(alloc, admitted, lists, fixed, anew)?;
+    let settled = settle_sparing(alloc, admitted, lists, fixed, anew)?;
     Ok(settled)
 }

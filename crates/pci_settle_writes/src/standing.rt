@@ -3,18 +3,19 @@ ghost use Rattle.std.specs.Prelude.{◌≡◌, IsTrue, IfOk, IfErr, length, map}
 ghost use Rattle.settle_spec.specs.Lists.{Request};
 ghost use Rattle.settle_spec.specs.Kept.{as_it_stands};
 ghost use Rattle.pci_place.specs.Above.{system_in};
-ghost use Rattle.pci_plan.specs.Writes.{write_value};
 ghost use Rattle.pci_settle.specs.Slots.{demand_value};
 ghost use Rattle.pci_stand.specs.Flags.{AreFlags};
 ghost use Rattle.pci_stand.specs.Known.{asked};
 ghost use Rattle.pci_stay.specs.Staying.{AreStaying};
 ghost use Rattle.pci_settle_writes.specs.Requests.{IsAskedOf};
-ghost use Rattle.pci_settle_writes.specs.Endings.{IsTooLargeAsked, IsEnded, IsEndedBy, kept_after, IsEndedAfter};
+ghost use Rattle.pci_settle_writes.specs.Ended.{ended_value, IsEnded};
+ghost use Rattle.pci_settle_writes.specs.Endings.{IsTooLargeAsked, IsEndedBy, kept_after, IsEndedAfter};
 
 use crate::fixed::fixed_without;
 use crate::io::{fault_of_window, place_io_unfixed};
+use crate::ended::Ended;
 use crate::lack::SettleFault;
-use crate::settle::{Settled, settle_held};
+use crate::settle::settle_held;
 use pci_base::memory::Refused;
 use pci_base::slot::Slot;
 use pci_settle::kept::{Kept, nothing_kept};
@@ -32,15 +33,14 @@ pub fn settle_all<A: Allocator + Copy, B: Allocator>(
     admitted: &Admitted<B>,
     lists: &Lists,
     fixed: &[bool],
-) -> Result<Settled<A>, Refused<SettleFault>>
+) -> Result<Ended<A>, Refused<SettleFault>>
     requires { length fixed.now ≡ 65536 }
     ensures titles { IfOk result
-        (λ x. map (λ b. b.title) x.dump ≡ map (λ b. b.title) admitted.now.dump) }
+        (λ x. map (λ b. b.title) x.settled.dump ≡ map (λ b. b.title) admitted.now.dump) }
     ensures ends { IfOk result (λ x. (q : Request)
         → IsAskedOf q admitted.now.roots (demand_value lists.now) → IsTrue q.anew
         → AreFlags q.fixed fixed.now
-        → IsEnded q (kept_after q (system_in admitted.now)) admitted.now x.dump
-        (map write_value x.writes.all.items) x.writes.closings) }
+        → IsEnded q (kept_after q (system_in admitted.now)) admitted.now (ended_value x)) }
     ensures refusal { IfErr result (λ e. (q : Request)
         → IsAskedOf q admitted.now.roots (demand_value lists.now) → IsTrue q.anew
         → AreFlags q.fixed fixed.now → IsEndedAfter admitted.now q e) }
@@ -58,7 +58,13 @@ pub fn settle_all<A: Allocator + Copy, B: Allocator>(
         grown: &[],
         places: &[],
     };
-    settle_held(alloc, admitted, lists, fixed, &left, kept)
+    let held = settle_held(alloc, admitted, lists, fixed, &left, kept)?;
+    Ok(Ended {
+        settled: held.settled,
+        places: held.places,
+        staying: none,
+        grown: Vec::new(alloc),
+    })
 }
 
 /// Which parts stay where no window grows. Beside an open window of all addresses the bridge is named whose new window would be
@@ -92,15 +98,14 @@ pub fn settle_standing<A: Allocator + Copy, B: Allocator>(
     lists: &Lists,
     fixed: &[Slot],
     flags: &[bool],
-) -> Result<Settled<A>, Refused<SettleFault>>
+) -> Result<Ended<A>, Refused<SettleFault>>
     requires { AreFlags fixed.now flags.now }
     ensures titles { IfOk result
-        (λ x. map (λ b. b.title) x.dump ≡ map (λ b. b.title) admitted.now.dump) }
+        (λ x. map (λ b. b.title) x.settled.dump ≡ map (λ b. b.title) admitted.now.dump) }
     ensures ends { IfOk result (λ x. IsEnded
         (asked admitted.now.roots (demand_value lists.now) fixed.now)
         (as_it_stands (asked admitted.now.roots (demand_value lists.now) fixed.now)
-        (system_in admitted.now)) admitted.now x.dump
-        (map write_value x.writes.all.items) x.writes.closings) }
+        (system_in admitted.now)) admitted.now (ended_value x)) }
     ensures refusal { IfErr result (IsEndedBy admitted.now
         (asked admitted.now.roots (demand_value lists.now) fixed.now)
         (as_it_stands (asked admitted.now.roots (demand_value lists.now) fixed.now)
@@ -123,5 +128,11 @@ pub fn settle_standing<A: Allocator + Copy, B: Allocator>(
         grown: &[],
         places: &[],
     };
-    settle_held(alloc, admitted, lists, flags, &left, stay)
+    let held = settle_held(alloc, admitted, lists, flags, &left, stay)?;
+    Ok(Ended {
+        settled: held.settled,
+        places: held.places,
+        staying: table,
+        grown: Vec::new(alloc),
+    })
 }

@@ -26,7 +26,7 @@ use std::alloc::Allocator;
 
 /// The windows in which room is kept free, and the settled dump without that room.
 #[derive(Clone, Copy)]
-pub struct Wishes<'a> {
+pub struct Wished<'a> {
     /// Their addresses, by function in slot order; None of windows that show their places.
     pub windows: &'a [WindowRanges],
     pub plain: &'a [Block],
@@ -42,14 +42,14 @@ pub fn settled_wished<'a, A: Allocator + Copy, B: Allocator>(
     lists: &Lists,
     overs: &[OpenWindows],
     tables: &Tables<'a>,
-    wishes: &Wishes<'a>,
+    wished: &Wished<'a>,
 ) -> Result<Settled<A>, OutOfMemory>
     // a function's places stand where its record does
     requires places { length tables.now.places.now ≡ length (system_in admitted.now) }
     // what stays of a function stands where its record does
     requires staying { length tables.now.staying.now ≡ length (system_in admitted.now) }
     // old and new of a function have one index
-    requires plain { length wishes.now.plain.now ≡ length admitted.now.dump }
+    requires plain { length wished.now.plain.now ≡ length admitted.now.dump }
     // a title is the caller's own text, and no register
     ensures titles { IfOk result
         (λ x. map (λ b. b.title) x.dump ≡ map (λ b. b.title) admitted.now.dump) }
@@ -59,14 +59,14 @@ pub fn settled_wished<'a, A: Allocator + Copy, B: Allocator>(
         → AreOpenOver q (system_in admitted.now) overs.now
         → HasAllPlaces q (system_in admitted.now) keep tables.now.places.now
         → TellsKeeping q (system_in admitted.now) keep tables.now.grown.now tables.now.staying.now
-        → TellsWishes (system_in admitted.now) keep wishes.now.windows.now
-        → IsSettledDump q (unwished keep) admitted.now wishes.now.plain.now
+        → TellsWishes (system_in admitted.now) keep wished.now.windows.now
+        → IsSettledDump q (unwished keep) admitted.now wished.now.plain.now
         → IsSettledBy q keep admitted.now x.dump (map write_value x.writes.all.items)
         x.writes.closings) }
 {
-    let dump = settled_dump(alloc, admitted, lists, tables, wishes.windows)?;
+    let dump = settled_dump(alloc, admitted, lists, tables, wished.windows)?;
     let images = Images {
-        plain: wishes.plain,
+        plain: wished.plain,
         settled: dump.blocks(),
     };
     let writes = writes_to(alloc, admitted, lists, overs, &images, tables.staying)?;

@@ -1,67 +1,71 @@
-use Rattle.std.proofs.Common.{◌≡◌, ◌∙◌, false, refl, sym, ap, map}
+use Rattle.std.proofs.Common.{◌≡◌, ◌∙◌, false, map, refl, sym, ap}
+use Rattle.std.proofs.lemmas.Result.{err_from_is_err_and}
+use Rattle.pci_spec.specs.Mark.{all_named}
 use Rattle.settle_spec.specs.Lists.{are_bad_lists}
+use Rattle.settle_spec.specs.Assumed.{assumed_region}
+use Rattle.settle_spec.specs.Sparing.{without_slots}
+use Rattle.pci_place.specs.Above.{system_in}
 use Rattle.pci_plan.specs.Writes.{write_value}
 use Rattle.pci_settle.specs.Slots.{demand_value}
 use Rattle.pci_settle_writes.specs.Requests.{request}
-use Rattle.pci_settle_writes.proofs.Outcomes.{settles, ended}
-use Rattle.pci_settle_writes.proofs.SettledSound.{dump_sound, settled_moves, writes_reach, writes_stop}
+use Rattle.pci_settle_writes.specs.Denied.{denied_value}
+use Rattle.pci_settle_writes.specs.Fixed.{assumed_part}
+use Rattle.pci_settle_writes.proofs.Refusals.{none_found}
+use Rattle.pci_settle_writes.proofs.Outcomes.{refusal_of}
+use Rattle.pci_settle_writes.proofs.Spared.{highest_of, soundly}
 use Rattle.pci_settle_writes.proofs.settle.settle.Goals as goal
+
+pub settle_sparing-requires-clause-fine : goal.settle_sparing-requires-clause-fine
+settle_sparing-requires-clause-fine g c =
+    let a = c.args.admitted.now in
+    let d = demand_value c.args.lists.now in
+    sym (c.are_bad.ensures ∙ ap (λ rs. are_bad_lists rs d.lists) (c.roots-roots.ensures ∙ c.outline.ensures.roots)) ∙ c.if-are_bad.false
 
 pub returns-clause-sound : goal.returns-clause-sound
 returns-clause-sound g c =
     let a = c.args.admitted.now in
     let d = demand_value c.args.lists.now in
+    let q = request a.roots d c.args.fixed.now c.args.anew in
     let fine : are_bad_lists a.roots d.lists ≡ false = sym (c.are_bad.ensures ∙ ap (λ rs. are_bad_lists rs d.lists) (c.roots-roots.ensures ∙ c.outline.ensures.roots)) ∙ c.if-are_bad.false in
-    let ended = c.in_ok-settled.ensures.ends in
-    dump_sound a c.outline.ensures.admitted d fine c.args.lists.now.pref.now refl c.end_in_64_bits.ensures c.args.fixed.now c.args.anew ended.room c.in_ok-settled.settled.dump ended.by.settled
+    let x = c.in_ok-settled.settled in
+    (soundly a c.outline.ensures.admitted q refl fine (highest_of c.args.lists.now.pref.now c.end_in_64_bits.ensures) x.dump (map write_value x.writes.all.items) x.writes.closings (map denied_value x.denied.items)
+    c.in_ok-settled.ensures.spared).sound
 
 pub returns-clause-reached : goal.returns-clause-reached
 returns-clause-reached g c =
     let a = c.args.admitted.now in
     let d = demand_value c.args.lists.now in
+    let q = request a.roots d c.args.fixed.now c.args.anew in
     let fine : are_bad_lists a.roots d.lists ≡ false = sym (c.are_bad.ensures ∙ ap (λ rs. are_bad_lists rs d.lists) (c.roots-roots.ensures ∙ c.outline.ensures.roots)) ∙ c.if-are_bad.false in
-    let ended = c.in_ok-settled.ensures.ends in
-    writes_reach a c.outline.ensures.admitted d fine c.args.lists.now.pref.now refl c.end_in_64_bits.ensures c.args.fixed.now c.args.anew ended.room c.in_ok-settled.settled.dump ended.by.settled _
-    ended.by.writes_are
+    let x = c.in_ok-settled.settled in
+    (soundly a c.outline.ensures.admitted q refl fine (highest_of c.args.lists.now.pref.now c.end_in_64_bits.ensures) x.dump (map write_value x.writes.all.items) x.writes.closings (map denied_value x.denied.items)
+    c.in_ok-settled.ensures.spared).reached
 
 pub returns-clause-stops : goal.returns-clause-stops
 returns-clause-stops g c =
     let a = c.args.admitted.now in
     let d = demand_value c.args.lists.now in
+    let q = request a.roots d c.args.fixed.now c.args.anew in
     let fine : are_bad_lists a.roots d.lists ≡ false = sym (c.are_bad.ensures ∙ ap (λ rs. are_bad_lists rs d.lists) (c.roots-roots.ensures ∙ c.outline.ensures.roots)) ∙ c.if-are_bad.false in
-    let ended = c.in_ok-settled.ensures.ends in
-    writes_stop a c.outline.ensures.admitted d fine c.args.lists.now.pref.now refl c.end_in_64_bits.ensures c.args.fixed.now c.args.anew ended.room c.in_ok-settled.settled.dump ended.by.settled _
-    ended.by.writes_are c.in_ok-settled.settled.writes.closings ended.by.closing
+    let x = c.in_ok-settled.settled in
+    (soundly a c.outline.ensures.admitted q refl fine (highest_of c.args.lists.now.pref.now c.end_in_64_bits.ensures) x.dump (map write_value x.writes.all.items) x.writes.closings (map denied_value x.denied.items)
+    c.in_ok-settled.ensures.spared).stops
 
 pub returns-clause-moves : goal.returns-clause-moves
 returns-clause-moves g c =
     let a = c.args.admitted.now in
-    let l = lists_value c.args.lists.now in
-    let fine : are_bad_lists a.roots l ≡ false = sym (c.are_bad.ensures ∙ ap (λ rs. are_bad_lists rs l) (c.roots-roots.ensures ∙ c.outline.ensures.roots)) ∙ c.if-are_bad.false in
-    let ended = c.in_ok-settled.ensures.ends in
-    settled_moves a c.outline.ensures.admitted l fine c.args.lists.now.pref.now refl c.end_in_64_bits.ensures c.args.fixed.now c.args.anew ended.room c.in_ok-settled.settled.dump ended.by.settled _
-    ended.by.writes_are c.in_ok-settled.settled.writes.closings ended.by.closing
+    let d = demand_value c.args.lists.now in
+    let q = request a.roots d c.args.fixed.now c.args.anew in
+    let fine : are_bad_lists a.roots d.lists ≡ false = sym (c.are_bad.ensures ∙ ap (λ rs. are_bad_lists rs d.lists) (c.roots-roots.ensures ∙ c.outline.ensures.roots)) ∙ c.if-are_bad.false in
+    let x = c.in_ok-settled.settled in
+    (soundly a c.outline.ensures.admitted q refl fine (highest_of c.args.lists.now.pref.now c.end_in_64_bits.ensures) x.dump (map write_value x.writes.all.items) x.writes.closings (map denied_value x.denied.items)
+    c.in_ok-settled.ensures.spared).moves
 
-pub returns-clause-dump : goal.returns-clause-dump
-returns-clause-dump g c =
+pub returns-in_err-settled-clause-refusal : goal.returns-in_err-settled-clause-refusal
+returns-in_err-settled-clause-refusal g c =
     let a = c.args.admitted.now in
     let d = demand_value c.args.lists.now in
+    let q = request a.roots d c.args.fixed.now c.args.anew in
     let fine : are_bad_lists a.roots d.lists ≡ false = sym (c.are_bad.ensures ∙ ap (λ rs. are_bad_lists rs d.lists) (c.roots-roots.ensures ∙ c.outline.ensures.roots)) ∙ c.if-are_bad.false in
-    (ended a (request a.roots d c.args.fixed.now c.args.anew) fine c.in_ok-settled.settled.dump (map write_value c.in_ok-settled.settled.writes.all.items) c.in_ok-settled.settled.writes.closings
-    c.in_ok-settled.ensures.ends).by.settled
-
-pub returns-clause-settled : goal.returns-clause-settled
-returns-clause-settled g c =
-    let a = c.args.admitted.now in
-    let d = demand_value c.args.lists.now in
-    let fine : are_bad_lists a.roots d.lists ≡ false = sym (c.are_bad.ensures ∙ ap (λ rs. are_bad_lists rs d.lists) (c.roots-roots.ensures ∙ c.outline.ensures.roots)) ∙ c.if-are_bad.false in
-    settles a (request a.roots d c.args.fixed.now c.args.anew) fine c.in_ok-settled.settled.dump (map write_value c.in_ok-settled.settled.writes.all.items) c.in_ok-settled.settled.writes.closings
-    c.in_ok-settled.ensures.ends
-
-pub returns-clause-closings : goal.returns-clause-closings
-returns-clause-closings g c =
-    let a = c.args.admitted.now in
-    let d = demand_value c.args.lists.now in
-    let fine : are_bad_lists a.roots d.lists ≡ false = sym (c.are_bad.ensures ∙ ap (λ rs. are_bad_lists rs d.lists) (c.roots-roots.ensures ∙ c.outline.ensures.roots)) ∙ c.if-are_bad.false in
-    (ended a (request a.roots d c.args.fixed.now c.args.anew) fine c.in_ok-settled.settled.dump (map write_value c.in_ok-settled.settled.writes.all.items) c.in_ok-settled.settled.writes.closings
-    c.in_ok-settled.ensures.ends).by.closing
+    let p = err_from_is_err_and c.from_residual.result c.from_residual.ensures.1 in
+    rw (p.1, p.2) (refusal_of a (without_slots q) fine (none_found assumed_part (assumed_region (all_named a.probe) (system_in a)) c.in_default.ensures) c.in_err-settled.field-0.0 c.in_err-settled.ensures.refusal)

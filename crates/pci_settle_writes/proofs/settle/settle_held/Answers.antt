@@ -34,13 +34,17 @@ pub returns-clause-ends : goal.returns-clause-ends
 returns-clause-ends g c = λ q keep flags told.
     let s = system_in c.args.admitted.now in
     let placed = c.in_ok-table.ensures.places q keep told.leaving in
-    let places = subst (HasAllPlaces q s keep) (sym c.as_slice.ensures.value) record { count = placed.count; each = placed.each } in
+    let places_made : HasAllPlaces q s keep c.in_ok-table.table.items = record { count = placed.count; each = placed.each } in
+    let places = subst (HasAllPlaces q s keep) (sym c.as_slice.ensures.value) places_made in
     let keeps = told.leaving.keeps_is in
     let tells : TellsKeeping q s keep c.args.left.now.grown.now c.args.staying.now = record { standing = keeps.standing; stays_are = told.stay; ranges_are = keeps.ranges_are } in
     let by = c.in_ok-settled.ensures.settled q keep told.asked told.leaving.overs_are places tells told.none in
     record {
       by = by;
       room = placed.lack;
+      places = places_made;
+      tells = tells;
+      unwished = told.none;
       ends = ended_settled c.args.admitted.now q keep told.kept placed.lack (map write_value c.in_ok-settled.settled.writes.all.items) by.writes_are
           (c.in_default.ensures q flags ∙ ap (λ ws. option_map fixed_register (fixed_write q (map write_value ws))) c.as_slice-2.ensures.value);
     }
