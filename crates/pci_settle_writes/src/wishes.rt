@@ -1,5 +1,5 @@
 //! Wishes once all has its place: windows that end later, or open, so that there is room behind slots.
-ghost use Rattle.std.specs.Prelude.{◌≡◌, ◌<◌, List, IfOk, length, map};
+ghost use Rattle.std.specs.Prelude.{◌≡◌, ◌<◌, List, IfOk, length};
 ghost use Rattle.std.specs.List.{All};
 ghost use Rattle.pci_spec.specs.Slot.{Slot as SlotValue};
 ghost use Rattle.settle_spec.specs.Lists.{Request};
