@@ -91,7 +91,7 @@ module _ (roots : List ℕ) (s : System) (system : IsSystem s) (nested : IsNeste
         tells.ranges_are k f (Window c) at there stays
         ∙ ap (λ x. range_or (option_map decoded_range_of (told_of_kind x c)) (addresses (window_part c f))) (sym g_is);
     wishes = λ c. wishes.each k f c at ∙ ap (λ x. option_map decoded_range_of (told_of_kind x c)) (sym w_is);
-    others = λ part other. wishes.others f part is.listed other;
+    others = λ part there other. wishes.others f part is.listed there other;
   }
 
   -- and so is what tells its Command

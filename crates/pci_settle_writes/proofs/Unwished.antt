@@ -22,5 +22,5 @@ none_told PrefetchWindow = refl
 pub tells_nothing : (s : System) (k : Kept) → WishesNothing k → TellsWishes s k []
 tells_nothing s k none = record {
   each = λ n f c at. ap (λ w. w (window_part c f)) none ∙ sym (none_told c);
-  others = λ f p listed other. ap (λ w. w record { function = f; part = p }) none;
+  others = λ f p listed there other. ap (λ w. w record { function = f; part = p }) none;
 }

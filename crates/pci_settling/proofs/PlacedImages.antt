@@ -172,7 +172,7 @@ module _ (q : Request) (s : System) (keep : Kept) (f : Function) (r : Record) (i
   -- a part shows its place, where it has one
   own_step : (part : Part) → has_part f part ≡ true → is_window part ≡ false → (im : List ℕ) → step_if im part ≡ where_placed (at_place part) (place_range_in p part) im
   own_step part there plain im =
-      ap (λ w. cond (changes part) (with_wish (region part) w (shown keep (region part) (place part) im)) im) (placed.others part plain)
+      ap (λ w. cond (changes part) (with_wish (region part) w (shown keep (region part) (place part) im)) im) (placed.others part there plain)
       ∙ by_place (place part) (changes part) (λ x. with_place f part x im) im (λ o. shown keep (region part) o im)
       (λ none. own_none (keep.stays (region part)) part im plain)
       (λ x some. (refl, ap (λ b. b || (is_window part && is_implemented f part)) (placed_is_part q s keep has.system has.nested f has.is.listed (low_bus q s keep f r p has) part there plain x some)))

@@ -97,5 +97,5 @@ pub record HasPlacesAndWindows (q : Request) (s : System) (keep : Kept) (f : Fun
   pub wishes : (c : WindowKind)
       → keep.wished (window_part c f) ≡ option_map decoded_range_of (told_of_kind wished c)
   -- it is of windows alone
-  pub others : (part : Part) → IsFalse (is_window part)
+  pub others : (part : Part) → IsTrue (has_part f part) → IsFalse (is_window part)
       → keep.wished record { function = f; part = part } ≡ None
