@@ -1,5 +1,5 @@
 //! Settled boards that are put onto machines in memory, where each access fails once.
-use crate::boards::{Listed, admitted, list_of};
+use crate::boards::{Listed, admitted, in_memory, list_of};
 use pci_base::slot::Slot;
 use pci_check::check::check;
 use pci_check::verdict::Verdict;
@@ -199,11 +199,7 @@ fn is_put_onto(
 ) -> bool {
     match (admitted(alloc, &[0], board), list_of(alloc, mem)) {
         (Some(start), Some(mem)) => {
-            let lists = Lists {
-                io: &[],
-                mem: mem.as_slice(),
-                pref: &[],
-            };
+            let lists = in_memory(mem.as_slice());
             settles_onto(alloc, &start, &lists, anew, wanted)
         }
         _ => false,

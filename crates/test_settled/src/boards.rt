@@ -51,6 +51,16 @@ pub(crate) fn list_of(alloc: Global, ranges: &[Listed]) -> Option<Vec<RootRange>
     Some(list)
 }
 
+/// Lists of memory alone, with no room behind slots.
+pub(crate) fn in_memory(mem: &[RootRange]) -> Lists<'_> {
+    Lists {
+        io: &[],
+        mem,
+        pref: &[],
+        slots: Slots::none(),
+    }
+}
+
 /// The ends of what is there.
 type Ends = Option<(u64, u64)>;
 
@@ -100,11 +110,12 @@ const PREFETCH: [RootRange; 1] = [RootRange {
 
 /// Whether all parts of a board get just these places in a list of memory.
 fn get(alloc: Global, admitted: &Admitted, mem: &[RootRange], wanted: &[Wanted]) -> bool {
+    let slots = Slots::none();
     let lists = Lists {
         io: &IO,
         mem,
         pref: &PREFETCH,
-        slots: Slots::none(),
+        slots,
     };
     match place_anew(alloc, admitted, &lists) {
         Ok(table) => are_placed(table.as_slice(), wanted),
@@ -178,12 +189,7 @@ fn a_root_has_ranges_of_its_own(rt: HostRuntime) -> Result<(), Fail> {
 fn unplaced(alloc: Global, board: &[Row], mem: &[Listed]) -> Option<(WindowKind, usize, u64)> {
     let admitted = admitted(alloc, &[0], board)?;
     let mem = list_of(alloc, mem)?;
-    let lists = Lists {
-        io: &[],
-        mem: mem.as_slice(),
-        pref: &[],
-        slots: Slots::none(),
-    };
+    let lists = in_memory(mem.as_slice());
     match place_anew(alloc, &admitted, &lists) {
         Err(Refused::Fault(Unplaced::Lacks(lack))) => {
             Some((lack.class, lack.item.function, lack.item.extent.size))

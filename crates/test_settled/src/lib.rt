@@ -1,5 +1,5 @@
-//! Tests of the places that all parts get where nothing stands, of the writes that lead there, of what stays, and of
-//! settled boards that are put onto machines.
+//! Tests of the places that all parts get where nothing stands, of the writes that lead there, of what stays, of
+//! spare room behind slots, and of settled boards that are put onto machines.
 #![tactic(auto)]
 
 #[cfg(test)]
@@ -8,5 +8,7 @@ mod applied;
 mod boards;
 #[cfg(test)]
 mod settles;
+#[cfg(test)]
+mod spares;
 #[cfg(test)]
 mod stays;

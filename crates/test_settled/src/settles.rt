@@ -1,12 +1,10 @@
 //! Boards, and the writes that settle them where nothing stands.
-use crate::boards::{Listed, RANGE_OF_EACH, TWO_ROOTS, admitted, list_of};
+use crate::boards::{Listed, RANGE_OF_EACH, TWO_ROOTS, admitted, in_memory, list_of};
 use pci_base::memory::Refused;
 use pci_base::range::RootRange;
 use pci_base::slot::Slot;
 use pci_base::window_kind::WindowKind;
 use pci_plan::write::Write;
-use pci_settle::list::Lists;
-use pci_settle::slots::Slots;
 use pci_settle_writes::lack::{Lack, SettleFault};
 use pci_settle_writes::settle::settle;
 use pci_settle_writes::writes::Writes;
@@ -43,12 +41,7 @@ fn settled(
     admitted: &Admitted,
     mem: &[RootRange],
 ) -> Option<Result<Writes, SettleFault>> {
-    let lists = Lists {
-        io: &[],
-        mem,
-        pref: &[],
-        slots: Slots::none(),
-    };
+    let lists = in_memory(mem);
     match settle(alloc, admitted, &lists, &[], true) {
         Ok(settled) => Some(Ok(settled.writes)),
         Err(Refused::Fault(fault)) => Some(Err(fault)),

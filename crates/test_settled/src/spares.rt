@@ -1,0 +1,83 @@
+//! Boards with a slot behind which room is wanted.
+use crate::boards::{Listed, admitted, list_of};
+use pci_base::range::RootRange;
+use pci_base::slot::Slot;
+use pci_settle::list::Lists;
+use pci_settle::slots::Slots;
+use pci_settle_writes::settle::{Denied, Settled, settle};
+use std::alloc::Global;
+use std::test::Fail;
+use test_support::row::Row;
+use test_support::row::Row::{Bridge, Device};
+
+/// A list of 16 MB.
+const MEM: &[Listed] = &[(None, 0xe000_0000, 0xe0ff_ffff)];
+
+/// A bridge whose window of 1 MB has a BAR of 4 KB in it.
+const ALONE: &[Row] = &[
+    Bridge("00:01.0", 2, (0, 1, 1), &[(0x20, 0xe000_e000, 0xfff0_fff0)]),
+    Device("01:00.0", 2, &[(0x10, 0xe000_0000, 0xffff_f000)]),
+];
+
+/// The same, and the next megabyte is taken.
+const BESIDE: &[Row] = &[
+    Bridge("00:01.0", 2, (0, 1, 1), &[(0x20, 0xe000_e000, 0xfff0_fff0)]),
+    Device("00:02.0", 2, &[(0x10, 0xe010_0000, 0xfff0_0000)]),
+    Device("01:00.0", 2, &[(0x10, 0xe000_0000, 0xffff_f000)]),
+];
+
+/// A list of memory, where 2 MB are wanted behind bridges.
+fn lists_of<'a>(mem: &'a [RootRange], bridges: &'a [Slot]) -> Lists<'a> {
+    let slots = Slots {
+        bridges,
+        io: 0,
+        mem: 0x20_0000,
+        pref: 0,
+    };
+    Lists {
+        io: &[],
+        mem,
+        pref: &[],
+        slots,
+    }
+}
+
+/// What settling comes to where they are wanted behind the bridge 00:01.0.
+fn spared(alloc: Global, board: &[Row]) -> Option<Settled> {
+    let (admitted, mem) = (admitted(alloc, &[0], board)?, list_of(alloc, MEM)?);
+    let bridges = [Slot::new(0, 1, 0)?];
+    let lists = lists_of(mem.as_slice(), &bridges);
+    settle(alloc, &admitted, &lists, &[], false).ok()
+}
+
+/// Whether a window is that of memory of the bridge 00:01.0.
+fn is_of_bridge(denied: &Denied) -> bool {
+    Slot::new(0, 1, 0) == Some(denied.slot) && denied.register == 0x20
+}
+
+#[test]
+fn a_window_ends_later_for_a_spare(rt: HostRuntime) -> Result<(), Fail> {
+    match spared(rt.alloc(), ALONE) {
+        Some(settled) => {
+            assert!(rt; settled.denied.is_empty());
+            assert!(rt; settled.writes.all.len() == 1);
+            assert!(rt; settled.writes.all[0].off == 0x20);
+            assert!(rt; settled.writes.all[0].value == 0xe030_e000);
+        }
+        None => panic!(rt; "not settled"),
+    }
+    Ok(())
+}
+
+#[test]
+fn a_spare_without_room_is_denied(rt: HostRuntime) -> Result<(), Fail> {
+    match spared(rt.alloc(), BESIDE) {
+        Some(settled) => {
+            assert!(rt; settled.writes.all.is_empty());
+            assert!(rt; settled.denied.len() == 1);
+            assert!(rt; is_of_bridge(&settled.denied[0]));
+        }
+        None => panic!(rt; "not settled"),
+    }
+    Ok(())
+}
