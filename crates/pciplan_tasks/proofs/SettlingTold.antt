@@ -1,25 +1,50 @@
--- An answer that says why nothing is settled.
-use Rattle.std.proofs.Common.{◌≡◌, List, Bool, Result, inr}
+-- What is answered where something is settled, and where nothing is.
+use Rattle.std.proofs.Common.{◌≡◌, ℕ, List, Bool, Result, map, inl, inr}
 use Rattle.std.specs.Result.{IfOk}
 use Rattle.std.proofs.lemmas.Result.{IfOk-weaker}
 use Rattle.pci_spec.specs.Slot.{Slot}
-use Rattle.settle_spec.specs.Lists.{Lists}
+use Rattle.pci_spec.specs.Text.{Block}
+use Rattle.pci_spec.specs.System.{system_of}
+use Rattle.pci_spec.specs.Sound.{IsSound}
+use Rattle.pci_spec.specs.Machine.{Write}
+use Rattle.settle_spec.specs.Sparing.{without_slots}
 use Rattle.pci_base.specs.declared.memory.Refused.TheVariants as refusal
+use Rattle.pci_settle.specs.Slots.{Demand}
 use Rattle.pci_settle_writes.specs.Requests.{request}
-use Rattle.pci_settle_writes.specs.Endings.{IsRefusal}
+use Rattle.pci_settle_writes.specs.Denied.{IsSpared}
+use Rattle.pci_settle_writes.specs.Endings.{IsRefusal, HasNoAssumed}
 use Rattle.pci_settle_writes.specs.FaultText.{settle_fault_text}
 use Rattle.pci_settle_writes.specs.declared.lack.SettleFault.{SettleFault}
 use Rattle.pci_tree.specs.Admission.{Admission, IsAdmitted}
-use Rattle.pciplan_tasks.specs.Answers.{answer_of, fault_answer_line, refused}
-use Rattle.pciplan_tasks.specs.SettleAnswers.{IsSettlingTold}
+use Rattle.pciplan_tasks.specs.Answers.{answer_of, done_with, fault_answer_line, refused}
+use Rattle.pciplan_tasks.specs.SettleAnswers.{IsSettlingTold, settled_text, spare_remarks}
 use Rattle.pciplan_tasks.specs.declared.reply.Reply.{Reply}
 use Rattle.pciplan_tasks.specs.declared.task.Printed.{Printed}
 
-pub refused_is_told : {A E : Type 0} (a : Admission) (lists : Lists) (fixed : List Slot) (anew : Bool) (printed : Printed) (fault : SettleFault) (r : Result (Reply A) E) → IsAdmitted a
-    → IsRefusal a (request a.roots lists fixed anew) (refusal.Fault fault)
+pub settled_is_told : {A E : Type 0} (a : Admission) (d : Demand) (fixed : List Slot) (anew : Bool) (printed : Printed) (after : List Block) (writes : List Write) (closings : ℕ)
+    (denied : List (Slot × ℕ)) (r : Result (Reply A) E) → IsAdmitted a → HasNoAssumed a
+    → map (λ (b : Block). b.title) after ≡ map (λ (b : Block). b.title) a.dump → IsSound a.roots (system_of after a.probe)
+    → IsSpared (request a.roots d fixed anew) a after writes closings denied
+    → IfOk r (λ reply. answer_of reply ≡ done_with (spare_remarks denied) (settled_text printed a.dump writes after))
+    → IfOk r (λ reply. IsSettlingTold record { request = request a.roots d fixed anew; printed = printed } a.dump a.probe (answer_of reply))
+settled_is_told a d fixed anew printed after writes closings denied r admitted sized titles sound spared told =
+    IfOk-weaker r (λ reply. answer_of reply ≡ done_with (spare_remarks denied) (settled_text printed a.dump writes after))
+    (λ reply. IsSettlingTold record { request = request a.roots d fixed anew; printed = printed } a.dump a.probe (answer_of reply))
+    (λ reply line. inl record {
+      after = after;
+      writes = writes;
+      denied = denied;
+      admitted = admitted;
+      is = record { sized = sized; titles = titles; closings = closings; is = spared };
+      sound = sound;
+      line = line;
+    }) told
+
+pub refused_is_told : {A E : Type 0} (a : Admission) (d : Demand) (fixed : List Slot) (anew : Bool) (printed : Printed) (fault : SettleFault) (r : Result (Reply A) E) → IsAdmitted a
+    → IsRefusal a (without_slots (request a.roots d fixed anew)) (refusal.Fault fault)
     → IfOk r (λ reply. answer_of reply ≡ refused (fault_answer_line (settle_fault_text fault)))
-    → IfOk r (λ reply. IsSettlingTold record { request = request a.roots lists fixed anew; printed = printed } a.dump a.probe (answer_of reply))
-refused_is_told a lists fixed anew printed fault r admitted stands told =
+    → IfOk r (λ reply. IsSettlingTold record { request = request a.roots d fixed anew; printed = printed } a.dump a.probe (answer_of reply))
+refused_is_told a d fixed anew printed fault r admitted stands told =
     IfOk-weaker r (λ reply. answer_of reply ≡ refused (fault_answer_line (settle_fault_text fault)))
-    (λ reply. IsSettlingTold record { request = request a.roots lists fixed anew; printed = printed } a.dump a.probe (answer_of reply))
+    (λ reply. IsSettlingTold record { request = request a.roots d fixed anew; printed = printed } a.dump a.probe (answer_of reply))
     (λ reply line. inr (inr record { fault = fault; admitted = admitted; stands = stands; line = line })) told

@@ -1,19 +1,21 @@
 -- The writes of settling are of two or of four bytes.
-use Rattle.std.proofs.Common.{◌≡◌, List, [], ◌∷◌, ◌++◌, true, refl, sym, ◌∙◌, ap, map, IsTrue}
-use Rattle.std.specs.Bool.{◌==◌, nat_lt}
+use Rattle.std.proofs.Common.{◌≡◌, List, [], ◌∷◌, ◌++◌, Bool, true, false, Option, None, Some, refl, subst, map, IsTrue}
+use Rattle.std.specs.Bool.{◌==◌, nat_lt, if◌then◌else◌}
 use Rattle.std.specs.List.{All, list_all, flat_map}
 use Rattle.pci_spec.specs.Number.{number_at}
 use Rattle.pci_spec.specs.Machine.{Write}
 use Rattle.pci_spec.specs.System.{System, Function, is_bridge}
 use Rattle.plan_spec.specs.Planning.PlanWrites.{Change, register_write}
-use Rattle.settle_spec.specs.Lists.{Request}
-use Rattle.settle_spec.specs.Writes.{Settled, closing_registers, setting_registers}
+use Rattle.settle_spec.specs.Lists.{Request, are_bad_lists}
+use Rattle.settle_spec.specs.Parts.{FunctionPart}
+use Rattle.settle_spec.specs.Stands.{stands}
+use Rattle.settle_spec.specs.Items.{Item}
+use Rattle.settle_spec.specs.Writes.{Settling, BadLists, Settled, or_fixed, or_lack, or_write, fixed_without, fixed_write, closing_registers, setting_registers}
 use Rattle.settle_spec.specs.Kept.{Kept}
-use Rattle.settle_spec.specs.Keeping.Writes.{closing_of, setting_of, closing_from, setting_from, opening_from, closings, settle_writes}
-use Rattle.settle_spec.specs.Growing.{settle_growing, finally_kept}
+use Rattle.settle_spec.specs.Keeping.Places.{lacking}
+use Rattle.settle_spec.specs.Keeping.Writes.{closing_of, setting_of, closing_from, setting_from, opening_from, closings, settle_writes, settle_keeping}
 use Rattle.pci_plan.specs.Writes.{is_two_or_four, write_value}
 use Rattle.pci_plan.specs.declared.write.Write.{Write as CodeWrite}
-use Rattle.pci_settle_writes.proofs.Written.{settled_writes}
 use Rattle.pciplan_tasks.proofs.PlainWrites.{is_plain_value, plain_other, plain_both, plain_closing_by, plain_setting_by, plain_register, plain_of}
 
 plain_closings : (q : Request) (s : System) (keep : Kept) (fs : System) → list_all is_plain_value (closings q s keep fs) ≡ true
@@ -39,7 +41,29 @@ plain_settling q s keep =
     (plain_both settings (flat_map (opening_from q s keep) s) (plain_over (setting_from q s keep) (λ f. plain_settings (setting_of q s keep f)) s)
     (plain_over (opening_from q s keep) (λ f. plain_command (setting_of q s keep f)) s))
 
+-- ---- of what settling comes to
+
+IsPlainEnd : Settling → Type 0
+IsPlainEnd (Settled writes) = list_all is_plain_value writes ≡ true
+IsPlainEnd refused = Unit {0}
+
+plain_end : (bad : Bool) (stand stay : Option FunctionPart) (lack : Option Item) (fixed : Option Write) (writes : List Write) → list_all is_plain_value writes ≡ true
+    → IsPlainEnd (if bad then BadLists else or_fixed stand (or_fixed stay (or_lack lack (or_write fixed (Settled writes)))))
+unfolding IsPlainEnd
+plain_end true stand stay lack fixed writes plain = tt
+plain_end false (Some r) stay lack fixed writes plain = tt
+plain_end false None (Some r) lack fixed writes plain = tt
+plain_end false None None (Some i) fixed writes plain = tt
+plain_end false None None None (Some w) writes plain = tt
+plain_end false None None None None writes plain = plain
+
+plain_beside : (q : Request) (s : System) (keep : Kept) → IsPlainEnd (settle_keeping q s keep)
+plain_beside q s keep =
+    plain_end (are_bad_lists q.roots q.lists) (fixed_without (stands q s) q s) (fixed_without keep.stays q s) (lacking q s keep)
+    (fixed_write q (settle_writes q s keep)) (settle_writes q s keep) (plain_settling q s keep)
+
 -- those of the code that are a settling's
-pub plain_writes : (q : Request) (s : System) (writes : List CodeWrite) → settle_growing q s ≡ Settled (map write_value writes) → All (λ w. IsTrue (is_two_or_four w)) writes
-plain_writes q s writes is =
-    plain_of writes (ap (list_all is_plain_value) (sym (settled_writes q s (map write_value writes) is)) ∙ plain_settling q s (finally_kept q s))
+pub plain_writes : (q : Request) (s : System) (keep : Kept) (writes : List CodeWrite) → settle_keeping q s keep ≡ Settled (map write_value writes)
+    → All (λ w. IsTrue (is_two_or_four w)) writes
+unfolding IsPlainEnd
+plain_writes q s keep writes is = plain_of writes (subst (λ o. IsPlainEnd o) is (plain_beside q s keep))

@@ -2,6 +2,7 @@ pub mod Statuses
 pub mod Answers
 pub mod ProbeAnswers
 pub mod PlanAnswers
+pub mod Slots
 pub mod SettleAnswers
 pub mod MapAnswers
 pub mod TakenAnswers

@@ -1,20 +1,21 @@
 -- What the program answers where two texts are to be settled.
-use Rattle.std.specs.Prelude.{◌≡◌, ◌⊎◌, ℕ, List, map}
+use Rattle.std.specs.Prelude.{◌≡◌, ◌⊎◌, ℕ, List, [], ◌∷◌, ◌++◌, map, codes}
 use Rattle.std.specs.List.{flat_map}
+use Rattle.std.specs.Option.{option_map}
+use Rattle.pci_spec.specs.Slot.{Slot}
 use Rattle.pci_spec.specs.Text.{Block, text_of}
 use Rattle.pci_spec.specs.System.{system_of}
 use Rattle.pci_spec.specs.Sound.{IsSound}
 use Rattle.pci_spec.specs.Machine.{Write}
-use Rattle.pci_spec.specs.Line.{write_line}
+use Rattle.pci_spec.specs.Line.{region_field, write_line}
 use Rattle.settle_spec.specs.Lists.{Lists, Request}
-use Rattle.settle_spec.specs.Writes.{Settled}
-use Rattle.settle_spec.specs.Growing.{settle_growing, finally_kept}
-use Rattle.pci_place.specs.Above.{system_in}
+use Rattle.settle_spec.specs.Sparing.{without_slots}
 use Rattle.pci_settle.specs.Lists.{root_range_value}
+use Rattle.pci_settle.specs.Slots.{Demand}
 use Rattle.pci_base.specs.declared.memory.Refused.TheVariants as refused
 use Rattle.pci_script.specs.Scripts.{script}
 use Rattle.pci_settle_writes.specs.Requests.{request}
-use Rattle.pci_settle_writes.specs.Dumps.{IsSettledDump}
+use Rattle.pci_settle_writes.specs.Denied.{IsSpared}
 use Rattle.pci_settle_writes.specs.Endings.{IsRefusal, HasNoAssumed}
 use Rattle.pci_settle_writes.specs.FaultText.{settle_fault_text}
 use Rattle.pci_settle_writes.specs.declared.lack.SettleFault.{SettleFault}
@@ -23,6 +24,7 @@ use Rattle.pci_tree.specs.Roots.{buses_of}
 use Rattle.pciplan_tasks.specs.Answers.{Answer}
 use Rattle.pciplan_tasks.specs.Answers as told
 use Rattle.pciplan_tasks.specs.PlanAnswers.{IsRefusedText}
+use Rattle.pciplan_tasks.specs.Slots.{slots_for, spares_said}
 use Rattle.pciplan_tasks.specs.declared.task.Printed.{Printed}
 use Rattle.pciplan_tasks.specs.declared.task.Printed.TheVariants.{Dump, Writes, Script}
 use Rattle.pciplan_tasks.specs.declared.task.SettleLists.{SettleLists}
@@ -36,9 +38,17 @@ lists_said l = record {
   prefetch = map root_range_value l.pref.items;
 }
 
--- what is asked of settling
-abbrev pub request_said : SettleRequest → Request
-request_said r = request (buses_of r.roots) (lists_said r.lists) r.fixed.items r.anew
+-- the lists, and the room behind the slots of a dump
+abbrev pub demand_said : SettleRequest → List Block → Demand
+demand_said r dump = record {
+  lists = lists_said r.lists;
+  slots = slots_for r.spares (option_map (λ s. s.items) r.slots) dump;
+  spares = spares_said r.spares;
+}
+
+-- what is asked of settling a dump
+abbrev pub request_said : SettleRequest → List Block → Request
+request_said r dump = request (buses_of r.roots) (demand_said r dump) r.fixed.items r.anew
 
 -- what is asked for: how two texts are settled, and what is printed
 pub record SettleAsked : Type 0 where
@@ -53,12 +63,14 @@ settle_admission asked dump probe = record {
   probe = probe;
 }
 
--- What settling comes to: the writes, and the dump after them, titles as they are. No read back of what has a place is assumed.
-pub record IsSettled (q : Request) (a : Admission) (after : List Block) (writes : List Write) : Type 0 where
+-- What settling comes to: the writes, the dump after them, titles as they are, and the windows whose spares have no room. No
+-- read back of what has a place is assumed.
+pub record IsSettled (q : Request) (a : Admission) (after : List Block) (writes : List Write)
+    (denied : List (Slot × ℕ)) : Type 0 where
   pub sized : HasNoAssumed a
   pub titles : map (λ (b : Block). b.title) after ≡ map (λ (b : Block). b.title) a.dump
-  pub settled : IsSettledDump q (finally_kept q (system_in a)) a after
-  pub is : settle_growing q (system_in a) ≡ Settled writes
+  pub closings : ℕ
+  pub is : IsSpared q a after writes closings denied
 
 -- what is printed of it: the settled dump, a line for each write, or their script, which compares with the start
 abbrev pub settled_text : Printed → List Block → List Write → List Block → List ℕ
@@ -66,20 +78,33 @@ settled_text Dump start writes after = text_of after
 settled_text Writes start writes after = flat_map write_line writes
 settled_text (Script form) start writes after = script form start writes
 
--- what settling comes to, which is sound
+-- a window whose spare has no room, and its line on standard error
+abbrev pub spare_text : Slot → ℕ → List ℕ
+spare_text slot register = codes "spare" ++ region_field slot register
+
+abbrev pub spare_remark : Slot × ℕ → List ℕ
+spare_remark d = codes "pciplan: " ++ (spare_text d.0 d.1 ++ 10 ∷ [])
+
+abbrev pub spare_remarks : List (Slot × ℕ) → List ℕ
+spare_remarks denied = flat_map spare_remark denied
+
+-- what settling comes to, which is sound, with a remark on each window whose spare has no room
 pub record IsSettledText (asked : SettleAsked) (dump probe : List Block) (answer : Answer) : Type 0 where
   pub after : List Block
   pub writes : List Write
+  pub denied : List (Slot × ℕ)
   pub admitted : IsAdmitted (settle_admission asked dump probe)
-  pub is : IsSettled asked.request (settle_admission asked dump probe) after writes
+  pub is : IsSettled asked.request (settle_admission asked dump probe) after writes denied
   pub sound : IsSound asked.request.roots (system_of after probe)
-  pub line : answer ≡ told.done (settled_text asked.printed dump writes after)
+  pub line : answer
+      ≡ told.done_with (spare_remarks denied) (settled_text asked.printed dump writes after)
 
--- the line of the fault for which nothing is settled, where the two are admitted
+-- the line of the fault for which nothing is settled, where the two are admitted: slots refuse nothing
 pub record IsNotSettledText (asked : SettleAsked) (dump probe : List Block) (answer : Answer) : Type 0 where
   pub fault : SettleFault
   pub admitted : IsAdmitted (settle_admission asked dump probe)
-  pub stands : IsRefusal (settle_admission asked dump probe) asked.request (refused.Fault fault)
+  pub stands : IsRefusal (settle_admission asked dump probe) (without_slots asked.request)
+      (refused.Fault fault)
   pub line : answer ≡ told.refused (told.fault_answer_line (settle_fault_text fault))
 
 -- `settle`: what settling comes to, or the line of a fault

@@ -3,7 +3,7 @@ use Rattle.std.specs.Prelude.{ℕ}
 use Rattle.pci_dump.specs.declared.read_fault.ReadFault.{ReadFault}
 use Rattle.pci_dump.specs.declared.read_fault.ReadFault.TheVariants as faults
 use Rattle.pciplan_tasks.specs.declared.failure.Failure.{Failure}
-use Rattle.pciplan_tasks.specs.declared.failure.Failure.TheVariants.{Usage, Root, Model, Host, Pool, Fixed, Dump, Probe, Sizes, Memory, Io}
+use Rattle.pciplan_tasks.specs.declared.failure.Failure.TheVariants.{Usage, Root, Model, Host, Pool, Fixed, Spare, Slots, Dump, Probe, Sizes, Memory, Io}
 
 -- of a text that isn't read
 abbrev pub text_status : ReadFault → ℕ
@@ -19,6 +19,8 @@ status_of Model = 2
 status_of (Host space) = 2
 status_of (Pool option) = 2
 status_of Fixed = 2
+status_of Spare = 2
+status_of Slots = 2
 status_of (Dump fault) = text_status fault
 status_of (Probe fault) = text_status fault
 status_of (Sizes fault) = text_status fault

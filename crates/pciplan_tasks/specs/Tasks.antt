@@ -52,7 +52,7 @@ IsPairAnswer (task.Plan pools writes why roots) =
       roots = buses_of roots;
     }
 IsPairAnswer (task.Settle request printed) =
-    IsSettlingTold record { request = request_said request; printed = printed }
+    λ dump. IsSettlingTold (record { request = request_said request dump; printed = printed }) dump
 IsPairAnswer (task.Probe assuming) = λ dump probe answer. ⊥
 
 -- the task takes a whole dump and a whole probe: the verdict reads both side by side, and a derived probe takes sizes

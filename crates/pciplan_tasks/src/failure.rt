@@ -34,6 +34,10 @@ pub enum Failure {
     Pool(PoolOption),
     /// The list of slots whose functions may not be written is none.
     Fixed,
+    /// The word of what is wanted behind hot-plug slots is none.
+    Spare,
+    /// The list of bridges that have such a slot is none.
+    Slots,
     /// The text of the dump has a fault, or can't be read.
     Dump(ReadFault),
     /// The text of the probe has a fault, or can't be read.
@@ -59,6 +63,8 @@ impl fmt::Display for Failure {
             Failure::Pool(PoolOption::Mem) => write!(f, "pool --mem"),
             Failure::Pool(PoolOption::Pref) => write!(f, "pool --pref"),
             Failure::Fixed => write!(f, "fixed"),
+            Failure::Spare => write!(f, "spare"),
+            Failure::Slots => write!(f, "slots"),
             Failure::Dump(ReadFault::Memory)
             | Failure::Probe(ReadFault::Memory)
             | Failure::Sizes(ReadFault::Memory)
@@ -80,6 +86,7 @@ impl Failure {
         match self {
             Failure::Usage | Failure::Root | Failure::Model => 2,
             Failure::Host(_) | Failure::Pool(_) | Failure::Fixed => 2,
+            Failure::Spare | Failure::Slots => 2,
             Failure::Dump(fault) | Failure::Probe(fault) | Failure::Sizes(fault) => match fault {
                 ReadFault::Io => 4,
                 ReadFault::Memory => 3,

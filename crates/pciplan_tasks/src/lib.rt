@@ -19,5 +19,6 @@ pub mod run;
 pub mod settling;
 pub mod shortage_line;
 pub mod sizing;
+pub mod slots;
 pub mod taking;
 pub mod task;

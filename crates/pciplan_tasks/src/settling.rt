@@ -1,27 +1,103 @@
 //! What `settle` answers of a dump and its probe.
-ghost use Rattle.std.specs.Prelude.{◌≡◌, map, IfOk, IsTrue};
+ghost use Rattle.std.specs.Prelude.{◌≡◌, ◌++◌, map, IfOk, IsTrue, OnOk};
 ghost use Rattle.std.specs.List.{All};
+ghost use Rattle.std.specs.String.{string_bytes};
 ghost use Rattle.pci_plan.specs.Writes.{is_two_or_four, write_value};
 ghost use Rattle.pci_tree.specs.Admission.{IsAdmitted};
-ghost use Rattle.pciplan_tasks.specs.Answers.{answer_of, done};
-ghost use Rattle.pci_settle.specs.Lists.{lists_value};
+ghost use Rattle.pci_tree.specs.Roots.{buses_of};
+ghost use Rattle.pci_settle.specs.Slots.{demand_value};
+ghost use Rattle.pci_settle_writes.specs.Denied.{denied_value};
 ghost use Rattle.pci_settle_writes.specs.Requests.{request};
-ghost use Rattle.pciplan_tasks.specs.SettleAnswers.{IsSettlingTold, request_said, settled_text};
+ghost use Rattle.pciplan_tasks.specs.Answers.{answer_of, done_with, text_bytes};
+ghost use Rattle.pciplan_tasks.specs.SettleAnswers.{IsSettlingTold, demand_said, request_said, settled_text, spare_remark, spare_remarks};
 
 use crate::planning::lines_of;
-use crate::reply::{Reply, Text, done, refused};
+use crate::reply::{Reply, Text, refused};
+use crate::slots::{slots_for, slots_of};
 use crate::task::{Printed, SettleRequest};
 use pci_base::memory::{OutOfMemory, Refused};
 use pci_base::slot::Slot;
 use pci_dump::dump::Dump;
 use pci_script::script::script;
 use pci_settle::list::Lists;
-use pci_settle_writes::settle::{Settled, settle};
+use pci_settle_writes::settle::{Denied, Settled, settle};
 use pci_tree::admit::admit_with;
 use pci_tree::admitted::Admitted;
-use std::alloc::Allocator;
+use std::alloc::{AllocError, Allocator};
+use std::fmt::{self, Write};
 
-/// What settling answers: the settled dump, its writes, or the script of them.
+/// A window whose spare has no room, as it is told.
+#[derive(Clone, Copy)]
+struct DeniedSpare {
+    slot: Slot,
+    register: u8,
+}
+
+impl fmt::Display for DeniedSpare {
+    ghost use Rattle.std.specs.Prelude.{Some};
+    ghost use Rattle.pciplan_tasks.specs.SettleAnswers.{spare_text};
+
+    ghost output = { λ d. Some (spare_text d.slot d.register) };
+
+    fn fmt<W: fmt::Write>(&self, f: &mut fmt::Formatter<W>) -> fmt::Result {
+        let (slot, register) = (self.slot, self.register);
+        write!(f, "spare {slot} {register:02x}")
+    }
+}
+
+/// Appends the remark on a window whose spare has no room.
+fn push_remark<A: Allocator>(text: &mut String<A>, denied: Denied) -> Result<(), AllocError>
+    ensures { OnOk result (string_bytes text.new
+        ≡ string_bytes text.old ++ spare_remark (denied_value denied)) }
+{
+    let spare = DeniedSpare {
+        slot: denied.slot,
+        register: denied.register,
+    };
+    writeln!(text, "pciplan: {spare}")
+}
+
+/// A remark on each window whose spare has no room.
+fn spare_remarks<A: Allocator>(alloc: A, denied: &[Denied]) -> Result<String<A>, OutOfMemory>
+    ensures { IfOk result
+        (λ text. string_bytes text ≡ spare_remarks (map denied_value denied.now)) }
+{
+    let mut text = String::new(alloc);
+    for one in denied {
+        match push_remark(&mut text, *one) {
+            Ok(()) => {}
+            Err(_) => return Err(OutOfMemory),
+        }
+    }
+    Ok(text)
+}
+
+/// What is printed of a settling: the settled dump, its writes, or the script of them.
+fn settled_text<A: Allocator + Copy>(
+    alloc: A,
+    admitted: &Admitted<A>,
+    settled: Settled<A>,
+    printed: Printed,
+) -> Result<Text<A>, OutOfMemory>
+    requires { All (λ w. IsTrue (is_two_or_four w)) settled.writes.all.items }
+    ensures { IfOk result (λ text. text_bytes text ≡ settled_text printed admitted.now.dump
+        (map write_value settled.writes.all.items) settled.dump) }
+{
+    match printed {
+        Printed::Dump => Ok(Text::Dump(settled.dump)),
+        Printed::Writes => {
+            let lines = lines_of(alloc, settled.writes.all.as_slice())?;
+            Ok(Text::Lines(lines))
+        }
+        Printed::Script(form) => {
+            let start = admitted.dump().blocks();
+            let lines = script(alloc, form, start, settled.writes.all.as_slice())?;
+            Ok(Text::Lines(lines))
+        }
+    }
+}
+
+/// What settling answers: what is printed of it, and a remark on each window whose spare has no room.
 fn settled_reply<A: Allocator + Copy>(
     alloc: A,
     admitted: &Admitted<A>,
@@ -29,21 +105,17 @@ fn settled_reply<A: Allocator + Copy>(
     printed: Printed,
 ) -> Result<Reply<A>, OutOfMemory>
     requires { All (λ w. IsTrue (is_two_or_four w)) settled.writes.all.items }
-    ensures { IfOk result (λ reply. answer_of reply ≡ done (settled_text printed admitted.now.dump
-        (map write_value settled.writes.all.items) settled.dump)) }
+    ensures { IfOk result (λ reply. answer_of reply
+        ≡ done_with (spare_remarks (map denied_value settled.denied.items))
+        (settled_text printed admitted.now.dump (map write_value settled.writes.all.items) settled.dump)) }
 {
-    match printed {
-        Printed::Dump => Ok(done(alloc, Text::Dump(settled.dump))),
-        Printed::Writes => {
-            let lines = lines_of(alloc, settled.writes.all.as_slice())?;
-            Ok(done(alloc, Text::Lines(lines)))
-        }
-        Printed::Script(form) => {
-            let start = admitted.dump().blocks();
-            let lines = script(alloc, form, start, settled.writes.all.as_slice())?;
-            Ok(done(alloc, Text::Lines(lines)))
-        }
-    }
+    let remarks = spare_remarks(alloc, settled.denied.as_slice())?;
+    let text = settled_text(alloc, admitted, settled, printed)?;
+    Ok(Reply {
+        refused: false,
+        text,
+        remarks,
+    })
 }
 
 /// Settles what was admitted.
@@ -57,7 +129,7 @@ fn settle_admitted<A: Allocator + Copy>(
 ) -> Result<Reply<A>, OutOfMemory>
     requires { IsAdmitted admitted.now }
     ensures { IfOk result (λ reply. IsSettlingTold record {
-      request = request admitted.now.roots (lists_value lists.now) fixed.now anew;
+      request = request admitted.now.roots (demand_value lists.now) fixed.now anew;
       printed = printed;
     } admitted.now.dump admitted.now.probe (answer_of reply)) }
 {
@@ -66,6 +138,55 @@ fn settle_admitted<A: Allocator + Copy>(
         Err(Refused::Fault(fault)) => refused(alloc, &fault),
         Err(Refused::Memory) => Err(OutOfMemory),
     }
+}
+
+/// Settles what was admitted as it is asked for, where these bridges have a hot-plug slot.
+fn settle_behind<'a, A: Allocator + Copy>(
+    alloc: A,
+    admitted: &Admitted<A>,
+    request: &'a SettleRequest,
+    bridges: &'a [Slot],
+    printed: Printed,
+) -> Result<Reply<A>, OutOfMemory>
+    requires admitted { IsAdmitted admitted.now }
+    requires roots { admitted.now.roots ≡ buses_of request.now.roots }
+    requires bridges { bridges.now ≡ (demand_said request.now admitted.now.dump).slots }
+    ensures { IfOk result (λ reply. IsSettlingTold record {
+      request = request_said request.now admitted.now.dump;
+      printed = printed;
+    } admitted.now.dump admitted.now.probe (answer_of reply)) }
+{
+    let io = request.lists.io.as_slice();
+    let mem = request.lists.mem.as_slice();
+    let pref = request.lists.pref.as_slice();
+    let slots = slots_of(bridges, &request.spares);
+    let lists = Lists {
+        io,
+        mem,
+        pref,
+        slots,
+    };
+    let fixed = request.fixed.as_slice();
+    settle_admitted(alloc, admitted, &lists, fixed, request.anew, printed)
+}
+
+/// Settles what was admitted as it is asked for.
+fn settle_asked<A: Allocator + Copy>(
+    alloc: A,
+    admitted: &Admitted<A>,
+    request: &SettleRequest,
+    printed: Printed,
+) -> Result<Reply<A>, OutOfMemory>
+    requires admitted { IsAdmitted admitted.now }
+    requires roots { admitted.now.roots ≡ buses_of request.now.roots }
+    ensures { IfOk result (λ reply. IsSettlingTold record {
+      request = request_said request.now admitted.now.dump;
+      printed = printed;
+    } admitted.now.dump admitted.now.probe (answer_of reply)) }
+{
+    let dump = admitted.dump().blocks();
+    let bridges = slots_for(alloc, dump, &request.spares, &request.slots)?;
+    settle_behind(alloc, admitted, request, bridges.as_slice(), printed)
 }
 
 /// Settles a dump and its probe as it is asked for, and answers what is to be printed of it.
@@ -77,24 +198,12 @@ pub fn settle_pair<A: Allocator + Copy>(
     printed: Printed,
 ) -> Result<Reply<A>, OutOfMemory>
     ensures { IfOk result (λ reply. IsSettlingTold record {
-      request = request_said request.now;
+      request = request_said request.now dump;
       printed = printed;
     } dump probe (answer_of reply)) }
 {
-    let lists = Lists {
-        io: request.lists.io.as_slice(),
-        mem: request.lists.mem.as_slice(),
-        pref: request.lists.pref.as_slice(),
-    };
     match admit_with(alloc, dump, probe, request.roots) {
-        Ok(admitted) => settle_admitted(
-            alloc,
-            &admitted,
-            &lists,
-            request.fixed.as_slice(),
-            request.anew,
-            printed,
-        ),
+        Ok(admitted) => settle_asked(alloc, &admitted, request, printed),
         Err(Refused::Fault(fault)) => refused(alloc, &fault),
         Err(Refused::Memory) => Err(OutOfMemory),
     }

@@ -2,6 +2,7 @@
 
 use pci_base::range::RootRange;
 use pci_base::slot::Slot;
+use pci_base::window_kind::ByKind;
 use pci_model::words::Words;
 use pci_place::pools::Pools;
 use pci_probe::assuming::Assuming;
@@ -43,6 +44,11 @@ pub struct SettleRequest {
     pub fixed: Vec<Slot>,
     /// Whether nothing is left where it stands.
     pub anew: bool,
+    /// How many addresses of each class are wanted behind each hot-plug slot: 0 where none are.
+    pub spares: ByKind<u64>,
+    /// The bridges that have such a slot; None: those of the dump whose registers say so. One that the dump doesn't have says
+    /// nothing.
+    pub slots: Option<Vec<Slot>>,
 }
 
 /// What is printed of a settling.
