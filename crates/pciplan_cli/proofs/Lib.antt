@@ -1,2 +1,3 @@
 mod RootWords
 mod Invocations
+mod SettlingWords

@@ -4,11 +4,13 @@ use Rattle.std.specs.Borrow.{Bor}
 use Rattle.std.specs.Global.{Vec}
 use Rattle.pci_spec.specs.Slot.{Slot}
 use Rattle.pci_base.specs.declared.range.RootRange.{RootRange}
+use Rattle.pci_base.specs.declared.window_kind.ByKind.{ByKind}
 use Rattle.pci_script.specs.declared.form.Form.{Form as ScriptForm}
 use Rattle.pci_script.specs.declared.form.Form.TheVariants as scripts
 use Rattle.pci_tree.specs.declared.roots.Roots.{Roots}
 use Rattle.pciplan_lists.specs.ListWords.{HasRanges, IsListWord}
 use Rattle.pciplan_lists.specs.SlotWords.{IsSlotList, IsSlotListWord}
+use Rattle.pciplan_lists.specs.SpareWords.{IsSpareWord}
 use Rattle.pciplan_words.specs.declared.asked.SettleWords.{SettleWords}
 use Rattle.pciplan_words.specs.declared.forms.Form.{Form}
 use Rattle.pciplan_words.specs.declared.forms.Form.TheVariants.{Setpci, Grub}
@@ -20,7 +22,7 @@ use Rattle.pciplan_tasks.specs.declared.task.Task.{Task}
 use Rattle.pciplan_tasks.specs.declared.task.Task.TheVariants as task
 use Rattle.pciplan_tasks.specs.declared.failure.PoolOption.TheVariants.{Io, Mem, Pref}
 use Rattle.pciplan_tasks.specs.declared.failure.Failure.{Failure}
-use Rattle.pciplan_tasks.specs.declared.failure.Failure.TheVariants.{Root, Pool, Fixed, Memory}
+use Rattle.pciplan_tasks.specs.declared.failure.Failure.TheVariants.{Root, Pool, Fixed, Spare, Slots, Memory}
 
 -- a list of ranges in this word
 abbrev pub IsListOf : Bor (List ℕ) → Vec RootRange → Type 0
@@ -30,6 +32,17 @@ IsListOf word list = IsListWord word.now list.items
 abbrev pub AreFixed : Option (Bor (List ℕ)) → Vec Slot → Type 0
 AreFixed None slots = slots.items ≡ []
 AreFixed (Some word) slots = IsSlotListWord word.now slots.items
+
+-- how much the word of `--spare` wants: nothing where there is no word
+abbrev pub AreSpares : Option (Bor (List ℕ)) → ByKind ℕ → Type 0
+AreSpares None sizes = sizes ≡ record { io = 0; memory = 0; prefetchable = 0 }
+AreSpares (Some word) sizes = IsSpareWord word.now sizes
+
+-- the slots of the word of `--slots`: those of the dump are meant where there is no word
+abbrev pub AreSlots : Option (Bor (List ℕ)) → Option (Vec Slot) → Type 0
+AreSlots None slots = slots ≡ None
+AreSlots (Some word) None = ⊥
+AreSlots (Some word) (Some slots) = IsSlotListWord word.now slots.items
 
 -- the script of a form that a word names
 abbrev pub script_form : Form → ScriptForm
@@ -51,6 +64,8 @@ pub record IsSettlingOf (form : Option Form) (asked : SettleWords) (t : Task) : 
   pub pref : IsListOf asked.pref request.lists.pref
   pub fixed : AreFixed asked.fixed request.fixed
   pub anew : request.anew ≡ asked.anew
+  pub spares : AreSpares asked.spare request.spares
+  pub slots : AreSlots asked.slots request.slots
   pub is : t ≡ task.Settle request (printed_of form asked.writes)
 
 -- ---- the first word that is none
@@ -61,6 +76,10 @@ HasNoListWord word = (list : List RootRange) → IsListWord word.now list → �
 abbrev pub HasNoSlotsWord : Option (Bor (List ℕ)) → Type 0
 HasNoSlotsWord None = ⊥
 HasNoSlotsWord (Some word) = (slots : List Slot) → IsSlotListWord word.now slots → ⊥
+
+abbrev pub HasNoSpareWord : Option (Bor (List ℕ)) → Type 0
+HasNoSpareWord None = ⊥
+HasNoSpareWord (Some word) = (sizes : ByKind ℕ) → IsSpareWord word.now sizes → ⊥
 
 abbrev pub HasListWord : Bor (List ℕ) → Type 0
 HasListWord word = (list : List RootRange) × IsListWord word.now list
@@ -78,7 +97,13 @@ HasSettleMem asked = HasSettleIo asked × HasListWord asked.mem
 abbrev pub HasPref : SettleWords → Type 0
 HasPref asked = HasSettleMem asked × HasListWord asked.pref
 
--- the word of `--fixed` is a list of slots, for which memory is asked
+abbrev pub HasFixed : SettleWords → Type 0
+HasFixed asked = HasPref asked × ((slots : Vec Slot) × AreFixed asked.fixed slots)
+
+abbrev pub HasSpare : SettleWords → Type 0
+HasSpare asked = HasFixed asked × ((sizes : ByKind ℕ) × AreSpares asked.spare sizes)
+
+-- the word of `--fixed` or of `--slots` is a list of slots, for which memory is asked
 abbrev pub SpellsSlots : Option (Bor (List ℕ)) → Type 0
 SpellsSlots None = ⊥
 SpellsSlots (Some word) = IsSlotList word.now
@@ -88,13 +113,17 @@ abbrev pub IsSettlingWant : SettleWords → Type 0
 IsSettlingWant asked =
     (HasSettleRoots asked × HasRanges asked.io.now) ⊎ (HasSettleIo asked × HasRanges asked.mem.now)
     ⊎ (HasSettleMem asked × HasRanges asked.pref.now) ⊎ (HasPref asked × SpellsSlots asked.fixed)
+    ⊎ (HasSpare asked × SpellsSlots asked.slots)
 
--- the root list is looked at, then the lists of I/O, memory and prefetchable memory, then the fixed slots
+-- the root list is looked at, then the lists of I/O, memory and prefetchable memory, then the fixed slots, then what is wanted
+-- behind hot-plug slots, and then the bridges that have one
 abbrev pub IsSettlingRefused : SettleWords → Failure → Type 0
 IsSettlingRefused asked Root = HasNoRoots asked.root
 IsSettlingRefused asked (Pool Io) = HasSettleRoots asked × HasNoListWord asked.io
 IsSettlingRefused asked (Pool Mem) = HasSettleIo asked × HasNoListWord asked.mem
 IsSettlingRefused asked (Pool Pref) = HasSettleMem asked × HasNoListWord asked.pref
 IsSettlingRefused asked Fixed = HasPref asked × HasNoSlotsWord asked.fixed
+IsSettlingRefused asked Spare = HasFixed asked × HasNoSpareWord asked.spare
+IsSettlingRefused asked Slots = HasSpare asked × HasNoSlotsWord asked.slots
 IsSettlingRefused asked Memory = IsSettlingWant asked
 IsSettlingRefused _ _ = ⊥

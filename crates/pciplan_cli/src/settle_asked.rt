@@ -1,15 +1,17 @@
 //! The settling that a command line asks for.
 ghost use Rattle.std.specs.Prelude.{◌≡◌, ◌⊎◌, MatchResult};
-ghost use Rattle.pciplan_cli.specs.SettleAsked.{AreFixed, HasNoListWord, HasNoSlotsWord, IsListOf, IsSettlingOf, IsSettlingRefused, SpellsSlots, printed_of};
+ghost use Rattle.pciplan_cli.specs.SettleAsked.{AreFixed, AreSlots, AreSpares, HasNoListWord, HasNoSlotsWord, HasNoSpareWord, IsListOf, IsSettlingOf, IsSettlingRefused, SpellsSlots, printed_of};
 ghost use Rattle.pciplan_lists.specs.ListWords.{HasRanges};
 ghost use Rattle.pciplan_tasks.specs.declared.failure.Failure.{Failure};
 
 use crate::option_words::roots_of;
 use pci_base::range::RootRange;
 use pci_base::slot::Slot;
+use pci_base::window_kind::ByKind;
 use pci_script::form::Form as ScriptForm;
 use pciplan_lists::list_word::list_of_word;
 use pciplan_lists::slot_list::slots_of_word;
+use pciplan_lists::spare_word::spares_of_word;
 use pciplan_tasks::failure::{Failure, PoolOption};
 use pciplan_tasks::task::{Printed, SettleLists, SettleRequest, Task};
 use pciplan_words::asked::SettleWords;
@@ -34,6 +36,36 @@ fn fixed_of(alloc: Global, word: Option<&str>) -> Result<Vec<Slot>, Failure>
     match word {
         None => Ok(Vec::new(alloc)),
         Some(list) => slots_of_word(alloc, list)?.ok_or(Failure::Fixed),
+    }
+}
+
+/// How many addresses of each class the word of `--spare` wants, 0 where there is no word.
+fn spares_of(word: Option<&str>) -> Result<ByKind<u64>, Failure>
+    ensures { MatchResult result (AreSpares word.entry)
+        (λ failure. (failure ≡ Failure.Spare) × HasNoSpareWord word.entry) }
+{
+    match word {
+        None => Ok(ByKind {
+            io: 0,
+            memory: 0,
+            prefetchable: 0,
+        }),
+        Some(spare) => spares_of_word(spare).ok_or(Failure::Spare),
+    }
+}
+
+/// The slots of the word of `--slots`, None where there is no word.
+fn slots_of(alloc: Global, word: Option<&str>) -> Result<Option<Vec<Slot>>, Failure>
+    ensures { MatchResult result (AreSlots word.entry)
+        (λ failure. ((failure ≡ Failure.Memory) × SpellsSlots word.entry)
+        ⊎ ((failure ≡ Failure.Slots) × HasNoSlotsWord word.entry)) }
+{
+    match word {
+        None => Ok(None),
+        Some(list) => {
+            let slots = slots_of_word(alloc, list)?.ok_or(Failure::Slots)?;
+            Ok(Some(slots))
+        }
     }
 }
 
@@ -68,6 +100,8 @@ pub fn settling_of(
         lists,
         fixed: fixed_of(alloc, asked.fixed)?,
         anew: asked.anew,
+        spares: spares_of(asked.spare)?,
+        slots: slots_of(alloc, asked.slots)?,
     };
     Ok(Task::Settle {
         request,

@@ -1,14 +1,16 @@
 //! The program's settling where a read, a write or a growth fails.
 use crate::on_boards::{Made, is_cut_off, is_printed, is_refused, is_unread};
+use crate::program::prints;
 use pci_base::range::{Range, RootRange};
 use pci_base::slot::Slot;
+use pci_base::window_kind::ByKind;
 use pci_script::form::Form;
 use pci_tree::roots::Roots;
 use pciplan_tasks::task::{Printed, SettleLists, SettleRequest, Task};
 use std::alloc::{AllocError, Global};
 use std::test::Fail;
-use test_support::row::Row;
 use test_support::row::Row::{Bridge, Device};
+use test_support::row::{Row, texts_of_rows};
 
 /// A list with one range of all root buses.
 fn list_of(alloc: Global, first: u64, last: u64) -> Result<Vec<RootRange>, AllocError> {
@@ -38,6 +40,15 @@ fn lists_to(alloc: Global, last: u64) -> Result<SettleLists, AllocError> {
     })
 }
 
+/// Nothing is wanted behind any slot.
+fn no_spares() -> ByKind<u64> {
+    ByKind {
+        io: 0,
+        memory: 0,
+        prefetchable: 0,
+    }
+}
+
 /// Settling in these lists, with the function at this device of bus 00 not to be written, where one is named, and else all
 /// placed anew.
 fn task_to(alloc: Global, last: u64, fixed: Option<u8>, printed: Printed) -> Made {
@@ -46,6 +57,8 @@ fn task_to(alloc: Global, last: u64, fixed: Option<u8>, printed: Printed) -> Mad
         lists: lists_to(alloc, last)?,
         fixed: fixed_at(alloc, fixed)?,
         anew: fixed.is_none(),
+        spares: no_spares(),
+        slots: None,
     };
     Ok(Task::Settle { request, printed })
 }
@@ -157,6 +170,56 @@ fn so_does_one_whose_fixed_part_does_not_stand(rt: HostRuntime) -> Result<(), Fa
         task_to(rt.alloc(), LAST, Some(2), Printed::Writes),
         BOARD,
     )
+}
+
+/// The same with this much memory wanted behind the bridge, which is named, and nothing placed anew.
+fn task_with_spare(alloc: Global, memory: u64, printed: Printed) -> Made {
+    let request = SettleRequest {
+        roots: Roots::host(),
+        lists: lists_to(alloc, LAST)?,
+        fixed: Vec::new(alloc),
+        anew: false,
+        spares: ByKind {
+            memory,
+            ..no_spares()
+        },
+        slots: Some(fixed_at(alloc, Some(1))?),
+    };
+    Ok(Task::Settle { request, printed })
+}
+
+#[test]
+fn so_does_one_whose_spare_is_denied(rt: HostRuntime) -> Result<(), Fail> {
+    is_refused(
+        rt.alloc(),
+        task_with_spare(rt.alloc(), 1 << 21, Printed::Writes),
+        BOARD,
+    )
+}
+
+#[test]
+fn a_spare_that_is_denied_is_told(rt: HostRuntime) -> Result<(), Fail> {
+    const WORDS: &[&str] = &[
+        "settle",
+        "d",
+        "p",
+        "--io",
+        "none",
+        "--mem",
+        "e0000000-e01fffff",
+        "--pref",
+        "none",
+        "--spare",
+        "mem:200000",
+        "--slots",
+        "00:01.0",
+        "--writes",
+    ];
+    const FEW: &str = "00:02.0 10.4 e0000000\n00:02.0 04.2 0002\n";
+    const DENIED: &str = "pciplan: spare 00:01.0 20\n";
+    let texts = texts_of_rows(rt.alloc(), BOARD)?;
+    let (dump, probe) = (texts.dump.as_str(), texts.probe.as_str());
+    prints(rt.alloc(), WORDS, (dump, probe), (FEW, DENIED, 0))
 }
 
 #[test]
