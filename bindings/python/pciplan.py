@@ -31,6 +31,8 @@ _LIST = 4096
 # A function has 16 writes at most, and 841 bytes of a dump at least: its slot, 16 rows of 52 bytes, and an empty line that
 # the last may lack.
 _WRITES, _FUNCTION = 16, 841
+# A bridge has three windows.
+_WINDOWS = 3
 
 
 class _Pools(ctypes.Structure):
@@ -42,6 +44,10 @@ class _Write(ctypes.Structure):
     _fields_.append(('value', ctypes.c_uint32))
 
 
+class _Denied(ctypes.Structure):
+    _fields_ = [(name, ctypes.c_uint8) for name in ('bus', 'device', 'function', 'offset')]
+
+
 class _Text(ctypes.Structure):
     _fields_ = [('at', _bytes), ('len', _size)]
 
@@ -51,7 +57,7 @@ class _FaultsWords(ctypes.Structure):
 
 
 class _SettleWords(ctypes.Structure):
-    _fields_ = [(name, _Text) for name in ('io', 'mem', 'pref', 'fixed')] + [('anew', ctypes.c_uint8)]
+    _fields_ = [(name, _Text) for name in ('io', 'mem', 'pref', 'fixed', 'spare', 'slots')] + [('anew', ctypes.c_uint8)]
 
 
 def _load():
@@ -70,7 +76,8 @@ def _load():
     line = [_bytes, _size, _size_at]
     library.pciplan_check.argtypes = texts + line
     library.pciplan_plan.argtypes = texts + [ctypes.POINTER(_Pools)] + writes + line
-    library.pciplan_settle.argtypes = texts + [ctypes.POINTER(_SettleWords)] + writes + line
+    denied = [ctypes.POINTER(_Denied), _size, _size_at]
+    library.pciplan_settle.argtypes = texts + [ctypes.POINTER(_SettleWords)] + writes + denied + line
     library.pciplan_faults.argtypes = texts + [ctypes.POINTER(_FaultsWords)] + line
     for call in (library.pciplan_check, library.pciplan_faults, library.pciplan_plan, library.pciplan_settle):
         call.restype = ctypes.c_uint8
@@ -82,8 +89,14 @@ _library = _load()
 Write = namedtuple('Write', 'bus device function offset width value')
 Write.__doc__ = """A write of `width` little-endian bytes, 2 or 4, to the configuration register at `offset`."""
 
-Plan = namedtuple('Plan', 'writes safe_from')
-Plan.__doc__ = """Writes in the order in which they are made. After `safe_from` of them or more one may stop anywhere."""
+Denied = namedtuple('Denied', 'bus device function offset')
+Denied.__doc__ = """A window in which a spare has no room: its bridge, and the offset of its first register."""
+
+Plan = namedtuple('Plan', 'writes safe_from denied', defaults=((),))
+Plan.__doc__ = """Writes in the order in which they are made. After `safe_from` of them or more one may stop anywhere.
+
+`denied` has the windows of a settling whose spares have no room, the highest slot first.
+"""
 
 
 class Verdict(namedtuple('Verdict', 'yes line')):
@@ -145,14 +158,20 @@ def plan(dump, probe, io, mem, pref, roots=(0,)):
     return _written(_library.pciplan_plan, dump, probe, roots, _Pools(*io, *mem, *pref))
 
 
-def settle(dump, probe, io='none', mem='none', pref='none', fixed='', anew=False, roots=(0,)):
+def settle(dump, probe, io='none', mem='none', pref='none', fixed='', anew=False, roots=(0,), spare='', slots=''):
     """The plan that leaves what works and places the rest in lists, in words as on the command line.
 
     io, mem and pref are lists as '1000-ffff' or '00:e0000000-e7ffffff,e8000000-e8ffffff'. fixed lists the slots of which no
     register may be written, as '00:1f.0,01:00.0'. Where anew is true, nothing stays where it is.
+
+    spare says what is wanted behind each hot-plug slot, as 'io:1000,mem:200000'. slots lists the bridges that have one, as
+    '00:1c.0'; where it is empty, they are those of the dump whose registers say so.
     """
-    words = _SettleWords(*_words(io, mem, pref, fixed), anew)
-    return _written(_library.pciplan_settle, dump, probe, roots, words)
+    words = _SettleWords(*_words(io, mem, pref, fixed, spare, slots), anew)
+    room = _WINDOWS * (len(dump) // _FUNCTION + 1)
+    denied, count = (_Denied * room)(), _size()
+    plan = _written(_library.pciplan_settle, dump, probe, roots, words, denied, room, ctypes.byref(count))
+    return plan._replace(denied=tuple(Denied(*(getattr(d, name) for name in Denied._fields)) for d in denied[:count.value]))
 
 
 def text(images):
@@ -187,12 +206,12 @@ def _said(status, line, used):
     return said
 
 
-def _written(call, dump, probe, roots, asked):
+def _written(call, dump, probe, roots, asked, *denied):
     room = _WRITES * (len(dump) // _FUNCTION + 1)
     writes, count, safe_from = (_Write * room)(), _size(), _size()
     line, used = ctypes.create_string_buffer(_LINE), _size()
     status = call(*_texts(dump, probe, roots), ctypes.byref(asked), writes, room, ctypes.byref(count),
-                  ctypes.byref(safe_from), line, _LINE, ctypes.byref(used))
+                  ctypes.byref(safe_from), *denied, line, _LINE, ctypes.byref(used))
     if status != 0:
         raise Fault(_said(status, line, used))
     return Plan([Write(*(getattr(w, name) for name in Write._fields)) for w in writes[:count.value]], safe_from.value)

@@ -47,6 +47,12 @@ class Machines(unittest.TestCase):
         writes = [pciplan.Write(2, 0, 0, 0x10, 4, 0xe0100000), pciplan.Write(2, 0, 0, 4, 2, 2)]
         self.assertEqual(got, pciplan.Plan(writes, 0))
 
+    def test_settle_with_spares(self):
+        """The window of the card's bridge can't end later, as a device stands behind it."""
+        got = pciplan.settle(*PLUGGED, mem='e0000000-e02fffff', spare='mem:100000', slots='00:02.0')
+        self.assertEqual([w[:4] for w in got.writes], [(2, 0, 0, 0x10), (2, 0, 0, 4)])
+        self.assertEqual(got.denied, (pciplan.Denied(0, 2, 0, 0x20),))
+
     def test_nothing_to_settle(self):
         dump, probe = (MACHINES / 'old.dump').read_bytes(), (MACHINES / 'old.probe').read_bytes()
         got = pciplan.settle(dump, probe, io='700-ffff', mem='80000000-febfffff')
@@ -122,7 +128,10 @@ class NoAnswer(unittest.TestCase):
                 ('pool io', pciplan.settle, [b'', b'', 'g', 'g']),
                 ('pool mem', pciplan.settle, [b'', b'', 'none', '\u00e9']),
                 ('pool pref', pciplan.settle, [b'', b'', 'none', 'none', '']),
-                ('fixed', pciplan.settle, [b'', b'', 'none', 'none', 'none', '00:00.8'])):
+                ('fixed', pciplan.settle, [b'', b'', 'none', 'none', 'none', '00:00.8']),
+                ('spare', pciplan.settle, [b'', b'', 'none', 'none', 'none', '', False, (0,), 'mem:0', '00:00.8']),
+                ('slots', pciplan.settle, [b'', b'', 'none', 'none', 'none', '', False, (0,), 'mem:1', '00:00.8']),
+                ('slots', pciplan.settle, [b'', b'', 'none', 'none', 'none', '', False, (0,), '', '00:00.0'])):
             with self.subTest(message), self.assertRaisesRegex(pciplan.Refused, '^%s$' % message):
                 call(*words)
 

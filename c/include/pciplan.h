@@ -26,8 +26,8 @@
 
    What the caller has to uphold, which nothing checks: each pointer is to as many bytes as its length says, and isn't
    null, even where the length is 0; they stay as they are during the call; what is written to (line, line_used,
-   text, text_used, writes, writes_used, safe_from, registers, registers_used, access) overlaps nothing else that is handed
-   in. */
+   text, text_used, writes, writes_used, safe_from, denied, denied_used, registers, registers_used, access) overlaps nothing
+   else that is handed in. */
 #ifndef PCIPLAN_H
 #define PCIPLAN_H
 
@@ -57,7 +57,7 @@ enum pciplan_status {
     PCIPLAN_REFUSED = 2, /* the roots are no list of roots, else a word of faults or settle has no meaning, else the dump is
                             no text, else the probe is none */
     PCIPLAN_MEMORY = 3,  /* a growth was refused */
-    PCIPLAN_SHORT = 4    /* line, text or writes is too short */
+    PCIPLAN_SHORT = 4    /* line, text, writes or denied is too short */
 };
 
 /* So long a line holds every answer of pciplan_check, of pciplan_plan and of pciplan_settle, and every message of
@@ -151,30 +151,48 @@ uint8_t pciplan_plan(const uint8_t *dump, size_t dump_len,
    io, mem and pref are the lists in which what gets a new place is placed, and windows and BARs on the root buses that stay
    lie in: "none", or ranges joined by commas, each "A-B" of all root buses or "bb:A-B" of one, as "1000-ffff" or
    "00:e0000000-e7ffffff,e8000000-e8ffffff", with both ends in 1 to 16 lower-case hex digits. fixed lists the slots of
-   which no register may be written, as "00:1f.0,01:00.0", each above the one before it; none where it has no byte. anew is
-   0 where what stands stays where it is, else all is placed anew. */
+   which no register may be written, as "00:1f.0,01:00.0", each above the one before it; none where it has no byte.
+
+   spare says how many addresses are wanted behind each hot-plug slot: one to three of "io:SIZE", "mem:SIZE" and "pref:SIZE" in
+   this order, joined by commas, each in hex digits as above and not 0; nothing is wanted where it has no byte. slots lists the
+   bridges that have such a slot, as fixed lists its own; where it has no byte, they are those of the dump whose registers say
+   so. It has a byte beside spare alone.
+
+   anew is 0 where what stands stays where it is, else all is placed anew. */
 struct pciplan_settle_words {
-    struct pciplan_text io, mem, pref, fixed;
+    struct pciplan_text io, mem, pref, fixed, spare, slots;
     uint8_t anew;
+};
+
+/* A window of a bridge with a slot in which the spare that is wanted has no room, by the offset of its first register: 1Ch of
+   I/O, 20h of memory, 24h of prefetchable memory. */
+struct pciplan_denied {
+    uint8_t bus, device, function, offset;
 };
 
 /* Settles the texts of a dump and of its probe: what stands where it works stays there, and all else is placed in the lists.
 
    At YES writes, *writes_used, *safe_from, line and *line_used are as pciplan_plan leaves them. *safe_from is 0 where what
    the dump shows is sound, else the number of the first writes, which close functions and windows. Where all is settled
-   already there are no writes.
+   already there are no writes. The windows whose spares have no room, the highest slot first and of a slot by rising offset,
+   stand at the front of denied, and *denied_used of them count; what follows them in denied isn't changed.
 
    At NO a fault of the texts or of settling is named, as "no 74 Fixed 00:1f.0 10". It is "no 76 Assumed 02:00.0 18" where a
    title of the probe names this BAR as assumed, or this ROM whose bit 0 is set; a title of any other form than those of
    docs/FORMATS.md means nothing. At REFUSED a message stands in line:
-   "root", else "pool io", "pool mem", "pool pref" or "fixed" for the first word without a meaning, else a message of
-   pciplan_check. At MEMORY and SHORT all is as pciplan_plan leaves it. */
+   "root", else "pool io", "pool mem", "pool pref", "fixed", "spare" or "slots" for the first word without a meaning, else a
+   message of pciplan_check. At both denied isn't changed, and *denied_used is 0.
+
+   At MEMORY nothing is changed. At SHORT all is as pciplan_plan leaves it, denied isn't changed, and *denied_used is 0; or
+   *denied_used, above denied_len, is the number of these windows, and *writes_used and *line_used are 0: writes may have no
+   room then, either. */
 uint8_t pciplan_settle(const uint8_t *dump, size_t dump_len,
                        const uint8_t *probe, size_t probe_len,
                        const uint8_t *roots, size_t roots_len,
                        const struct pciplan_settle_words *words,
                        struct pciplan_write *writes, size_t writes_len, size_t *writes_used,
                        size_t *safe_from,
+                       struct pciplan_denied *denied, size_t denied_len, size_t *denied_used,
                        uint8_t *line, size_t line_len, size_t *line_used);
 
 /* What a plan or a settling of this dump starts from: the registers that are compared before its first write, with what

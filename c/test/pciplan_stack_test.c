@@ -75,10 +75,11 @@ static void plan(void)
 static void settle_as(uint8_t anew)
 {
     const struct pciplan_settle_words asked = {TEXT_OF("1000-ffff"), TEXT_OF("80000000-febfffff"),
-                                               TEXT_OF("100000000-ffffffffff"), TEXT_OF("00:00.0"), anew};
-    size_t count, safe_from, used;
+                                               TEXT_OF("100000000-ffffffffff"), TEXT_OF("00:00.0"), TEXT_OF(""), TEXT_OF(""), anew};
+    struct pciplan_denied denied[1];
+    size_t count, safe_from, none, used;
     status = pciplan_settle(dump, dump_len, probe, probe_len, root, sizeof root, &asked, writes, WRITES, &count, &safe_from,
-                            line, sizeof line, &used);
+                            denied, 1, &none, line, sizeof line, &used);
 }
 
 static void settle(void)

@@ -324,25 +324,94 @@ static const struct settle_call settle_calls[] = {
      "no 74 Fixed 02:00.0 10\n"},
 };
 
+struct spare_call {
+    struct settle_call call;
+    const char *spare, *slots;
+    size_t denied_len;
+    const struct pciplan_denied *denied;
+    size_t denied_used;
+};
+
+/* The window of the card's bridge, which can't end later, as the device stands behind it. */
+static const struct pciplan_denied blocked[] = {{0x00, 0x02, 0, 0x20}};
+
+#define CARD MEM, "", NULL, 1, ROOM, PCIPLAN_LINE, PCIPLAN_YES, card, COUNT(card), 0, ""
+#define NO_WORD MEM, "", NULL, 1, ROOM, PCIPLAN_LINE, PCIPLAN_REFUSED, NULL, 0, 0
+#define SPARE "mem:100000"
+
+static const struct spare_call spare_calls[] = {
+    {{"no spare", CARD}, SPARE, "00:02.0", ROOM, blocked, COUNT(blocked)},
+    {{"no slot", CARD}, SPARE, "", 0, NULL, 0},
+    {{"no bridge", CARD}, SPARE, "00:1f.0,00:1f.1", 0, NULL, 0},
+    {{"no room for what is denied", MEM, "", NULL, 1, 0, PCIPLAN_LINE, PCIPLAN_SHORT, NULL, 0, 0, ""}, SPARE, "00:02.0", 0,
+     NULL, COUNT(blocked)},
+    {{"no spares", NO_WORD, "spare"}, SPARE ",", "00", 0, NULL, 0},
+    {{"no list of slots", NO_WORD, "slots"}, SPARE, "00:02.0,", 0, NULL, 0},
+    {{"slots without spares", NO_WORD, "slots"}, "", "00:02.0", 0, NULL, 0},
+};
+
 static struct pciplan_text word(const char *text)
 {
     struct pciplan_text t = {(const uint8_t *)text, strlen(text)};
     return t;
 }
 
+/* What stands in denied before a call. */
+static const struct pciplan_denied unfilled = {FILLED, FILLED, FILLED, FILLED};
+
+static int is_denied(struct pciplan_denied one, struct pciplan_denied other)
+{
+    return one.bus == other.bus && one.device == other.device && one.function == other.function &&
+           one.offset == other.offset;
+}
+
+/* Sees that a call with this status left just these windows, or what it needs of them. */
+static void are_denied(const struct spare_call *c, uint8_t status, const struct pciplan_denied *put, size_t used)
+{
+    for (size_t i = 0; i < ROOM; i++)
+        if (!is_denied(put[i], status == PCIPLAN_YES && i < c->denied_used ? c->denied[i] : unfilled))
+            fail("another window", c->call.name);
+    if (used != (status == PCIPLAN_MEMORY ? UNTOLD : c->denied_used))
+        fail("another number of windows", c->call.name);
+}
+
 /* Makes a call, and sees to all that it leaves whatever the status. The answer is the status. */
-static uint8_t settled(const struct settle_call *c, struct text dump, struct text probe, size_t refused)
+static uint8_t settled(const struct spare_call *s, struct text dump, struct text probe, size_t refused)
 {
     static const uint8_t host = 0;
-    struct pciplan_settle_words words = {word("none"), word(c->mem), word("none"), word(c->fixed), 0};
+    const struct settle_call *c = &s->call;
+    struct pciplan_settle_words words = {word("none"), word(c->mem), word("none"), word(c->fixed), word(s->spare),
+                                         word(s->slots), 0};
     struct left left = nothing_left();
+    struct pciplan_denied denied[ROOM];
+    size_t denied_used = UNTOLD;
+    for (size_t i = 0; i < ROOM; i++)
+        denied[i] = unfilled;
     growths = 0;
     refuse = refused;
     uint8_t status = pciplan_settle(dump.bytes, dump.len, probe.bytes, probe.len, &host, c->roots_len, &words, left.put,
-                                    c->writes_len, &left.writes_used, &left.safe_from, left.line, c->line_len,
-                                    &left.line_used);
+                                    c->writes_len, &left.writes_used, &left.safe_from, denied, s->denied_len,
+                                    &denied_used, left.line, c->line_len, &left.line_used);
     is_left(c->name, &left, status, c->writes, c->writes_used, c->safe_from, c->line);
+    are_denied(s, status, denied, denied_used);
     return status;
+}
+
+/* Makes a call with each growth refused in turn, too. The answer is how many were. */
+static size_t settled_or_refused(const struct spare_call *s, struct text dump, struct text probe)
+{
+    const struct settle_call *c = &s->call;
+    uint8_t *device = at_text(dump, DEVICE);
+    if (c->device != NULL)
+        memcpy(device, c->device, strlen(c->device));
+    if (settled(s, dump, probe, 0) != c->status)
+        fail("another status", c->name);
+    size_t all = growths;
+    for (size_t n = 1; n <= all; n++)
+        if (settled(s, dump, probe, n) != PCIPLAN_MEMORY)
+            fail("a refused growth isn't told", c->name);
+    memcpy(device, DEVICE, strlen(DEVICE));
+    return all;
 }
 
 /* Makes all calls for settlings. The answer is how many growths were refused. */
@@ -352,20 +421,11 @@ static size_t settlings(void)
     struct text probe = text_of(PLUGGED_PROBE);
     size_t refusals = 0;
     for (size_t i = 0; i < COUNT(settle_calls); i++) {
-        const struct settle_call *c = &settle_calls[i];
-        uint8_t *device = at_text(dump, DEVICE);
-        if (c->device != NULL)
-            memcpy(device, c->device, strlen(c->device));
-        if (settled(c, dump, probe, 0) != c->status)
-            fail("another status", c->name);
-        size_t all = growths;
-        for (size_t n = 1; n <= all; n++) {
-            if (settled(c, dump, probe, n) != PCIPLAN_MEMORY)
-                fail("a refused growth isn't told", c->name);
-            refusals++;
-        }
-        memcpy(device, DEVICE, strlen(DEVICE));
+        struct spare_call plain = {settle_calls[i], "", "", 0, NULL, 0};
+        refusals += settled_or_refused(&plain, dump, probe);
     }
+    for (size_t i = 0; i < COUNT(spare_calls); i++)
+        refusals += settled_or_refused(&spare_calls[i], dump, probe);
     free(dump.bytes);
     free(probe.bytes);
     return refusals;
@@ -375,6 +435,6 @@ int main(void)
 {
     size_t refusals = verdicts() + plans() + settlings();
     printf("%zu calls answered as they should be, %zu growths refused in turn\n",
-           COUNT(calls) + COUNT(plan_calls) + COUNT(settle_calls), refusals);
+           COUNT(calls) + COUNT(plan_calls) + COUNT(settle_calls) + COUNT(spare_calls), refusals);
     return 0;
 }

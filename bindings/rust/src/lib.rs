@@ -50,6 +50,17 @@ pub struct Write {
     pub value: u32,
 }
 
+/// A window of a bridge in which a spare has no room, by the offset of its first register: 1Ch of I/O, 20h of memory, 24h of
+/// prefetchable memory.
+#[repr(C)]
+#[derive(Clone, Copy, Debug, Default, PartialEq, Eq)]
+pub struct Denied {
+    pub bus: u8,
+    pub device: u8,
+    pub function: u8,
+    pub offset: u8,
+}
+
 /// What is given to [`faults`] beside the texts, in words as on the command line. A word that is empty isn't said.
 #[derive(Clone, Copy, Debug)]
 pub struct Faults<'a> {
@@ -80,13 +91,17 @@ pub struct Settle<'a> {
     pub pref: &'a str,
     /// The slots of which no register may be written, as `00:1f.0,01:00.0`.
     pub fixed: &'a str,
+    /// What is wanted behind each hot-plug slot, as `io:1000,mem:200000`.
+    pub spare: &'a str,
+    /// The bridges that have such a slot, as `00:1c.0`; where it is empty, those of the dump whose registers say so.
+    pub slots: &'a str,
     /// Whether all is placed anew, and nothing stays where it is.
     pub anew: bool,
 }
 
 impl Default for Settle<'_> {
     fn default() -> Self {
-        Settle { io: "none", mem: "none", pref: "none", fixed: "", anew: false }
+        Settle { io: "none", mem: "none", pref: "none", fixed: "", spare: "", slots: "", anew: false }
     }
 }
 
@@ -95,6 +110,8 @@ impl Default for Settle<'_> {
 pub struct Plan {
     pub writes: Vec<Write>,
     pub safe_from: usize,
+    /// The windows of a settling whose spares have no room, the highest slot first.
+    pub denied: Vec<Denied>,
 }
 
 /// Why there is no answer, or the answer is no.
@@ -128,6 +145,8 @@ const LIST: usize = 4096;
 const VERSION: u32 = 0x000500;
 /// So many writes a function has at most.
 const WRITES: usize = 16;
+/// So many windows a bridge has.
+const WINDOWS: usize = 3;
 /// So many bytes of a dump a function has at least: its slot, 16 rows of 52 bytes, and an empty line that the last may lack.
 const FUNCTION: usize = 841;
 
@@ -193,6 +212,8 @@ pub fn settle(dump: &[u8], probe: &[u8], roots: &[u8], asked: &Settle<'_>) -> Re
         mem: word(asked.mem),
         pref: word(asked.pref),
         fixed: word(asked.fixed),
+        spare: word(asked.spare),
+        slots: word(asked.slots),
         anew: asked.anew.into(),
     };
     written(dump.len(), |room| {
@@ -201,6 +222,7 @@ pub fn settle(dump: &[u8], probe: &[u8], roots: &[u8], asked: &Settle<'_>) -> Re
             raw::pciplan_settle(
                 dump.as_ptr(), dump.len(), probe.as_ptr(), probe.len(), roots.as_ptr(), roots.len(), &words,
                 room.writes.as_mut_ptr(), room.writes.len(), &mut room.count, &mut room.safe_from,
+                room.denied.as_mut_ptr(), room.denied.len(), &mut room.count_denied,
                 room.line.bytes.as_mut_ptr(), LINE, &mut room.line.used,
             )
         }
@@ -289,18 +311,23 @@ struct Room {
     writes: Vec<Write>,
     count: usize,
     safe_from: usize,
+    denied: Vec<Denied>,
+    count_denied: usize,
     line: Line,
 }
 
 /// Makes room for the writes to what a dump of this length lists, and calls.
 fn written(dump: usize, call: impl FnOnce(&mut Room) -> u8) -> Result<Plan, Refusal> {
     be_usable()?;
-    let writes = vec![Write::default(); WRITES * (dump / FUNCTION + 1)];
-    let mut room = Room { writes, count: 0, safe_from: 0, line: Line::default() };
+    let functions = dump / FUNCTION + 1;
+    let writes = vec![Write::default(); WRITES * functions];
+    let denied = vec![Denied::default(); WINDOWS * functions];
+    let mut room = Room { writes, count: 0, safe_from: 0, denied, count_denied: 0, line: Line::default() };
     match call(&mut room) {
         0 => {
             room.writes.truncate(room.count);
-            Ok(Plan { writes: room.writes, safe_from: room.safe_from })
+            room.denied.truncate(room.count_denied);
+            Ok(Plan { writes: room.writes, safe_from: room.safe_from, denied: room.denied })
         }
         status => Err(room.line.refusal(status)),
     }

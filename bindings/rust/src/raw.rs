@@ -1,5 +1,5 @@
 //! The calls, as the header `pciplan.h` declares them.
-use crate::{Pools, Write};
+use crate::{Denied, Pools, Write};
 
 #[repr(C)]
 pub struct Text {
@@ -21,6 +21,8 @@ pub struct SettleWords {
     pub mem: Text,
     pub pref: Text,
     pub fixed: Text,
+    pub spare: Text,
+    pub slots: Text,
     pub anew: u8,
 }
 
@@ -46,6 +48,7 @@ extern "C" {
         dump: *const u8, dump_len: usize, probe: *const u8, probe_len: usize, roots: *const u8, roots_len: usize,
         words: *const SettleWords,
         writes: *mut Write, writes_len: usize, writes_used: *mut usize, safe_from: *mut usize,
+        denied: *mut Denied, denied_len: usize, denied_used: *mut usize,
         line: *mut u8, line_len: usize, line_used: *mut usize,
     ) -> u8;
 }

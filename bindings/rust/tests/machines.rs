@@ -1,5 +1,5 @@
 //! The crate against the texts of this repository.
-use pciplan::{check, faults, plan, settle, supported, text, version, Faults, Plan, Pools, Refusal, Settle, Slot, Write};
+use pciplan::{check, faults, plan, settle, supported, text, version, Denied, Faults, Plan, Pools, Refusal, Settle, Slot, Write};
 use std::{env, fs, path::PathBuf};
 
 /// A file of the repository, which `PCIPLAN_SOURCE` names where this crate doesn't stand in it.
@@ -95,7 +95,10 @@ fn settlings() {
     let asked = Settle { mem: "e0000000-e02fffff", ..Settle::default() };
     let write = Write { bus: 2, device: 0, function: 0, offset: 0x10, width: 4, value: 0xe010_0000 };
     let writes = vec![write, Write { offset: 4, width: 2, value: 2, ..write }];
-    assert_eq!(settle(&dump, &probe, &[0], &asked), Ok(Plan { writes, safe_from: 0 }));
+    assert_eq!(settle(&dump, &probe, &[0], &asked), Ok(Plan { writes: writes.clone(), safe_from: 0, denied: vec![] }));
+    let spare = Settle { spare: "mem:100000", slots: "00:02.0", ..asked };
+    let denied = vec![Denied { bus: 0, device: 2, function: 0, offset: 0x20 }];
+    assert_eq!(settle(&dump, &probe, &[0], &spare), Ok(Plan { writes, safe_from: 0, denied }));
     let fixed = settle(&dump, &probe, &[0], &Settle { fixed: "02:00.0", ..asked });
     assert_eq!(fixed, Err(Refusal::No("no 74 Fixed 02:00.0 10".into())));
 }
@@ -107,6 +110,8 @@ fn texts_and_words_that_are_none() {
     assert_eq!(check(b"", b"", &[]), Err(refused("root")));
     assert_eq!(settle(b"", b"", &[3, 3], &Settle::default()), Err(refused("root")));
     assert_eq!(settle(b"", b"", &[0], &Settle { mem: "g", ..Settle::default() }), Err(refused("pool mem")));
+    assert_eq!(settle(b"", b"", &[0], &Settle { spare: "mem:", ..Settle::default() }), Err(refused("spare")));
+    assert_eq!(settle(b"", b"", &[0], &Settle { slots: "00:00.0", ..Settle::default() }), Err(refused("slots")));
 }
 
 #[test]

@@ -93,6 +93,8 @@ word_short word.Io = let bytes : length (settle_word_text word.Io) ≡ 7 = refl 
 word_short word.Mem = let bytes : length (settle_word_text word.Mem) ≡ 8 = refl in omega (arith, bytes)
 word_short word.Pref = let bytes : length (settle_word_text word.Pref) ≡ 9 = refl in omega (arith, bytes)
 word_short word.Fixed = let bytes : length (settle_word_text word.Fixed) ≡ 5 = refl in omega (arith, bytes)
+word_short word.Spare = let bytes : length (settle_word_text word.Spare) ≡ 5 = refl in omega (arith, bytes)
+word_short word.Slots = let bytes : length (settle_word_text word.Slots) ≡ 5 = refl in omega (arith, bytes)
 
 -- ---- why there are no writes
 

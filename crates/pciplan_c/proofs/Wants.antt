@@ -1,7 +1,6 @@
 -- Where memory is wanted for a message, the root list is one and the words have a meaning.
 use Rattle.std.proofs.Common.{◌≡◌, ◌<◌, ℕ, List, length, codes, inr, ap, sym, subst, ◌∙◌}
 use Rattle.plan_spec.specs.Plan as plan
-use Rattle.settle_spec.specs.Lists.{Request}
 use Rattle.pci_tree.specs.Roots.{IsRootList}
 use Rattle.pciplan_held.specs.declared.put.Withheld.{Withheld}
 use Rattle.pciplan_held.specs.declared.put.Withheld.TheVariants.{Memory, NoRoom}
@@ -11,7 +10,7 @@ use Rattle.pciplan_c.specs.Answers.{IsTooLong}
 use Rattle.pciplan_c.specs.NoWrites.{IsMade}
 use Rattle.pciplan_c.specs.PlanAnswers.{IsNoPlanOf}
 use Rattle.pciplan_c.specs.SettleAnswers.{IsNoSettlingOf, MayWant}
-use Rattle.pciplan_c.specs.SettleWords.{HaveMeaning, IsRequestOf}
+use Rattle.pciplan_c.specs.SettleWords.{AreSaid, HaveMeaning, Said}
 use Rattle.pciplan_c.specs.declared.answer.Answer.TheVariants.{Refused}
 use Rattle.pciplan_c.specs.declared.no_writes.NoWrites.{NoWrites}
 use Rattle.pciplan_c.specs.declared.no_writes.NoWrites.TheVariants.{BadWord, Unread, NotPlanned, NotSettled}
@@ -47,12 +46,11 @@ plan_wants roots dump probe pools (Unread (unread.NotAdmitted fault)) is made = 
 plan_wants roots dump probe pools (NotPlanned fault) is made = is.texts.rising
 plan_wants roots dump probe pools (NotSettled fault) is made = absurd is
 
-said_meaning : (roots : List ℕ) (words : SettleWords) (q : Request) → IsRequestOf roots words q → HaveMeaning words
-said_meaning roots words q asked = (
-  (asked.io, asked.said.io_list),
-  (asked.mem, asked.said.mem_list),
-  (asked.pref, asked.said.pref_list),
-  (asked.fixed, asked.said.slots),
+pub said_meaning : (words : SettleWords) (said : Said) → AreSaid words said → HaveMeaning words
+said_meaning words said are = (
+  ((said.io, are.io_list), (said.mem, are.mem_list), (said.pref, are.pref_list), (said.fixed, are.fixed_slots)),
+  (said.spares, are.spares),
+  (said.slots, are.slots),
 )
 
 pub settle_wants : (roots dump probe : List ℕ) (words : SettleWords) (why : NoWrites)
@@ -64,4 +62,4 @@ settle_wants roots dump probe words (Unread (unread.Refused (Probe fault))) is m
 settle_wants roots dump probe words (Unread (unread.NotAdmitted fault)) is made = (is.1.rising, inr is.0)
 settle_wants roots dump probe words (NotPlanned fault) is made = absurd is
 settle_wants roots dump probe words (NotSettled fault) is made =
-    (is.texts.rising, inr (said_meaning is.start.roots words is.request is.asked))
+    (is.texts.rising, inr (said_meaning words is.asked.said is.asked.are))

@@ -8,7 +8,8 @@ use Rattle.std.proofs.lemmas.Bool.{and_parts, cases_lt, lt-ltb, ltb-true, le-ltb
 use Rattle.std.proofs.lemmas.Str.{IsUtf8-append, IsUtf8-from_ascii, IsUtf8-nil}
 use Rattle.pci_spec.specs.Slot.{Slot}
 use Rattle.pci_spec.specs.Text.{hex_byte, hex_digit}
-use Rattle.pci_spec.specs.Line.{hex_number}
+use Rattle.pci_spec.specs.Window.{WindowKind, IoWindow, MemoryWindow, PrefetchWindow}
+use Rattle.pci_spec.specs.Line.{hex_number, window_name}
 use Rattle.given_spec.specs.Words.{Vga, Vga16}
 use Rattle.model_spec.specs.Words.{Words, Name, Cardbus, Ide, Isa, Power, Reset, Subtractive, Unnumbered, Legacy, Windows, name_text}
 use Rattle.pci_base.specs.declared.range.Range.{Range}
@@ -18,8 +19,9 @@ use Rattle.pciplan_lists.specs.PoolWords.{IsAddressWord, IsPoolWord}
 use Rattle.pciplan_lists.specs.ListWords.{IsListWord, IsRangeWord, bus_text}
 use Rattle.pciplan_lists.specs.ModelWords.{IsModelWord, IsNameWord}
 use Rattle.pciplan_lists.specs.SlotWords.{IsSlotWord}
+use Rattle.pciplan_lists.specs.SpareWords.{Wanted, IsWantedWord, size_of, said}
 use Rattle.pciplan_c.specs.FaultsWords.{HasNoRanges, HasNoWords}
-use Rattle.pciplan_c.specs.SettleWords.{HasNoList, HasNoSlots}
+use Rattle.pciplan_c.specs.SettleWords.{HasNoHotPlugSlots, HasNoList, HasNoSlots, HasNoSpares}
 
 one : (byte : ℕ) → byte < 128 → IsAscii (byte ∷ [])
 one byte small zero = small
@@ -95,6 +97,20 @@ list_utf8 : (word : List ℕ) (list : List RootRange) → IsListWord word list �
 list_utf8 word [] is = subst (λ w. IsUtf8 w) (sym is) none_utf8
 list_utf8 word (r ∷ more) is = behind_utf8 IsRangeWord range_utf8 word (r ∷ more) is
 
+-- ---- words of what is wanted behind hot-plug slots
+
+class_utf8 : (c : WindowKind) → IsUtf8 (window_name c)
+class_utf8 IoWindow = before 105 (111 ∷ []) (omega arith) (before 111 [] (omega arith) IsUtf8-nil)
+class_utf8 MemoryWindow = before 109 (101 ∷ 109 ∷ []) (omega arith) (before 101 (109 ∷ []) (omega arith) (before 109 [] (omega arith) IsUtf8-nil))
+class_utf8 PrefetchWindow =
+    before 112 (114 ∷ 101 ∷ 102 ∷ []) (omega arith) (before 114 (101 ∷ 102 ∷ []) (omega arith)
+    (before 101 (102 ∷ []) (omega arith) (before 102 [] (omega arith) IsUtf8-nil)))
+
+wanted_utf8 : (word : List ℕ) (w : Wanted) → IsWantedWord word w → IsUtf8 word
+wanted_utf8 word w is = subst (λ t. IsUtf8 t) (sym is.text)
+    (IsUtf8-append (window_name w.class) (58 ∷ is.digits) (class_utf8 w.class)
+    (before 58 is.digits (omega arith) (address_utf8 is.digits (size_of w) is.size)))
+
 -- ---- words by which functions are taken
 
 plain_utf8 : (text : List ℕ) → list_all (λ b. nat_lt b 128) text ≡ true → IsUtf8 text
@@ -130,6 +146,21 @@ no_list word other = λ list is. other (list_utf8 word list is)
 pub no_slots : (word : List ℕ) → (IsUtf8 word → ⊥) → HasNoSlots word
 no_slots [] other = λ slots is. other IsUtf8-nil
 no_slots (byte ∷ more) other = λ slots is. other (behind_utf8 IsSlotWord slot_utf8 (byte ∷ more) slots is.joined)
+
+pub no_spares : (word : List ℕ) → (IsUtf8 word → ⊥) → HasNoSpares word
+no_spares [] other = λ sizes is. other IsUtf8-nil
+no_spares (byte ∷ more) other = λ sizes is. other (behind_utf8 IsWantedWord wanted_utf8 (byte ∷ more) (said sizes) is)
+
+-- slots are named beside spares alone
+pub none_beside : (byte : ℕ) (more : List ℕ) → HasNoHotPlugSlots [] (byte ∷ more)
+none_beside byte more slots is = is
+
+pub no_hot_plug_slots : (spare word : List ℕ) → (IsUtf8 word → ⊥) → HasNoHotPlugSlots spare word
+no_hot_plug_slots spare [] other slots is = other IsUtf8-nil
+no_hot_plug_slots [] (byte ∷ more) other slots is = is
+no_hot_plug_slots (first ∷ rest) (byte ∷ more) other None is = is
+no_hot_plug_slots (first ∷ rest) (byte ∷ more) other (Some slots) is =
+    other (behind_utf8 IsSlotWord slot_utf8 (byte ∷ more) slots is.joined)
 
 pub no_words : (word : List ℕ) → (IsUtf8 word → ⊥) → HasNoWords word
 no_words [] other = other IsUtf8-nil

@@ -2,6 +2,7 @@ pub mod Answers
 pub mod NoWrites
 pub mod Endings
 pub mod PlanAnswers
+pub mod DeniedSpares
 pub mod SettleWords
 pub mod SettleAnswers
 pub mod Stepping

@@ -20,6 +20,8 @@ settle_word_text word.Io = codes "pool io"
 settle_word_text word.Mem = codes "pool mem"
 settle_word_text word.Pref = codes "pool pref"
 settle_word_text word.Fixed = codes "fixed"
+settle_word_text word.Spare = codes "spare"
+settle_word_text word.Slots = codes "slots"
 
 -- the line of a fault
 abbrev pub no_text_line : List ℕ → List ℕ

@@ -1,17 +1,23 @@
 -- What words ask of settling.
-use Rattle.std.specs.Prelude.{◌≡◌, ◌⊎◌, ℕ, ◌==◌, Bool, not, List, [], ◌∷◌, map}
+use Rattle.std.specs.Prelude.{◌≡◌, ◌⊎◌, ℕ, ◌==◌, Bool, not, List, [], ◌∷◌, map, Option, None, Some}
+use Rattle.std.specs.Option.{option_map}
 use Rattle.pci_spec.specs.Slot.{Slot}
+use Rattle.pci_spec.specs.Text.{Block}
 use Rattle.settle_spec.specs.Lists.{Lists, Request}
 use Rattle.pci_base.specs.declared.memory.Refused.{Refused}
 use Rattle.pci_base.specs.declared.memory.Refused.TheVariants as refused
 use Rattle.pci_base.specs.declared.range.RootRange.{RootRange}
+use Rattle.pci_base.specs.declared.window_kind.ByKind.{ByKind}
 use Rattle.pci_settle.specs.Lists.{root_range_value}
+use Rattle.pci_settle.specs.Slots.{Demand}
 use Rattle.pci_settle_writes.specs.Requests.{request}
 use Rattle.pciplan_lists.specs.ListWords.{HasRanges, IsListWord}
 use Rattle.pciplan_lists.specs.SlotWords.{IsSlotList as SpellsSlots, IsSlotListWord}
+use Rattle.pciplan_lists.specs.SpareWords.{IsSpareWord}
+use Rattle.pciplan_tasks.specs.Slots.{slots_for, spares_said}
 use Rattle.pciplan_c.specs.declared.settle_words.Asked.{Asked}
 use Rattle.pciplan_c.specs.declared.settle_words.SettleWord.{SettleWord}
-use Rattle.pciplan_c.specs.declared.settle_words.SettleWord.TheVariants.{Io, Mem, Pref, Fixed}
+use Rattle.pciplan_c.specs.declared.settle_words.SettleWord.TheVariants.{Io, Mem, Pref, Fixed, Spare, Slots}
 use Rattle.pciplan_c.specs.declared.settle_words.SettleWords.{SettleWords}
 
 -- the slots of a list, none of an empty one
@@ -19,15 +25,38 @@ abbrev pub AreFixedBy : List ℕ → List Slot → Type 0
 AreFixedBy [] slots = slots ≡ []
 AreFixedBy (byte ∷ more) slots = IsSlotListWord (byte ∷ more) slots
 
+-- how much is wanted behind hot-plug slots: nothing by an empty word
+abbrev pub AreSparesBy : List ℕ → ByKind ℕ → Type 0
+AreSparesBy [] sizes = sizes ≡ record { io = 0; memory = 0; prefetchable = 0 }
+AreSparesBy (byte ∷ more) sizes = IsSpareWord (byte ∷ more) sizes
+
+-- the bridges that a word names; those of the dump are meant by an empty one. A word is said beside one of spares alone
+abbrev pub AreSlotsBy : List ℕ → List ℕ → Option (List Slot) → Type 0
+AreSlotsBy spare [] slots = slots ≡ None
+AreSlotsBy [] (byte ∷ more) slots = ⊥
+AreSlotsBy (first ∷ rest) (byte ∷ more) None = ⊥
+AreSlotsBy (first ∷ rest) (byte ∷ more) (Some slots) = IsSlotListWord (byte ∷ more) slots
+
 abbrev pub is_anew : ℕ → Bool
 is_anew anew = not (anew == 0)
 
+-- what words say
+pub record Said : Type 0 where
+  pub io : List RootRange
+  pub mem : List RootRange
+  pub pref : List RootRange
+  pub fixed : List Slot
+  pub spares : ByKind ℕ
+  pub slots : Option (List Slot)
+
 -- the words say this
-pub record AreSaid (words : SettleWords) (io mem pref : List RootRange) (fixed : List Slot) : Type 0 where
-  pub io_list : IsListWord words.io.now io
-  pub mem_list : IsListWord words.mem.now mem
-  pub pref_list : IsListWord words.pref.now pref
-  pub slots : AreFixedBy words.fixed.now fixed
+pub record AreSaid (words : SettleWords) (said : Said) : Type 0 where
+  pub io_list : IsListWord words.io.now said.io
+  pub mem_list : IsListWord words.mem.now said.mem
+  pub pref_list : IsListWord words.pref.now said.pref
+  pub fixed_slots : AreFixedBy words.fixed.now said.fixed
+  pub spares : AreSparesBy words.spare.now said.spares
+  pub slots : AreSlotsBy words.spare.now words.slots.now said.slots
 
 abbrev pub settle_lists : List RootRange → List RootRange → List RootRange → Lists
 settle_lists io mem pref = record {
@@ -36,14 +65,19 @@ settle_lists io mem pref = record {
   prefetch = map root_range_value pref;
 }
 
--- this is what they ask for below these roots
-pub record IsRequestOf (roots : List ℕ) (words : SettleWords) (q : Request) : Type 0 where
-  pub io : List RootRange
-  pub mem : List RootRange
-  pub pref : List RootRange
-  pub fixed : List Slot
-  pub said : AreSaid words io mem pref fixed
-  pub is : q ≡ request roots (settle_lists io mem pref) fixed (is_anew words.anew)
+-- the lists, and the room behind the slots of a dump
+abbrev pub said_demand : Said → List Block → Demand
+said_demand said dump = record {
+  lists = settle_lists said.io said.mem said.pref;
+  slots = slots_for said.spares said.slots dump;
+  spares = spares_said said.spares;
+}
+
+-- this is what they ask of a dump below these roots
+pub record IsRequestOf (roots : List ℕ) (dump : List Block) (words : SettleWords) (q : Request) : Type 0 where
+  pub said : Said
+  pub are : AreSaid words said
+  pub is : q ≡ request roots (said_demand said dump) said.fixed (is_anew words.anew)
 
 -- ---- the first word that has no meaning
 
@@ -56,7 +90,28 @@ HasList word = (list : List RootRange) × IsListWord word list
 abbrev pub HasNoSlots : List ℕ → Type 0
 HasNoSlots word = (slots : List Slot) → AreFixedBy word slots → ⊥
 
--- the lists are looked at in their order, then the slots
+abbrev pub HasSlots : List ℕ → Type 0
+HasSlots word = (slots : List Slot) × AreFixedBy word slots
+
+abbrev pub HasNoSpares : List ℕ → Type 0
+HasNoSpares word = (sizes : ByKind ℕ) → AreSparesBy word sizes → ⊥
+
+abbrev pub HasSpares : List ℕ → Type 0
+HasSpares word = (sizes : ByKind ℕ) × AreSparesBy word sizes
+
+abbrev pub HasNoHotPlugSlots : List ℕ → List ℕ → Type 0
+HasNoHotPlugSlots spare word = (slots : Option (List Slot)) → AreSlotsBy spare word slots → ⊥
+
+abbrev pub HasHotPlugSlots : List ℕ → List ℕ → Type 0
+HasHotPlugSlots spare word = (slots : Option (List Slot)) × AreSlotsBy spare word slots
+
+-- the words before that of spares have a meaning
+abbrev pub HaveListsAndFixed : SettleWords → Type 0
+HaveListsAndFixed words =
+    HasList words.io.now × HasList words.mem.now × HasList words.pref.now
+    × HasSlots words.fixed.now
+
+-- the lists are looked at in their order, then the fixed slots, the spares, and the bridges that have hot-plug slots
 abbrev pub IsBadWord : SettleWords → SettleWord → Type 0
 IsBadWord words Io = HasNoList words.io.now
 IsBadWord words Mem = HasList words.io.now × HasNoList words.mem.now
@@ -64,15 +119,16 @@ IsBadWord words Pref = HasList words.io.now × HasList words.mem.now × HasNoLis
 IsBadWord words Fixed =
     HasList words.io.now × HasList words.mem.now × HasList words.pref.now
     × HasNoSlots words.fixed.now
-
-abbrev pub HasSlots : List ℕ → Type 0
-HasSlots word = (slots : List Slot) × AreFixedBy word slots
+IsBadWord words Spare = HaveListsAndFixed words × HasNoSpares words.spare.now
+IsBadWord words Slots =
+    HaveListsAndFixed words × HasSpares words.spare.now
+    × HasNoHotPlugSlots words.spare.now words.slots.now
 
 -- all words have a meaning
 abbrev pub HaveMeaning : SettleWords → Type 0
 HaveMeaning words =
-    HasList words.io.now × HasList words.mem.now × HasList words.pref.now
-    × HasSlots words.fixed.now
+    HaveListsAndFixed words × HasSpares words.spare.now
+    × HasHotPlugSlots words.spare.now words.slots.now
 
 -- ---- what is read of them
 
@@ -85,9 +141,24 @@ abbrev pub AreNoSlots : List ℕ → Refused SettleWord → Type 0
 AreNoSlots word (refused.Fault bad) = (bad ≡ Fixed) × HasNoSlots word
 AreNoSlots word refused.Memory = SpellsSlots word
 
+abbrev pub AreNoHotPlugSlots : List ℕ → List ℕ → Refused SettleWord → Type 0
+AreNoHotPlugSlots spare word (refused.Fault bad) = (bad ≡ Slots) × HasNoHotPlugSlots spare word
+AreNoHotPlugSlots spare word refused.Memory = SpellsSlots word
+
+-- what is read says this
+abbrev pub said_of : {A : Type 0} → Asked A → Said
+said_of asked = record {
+  io = asked.io.items;
+  mem = asked.mem.items;
+  pref = asked.pref.items;
+  fixed = asked.fixed.items;
+  spares = asked.spares;
+  slots = option_map (λ s. s.items) asked.slots;
+}
+
 -- what they ask for
 pub record IsAskedBy {A : Type 0} (words : SettleWords) (asked : Asked A) : Type 0 where
-  pub said : AreSaid words asked.io.items asked.mem.items asked.pref.items asked.fixed.items
+  pub said : AreSaid words (said_of asked)
   pub anew : asked.anew ≡ is_anew words.anew
 
 -- a growth was refused for what a word spells: those before it have a meaning
@@ -97,6 +168,7 @@ IsWordWant words =
     ⊎ (HasList words.io.now × HasList words.mem.now × HasRanges words.pref.now)
     ⊎ (HasList words.io.now × HasList words.mem.now × HasList words.pref.now
     × SpellsSlots words.fixed.now)
+    ⊎ (HaveListsAndFixed words × HasSpares words.spare.now × SpellsSlots words.slots.now)
 
 abbrev pub IsNotAsked : SettleWords → Refused SettleWord → Type 0
 IsNotAsked words (refused.Fault bad) = IsBadWord words bad

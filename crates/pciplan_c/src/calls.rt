@@ -12,7 +12,7 @@ ghost use Rattle.pciplan_c.specs.Listings.{IsListing, IsListingTooLong, IsTextPu
 ghost use Rattle.pciplan_held.specs.RegisterWrites.{write_value_of};
 ghost use Rattle.pciplan_c.specs.Endings.{ArePut, AreTooMany, IsNoneTold, IsNoneTooLong};
 ghost use Rattle.pciplan_c.specs.PlanAnswers.{ArePlanned, IsNoPlanOf, pools_of};
-ghost use Rattle.pciplan_c.specs.SettleAnswers.{AreSettled, IsNoSettlingOf, MayWant};
+ghost use Rattle.pciplan_c.specs.SettleAnswers.{AreAllPut, AreSettledSome, AreTooManyDenied, IsNoSettlingOf, MayWant, arrays};
 ghost use Rattle.pciplan_c.specs.Stepping.{IsStartPut, IsStartTooLong, answer_number, said_of, shown_value, c_step_value};
 ghost use Rattle.pciplan_c.specs.declared.answer.Answer.TheVariants.{Verdict, Refused};
 ghost use Rattle.pciplan_c.specs.declared.listing.Listing.{Listing};
@@ -20,13 +20,14 @@ ghost use Rattle.pciplan_c.specs.declared.no_list.NoList.{NoList};
 ghost use Rattle.pciplan_held.specs.declared.refusal.Refusal.{Refusal};
 
 use crate::answer::Answer;
+use crate::denied_spare::DeniedSpare;
 use crate::ending::{Ending, HeldBack};
 use crate::faults_words::FaultsWords;
 use crate::listing::{Listing, faults_into};
 use crate::planning::plan_into;
 use crate::pools::PoolsOfC;
 use crate::settle_words::SettleWords;
-use crate::settling::settle_into;
+use crate::settling::{SettleEnding, SettleHeldBack, settle_into};
 use crate::starting::{NoStart, start_into};
 use crate::stepping::{RegisterStep, judge, step_at};
 use crate::verdict::check_into;
@@ -176,18 +177,23 @@ pub extern "C" fn pciplan_plan(
 }
 
 /// Settles the texts of a dump and of its probe as these words ask for it, with the root buses that `roots` lists: what
-/// stands stays where it is, where `anew` is 0, and all else is placed in the lists of ranges.
+/// stands stays where it is, where `anew` is 0, and all else is placed in the lists of ranges. Where `spare` says so, room is
+/// kept free behind hot-plug slots.
 ///
 /// It answers 0 and puts the writes, in their order, at the front of `writes`; `writes_used` is how many they are, and a
 /// stop after `safe_from` of them or more leaves a sound system: 0 where it is sound at the start, else as many as close
-/// functions; `line_used` is 0. It answers 1 and the line `no ..` where the texts or the settling have a fault. It answers
-/// 2 and a message where `roots` is empty or doesn't rise, else where a word has no meaning (`pool io`, `pool mem`, `pool
-/// pref`, `fixed`), else as `pciplan_check` does. `line_used` is its length, and `writes_used` is 0.
+/// functions; `line_used` is 0. The windows whose spares have no room stand at the front of `denied`, the highest slot first and
+/// of a slot by rising offset, and `denied_used` is how many they are.
+///
+/// It answers 1 and the line `no ..` where the texts or the settling have a fault. It answers 2 and a message where `roots` is
+/// empty or doesn't rise, else where a word has no meaning (`pool io`, `pool mem`, `pool pref`, `fixed`, `spare`, `slots`), else
+/// as `pciplan_check` does. `line_used` is its length, and `writes_used` and `denied_used` are 0.
 ///
 /// It answers 3 where a growth was refused; then nothing was changed. `roots` is a list of root buses then. Each word has a
-/// meaning, or one has ranges or slots and those before it have a meaning. It answers 4 where `writes` or `line` has no
-/// room; then both are as they were, and `writes_used` or `line_used` is what is needed, and the other one 0. With 96 bytes
-/// of `line` or more it is `writes` that has none. `safe_from` is changed at 0 alone.
+/// meaning, or one has ranges or slots and those before it have a meaning. It answers 4 where `denied`, `writes` or `line` has no
+/// room; then all three are as they were, and `denied_used`, `writes_used` or `line_used` is what is needed, and the other two
+/// are 0. It is `denied` where neither that nor `writes` has room. With 96 bytes of `line` or more it is one of these two.
+/// `safe_from` is changed at 0 alone.
 #[unsafe(no_mangle)]
 pub extern "C" fn pciplan_settle(
     alloc: Global,
@@ -198,63 +204,84 @@ pub extern "C" fn pciplan_settle(
     writes: &mut [RegisterWrite],
     writes_used: &mut usize,
     safe_from: &mut usize,
+    denied: &mut [DeniedSpare],
+    denied_used: &mut usize,
     line: &mut [u8],
     line_used: &mut usize,
 ) -> u8
     ensures settled { result ≡ 0
-        → ArePut (AreSettled roots.now dump.now probe.now words.now) writes.old writes.new
-        writes_used.new safe_from.new
+        → AreAllPut roots.now dump.now probe.now words.now (arrays writes.old denied.old)
+        (arrays writes.new denied.new) writes_used.new safe_from.new denied_used.new
         × (line.new ≡ line.old) × (line_used.new ≡ 0) }
     // where nothing is settled no write is put that could be made by mistake
     ensures told { (result ≡ 1) ⊎ (result ≡ 2)
         → IsNoneTold (IsNoSettlingOf roots.now dump.now probe.now words.now) result line.old line.new
         line_used.new
         × (writes.new ≡ writes.old) × (writes_used.new ≡ 0) }
+    ensures none { (result ≡ 1) ⊎ (result ≡ 2) → (denied.new ≡ denied.old) × (denied_used.new ≡ 0) }
     // whoever doesn't look at the status finds what stood there before
     ensures quiet { (result ≡ 3) ⊎ (result ≡ 4)
-        → (writes.new ≡ writes.old) × (line.new ≡ line.old) }
+        → (writes.new ≡ writes.old) × (line.new ≡ line.old) × (denied.new ≡ denied.old) }
     ensures memory { result ≡ 3
-        → (writes_used.new ≡ writes_used.old) × (line_used.new ≡ line_used.old) }
+        → (writes_used.new ≡ writes_used.old) × (line_used.new ≡ line_used.old)
+        × (denied_used.new ≡ denied_used.old) }
     // no memory helps a list or a word that is none
     ensures wanted { result ≡ 3 → MayWant roots.now words.now }
     ensures room { result ≡ 4
-        → AreTooMany (AreSettled roots.now dump.now probe.now words.now) writes.old writes_used.new
-        × (line_used.new ≡ 0)
-        ⊎ IsNoneTooLong (IsNoSettlingOf roots.now dump.now probe.now words.now) line.old line_used.new
-        × (writes_used.new ≡ 0) }
-    // so with 96 bytes of line it is the writes that have no room
+        → (AreTooMany (AreSettledSome roots.now dump.now probe.now words.now) writes.old writes_used.new
+        × (line_used.new ≡ 0) × (denied_used.new ≡ 0))
+        ⊎ (IsNoneTooLong (IsNoSettlingOf roots.now dump.now probe.now words.now) line.old line_used.new
+        × (writes_used.new ≡ 0) × (denied_used.new ≡ 0))
+        ⊎ (AreTooManyDenied roots.now dump.now probe.now words.now denied.old denied_used.new
+        × (writes_used.new ≡ 0) × (line_used.new ≡ 0)) }
+    // so with 96 bytes of line it is the writes or the windows that have no room
     ensures enough { result ≡ 4 → 96 ≤ length line.old → line_used.new ≡ 0 }
     // of no use where nothing is settled
     ensures safe { 0 < result → safe_from.new ≡ safe_from.old }
     // a caller's switch has no other case
     ensures known { result ≤ 4 }
 {
-    match settle_into(alloc, dump, probe, roots, words, writes, line) {
+    match settle_into(alloc, dump, probe, roots, words, writes, denied, line) {
         Ok(
+            SettleEnding {
+                ending,
+                denied: spares,
+            },
+        ) => match ending {
             Ending::Writes {
                 count,
                 safe_from: stop,
-            },
-        ) => {
-            *writes_used = count;
-            *safe_from = stop;
-            *line_used = 0;
-            0
-        }
-        Ok(Ending::NoWrites { why, used }) => {
-            *writes_used = 0;
-            *line_used = used;
-            why.status()
-        }
-        Err(HeldBack::Memory) => 3,
-        Err(HeldBack::Writes(needed)) => {
+            } => {
+                *writes_used = count;
+                *safe_from = stop;
+                *denied_used = spares;
+                *line_used = 0;
+                0
+            }
+            Ending::NoWrites { why, used } => {
+                *writes_used = 0;
+                *denied_used = 0;
+                *line_used = used;
+                why.status()
+            }
+        },
+        Err(SettleHeldBack::HeldBack(HeldBack::Memory)) => 3,
+        Err(SettleHeldBack::HeldBack(HeldBack::Writes(needed))) => {
             *writes_used = needed;
+            *denied_used = 0;
             *line_used = 0;
             4
         }
-        Err(HeldBack::Line(needed)) => {
+        Err(SettleHeldBack::HeldBack(HeldBack::Line(needed))) => {
             *writes_used = 0;
+            *denied_used = 0;
             *line_used = needed;
+            4
+        }
+        Err(SettleHeldBack::Denied(needed)) => {
+            *writes_used = 0;
+            *denied_used = needed;
+            *line_used = 0;
             4
         }
     }

@@ -11,6 +11,7 @@
 
 pub mod answer;
 pub mod calls;
+pub mod denied_spare;
 pub mod ending;
 #[cfg(test)]
 mod faults_tests;

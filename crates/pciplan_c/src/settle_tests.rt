@@ -1,9 +1,10 @@
 //! Settlings of a board that runs, where a card was plugged in behind its second bridge.
 use crate::calls::pciplan_settle;
+use crate::denied_spare::DeniedSpare;
 use crate::ending::HeldBack;
 use crate::plan_tests::{MANY, NONE};
 use crate::settle_words::SettleWords;
-use crate::settling::settle_into;
+use crate::settling::{SettleHeldBack, settle_into};
 use crate::texts::{Pair, whole};
 use pciplan_held::register_write::RegisterWrite;
 use std::alloc::{AllocError, Global};
@@ -80,6 +81,14 @@ const WRITES: [RegisterWrite; 2] = [
     },
 ];
 
+/// An entry of an array that nothing was put into.
+const NO_SPARE: DeniedSpare = DeniedSpare {
+    bus: 99,
+    device: 99,
+    function: 99,
+    offset: 99,
+};
+
 /// What is asked for: the ranges of memory, what may not be written, and whether all is placed anew.
 fn asked<'a>(mem: &'a [u8], fixed: &'a [u8], anew: u8) -> SettleWords<'a> {
     SettleWords {
@@ -87,6 +96,8 @@ fn asked<'a>(mem: &'a [u8], fixed: &'a [u8], anew: u8) -> SettleWords<'a> {
         mem,
         pref: b"none",
         fixed,
+        spare: b"",
+        slots: b"",
         anew,
     }
 }
@@ -101,6 +112,8 @@ fn is_as_said(alloc: Global, texts: &Pair, call: &Call) -> bool {
     let mut put = [NONE; 4];
     let mut line = [b'.'; 64];
     let (mut writes_used, mut safe_from, mut line_used) = (99, 99, 99);
+    let mut denied = [NO_SPARE; 2];
+    let mut denied_used = 99;
     if put.len() < few || line.len() < bytes {
         return false;
     }
@@ -113,6 +126,8 @@ fn is_as_said(alloc: Global, texts: &Pair, call: &Call) -> bool {
         &mut put[..few],
         &mut writes_used,
         &mut safe_from,
+        &mut denied,
+        &mut denied_used,
         &mut line[..bytes],
         &mut line_used,
     );
@@ -121,6 +136,8 @@ fn is_as_said(alloc: Global, texts: &Pair, call: &Call) -> bool {
         && writes_used == count
         && safe_from == (if status == 0 { 0 } else { 99 })
         && line_used == used
+        && denied_used == 0
+        && denied == [NO_SPARE; 2]
         && put[..made] == WRITES[..made]
         && put[made..].iter().all(|write| *write == NONE)
         && text.len() <= 64
@@ -173,13 +190,23 @@ fn a_settling_that_is_refused_a_growth_says_just_that(rt: HostRuntime) -> Result
             let mut put = [NONE; 16];
             let mut line = [b'.'; 64];
             let words = asked(b"e0000000-e02fffff", b"01:00.0", anew);
-            let answered = settle_into(&heap, dump, probe, &[0], &words, &mut put, &mut line);
+            let mut denied = [NO_SPARE; 2];
+            let answered = settle_into(
+                &heap,
+                dump,
+                probe,
+                &[0],
+                &words,
+                &mut put,
+                &mut denied,
+                &mut line,
+            );
             if heap.is_due() {
                 assert!(rt; 1 < n && answered.is_ok());
                 break;
             }
-            assert!(rt; answered == Err(HeldBack::Memory));
-            assert!(rt; put == [NONE; 16] && line == [b'.'; 64]);
+            assert!(rt; answered == Err(SettleHeldBack::HeldBack(HeldBack::Memory)));
+            assert!(rt; put == [NONE; 16] && line == [b'.'; 64] && denied == [NO_SPARE; 2]);
         }
     }
     Ok(())

@@ -1,13 +1,16 @@
 //! The words by which C says what is asked of settling.
-ghost use Rattle.std.specs.Prelude.{IfOk, IfErr, MatchResult};
+ghost use Rattle.std.specs.Prelude.{IfOk, IfErr, MatchOption, MatchResult};
+ghost use Rattle.std.specs.Option.{option_map};
 ghost use Rattle.pciplan_lists.specs.ListWords.{IsListWord};
-ghost use Rattle.pciplan_c.specs.SettleWords.{AreFixedBy, AreNoSlots, IsAskedBy, IsNoList, IsNotAsked};
+ghost use Rattle.pciplan_c.specs.SettleWords.{AreFixedBy, AreNoHotPlugSlots, AreNoSlots, AreSlotsBy, AreSparesBy, HasNoSpares, IsAskedBy, IsNoList, IsNotAsked};
 
 use pci_base::memory::Refused;
 use pci_base::range::RootRange;
 use pci_base::slot::Slot;
+use pci_base::window_kind::ByKind;
 use pciplan_lists::list_word::list_of_word;
 use pciplan_lists::slot_list::slots_of_word;
+use pciplan_lists::spare_word::spares_of_word;
 use std::alloc::Allocator;
 use std::fmt;
 
@@ -23,6 +26,12 @@ pub struct SettleWords<'a> {
     pub pref: &'a [u8],
     /// The slots whose registers may not be written, joined by commas, each above the one before it; none where it is empty.
     pub fixed: &'a [u8],
+    /// How many addresses are wanted behind each hot-plug slot: one to three of `io:SIZE`, `mem:SIZE` and `pref:SIZE` in this
+    /// order, joined by commas; none where it is empty.
+    pub spare: &'a [u8],
+    /// The slots of the bridges that have such a slot, as `fixed` lists its own: where it is empty, those of the dump whose
+    /// registers say so. It is said beside `spare` alone.
+    pub slots: &'a [u8],
     /// 0 where what stands keeps its place, else all is placed anew.
     pub anew: u8,
 }
@@ -34,6 +43,8 @@ pub enum SettleWord {
     Mem,
     Pref,
     Fixed,
+    Spare,
+    Slots,
 }
 
 impl SettleWord {
@@ -49,6 +60,8 @@ impl SettleWord {
             SettleWord::Mem => "pool mem",
             SettleWord::Pref => "pool pref",
             SettleWord::Fixed => "fixed",
+            SettleWord::Spare => "spare",
+            SettleWord::Slots => "slots",
         }
     }
 }
@@ -74,6 +87,10 @@ pub struct Asked<A: Allocator> {
     pub pref: Vec<RootRange, A>,
     /// The functions whose registers may not be written.
     pub fixed: Vec<Slot, A>,
+    /// How many addresses of each class are wanted behind each hot-plug slot.
+    pub spares: ByKind<u64>,
+    /// The bridges that have such a slot; None: those of the dump whose registers say so.
+    pub slots: Option<Vec<Slot, A>>,
     /// Whether all is placed anew.
     pub anew: bool,
 }
@@ -111,6 +128,48 @@ fn fixed_of<A: Allocator>(alloc: A, word: &[u8]) -> Result<Vec<Slot, A>, Refused
     }
 }
 
+/// How many addresses of each class a word wants, 0 where it is empty.
+fn spares_of(word: &[u8]) -> Option<ByKind<u64>>
+    ensures { MatchOption result (HasNoSpares word.now) (AreSparesBy word.now) }
+{
+    if word.is_empty() {
+        return Some(ByKind {
+            io: 0,
+            memory: 0,
+            prefetchable: 0,
+        });
+    }
+    let Ok(text) = str::from_utf8(word) else {
+        return None;
+    };
+    spares_of_word(text)
+}
+
+/// The bridges of a list, which has a meaning beside a word of spares alone; None of an empty one.
+fn hot_plug_slots_of<A: Allocator>(
+    alloc: A,
+    spare: &[u8],
+    word: &[u8],
+) -> Result<Option<Vec<Slot, A>>, Refused<SettleWord>>
+    ensures { MatchResult result
+        (λ slots. AreSlotsBy spare.now word.now (option_map (λ s. s.items) slots))
+        (AreNoHotPlugSlots spare.now word.now) }
+{
+    if word.is_empty() {
+        return Ok(None);
+    }
+    if spare.is_empty() {
+        return Err(Refused::Fault(SettleWord::Slots));
+    }
+    let Ok(text) = str::from_utf8(word) else {
+        return Err(Refused::Fault(SettleWord::Slots));
+    };
+    match slots_of_word(alloc, text)? {
+        Some(slots) => Ok(Some(slots)),
+        None => Err(Refused::Fault(SettleWord::Slots)),
+    }
+}
+
 /// What words ask of settling.
 ///
 /// # Errors
@@ -127,12 +186,18 @@ pub fn asked_of<A: Allocator + Copy>(
     let mem = list_of(alloc, words.mem, SettleWord::Mem)?;
     let pref = list_of(alloc, words.pref, SettleWord::Pref)?;
     let fixed = fixed_of(alloc, words.fixed)?;
+    let Some(spares) = spares_of(words.spare) else {
+        return Err(Refused::Fault(SettleWord::Spare));
+    };
+    let slots = hot_plug_slots_of(alloc, words.spare, words.slots)?;
     let anew = words.anew != 0;
     Ok(Asked {
         io,
         mem,
         pref,
         fixed,
+        spares,
+        slots,
         anew,
     })
 }
