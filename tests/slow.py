@@ -4,18 +4,18 @@
 Usage: slow.py KIND COUNT [FIRST [PROGRAM]]
        slow.py KIND show SEED
 
-KIND is `judge`, `plan`, `settle`, `growth`, `spare`, or `all`, which is each of them but `spare`. COUNT seeds are taken
-from FIRST on (0 if not said). Of `all` a quarter of these are for `plan` and `settle`, of which a seed has several
-boards, and an eighth for `growth`. PROGRAM is the built program, by default crates/pciplan/out/pciplan. What is printed:
+KIND is `judge`, `plan`, `settle`, `growth`, `spare`, or `all`, which is each of them. COUNT seeds are taken from FIRST on
+(0 if not said). Of `all` a quarter of these are for `plan` and `settle`, of which a seed has several boards, and an eighth
+for `growth` and `spare`. PROGRAM is the built program, by default crates/pciplan/out/pciplan. What is printed:
 
 - a line for each board on which program and model differ, and below it what differs;
 - for each kind of how many seeds boards were of each sort, and of 1,000 seeds or more a line for each sort that lacks;
 - at last `N boards, M disagree`, counted by seeds.
 
 Boards of `growth` have tight windows, of which some grow. Laws are tried of what the slow settler does there, and it
-settles the boards of growth_rows.py. The program is asked for the same writes, but not of `growth` without a PROGRAM.
-Boards of `spare` have slots behind which room is wanted. The same is done there, with those of spare_rows.py, but the
-program is never asked.
+settles the boards of growth_rows.py. Boards of `spare` have slots behind which room is wanted. The same is done there, with
+those of spare_rows.py. The program is asked for the same writes and denied spares, but not of one of these two kinds
+without a PROGRAM.
 
 The status is 1 where boards disagree or a sort is lacking. `show` prints the board of a seed. RT_JOBS sets how many
 processes run at a time (as many as there are cores if not said).
@@ -50,7 +50,7 @@ MANY = 1000
 # boards that were worked out by hand
 ROWS = {'growth': growth_rows, 'spare': spare_rows}
 # of how many seeds for `all` each kind takes one, by what its boards cost
-SHARES = {'judge': 1, 'plan': 4, 'settle': 4, 'growth': 8}
+SHARES = {'judge': 1, 'plan': 4, 'settle': 4, 'growth': 8, 'spare': 8}
 
 
 class Task:
@@ -113,7 +113,7 @@ def main(words):
     count, first = int(words[1]), int(words[2]) if len(words) > 2 else 0
     built = os.path.join(HERE, '..', 'crates', 'pciplan', 'out', 'pciplan')
     program = os.path.abspath(words[3] if len(words) > 3 else built)
-    if words[0] == 'growth' and len(words) <= 3:
+    if words[0] in ROWS and len(words) <= 3:
         program = None
     counts = {kind: count // SHARES[kind] for kind in SHARES} if words[0] == 'all' else {words[0]: count}
     jobs = [(kind, seed) for kind, many in counts.items() for seed in range(first, first + many)]

@@ -25,9 +25,8 @@
 # - what is printed then, line by line: to standard output, or, after `2>`, to standard error. `=` stands for nothing,
 #   `= FILE` for all that FILE holds, and `>` begins a function of a dump, which is the file planned from then on. The
 #   status is 4 where a message ends with `Io`, 2 where there is another but remarks, which begin with
-#   `pciplan: assumed`, else 1 where the text begins with `no` or with a fault's
-#   number, else 0. More commands and words may follow, about the same
-#   board.
+#   `pciplan: assumed` or `pciplan: spare` and a slot, else 1 where the text begins with `no` or with a
+#   fault's number, else 0. More commands and words may follow, about the same board.
 # A line that ends with `\` goes on in the next one.
 
 function fail(why) {
@@ -136,7 +135,7 @@ function run_words(    at, status, compared, messages) {
         write_file("out.wanted", out)
     write_file("err.wanted", err)
     messages = err
-    gsub(/pciplan: assumed [^\n]*\n/, "", messages)
+    gsub(/pciplan: (assumed|spare) [^\n]*\n/, "", messages)
     status = messages ~ / Io\n$/ ? 4 : messages != "" ? 2 : out ~ /^(no|[2-6][0-9]) / ? 1 : 0
     compared = "; [ $? -eq " status " ] && cmp -s out out.wanted && cmp -s err err.wanted"
     for (at = 1; at <= asked; at++)

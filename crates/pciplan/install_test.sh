@@ -317,6 +317,11 @@ pools_but() {
     done
 }
 
+# spare_for OPTION: what has to stand beside it.
+spare_for() {
+    [ "$1" != --slots ] || echo --spare mem:1
+}
+
 # taken COMMAND [WORD..]: whether the program takes these words, after what the command needs. `here` reads a folder
 # without a machine.
 taken() {
@@ -324,7 +329,7 @@ taken() {
     shift
     # shellcheck disable=SC2046
     case $command in
-    plan | settle) set -- bare.txt bare_probe.txt $(pools_but "${1-}") "$@" ;;
+    plan | settle) set -- bare.txt bare_probe.txt $(pools_but "${1-}") $(spare_for "${1-}") "$@" ;;
     here) [ "${1-}" = --from ] || set -- --from home "$@" ;;
     json) [ $# -gt 0 ] || set -- check bare.txt bare_probe.txt ;;
     explain | version) ;;
@@ -341,7 +346,8 @@ for command in $commands; do
         case $option in
         --root) word=00 ;;
         --model) word=power ;;
-        --fixed) word=00:02.0 ;;
+        --fixed | --slots) word=00:02.0 ;;
+        --spare) word=mem:1 ;;
         --domain) word=0000 ;;
         --from | --log) word=home ;;
         --pref) word=f0000000-ffffffff ;;

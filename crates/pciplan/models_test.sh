@@ -1,9 +1,10 @@
 #!/bin/sh
 # The slow models of tests/slow.py beside the program, on boards made by rule: verdicts, lists of all faults, maps, plans,
-# what settles a board, and which windows grow then. Prints what differs, and at the end how many boards agreed.
+# what settles a board, which windows grow then, and where room is kept free behind hot-plug slots. Prints what differs, and at
+# the end how many boards agreed.
 #
 # Usage: models_test.sh PROGRAM; BOARDS sets how many boards are judged (1600 if not said), a quarter as many seeds plan and
-# settle, and an eighth as many are of boards on which windows grow.
+# settle. An eighth as many are of boards on which windows grow, and an eighth of boards with slots.
 set -u
 
 here=$(CDPATH='' cd -- "$(dirname -- "$0")" && pwd) || exit 1

@@ -5,14 +5,15 @@ are named. Behind some slots all is unplugged, and some windows over nothing are
 at each stop and to be left alone when it is settled again. A spare that isn't denied has a first place in its window.
 No part goes for one, Command is as without spares, and there is a fault only where there is one without.
 
-- `compare(seed, program, folder)`: what doesn't hold, or None, and the sorts of boards. No program is asked.
+- `compare(seed, program, folder)`: what doesn't hold, or None, and the sorts of boards. A program is asked for the same
+  writes and the same denied spares, if there is one.
 - `show(seed)`: the board of a seed.
 - `SORTS`: the sorts that a run over many seeds has to meet.
 """
 
 from growth_laws import all_on, left_on_fault, outside_fault, tight_board, tree
 from model import COMMAND, WINDOWS, close_window, dump_text, number_at, probe_text, put_number, slot_text, write_text
-from moving import first_early, request_words, roots_words
+from moving import Asker, answer, first_early, request_words, roots_words
 from planner import Fault, has_window
 from settler import WINDOW_REGISTER, Settler, TooLarge, first_place
 from spares import Wanted, has_slot, settle_as, settle_sparing, settled_with_spares, spare_of
@@ -233,8 +234,19 @@ def law_fault(board, request, wanted, sparing):
             or stop_fault(board.functions, board.roots, plan, lambda state, done: None))
 
 
-def judge_spares(seed, sorts):
-    """What doesn't hold on the board of a seed, or none; its sorts are added."""
+def told_of(plan, denied):
+    """What the program answers: status, writes or a fault, and the denied spares."""
+    status, told, _ = answer(plan, '--writes', '')
+    return status, told, ''.join('pciplan: %s\n' % line for line in denied_lines(denied))
+
+
+def denied_lines(denied):
+    """A line for each denied spare."""
+    return ['spare %s %02x' % (slot_text(slot), register) for slot, register in denied]
+
+
+def judge_spares(seed, asker):
+    """What doesn't hold on the board of a seed, or none."""
     made = slot_board(seed)
     if not made or first_early(made[0]):
         return None
@@ -245,20 +257,25 @@ def judge_spares(seed, sorts):
     except TooLarge:
         return None
     without, plan = sparing.without, sparing.plan
+    if asker.program:
+        words = roots_words(board.roots) + request_words(request) + spare_words(spare, slots) + ['--writes']
+        told = asker.differs('settle', board.functions, words, told_of(plan, sparing.denied))
+        if told:
+            return told
     if isinstance(without, Fault) or isinstance(plan, Fault):
-        sorts.add('a fault')
+        asker.sorts.add('a fault')
         same = isinstance(without, Fault) and isinstance(plan, Fault) and without.text == plan.text
         return None if same else 'with spares %s, without %s' % (plan, without)
-    sorts |= sorts_of(board, request, wanted, sparing)
+    asker.sorts |= sorts_of(board, request, wanted, sparing)
     if not is_sound(board.functions, board.roots):
-        sorts.add('from an unsound start')
+        asker.sorts.add('from an unsound start')
     return law_fault(board, request, wanted, sparing)
 
 
 def compare(seed, program, folder):
     """What doesn't hold on the board of a seed, or none, and the sorts of boards."""
-    sorts = set()
-    return judge_spares(seed, sorts), sorts
+    asker = Asker(program, folder)
+    return judge_spares(seed, asker), asker.sorts
 
 
 def spare_words(spare, slots):
@@ -278,7 +295,7 @@ def show(seed):
     except TooLarge:
         plan, denied = Fault('too large', None, None), []
     told = [plan.text] if isinstance(plan, Fault) else [write_text(*made) for made in plan.writes]
-    told += ['spare %s %02x' % (slot_text(slot), register) for slot, register in denied]
+    told += denied_lines(denied)
     words = ' '.join(roots_words(board.roots) + request_words(request) + spare_words(spare, slots))
     return '$ pciplan settle DUMP PROBE %s\n%s\n%s\n%s' % (
         words, dump_text(board.functions), probe_text(board.functions), '\n'.join(told))

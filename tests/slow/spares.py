@@ -5,8 +5,9 @@
   no `slots` the registers say which bridges have one. A fault comes without denied spares.
 - `settle_sparing(functions, request, wanted)`: the same with what comes before, as a `Sparing`.
 
-A new window over a slot has the spare behind its items. Where other parts stay for that, or nothing is settled, no new
-window has one. Then each slot gets its spares, from the highest slot down: its window ends later, or is opened.
+What is refused without slots is refused with them. A new window over a slot has the spare behind its items. Where other
+parts stay for that, or nothing is settled so, no new window has one. Then each slot gets its spares, from the highest slot
+down: its window ends later, or is opened.
 """
 
 from collections import namedtuple
@@ -22,6 +23,9 @@ from settler import (WINDOW_REGISTER, Extent, Item, Settler, TooLarge, around, f
 Wanted = namedtuple('Wanted', 'spare slots')
 
 NOTHING = Wanted({}, [])
+
+# more addresses than these count as so many: whole pages of them are fewer than 2^64
+MOST_WANTED = 0xFFFFFFFFFFF00000
 
 # how it is settled: settler and plan without spares, settler and plan before any wish, the plan, and the denied spares
 Sparing = namedtuple('Sparing', 'plain without spared base plan denied')
@@ -50,7 +54,7 @@ def spare_of(bridge, kind, wanted):
     """The spare behind a bridge: whole pages, aligned to the greatest power of two that divides their size."""
     if not wanted.spare.get(kind) or not has_slot(bridge, wanted):
         return None
-    size = raised(page_size(kind), wanted.spare[kind])
+    size = raised(page_size(kind), min(wanted.spare[kind], MOST_WANTED))
     return Extent(size, size & -size, highest_in(bridge, kind))
 
 
@@ -215,10 +219,10 @@ def is_listed(now, bus, window, end):
 def settle_sparing(functions, request, wanted):
     """How it is settled with spares: in new windows where the same parts stay, and then by wishes."""
     plain, without = settle_as(functions, request, NOTHING)
+    if isinstance(without, Fault):
+        return Sparing(plain, without, plain, without, without, [])
     found = with_new_windows(functions, request, wanted)
     spared, base = found if found and keep_alike(plain, found[0]) else (plain, without)
-    if isinstance(base, Fault):
-        return Sparing(plain, without, spared, base, base, [])
     wisher = Wisher(base.functions, request)
     denied = wisher.grant_all(wanted)
     news, olds = ({f.slot: f for f in functions} for functions in (wisher.functions, base.functions))
