@@ -197,9 +197,11 @@ pciplan settle DUMP PROBE --io LIST --mem LIST --pref LIST [--root LIST]
     settle keeps so many addresses free behind each bridge with a hot-plug slot,
     for a card that comes later: io:1000,mem:200000,pref:200000. Of the three
     classes one has to be said, each with a number of 1 to 16 lower-case hex
-    digits that isn't 0. Nothing moves or goes off for it. A window without room
-    for its spare is left as it is. For each of them standard error has a line
-    pciplan: spare, the slot of the bridge, and 1c, 20 or 24 for the window.
+    digits that isn't 0. A number above fffffffffff00000 counts as that one.
+    Nothing moves or goes off for it, and nothing more is refused. A window
+    without room for its spare is left as it is. For each of them standard error
+    has a line pciplan: spare, the slot of the bridge, and 1c, 20 or 24 for the
+    window.
   --slots SLOTS
     The bridges with a hot-plug slot, in a list as that of --fixed, in place of
     those whose capabilities say so. It goes with --spare alone.
