@@ -281,7 +281,10 @@ def compare(seed, program, folder):
 def spare_words(spare, slots):
     """The words for spares and slots."""
     words = ['--spare', ','.join('%s:%x' % (kind, spare[kind]) for kind in WINDOWS if kind in spare)]
-    return words + (['--slots', ','.join(slot_text(slot) for slot in slots)] if slots is not None else [])
+    if slots is None:
+        return words
+    # no slots are spelt by one that isn't there
+    return words + ['--slots', ','.join(slot_text(slot) for slot in slots) or 'ff:1f.7']
 
 
 def show(seed):

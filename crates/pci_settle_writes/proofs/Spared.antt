@@ -2,8 +2,7 @@
 use Rattle.std.proofs.Common.{◌≡◌, ◌<◌, ◌≤◌, ◌^◌, ◌⊎◌, ℕ, inl, inr, take, List, [], ◌∷◌, length, map, Bool, true, false, cond, Option, None, Some, refl, sym, ◌∙◌, ap, subst}
 use Rattle.std.specs.List.{All, Contains}
 use Rattle.std.proofs.lemmas.List.Elements.{All-contains, All-map}
-use Rattle.std.specs.Bool.{if◌then◌else◌}
-use Rattle.std.proofs.lemmas.Bool.{both_ways, cond_both}
+use Rattle.std.proofs.lemmas.Bool.{cond_both}
 use Rattle.pci_spec.specs.Slot.{Slot}
 use Rattle.pci_spec.specs.Text.{Block}
 use Rattle.pci_spec.specs.Machine.{Write, system_after}
@@ -13,13 +12,13 @@ use Rattle.settle_spec.specs.Lists.{RootRange, Request, are_bad_lists}
 use Rattle.settle_spec.specs.Parts.{FunctionPart}
 use Rattle.settle_spec.specs.Stands.{stands}
 use Rattle.settle_spec.specs.Items.{Item, spare_of}
-use Rattle.settle_spec.specs.Writes.{Settling, Settled, BadLists, Fixed, NoRoom, fixed_without, fixed_write, or_fixed, or_lack, or_write}
+use Rattle.settle_spec.specs.Writes.{Settling, Settled, fixed_without, fixed_write, or_fixed, or_lack, or_write}
 use Rattle.settle_spec.specs.Kept.{Kept}
 use Rattle.settle_spec.specs.Keeping.Places.{lacking}
 use Rattle.settle_spec.specs.Keeping.Writes.{closings, settle_writes, settle_keeping}
 use Rattle.settle_spec.specs.Growing.{settle_growing, finally_kept}
 use Rattle.settle_spec.specs.Wishes.{Granted, with_all_spares, granted}
-use Rattle.settle_spec.specs.Sparing.{without_slots, is_settled, have_spares, placing_request, granted_beside}
+use Rattle.settle_spec.specs.Sparing.{without_slots, is_settled, have_spares, granted_beside}
 use Rattle.settle_laws.specs.GrowingLaws.{CanBeAsked}
 use Rattle.settle_laws.specs.Keeping.PlacesLaws.{CanSettle}
 use Rattle.settle_laws.proofs.SettlingEnds.{ends}
@@ -35,7 +34,7 @@ use Rattle.pci_plan.specs.Moves.{IsMove}
 use Rattle.pci_settle_writes.specs.Dumps.{IsSettledDump}
 use Rattle.pci_settle_writes.specs.Denied.{register_at, IsPlacing, IsSpared}
 use Rattle.pci_settle_writes.specs.Ended.{Ended, IsEnded}
-use Rattle.pci_settle_writes.specs.Endings.{HasLarge, after_lists, kept_after}
+use Rattle.pci_settle_writes.specs.Endings.{kept_after}
 use Rattle.pci_settle_writes.specs.Sparing.{IsWishedFor}
 use Rattle.pci_settle_writes.specs.Wishes.{behind_slots}
 use Rattle.pci_settle_writes.proofs.Endings.{ends_fine}

@@ -9,9 +9,9 @@ ghost use Rattle.pci_grow.specs.Growing.{AreGrown, grown_value};
 ghost use Rattle.pci_settle_writes.specs.Ended.{ended_value, IsEnded};
 ghost use Rattle.pci_settle_writes.specs.Endings.{IsNotGrown};
 
+use crate::ended::Ended;
 use crate::fixed::fixed_without;
 use crate::io::fault_of_window;
-use crate::ended::Ended;
 use crate::lack::SettleFault;
 use crate::settle::settle_held;
 use pci_base::memory::Refused;

@@ -21,7 +21,7 @@ ghost use Rattle.pci_settled.specs.Placed.{CanBeLeft, ArePlacesOff};
 ghost use Rattle.pci_settling.specs.Live.{HasAllPlaces};
 ghost use Rattle.pci_settle_writes.specs.Requests.{request, IsAskedOf};
 ghost use Rattle.pci_settle_writes.specs.Told.{TellsKeeping};
-ghost use Rattle.pci_settle_writes.specs.Dumps.{IsSettledDump, IsSettledBy};
+ghost use Rattle.pci_settle_writes.specs.Dumps.{IsSettledBy};
 ghost use Rattle.pci_settle_writes.specs.Denied.{denied_value, IsSpared};
 ghost use Rattle.pci_settle_writes.specs.Ended.{ended_value, held_value, IsEnded};
 ghost use Rattle.pci_settle_writes.specs.Endings.{IsLackOff, AreAskedFor, IsEndedBy, IsNotGrown, kept_after, IsEndedAfter, IsRefusal, HasNoAssumed};

@@ -11,9 +11,9 @@ ghost use Rattle.pci_settle_writes.specs.Requests.{IsAskedOf};
 ghost use Rattle.pci_settle_writes.specs.Ended.{ended_value, IsEnded};
 ghost use Rattle.pci_settle_writes.specs.Endings.{IsTooLargeAsked, IsEndedBy, kept_after, IsEndedAfter};
 
+use crate::ended::Ended;
 use crate::fixed::fixed_without;
 use crate::io::{fault_of_window, place_io_unfixed};
-use crate::ended::Ended;
 use crate::lack::SettleFault;
 use crate::settle::settle_held;
 use pci_base::memory::Refused;

@@ -28,10 +28,10 @@ returns-clause-wished g c = λ slots keep placed ends.
     let alike = granted_alike p s (spare_of q) keep in
     let places = subst (HasAllPlaces p s keep) (sym c.tables-tables.ensures.places) ends.places in
     let tells = subst (λ grown. TellsKeeping p s keep grown c.tables-tables.result.staying.now) (sym c.tables-tables.ensures.grown)
-        (subst (TellsKeeping p s keep c.args.ended.now.grown.items) (sym c.tables-tables.ensures.staying) ends.tells) in
+    (subst (TellsKeeping p s keep c.args.ended.now.grown.items) (sym c.tables-tables.ensures.staying) ends.tells) in
     let wishes = c.in_ok-wishes.ensures.granted q slots keep record { roots_are = refl; demands_are = refl } c.requires.flags places tells ends.unwished in
     let overs = subst (AreOpenOver p s) (sym c.overs_of-overs.ensures)
-        (overs_open a p refl c.outline.ensures.admitted c.records.result.now c.records.ensures.value c.outline.ensures.records c.open_windows-over.result (c.open_windows-over.ensures p s) p.anew refl) in
+    (overs_open a p refl c.outline.ensures.admitted c.records.result.now c.records.ensures.value c.outline.ensures.records c.open_windows-over.result (c.open_windows-over.ensures p s) p.anew refl) in
     record {
       by = c.in_ok-settled.ensures.settled p j record { roots_are = refl; demands_are = sym placed } overs (places_then p s keep j alike c.tables-tables.result.places.now places)
           (tells_then p s keep j alike c.tables-tables.result.grown.now c.tables-tables.result.staying.now tells) (subst (TellsWishes s j) (sym c.as_slice.ensures.value) wishes.0)

@@ -1,7 +1,7 @@
 use Rattle.std.proofs.Common.{◌∙◌, true, false, length, sym, ap}
 use Rattle.pci_settle_writes.specs.Ended.{ended_value}
 use Rattle.pci_settle_writes.specs.Sparing.{asked_value}
-use Rattle.pci_settle_writes.proofs.HaveSpares.{alike_told, never_spared}
+use Rattle.pci_settle_writes.proofs.HaveSpares.{alike_told}
 use Rattle.pci_settle_writes.proofs.sparing.with_spares.Goals as goal
 
 pub keep_alike-requires-clause-other : goal.keep_alike-requires-clause-other

@@ -1,4 +1,4 @@
-use Rattle.std.proofs.Common.{◌≡◌, Some, None, ℕ, sym, ◌∙◌, ap, subst, MatchOption}
+use Rattle.std.proofs.Common.{Some, None, ℕ, sym, subst, MatchOption}
 use Rattle.pci_base.specs.declared.window_kind.ByKind.{ByKind}
 use Rattle.pciplan_lists.specs.SpareWords.{IsSpareWord}
 use Rattle.pciplan_lists.proofs.SpareWords.{no_prefetchable, more_left, sizes_only, sizes_said}
