@@ -136,8 +136,8 @@ layouts() {
     fenced CI.md python >"$room/layouts.py"
     [ -s "$room/layouts.py" ] || return 1
     (cd machines && python "$room/layouts.py") >"$room/got" || return 1
-    for machine in cleared desk old port roots unplaced; do
-        [ ! -f machines/$machine.probe ] || echo "$machine.dump $(cat machines/$machine.check)"
+    for machine in desk full old port roots; do
+        echo "$machine.dump $(cat "machines/$machine.check" 2>/dev/null || echo yes)"
     done | sed 's/^roots.dump .*/roots.dump no 58 Orphan 40:00.0/' | cmp - "$room/got"
 }
 
