@@ -212,6 +212,9 @@ def fixed_fault(request, plan):
 
 def again_fault(request, wanted, plan, denied):
     """What is written or denied otherwise where the result is settled again, or none."""
+    if request.anew and request.fixed:
+        # whether new windows have spares may depend on what registers show
+        return None
     again, later = settled_with_spares(plan.functions, request, wanted.spare, wanted.slots)
     if isinstance(again, Fault):
         return 'settled again there is ' + again.text
