@@ -15,6 +15,7 @@ pub mod Refused
 pub mod Refusing
 pub mod Room
 pub mod Same
+pub mod SameDenied
 pub mod Sparing
 pub mod Spare
 pub mod Spots

@@ -1,23 +1,23 @@
 -- Laws of settling with room behind slots: wishes change nothing else, what settling comes to is sound, and its writes can stop.
-use Rattle.std.specs.Prelude.{◌≡◌, ℕ, ◌≤◌, ◌⊎◌, IsTrue, IsFalse, Some, List, [], length, take}
+use Rattle.std.specs.Prelude.{◌≡◌, ℕ, ◌≤◌, ◌⊎◌, IsTrue, IsFalse, Some, List, [], length, map, take}
 use Rattle.std.specs.List.{Contains, count_by}
-use Rattle.pci_spec.specs.Slot.{same_slot}
+use Rattle.pci_spec.specs.Slot.{Slot, same_slot}
 use Rattle.pci_spec.specs.Window.{WindowKind, has_window}
 use Rattle.pci_spec.specs.Decoded.{Range}
-use Rattle.pci_spec.specs.System.{System, Function, IsSystem, Part, has_part, is_window}
+use Rattle.pci_spec.specs.System.{System, Function, IsSystem, Part, has_part, is_window, register_of}
 use Rattle.pci_spec.specs.Bus.{IsNested}
 use Rattle.pci_spec.specs.Machine.{Write, system_after}
 use Rattle.pci_spec.specs.Sound.{IsSound}
 use Rattle.settle_spec.specs.FirstPlace.{Extent}
 use Rattle.settle_spec.specs.Lists.{Request}
-use Rattle.settle_spec.specs.Parts.{addresses, lies_within}
+use Rattle.settle_spec.specs.Parts.{FunctionPart, addresses, lies_within}
 use Rattle.settle_spec.specs.Items.{spare_of}
 use Rattle.settle_spec.specs.Writes.{Settled}
 use Rattle.settle_spec.specs.Kept.{Kept, unwished}
 use Rattle.settle_spec.specs.Keeping.Writes.{closings, settle_writes}
 use Rattle.settle_spec.specs.Growing.{settle_growing}
 use Rattle.settle_spec.specs.Wishes.{range_then, range_of_window, ending_if, ending, spared_if, spared_behind, granted}
-use Rattle.settle_spec.specs.Sparing.{without_slots, is_settled, placing_request, grants, settle_wished, settle_sparing}
+use Rattle.settle_spec.specs.Sparing.{without_slots, is_settled, placing_request, grants, denied, settle_wished, settle_sparing}
 use Rattle.settle_spec.specs.SpareLaws.{kept_sparing, result_sparing, has_room_for, result_of}
 use Rattle.settle_laws.specs.WriteLaws.{most_settle_writes}
 use Rattle.settle_laws.specs.GrowingLaws.{CanBeAsked}
@@ -121,3 +121,13 @@ abbrev pub KeptSettleOnce : Type 0
 KeptSettleOnce =
     (q : Request) (s : System) → CanBeAsked q s → IsFalse q.anew
     → IsTrue (is_settled (settle_sparing q s)) → settle_sparing q (result_sparing q s) ≡ Settled []
+
+-- a window's slot and register
+abbrev pub slot_and_register : FunctionPart → Slot × ℕ
+slot_and_register r = (r.function.slot, register_of r.function r.part)
+
+-- The same spares are denied then, in the same order.
+abbrev pub KeptDenyAlike : Type 0
+KeptDenyAlike =
+    (q : Request) (s : System) → CanBeAsked q s → IsFalse q.anew → IsTrue (is_settled (settle_sparing q s))
+    → map slot_and_register (denied q (result_sparing q s)) ≡ map slot_and_register (denied q s)

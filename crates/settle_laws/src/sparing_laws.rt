@@ -1,6 +1,6 @@
 //! Laws of settling with room behind slots. These functions do nothing: each contract is a law.
 
-ghost use Rattle.settle_laws.specs.SparingLaws.{EndingIsByBus, SparedIsByBus, WishesChangeRoomAlone, GrantedCanSettle, SettledSparingIsSound, SettlingSparingCanStop, FewSparingWritesEach, SparingKeepsAll, SparesRefuseNoMore, WishedIsSettled, SparesAreAnswered, KeptSettleOnce};
+ghost use Rattle.settle_laws.specs.SparingLaws.{EndingIsByBus, SparedIsByBus, WishesChangeRoomAlone, GrantedCanSettle, SettledSparingIsSound, SettlingSparingCanStop, FewSparingWritesEach, SparingKeepsAll, SparesRefuseNoMore, WishedIsSettled, SparesAreAnswered, KeptSettleOnce, KeptDenyAlike};
 ghost use Rattle.settle_spec.specs.SpareLaws.{NoSlotsNoSpares, SparesRefuseNothing, NothingGoesForSpares, SparesSetNoCommand, SparesHaveRoom};
 
 /// Room behind a slot is told by the window over its bridge, bus by bus.
@@ -48,7 +48,8 @@ pub fn spares_have_room()
     ensures answered { SparesAreAnswered }
 {}
 
-/// Where not all is placed anew, what is settled is settled again by no write.
+/// Where not all is placed anew, what is settled is settled again by no write, and the same spares are denied.
 pub fn kept_spares_settle_once()
-    ensures { KeptSettleOnce }
+    ensures once { KeptSettleOnce }
+    ensures denied { KeptDenyAlike }
 {}

@@ -134,7 +134,7 @@ module _ (q : Request) (t : System) (system : IsSystem t) (sound : IsSound q.roo
         ∙ ap (ending_if q t c (ending_within q t c 256) b (range_from spot e.size).last k) (stays_there q t system sound all off fine r in_parts)
         ∙ if_so (nat_le (range_from spot e.size).last (addresses r).last) (Some k) _ ends_in.0
 
-    found : spared_behind q t c b e k ≡ Some (record { at = spot; kept = k })
+    pub found : spared_behind q t c b e k ≡ Some (record { at = spot; kept = k })
     found =
         spared_by_bus q t c system sound.nested b listed e k
         ∙ ap (spared_if q t c (spared_within q t c 256) b e k) (stays_there q t system sound all off fine r in_parts)
@@ -190,43 +190,49 @@ module _ (q : Request) (s : System) (may : CanBeAsked q s) (kept : q.anew ≡ fa
   abbrev t : System
   t = result_sparing q s
 
-  can : CanSettle p s j
+  pub can : CanSettle p s j
   can = (can_all q s may settles).then
 
-  sound_then : IsSound q.roots t
+  pub sound_then : IsSound q.roots t
   sound_then = subst (λ roots. IsSound roots t) (placing_roots q s) (settled_sound p s j can)
 
-  by_placing : (P : Request → Type 0) → (P (without_slots q) → P q) → P p → P q
+  pub by_placing : (P : Request → Type 0) → (P (without_slots q) → P q) → P p → P q
   by_placing P back = cond_both (have_spares q s) q (without_slots q) (λ x. P x → P q) (λ spares own. own) (λ none own. back own)
 
-  stand_then : (r : FunctionPart) → Contains (system_parts q t) r → stands q t r ≡ true
+  pub stand_then : (r : FunctionPart) → Contains (system_parts q t) r → stands q t r ≡ true
   stand_then = by_placing (λ x. (r : FunctionPart) → Contains (system_parts x t) r → stands x t r ≡ true)
       (λ each r has. sym (stands_alike q [] t (length (system_parts q t)) r) ∙ each r has)
       (all_stand p s j can (cond_both (have_spares q s) q (without_slots q) (λ x. x.anew ≡ false) (λ spares. kept) (λ none. kept)))
 
-  off_then : (f : Function) → Contains t f → has_left q t f ≡ true → is_space_on f Io ≡ false
+  pub off_then : (f : Function) → Contains t f → has_left q t f ≡ true → is_space_on f Io ≡ false
   off_then = by_placing (λ x. (f : Function) → Contains t f → has_left x t f ≡ true → is_space_on f Io ≡ false) (λ each. each) (all_left_off p s j can)
 
-  fine_then : are_bad_lists q.roots q.lists ≡ false
+  pub fine_then : are_bad_lists q.roots q.lists ≡ false
   fine_then = by_placing (λ x. are_bad_lists x.roots x.lists ≡ false) (λ own. own) can.lists
 
   -- the same spare is behind a bridge
-  spare_alike : (c : WindowKind) (b : Function) → Contains s b → spare_of q c (settled_function p s j b) ≡ spare_of q c b
+  pub spare_alike : (c : WindowKind) (b : Function) → Contains s b → spare_of q c (settled_function p s j b) ≡ spare_of q c b
   spare_alike c b listed = ap
       (λ bridge. cond (list_any (same_slot b.slot) q.slots && bridge && nat_lt 0 (wanted_in q.spares c)) (Some (spare_extent c (wanted_in q.spares c) (highest_in c b.probe))) None)
       (bridge_stays p s j can b listed)
+
+  -- a spare that has no room in the end has none there
+  pub none_there : (c : WindowKind) (b : Function) (e : Extent) → Contains s b → spare_of q c b ≡ Some e → is_some (spared_behind p s c b e j) ≡ false
+      → is_some (spared_behind q t c (settled_function p s j b) e (growing q t)) ≡ false
+  none_there c b e listed spare none =
+      let of = spare_is q c b e spare in
+      cond_both (have_spares q s) q (without_slots q)
+      (λ r. CanSettle r s j → is_some (spared_behind r s c b e j) ≡ false → is_some (spared_behind q (settled r s j) c (settled_function r s j b) e (growing q (settled r s j))) ≡ false)
+      (λ spares may. none_then q q.slots s j may kept c b listed of.bridge e of.spare.aligned)
+      (λ without may. none_then q [] s j may kept c b listed of.bridge e of.spare.aligned) can none
 
   -- a spare has room there, or there is none for it
   answer_of : (c : WindowKind) (b : Function) (e : Extent) → Contains s b → spare_of q c b ≡ Some e → has_window c b.probe ≡ true
       → (has_room_for q t c (settled_function p s j b) e ≡ true) ⊎ (is_some (spared_behind q t c (settled_function p s j b) e (growing q t)) ≡ false)
   answer_of c b e listed spare there =
-      let of = spare_is q c b e spare in
       elim (spares_are_answered q s c b e may listed spare there settles) [
         | inl room ↦ inl room
-        | inr none ↦ inr (cond_both (have_spares q s) q (without_slots q)
-            (λ r. CanSettle r s j → is_some (spared_behind r s c b e j) ≡ false → is_some (spared_behind q (settled r s j) c (settled_function r s j b) e (growing q (settled r s j))) ≡ false)
-            (λ spares may. none_then q q.slots s j may kept c b listed of.bridge e of.spare.aligned)
-            (λ without may. none_then q [] s j may kept c b listed of.bridge e of.spare.aligned) can none)
+        | inr none ↦ inr (none_there c b e listed spare none)
       ]
 
   answer : (c : WindowKind) (b : Function) (e : Extent) → Contains t b → spare_of q c b ≡ Some e → has_window c b.probe ≡ true → (has_room_for q t c b e ≡ true) ⊎ (is_some (spared_behind q t c b e (growing q t)) ≡ false)

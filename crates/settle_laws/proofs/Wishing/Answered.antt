@@ -54,6 +54,24 @@ module _ (q : Request) (s : System) (spare : WindowKind → Function → Option 
   abbrev pub Answered : WindowKind → Kept → Function → Extent → Type 0
   Answered c j b e = HasSpot q s c j b e ⊎ (is_some (spared_behind q s c b e j) ≡ false)
 
+  -- ---- what a wish that is granted leaves, all wishes for lower buses leave
+
+  module _ (b : Function) (P : Kept → Type 0) (left : (d : WindowKind) (f : Function) → Contains s f → (x : Extent) → spare d f ≡ Some x → (j : Kept) → CanSettle q s j → (y : Spared) → spared_within q s d 256 f x j ≡ Some y → f.slot.bus ≤ b.slot.bus → P j → P y.kept) where
+    pub left_after : (d : WindowKind) (f : Function) → Contains s f → f.slot.bus ≤ b.slot.bus → (g : Granted) → Ok g → P g.kept → (o : Option Extent) → spare d f ≡ o → P (with_spare_of q s d f o g).kept
+    left_after d f in_f low g ok answer None at = answer
+    left_after d f in_f low g ok answer (Some x) at =
+        cond_both (has_window d f.probe) (or_denied (window_part d f) g (spared_behind q s d f x g.kept)) g (λ (y : Granted). P y.kept) (λ there. by (spared_behind q s d f x g.kept) refl) (λ absent. answer)
+      where
+        by : (o : Option Spared) → spared_behind q s d f x g.kept ≡ o → P (or_denied (window_part d f) g o).kept
+        by None found = answer
+        by (Some y) found = left d f in_f x at g.kept ok.can y found low answer
+
+    pub left_behind : (f : Function) → Contains s f → f.slot.bus ≤ b.slot.bus → (g : Granted) → Ok g → P g.kept → P (with_spares_of q s spare f g).kept
+    left_behind f in_f low g ok answer =
+        let io = one_wish q s spare are.each k IoWindow f in_f g ok (spare IoWindow f) refl in
+        let memory = one_wish q s spare are.each k MemoryWindow f in_f _ io (spare MemoryWindow f) refl in
+        left_after PrefetchWindow f in_f low _ memory (left_after MemoryWindow f in_f low _ io (left_after IoWindow f in_f low g ok answer (spare IoWindow f) refl) (spare MemoryWindow f) refl) (spare PrefetchWindow f) refl
+
   module _ (c : WindowKind) (b : Function) (in_b : Contains s b) (e : Extent) (spared : spare c b ≡ Some e) where
     is_b : is_bridge b ≡ true
     is_b = (are.each c b e spared).bridge
@@ -70,46 +88,40 @@ module _ (q : Request) (s : System) (spare : WindowKind → Function → Option 
         }
 
     -- a wish that is granted leaves the answer
-    step : (d : WindowKind) (f : Function) (in_f : Contains s f) (x : Extent) (for_f : spare d f ≡ Some x) (j : Kept) (can : CanSettle q s j) (y : Spared) → spared_within q s d 256 f x j ≡ Some y → f.slot.bus ≤ b.slot.bus → Answered c j b e → Answered c y.kept b e
-    step d f in_f x for_f j can y found low answer = by answer
-      where
-        of : IsSpareOf d f x
-        of = are.each d f x for_f
+    module _ (d : WindowKind) (f : Function) (in_f : Contains s f) (x : Extent) (for_f : spare d f ≡ Some x) (j : Kept) (can : CanSettle q s j) (y : Spared) (found : spared_within q s d 256 f x j ≡ Some y) (low : f.slot.bus ≤ b.slot.bus) where
+      of : IsSpareOf d f x
+      of = are.each d f x for_f
 
-        made : IsSpared q s d j y f x
-        made = is_spared q s d 256 j can f in_f of.bridge x of.spare y found
+      made : IsSpared q s d j y f x
+      made = is_spared q s d 256 j can f in_f of.bridge x of.spare y found
 
-        changes : Changes q s c can.system can.nested (like c) j y.kept
-        changes = elim (cases_Bool (same_class c d)) [
-          | inl same ↦
-              let class : d ≡ c = same_class_is c d same in
-              let few = (slots_of s can.system f in_f).0 in
-              spared_changes q s c can.system can.nested (like c) 256 f in_f of.bridge few x (subst (λ a. AreAlike x (like a)) class (are.alike d f x for_f)) j y (ap (λ a. spared_within q s a 256 f x j) (sym class) ∙ found)
-          | inr other ↦ λ g in_g is_g. Same (made.classes c (λ is. both_ways (same_class c d) other (ap (same_class c) (sym is) ∙ class_itself c)) g in_g is_g)
-        ]
+      changes : Changes q s c can.system can.nested (like c) j y.kept
+      changes = elim (cases_Bool (same_class c d)) [
+        | inl same ↦
+            let class : d ≡ c = same_class_is c d same in
+            let few = (slots_of s can.system f in_f).0 in
+            spared_changes q s c can.system can.nested (like c) 256 f in_f of.bridge few x (subst (λ a. AreAlike x (like a)) class (are.alike d f x for_f)) j y (ap (λ a. spared_within q s a 256 f x j) (sym class) ∙ found)
+        | inr other ↦ λ g in_g is_g. Same (made.classes c (λ is. both_ways (same_class c d) other (ap (same_class c) (sym is) ∙ class_itself c)) g in_g is_g)
+      ]
 
-        by : Answered c j b e → Answered c y.kept b e
-        by (inl spot) = inl (spot_left q s c d j can b f in_b is_b in_f of.bridge low e x y made spot)
-        by (inr none) = inr (false_from_ne_true (is_some (spared_behind q s c b e y.kept)) (λ some.
-            let few = (slots_of s can.system b in_b).0 in
-            both_ways (is_some (spared_behind q s c b e j)) none
-            (room_before q s c (like c) like_spare j y.kept can made.can made.keeps changes 256 b in_b is_b few e (are.alike c b e spared) some)))
+      pub spot_stays : HasSpot q s c j b e → HasSpot q s c y.kept b e
+      spot_stays spot = spot_left q s c d j can b f in_b is_b in_f of.bridge low e x y made spot
 
-    -- so does one that is denied
+      pub none_stays : is_some (spared_behind q s c b e j) ≡ false → is_some (spared_behind q s c b e y.kept) ≡ false
+      none_stays none = false_from_ne_true (is_some (spared_behind q s c b e y.kept)) (λ some.
+          let few = (slots_of s can.system b in_b).0 in
+          both_ways (is_some (spared_behind q s c b e j)) none
+          (room_before q s c (like c) like_spare j y.kept can made.can made.keeps changes 256 b in_b is_b few e (are.alike c b e spared) some))
+
+      step : Answered c j b e → Answered c y.kept b e
+      step (inl spot) = inl (spot_stays spot)
+      step (inr none) = inr (none_stays none)
+
     after : (d : WindowKind) (f : Function) → Contains s f → f.slot.bus ≤ b.slot.bus → (g : Granted) → Ok g → Answered c g.kept b e → (o : Option Extent) → spare d f ≡ o → Answered c (with_spare_of q s d f o g).kept b e
-    after d f in_f low g ok answer None at = answer
-    after d f in_f low g ok answer (Some x) at =
-        cond_both (has_window d f.probe) (or_denied (window_part d f) g (spared_behind q s d f x g.kept)) g (λ (y : Granted). Answered c y.kept b e) (λ there. by (spared_behind q s d f x g.kept) refl) (λ absent. answer)
-      where
-        by : (o : Option Spared) → spared_behind q s d f x g.kept ≡ o → Answered c (or_denied (window_part d f) g o).kept b e
-        by None found = answer
-        by (Some y) found = step d f in_f x at g.kept ok.can y found low answer
+    after = left_after b (λ j. Answered c j b e) step
 
     behind_all : (f : Function) → Contains s f → f.slot.bus ≤ b.slot.bus → (g : Granted) → Ok g → Answered c g.kept b e → Answered c (with_spares_of q s spare f g).kept b e
-    behind_all f in_f low g ok answer =
-        let io = one_wish q s spare are.each k IoWindow f in_f g ok (spare IoWindow f) refl in
-        let memory = one_wish q s spare are.each k MemoryWindow f in_f _ io (spare MemoryWindow f) refl in
-        after PrefetchWindow f in_f low _ memory (after MemoryWindow f in_f low _ io (after IoWindow f in_f low g ok answer (spare IoWindow f) refl) (spare MemoryWindow f) refl) (spare PrefetchWindow f) refl
+    behind_all = left_behind b (λ j. Answered c j b e) step
 
     -- its own wish answers it
     answered : has_window c b.probe ≡ true → (g : Granted) → Ok g → (o : Option Extent) → spare c b ≡ o → o ≡ Some e → Answered c (with_spare_of q s c b o g).kept b e
@@ -144,7 +156,7 @@ module _ (q : Request) (s : System) (spare : WindowKind → Function → Option 
       by MemoryWindow at there = after MemoryWindow b in_b e at PrefetchWindow b in_b (omega arith) memory ok_memory (answered MemoryWindow b in_b e at there io ok_io (spare MemoryWindow b) refl at) (spare PrefetchWindow b) refl
       by PrefetchWindow at there = answered PrefetchWindow b in_b e at there memory ok_memory (spare PrefetchWindow b) refl at
 
-  lower_bus : (f b : Function) → Contains s f → Contains s b → slot_number f.slot < slot_number b.slot → f.slot.bus ≤ b.slot.bus
+  pub lower_bus : (f b : Function) → Contains s f → Contains s b → slot_number f.slot < slot_number b.slot → f.slot.bus ≤ b.slot.bus
   lower_bus f b in_f in_b less =
       let x = slots_of s base.system f in_f in
       let y = slots_of s base.system b in_b in
