@@ -1,5 +1,7 @@
 pub mod Added
 pub mod Again
+pub mod AgainAnew
+pub mod AgainGranted
 pub mod Alike
 pub mod Answered
 pub mod ByBus

@@ -14,12 +14,14 @@ use Rattle.settle_spec.specs.Parts.{FunctionPart, addresses, lies_within}
 use Rattle.settle_spec.specs.Items.{spare_of}
 use Rattle.settle_spec.specs.Writes.{Settled}
 use Rattle.settle_spec.specs.Kept.{Kept, unwished}
+use Rattle.settle_spec.specs.Keeping.Registers.{settled, settled_function}
 use Rattle.settle_spec.specs.Keeping.Writes.{closings, settle_writes}
 use Rattle.settle_spec.specs.Growing.{settle_growing}
-use Rattle.settle_spec.specs.Wishes.{range_then, range_of_window, ending_if, ending, spared_if, spared_behind, granted}
+use Rattle.settle_spec.specs.Wishes.{range_then, range_of_window, ending_if, ending, spared_if, spared_behind, Granted, granted}
 use Rattle.settle_spec.specs.Sparing.{without_slots, is_settled, placing_request, grants, denied, settle_wished, settle_sparing}
 use Rattle.settle_spec.specs.SpareLaws.{kept_sparing, result_sparing, has_room_for, result_of}
 use Rattle.settle_laws.specs.WriteLaws.{most_settle_writes}
+use Rattle.settle_laws.specs.KeptLaws.{WishesNothing}
 use Rattle.settle_laws.specs.GrowingLaws.{CanBeAsked}
 use Rattle.settle_laws.specs.Keeping.PlacesLaws.{CanSettle}
 use Rattle.std.specs.Option.{is_some}
@@ -131,3 +133,18 @@ abbrev pub KeptDenyAlike : Type 0
 KeptDenyAlike =
     (q : Request) (s : System) → CanBeAsked q s → IsFalse q.anew → IsTrue (is_settled (settle_sparing q s))
     → map slot_and_register (denied q (result_sparing q s)) ≡ map slot_and_register (denied q s)
+
+-- Where all is placed anew, wishes come to the same beside their result: each part has the addresses that it had, and the
+-- same spares are denied.
+pub record ComeToTheSame (q : Request) (s : System) (g h : Granted) : Type 0 where
+  pub ranges : (f : Function) (p : Part) → Contains s f
+      → range_then q (settled q s g.kept) h.kept record { function = settled_function q s g.kept f; part = p }
+      ≡ range_then q s g.kept record { function = f; part = p }
+  pub denied : map slot_and_register h.denied ≡ map slot_and_register g.denied
+
+abbrev pub AnewWishesAgain : Type 0
+AnewWishesAgain =
+    (q asked : Request) (s : System) (k m : Kept) → CanSettle q s k → IsTrue q.anew → WishesNothing k → WishesNothing m
+    → ((r : FunctionPart) → IsFalse (m.stays r))
+    → ComeToTheSame q s (granted q s (spare_of asked) k)
+    (granted q (settled q s (granted q s (spare_of asked) k).kept) (spare_of asked) m)

@@ -1,6 +1,6 @@
 //! Laws of settling with room behind slots. These functions do nothing: each contract is a law.
 
-ghost use Rattle.settle_laws.specs.SparingLaws.{EndingIsByBus, SparedIsByBus, WishesChangeRoomAlone, GrantedCanSettle, SettledSparingIsSound, SettlingSparingCanStop, FewSparingWritesEach, SparingKeepsAll, SparesRefuseNoMore, WishedIsSettled, SparesAreAnswered, KeptSettleOnce, KeptDenyAlike};
+ghost use Rattle.settle_laws.specs.SparingLaws.{EndingIsByBus, SparedIsByBus, WishesChangeRoomAlone, GrantedCanSettle, SettledSparingIsSound, SettlingSparingCanStop, FewSparingWritesEach, SparingKeepsAll, SparesRefuseNoMore, WishedIsSettled, SparesAreAnswered, KeptSettleOnce, KeptDenyAlike, AnewWishesAgain};
 ghost use Rattle.settle_spec.specs.SpareLaws.{NoSlotsNoSpares, SparesRefuseNothing, NothingGoesForSpares, SparesSetNoCommand, SparesHaveRoom};
 
 /// Room behind a slot is told by the window over its bridge, bus by bus.
@@ -52,4 +52,9 @@ pub fn spares_have_room()
 pub fn kept_spares_settle_once()
     ensures once { KeptSettleOnce }
     ensures denied { KeptDenyAlike }
+{}
+
+/// Where all is placed anew, wishes come to the same beside their result.
+pub fn anew_wishes_come_to_the_same()
+    ensures { AnewWishesAgain }
 {}

@@ -60,7 +60,7 @@ module _ (q : Request) (s : System) (k : Kept) (can : CanSettle q s k) where
   -- ---- where all is placed anew the same gets a place
 
   module _ (anew : IsTrue q.anew) (f : Function) (listed : Contains s f) where
-    change_again : (p : Part) → can_change q s f p ≡ can_change q t (now f) p
+    pub change_again : (p : Part) → can_change q s f p ≡ can_change q t (now f) p
     change_again (Bar n) = (let part = part_alike q s t (all_alike q s k can) f (now f) (is f listed) (Bar n) refl in ap (λ b. b || false) part)
     change_again Rom = (let part = part_alike q s t (all_alike q s k can) f (now f) (is f listed) Rom refl in ap (λ b. b || false) part)
     change_again (Window c) =
