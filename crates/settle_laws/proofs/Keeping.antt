@@ -32,6 +32,7 @@ pub mod PassedAbove
 pub mod PlacedBus
 pub mod PlacesFit
 pub mod RomPlaces
+pub mod SameImage
 pub mod SettledAlready
 pub mod SettledMoved
 pub mod SettledSound

@@ -55,6 +55,7 @@ pub mod PlannedRoots
 pub mod PlannedSizes
 pub mod PoolLists
 pub mod Powers
+pub mod PutTwice
 pub mod Reput
 pub mod Resting
 pub mod RomPlaces

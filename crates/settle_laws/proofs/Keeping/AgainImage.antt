@@ -1,6 +1,5 @@
 -- What is settled shows the places that everything gets again, so its registers stay.
-use Rattle.std.proofs.Common.{◌≡◌, ℕ, ◌+◌, ◌-◌, ◌%◌, ◌^◌, ◌<◌, inl, inr, true, cond, arith, refl, sym, ◌∙◌, ap, subst, Option, None, Some}
-use Rattle.std.specs.Bool.{IsTrue}
+use Rattle.std.proofs.Common.{◌≡◌, ℕ, ◌+◌, ◌-◌, ◌%◌, ◌^◌, ◌<◌, false, true, cond, arith, refl, sym, ◌∙◌, ap, Option, None, Some}
 use Rattle.std.specs.List.{Contains}
 use Rattle.std.proofs.lemmas.Nat.{mod_below, pow_pos}
 use Rattle.std.proofs.Math.Nat.{mul-add-mod_self_right, mod-eq_of_lt, pow-le-pow_right}
@@ -9,51 +8,35 @@ use Rattle.pci_spec.specs.Header.{layout, bar_count, bar_register, rom_register}
 use Rattle.pci_spec.specs.Bar.{bar_at, bar_kind, has_bar, is_wide, whole_bar, first_bit}
 use Rattle.pci_spec.specs.Decoded.{bar_size}
 use Rattle.pci_spec.specs.Rom.{has_rom, rom_at}
-use Rattle.pci_spec.specs.Window.{WindowKind, bounds_at, bounds_for, closed_bounds}
-use Rattle.pci_spec.specs.System.{System, Function, Part, Bar, Rom, Window, is_bridge}
+use Rattle.pci_spec.specs.System.{System, Function, Part, Bar, Rom}
 use Rattle.pci_spec.proofs.Ranges as ranges
-use Rattle.plan_spec.specs.Place.{nibble_of}
 use Rattle.plan_spec.specs.Planning.Showing.{bar_value}
 use Rattle.plan_spec.proofs.Planning.Placement.{IsMultiple, multiple_of_mod, multiple_trans, power_multiple}
 use Rattle.settle_spec.specs.Lists.{Request}
-use Rattle.settle_spec.specs.Parts.{FunctionPart, header_parts}
+use Rattle.settle_spec.specs.Parts.{FunctionPart}
 use Rattle.settle_spec.specs.Items.{Placed}
 use Rattle.settle_spec.specs.Keeping.Places.{new_place}
-use Rattle.settle_spec.specs.Registers.{with_number, with_bounds, closed_if_open, changing}
-use Rattle.settle_spec.specs.Keeping.Registers.{with_kept, shown, settled, settled_image, settled_function}
-use Rattle.settle_spec.proofs.Anew.{none_stays}
-use Rattle.settle_laws.specs.PlacesLaws.{place_range}
+use Rattle.settle_spec.specs.Registers.{with_number}
+use Rattle.settle_spec.specs.Keeping.Registers.{with_kept, shown, settled, settled_function}
 use Rattle.settle_laws.specs.Keeping.PlacesLaws.{CanSettle}
-use Rattle.settle_laws.proofs.Keeping.Again.{again_alike, settled_alike}
 use Rattle.settle_laws.proofs.AlikePlaces.{IsAlikePlaced}
 use Rattle.settle_laws.proofs.BarReach.{size_is, top_here}
-use Rattle.settle_laws.proofs.Keeping.Claimed.{bridge_stays, rest_closed}
 use Rattle.settle_laws.proofs.Keeping.Fits.{was, decodable}
-use Rattle.settle_laws.proofs.HeaderParts.{part_cases}
-use Rattle.settle_laws.specs.KeptLaws.{WishesNothing}
-use Rattle.settle_laws.proofs.Keeping.Ends.{unwished_end}
-use Rattle.settle_laws.proofs.Keeping.InWindows.{placed_range}
-use Rattle.settle_laws.proofs.Reput.{put_bar, put_four, put_bounds}
+use Rattle.settle_laws.proofs.Reput.{put_bar, put_four}
 use Rattle.settle_laws.proofs.Keeping.RomPlaces.{rom_is_even}
 use Rattle.settle_laws.proofs.Keeping.SettledMoved.{kind_stays, new_image}
-use Rattle.settle_laws.proofs.Shown.{can_change, can_bar, can_rom, fold_keeps, window_bridge}
-use Rattle.settle_laws.proofs.Keeping.Shown.{IsChanging, changing_is}
-use Rattle.settle_laws.proofs.Keeping.ShownParts.{bar_now, room, rom_now, window_now}
+use Rattle.settle_laws.proofs.Keeping.ShownParts.{bar_now, room, rom_now}
 use Rattle.settle_laws.proofs.Zipped.{BothOrNone}
-use Rattle.settle_spec.specs.Kept.{Kept, as_it_stands}
-use Rattle.settle_laws.proofs.Keeping.Kept.{none_kept}
+use Rattle.settle_spec.specs.Kept.{Kept}
 
 -- what is below a number stays when a multiple of it is added
 low_stays : (a w e : ℕ) → 0 < e → IsMultiple a e → (a + w % e) % e ≡ w % e
 low_stays a w e some (k, is) =
     ap (λ n. (n + w % e) % e) is ∙ mul-add-mod_self_right k e (w % e) ∙ mod-eq_of_lt (mod_below w e some)
 
-module _ (q : Request) (s : System) (k : Kept) (can : CanSettle q s k) (anew : IsTrue q.anew) (wishless : WishesNothing k) (f : Function) (listed : Contains s f) where
+module _ (q : Request) (s : System) (k : Kept) (can : CanSettle q s k) (f : Function) (listed : Contains s f) (j : Kept) (none : (r : FunctionPart) → j.stays r ≡ false) where
   abbrev t : System
   t = settled q s k
-
-  abbrev j : Kept
-  j = as_it_stands q t
 
   abbrev g : Function
   g = settled_function q s k f
@@ -73,8 +56,8 @@ module _ (q : Request) (s : System) (k : Kept) (can : CanSettle q s k) (anew : I
   -- ---- BARs
 
   module _ (n : ℕ) (inside : n < bar_count (layout f.image)) (there : has_bar f.probe n ≡ true) where
-    bar_again : (o p : Option Placed) → new_place q s k (before (Bar n)) ≡ o → BothOrNone IsAlikePlaced o p → shown j (after (Bar n)) p g.image ≡ g.image
-    bar_again None None placed both = ap (λ b. cond b (with_kept j (after (Bar n)) g.image) g.image) (none_stays q t anew (after (Bar n)))
+    pub bar_again : (o p : Option Placed) → new_place q s k (before (Bar n)) ≡ o → BothOrNone IsAlikePlaced o p → shown j (after (Bar n)) p g.image ≡ g.image
+    bar_again None None placed both = ap (λ b. cond b (with_kept j (after (Bar n)) g.image) g.image) (none (after (Bar n)))
     bar_again None (Some y) placed both = absurd both
     bar_again (Some x) None placed both = absurd both
     bar_again (Some x) (Some y) placed both =
@@ -96,8 +79,8 @@ module _ (q : Request) (s : System) (k : Kept) (can : CanSettle q s k) (anew : I
   -- ---- the ROM
 
   module _ (there : has_rom f.image f.probe ≡ true) where
-    rom_again : (o p : Option Placed) → new_place q s k (before Rom) ≡ o → BothOrNone IsAlikePlaced o p → shown j (after Rom) p g.image ≡ g.image
-    rom_again None None placed both = ap (λ b. cond b (with_kept j (after Rom) g.image) g.image) (none_stays q t anew (after Rom))
+    pub rom_again : (o p : Option Placed) → new_place q s k (before Rom) ≡ o → BothOrNone IsAlikePlaced o p → shown j (after Rom) p g.image ≡ g.image
+    rom_again None None placed both = ap (λ b. cond b (with_kept j (after Rom) g.image) g.image) (none (after Rom))
     rom_again None (Some y) placed both = absurd both
     rom_again (Some x) None placed both = absurd both
     rom_again (Some x) (Some y) placed both =
@@ -112,50 +95,3 @@ module _ (q : Request) (s : System) (k : Kept) (can : CanSettle q s k) (anew : I
       where
         rom_even : (x : Placed) → new_place q s k (before Rom) ≡ Some x → x.at % 2 ≡ 0
         rom_even x placed = rom_is_even q s k can f listed there (decodable q s k can f listed).rom x placed
-
-  -- ---- windows
-
-  module _ (c : WindowKind) (bridge : is_bridge f ≡ true) where
-    window_again : (o p : Option Placed) → new_place q s k (before (Window c)) ≡ o → BothOrNone IsAlikePlaced o p → shown j (after (Window c)) p g.image ≡ g.image
-    window_again None None placed both =
-        ap (λ b. cond b (with_kept j (after (Window c)) g.image) (closed_if_open g (Window c) g.image)) (none_stays q t anew (after (Window c)))
-        ∙ ap (λ b. cond b (with_bounds c (closed_bounds c (nibble_of c g)) g.image) g.image) (rest_closed q s k can f c listed (unwished_end q s k (before (Window c)) (ap (λ wish. wish (before (Window c))) wishless) ∙ placed_range q s k (before (Window c)) (none_kept q s k can anew (before (Window c))) ∙ ap place_range placed))
-    window_again None (Some y) placed both = absurd both
-    window_again (Some x) None placed both = absurd both
-    window_again (Some x) (Some y) placed both =
-        let at = both.at in
-        let extent = both.item.extent in
-        let now = window_now q s k can f listed c bridge (ap (λ wish. wish (before (Window c))) wishless) x placed in
-        let same : bounds_for c (nibble_of c f) y.at (y.at + (y.item.extent.size - 1)) ≡ bounds_at c g.image =
-        (λ i. bounds_for c (nibble_of c f) (sym at i) (sym at i + ((sym extent i).size - 1))) ∙ sym now in
-        ap (λ v. with_bounds c v g.image) same ∙ put_bounds g.image image c
-
-  -- ---- the whole
-
-  step_again : (r : FunctionPart) → Contains (changing q t g) r → shown j r (new_place q t j r) g.image ≡ g.image
-  step_again r has =
-      let of : IsChanging q t j g r = changing_is q t j g r has in
-      subst (λ u. shown j u (new_place q t j u) g.image ≡ g.image) of.is (by of.p of.there of.can)
-    where
-      by : (p : Part) → Contains (header_parts g) p → can_change q t g p ≡ true → shown j (after p) (new_place q t j (after p)) g.image ≡ g.image
-      by p there may = elim (part_cases g p there) [
-        | inl bar ↦
-            let n = bar.n in
-            let inside : n < bar_count (layout f.image) = subst (λ k. n < bar_count k) kind bar.inside in
-            subst (λ x. shown j (after x) (new_place q t j (after x)) g.image ≡ g.image) bar.is
-            (bar_again n inside (can_bar q t g n (ap (can_change q t g) bar.is ∙ may)) (new_place q s k (before (Bar n))) (new_place q t j (after (Bar n))) refl (again_alike q s k can anew f (Bar n) listed))
-        | inr (inl window) ↦
-            let c = window.kind in
-            let bridge = sym (bridge_stays q s k can f listed) ∙ window_bridge q t g c (ap (can_change q t g) window.is ∙ may) in
-            subst (λ x. shown j (after x) (new_place q t j (after x)) g.image ≡ g.image) window.is
-            (window_again c bridge (new_place q s k (before (Window c))) (new_place q t j (after (Window c))) refl (again_alike q s k can anew f (Window c) listed))
-        | inr (inr rom) ↦
-            subst (λ x. shown j (after x) (new_place q t j (after x)) g.image ≡ g.image) rom
-            (rom_again (has_then (can_rom q t g (ap (can_change q t g) rom ∙ may))) (new_place q s k (before Rom)) (new_place q t j (after Rom)) refl (again_alike q s k can anew f Rom listed))
-      ]
-        where
-          has_then : has_rom g.image g.probe ≡ true → has_rom f.image f.probe ≡ true
-          has_then now = (settled_alike q s k can f listed).rom ∙ now
-
-  pub image_again : settled_image q t j g ≡ g.image
-  image_again = fold_keeps (λ x. x ≡ g.image) (λ x r. shown j r (new_place q t j r) x) (changing q t g) (λ r has x same. ap (shown j r (new_place q t j r)) same ∙ step_again r has) g.image refl

@@ -11,7 +11,7 @@ use Rattle.settle_spec.specs.Keeping.Registers.{got_place, settled, settled_imag
 use Rattle.settle_spec.specs.Keeping.Writes.{settle_writes}
 use Rattle.settle_laws.specs.Keeping.PlacesLaws.{CanSettle}
 use Rattle.settle_laws.proofs.Keeping.AgainCommand.{left_again, got_again}
-use Rattle.settle_laws.proofs.Keeping.AgainImage.{image_again}
+use Rattle.settle_laws.proofs.Keeping.SameImage.{image_again}
 use Rattle.settle_laws.proofs.Keeping.AgainKept.{all_stand}
 use Rattle.settle_laws.proofs.StandingPlaces.{got_none, image_stays}
 use Rattle.settle_laws.proofs.Keeping.Claimed.{on_now}
