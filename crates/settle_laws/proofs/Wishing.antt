@@ -2,6 +2,7 @@ pub mod Added
 pub mod Again
 pub mod AgainAnew
 pub mod AgainGranted
+pub mod AgainWrites
 pub mod Alike
 pub mod Answered
 pub mod ByBus

@@ -13,7 +13,7 @@ use Rattle.settle_spec.specs.Lists.{Request}
 use Rattle.settle_spec.specs.Parts.{FunctionPart, addresses, lies_within}
 use Rattle.settle_spec.specs.Items.{spare_of}
 use Rattle.settle_spec.specs.Writes.{Settled}
-use Rattle.settle_spec.specs.Kept.{Kept, unwished}
+use Rattle.settle_spec.specs.Kept.{Kept, unwished, as_it_stands}
 use Rattle.settle_spec.specs.Keeping.Registers.{settled, settled_function}
 use Rattle.settle_spec.specs.Keeping.Writes.{closings, settle_writes}
 use Rattle.settle_spec.specs.Growing.{settle_growing}
@@ -148,3 +148,12 @@ AnewWishesAgain =
     → ((r : FunctionPart) → IsFalse (m.stays r))
     → ComeToTheSame q s (granted q s (spare_of asked) k)
     (granted q (settled q s (granted q s (spare_of asked) k).kept) (spare_of asked) m)
+
+-- and nothing is written for it.
+abbrev pub AnewWishesWriteNothing : Type 0
+AnewWishesWriteNothing =
+    (q asked : Request) (s : System) (k : Kept) → CanSettle q s k → IsTrue q.anew → WishesNothing k
+    → settle_writes q (settled q s (granted q s (spare_of asked) k).kept)
+    (granted q (settled q s (granted q s (spare_of asked) k).kept) (spare_of asked)
+    (as_it_stands q (settled q s (granted q s (spare_of asked) k).kept))).kept
+    ≡ []

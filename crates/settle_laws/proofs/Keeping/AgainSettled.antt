@@ -53,7 +53,7 @@ module _ (q : Request) (s : System) (k : Kept) (can : CanSettle q s k) where
   left_off f listed left = false_from_ne_true (is_space_on (now f) Io) (λ on.
       both_ways (has_left q s f) (not-true (has_left q s f) (enabled_unleft q s k f Io (sym (on_now q s k can f listed Io) ∙ on))) (left_again q s k can f listed ∙ left))
 
-  got_on : (space : Space) (f : Function) → Contains s f → not (are_same_space space Io && has_left q t (now f)) ≡ true → got_place q t j space (now f) ≡ true → is_space_on (now f) space ≡ true
+  pub got_on : (space : Space) (f : Function) → Contains s f → not (are_same_space space Io && has_left q t (now f)) ≡ true → got_place q t j space (now f) ≡ true → is_space_on (now f) space ≡ true
   got_on space f listed fine got =
       let behind = has_live_behind s (is_live q s k space) f in
       on_now q s k can f listed space

@@ -1,13 +1,12 @@
 -- Where all is placed anew, the registers show what they do once more, beside the same wishes.
-use Rattle.std.proofs.Common.{◌≡◌, ◌-◌, ◌+◌, ◌<◌, inl, inr, Bool, List, ℕ, false, true, cond, length, refl, sym, ◌∙◌, ap, subst, Option, None, Some}
+use Rattle.std.proofs.Common.{◌≡◌, ◌-◌, ◌+◌, ◌<◌, inl, inr, Bool, ℕ, false, true, cond, length, refl, sym, ◌∙◌, ap, subst, Option, None, Some}
 use Rattle.std.specs.List.{Contains}
 use Rattle.std.specs.Bool.{IsTrue}
 use Rattle.pci_spec.specs.Number.{byte_at, IsImage}
 use Rattle.pci_spec.specs.Header.{bar_count, layout}
-use Rattle.pci_spec.specs.Rom.{has_rom}
 use Rattle.pci_spec.specs.Decoded.{Range}
 use Rattle.pci_spec.specs.Window.{WindowKind, bounds_at, bounds_for, closed_bounds}
-use Rattle.pci_spec.specs.System.{System, Function, Part, Bar, Rom, Window, is_bridge, is_window}
+use Rattle.pci_spec.specs.System.{System, Function, Part, Bar, Rom, Window, has_part, is_bridge, is_window}
 use Rattle.plan_spec.specs.Plan.{is_open}
 use Rattle.plan_spec.specs.Place.{nibble_of}
 use Rattle.settle_spec.specs.Lists.{Request}
@@ -24,6 +23,7 @@ use Rattle.settle_laws.specs.PlacesLaws.{place_range}
 use Rattle.settle_laws.specs.Keeping.PlacesLaws.{CanSettle}
 use Rattle.settle_laws.proofs.AlikePlaces.{IsAlikePlaced}
 use Rattle.settle_laws.proofs.HeaderParts.{part_cases}
+use Rattle.settle_laws.proofs.ItemForms.{header_has}
 use Rattle.settle_laws.proofs.PutTwice.{bounds_over}
 use Rattle.settle_laws.proofs.Reput.{put_bounds}
 use Rattle.settle_laws.proofs.Shown.{can_change, can_bar, can_rom, fold_keeps, window_bridge}
@@ -68,13 +68,13 @@ module _ (q : Request) (s : System) (k : Kept) (can : CanSettle q s k) (anew : I
           let place = place_of_range q s k (new_place q s k (before (Window c))) w (sym (unwished_end q s k (before (Window c)) unwished ∙ placed_range q s k (before (Window c)) (none_kept q s k can anew (before (Window c)))) ∙ ends) in
           window_now q s k can f listed c bridge unwished place.0 place.1 ∙ ap (λ (x : Range). bounds_for c (nibble_of c f) x.first x.last) place.2
 
-  module _ (ranges : (p : Part) → range_then q t j (after p) ≡ range_then q s k (before p)) (plain : (p : Part) → is_window p ≡ false → j.wished (after p) ≡ None)
+  module _ (ranges : (p : Part) → range_then q t j (after p) ≡ range_then q s k (before p)) (plain : (p : Part) → has_part g p ≡ true → is_window p ≡ false → j.wished (after p) ≡ None)
       (places : (p : Part) → BothOrNone IsAlikePlaced (new_place q s k (before p)) (new_place q t j (after p))) where
     abbrev step_of : Part → Type 0
     step_of p = with_wish (after p) (j.wished (after p)) (shown j (after p) (new_place q t j (after p)) g.image) ≡ g.image
 
-    plain_step : (p : Part) → is_window p ≡ false → shown j (after p) (new_place q t j (after p)) g.image ≡ g.image → step_of p
-    plain_step p own same = ap (λ o. with_wish (after p) o (shown j (after p) (new_place q t j (after p)) g.image)) (plain p own) ∙ same
+    plain_step : (p : Part) → Contains (header_parts g) p → is_window p ≡ false → shown j (after p) (new_place q t j (after p)) g.image ≡ g.image → step_of p
+    plain_step p there own same = ap (λ o. with_wish (after p) o (shown j (after p) (new_place q t j (after p)) g.image)) (plain p (header_has g p there own) own) ∙ same
 
     module _ (c : WindowKind) (bridge : is_bridge f ≡ true) where
       put : (w : Range) → range_then q t j (after (Window c)) ≡ Some w → with_bounds c (bounds_for c (nibble_of c f) w.first w.last) g.image ≡ g.image
@@ -118,14 +118,14 @@ module _ (q : Request) (s : System) (k : Kept) (can : CanSettle q s k) (anew : I
               let n = bar.n in
               let inside : n < bar_count (layout f.image) = subst (λ x. n < bar_count x) (kind_stays q s k can f listed) bar.inside in
               subst step_of bar.is
-              (plain_step (Bar n) refl (bar_again q s k can f listed j none n inside (can_bar q t g n (ap (can_change q t g) bar.is ∙ may)) (new_place q s k (before (Bar n))) (new_place q t j (after (Bar n))) refl (places (Bar n))))
+              (plain_step (Bar n) (subst (Contains (header_parts g)) (sym bar.is) there) refl (bar_again q s k can f listed j none n inside (can_bar q t g n (ap (can_change q t g) bar.is ∙ may)) (new_place q s k (before (Bar n))) (new_place q t j (after (Bar n))) refl (places (Bar n))))
           | inr (inl window) ↦
               let c = window.kind in
               let bridge = sym (bridge_stays q s k can f listed) ∙ window_bridge q t g c (ap (can_change q t g) window.is ∙ may) in
               subst step_of window.is (window_step c bridge (j.wished (after (Window c))) refl)
           | inr (inr rom) ↦
               subst step_of rom
-              (plain_step Rom refl (rom_again q s k can f listed j none ((settled_alike q s k can f listed).rom ∙ can_rom q t g (ap (can_change q t g) rom ∙ may)) (new_place q s k (before Rom)) (new_place q t j (after Rom)) refl (places Rom)))
+              (plain_step Rom (subst (Contains (header_parts g)) (sym rom) there) refl (rom_again q s k can f listed j none ((settled_alike q s k can f listed).rom ∙ can_rom q t g (ap (can_change q t g) rom ∙ may)) (new_place q s k (before Rom)) (new_place q t j (after Rom)) refl (places Rom)))
         ]
 
     pub image_same : settled_image q t j g ≡ g.image
@@ -136,4 +136,4 @@ module _ (q : Request) (s : System) (k : Kept) (can : CanSettle q s k) (anew : I
 pub image_again : (q : Request) (s : System) (k : Kept) (can : CanSettle q s k) (anew : IsTrue q.anew) → WishesNothing k → (f : Function) → Contains s f
     → settled_image q (settled q s k) (as_it_stands q (settled q s k)) (settled_function q s k f) ≡ (settled_function q s k f).image
 image_again q s k can anew wishless f listed =
-    image_same q s k can anew (as_it_stands q (settled q s k)) (none_stays q (settled q s k) anew) f listed (λ p. ends_again q s k can anew wishless f p listed) (λ p plain. refl) (λ p. again_alike q s k can anew f p listed)
+    image_same q s k can anew (as_it_stands q (settled q s k)) (none_stays q (settled q s k) anew) f listed (λ p. ends_again q s k can anew wishless f p listed) (λ p there plain. refl) (λ p. again_alike q s k can anew f p listed)

@@ -45,7 +45,7 @@ module _ (q : Request) (s : System) (k : Kept) (wish : FunctionPart → Option R
       by [] = refl
       by (root ∷ more) = (let io = placing_same Io 256 root in let memory = placing_same Memory 256 root in λ i. first_lack (io i) (first_lack (memory i) None))
 
-  got_same : (space : Space) (f : Function) → got_place q s j space f ≡ got_place q s k space f
+  pub got_same : (space : Space) (f : Function) → got_place q s j space f ≡ got_place q s k space f
   got_same space f = ap (λ place. list_any (λ r. are_same_space space (part_space r) && is_some (place r)) (changing q s f)) (fun_ext new_same)
 
   live_same : (space : Space) (depth : ℕ) (f : Function) → is_live_within q s j space depth f ≡ is_live_within q s k space depth f

@@ -1,5 +1,5 @@
 -- Where each spare has room, or none is there for it, settled again nothing is written.
-use Rattle.std.proofs.Common.{◌≡◌, ◌&&◌, ◌⊎◌, ℕ, ◌-◌, ◌<◌, ◌≤◌, inl, inr, List, [], ◌∷◌, Bool, true, false, cond, length, not, arith, refl, sym, ◌∙◌, ap, subst, Option, None, Some}
+use Rattle.std.proofs.Common.{◌≡◌, ◌&&◌, ◌⊎◌, ℕ, ◌-◌, ◌<◌, ◌≤◌, inl, inr, List, [], ◌∷◌, Bool, true, false, cond, length, arith, refl, sym, ◌∙◌, ap, subst, Option, None, Some}
 use Rattle.std.specs.Bool.{nat_le, nat_lt}
 use Rattle.std.specs.List.{Contains, filter, flat_map, list_any}
 use Rattle.std.specs.Option.{is_some, option_map}
@@ -7,7 +7,7 @@ use Rattle.std.proofs.lemmas.Bool.{and_parts, both_ways, cond_both, leb-true, le
 use Rattle.pci_spec.specs.Slot.{same_slot}
 use Rattle.pci_spec.specs.Decoded.{Range}
 use Rattle.pci_spec.specs.Window.{WindowKind, IoWindow, MemoryWindow, PrefetchWindow, has_window}
-use Rattle.pci_spec.specs.System.{System, Function, IsSystem, Io, Part, Window, is_space_on, window_space}
+use Rattle.pci_spec.specs.System.{System, Function, IsSystem, Io, Window, is_space_on, window_space}
 use Rattle.pci_spec.specs.Bus.{secondary, are_siblings}
 use Rattle.pci_spec.specs.Sound.{IsSound}
 use Rattle.pci_spec.proofs.Members.{in_nil, in_cons_cases, in_head, in_tail, in_filter_to, IsInPiece, in_flat_map_to, in_flat_map_from, IsMade, in_map_to}

@@ -1,5 +1,5 @@
 -- Where all is placed anew, wishes come to the same beside what they came to.
-use Rattle.std.proofs.Common.{◌≡◌, ◌&&◌, Bool, false, cond, [], refl, sym, ◌∙◌, ap, Option, None, Some}
+use Rattle.std.proofs.Common.{◌≡◌, ◌&&◌, false, cond, [], refl, sym, ◌∙◌, ap, Option, None, Some}
 use Rattle.std.specs.Bool.{nat_lt, IsTrue}
 use Rattle.std.specs.List.{Contains, list_any}
 use Rattle.pci_spec.specs.Slot.{same_slot}
@@ -13,7 +13,7 @@ use Rattle.settle_spec.specs.Items.{Placed, highest_in, spare_of}
 use Rattle.settle_spec.specs.Kept.{Kept, no_wish, unwished}
 use Rattle.settle_spec.specs.Keeping.Places.{new_place}
 use Rattle.settle_spec.specs.Keeping.Registers.{settled, settled_function}
-use Rattle.settle_spec.specs.Wishes.{range_then, Granted, granted}
+use Rattle.settle_spec.specs.Wishes.{Granted, granted}
 use Rattle.settle_laws.specs.KeptLaws.{WishesNothing}
 use Rattle.settle_laws.specs.PlacesLaws.{place_range}
 use Rattle.settle_laws.specs.SparingLaws.{AnewWishesAgain}

@@ -1,6 +1,5 @@
 -- Where all is placed anew, wishes beside what is settled come to the same once more.
 use Rattle.std.proofs.Common.{◌≡◌, ◌&&◌, ℕ, zero, suc, ◌-◌, List, [], ◌∷◌, ◌++◌, Bool, true, false, cond, map, not, refl, sym, ◌∙◌, ap, subst, Option, None, Some}
-use Rattle.std.specs.Prelude.{⊤}
 use Rattle.std.specs.Bool.{◌==◌, nat_le, IsTrue}
 use Rattle.std.specs.List.{AllZip, Contains, filter, flat_map, list_all}
 use Rattle.std.specs.Option.{option_map, option_or}
@@ -17,23 +16,20 @@ use Rattle.settle_spec.specs.FirstPlace.{Extent, ranges_are_apart, first_spot, f
 use Rattle.settle_spec.specs.Lists.{Request, class_ranges}
 use Rattle.settle_spec.specs.Parts.{FunctionPart, header_parts, bridge_over, are_same_space}
 use Rattle.settle_spec.specs.Stands.{rank, is_fixed_part, is_in_lists, part_space, window_part}
-use Rattle.settle_spec.specs.Items.{Placed, highest_in, spare_of}
+use Rattle.settle_spec.specs.Items.{highest_in}
 use Rattle.settle_spec.specs.Registers.{changing}
 use Rattle.settle_spec.specs.Growth.{range_list}
-use Rattle.settle_spec.specs.Kept.{Kept, no_wish, unwished}
-use Rattle.settle_spec.specs.Keeping.Places.{new_place}
+use Rattle.settle_spec.specs.Kept.{Kept}
 use Rattle.settle_spec.specs.Keeping.Registers.{settled, settled_function}
 use Rattle.settle_spec.specs.Wishes.{place_then, range_then, there_then, with_window, with_bridge, ending_at, end_over, gained, can_end_at, with_room_above, ending_if, ending_within, spot_behind, Spared, spared_at, spared_above, held_by, opened_at, spared_if, spared_within, spared_behind, Granted, or_denied, with_spare_of, with_spares_of, with_all_spares}
 use Rattle.settle_spec.proofs.BridgeOver.{over_leads}
-use Rattle.settle_laws.specs.KeptLaws.{WishesNothing}
-use Rattle.settle_laws.specs.PlacesLaws.{place_range}
 use Rattle.settle_laws.specs.SparingLaws.{slot_and_register}
 use Rattle.settle_laws.specs.Keeping.PlacesLaws.{CanSettle}
-use Rattle.settle_laws.proofs.Alike.{IsAlike, of_bridges, header_alike, rank_alike, space_alike}
+use Rattle.settle_laws.proofs.Alike.{of_bridges, header_alike, rank_alike, space_alike}
 use Rattle.settle_laws.proofs.KeptAside.{each_by}
 use Rattle.settle_laws.proofs.Shown.{can_change}
 use Rattle.settle_laws.proofs.Zipped.{BothOrNone, filter_zip, find_zip, flat_zip}
-use Rattle.settle_laws.proofs.Keeping.Again.{settled_alike, all_alike}
+use Rattle.settle_laws.proofs.Keeping.Again.{settled_alike}
 use Rattle.settle_laws.proofs.Keeping.AgainCommand.{change_again}
 use Rattle.settle_laws.proofs.Keeping.Fits.{was}
 use Rattle.settle_laws.proofs.Keeping.Moves.{moves}

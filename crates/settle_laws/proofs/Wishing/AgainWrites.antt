@@ -1,0 +1,101 @@
+-- Where all is placed anew, nothing is written for the same wishes beside what they came to.
+use Rattle.std.proofs.Common.{◌≡◌, ◌&&◌, true, false, not, [], refl, sym, ◌∙◌, ap, subst}
+use Rattle.std.specs.Bool.{IsTrue}
+use Rattle.std.specs.List.{Contains}
+use Rattle.pci_spec.specs.System.{System, Function, Io, Space, is_space_on}
+use Rattle.pci_spec.proofs.Members.{in_map_from, in_map_to, IsMade}
+use Rattle.settle_spec.specs.Lists.{Request}
+use Rattle.settle_spec.specs.Parts.{FunctionPart, has_left, are_same_space}
+use Rattle.settle_spec.specs.Items.{spare_of}
+use Rattle.settle_spec.specs.Kept.{Kept, no_wish, unwished, as_it_stands}
+use Rattle.settle_spec.specs.Keeping.Places.{new_place}
+use Rattle.settle_spec.specs.Keeping.Registers.{got_place, settled, settled_function, settled_image}
+use Rattle.settle_spec.specs.Keeping.Writes.{settle_writes}
+use Rattle.settle_spec.specs.Wishes.{granted}
+use Rattle.settle_spec.proofs.Anew.{none_stays}
+use Rattle.settle_laws.specs.KeptLaws.{WishesNothing}
+use Rattle.settle_laws.specs.SparingLaws.{AnewWishesWriteNothing}
+use Rattle.settle_laws.specs.Keeping.PlacesLaws.{CanSettle}
+use Rattle.settle_laws.proofs.AlikePlaces.{IsAlikePlaced}
+use Rattle.settle_laws.proofs.SoundKept.{standing_is_sound}
+use Rattle.settle_laws.proofs.Zipped.{BothOrNone}
+use Rattle.settle_laws.proofs.Keeping.Again.{room_again, again_alike}
+use Rattle.settle_laws.proofs.Keeping.AgainSettled.{all_left_off, got_on}
+use Rattle.settle_laws.proofs.Keeping.Moves.{new_system, new_nested, new_profile, new_chains}
+use Rattle.settle_laws.proofs.Keeping.SameImage.{image_same}
+use Rattle.settle_laws.proofs.Keeping.SettledAlready.{settled_already}
+use Rattle.settle_laws.proofs.Keeping.SettledSound.{settled_sound}
+use Rattle.settle_laws.proofs.Keeping.Unchanged.{no_write}
+use Rattle.settle_laws.proofs.Keeping.Wishless.{got_same, new_same}
+use Rattle.settle_laws.proofs.Wishing.AgainAnew.{same}
+use Rattle.settle_laws.proofs.Wishing.Alike.{granted_alike}
+use Rattle.settle_laws.proofs.Wishing.Granted.{all_granted}
+
+module _ (q asked : Request) (s : System) (k : Kept) (could : CanSettle q s k) (anew : IsTrue q.anew) (wishless : WishesNothing k) where
+  abbrev i : Kept
+  i = (granted q s (spare_of asked) k).kept
+
+  abbrev t : System
+  t = settled q s i
+
+  abbrev now : Function → Function
+  now f = settled_function q s i f
+
+  abbrev m : Kept
+  m = as_it_stands q t
+
+  abbrev j : Kept
+  j = (granted q t (spare_of asked) m).kept
+
+  can_s : CanSettle q s i
+  can_s = (all_granted q asked s k could).can
+
+  can_t : CanSettle q t m
+  can_t = record {
+    lists = can_s.lists;
+    high = can_s.high;
+    system = new_system q s i can_s;
+    nested = new_nested q s i can_s;
+    profile = new_profile q s i can_s;
+    chains = new_chains q s i can_s;
+    sound = standing_is_sound q t (new_system q s i can_s) (new_nested q s i can_s) (new_profile q s i can_s);
+    room = room_again q s i can_s anew;
+  }
+
+  can_j : CanSettle q t j
+  can_j = (all_granted q asked t m can_t).can
+
+  beside : unwished j ≡ m
+  beside = granted_alike q t (spare_of asked) m
+
+  none : (r : FunctionPart) → j.stays r ≡ false
+  none r = ap (λ (x : Kept). x.stays r) beside ∙ none_stays q t anew r
+
+  place_is : (r : FunctionPart) → new_place q t j r ≡ new_place q t m r
+  place_is r = sym (new_same q t j no_wish r) ∙ ap (λ x. new_place q t x r) beside
+
+  got_is : (space : Space) (g : Function) → got_place q t j space g ≡ got_place q t m space g
+  got_is space g = sym (got_same q t j no_wish space g) ∙ ap (λ x. got_place q t x space g) beside
+
+  image_of : (f : Function) → Contains s f → settled_image q t j (now f) ≡ (now f).image
+  image_of f listed =
+      let all = same q asked s k m could anew wishless refl (none_stays q t anew) in
+      image_same q s i can_s anew j none f listed (λ p. all.kept.range f p listed)
+      (λ p there plain. can_j.sound.wished.plain record { function = now f; part = p } (in_map_from now s f listed) there plain)
+      (λ p. subst (BothOrNone IsAlikePlaced (new_place q s i record { function = f; part = p })) (sym (place_is record { function = now f; part = p })) (again_alike q s i can_s anew f p listed))
+
+  settled_same : settled q t j ≡ t
+  settled_same =
+      settled_already q t j (new_system q s i can_s) (settled_sound q s i can_s) (all_left_off q s i can_s)
+      (λ space g has fine got.
+      let f : IsMade now s g = in_map_to now s g has in
+      subst (λ x. is_space_on x space ≡ true) f.is
+      (got_on q s i can_s space f.from f.has (ap (λ x. not (are_same_space space Io && has_left q t x)) f.is ∙ fine) (ap (got_place q t m space) f.is ∙ sym (got_is space g) ∙ got)))
+      (λ g has. let f : IsMade now s g = in_map_to now s g has in subst (λ x. settled_image q t j x ≡ x.image) f.is (image_of f.from f.has))
+
+  unwritten : settle_writes q t j ≡ []
+  unwritten = no_write q t j (new_system q s i can_s) (new_nested q s i can_s) settled_same
+
+-- The law: nothing is written.
+pub anew_wishes_write_nothing : AnewWishesWriteNothing
+anew_wishes_write_nothing = unwritten
