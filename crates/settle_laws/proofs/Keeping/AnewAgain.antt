@@ -1,6 +1,6 @@
 -- Where all is placed anew, what is settled is settled again by no write: what is fixed has no part, and no write is to it.
-use Rattle.std.proofs.Common.{◌≡◌, ◌&&◌, inl, inr, length, List, [], Bool, true, false, cond, not, refl, sym, ◌∙◌, ap, None}
-use Rattle.std.specs.List.{Contains, find, list_any}
+use Rattle.std.proofs.Common.{◌≡◌, ◌&&◌, inl, inr, length, [], Bool, true, false, cond, not, refl, sym, ◌∙◌, ap, None}
+use Rattle.std.specs.List.{Contains, list_any}
 use Rattle.std.proofs.lemmas.Bool.{and_from, both_ways, cases_Bool, false_from_ne_true}
 use Rattle.pci_spec.specs.Slot.{same_slot}
 use Rattle.pci_spec.specs.System.{System, Function, Part, Bar, Rom, Window, is_window}

@@ -1,5 +1,5 @@
 -- Where all is placed anew, wishes beside what is settled come to the same once more.
-use Rattle.std.proofs.Common.{◌≡◌, ◌&&◌, ℕ, zero, suc, ◌-◌, List, [], ◌∷◌, ◌++◌, Bool, true, false, cond, map, not, refl, sym, ◌∙◌, ap, subst, Option, None, Some}
+use Rattle.std.proofs.Common.{◌≡◌, ◌&&◌, ℕ, zero, suc, List, [], ◌∷◌, ◌++◌, Bool, true, false, cond, map, not, refl, sym, ◌∙◌, ap, subst, Option, None, Some}
 use Rattle.std.specs.Bool.{◌==◌, nat_le, IsTrue}
 use Rattle.std.specs.List.{AllZip, Contains, filter, flat_map, list_all}
 use Rattle.std.specs.Option.{option_map, option_or}

@@ -6,7 +6,7 @@ use Rattle.std.specs.Option.{is_some, option_map}
 use Rattle.std.proofs.lemmas.Bool.{both_ways, leb-true, le-leb}
 use Rattle.pci_spec.specs.Decoded.{Range}
 use Rattle.pci_spec.specs.Window.{WindowKind, has_window, page_size}
-use Rattle.pci_spec.specs.System.{System, Function, Window, is_bridge, window_space}
+use Rattle.pci_spec.specs.System.{System, Function, is_bridge, window_space}
 use Rattle.pci_spec.specs.Bus.{secondary, is_root, LeadsTo}
 use Rattle.plan_spec.specs.Place.{range_from}
 use Rattle.plan_spec.proofs.Planning.Placement.{IsMultiple}

@@ -6,7 +6,7 @@ use Rattle.std.specs.Option.{is_some, option_map}
 use Rattle.std.proofs.lemmas.Bool.{cases_eq, leb-false}
 use Rattle.pci_spec.specs.Decoded.{Range}
 use Rattle.pci_spec.specs.Window.{WindowKind, has_window}
-use Rattle.pci_spec.specs.System.{System, Function, IsSystem, Window, is_bridge, window_space}
+use Rattle.pci_spec.specs.System.{System, Function, IsSystem, is_bridge, window_space}
 use Rattle.pci_spec.specs.Bus.{is_root, IsNested, LeadsTo}
 use Rattle.plan_spec.specs.Place.{range_from}
 use Rattle.plan_spec.proofs.Planning.Safe.{order_of}

@@ -13,7 +13,6 @@ use Rattle.settle_spec.specs.Items.{spare_of}
 use Rattle.settle_spec.specs.Kept.{Kept, no_wish, unwished}
 use Rattle.settle_spec.specs.Keeping.Registers.{is_enabled_in, settled_command}
 use Rattle.settle_spec.specs.Growing.{settle_growing, finally_kept}
-use Rattle.settle_spec.specs.Wishes.{granted}
 use Rattle.settle_spec.specs.Sparing.{without_slots, is_settled, keep_alike, have_spares, placing_request}
 use Rattle.settle_spec.specs.SpareLaws.{kept_sparing, NothingGoesForSpares, SparesSetNoCommand}
 use Rattle.settle_laws.specs.GrowingLaws.{CanBeAsked}

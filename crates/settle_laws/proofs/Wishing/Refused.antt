@@ -1,5 +1,5 @@
 -- With slots nothing more is refused, and what is refused is so for the reason that it is without them.
-use Rattle.std.proofs.Common.{◌≡◌, inl, inr, List, Bool, true, false, cond, refl, ◌∙◌, ap, Option, None, Some}
+use Rattle.std.proofs.Common.{◌≡◌, inl, inr, List, Bool, true, false, refl, ◌∙◌, ap, Option, None, Some}
 use Rattle.std.proofs.lemmas.Bool.{both_ways, cases_Bool, cond_both}
 use Rattle.std.specs.Bool.{if◌then◌else◌}
 use Rattle.pci_spec.specs.Machine.{Write}

@@ -1,13 +1,13 @@
 -- Wishes write no fixed function that isn't written without them.
 use Rattle.std.proofs.Common.{◌≡◌, ◌&&◌, ◌||◌, ℕ, inl, inr, List, [], ◌∷◌, ◌++◌, Bool, true, false, cond, not, refl, sym, ◌∙◌, ap, subst, Option, None, Some}
 use Rattle.std.specs.Bool.{◌==◌, if◌then◌else◌}
-use Rattle.std.specs.List.{Contains, find, flat_map, fold, list_any}
+use Rattle.std.specs.List.{Contains, flat_map, fold, list_any}
 use Rattle.std.proofs.lemmas.Bool.{and_from, and_parts, and_right, both_ways, cases_Bool, false_from_ne_true, ltb-true, not-true, not_from_true, eq-eqb, eqb-true, or_cases, or_left, or_right}
 use Rattle.std.proofs.lemmas.List.Elements.{Contains-append_cases, Contains-append_left, Contains-append_right}
 use Rattle.pci_spec.specs.Number.{number_at, has_bit}
 use Rattle.pci_spec.specs.Registers.{COMMAND}
 use Rattle.pci_spec.specs.Slot.{same_slot}
-use Rattle.pci_spec.specs.Header.{command, layout, bar_count, bar_register, rom_register}
+use Rattle.pci_spec.specs.Header.{layout, bar_count, bar_register, rom_register}
 use Rattle.pci_spec.specs.Bar.{bar_at, has_bar, is_wide}
 use Rattle.pci_spec.specs.Rom.{has_rom, rom_is_on}
 use Rattle.pci_spec.specs.Decoded.{Range}
@@ -44,7 +44,7 @@ use Rattle.settle_laws.proofs.NothingSettled.{find_none}
 use Rattle.settle_laws.proofs.OnlyOpened.{closing_piece}
 use Rattle.settle_laws.proofs.ShownKept.{opens_by}
 use Rattle.settle_laws.proofs.StayingRests.{bar_number}
-use Rattle.settle_laws.proofs.Keeping.ChangedWindows.{no_window_changes, unchanged, window_changes}
+use Rattle.settle_laws.proofs.Keeping.ChangedWindows.{no_window_changes, unchanged}
 use Rattle.settle_laws.proofs.Keeping.Claimed.{ends_open}
 use Rattle.settle_laws.proofs.Keeping.ClosedSame.{closed_same}
 use Rattle.settle_laws.proofs.Keeping.Ends.{in_window, unwished_end}

@@ -6,7 +6,7 @@ use Rattle.std.specs.Option.{is_some}
 use Rattle.std.proofs.lemmas.Bool.{both_ways, cases_Bool, false_from_ne_true}
 use Rattle.pci_spec.specs.Header.{command}
 use Rattle.pci_spec.specs.Machine.{without_low}
-use Rattle.pci_spec.specs.System.{System, Function, Space, Io, Memory, Part, Window, has_part, is_bridge, is_space_on, is_window}
+use Rattle.pci_spec.specs.System.{System, Function, Space, Io, Memory, Part, has_part, is_bridge, is_space_on, is_window}
 use Rattle.pci_spec.specs.Bus.{secondary}
 use Rattle.pci_spec.proofs.Members.{in_head, in_tail}
 use Rattle.settle_spec.specs.Lists.{Request}

@@ -1,12 +1,12 @@
 -- Room for a spare behind a bridge: it is off all that is there, and the rest is kept free as it was.
-use Rattle.std.proofs.Common.{◌≡◌, ◌&&◌, ℕ, zero, suc, ◌+◌, ◌-◌, ◌%◌, ◌<◌, ◌≤◌, min, inl, inr, List, Bool, true, false, cond, not, arith, refl, sym, ◌∙◌, ap, subst, Option, None, Some}
+use Rattle.std.proofs.Common.{◌≡◌, ◌&&◌, ℕ, zero, suc, ◌+◌, ◌%◌, ◌<◌, ◌≤◌, min, inl, inr, List, Bool, true, false, cond, not, arith, refl, sym, ◌∙◌, ap, subst, Option, None, Some}
 use Rattle.std.specs.Bool.{◌==◌, nat_le}
 use Rattle.std.specs.List.{Contains}
 use Rattle.std.specs.Option.{option_map, option_or}
 use Rattle.std.proofs.lemmas.Bool.{and_parts, and_from, both_ways, cases_Bool, eq-eqb, leb-true, not-true, or_left}
 use Rattle.pci_spec.specs.Decoded.{Range}
 use Rattle.pci_spec.specs.Window.{WindowKind, has_window, page_size}
-use Rattle.pci_spec.specs.System.{System, Function, Part, Window, has_part, is_bridge, space_of, window_space}
+use Rattle.pci_spec.specs.System.{System, Function, has_part, is_bridge, window_space}
 use Rattle.pci_spec.specs.Bus.{secondary, are_siblings, is_root, LeadsTo}
 use Rattle.plan_spec.specs.Plan.{same_class}
 use Rattle.plan_spec.specs.Place.{range_from}
@@ -34,7 +34,7 @@ use Rattle.settle_laws.proofs.InLists.{listed_in, within_from}
 use Rattle.settle_laws.proofs.Kept.{one_space}
 use Rattle.settle_laws.proofs.PartClasses.{space_of_class}
 use Rattle.settle_laws.proofs.Keeping.Ends.{in_window}
-use Rattle.settle_laws.proofs.Wishing.Added.{one_of_rank, within, can_added, range_with, range_without}
+use Rattle.settle_laws.proofs.Wishing.Added.{one_of_rank, can_added, range_with, range_without}
 use Rattle.settle_laws.proofs.Wishing.Ending.{IsEnded, ended_within, room_on_root, on_its_bus, other_window, from_above}
 use Rattle.settle_laws.proofs.Wishing.Wider.{HasRoom, KeepsAll, KeepsClasses, keeps_with, classes_with, places_alike}
 use Rattle.settle_laws.proofs.Wishing.Windows.{in_there}

@@ -6,7 +6,7 @@ use Rattle.std.proofs.lemmas.List.Elements.{Contains-append_left, Contains-appen
 use Rattle.pci_spec.specs.Slot.{slot_number}
 use Rattle.pci_spec.specs.Decoded.{Range}
 use Rattle.pci_spec.specs.Window.{WindowKind, IoWindow, MemoryWindow, PrefetchWindow, has_window}
-use Rattle.pci_spec.specs.System.{System, Function, Window, has_part, is_bridge, window_space}
+use Rattle.pci_spec.specs.System.{System, Function, has_part, is_bridge, window_space}
 use Rattle.pci_spec.specs.Bus.{secondary}
 use Rattle.pci_spec.proofs.Members.{in_nil, in_cons_cases, in_head, in_tail, pairs_head, pairs_tail}
 use Rattle.plan_spec.specs.Place.{range_from}
@@ -15,7 +15,7 @@ use Rattle.plan_spec.proofs.Planning.Safe.{order_of, slots_of}
 use Rattle.settle_spec.specs.FirstPlace.{Extent}
 use Rattle.settle_spec.specs.Lists.{Request}
 use Rattle.settle_spec.specs.Parts.{FunctionPart}
-use Rattle.settle_spec.specs.Stands.{rank, part_space, window_part}
+use Rattle.settle_spec.specs.Stands.{part_space, window_part}
 use Rattle.settle_spec.specs.Items.{spare_of}
 use Rattle.settle_spec.specs.Kept.{Kept}
 use Rattle.settle_spec.specs.Wishes.{range_then, Spared, spared_behind, Granted, or_denied, with_spare_of, with_spares_of, with_all_spares, granted}

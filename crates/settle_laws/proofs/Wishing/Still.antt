@@ -1,5 +1,5 @@
 -- Where each part stands, all that stays is kept as it stands, and nothing else is there.
-use Rattle.std.proofs.Common.{◌≡◌, ℕ, zero, suc, ◌-◌, inl, inr, List, [], Bool, true, false, length, not, refl, sym, ◌∙◌, ap, None, Some}
+use Rattle.std.proofs.Common.{◌≡◌, ℕ, zero, suc, inl, inr, List, [], true, false, length, refl, sym, ◌∙◌, ap, None, Some}
 use Rattle.std.specs.Bool.{beq}
 use Rattle.std.specs.List.{Contains}
 use Rattle.std.proofs.Math.Path.{fun_ext}

@@ -6,7 +6,7 @@ use Rattle.std.proofs.lemmas.Bool.{and_parts, cases_Bool, eqb-true, or_cases, ca
 use Rattle.pci_spec.specs.Slot.{same_slot, slot_number}
 use Rattle.pci_spec.specs.Decoded.{Range}
 use Rattle.pci_spec.specs.Window.{WindowKind, IoWindow, MemoryWindow, PrefetchWindow, bounds_for, page_size}
-use Rattle.pci_spec.specs.System.{System, Function, IsSystem, Part, Window, has_part, is_bridge, window_space}
+use Rattle.pci_spec.specs.System.{System, Function, IsSystem, has_part, is_bridge, window_space}
 use Rattle.pci_spec.specs.Bus.{are_siblings, is_root, LeadsTo}
 use Rattle.pci_spec.proofs.BusRanges.{root_means}
 use Rattle.plan_spec.specs.Plan.{raised_to}

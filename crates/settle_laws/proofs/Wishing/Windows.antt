@@ -1,5 +1,5 @@
 -- What a window that ends somewhere is: whole pages that it can hold, and no less than what it has without wishes.
-use Rattle.std.proofs.Common.{◌≡◌, ◌&&◌, ℕ, ◌+◌, ◌-◌, ◌%◌, ◌≤◌, inl, inr, true, false, not, arith, refl, sym, ◌∙◌, ap, subst, Option, None, Some, []}
+use Rattle.std.proofs.Common.{◌≡◌, ◌&&◌, ℕ, ◌+◌, ◌%◌, ◌≤◌, inl, inr, true, false, not, arith, refl, sym, ◌∙◌, ap, subst, Option, None, Some, []}
 use Rattle.std.specs.List.{Contains, filter, flat_map}
 use Rattle.std.proofs.lemmas.Bool.{and_parts, and_from, cases_Bool, or_left, or_right}
 use Rattle.pci_spec.specs.Decoded.{Range}
