@@ -2,8 +2,8 @@ pub mod Added
 pub mod Again
 pub mod AgainAnew
 pub mod AgainGranted
-pub mod AgainWrites
 pub mod Alike
+pub mod AnewOnce
 pub mod Answered
 pub mod ByBus
 pub mod Denied

@@ -15,7 +15,7 @@ use Rattle.settle_spec.specs.Items.{spare_of}
 use Rattle.settle_spec.specs.Writes.{Settled}
 use Rattle.settle_spec.specs.Kept.{Kept, unwished, as_it_stands}
 use Rattle.settle_spec.specs.Keeping.Registers.{settled, settled_function}
-use Rattle.settle_spec.specs.Keeping.Writes.{closings, settle_writes}
+use Rattle.settle_spec.specs.Keeping.Writes.{closings, settle_writes, settle_keeping}
 use Rattle.settle_spec.specs.Growing.{settle_growing}
 use Rattle.settle_spec.specs.Wishes.{range_then, range_of_window, ending_if, ending, spared_if, spared_behind, Granted, granted}
 use Rattle.settle_spec.specs.Sparing.{without_slots, is_settled, placing_request, grants, denied, settle_wished, settle_sparing}
@@ -149,11 +149,12 @@ AnewWishesAgain =
     → ComeToTheSame q s (granted q s (spare_of asked) k)
     (granted q (settled q s (granted q s (spare_of asked) k).kept) (spare_of asked) m)
 
--- and nothing is written for it.
-abbrev pub AnewWishesWriteNothing : Type 0
-AnewWishesWriteNothing =
+-- Settled so again, nothing is written.
+abbrev pub AnewWishesSettleOnce : Type 0
+AnewWishesSettleOnce =
     (q asked : Request) (s : System) (k : Kept) → CanSettle q s k → IsTrue q.anew → WishesNothing k
-    → settle_writes q (settled q s (granted q s (spare_of asked) k).kept)
+    → IsTrue (is_settled (settle_keeping q s (granted q s (spare_of asked) k).kept))
+    → settle_keeping q (settled q s (granted q s (spare_of asked) k).kept)
     (granted q (settled q s (granted q s (spare_of asked) k).kept) (spare_of asked)
     (as_it_stands q (settled q s (granted q s (spare_of asked) k).kept))).kept
-    ≡ []
+    ≡ Settled []

@@ -1,6 +1,6 @@
 //! Laws of settling with room behind slots. These functions do nothing: each contract is a law.
 
-ghost use Rattle.settle_laws.specs.SparingLaws.{EndingIsByBus, SparedIsByBus, WishesChangeRoomAlone, GrantedCanSettle, SettledSparingIsSound, SettlingSparingCanStop, FewSparingWritesEach, SparingKeepsAll, SparesRefuseNoMore, WishedIsSettled, SparesAreAnswered, KeptSettleOnce, KeptDenyAlike, AnewWishesAgain, AnewWishesWriteNothing};
+ghost use Rattle.settle_laws.specs.SparingLaws.{EndingIsByBus, SparedIsByBus, WishesChangeRoomAlone, GrantedCanSettle, SettledSparingIsSound, SettlingSparingCanStop, FewSparingWritesEach, SparingKeepsAll, SparesRefuseNoMore, WishedIsSettled, SparesAreAnswered, KeptSettleOnce, KeptDenyAlike, AnewWishesAgain, AnewWishesSettleOnce};
 ghost use Rattle.settle_spec.specs.SpareLaws.{NoSlotsNoSpares, SparesRefuseNothing, NothingGoesForSpares, SparesSetNoCommand, SparesHaveRoom};
 
 /// Room behind a slot is told by the window over its bridge, bus by bus.
@@ -54,8 +54,9 @@ pub fn kept_spares_settle_once()
     ensures denied { KeptDenyAlike }
 {}
 
-/// Where all is placed anew, wishes come to the same beside their result, and nothing is written for it.
+/// Where all is placed anew, wishes come to the same beside their result, and what is settled so is
+/// settled so again by no write.
 pub fn anew_wishes_come_to_the_same()
     ensures same { AnewWishesAgain }
-    ensures unwritten { AnewWishesWriteNothing }
+    ensures once { AnewWishesSettleOnce }
 {}

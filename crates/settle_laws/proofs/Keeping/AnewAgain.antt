@@ -24,7 +24,7 @@ use Rattle.settle_laws.proofs.NothingSettled.{find_none}
 use Rattle.settle_laws.proofs.Keeping.FixedRests.{fixed_rests, not_found}
 use Rattle.settle_spec.specs.Kept.{Kept, as_it_stands}
 
-module _ (q : Request) (s : System) (k : Kept) (can : CanSettle q s k) (anew : q.anew ≡ true) (stand : fixed_without (stands q s) q s ≡ None) (unwritten : fixed_write q (settle_writes q s k) ≡ None) (wishless : WishesNothing k) where
+module _ (q : Request) (s : System) (k : Kept) (can : CanSettle q s k) (anew : q.anew ≡ true) (stand : fixed_without (stands q s) q s ≡ None) (unwritten : fixed_write q (settle_writes q s k) ≡ None) where
   abbrev now : Function → Function
   now f = settled_function q s k f
 
@@ -58,12 +58,12 @@ module _ (q : Request) (s : System) (k : Kept) (can : CanSettle q s k) (anew : q
       (not_found (λ r. is_fixed_part q r && not (stands q s r)) (system_parts q s) stand old (in_regions q s at.f at.p at.listed (header_of at.f at.p at.there) (part_before at.f at.p at.listed held at.part)))
       (and_from (is_fixed_part q old) (not (stands q s old)) held (ap not (none_stands q s anew (length (system_parts q s)) old))))
 
-  none_without : (test : FunctionPart → Bool) → fixed_without test q t ≡ None
+  pub none_without : (test : FunctionPart → Bool) → fixed_without test q t ≡ None
   none_without test = find_none (λ r. is_fixed_part q r && not (test r)) (system_parts q t) (λ r listed. ap (λ b. b && not (test r)) (none_fixed r listed))
 
   -- The law: nothing is written.
-  pub anew_again : settle_keeping q t j ≡ Settled []
-  anew_again =
+  pub anew_again : WishesNothing k → settle_keeping q t j ≡ Settled []
+  anew_again wishless =
       ap (λ b. cond b BadLists (or_fixed (fixed_without (stands q t) q t) (or_fixed (fixed_without j.stays q t)
       (or_lack (lacking q t j) (or_write (fixed_write q (settle_writes q t j)) (Settled (settle_writes q t j))))))) can.lists
       ∙ ap (λ o. or_fixed o (or_fixed (fixed_without j.stays q t) (or_lack (lacking q t j) (or_write (fixed_write q (settle_writes q t j)) (Settled (settle_writes q t j)))))) (none_without (stands q t))

@@ -1,35 +1,41 @@
--- Where all is placed anew, nothing is written for the same wishes beside what they came to.
-use Rattle.std.proofs.Common.{◌≡◌, ◌&&◌, true, false, not, [], refl, sym, ◌∙◌, ap, subst}
+-- Where all is placed anew, what is settled with wishes is settled with them again by no write.
+use Rattle.std.proofs.Common.{◌≡◌, ◌&&◌, Bool, true, false, cond, not, [], refl, sym, ◌∙◌, ap, subst, None}
 use Rattle.std.specs.Bool.{IsTrue}
 use Rattle.std.specs.List.{Contains}
 use Rattle.pci_spec.specs.System.{System, Function, Io, Space, is_space_on}
 use Rattle.pci_spec.proofs.Members.{in_map_from, in_map_to, IsMade}
-use Rattle.settle_spec.specs.Lists.{Request}
+use Rattle.settle_spec.specs.Lists.{Request, are_bad_lists}
 use Rattle.settle_spec.specs.Parts.{FunctionPart, has_left, are_same_space}
+use Rattle.settle_spec.specs.Stands.{stands}
 use Rattle.settle_spec.specs.Items.{spare_of}
+use Rattle.settle_spec.specs.Writes.{BadLists, Settled, fixed_without, fixed_write, or_fixed, or_lack, or_write}
 use Rattle.settle_spec.specs.Kept.{Kept, no_wish, unwished, as_it_stands}
-use Rattle.settle_spec.specs.Keeping.Places.{new_place}
+use Rattle.settle_spec.specs.Keeping.Places.{new_place, lacking}
 use Rattle.settle_spec.specs.Keeping.Registers.{got_place, settled, settled_function, settled_image}
-use Rattle.settle_spec.specs.Keeping.Writes.{settle_writes}
+use Rattle.settle_spec.specs.Keeping.Writes.{settle_writes, settle_keeping}
 use Rattle.settle_spec.specs.Wishes.{granted}
+use Rattle.settle_spec.specs.Sparing.{is_settled}
 use Rattle.settle_spec.proofs.Anew.{none_stays}
 use Rattle.settle_laws.specs.KeptLaws.{WishesNothing}
-use Rattle.settle_laws.specs.SparingLaws.{AnewWishesWriteNothing}
+use Rattle.settle_laws.specs.SparingLaws.{AnewWishesSettleOnce}
 use Rattle.settle_laws.specs.Keeping.PlacesLaws.{CanSettle}
 use Rattle.settle_laws.proofs.AlikePlaces.{IsAlikePlaced}
+use Rattle.settle_laws.proofs.SettlingEnds.{IsEnd, ends}
 use Rattle.settle_laws.proofs.SoundKept.{standing_is_sound}
 use Rattle.settle_laws.proofs.Zipped.{BothOrNone}
 use Rattle.settle_laws.proofs.Keeping.Again.{room_again, again_alike}
 use Rattle.settle_laws.proofs.Keeping.AgainSettled.{all_left_off, got_on}
+use Rattle.settle_laws.proofs.Keeping.AnewAgain.{none_without}
 use Rattle.settle_laws.proofs.Keeping.Moves.{new_system, new_nested, new_profile, new_chains}
 use Rattle.settle_laws.proofs.Keeping.SameImage.{image_same}
 use Rattle.settle_laws.proofs.Keeping.SettledAlready.{settled_already}
 use Rattle.settle_laws.proofs.Keeping.SettledSound.{settled_sound}
 use Rattle.settle_laws.proofs.Keeping.Unchanged.{no_write}
-use Rattle.settle_laws.proofs.Keeping.Wishless.{got_same, new_same}
+use Rattle.settle_laws.proofs.Keeping.Wishless.{got_same, lacking_same, new_same}
 use Rattle.settle_laws.proofs.Wishing.AgainAnew.{same}
 use Rattle.settle_laws.proofs.Wishing.Alike.{granted_alike}
 use Rattle.settle_laws.proofs.Wishing.Granted.{all_granted}
+use Rattle.settle_laws.proofs.Wishing.Refused.{settled_by_writes}
 
 module _ (q asked : Request) (s : System) (k : Kept) (could : CanSettle q s k) (anew : IsTrue q.anew) (wishless : WishesNothing k) where
   abbrev i : Kept
@@ -96,6 +102,27 @@ module _ (q asked : Request) (s : System) (k : Kept) (could : CanSettle q s k) (
   unwritten : settle_writes q t j ≡ []
   unwritten = no_write q t j (new_system q s i can_s) (new_nested q s i can_s) settled_same
 
--- The law: nothing is written.
-pub anew_wishes_write_nothing : AnewWishesWriteNothing
-anew_wishes_write_nothing = unwritten
+  -- ---- so it is settled
+
+  module _ (settles : is_settled (settle_keeping q s i) ≡ true) where
+    end : IsEnd (are_bad_lists q.roots q.lists) (fixed_without (stands q s) q s) (lacking q s i) (fixed_write q (settle_writes q s i)) (settle_writes q s i) (settle_writes q s i)
+    end = ends (are_bad_lists q.roots q.lists) (fixed_without (stands q s) q s) (fixed_without i.stays q s) (lacking q s i) (fixed_write q (settle_writes q s i)) (settle_writes q s i) (settle_writes q s i) (settled_by_writes q s i settles)
+
+    unfixed : (test : FunctionPart → Bool) → fixed_without test q t ≡ None
+    unfixed = none_without q s i can_s anew end.stand end.unwritten
+
+    room : lacking q t j ≡ None
+    room = sym (lacking_same q t j no_wish) ∙ ap (lacking q t) beside ∙ can_t.room
+
+    once : settle_keeping q t j ≡ Settled []
+    once =
+        ap (λ b. cond b BadLists (or_fixed (fixed_without (stands q t) q t) (or_fixed (fixed_without j.stays q t)
+        (or_lack (lacking q t j) (or_write (fixed_write q (settle_writes q t j)) (Settled (settle_writes q t j))))))) can_s.lists
+        ∙ ap (λ o. or_fixed o (or_fixed (fixed_without j.stays q t) (or_lack (lacking q t j) (or_write (fixed_write q (settle_writes q t j)) (Settled (settle_writes q t j)))))) (unfixed (stands q t))
+        ∙ ap (λ o. or_fixed o (or_lack (lacking q t j) (or_write (fixed_write q (settle_writes q t j)) (Settled (settle_writes q t j))))) (unfixed j.stays)
+        ∙ ap (λ o. or_lack o (or_write (fixed_write q (settle_writes q t j)) (Settled (settle_writes q t j)))) room
+        ∙ ap (λ ws. or_write (fixed_write q ws) (Settled ws)) unwritten
+
+-- The law: what is settled with wishes is settled with them again by no write.
+pub anew_wishes_settle_once : AnewWishesSettleOnce
+anew_wishes_settle_once = once
