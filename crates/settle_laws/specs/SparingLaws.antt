@@ -149,12 +149,19 @@ AnewWishesAgain =
     → ComeToTheSame q s (granted q s (spare_of asked) k)
     (granted q (settled q s (granted q s (spare_of asked) k).kept) (spare_of asked) m)
 
--- Settled so again, nothing is written.
+-- What is settled so is settled so again by no write.
 abbrev pub AnewWishesSettleOnce : Type 0
 AnewWishesSettleOnce =
-    (q asked : Request) (s : System) (k : Kept) → CanSettle q s k → IsTrue q.anew → WishesNothing k
+    (q asked : Request) (s : System) (k m : Kept) → CanSettle q s k → IsTrue q.anew → WishesNothing k → WishesNothing m
+    → CanSettle q (settled q s (granted q s (spare_of asked) k).kept) m
     → IsTrue (is_settled (settle_keeping q s (granted q s (spare_of asked) k).kept))
     → settle_keeping q (settled q s (granted q s (spare_of asked) k).kept)
-    (granted q (settled q s (granted q s (spare_of asked) k).kept) (spare_of asked)
-    (as_it_stands q (settled q s (granted q s (spare_of asked) k).kept))).kept
+    (granted q (settled q s (granted q s (spare_of asked) k).kept) (spare_of asked) m).kept
     ≡ Settled []
+
+-- It can be settled so as it stands.
+abbrev pub AnewResultCanSettle : Type 0
+AnewResultCanSettle =
+    (q asked : Request) (s : System) (k : Kept) → CanSettle q s k → IsTrue q.anew
+    → CanSettle q (settled q s (granted q s (spare_of asked) k).kept)
+    (as_it_stands q (settled q s (granted q s (spare_of asked) k).kept))

@@ -21,7 +21,7 @@ use Rattle.settle_laws.proofs.Shown.{can_change}
 use Rattle.settle_laws.proofs.Zipped.{BothOrNone}
 use Rattle.settle_spec.specs.Kept.{Kept, as_it_stands}
 
-both_some : (o p : Option Placed) → BothOrNone IsAlikePlaced o p → is_some o ≡ is_some p
+pub both_some : (o p : Option Placed) → BothOrNone IsAlikePlaced o p → is_some o ≡ is_some p
 both_some None None both = refl
 both_some None (Some y) both = absurd both
 both_some (Some x) None both = absurd both
