@@ -20,6 +20,7 @@ pub mod Room
 pub mod Same
 pub mod SameDenied
 pub mod Sparing
+pub mod SparingOnce
 pub mod Spare
 pub mod Spots
 pub mod Still

@@ -1,6 +1,6 @@
 //! Laws of settling with room behind slots. These functions do nothing: each contract is a law.
 
-ghost use Rattle.settle_laws.specs.SparingLaws.{EndingIsByBus, SparedIsByBus, WishesChangeRoomAlone, GrantedCanSettle, SettledSparingIsSound, SettlingSparingCanStop, FewSparingWritesEach, SparingKeepsAll, SparesRefuseNoMore, WishedIsSettled, SparesAreAnswered, KeptSettleOnce, KeptDenyAlike, AnewWishesAgain, AnewWishesSettleOnce, AnewResultCanSettle};
+ghost use Rattle.settle_laws.specs.SparingLaws.{EndingIsByBus, SparedIsByBus, WishesChangeRoomAlone, GrantedCanSettle, SettledSparingIsSound, SettlingSparingCanStop, FewSparingWritesEach, SparingKeepsAll, SparesRefuseNoMore, WishedIsSettled, SparesAreAnswered, KeptSettleOnce, KeptDenyAlike, AnewWishesAgain, AnewWishesSettleOnce, AnewResultCanSettle, AnewSparingSettlesOnce};
 ghost use Rattle.settle_spec.specs.SpareLaws.{NoSlotsNoSpares, SparesRefuseNothing, NothingGoesForSpares, SparesSetNoCommand, SparesHaveRoom};
 
 /// Room behind a slot is told by the window over its bridge, bus by bus.
@@ -60,4 +60,5 @@ pub fn anew_wishes_come_to_the_same()
     ensures same { AnewWishesAgain }
     ensures once { AnewWishesSettleOnce }
     ensures can { AnewResultCanSettle }
+    ensures sparing { AnewSparingSettlesOnce }
 {}
