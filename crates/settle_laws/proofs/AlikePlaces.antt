@@ -2,6 +2,7 @@
 use Rattle.std.proofs.Common.{◌≡◌, false, ℕ, zero, suc, List, [], ◌∷◌, ◌++◌, ◌&&◌, refl, sym, ◌∙◌, ap, subst, Option, None, Some}
 use Rattle.std.specs.Bool.{IsTrue, ◌==◌, if◌then◌else◌}
 use Rattle.std.specs.List.{AllZip}
+use Rattle.std.specs.Option.{is_some}
 use Rattle.pci_spec.specs.Window.{WindowKind, IoWindow, MemoryWindow, PrefetchWindow}
 use Rattle.pci_spec.specs.Decoded.{Range}
 use Rattle.pci_spec.specs.System.{System, Function, Space, Io, Memory, space_of, is_bridge}
@@ -16,7 +17,7 @@ use Rattle.settle_spec.specs.FirstPlace.{is_high}
 use Rattle.settle_spec.specs.Places.{wide_ranges, root_ranges, placed_of, place_among, placed_range, first_lack}
 use Rattle.settle_spec.specs.Keeping.Places.{space_items, placing_within, placing_on, new_place, lacking_on, lacking}
 use Rattle.settle_laws.proofs.Anew.{new_ranges, ranges_anew, placing_anew}
-use Rattle.settle_laws.proofs.Zipped.{BothOrNone, append_zip, find_zip}
+use Rattle.settle_laws.proofs.Zipped.{BothOrNone, both_some, append_zip, find_zip}
 use Rattle.settle_laws.proofs.Alike.{IsAlike, IsAlikeRegion, bus_alike, of_bridges, space_alike}
 use Rattle.settle_laws.proofs.AlikeItems.{IsAlikeItem, rank_same, items_alike, windows_alike}
 use Rattle.settle_spec.specs.Kept.{Kept}
@@ -156,6 +157,9 @@ module _ (q : Request) (anew : IsTrue q.anew) (s t : System) (pairs : AllZip IsA
   lacking_alike (root ∷ roots) =
       lack_alike (placing_on q s k Io root) (placing_on q t j Io root) (placing_alike Io 256 root) (first_lack (placing_on q s k Memory root) None) (first_lack (placing_on q t j Memory root) None)
       (lack_alike (placing_on q s k Memory root) (placing_on q t j Memory root) (placing_alike Memory 256 root) None None tt)
+
+  pub lack_same : is_some (lacking q s k) ≡ is_some (lacking q t j)
+  lack_same = both_some IsAlikeItem (lacking q s k) (lacking q t j) (lacking_alike q.roots)
 
   pub none_lacks : lacking q s k ≡ None → lacking q t j ≡ None
   none_lacks none = by (lacking q s k) (lacking q t j) none (lacking_alike q.roots)

@@ -24,6 +24,7 @@ pub mod SparingOnce
 pub mod Spare
 pub mod Spots
 pub mod Still
+pub mod Unfixed
 pub mod Wider
 pub mod Windows
 pub mod Written

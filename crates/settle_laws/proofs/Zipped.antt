@@ -2,6 +2,7 @@
 use Rattle.std.proofs.Common.{◌≡◌, ◌&&◌, ◌||◌, List, [], ◌∷◌, ◌++◌, map, cond, refl, Bool, true, false, Option, None, Some, subst}
 use Rattle.std.specs.Prelude.{⊤}
 use Rattle.std.specs.List.{AllZip, list_any, list_all, filter, find, flat_map}
+use Rattle.std.specs.Option.{is_some}
 
 -- both are there and agree, or neither is there
 abbrev pub BothOrNone : {A B : Type 0} → (A → B → Type 0) → Option A → Option B → Type 0
@@ -11,6 +12,12 @@ BothOrNone R (Some x) None = ⊥
 BothOrNone R (Some x) (Some y) = R x y
 
 module _ {A B : Type 0} (R : A → B → Type 0) where
+  pub both_some : (o : Option A) (p : Option B) → BothOrNone R o p → is_some o ≡ is_some p
+  both_some None None both = refl
+  both_some None (Some y) both = absurd both
+  both_some (Some x) None both = absurd both
+  both_some (Some x) (Some y) both = refl
+
   pub cond_zip : (b c : Bool) → b ≡ c → (xs more : List A) (ys others : List B) → (b ≡ true → AllZip R xs ys) → AllZip R more others → AllZip R (cond b xs more) (cond c ys others)
   cond_zip b c same xs more ys others first second = subst (λ d. AllZip R (cond b xs more) (cond d ys others)) same (by b first)
     where

@@ -18,7 +18,7 @@ use Rattle.settle_spec.specs.Keeping.Registers.{settled, settled_function}
 use Rattle.settle_spec.specs.Keeping.Writes.{closings, settle_writes, settle_keeping}
 use Rattle.settle_spec.specs.Growing.{settle_growing}
 use Rattle.settle_spec.specs.Wishes.{range_then, range_of_window, ending_if, ending, spared_if, spared_behind, Granted, granted}
-use Rattle.settle_spec.specs.Sparing.{without_slots, is_settled, have_spares, placing_request, grants, denied, settle_wished, settle_sparing}
+use Rattle.settle_spec.specs.Sparing.{without_slots, is_settled, placing_request, grants, denied, settle_wished, settle_sparing}
 use Rattle.settle_spec.specs.SpareLaws.{kept_sparing, result_sparing, has_room_for, result_of}
 use Rattle.settle_laws.specs.WriteLaws.{most_settle_writes}
 use Rattle.settle_laws.specs.KeptLaws.{WishesNothing}
@@ -118,21 +118,20 @@ SparesAreAnswered =
 
 -- ---- settled again
 
--- Where not all is placed anew, settled again nothing is written.
-abbrev pub KeptSettleOnce : Type 0
-KeptSettleOnce =
-    (q : Request) (s : System) → CanBeAsked q s → IsFalse q.anew
-    → IsTrue (is_settled (settle_sparing q s)) → settle_sparing q (result_sparing q s) ≡ Settled []
-
 -- a window's slot and register
 abbrev pub slot_and_register : FunctionPart → Slot × ℕ
 slot_and_register r = (r.function.slot, register_of r.function r.part)
 
--- The same spares are denied then, in the same order.
-abbrev pub KeptDenyAlike : Type 0
-KeptDenyAlike =
-    (q : Request) (s : System) → CanBeAsked q s → IsFalse q.anew → IsTrue (is_settled (settle_sparing q s))
-    → map slot_and_register (denied q (result_sparing q s)) ≡ map slot_and_register (denied q s)
+-- Settled again nothing is written, and the same spares are denied, in the same order.
+pub record IsSettledOnce (q : Request) (s : System) : Type 0 where
+  pub once : settle_sparing q (result_sparing q s) ≡ Settled []
+  pub denied : map slot_and_register (denied q (result_sparing q s)) ≡ map slot_and_register (denied q s)
+
+-- What is settled is settled once, unless all is placed anew and something is fixed.
+abbrev pub SparingSettlesOnce : Type 0
+SparingSettlesOnce =
+    (q : Request) (s : System) → CanBeAsked q s → (IsTrue q.anew → q.fixed ≡ [])
+    → IsTrue (is_settled (settle_sparing q s)) → IsSettledOnce q s
 
 -- Where all is placed anew, wishes come to the same beside their result: each part has the addresses that it had, and the
 -- same spares are denied.
@@ -165,15 +164,3 @@ AnewResultCanSettle =
     (q asked : Request) (s : System) (k : Kept) → CanSettle q s k → IsTrue q.anew
     → CanSettle q (settled q s (granted q s (spare_of asked) k).kept)
     (as_it_stands q (settled q s (granted q s (spare_of asked) k).kept))
-
--- So where the result can be settled without slots, and new windows have spares there as they had, settled again nothing is
--- written, and the same spares are denied.
-pub record IsSettledOnce (q : Request) (s : System) : Type 0 where
-  pub once : settle_sparing q (result_sparing q s) ≡ Settled []
-  pub denied : map slot_and_register (denied q (result_sparing q s)) ≡ map slot_and_register (denied q s)
-
-abbrev pub AnewSparingSettlesOnce : Type 0
-AnewSparingSettlesOnce =
-    (q : Request) (s : System) → CanBeAsked q s → IsTrue q.anew → IsTrue (is_settled (settle_sparing q s))
-    → IsTrue (is_settled (settle_growing (without_slots q) (result_sparing q s)))
-    → have_spares q (result_sparing q s) ≡ have_spares q s → IsSettledOnce q s

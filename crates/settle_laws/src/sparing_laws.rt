@@ -1,6 +1,6 @@
 //! Laws of settling with room behind slots. These functions do nothing: each contract is a law.
 
-ghost use Rattle.settle_laws.specs.SparingLaws.{EndingIsByBus, SparedIsByBus, WishesChangeRoomAlone, GrantedCanSettle, SettledSparingIsSound, SettlingSparingCanStop, FewSparingWritesEach, SparingKeepsAll, SparesRefuseNoMore, WishedIsSettled, SparesAreAnswered, KeptSettleOnce, KeptDenyAlike, AnewWishesAgain, AnewWishesSettleOnce, AnewResultCanSettle, AnewSparingSettlesOnce};
+ghost use Rattle.settle_laws.specs.SparingLaws.{EndingIsByBus, SparedIsByBus, WishesChangeRoomAlone, GrantedCanSettle, SettledSparingIsSound, SettlingSparingCanStop, FewSparingWritesEach, SparingKeepsAll, SparesRefuseNoMore, WishedIsSettled, SparesAreAnswered, SparingSettlesOnce, AnewWishesAgain, AnewWishesSettleOnce, AnewResultCanSettle};
 ghost use Rattle.settle_spec.specs.SpareLaws.{NoSlotsNoSpares, SparesRefuseNothing, NothingGoesForSpares, SparesSetNoCommand, SparesHaveRoom};
 
 /// Room behind a slot is told by the window over its bridge, bus by bus.
@@ -48,10 +48,10 @@ pub fn spares_have_room()
     ensures answered { SparesAreAnswered }
 {}
 
-/// Where not all is placed anew, what is settled is settled again by no write, and the same spares are denied.
-pub fn kept_spares_settle_once()
-    ensures once { KeptSettleOnce }
-    ensures denied { KeptDenyAlike }
+/// What is settled is settled again by no write, and the same spares are denied. Where all is placed anew this is said
+/// where nothing is fixed.
+pub fn sparing_settles_once()
+    ensures { SparingSettlesOnce }
 {}
 
 /// Where all is placed anew, wishes come to the same beside their result, and what is settled so is
@@ -60,5 +60,4 @@ pub fn anew_wishes_come_to_the_same()
     ensures same { AnewWishesAgain }
     ensures once { AnewWishesSettleOnce }
     ensures can { AnewResultCanSettle }
-    ensures sparing { AnewSparingSettlesOnce }
 {}

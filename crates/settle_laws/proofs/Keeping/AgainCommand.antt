@@ -1,5 +1,5 @@
 -- The same I/O BARs are left again, and where all is placed anew the same gets a place.
-use Rattle.std.proofs.Common.{◌≡◌, ◌&&◌, ◌||◌, ℕ, List, [], ◌∷◌, map, Bool, true, false, not, refl, sym, ◌∙◌, ap, Option, None, Some}
+use Rattle.std.proofs.Common.{◌≡◌, ◌&&◌, ◌||◌, ℕ, List, [], ◌∷◌, map, Bool, true, false, not, refl, sym, ◌∙◌, ap}
 use Rattle.std.specs.Bool.{IsTrue, ◌==◌}
 use Rattle.std.specs.List.{Contains, filter, list_any, range_with_len}
 use Rattle.std.specs.Option.{is_some}
@@ -10,7 +10,6 @@ use Rattle.pci_spec.specs.System.{System, Function, Space, Part, Bar, Rom, Windo
 use Rattle.settle_spec.specs.Lists.{Request}
 use Rattle.settle_spec.specs.Parts.{is_left, header_parts, has_left, are_same_space}
 use Rattle.settle_spec.specs.Stands.{part_space}
-use Rattle.settle_spec.specs.Items.{Placed}
 use Rattle.settle_spec.specs.Keeping.Places.{new_place}
 use Rattle.settle_spec.specs.Keeping.Registers.{got_place, settled, settled_function}
 use Rattle.settle_laws.specs.Keeping.PlacesLaws.{CanSettle}
@@ -18,14 +17,8 @@ use Rattle.settle_laws.proofs.Keeping.Again.{settled_alike, all_alike, again_ali
 use Rattle.settle_laws.proofs.Alike.{IsAlike, header_alike, space_alike, left_alike, part_alike, first_some}
 use Rattle.settle_laws.proofs.AlikePlaces.{IsAlikePlaced}
 use Rattle.settle_laws.proofs.Shown.{can_change}
-use Rattle.settle_laws.proofs.Zipped.{BothOrNone}
+use Rattle.settle_laws.proofs.Zipped.{both_some}
 use Rattle.settle_spec.specs.Kept.{Kept, as_it_stands}
-
-pub both_some : (o p : Option Placed) → BothOrNone IsAlikePlaced o p → is_some o ≡ is_some p
-both_some None None both = refl
-both_some None (Some y) both = absurd both
-both_some (Some x) None both = absurd both
-both_some (Some x) (Some y) both = refl
 
 pub any_bars : (p r : Part → Bool) → ((n : ℕ) → p (Bar n) ≡ r (Bar n)) → (ns : List ℕ) → list_any p (map Bar ns) ≡ list_any r (map Bar ns)
 any_bars p r same [] = refl
@@ -72,7 +65,7 @@ module _ (q : Request) (s : System) (k : Kept) (can : CanSettle q s k) where
       got_same : (p : Part) → (are_same_space space (space_of f p) && is_some (new_place q s k record { function = f; part = p })) ≡ (are_same_space space (space_of (now f) p) && is_some (new_place q t j record { function = now f; part = p }))
       got_same p =
           let sp = space_alike f (now f) (is f listed) p in
-          let has = both_some (new_place q s k record { function = f; part = p }) (new_place q t j record { function = now f; part = p }) (again_alike q s k can anew f p listed) in
+          let has = both_some IsAlikePlaced (new_place q s k record { function = f; part = p }) (new_place q t j record { function = now f; part = p }) (again_alike q s k can anew f p listed) in
           λ i. are_same_space space (sp i) && has i
 
       got_each : (ps : List Part)

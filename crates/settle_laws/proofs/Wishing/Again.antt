@@ -1,4 +1,4 @@
--- Where each spare has room, or none is there for it, settled again nothing is written.
+-- Where not all is placed anew, each spare has room then or none is there for it, so settled again nothing is written.
 use Rattle.std.proofs.Common.{◌≡◌, ◌&&◌, ◌⊎◌, ℕ, ◌<◌, ◌≤◌, inl, inr, List, [], ◌∷◌, Bool, true, false, cond, length, arith, refl, sym, ◌∙◌, ap, subst, Option, None, Some}
 use Rattle.std.specs.Bool.{nat_le, nat_lt}
 use Rattle.std.specs.List.{Contains, filter, flat_map, list_any}
@@ -30,7 +30,6 @@ use Rattle.settle_spec.specs.Sparing.{without_slots, is_settled, have_spares, pl
 use Rattle.settle_spec.specs.SpareLaws.{kept_sparing, has_room_for, result_sparing}
 use Rattle.settle_spec.proofs.FirstSpot.{least_spot, spot_from, spot_gives}
 use Rattle.settle_laws.specs.GrowingLaws.{CanBeAsked}
-use Rattle.settle_laws.specs.SparingLaws.{KeptSettleOnce}
 use Rattle.settle_laws.specs.Keeping.PlacesLaws.{CanSettle}
 use Rattle.settle_laws.proofs.HeaderParts.{window_of}
 use Rattle.settle_laws.proofs.Kept.{in_regions}
@@ -241,9 +240,6 @@ module _ (q : Request) (s : System) (may : CanBeAsked q s) (kept : q.anew ≡ fa
       subst (λ x. (has_room_for q t c x e ≡ true) ⊎ (is_some (spared_behind q t c x e (growing q t)) ≡ false)) f.is
       (answer_of c f.from e f.has (sym (spare_alike c f.from f.has) ∙ ap (spare_of q c) f.is ∙ spare) (ap (λ (x : Function). has_window c x.probe) f.is ∙ there))
 
-  once : settle_sparing q t ≡ Settled []
-  once = settles_once q t (new_system p s j can) sound_then stand_then off_then fine_then answer
-
--- The law: where not all is placed anew, settled again nothing is written.
-pub kept_settle_once : KeptSettleOnce
-kept_settle_once = once
+  -- settled again nothing is written
+  pub kept_settle_once : settle_sparing q t ≡ Settled []
+  kept_settle_once = settles_once q t (new_system p s j can) sound_then stand_then off_then fine_then answer

@@ -26,9 +26,8 @@ use Rattle.settle_laws.proofs.Alike.{IsAlike}
 use Rattle.settle_laws.proofs.AlikePlaces.{IsAlikePlaced, new_places_alike}
 use Rattle.settle_laws.proofs.SettlingEnds.{IsEnd, ends}
 use Rattle.settle_laws.proofs.SoundKept.{standing_is_sound}
-use Rattle.settle_laws.proofs.Zipped.{BothOrNone}
+use Rattle.settle_laws.proofs.Zipped.{BothOrNone, both_some}
 use Rattle.settle_laws.proofs.Keeping.Again.{room_again}
-use Rattle.settle_laws.proofs.Keeping.AgainCommand.{both_some}
 use Rattle.settle_laws.proofs.Keeping.AgainSettled.{all_left_off, got_on}
 use Rattle.settle_laws.proofs.Keeping.AnewAgain.{none_without}
 use Rattle.settle_laws.proofs.Keeping.Kept.{none_kept}
@@ -96,7 +95,7 @@ module _ (q asked : Request) (s : System) (k : Kept) (could : CanSettle q s k) (
 
     -- what gets a place does so as it stands
     some_is : (r : FunctionPart) → is_some (new_place q t m r) ≡ is_some (new_place q t (as_it_stands q t) r)
-    some_is r = both_some (new_place q t m r) (new_place q t (as_it_stands q t) r)
+    some_is r = both_some IsAlikePlaced (new_place q t m r) (new_place q t (as_it_stands q t) r)
         (new_places_alike q anew t t (to_itself t) m (as_it_stands q t) moves (none_stays q t anew) r r record { function = alike_itself r.function; part = refl })
 
     got_is : (space : Space) (g : Function) → got_place q t j space g ≡ got_place q t (as_it_stands q t) space g

@@ -19,7 +19,7 @@ use Rattle.settle_spec.specs.Wishes.{Spared, spared_behind, Granted, or_denied, 
 use Rattle.settle_spec.specs.Sparing.{without_slots, is_settled, have_spares, placing_request, granted_beside, denied, settle_sparing}
 use Rattle.settle_spec.specs.SpareLaws.{kept_sparing, has_room_for, result_sparing}
 use Rattle.settle_laws.specs.GrowingLaws.{CanBeAsked}
-use Rattle.settle_laws.specs.SparingLaws.{slot_and_register, KeptDenyAlike}
+use Rattle.settle_laws.specs.SparingLaws.{slot_and_register}
 use Rattle.settle_laws.specs.Keeping.PlacesLaws.{CanSettle}
 use Rattle.settle_laws.proofs.Pieces.{Lower, system_rises}
 use Rattle.settle_laws.proofs.Keeping.Moves.{new_system}
@@ -192,9 +192,6 @@ module _ (q : Request) (s : System) (may : CanBeAsked q s) (standing : q.anew �
       ap (λ x. (granted_beside q (cond x q (without_slots q)) t).denied) (have q t system sound stand off fine)
       ∙ ap (λ x. (granted q t (spare_of q) x).denied) (finally_is q t system sound stand off fine)
 
-  same_denied : map slot_and_register (denied q t) ≡ map slot_and_register (denied q s)
-  same_denied = ap (map slot_and_register) again_is ∙ (all_same s (λ f has. has) (system_rises s ends.system) in_end).denied
-
--- The law: the same spares are denied.
-pub kept_deny_alike : KeptDenyAlike
-kept_deny_alike = same_denied
+  -- the same spares are denied
+  pub kept_deny_alike : map slot_and_register (denied q t) ≡ map slot_and_register (denied q s)
+  kept_deny_alike = ap (map slot_and_register) again_is ∙ (all_same s (λ f has. has) (system_rises s ends.system) in_end).denied

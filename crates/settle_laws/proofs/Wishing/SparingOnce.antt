@@ -1,6 +1,7 @@
--- Where all is placed anew and the result is placed by the same request, settled again nothing is written.
-use Rattle.std.proofs.Common.{◌≡◌, true, cond, map, [], refl, ◌∙◌, ap}
-use Rattle.std.proofs.lemmas.Bool.{and_parts, cond_both}
+-- Settled again nothing is written, and the same spares are denied, unless all is placed anew and something is fixed.
+use Rattle.std.proofs.Common.{◌≡◌, inl, inr, true, cond, map, [], refl, sym, ◌∙◌, ap}
+use Rattle.std.specs.List.{AllZip}
+use Rattle.std.proofs.lemmas.Bool.{and_parts, cases_Bool, cond_both}
 use Rattle.pci_spec.specs.System.{System}
 use Rattle.settle_spec.specs.Lists.{Request}
 use Rattle.settle_spec.specs.Items.{spare_of}
@@ -10,15 +11,20 @@ use Rattle.settle_spec.specs.Keeping.Writes.{settle_keeping}
 use Rattle.settle_spec.specs.Growing.{kept_by, settle_growing, finally_kept}
 use Rattle.settle_spec.specs.Wishes.{granted}
 use Rattle.settle_spec.specs.Sparing.{without_slots, is_settled, keep_alike, have_spares, placing_request, granted_beside, denied, settle_sparing}
-use Rattle.settle_spec.specs.SpareLaws.{result_sparing}
+use Rattle.settle_spec.specs.SpareLaws.{kept_sparing, result_sparing}
 use Rattle.settle_laws.specs.KeptLaws.{WishesNothing}
 use Rattle.settle_laws.specs.GrowingLaws.{CanBeAsked}
-use Rattle.settle_laws.specs.SparingLaws.{AnewSparingSettlesOnce, slot_and_register}
+use Rattle.settle_laws.specs.SparingLaws.{slot_and_register, SparingSettlesOnce}
 use Rattle.settle_laws.specs.Keeping.PlacesLaws.{CanSettle}
+use Rattle.settle_laws.proofs.Alike.{IsAlike}
+use Rattle.settle_laws.proofs.Keeping.Again.{all_alike}
 use Rattle.settle_laws.proofs.Keeping.Kept.{none_kept}
+use Rattle.settle_laws.proofs.Wishing.Again.{kept_settle_once}
 use Rattle.settle_laws.proofs.Wishing.AgainAnew.{anew_wishes_again}
 use Rattle.settle_laws.proofs.Wishing.AnewOnce.{anew_wishes_settle_once, anew_result_can_settle}
 use Rattle.settle_laws.proofs.Wishing.Room.{can_all}
+use Rattle.settle_laws.proofs.Wishing.SameDenied.{kept_deny_alike}
+use Rattle.settle_laws.proofs.Wishing.Unfixed.{settled_alike, have_alike}
 use Rattle.settle_laws.proofs.Wishing.Sparing.{can_finally, settled_sparing_gives, sparing_is_wished}
 
 finally_wishless : (q : Request) (s : System) → WishesNothing (finally_kept q s)
@@ -30,8 +36,7 @@ finally_wishless q s = by (settle_keeping q s (growing q s))
     by (Fixed slot register) = refl
     by (NoRoom class slot register size alignment) = refl
 
-module _ (q : Request) (s : System) (may : CanBeAsked q s) (anew : q.anew ≡ true) (settles : is_settled (settle_sparing q s) ≡ true)
-    (alone : is_settled (settle_growing (without_slots q) (result_sparing q s)) ≡ true) (alike : have_spares q (result_sparing q s) ≡ have_spares q s) where
+module _ (q : Request) (s : System) (may : CanBeAsked q s) (anew : q.anew ≡ true) (unfixed : q.fixed ≡ []) (settles : is_settled (settle_sparing q s) ≡ true) where
   abbrev p : Request
   p = placing_request q s
 
@@ -40,6 +45,16 @@ module _ (q : Request) (s : System) (may : CanBeAsked q s) (anew : q.anew ≡ tr
 
   anew_p : p.anew ≡ true
   anew_p = cond_both (have_spares q s) q (without_slots q) (λ x. x.anew ≡ true) (λ spares. anew) (λ none. anew)
+
+  pairs : AllZip IsAlike s t
+  pairs = all_alike p s (kept_sparing q s) (can_all q s may settles).then
+
+  -- the result is settled without slots, and new windows have spares there as they had
+  alone : is_settled (settle_growing (without_slots q) t) ≡ true
+  alone = sym (settled_alike (without_slots q) unfixed anew s t pairs) ∙ (settled_sparing_gives q s settles).1
+
+  alike : have_spares q t ≡ have_spares q s
+  alike = sym (have_alike q unfixed anew s t pairs)
 
   could : CanSettle p s (finally_kept p s)
   could = (can_all q s may settles).before
@@ -59,20 +74,20 @@ module _ (q : Request) (s : System) (may : CanBeAsked q s) (anew : q.anew ≡ tr
   again : settle_keeping p t (granted p t (spare_of q) (finally_kept p t)).kept ≡ Settled []
   again = anew_wishes_settle_once p q s (finally_kept p s) (finally_kept p t) could anew_p (finally_wishless p s) (finally_wishless p t) (can_finally p t asked_then grows) (settled_sparing_gives q s settles).0
 
-  pub sparing_once : settle_sparing q t ≡ Settled []
-  sparing_once =
+  pub anew_once : settle_sparing q t ≡ Settled []
+  anew_once =
       sparing_is_wished q t alone
       ∙ ap (λ x. settle_keeping (cond x q (without_slots q)) t (granted_beside q (cond x q (without_slots q)) t).kept) alike
       ∙ again
 
-  pub same_denied_anew : map slot_and_register (denied q t) ≡ map slot_and_register (denied q s)
-  same_denied_anew =
+  pub anew_deny_alike : map slot_and_register (denied q t) ≡ map slot_and_register (denied q s)
+  anew_deny_alike =
       ap (λ x. map slot_and_register (granted_beside q (cond x q (without_slots q)) t).denied) alike
       ∙ (anew_wishes_again p q s (finally_kept p s) (finally_kept p t) could anew_p (finally_wishless p s) (finally_wishless p t) (none_kept p t (finally_kept p t) (can_finally p t asked_then grows) anew_p)).denied
 
 -- The law: settled again nothing is written, and the same spares are denied.
-pub anew_sparing_settles_once : AnewSparingSettlesOnce
-anew_sparing_settles_once q s may anew settles alone alike = record {
-  once = sparing_once q s may anew settles alone alike;
-  denied = same_denied_anew q s may anew settles alone alike;
-}
+pub sparing_settles_once : SparingSettlesOnce
+sparing_settles_once q s may unfixed settles = elim (cases_Bool q.anew) [
+  | inl anew ↦ record { once = anew_once q s may anew (unfixed anew) settles; denied = anew_deny_alike q s may anew (unfixed anew) settles }
+  | inr kept ↦ record { once = kept_settle_once q s may kept settles; denied = kept_deny_alike q s may kept settles }
+]

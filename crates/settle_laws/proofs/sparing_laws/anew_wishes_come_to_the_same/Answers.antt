@@ -1,6 +1,5 @@
 use Rattle.settle_laws.proofs.Wishing.AgainAnew.{anew_wishes_again}
 use Rattle.settle_laws.proofs.Wishing.AnewOnce.{anew_wishes_settle_once, anew_result_can_settle}
-use Rattle.settle_laws.proofs.Wishing.SparingOnce.{anew_sparing_settles_once}
 use Rattle.settle_laws.proofs.sparing_laws.anew_wishes_come_to_the_same.Goals as goal
 
 pub returns-clause-same : goal.returns-clause-same
@@ -11,6 +10,3 @@ returns-clause-once c = anew_wishes_settle_once
 
 pub returns-clause-can : goal.returns-clause-can
 returns-clause-can c = anew_result_can_settle
-
-pub returns-clause-sparing : goal.returns-clause-sparing
-returns-clause-sparing c = anew_sparing_settles_once
