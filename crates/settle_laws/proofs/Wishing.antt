@@ -10,6 +10,7 @@ pub mod Denied
 pub mod DeniedAgain
 pub mod Ending
 pub mod Ends
+pub mod Examples
 pub mod Granted
 pub mod Later
 pub mod Longer

@@ -1,5 +1,5 @@
 -- Laws of settling with room behind slots: wishes change nothing else, what settling comes to is sound, and its writes can stop.
-use Rattle.std.specs.Prelude.{◌≡◌, ℕ, ◌≤◌, ◌⊎◌, IsTrue, IsFalse, Some, List, [], length, map, take}
+use Rattle.std.specs.Prelude.{◌≡◌, ℕ, ◌≤◌, ◌⊎◌, Bool, true, false, IsTrue, IsFalse, Some, List, [], length, map, take}
 use Rattle.std.specs.List.{Contains, count_by}
 use Rattle.pci_spec.specs.Slot.{Slot, same_slot}
 use Rattle.pci_spec.specs.Window.{WindowKind, has_window}
@@ -12,7 +12,7 @@ use Rattle.settle_spec.specs.FirstPlace.{Extent}
 use Rattle.settle_spec.specs.Lists.{Request}
 use Rattle.settle_spec.specs.Parts.{FunctionPart, addresses, lies_within}
 use Rattle.settle_spec.specs.Items.{spare_of}
-use Rattle.settle_spec.specs.Writes.{Settled}
+use Rattle.settle_spec.specs.Writes.{Settling, Fixed, Settled}
 use Rattle.settle_spec.specs.Kept.{Kept, unwished, as_it_stands}
 use Rattle.settle_spec.specs.Keeping.Registers.{settled, settled_function}
 use Rattle.settle_spec.specs.Keeping.Writes.{closings, settle_writes, settle_keeping}
@@ -132,6 +132,17 @@ abbrev pub SparingSettlesOnce : Type 0
 SparingSettlesOnce =
     (q : Request) (s : System) → CanBeAsked q s → (IsTrue q.anew → q.fixed ≡ [])
     → IsTrue (is_settled (settle_sparing q s)) → IsSettledOnce q s
+
+abbrev pub is_settled_or_fixed : Settling → Bool
+is_settled_or_fixed (Settled writes) = true
+is_settled_or_fixed (Fixed slot register) = true
+is_settled_or_fixed refused = false
+
+-- In any case it is settled again, or else refused for what is fixed.
+abbrev pub SparingSettlesAgain : Type 0
+SparingSettlesAgain =
+    (q : Request) (s : System) → CanBeAsked q s → IsTrue (is_settled (settle_sparing q s))
+    → IsTrue (is_settled_or_fixed (settle_sparing q (result_sparing q s)))
 
 -- Where all is placed anew, wishes come to the same beside their result: each part has the addresses that it had, and the
 -- same spares are denied.

@@ -1,6 +1,6 @@
 //! Laws of settling with room behind slots. These functions do nothing: each contract is a law.
 
-ghost use Rattle.settle_laws.specs.SparingLaws.{EndingIsByBus, SparedIsByBus, WishesChangeRoomAlone, GrantedCanSettle, SettledSparingIsSound, SettlingSparingCanStop, FewSparingWritesEach, SparingKeepsAll, SparesRefuseNoMore, WishedIsSettled, SparesAreAnswered, SparingSettlesOnce, AnewWishesAgain, AnewWishesSettleOnce, AnewResultCanSettle};
+ghost use Rattle.settle_laws.specs.SparingLaws.{EndingIsByBus, SparedIsByBus, WishesChangeRoomAlone, GrantedCanSettle, SettledSparingIsSound, SettlingSparingCanStop, FewSparingWritesEach, SparingKeepsAll, SparesRefuseNoMore, WishedIsSettled, SparesAreAnswered, SparingSettlesOnce, SparingSettlesAgain, AnewWishesAgain, AnewWishesSettleOnce, AnewResultCanSettle};
 ghost use Rattle.settle_spec.specs.SpareLaws.{NoSlotsNoSpares, SparesRefuseNothing, NothingGoesForSpares, SparesSetNoCommand, SparesHaveRoom};
 
 /// Room behind a slot is told by the window over its bridge, bus by bus.
@@ -48,10 +48,11 @@ pub fn spares_have_room()
     ensures answered { SparesAreAnswered }
 {}
 
-/// What is settled is settled again by no write, and the same spares are denied. Where all is placed anew this is said
-/// where nothing is fixed.
+/// What is settled is settled again by no write, and the same spares are denied. Where all is placed anew and something is
+/// fixed, settling again can be refused, for what is fixed alone.
 pub fn sparing_settles_once()
-    ensures { SparingSettlesOnce }
+    ensures once { SparingSettlesOnce }
+    ensures again { SparingSettlesAgain }
 {}
 
 /// Where all is placed anew, wishes come to the same beside their result, and what is settled so is

@@ -1,31 +1,40 @@
 -- Settled again nothing is written, and the same spares are denied, unless all is placed anew and something is fixed.
-use Rattle.std.proofs.Common.{◌≡◌, inl, inr, true, cond, map, [], refl, sym, ◌∙◌, ap}
+use Rattle.std.proofs.Common.{◌≡◌, inl, inr, List, [], Bool, true, false, cond, map, refl, sym, ◌∙◌, ap, Option, None, Some}
+use Rattle.std.specs.Bool.{if◌then◌else◌}
 use Rattle.std.specs.List.{AllZip}
-use Rattle.std.proofs.lemmas.Bool.{and_parts, cases_Bool, cond_both}
+use Rattle.std.proofs.lemmas.Bool.{and_parts, both_ways, cases_Bool, cond_both}
+use Rattle.pci_spec.specs.Machine.{Write}
 use Rattle.pci_spec.specs.System.{System}
-use Rattle.settle_spec.specs.Lists.{Request}
-use Rattle.settle_spec.specs.Items.{spare_of}
-use Rattle.settle_spec.specs.Writes.{Settling, BadLists, Fixed, NoRoom, Settled}
+use Rattle.settle_spec.specs.Lists.{Request, are_bad_lists}
+use Rattle.settle_spec.specs.Parts.{FunctionPart}
+use Rattle.settle_spec.specs.Stands.{stands}
+use Rattle.settle_spec.specs.Items.{Item, spare_of}
+use Rattle.settle_spec.specs.Writes.{Settling, BadLists, Fixed, NoRoom, Settled, fixed_without, fixed_write, or_fixed, or_lack, or_write}
 use Rattle.settle_spec.specs.Kept.{as_it_stands, growing}
-use Rattle.settle_spec.specs.Keeping.Writes.{settle_keeping}
+use Rattle.settle_spec.specs.Keeping.Places.{lacking}
+use Rattle.settle_spec.specs.Keeping.Writes.{settle_writes, settle_keeping}
 use Rattle.settle_spec.specs.Growing.{kept_by, settle_growing, finally_kept}
 use Rattle.settle_spec.specs.Wishes.{granted}
 use Rattle.settle_spec.specs.Sparing.{without_slots, is_settled, keep_alike, have_spares, placing_request, granted_beside, denied, settle_sparing}
 use Rattle.settle_spec.specs.SpareLaws.{kept_sparing, result_sparing}
 use Rattle.settle_laws.specs.KeptLaws.{WishesNothing}
 use Rattle.settle_laws.specs.GrowingLaws.{CanBeAsked}
-use Rattle.settle_laws.specs.SparingLaws.{slot_and_register, SparingSettlesOnce}
+use Rattle.settle_laws.specs.SparingLaws.{slot_and_register, is_settled_or_fixed, SparingSettlesOnce, SparingSettlesAgain}
 use Rattle.settle_laws.specs.Keeping.PlacesLaws.{CanSettle}
+use Rattle.settle_spec.proofs.Anew.{none_stays}
 use Rattle.settle_laws.proofs.Alike.{IsAlike}
+use Rattle.settle_laws.proofs.AlikePlaces.{none_lacks}
+use Rattle.settle_laws.proofs.NothingGrows.{anew_nothing_grows}
 use Rattle.settle_laws.proofs.Keeping.Again.{all_alike}
 use Rattle.settle_laws.proofs.Keeping.Kept.{none_kept}
 use Rattle.settle_laws.proofs.Wishing.Again.{kept_settle_once}
 use Rattle.settle_laws.proofs.Wishing.AgainAnew.{anew_wishes_again}
 use Rattle.settle_laws.proofs.Wishing.AnewOnce.{anew_wishes_settle_once, anew_result_can_settle}
+use Rattle.settle_laws.proofs.Wishing.Refused.{spares_refuse_no_more}
 use Rattle.settle_laws.proofs.Wishing.Room.{can_all}
 use Rattle.settle_laws.proofs.Wishing.SameDenied.{kept_deny_alike}
 use Rattle.settle_laws.proofs.Wishing.Unfixed.{settled_alike, have_alike}
-use Rattle.settle_laws.proofs.Wishing.Sparing.{can_finally, settled_sparing_gives, sparing_is_wished}
+use Rattle.settle_laws.proofs.Wishing.Sparing.{can_finally, settled_sparing_gives, sparing_is_wished, refused_alone}
 
 finally_wishless : (q : Request) (s : System) → WishesNothing (finally_kept q s)
 finally_wishless q s = by (settle_keeping q s (growing q s))
@@ -36,25 +45,37 @@ finally_wishless q s = by (settle_keeping q s (growing q s))
     by (Fixed slot register) = refl
     by (NoRoom class slot register size alignment) = refl
 
-module _ (q : Request) (s : System) (may : CanBeAsked q s) (anew : q.anew ≡ true) (unfixed : q.fixed ≡ []) (settles : is_settled (settle_sparing q s) ≡ true) where
+-- where lists are good and nothing lacks room, what is fixed alone is refused
+ends_so : (bad : Bool) (a b : Option FunctionPart) (lack : Option Item) (w : Option Write) (writes : List Write) → bad ≡ false → lack ≡ None
+    → is_settled_or_fixed (if bad then BadLists else or_fixed a (or_fixed b (or_lack lack (or_write w (Settled writes))))) ≡ true
+ends_so true a b lack w writes fine none = absurd (both_ways true fine refl)
+ends_so false a b (Some i) w writes fine none = cc
+ends_so false (Some r) b None w writes fine none = refl
+ends_so false None (Some r) None w writes fine none = refl
+ends_so false None None None (Some x) writes fine none = refl
+ends_so false None None None None writes fine none = refl
+
+also_settled : (o : Settling) → is_settled o ≡ true → is_settled_or_fixed o ≡ true
+also_settled (Settled writes) is = refl
+also_settled BadLists is = absurd (both_ways false refl is)
+also_settled (Fixed slot register) is = refl
+also_settled (NoRoom class slot register size alignment) is = absurd (both_ways false refl is)
+
+module _ (q : Request) (s : System) (may : CanBeAsked q s) (anew : q.anew ≡ true) (settles : is_settled (settle_sparing q s) ≡ true) where
   abbrev p : Request
   p = placing_request q s
+
+  abbrev w : Request
+  w = without_slots q
 
   abbrev t : System
   t = result_sparing q s
 
   anew_p : p.anew ≡ true
-  anew_p = cond_both (have_spares q s) q (without_slots q) (λ x. x.anew ≡ true) (λ spares. anew) (λ none. anew)
+  anew_p = cond_both (have_spares q s) q w (λ x. x.anew ≡ true) (λ spares. anew) (λ none. anew)
 
   pairs : AllZip IsAlike s t
   pairs = all_alike p s (kept_sparing q s) (can_all q s may settles).then
-
-  -- the result is settled without slots, and new windows have spares there as they had
-  alone : is_settled (settle_growing (without_slots q) t) ≡ true
-  alone = sym (settled_alike (without_slots q) unfixed anew s t pairs) ∙ (settled_sparing_gives q s settles).1
-
-  alike : have_spares q t ≡ have_spares q s
-  alike = sym (have_alike q unfixed anew s t pairs)
 
   could : CanSettle p s (finally_kept p s)
   could = (can_all q s may settles).before
@@ -65,29 +86,70 @@ module _ (q : Request) (s : System) (may : CanBeAsked q s) (anew : q.anew ≡ tr
   asked_then : CanBeAsked p t
   asked_then = record { high = stands_so.high; system = stands_so.system; nested = stands_so.nested; profile = stands_so.profile; chains = stands_so.chains }
 
-  grows : is_settled (settle_growing p t) ≡ true
-  grows = cond_both (have_spares q s) q (without_slots q) (λ x. is_settled (settle_growing x t) ≡ true) (λ spares. first spares) (λ none. alone)
+  -- ---- it is settled again, or refused for what is fixed
+
+  could_alone : CanSettle w s (finally_kept w s)
+  could_alone = can_finally w s record { high = may.high; system = may.system; nested = may.nested; profile = may.profile; chains = may.chains } (settled_sparing_gives q s settles).1
+
+  room_alone : lacking w t (as_it_stands w t) ≡ None
+  room_alone = none_lacks w anew s t pairs (finally_kept w s) (as_it_stands w t) (none_kept w s (finally_kept w s) could_alone anew) (none_stays w t anew) could_alone.room
+
+  settled_or_fixed : is_settled_or_fixed (settle_growing w t) ≡ true
+  settled_or_fixed =
+      ap is_settled_or_fixed (anew_nothing_grows w t anew)
+      ∙ ends_so (are_bad_lists w.roots w.lists) (fixed_without (stands w t) w t) (fixed_without (as_it_stands w t).stays w t) (lacking w t (as_it_stands w t)) (fixed_write w (settle_writes w t (as_it_stands w t)))
+      (settle_writes w t (as_it_stands w t)) could_alone.lists room_alone
+
+  pub anew_again : is_settled_or_fixed (settle_sparing q t) ≡ true
+  anew_again = elim (cases_Bool (is_settled (settle_growing w t))) [
+    | inl alone ↦ also_settled (settle_sparing q t) (spares_refuse_no_more q t asked_so alone)
+    | inr refused ↦ ap is_settled_or_fixed (refused_alone q t refused) ∙ settled_or_fixed
+  ]
     where
-      first : have_spares q s ≡ true → is_settled (settle_growing q t) ≡ true
-      first spares = (and_parts (is_settled (settle_growing q t)) (keep_alike q t (finally_kept (without_slots q) t) (finally_kept q t)) (alike ∙ spares)).0
+      asked_so : CanBeAsked q t
+      asked_so = cond_both (have_spares q s) q w (λ x. CanBeAsked x t → CanBeAsked q t) (λ spares so. so)
+          (λ none so. record { high = so.high; system = so.system; nested = so.nested; profile = so.profile; chains = so.chains }) asked_then
 
-  again : settle_keeping p t (granted p t (spare_of q) (finally_kept p t)).kept ≡ Settled []
-  again = anew_wishes_settle_once p q s (finally_kept p s) (finally_kept p t) could anew_p (finally_wishless p s) (finally_wishless p t) (can_finally p t asked_then grows) (settled_sparing_gives q s settles).0
+  -- ---- where nothing is fixed it is settled again by no write
 
-  pub anew_once : settle_sparing q t ≡ Settled []
-  anew_once =
-      sparing_is_wished q t alone
-      ∙ ap (λ x. settle_keeping (cond x q (without_slots q)) t (granted_beside q (cond x q (without_slots q)) t).kept) alike
-      ∙ again
+  module _ (unfixed : q.fixed ≡ []) where
+    -- the result is settled without slots, and new windows have spares there as they had
+    alone : is_settled (settle_growing w t) ≡ true
+    alone = sym (settled_alike w unfixed anew s t pairs) ∙ (settled_sparing_gives q s settles).1
 
-  pub anew_deny_alike : map slot_and_register (denied q t) ≡ map slot_and_register (denied q s)
-  anew_deny_alike =
-      ap (λ x. map slot_and_register (granted_beside q (cond x q (without_slots q)) t).denied) alike
-      ∙ (anew_wishes_again p q s (finally_kept p s) (finally_kept p t) could anew_p (finally_wishless p s) (finally_wishless p t) (none_kept p t (finally_kept p t) (can_finally p t asked_then grows) anew_p)).denied
+    alike : have_spares q t ≡ have_spares q s
+    alike = sym (have_alike q unfixed anew s t pairs)
+
+    grows : is_settled (settle_growing p t) ≡ true
+    grows = cond_both (have_spares q s) q w (λ x. is_settled (settle_growing x t) ≡ true) first (λ none. alone)
+      where
+        first : have_spares q s ≡ true → is_settled (settle_growing q t) ≡ true
+        first spares = (and_parts (is_settled (settle_growing q t)) (keep_alike q t (finally_kept w t) (finally_kept q t)) (alike ∙ spares)).0
+
+    again : settle_keeping p t (granted p t (spare_of q) (finally_kept p t)).kept ≡ Settled []
+    again = anew_wishes_settle_once p q s (finally_kept p s) (finally_kept p t) could anew_p (finally_wishless p s) (finally_wishless p t) (can_finally p t asked_then grows) (settled_sparing_gives q s settles).0
+
+    pub anew_once : settle_sparing q t ≡ Settled []
+    anew_once =
+        sparing_is_wished q t alone
+        ∙ ap (λ x. settle_keeping (cond x q w) t (granted_beside q (cond x q w) t).kept) alike
+        ∙ again
+
+    pub anew_deny_alike : map slot_and_register (denied q t) ≡ map slot_and_register (denied q s)
+    anew_deny_alike =
+        ap (λ x. map slot_and_register (granted_beside q (cond x q w) t).denied) alike
+        ∙ (anew_wishes_again p q s (finally_kept p s) (finally_kept p t) could anew_p (finally_wishless p s) (finally_wishless p t) (none_kept p t (finally_kept p t) (can_finally p t asked_then grows) anew_p)).denied
 
 -- The law: settled again nothing is written, and the same spares are denied.
 pub sparing_settles_once : SparingSettlesOnce
 sparing_settles_once q s may unfixed settles = elim (cases_Bool q.anew) [
-  | inl anew ↦ record { once = anew_once q s may anew (unfixed anew) settles; denied = anew_deny_alike q s may anew (unfixed anew) settles }
+  | inl anew ↦ record { once = anew_once q s may anew settles (unfixed anew); denied = anew_deny_alike q s may anew settles (unfixed anew) }
   | inr kept ↦ record { once = kept_settle_once q s may kept settles; denied = kept_deny_alike q s may kept settles }
+]
+
+-- The law: what is fixed alone is refused then.
+pub sparing_settles_again : SparingSettlesAgain
+sparing_settles_again q s may settles = elim (cases_Bool q.anew) [
+  | inl anew ↦ anew_again q s may anew settles
+  | inr kept ↦ ap is_settled_or_fixed (kept_settle_once q s may kept settles)
 ]
