@@ -17,7 +17,6 @@ pub mod EachPlaced
 pub mod Examples
 pub mod Few
 pub mod Finding
-pub mod Fixed
 pub mod GrowingPlaces
 pub mod GrownAlready
 pub mod HeaderParts
