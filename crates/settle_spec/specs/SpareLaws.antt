@@ -1,5 +1,5 @@
 -- Laws of room behind slots: it refuses nothing, no part goes for it, and what isn't denied is there.
-use Rattle.std.specs.Prelude.{◌≡◌, ◌^◌, ◌<◌, Bool, ◌&&◌, IsTrue, IsFalse, [], Some}
+use Rattle.std.specs.Prelude.{◌≡◌, ◌^◌, ◌<◌, Bool, ◌&&◌, IsTrue, IsFalse, Some}
 use Rattle.std.specs.List.{Contains}
 use Rattle.std.specs.Option.{is_some}
 use Rattle.pci_spec.specs.Window.{WindowKind, has_window}
@@ -13,7 +13,6 @@ use Rattle.settle_spec.specs.Parts.{FunctionPart, system_parts, addresses, are_s
 use Rattle.settle_spec.specs.Stands.{part_space, window_part}
 use Rattle.settle_spec.specs.Items.{spare_of}
 use Rattle.settle_spec.specs.Growth.{there_on}
-use Rattle.settle_spec.specs.Writes.{Settled}
 use Rattle.settle_spec.specs.Kept.{Kept}
 use Rattle.settle_spec.specs.Keeping.Registers.{settled_function, settled_command, settled}
 use Rattle.settle_spec.specs.Growing.{settle_growing, finally_kept}
@@ -83,10 +82,3 @@ SparesHaveRoom =
     → Contains s b → spare_of q c b ≡ Some e → IsTrue (has_window c b.probe)
     → (Contains (denied q s) (window_part c b) → ⊥) → IsTrue (is_settled (settle_sparing q s))
     → IsTrue (has_room_for q (result_sparing q s) c (result_of q s b) e)
-
--- Settled again nothing is written.
-abbrev pub SparesSettleOnce : Type 0
-SparesSettleOnce =
-    (q : Request) (s : System) → CanAsk q s
-    → IsTrue (is_settled (settle_sparing q s))
-    → settle_sparing q (result_sparing q s) ≡ Settled []
