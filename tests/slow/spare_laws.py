@@ -212,11 +212,11 @@ def fixed_fault(request, plan):
 
 def again_fault(request, wanted, plan, denied):
     """What is written or denied otherwise where the result is settled again, or none."""
-    if request.anew and request.fixed:
-        # whether new windows have spares may depend on what registers show
-        return None
     again, later = settled_with_spares(plan.functions, request, wanted.spare, wanted.slots)
     if isinstance(again, Fault):
+        # without spares a window above a fixed function may be smaller
+        if request.anew and request.fixed and again.text.startswith('74 '):
+            return None
         return 'settled again there is ' + again.text
     if again.writes:
         return 'settled again %s is written' % write_text(*again.writes[0])
