@@ -1,5 +1,5 @@
 -- The first place in a range, and in the first range that has one.
-use Rattle.std.proofs.Common.{◌≡◌, ℕ, zero, suc, inl, inr, ◌+◌, ◌-◌, ◌^◌, ◌<◌, ◌≤◌, List, [], ◌∷◌, map, length, cond, get_or, arith, ap, sym, subst, ◌∙◌, refl, false, Bool, Option, None, Some}
+use Rattle.std.proofs.Common.{◌≡◌, ℕ, zero, suc, inl, inr, ◌+◌, ◌-◌, ◌^◌, ◌<◌, ◌≤◌, List, [], ◌∷◌, map, length, cond, get_or, arith, ap, sym, subst, ◌∙◌, refl, false, Bool, Option, None, Some, SomeIff, IfSome, IfNone}
 use Rattle.std.specs.Bool.{IsTrue, nat_le}
 use Rattle.std.proofs.lemmas.Bool.{cases_lt, and_parts, leb-true, false_from_ne_true}
 use Rattle.std.proofs.lemmas.List.{get_or_default}
@@ -8,6 +8,9 @@ use Rattle.settle_spec.specs.FirstPlace.{Extent as ExtentValue, is_spot, ends_by
 use Rattle.settle_spec.proofs.FirstSpot.{least_spot, only_least}
 use Rattle.pci_base.specs.declared.range.Range.{Range}
 use Rattle.pci_base.specs.Ranges.{decoded_range_of}
+use Rattle.pci_settle.specs.declared.extent.Extent.{Extent}
+use Rattle.pci_settle.specs.declared.spot.Spot.{Spot}
+use Rattle.pci_settle.specs.Spots.{extent_value, IsSpotAt, spot_place}
 
 abbrev in_range : DecodedRange → ExtentValue → ℕ → Option ℕ
 in_range r e a = cond (ends_by r e a) (Some a) None
@@ -28,6 +31,18 @@ none_at r taken e pos small high =
     let last = leb-true (a + (e.size - 1)) r.last (and_parts (nat_le (a + (e.size - 1)) r.last) _ is).0 in
     let no : ⊥ = omega (arith, last, small, above) in no) in
     ap (λ x. cond x (Some a) None) not_in
+
+-- the least free place is told, unless it ends above 64 bits
+pub spot_told : (taken : List Range) (low : ℕ) (e : Extent) → 0 < e.alignment → (r : Option Spot) → IfSome r (IsSpotAt taken low e)
+    → IfNone r ((b : ℕ) → IsTrue (is_spot low (map decoded_range_of taken) (extent_value e) b) → 2 ^ 64 ≤ b + (e.size - 1))
+    → SomeIff (spot_place r) (first_spot low (map decoded_range_of taken) (extent_value e) + (e.size - 1) < 2 ^ 64) (first_spot low (map decoded_range_of taken) (extent_value e))
+spot_told taken low e pos None found none = λ ends.
+    let a = first_spot low (map decoded_range_of taken) (extent_value e) in
+    let above = none a (least_spot low (map decoded_range_of taken) (extent_value e) pos).free in
+    omega (arith, ends, above)
+spot_told taken low e pos (Some s) found none =
+    let same = only_least low (map decoded_range_of taken) (extent_value e) s.at pos found.least in
+    (subst (λ n. n + (e.size - 1) < 2 ^ 64) (sym same) found.between.ends, sym same)
 
 -- ranges without a place are passed
 pub place_skips : (taken : List DecodedRange) (e : ExtentValue) (ranges : List Range) (index : ℕ) (d : Range) (o : ℕ)

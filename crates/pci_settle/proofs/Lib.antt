@@ -22,5 +22,6 @@ pub mod AsItStands
 pub mod OnBus
 pub mod Marked
 pub mod Spares
+pub mod Highest
 pub mod NewWindows
 pub mod PutWindows

@@ -1,18 +1,18 @@
 -- The new windows of bridges, in one pass over the records from the highest slot down.
-use Rattle.std.proofs.Common.{◌≡◌, ℕ, ◌+◌, ◌-◌, ◌%◌, ◌^◌, ◌<◌, ◌≤◌, inl, inr, List, length, map, set, replicate, get_or, refl, Bool, true, false, cond, arith, sym, ◌∙◌, ap, subst, Option, Some, None}
-use Rattle.std.specs.Bool.{◌==◌, nat_lt, if◌then◌else◌}
+use Rattle.std.proofs.Common.{◌≡◌, ℕ, ◌+◌, ◌-◌, ◌^◌, ◌<◌, ◌≤◌, inl, inr, List, length, map, set, replicate, get_or, refl, Bool, true, false, cond, arith, sym, ◌∙◌, ap, subst, Option, Some, None}
+use Rattle.std.specs.Bool.{nat_lt}
 use Rattle.std.specs.Option.{is_some, IfSome, option_map}
 use Rattle.std.specs.List.{Contains, slice_get}
-use Rattle.std.proofs.lemmas.Bool.{and_parts, cases_Bool, cases_eq, cases_lt, both_ways, eqb-true, lt-ltb, le-ltb, not-false}
+use Rattle.std.proofs.lemmas.Bool.{cases_eq, cases_lt, both_ways, lt-ltb, le-ltb}
 use Rattle.std.proofs.lemmas.List.{length-set, get_or-replicate, get_or-set_same, get_or-set_other, get_or_past}
 use Rattle.std.proofs.lemmas.List.Elements.{All-contains, All-replicate}
 use Rattle.std.proofs.lemmas.Option.{slice_get_within, slice_get-get_or, slice_get_read, get_or_from_slice_get}
 use Rattle.pci_spec.specs.Slot.{slot_number}
-use Rattle.pci_spec.specs.Window.{WindowKind, IoWindow, MemoryWindow, PrefetchWindow, bounds_at, has_window, page_size, is_wide_window}
+use Rattle.pci_spec.specs.Window.{WindowKind, page_size}
 use Rattle.pci_spec.specs.System.{System, Function, IsFunction, IsSystem, is_bridge}
 use Rattle.pci_spec.specs.Bus.{secondary, are_siblings, IsNested}
 use Rattle.pci_spec.proofs.Members.{in_map_from}
-use Rattle.pci_spec.specs.Decoded.{HasRecords, decoded_window, optional_window}
+use Rattle.pci_spec.specs.Decoded.{HasRecords}
 use Rattle.pci_spec.specs.Decoded as decoded
 use Rattle.plan_spec.proofs.Planning.Safe.{slots_of, order_of}
 use Rattle.plan_spec.proofs.Planning.AllItems.{slots_rise}
@@ -30,7 +30,6 @@ use Rattle.pci_function.specs.declared.record.Record.{Record}
 use Rattle.pci_function.specs.Values.{record_value}
 use Rattle.pci_tree.proofs.Lifting.{same_bridge, same_slot_of}
 use Rattle.pci_tree.proofs.RegionParts.{same_bridge_of}
-use Rattle.pci_place.specs.Above.{is_wide_in}
 use Rattle.pci_place.specs.Items.{function_in, no_function}
 use Rattle.pci_place.specs.Records.{IsRecordOf}
 use Rattle.pci_place.proofs.Records.{FunctionAt, same_count, function_at}
@@ -41,25 +40,9 @@ use Rattle.pci_settle.specs.Slots.{wanted_at, spare_by}
 use Rattle.pci_settle.specs.Own.{IsWindowOf}
 use Rattle.pci_settle.specs.Buses.{AreWindows, AreBehind, Classing, TellsClasses}
 use Rattle.pci_settle.specs.NewWindows.{highest_by, around_bus, nowhere, IsEntry, IsNewWindowPut, new_window_in, IsTooLarge, IsLastTooLarge, first_large, AreNewWindows, IsMarkedOf, AreMarkedWindows, told_extent}
+use Rattle.pci_settle.proofs.Highest.{highest_is}
 use Rattle.pci_settle.proofs.Spares.{spare_is, before_spare}
 use Rattle.pci_settle.proofs.Marked.{told_is, marked_is, IsSameOrOver, told_fits, AreSameOrLarge, same_or_large, around_large, around_mark, some_page}
-
--- ---- upper halves
-
--- a window that isn't there shows no upper halves
-absent_is_narrow : (kind : WindowKind) (probe : List ℕ) → has_window kind probe ≡ false → is_wide_window kind probe ≡ false
-absent_is_narrow kind probe absent =
-    let zero = not-false _ absent in
-    let one = (and_parts _ _ zero).0 in
-    let two = (and_parts _ _ one).0 in
-    let base = eqb-true (bounds_at kind probe).base 0 (and_parts ((bounds_at kind probe).base == 0) _ two).0 in
-    ap (λ n. n % 16 == 1) base
-
-wide_window : (kind : WindowKind) (image probe : List ℕ) → is_wide_in (optional_window kind image probe) ≡ is_wide_window kind probe
-wide_window kind image probe = elim (cases_Bool (has_window kind probe)) [
-  | inl there ↦ rw there refl
-  | inr absent ↦ ap (λ b. is_wide_in (if b then Some (decoded_window kind image probe) else None)) absent ∙ sym (absent_is_narrow kind probe absent)
-]
 
 -- ---- the table
 
@@ -198,11 +181,6 @@ module _ (p : Classing) (system : IsSystem p.system) (nested : IsNested p.roots 
       told_behind was q left g listed beside bridge =
           told_is (has_of q p.system c g) (new_window q p.system c g) (get_or old (secondary g) None) (entries_behind IsMarkedOf was q left g listed beside bridge)
 
-      highest_is : (k : WindowKind) → highest_by k b.windows ≡ highest_in k f.probe
-      highest_is IoWindow = ap (λ w. if w then 0xffff_ffff else 0xffff) (ap (λ (x : decoded.Bridge). is_wide_in x.windows.io) (same_bridge_of r f b is.value there) ∙ wide_window IoWindow f.image f.probe)
-      highest_is MemoryWindow = refl
-      highest_is PrefetchWindow = ap (λ w. if w then 0xffff_ffff_ffff_ffff else 0xffff_ffff) (ap (λ (x : decoded.Bridge). is_wide_in x.windows.prefetch) (same_bridge_of r f b is.value there) ∙ wide_window PrefetchWindow f.image f.probe)
-
       -- the spare is that of the function
       spare_here : (q : Request) → TellsClasses p q → (highest : ℕ) → spare_by c w highest ≡ spare_below q c f highest
       spare_here q left highest =
@@ -211,7 +189,7 @@ module _ (p : Classing) (system : IsSystem p.system) (nested : IsNested p.roots 
       around_is : (q : Request) → TellsClasses p q → (e : Function → ExtentValue) → around_bus q p.system c e b w ≡ window_around q c f (bus_items q p.system c nothing e (secondary f))
       around_is q left e =
           ap (λ n. extent_around (page_size c) (highest_by c b.windows) (with_spare (spare_by c w (highest_by c b.windows)) (map item_extent (bus_items q p.system c nothing e n)))) leads_to
-          ∙ ap (λ h. extent_around (page_size c) h (with_spare (spare_by c w h) (map item_extent (bus_items q p.system c nothing e (secondary f))))) (highest_is c)
+          ∙ ap (λ h. extent_around (page_size c) h (with_spare (spare_by c w h) (map item_extent (bus_items q p.system c nothing e (secondary f))))) (highest_is r f b is.value there c)
           ∙ ap (λ s. extent_around (page_size c) (highest_in c f.probe) (with_spare s (map item_extent (bus_items q p.system c nothing e (secondary f))))) (spare_here q left (highest_in c f.probe))
 
       new_is : (q : Request) → TellsClasses p q → around_bus q p.system c (new_window q p.system c) b w ≡ new_window q p.system c f

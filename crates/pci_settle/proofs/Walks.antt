@@ -1,14 +1,18 @@
 -- A walk along a list that looks for something, or keeps something: what is left of it.
-use Rattle.std.proofs.Common.{◌≡◌, ◌||◌, ℕ, zero, suc, ◌+◌, ◌<◌, ◌≤◌, List, [], ◌∷◌, ◌++◌, map, length, drop, cond, not, get_or, arith, ap, sym, ◌∙◌, refl, true, false, Bool, append_assoc, None}
+use Rattle.std.proofs.Common.{◌≡◌, ◌||◌, ◌&&◌, inl, inr, ℕ, zero, suc, ◌+◌, ◌<◌, ◌≤◌, List, [], ◌∷◌, ◌++◌, map, length, drop, cond, not, get_or, arith, ap, sym, ◌∙◌, refl, true, false, Bool, append_assoc, None}
 use Rattle.std.specs.List.{list_any, filter}
+use Rattle.std.proofs.lemmas.Bool.{cases_Bool}
 use Rattle.std.proofs.lemmas.List.{at_drop_more, get_or-map, length-map, append-nil, map-append}
 use Rattle.pci_spec.specs.Decoded.{Range}
+use Rattle.pci_spec.specs.Window.{WindowKind}
 use Rattle.settle_spec.specs.FirstPlace.{ranges_are_apart}
 use Rattle.settle_spec.specs.Lists as lists
+use Rattle.settle_spec.specs.Parts.{lies_within}
+use Rattle.settle_spec.specs.Stands.{is_listed}
 use Rattle.pci_base.specs.declared.range.Range.{Range as CodeRange}
 use Rattle.pci_base.specs.Ranges.{decoded_range_of}
 use Rattle.pci_base.specs.declared.range.RootRange.{RootRange}
-use Rattle.pci_settle.specs.Lists.{root_range_value}
+use Rattle.pci_settle.specs.Lists.{root_range_value, root_range_holds}
 
 -- what an index past the end is read as
 abbrev pub no_range : RootRange
@@ -80,6 +84,23 @@ module _ {X Y Z : Type 0} (v : X → Y) (p : Y → Bool) (f : Y → Z) where
 
 abbrev pub had : ℕ → List lists.RootRange → List Range
 had bus list = map (λ (r : lists.RootRange). r.range) (filter (λ r. lists.is_had_by r.root bus) list)
+
+-- one of the ranges that a root has holds another
+pub any_had : (bus : ℕ) (r : Range) (list : List lists.RootRange) → list_any (root_range_holds bus r) list ≡ list_any (lies_within r) (had bus list)
+any_had bus r [] = refl
+any_had bus r (one ∷ list) = elim (cases_Bool (lists.is_had_by one.root bus)) [
+  | inl has ↦ ap (λ b. (b && lies_within r one.range) || list_any (root_range_holds bus r) list) has
+      ∙ ap (λ b. lies_within r one.range || b) (any_had bus r list)
+      ∙ sym (ap (λ b. list_any (lies_within r) (map (λ (r : lists.RootRange). r.range) (cond b (one ∷ filter (λ (r : lists.RootRange). lists.is_had_by r.root bus) list) (filter (λ (r : lists.RootRange). lists.is_had_by r.root bus) list)))) has)
+  | inr not ↦ ap (λ b. (b && lies_within r one.range) || list_any (root_range_holds bus r) list) not
+      ∙ any_had bus r list
+      ∙ sym (ap (λ b. list_any (lies_within r) (map (λ (r : lists.RootRange). r.range) (cond b (one ∷ filter (λ (r : lists.RootRange). lists.is_had_by r.root bus) list) (filter (λ (r : lists.RootRange). lists.is_had_by r.root bus) list)))) not)
+]
+
+-- of the list of a class
+pub listed_is : (q : lists.Request) (l : lists.Lists) → q.lists ≡ l → (bus : ℕ) (r : Range) (c : WindowKind) → list_any (root_range_holds bus r) (lists.list_of l c) ≡ is_listed q bus r c
+listed_is q l same bus r c =
+    any_had bus r (lists.list_of l c) ∙ ap (λ x. list_any (lies_within r) (had bus (lists.list_of x c))) (sym same)
 
 module _ (bus : ℕ) (list : List RootRange) (n : ℕ) (ranges : List CodeRange) where
   pub had_more : (d : RootRange) (new : List CodeRange) → n < length list → map decoded_range_of ranges ++ had bus (drop n (map root_range_value list)) ≡ had bus (map root_range_value list)

@@ -1,5 +1,5 @@
 //! What is to be placed: so many addresses from a multiple of an alignment on.
-ghost use Rattle.std.specs.Prelude.{◌≡◌, ◌-◌, ◌<◌, ◌^◌, SomeIff};
+ghost use Rattle.std.specs.Prelude.{◌≡◌, ◌-◌, ◌<◌, ◌^◌, min, SomeIff};
 ghost use Rattle.plan_spec.specs.Place.{range_from};
 ghost use Rattle.settle_spec.specs.FirstPlace.{is_high};
 ghost use Rattle.pci_settle.specs.Spots.{extent_value};
@@ -24,6 +24,19 @@ impl Extent {
             (range_from at self.size).last }
     {
         at.checked_add(self.size - 1)
+    }
+
+    /// The same where it may have no address above this one either.
+    pub fn held_by(self, highest: u64) -> Extent
+        ensures size { result.size ≡ self.size }
+        ensures alignment { result.alignment ≡ self.alignment }
+        ensures highest { result.highest ≡ min self.highest highest }
+    {
+        Extent {
+            size: self.size,
+            alignment: self.alignment,
+            highest: self.highest.min(highest),
+        }
     }
 
     /// Whether it may lie above 4 GB.

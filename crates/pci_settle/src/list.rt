@@ -5,14 +5,20 @@ ghost use Rattle.pci_spec.specs.Bus.{is_root};
 ghost use Rattle.plan_spec.specs.Plan.{is_backward};
 ghost use Rattle.settle_spec.specs.Lists as lists;
 ghost use Rattle.settle_spec.specs.FirstPlace.{ranges_are_apart as are_ranges_apart};
+ghost use Rattle.settle_spec.specs.Stands.{is_in_lists as lists_hold};
 ghost use Rattle.pci_tree.specs.Roots.{buses_of};
 ghost use Rattle.pci_base.specs.Ranges.{decoded_range_of};
-ghost use Rattle.pci_settle.specs.Lists.{root_range_value, lists_value};
+ghost use Rattle.pci_base.specs.Space.{space_of};
+ghost use Rattle.pci_base.specs.WindowKinds.{kind_value};
+ghost use Rattle.pci_settle.specs.Lists.{root_range_value, lists_value, root_range_holds};
 ghost use Rattle.pci_settle.specs.Slots.{demand_value, demand_in_io};
 
+use crate::over::is_within;
 use crate::slots::Slots;
 use pci_base::memory::OutOfMemory;
 use pci_base::range::{Range, RootRange};
+use pci_base::space::Space;
+use pci_base::window_kind::WindowKind;
 use pci_tree::roots::Roots;
 use std::alloc::Allocator;
 
@@ -29,7 +35,7 @@ pub struct Lists<'a> {
 }
 
 /// Whether a range of this root is had by a root bus.
-fn is_had_by(root: Option<u8>, bus: u8) -> bool
+pub fn is_had_by(root: Option<u8>, bus: u8) -> bool
     ensures { result ≡ lists.is_had_by root bus }
 {
     match root {
@@ -55,6 +61,26 @@ pub fn ranges_of<A: Allocator>(
         }
     }
     Ok(ranges)
+}
+
+/// Whether a root has a range that holds another.
+pub fn has_range(one: RootRange, bus: u8, range: Range) -> bool
+    ensures { result ≡ root_range_holds bus (decoded_range_of range) (root_range_value one) }
+{
+    is_had_by(one.root, bus) && is_within(range, one.range)
+}
+
+/// Whether a root has a range in a list that holds another.
+fn is_listed(list: &[RootRange], bus: u8, range: Range) -> bool
+    ensures { result ≡ list_any (root_range_holds bus (decoded_range_of range))
+        (map root_range_value list.now) }
+{
+    for one in list {
+        if has_range(*one, bus, range) {
+            return true;
+        }
+    }
+    false
 }
 
 /// Whether a bus is a root.
@@ -158,6 +184,28 @@ impl<'a> Lists<'a> {
             mem: &[],
             pref: &[],
             slots: self.slots,
+        }
+    }
+
+    /// The list of a class.
+    pub fn of(&self, class: WindowKind) -> &[RootRange]
+        ensures { map root_range_value result.now ≡ lists.list_of (lists_value self.now) (kind_value class) }
+    {
+        match class {
+            WindowKind::Io => self.io,
+            WindowKind::Memory => self.mem,
+            WindowKind::Prefetchable => self.pref,
+        }
+    }
+
+    /// Whether a root has a range of a space that holds another.
+    pub fn hold(&self, bus: u8, space: Space, range: Range) -> bool
+        ensures { (q : lists.Request) → q.lists ≡ lists_value self.now
+            → result ≡ lists_hold q bus (decoded_range_of range) (space_of space) }
+    {
+        match space {
+            Space::Io => is_listed(self.io, bus, range),
+            Space::Mem => is_listed(self.mem, bus, range) || is_listed(self.pref, bus, range),
         }
     }
 

@@ -36,7 +36,7 @@ impl Slots<'_> {
     }
 
     /// How many addresses of a class are wanted behind each slot.
-    fn of_class(&self, class: WindowKind) -> u64
+    pub fn of_class(&self, class: WindowKind) -> u64
         ensures { result ≡ wanted_of self.now (kind_value class) }
     {
         let wanted = match class {

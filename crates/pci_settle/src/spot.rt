@@ -1,7 +1,7 @@
 //! The first free place in ranges of addresses.
 ghost use Rattle.std.specs.Prelude.{ℕ, ◌≡◌, ◌≤◌, ◌<◌, ◌+◌, ◌^◌, IfSome, IfNone, IsTrue, List, map, SomeIff};
 ghost use Rattle.std.specs.List.Sorted.{IsPermutation};
-ghost use Rattle.settle_spec.specs.FirstPlace.{is_spot, ends_by as place_ends_in, first_place_in, first_place as place_in_ranges};
+ghost use Rattle.settle_spec.specs.FirstPlace.{is_spot, ends_by as place_ends_in, first_spot as spot_from, first_place_in, first_place as place_in_ranges};
 ghost use Rattle.plan_spec.specs.Plan.{raised_to};
 ghost use Rattle.plan_spec.specs.Place.{range_from};
 ghost use Rattle.pci_base.specs.Ranges.{decoded_range_of};
@@ -111,6 +111,9 @@ pub fn first_spot(taken: &[Range], low: u64, extent: Extent) -> Option<Spot>
     ensures none { IfNone result ((b : ℕ)
         → IsTrue (is_spot low (map decoded_range_of taken.now) (extent_value extent) b)
         → 2 ^ 64 ≤ (range_from b extent.size).last) }
+    ensures place { SomeIff (spot_place result)
+        ((range_from (spot_from low (map decoded_range_of taken.now) (extent_value extent)) extent.size).last < 2 ^ 64)
+        (spot_from low (map decoded_range_of taken.now) (extent_value extent)) }
 {
     next_spot(taken, low, Spot::lowest(), extent)
 }
@@ -140,6 +143,20 @@ fn spot_in(range: Range, taken: &[Range], from: Spot, extent: Extent) -> Option<
     } else {
         None
     }
+}
+
+/// The first place in a range.
+pub fn place_in(range: Range, taken: &[Range], extent: Extent) -> Option<u64>
+    // without an address it has no last one, and of 0 there is no multiple
+    requires extent { IsExtent extent }
+    // what is free lies between two that follow one another
+    requires order { FirstsRise taken.now }
+    ensures place { result ≡ first_place_in (decoded_range_of range) (map decoded_range_of taken.now) (extent_value extent) }
+    // so its last address can be told
+    ensures ends { IfSome result (λ at. (range_from at extent.size).last < 2 ^ 64) }
+{
+    let spot = spot_in(range, taken, Spot::lowest(), extent)?;
+    Some(spot.at)
 }
 
 /// Whether a range has a place from `start` on; `start` goes to the first one of the first range that has any.

@@ -146,7 +146,7 @@ fn extents_of<A: Allocator>(alloc: A, items: &[Item]) -> Result<Vec<Extent, A>, 
 }
 
 /// The extent of a spare: whole pages, as aligned as the greatest power of two that divides their size. None where that is 2^64.
-fn spare_extent(class: WindowKind, wanted: u64, highest: u64) -> Option<Extent>
+pub fn spare_extent(class: WindowKind, wanted: u64, highest: u64) -> Option<Extent>
     // a spare without addresses is none
     requires { 0 < wanted }
     ensures around { IsAround (spare_extent (kind_value class) wanted highest) result }
