@@ -1,12 +1,9 @@
-pub mod Raised
-pub mod Spots
 pub mod Walks
 pub mod Wishing
 pub mod Ranks
 pub mod There
 pub mod Rising
 pub mod Ended
-pub mod Highest
 pub mod Facts
 pub mod Weights
 pub mod Told

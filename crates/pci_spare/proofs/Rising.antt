@@ -1,18 +1,8 @@
--- Ranges by rising first addresses.
-use Rattle.std.proofs.Common.{◌≡◌, ℕ, ◌+◌, ◌-◌, ◌<◌, ◌≤◌, inl, inr, List, length, get_or, subst, ap, ◌∙◌, arith}
-use Rattle.std.specs.List.Sorted.{IsNonDecreasingBy}
+-- Ranges by rising last addresses, up to an index.
+use Rattle.std.proofs.Common.{◌≡◌, ℕ, ◌+◌, ◌-◌, ◌<◌, ◌≤◌, inl, inr, List, length, get_or, ap, ◌∙◌, arith}
 use Rattle.std.proofs.lemmas.Bool.{cases_lt}
 use Rattle.std.proofs.lemmas.List.{get_or_default}
 use Rattle.pci_base.specs.declared.range.Range.{Range}
-use Rattle.pci_spare.specs.Spots.{FirstsRise}
-
-pub firsts_sorted : (xs : List Range) → FirstsRise xs → IsNonDecreasingBy (λ (r : Range). r.first) xs
-firsts_sorted xs rise j k d le within = elim (cases_lt j k) [
-  | inl less ↦ rise j k d less within
-  | inr from ↦
-      let same : j ≡ k = omega (arith, le, from) in
-      subst (λ n. (get_or xs j d).first ≤ (get_or xs n d).first) same (omega arith)
-]
 
 -- last addresses rise before an index
 abbrev pub LastsRiseTo : List Range → ℕ → Type 0

@@ -13,11 +13,11 @@ use Rattle.pci_spare.specs.declared.board.Board.{Board}
 use Rattle.pci_spare.specs.declared.board.BridgeWindow.{BridgeWindow}
 use Rattle.pci_base.specs.declared.range.Range.{Range as CodeRange}
 use Rattle.pci_base.specs.Ranges.{decoded_range_of}
-use Rattle.pci_spare.specs.declared.extent.Extent.{Extent}
+use Rattle.pci_settle.specs.declared.extent.Extent.{Extent}
 use Rattle.pci_spare.specs.declared.board.Facts.{Facts}
 use Rattle.pci_spare.specs.declared.ending.Around.{Around}
 use Rattle.pci_spare.specs.declared.ending.Around.TheVariants.{Nothing, Lists, Window}
-use Rattle.pci_spare.specs.Spots.{extent_value}
+use Rattle.pci_settle.specs.Spots.{extent_value}
 use Rattle.pci_spare.specs.Board.{IsWindow, class_of, bridge_of, Room, IsTold}
 
 -- where nothing is kept that way nothing changed

@@ -1,8 +1,5 @@
-pub mod Spots
-pub mod Tables
 pub mod Lists
 pub mod Rows
-pub mod Highest
 pub mod Board
 pub mod Endings
 pub mod Granting

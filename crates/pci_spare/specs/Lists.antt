@@ -1,31 +1,13 @@
--- Lists of ranges of the code as those of the definitions.
-use Rattle.std.specs.Prelude.{ℕ, Bool, ◌&&◌, if◌then◌else◌, List, map, Option, None}
+-- The ranges of a list that a root has, and the first place in one.
+use Rattle.std.specs.Prelude.{ℕ, if◌then◌else◌, List, map, Option, None}
 use Rattle.std.specs.List.{filter}
 use Rattle.pci_spec.specs.Decoded.{Range}
 use Rattle.settle_spec.specs.FirstPlace.{Extent, first_place_in}
 use Rattle.settle_spec.specs.Lists as lists
-use Rattle.settle_spec.specs.Parts.{lies_within}
-use Rattle.pci_base.specs.Ranges.{decoded_range_of}
-use Rattle.pci_base.specs.declared.range.RootRange.{RootRange}
-use Rattle.pci_spare.specs.declared.list.Lists.{Lists}
-
-abbrev pub root_range_value : RootRange → lists.RootRange
-root_range_value r = record { root = r.root; range = decoded_range_of r.range }
-
-abbrev pub lists_value : Lists → lists.Lists
-lists_value l = record {
-  io = map root_range_value l.io.now;
-  memory = map root_range_value l.mem.now;
-  prefetch = map root_range_value l.pref.now;
-}
 
 -- the ranges of a list that a root has
 abbrev pub ranges_had : ℕ → List lists.RootRange → List Range
 ranges_had bus list = map (λ (r : lists.RootRange). r.range) (filter (λ r. lists.is_had_by r.root bus) list)
-
--- whether a root has a range that holds another
-abbrev pub root_range_holds : ℕ → Range → lists.RootRange → Bool
-root_range_holds bus range one = lists.is_had_by one.root bus && lies_within range one.range
 
 -- the first place in a range, where a root has it
 abbrev pub place_had : ℕ → List Range → Extent → lists.RootRange → Option ℕ

@@ -1,12 +1,12 @@
 -- What is there, row by row: of a bus and a space, all roots being one bus.
-use Rattle.std.specs.Prelude.{◌≡◌, ℕ, ◌+◌, ◌*◌, if◌then◌else◌, List, [], slice_index_or}
+use Rattle.std.specs.Prelude.{◌≡◌, ℕ, ◌+◌, ◌*◌, ◌<◌, ◌≤◌, if◌then◌else◌, List, [], length, slice_index_or}
 use Rattle.std.specs.List.{All, Contains, sum_by}
 use Rattle.pci_spec.specs.Decoded.{Range as DecodedRange}
 use Rattle.pci_spec.specs.System.{Space, Io, Memory}
 use Rattle.pci_spec.specs.Bus.{is_root}
 use Rattle.pci_base.specs.declared.range.Range.{Range}
 use Rattle.pci_base.specs.Ranges.{decoded_range_of}
-use Rattle.pci_spare.specs.Spots.{FirstsRise}
+use Rattle.pci_settle.specs.Spots.{FirstsRise}
 
 -- the weight of all ranges of a row, whatever each of them weighs
 abbrev pub total : (DecodedRange → ℕ) → List Range → ℕ
@@ -36,6 +36,12 @@ row_at rows number = slice_index_or rows number []
 -- they stand by rising first addresses
 abbrev pub AreOrdered : List (List Range) → Type 0
 AreOrdered rows = All FirstsRise rows
+
+-- no last address of a row is below one before it
+abbrev pub LastsRise : List Range → Type 0
+LastsRise row =
+    (j k : ℕ) (d : Range) → j < k → k < length row
+    → (slice_index_or row j d).last ≤ (slice_index_or row k d).last
 
 -- one range of a row ends later
 abbrev pub IsEndedIn : List Range → List Range → Range → ℕ → Type 0

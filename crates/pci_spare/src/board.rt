@@ -2,18 +2,15 @@
 ghost use Rattle.std.specs.Prelude.{◌≡◌, ◌<◌, length, false, slice_index_or, IfSome};
 ghost use Rattle.pci_spec.specs.System.{System};
 ghost use Rattle.settle_spec.specs.Lists.{Request};
-ghost use Rattle.pci_base.specs.WindowKinds.{kind_value};
-ghost use Rattle.pci_place.specs.Above.{is_wide_in};
 ghost use Rattle.pci_tree.specs.Ways.{IsBridgeToBus};
-ghost use Rattle.pci_spare.specs.Highest.{highest_by};
 ghost use Rattle.pci_spare.specs.Board.{IsAsked, bridge_of, class_of, HasFacts, IsOver};
 
-use crate::list::Lists;
-use crate::table::WindowRanges;
 use pci_base::slot::BUSES;
 use pci_base::window_kind::WindowKind;
 use pci_function::record::Record;
-use pci_image::window::{Window, Windows};
+use pci_settle::list::Lists;
+use pci_settle::new_window::highest_in;
+use pci_settle::table::WindowRanges;
 use pci_tree::roots::Roots;
 
 /// The functions of a system, and what is asked of it.
@@ -52,28 +49,6 @@ pub struct Facts {
     pub fixed: bool,
     /// The highest address that it can hold.
     pub highest: u64,
-}
-
-/// Whether a window is there and has upper halves.
-fn has_upper_halves(window: Option<Window>) -> bool
-    ensures { result ≡ is_wide_in window }
-{
-    match window {
-        Some(window) => window.wide(),
-        None => false,
-    }
-}
-
-/// The highest address that the window of a class can hold: one of I/O or prefetchable memory may have upper halves.
-fn highest_in(class: WindowKind, windows: &Windows) -> u64
-    ensures { result ≡ highest_by (kind_value class) windows.now }
-{
-    match class {
-        WindowKind::Io if has_upper_halves(windows.io) => 0xffff_ffff,
-        WindowKind::Io => 0xffff,
-        WindowKind::Prefetchable if has_upper_halves(windows.pref) => u64::MAX,
-        WindowKind::Memory | WindowKind::Prefetchable => 0xffff_ffff,
-    }
 }
 
 /// The flag of a function; false of one that has none.

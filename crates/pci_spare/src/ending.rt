@@ -12,16 +12,17 @@ ghost use Rattle.pci_tree.specs.Roots.{buses_of};
 ghost use Rattle.pci_tree.specs.Ways.{IsBridgeToBus};
 ghost use Rattle.pci_spare.specs.Rows.{level, row_number, row_at};
 ghost use Rattle.pci_spare.specs.Board.{room_value, IsAsked, IsWindow, AreFacts, bridge_of, class_of, AreRising, IsRoom, IsTold};
-ghost use Rattle.pci_spare.specs.Spots.{FirstsRise};
+ghost use Rattle.pci_settle.specs.Spots.{FirstsRise};
 ghost use Rattle.pci_spare.specs.Endings.{IsEndedAs, IsAround, IsAroundIn};
 
 use crate::board::{Board, BridgeWindow, Facts};
 use crate::half::end_over;
 use crate::room::Room;
-use crate::row::{is_free_to, is_root, row};
+use crate::row::{is_free_to, row};
 use pci_base::range::Range;
 use pci_base::space::Space;
 use pci_base::window_kind::WindowKind;
+use pci_settle::list::is_root;
 use std::alloc::Allocator;
 
 /// What is around a window.

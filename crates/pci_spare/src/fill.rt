@@ -7,19 +7,18 @@ ghost use Rattle.settle_spec.specs.Lists.{Request};
 ghost use Rattle.settle_spec.specs.Kept.{Kept};
 ghost use Rattle.pci_tree.specs.Roots.{buses_of};
 ghost use Rattle.pci_spare.specs.Board.{room_value, IsAsked, IsRoom, IsTold};
-ghost use Rattle.pci_spare.specs.Rows.{total, row_at};
-ghost use Rattle.pci_spare.specs.Spots.{LastsRise};
+ghost use Rattle.pci_spare.specs.Rows.{total, row_at, LastsRise};
 ghost use Rattle.pci_spare.specs.Located.{located_total, window_weight, function_weight, windows_total, ArePut, IsPushed, AreSorted, AreOwn, AreWindowsThen};
 
 use crate::board::{Board, BridgeWindow};
 use crate::room::Room;
 use crate::row::{ROWS, lasts_rise, row};
-use crate::spot::sort_by_first;
-use crate::table::{nothing_told, told_of};
 use pci_base::memory::OutOfMemory;
 use pci_base::range::Range;
 use pci_base::space::Space;
 use pci_base::window_kind::WindowKind;
+use pci_settle::spot::sort_by_first;
+use pci_settle::table::{nothing_told, told_of};
 use pci_tree::roots::Roots;
 use std::alloc::Allocator;
 

@@ -13,11 +13,11 @@ ghost use Rattle.pci_spare.specs.Board.{room_value, class_of, bridge_of, IsRoom,
 ghost use Rattle.pci_spare.specs.Granting.{spare_in, AreExtents, AreSpares, AreGranted, SparesAreTold};
 
 use crate::board::{Board, BridgeWindow, flag_of};
-use crate::extent::Extent;
 use crate::room::Room;
 use crate::sparing::{DEPTH, spared};
 use pci_base::memory::OutOfMemory;
 use pci_base::window_kind::{ByKind, WindowKind};
+use pci_settle::extent::Extent;
 use std::alloc::Allocator;
 
 /// What is wanted behind slots.

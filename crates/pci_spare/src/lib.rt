@@ -8,7 +8,6 @@
 
 pub mod board;
 pub mod ending;
-pub mod extent;
 pub mod fill;
 pub mod granting;
 pub mod half;
@@ -16,5 +15,3 @@ pub mod list;
 pub mod room;
 pub mod row;
 pub mod sparing;
-pub mod spot;
-pub mod table;

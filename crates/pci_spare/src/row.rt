@@ -5,26 +5,19 @@ ghost use Rattle.settle_spec.specs.FirstPlace.{ranges_are_apart};
 ghost use Rattle.settle_spec.specs.Wishes.{gained};
 ghost use Rattle.pci_base.specs.Ranges.{decoded_range_of};
 ghost use Rattle.pci_base.specs.Space.{space_of};
-ghost use Rattle.pci_spec.specs.Bus.{is_root};
 ghost use Rattle.pci_tree.specs.Roots.{buses_of};
-ghost use Rattle.pci_spare.specs.Rows.{level, row_number, IsEndedIn, IsAddedTo};
-ghost use Rattle.pci_spare.specs.Spots.{FirstsRise, LastsRise};
+ghost use Rattle.pci_spare.specs.Rows.{level, row_number, IsEndedIn, IsAddedTo, LastsRise};
+ghost use Rattle.pci_settle.specs.Spots.{FirstsRise};
 
 use pci_base::memory::OutOfMemory;
 use pci_base::range::Range;
 use pci_base::space::Space;
+use pci_settle::list::is_root;
 use pci_tree::roots::Roots;
 use std::alloc::Allocator;
 
 /// How many rows there are: one for each space on the roots, and on each of 256 buses.
 pub const ROWS: usize = 514;
-
-/// Whether a bus is a root.
-pub fn is_root(roots: &Roots, bus: u8) -> bool
-    ensures { result ≡ is_root (buses_of roots.now) bus }
-{
-    roots.has(bus)
-}
 
 /// The row of what is on a bus in a space.
 pub fn row(roots: &Roots, bus: u8, space: Space) -> usize

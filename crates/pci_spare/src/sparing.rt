@@ -8,19 +8,19 @@ ghost use Rattle.settle_spec.specs.Kept.{Kept};
 ghost use Rattle.settle_spec.specs.Wishes.{spared_within};
 ghost use Rattle.pci_tree.specs.Ways.{IsBridgeToBus};
 ghost use Rattle.pci_spare.specs.Rows.{row_at};
-ghost use Rattle.pci_spare.specs.Spots.{extent_value, extent_range, IsExtent, FirstsRise};
+ghost use Rattle.pci_settle.specs.Spots.{extent_value, extent_range, IsExtent, FirstsRise};
 ghost use Rattle.pci_spare.specs.Board.{room_value, told_then, IsWindow, AreFacts, bridge_of, class_of, IsRoom, IsTold, IsOpened};
 ghost use Rattle.pci_spare.specs.Endings.{IsSparedAs, IsSparedOnRoot, IsSparedIn};
 
 use crate::board::{Board, BridgeWindow, Facts};
 use crate::ending::{end_by, window_row};
-use crate::extent::Extent;
 use crate::list::first_place;
 use crate::room::Room;
-use crate::row::is_root;
-use crate::spot::first_spot;
 use pci_base::memory::OutOfMemory;
 use pci_base::range::Range;
+use pci_settle::extent::Extent;
+use pci_settle::list::is_root;
+use pci_settle::spot::first_spot;
 use std::alloc::Allocator;
 
 /// Buses rise on the way down, so no more of them are above one another.
@@ -49,15 +49,15 @@ fn spared_in<A: Allocator>(
         return None;
     };
     let row = window_row(board, facts.behind, window.class);
-    let Some(at) = first_spot(room.row(row), range.first, extent) else {
+    let Some(spot) = first_spot(room.row(row), range.first, extent) else {
         return None;
     };
-    let last = at + (extent.size - 1);
+    let last = spot.at + (extent.size - 1);
     if extent.highest < last {
         return None;
     }
     if end_by(board, room, window, last, DEPTH) {
-        Some(at)
+        Some(spot.at)
     } else {
         None
     }

@@ -1,6 +1,6 @@
 use Rattle.std.proofs.Common.{◌+◌, ◌<◌, ◌∙◌, map, length, arith, subst, sym}
 use Rattle.std.proofs.lemmas.List.{length-map}
-use Rattle.pci_spare.specs.Spots.{LastsRise}
+use Rattle.pci_spare.specs.Rows.{LastsRise}
 use Rattle.pci_spare.proofs.Rooms.{row_of}
 use Rattle.pci_spare.proofs.Flags.{AreFlagsTo, flags_next}
 use Rattle.pci_spare.proofs.fill.rising_rows.Goals as goal

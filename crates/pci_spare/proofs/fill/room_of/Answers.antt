@@ -4,8 +4,8 @@ use Rattle.std.specs.Vec.{with_items}
 use Rattle.std.proofs.lemmas.List.{length-map}
 use Rattle.pci_tree.specs.Roots.{buses_of}
 use Rattle.pci_spare.specs.Board.{IsTold}
-use Rattle.pci_spare.specs.Spots.{FirstsRise, LastsRise}
-use Rattle.pci_spare.specs.Rows.{row_at}
+use Rattle.pci_settle.specs.Spots.{FirstsRise}
+use Rattle.pci_spare.specs.Rows.{row_at, LastsRise}
 use Rattle.pci_spare.proofs.Rooms.{rewritten}
 use Rattle.pci_spare.proofs.Filled.{empty_rows, told_first, put_from, sorted_from}
 use Rattle.pci_spare.proofs.fill.room_of.Goals as goal

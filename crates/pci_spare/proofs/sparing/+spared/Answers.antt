@@ -5,7 +5,7 @@ use Rattle.settle_spec.specs.Parts.{bridge_over}
 use Rattle.settle_spec.specs.Wishes.{spared_within}
 use Rattle.pci_place.specs.Items.{function_in}
 use Rattle.pci_spare.specs.Board.{room_value, class_of}
-use Rattle.pci_spare.specs.Spots.{extent_value}
+use Rattle.pci_settle.specs.Spots.{extent_value}
 use Rattle.pci_spare.specs.Endings.{IsSparedAs}
 use Rattle.pci_spare.proofs.Around.{root_is, over_one}
 use Rattle.pci_spare.proofs.Sparings.{of_zero, of_open, of_cannot, cannot_there, cannot_fixed, can_both, of_root, of_nothing, of_above_no, of_above_yes}

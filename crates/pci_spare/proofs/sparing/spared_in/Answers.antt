@@ -5,7 +5,7 @@ use Rattle.settle_spec.specs.FirstPlace.{first_spot}
 use Rattle.pci_base.specs.declared.range.Range.{Range}
 use Rattle.pci_base.specs.Ranges.{decoded_range_of}
 use Rattle.pci_spare.specs.Board.{room_value}
-use Rattle.pci_spare.specs.Spots.{extent_value, FirstsRise}
+use Rattle.pci_settle.specs.Spots.{extent_value, FirstsRise}
 use Rattle.pci_spare.proofs.Sparings.{in_none, in_high, in_no, in_yes}
 use Rattle.pci_spare.proofs.sparing.spared_in.Goals as goal
 
@@ -20,12 +20,12 @@ returns-in_default-first_spot-clause-spared g c = λ q s k told window has.
     let spot_in = λ (xs : List Range). first_spot c.args.range.first (map decoded_range_of xs) (extent_value c.args.extent) in
     let small : c.args.extent.highest < 2 ^ 64 = search rules in
     in_none q s k c.args.board.now (room_value c.args.room.now) told c.args.window window c.args.extent c.requires.extent c.args.range c.in-Some.facts (c.in-Some.ensures q s told.asked)
-    c.window_row-row.result c.window_row-row.ensures.row _ (ap spot_in c.row.ensures) small c.in_default-first_spot.ensures
+    c.window_row-row.result c.window_row-row.ensures.row _ (ap spot_in c.row.ensures) small c.in_default-first_spot.ensures.place
 
 pub returns-then-extent-last-clause-spared : goal.returns-then-extent-last-clause-spared
 returns-then-extent-last-clause-spared g c = λ q s k told window has.
     let spot_in = λ (xs : List Range). first_spot c.args.range.first (map decoded_range_of xs) (extent_value c.args.extent) in
-    let at = c.in-Some-first_spot.ensures.1 ∙ ap spot_in c.row.ensures in
+    let at = c.in-Some-first_spot.ensures.place.1 ∙ ap spot_in c.row.ensures in
     let high = c.if-extent-last.true in
     in_high q s k c.args.board.now (room_value c.args.room.now) told c.args.window window c.args.extent c.requires.extent c.args.range c.in-Some.facts (c.in-Some.ensures q s told.asked)
     c.window_row-row.result c.window_row-row.ensures.row (omega (arith, at, high))
@@ -33,17 +33,17 @@ returns-then-extent-last-clause-spared g c = λ q s k told window has.
 pub returns-then-end_by-clause-spared : goal.returns-then-end_by-clause-spared
 returns-then-end_by-clause-spared g c = λ q s k told window has.
     let spot_in = λ (xs : List Range). first_spot c.args.range.first (map decoded_range_of xs) (extent_value c.args.extent) in
-    let at = c.in-Some-first_spot.ensures.1 ∙ ap spot_in c.row.ensures in
+    let at = c.in-Some-first_spot.ensures.place.1 ∙ ap spot_in c.row.ensures in
     let low = c.if-extent-last.false in
     in_yes q s k c.args.board.now (room_value c.args.room.now) told c.args.window window c.args.extent c.requires.extent c.args.range c.in-Some.facts (c.in-Some.ensures q s told.asked)
-    c.window_row-row.result c.window_row-row.ensures.row (omega (arith, at, low)) c.in-Some-first_spot.at at (room_value c.end_by.new.room)
+    c.window_row-row.result c.window_row-row.ensures.row (omega (arith, at, low)) c.in-Some-first_spot.spot.at at (room_value c.end_by.new.room)
     (c.if-end_by.ensures.ended q s k told window)
 
 pub returns-else-end_by-clause-spared : goal.returns-else-end_by-clause-spared
 returns-else-end_by-clause-spared g c = λ q s k told window has.
     let spot_in = λ (xs : List Range). first_spot c.args.range.first (map decoded_range_of xs) (extent_value c.args.extent) in
-    let at = c.in-Some-first_spot.ensures.1 ∙ ap spot_in c.row.ensures in
+    let at = c.in-Some-first_spot.ensures.place.1 ∙ ap spot_in c.row.ensures in
     let low = c.if-extent-last.false in
     in_no q s k c.args.board.now (room_value c.args.room.now) told c.args.window window c.args.extent c.requires.extent c.args.range c.in-Some.facts (c.in-Some.ensures q s told.asked)
-    c.window_row-row.result c.window_row-row.ensures.row (omega (arith, at, low)) c.in-Some-first_spot.at at (room_value c.end_by.new.room)
+    c.window_row-row.result c.window_row-row.ensures.row (omega (arith, at, low)) c.in-Some-first_spot.spot.at at (room_value c.end_by.new.room)
     (c.if-end_by.ensures.ended q s k told window)

@@ -3,8 +3,9 @@ use Rattle.settle_spec.specs.FirstPlace.{first_place}
 use Rattle.pci_base.specs.declared.range.Range.{Range}
 use Rattle.pci_base.specs.Ranges.{decoded_range_of}
 use Rattle.pci_spare.specs.Board.{room_value}
-use Rattle.pci_spare.specs.Lists.{root_range_value, ranges_had}
-use Rattle.pci_spare.specs.Spots.{extent_value}
+use Rattle.pci_settle.specs.Lists.{root_range_value}
+use Rattle.pci_spare.specs.Lists.{ranges_had}
+use Rattle.pci_settle.specs.Spots.{extent_value}
 use Rattle.pci_spare.proofs.Sparings.{root_none, root_some}
 use Rattle.pci_spare.proofs.sparing.spared_on_root.Goals as goal
 
