@@ -1,4 +1,4 @@
-//! The first place in the ranges of a list that a root has, as they stand in the list.
+//! The first place in the ranges of a list that a root has, found without a copy of them.
 ghost use Rattle.std.specs.Prelude.{◌≡◌, ◌<◌, ◌^◌, map, IfSome};
 ghost use Rattle.plan_spec.specs.Place.{range_from};
 ghost use Rattle.settle_spec.specs.FirstPlace.{first_place as place_in_ranges};
