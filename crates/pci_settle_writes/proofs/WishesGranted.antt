@@ -31,18 +31,16 @@ use Rattle.pci_tree.proofs.Lifting.{same_slot_of}
 use Rattle.pci_place.specs.Items.{no_function, function_in}
 use Rattle.pci_place.proofs.Owned.{map_twice}
 use Rattle.pci_place.proofs.Records.{FunctionAt, function_at, same_count}
+use Rattle.pci_settle.specs.declared.extent.Extent.{Extent}
 use Rattle.pci_settle.specs.declared.list.Lists.{Lists}
 use Rattle.pci_settle.specs.declared.slots.Slots.{Slots}
 use Rattle.pci_settle.specs.Lists.{lists_value}
 use Rattle.pci_settle.specs.Keeping.{told_of_kind}
-use Rattle.pci_settle.specs.Tables.{untold}
+use Rattle.pci_settle.specs.Tables.{untold, told}
 use Rattle.pci_settle.specs.Slots.{wanted_of, spare_by, spares_value}
 use Rattle.pci_spare.specs.declared.board.Board.{Board}
 use Rattle.pci_spare.specs.declared.board.BridgeWindow.{BridgeWindow}
-use Rattle.pci_spare.specs.declared.extent.Extent.{Extent}
 use Rattle.pci_spare.specs.Board.{IsAsked, Room}
-use Rattle.pci_spare.specs.Lists.{lists_value as board_lists}
-use Rattle.pci_spare.specs.Tables.{told}
 use Rattle.pci_spare.specs.Granting.{spare_up_to, part_of, AreGranted, TellsSpares}
 use Rattle.pci_spare.proofs.Facts.{item_at}
 use Rattle.pci_settle_writes.specs.declared.settle.Denied.{Denied}
@@ -87,13 +85,13 @@ module _ (s : System) (records : List Record) (has : HasRecords s (map record_va
 
 -- ---- what is asked of a board
 
-pub board_asked : (p : Request) (s : System) (roots : Roots) (l : Lists) (b : Board) (fixed : List Bool) → IsAskedIn p s b.records.now roots l fixed → b.roots.now ≡ roots → lists_value l ≡ board_lists b.lists.now → b.fixed.now ≡ fixed → IsBridgeToBus b.records.now b.over.now → IsAsked p s b
+pub board_asked : (p : Request) (s : System) (roots : Roots) (l : Lists) (b : Board) (fixed : List Bool) → IsAskedIn p s b.records.now roots l fixed → b.roots.now ≡ roots → b.lists.now ≡ l → b.fixed.now ≡ fixed → IsBridgeToBus b.records.now b.over.now → IsAsked p s b
 board_asked p s roots l b fixed asked roots_are lists fixed_are over = record {
   has = asked.has;
   system = asked.system;
   nested = asked.nested;
   roots = asked.roots_are ∙ ap buses_of (sym roots_are);
-  lists = asked.lists_are ∙ lists;
+  lists = asked.lists_are ∙ sym (ap lists_value lists);
   over = over;
   fixed = flags_there s b.records.now asked.has p.fixed b.fixed.now (subst (AreFlagsOf b.records.now p.fixed) (sym fixed_are) asked.fixed_are);
 }

@@ -23,14 +23,13 @@ use crate::wishes_before::{own_before, windows_before};
 use pci_base::memory::OutOfMemory;
 use pci_base::window_kind::ByKind;
 use pci_function::record::Record;
+use pci_settle::extent::Extent;
 use pci_settle::list::Lists;
 use pci_settle::slots::Slots;
 use pci_settle::table::WindowRanges;
 use pci_spare::board::{Board, BridgeWindow};
-use pci_spare::extent::Extent;
 use pci_spare::fill::{Located, room_of};
 use pci_spare::granting::{Wanted, grant};
-use pci_spare::list::Lists as BoardLists;
 use pci_stand::fixed::flags_of;
 use pci_stand::place::bridges_over;
 use pci_tree::admitted::Admitted;
@@ -149,11 +148,7 @@ fn grant_by<A: Allocator + Copy>(
         records,
         roots,
         over: &bridges_over(records),
-        lists: &BoardLists {
-            io: lists.io,
-            mem: lists.mem,
-            pref: lists.pref,
-        },
+        lists,
         fixed: basis.fixed.as_slice(),
         windows: basis.windows.as_slice(),
     };
