@@ -12,7 +12,6 @@ pub mod RoomOver
 pub mod ReachByBus
 pub mod StandingRows
 pub mod AllRows
-pub mod Highest
 pub mod Reached
 pub mod FoundReaches
 pub mod Untold

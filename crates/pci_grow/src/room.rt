@@ -13,8 +13,7 @@ ghost use Rattle.pci_grow.specs.Rooms.{had_ranges, find_in_either, first_behind,
 
 use pci_base::range::{Range, RootRange};
 use pci_base::window_kind::WindowKind;
-use pci_settle::list::Lists;
-use pci_stand::place::has_range;
+use pci_settle::list::{Lists, has_range};
 
 /// The first range of a list that a root has and that holds another range.
 fn range_with(list: &[RootRange], bus: u8, range: Range) -> Option<Range>

@@ -1,8 +1,8 @@
 -- Whether a part is where it can stand, as the code tells it by its records.
-use Rattle.std.proofs.Common.{◌≡◌, ◌≢◌, ℕ, ◌+◌, ◌<◌, ◌%◌, ◌⊎◌, inl, inr, List, [], ◌∷◌, map, length, get_or, Bool, true, false, cond, ◌&&◌, ◌||◌, not, arith, sym, ◌∙◌, ap, subst, refl, Option, None, Some}
+use Rattle.std.proofs.Common.{◌≡◌, ◌≢◌, ℕ, ◌+◌, ◌<◌, ◌%◌, ◌⊎◌, inl, inr, List, length, get_or, Bool, true, false, cond, ◌&&◌, ◌||◌, not, arith, sym, ◌∙◌, ap, subst, refl, Option, None, Some}
 use Rattle.std.specs.Bool.{nat_le, ◌==◌}
 use Rattle.std.specs.Option.{is_some}
-use Rattle.std.specs.List.{filter, list_any, list_all}
+use Rattle.std.specs.List.{list_any, list_all}
 use Rattle.std.proofs.lemmas.Bool.{cases_Bool, and_parts, both_ways, eqb-true, not-false, false_from_ne_true, true_from_ne_false}
 use Rattle.std.proofs.lemmas.List.{get_or_default}
 use Rattle.std.proofs.lemmas.Option.{slice_get-get_or}
@@ -14,7 +14,7 @@ use Rattle.pci_spec.specs.Bus.{is_root}
 use Rattle.pci_spec.proofs.BusRanges.{all_gives, all_from}
 use Rattle.plan_spec.specs.Plan.{bridges_above, is_open, is_served}
 use Rattle.plan_spec.specs.Planning.Layout.{range_of}
-use Rattle.settle_spec.specs.Lists.{RootRange, Lists, Request, is_had_by, class_ranges}
+use Rattle.settle_spec.specs.Lists.{RootRange, Lists, Request}
 use Rattle.settle_spec.specs.Parts.{FunctionPart, addresses, lies_within, bridge_over, holds_range, upper_pools, is_empty, new_class, is_in_memory, is_in_prefetch, prefetchable_class, class_in}
 use Rattle.settle_spec.specs.Stands.{part_space, window_part, is_in_window, is_in_place}
 use Rattle.settle_spec.specs.Stands as settle
@@ -36,28 +36,11 @@ use Rattle.pci_settle.specs.declared.kept.Kept.{Kept}
 use Rattle.pci_settle.specs.Kept.{spec_part, kept_of, nothing_kept}
 use Rattle.pci_stand.specs.Tables.{stands_in}
 use Rattle.pci_settle.specs.Over.{range_holds}
-use Rattle.pci_stand.specs.Places.{is_listed_range, is_range_in_lists, bar_window, held_in, part_window, window_for, is_in_windows}
+use Rattle.pci_stand.specs.Places.{bar_window, held_in, part_window, window_for, is_in_windows}
 use Rattle.pci_stand.specs.Known.{Known, region_value, is_led}
 use Rattle.pci_stand.specs.Boards.{IsBoard, IsKnown, AreOpen}
 use Rattle.pci_stand.proofs.Indexes.{table_at}
 use Rattle.pci_stand.proofs.OfRecord.{window_is}
-
--- ---- on a root
-
-listed_same : (bus : ℕ) (r : Range) (list : List RootRange) → is_listed_range bus r list ≡ list_any (lies_within r) (map (λ (x : RootRange). x.range) (filter (λ (x : RootRange). is_had_by x.root bus) list))
-listed_same bus r [] = refl
-listed_same bus r (x ∷ list) =
-    let more = map (λ (y : RootRange). y.range) (filter (λ (y : RootRange). is_had_by y.root bus) list) in
-    elim (is_had_by x.root bus) as (λ b. ((b && lies_within r x.range) || is_listed_range bus r list) ≡ list_any (lies_within r) (map (λ (y : RootRange). y.range) (cond b (x ∷ filter (λ (y : RootRange). is_had_by y.root bus) list) (filter (λ (y : RootRange). is_had_by y.root bus) list)))) [
-      | true ↦ ap (λ b. lies_within r x.range || b) (listed_same bus r list)
-      | false ↦ listed_same bus r list
-    ]
-
-in_lists : (q : Request) (bus : ℕ) (r : Range) (space : Space) → is_range_in_lists q.lists bus space r ≡ settle.is_in_lists q bus r space
-in_lists q bus r Io = listed_same bus r q.lists.io
-in_lists q bus r Memory =
-    ap (λ b. b || is_listed_range bus r q.lists.prefetch) (listed_same bus r q.lists.memory)
-    ∙ ap (λ b. list_any (lies_within r) (class_ranges q MemoryWindow bus) || b) (listed_same bus r q.lists.prefetch)
 
 -- ---- a wide window is there
 
@@ -151,11 +134,9 @@ module _ (q : Request) (s : System) (records : List Record) (lists : Lists) (boa
           let same = level_same in
           omega (arith, low, high, same)
 
-  pub on_root : r.level ≡ 0 → is_range_in_lists lists r.bus (code.space_of r.space) (decoded_range_of r.range) ≡ is_in_place q s test v
+  pub on_root : r.level ≡ 0 → settle.is_in_lists q r.bus (decoded_range_of r.range) (code.space_of r.space) ≡ is_in_place q s test v
   on_root low =
-      ap (λ l. is_range_in_lists l r.bus (code.space_of r.space) (decoded_range_of r.range)) (sym board.same)
-      ∙ in_lists q r.bus (decoded_range_of r.range) (code.space_of r.space)
-      ∙ ap (λ n. settle.is_in_lists q n (decoded_range_of r.range) (code.space_of r.space)) bus_same
+      ap (λ n. settle.is_in_lists q n (decoded_range_of r.range) (code.space_of r.space)) bus_same
       ∙ ap (λ x. settle.is_in_lists q bus x (code.space_of r.space)) range_same
       ∙ ap (λ x. settle.is_in_lists q bus (addresses v) x) space_same
       ∙ sym (ap in_place_by (root_of low))

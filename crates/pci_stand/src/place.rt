@@ -1,24 +1,22 @@
 //! Whether a part lies where it can stand: in a range of its root, or in the window over it.
-ghost use Rattle.std.specs.Prelude.{◌≡◌, length, map};
-ghost use Rattle.std.specs.List.{list_any};
+ghost use Rattle.std.specs.Prelude.{◌≡◌, length};
 ghost use Rattle.pci_spec.specs.System.{System};
 ghost use Rattle.settle_spec.specs.Lists.{Request};
 ghost use Rattle.settle_spec.specs.Stands.{is_in_place};
 ghost use Rattle.pci_base.specs.Ranges.{decoded_range_of};
-ghost use Rattle.pci_base.specs.Space.{space_of};
 ghost use Rattle.pci_base.specs.WindowKinds.{kind_value};
 ghost use Rattle.pci_image.specs.Windows.{window_of};
 ghost use Rattle.pci_tree.specs.Passes.{range_in};
 ghost use Rattle.pci_tree.specs.Ways.{IsBridgeToBus};
 ghost use Rattle.pci_settle.specs.Over.{range_holds};
-ghost use Rattle.pci_settle.specs.Lists.{root_range_value, lists_value};
+ghost use Rattle.pci_settle.specs.Lists.{lists_value};
 ghost use Rattle.pci_stand.specs.Boards.{IsBoard, IsKnown, AreOpen};
 ghost use Rattle.pci_stand.specs.Known.{region_value};
 ghost use Rattle.pci_stand.specs.Tables.{stands_in};
-ghost use Rattle.pci_stand.specs.Places.{root_range_holds, is_range_in_lists, window_for, is_in_windows};
+ghost use Rattle.pci_stand.specs.Places.{window_for, is_in_windows};
 
 use crate::region::Region;
-use pci_base::range::{Range, RootRange};
+use pci_base::range::Range;
 use pci_base::slot::BUSES;
 use pci_base::space::Space;
 use pci_base::window_kind::WindowKind;
@@ -27,40 +25,6 @@ use pci_image::window::Windows;
 use pci_settle::kept::{Kept, Part};
 use pci_settle::list::Lists;
 use pci_settle::over::is_within;
-
-/// Whether a root has a range of a list that holds another.
-pub fn has_range(one: RootRange, bus: u8, range: Range) -> bool
-    ensures { result ≡ root_range_holds bus (decoded_range_of range) (root_range_value one) }
-{
-    match one.root {
-        Some(root) if root != bus => false,
-        _ => is_within(range, one.range),
-    }
-}
-
-/// Whether a root has a range in a list that holds another.
-fn is_listed(list: &[RootRange], bus: u8, range: Range) -> bool
-    ensures { result ≡ list_any (root_range_holds bus (decoded_range_of range))
-        (map root_range_value list.now) }
-{
-    for one in list {
-        if has_range(*one, bus, range) {
-            return true;
-        }
-    }
-    false
-}
-
-/// Whether a root has a range of a space that holds another.
-fn is_in_lists(lists: &Lists, bus: u8, space: Space, range: Range) -> bool
-    ensures { result ≡ is_range_in_lists (lists_value lists.now) bus (space_of space)
-        (decoded_range_of range) }
-{
-    match space {
-        Space::Io => is_listed(lists.io, bus, range),
-        Space::Mem => is_listed(lists.mem, bus, range) || is_listed(lists.pref, bus, range),
-    }
-}
 
 /// Whether a window of a bridge is there and open, and holds a range.
 fn is_held(windows: &Windows, kind: WindowKind, range: Range) -> bool
@@ -128,7 +92,7 @@ pub fn is_in_place(
         → result ≡ is_in_place q s (stands_in s table.now) (region_value s region.now) }
 {
     if region.level == 0 {
-        return is_in_lists(lists, region.bus, region.space, region.range);
+        return lists.hold(region.bus, region.space, region.range);
     }
     let Some(index) = over[region.bus as usize] else {
         return false;

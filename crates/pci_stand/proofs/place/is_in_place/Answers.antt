@@ -7,7 +7,7 @@ use Rattle.pci_stand.proofs.place.is_in_place.Goals as goal
 
 pub returns-then-region-eq0 : goal.returns-then-region-eq0
 returns-then-region-eq0 c = λ q s board is opens.
-    c.is_in_lists.ensures
+    c.hold.ensures q board.same
     ∙ on_root q s c.args.records.now (lists_value c.args.lists.now) board c.args.region.now is (omega arith) c.args.table.now opens c.if-region-eq0.true
 
 pub returns-in_default : goal.returns-in_default
