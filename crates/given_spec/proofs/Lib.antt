@@ -13,3 +13,8 @@ pub mod PlainLists
 pub mod Moving
 pub mod Writing
 pub mod Isa
+pub mod ToldLines
+pub mod ToldKept
+pub mod ToldWhole
+pub mod ToldRows
+pub mod ToldFaults

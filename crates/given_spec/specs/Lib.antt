@@ -14,3 +14,7 @@ pub mod Laws
 pub mod DeterminedLaws
 pub mod ListLaws
 pub mod IsaLaws
+pub mod Told
+pub mod ToldText
+pub mod ToldStops
+pub mod ToldForm
