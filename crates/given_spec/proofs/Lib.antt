@@ -18,3 +18,4 @@ pub mod ToldKept
 pub mod ToldWhole
 pub mod ToldRows
 pub mod ToldFaults
+pub mod ToldLengths

@@ -3,14 +3,13 @@ use Rattle.std.proofs.Common.{lit<, lit≤, ◌≡◌, ℕ, zero, suc, ◌+◌, 
 use Rattle.std.proofs.lemmas.Bool.{cond_both, eqb-true, eqb-false, ltb-true, ltb-false, leb-true, and_parts}
 use Rattle.std.proofs.lemmas.List.{take_more, take_all, length-append}
 use Rattle.std.proofs.lemmas.List.Elements.{All-push}
-use Rattle.pci_spec.specs.Slot.{IsSlot}
 use Rattle.pci_spec.specs.System.{Space, Io, Memory, IsAddress}
 use Rattle.pci_spec.specs.Text.{hex_digit, hex_byte, slot_text}
 use Rattle.pci_spec.specs.Line.{hex_number, address_text}
 use Rattle.pci_spec.proofs.HexNumbers.{hex_number-more, more_below}
 use Rattle.given_spec.specs.Told.{ToldRange, is_name_byte, IsName, IsToldLine}
 use Rattle.given_spec.specs.ToldText.{space_word, mark_word, name_text, range_head, told_line}
-use Rattle.given_spec.specs.ToldForm.{Field, Bus, Device, Function, First, Last, Place, Digits, After, InSpace, InMark, InName, blank, no_line, Step, Wrong, Goes, Ends, goes_at, digit_in, digits_of, greatest_digit, after_digits, digit_step, separator, behind, space_begins, mark_begins, space_step, mark_step, name_step, step_at, step}
+use Rattle.given_spec.specs.ToldForm.{Begun, Field, Bus, Device, Function, First, Last, Place, Digits, After, InSpace, InMark, InName, blank, no_line, Step, Wrong, Goes, Ends, goes_at, digit_in, digits_of, greatest_digit, after_digits, digit_step, separator, behind, space_begins, mark_begins, space_step, mark_step, name_step, step_at, step, IsFit, IsUnnamed, IsBegun}
 
 -- ---- steps
 
@@ -57,36 +56,14 @@ text_at (InSpace k) n r = before_space r ++ take k (space_word r.space r.prefetc
 text_at (InMark k) n r = before_mark r ++ take k (mark_word r.mark)
 text_at InName n r = ((before_mark r ++ mark_word r.mark) ++ 32 ∷ []) ++ r.name
 
--- ---- the numbers that are read
-
-abbrev pub Fit : Place → ℕ → ToldRange → Type 0
-Fit (Digits Bus k) n r = (k < 2) × (n < 16 ^ k)
-Fit (Digits Device k) n r = (k < 2) × (n < 2 ^ k) × (r.slot.bus < 256)
-Fit (Digits Function k) n r = (k < 1) × (n < 1) × (r.slot.bus < 256) × (r.slot.device < 32)
-Fit (Digits First k) n r = (k < digits_of First r.space) × (n < 16 ^ k) × IsSlot r.slot
-Fit (Digits Last k) n r = (k < digits_of First r.space) × (n < 16 ^ k) × IsSlot r.slot × IsAddress r.space r.first
-Fit (After Bus) n r = r.slot.bus < 256
-Fit (After Device) n r = (r.slot.bus < 256) × (r.slot.device < 32)
-Fit (After Function) n r = IsSlot r.slot
-Fit (After First) n r = IsSlot r.slot × IsAddress r.space r.first
-Fit (After Last) n r = IsSlot r.slot × IsAddress r.space r.first × IsAddress r.space r.last
-Fit (InSpace k) n r = (k ≤ length (space_word r.space r.prefetchable)) × IsSlot r.slot
-Fit (InMark k) n r = (k ≤ length (mark_word r.mark)) × IsSlot r.slot × IsAddress r.space r.first × IsAddress r.space r.last
-Fit InName n r = IsSlot r.slot × IsAddress r.space r.first × IsAddress r.space r.last
-
-abbrev pub Unnamed : Place → ToldRange → Type 0
-Unnamed InName r = Unit {0}
-Unnamed (Digits f k) r = r.name ≡ []
-Unnamed (After f) r = r.name ≡ []
-Unnamed (InSpace k) r = r.name ≡ []
-Unnamed (InMark k) r = r.name ≡ []
+-- ---- a line that is begun
 
 pub record IsAt (part : List ℕ) (place : Place) (n : ℕ) (r : ToldRange) : Type 0 where
   pub text : part ≡ text_at place n r
   pub plain : r.space ≡ Io → r.prefetchable ≡ false
   pub name : IsName r.name
-  pub unnamed : Unnamed place r
-  pub fits : Fit place n r
+  pub unnamed : IsUnnamed place r
+  pub fits : IsFit place n r
 
 -- what was read of some bytes
 abbrev pub IsRead : List ℕ → Step → Type 0
@@ -409,3 +386,23 @@ nothing_at = record { text = refl; plain = (λ _. refl); name = (lit≤ tt, λ k
 
 pub line_read : (bytes : List ℕ) → IsRead bytes (steps (Goes no_line) bytes)
 line_read bytes = sound_steps (Goes no_line) [] bytes nothing_at
+
+-- a line that is begun goes on as one, whatever its bytes were
+abbrev pub StaysBegun : Step → Type 0
+StaysBegun Wrong = Unit {0}
+StaysBegun (Goes l) = IsBegun l
+StaysBegun (Ends r) = Unit {0}
+
+begun_of : (bytes : List ℕ) (s : Step) → IsRead bytes s → StaysBegun s
+begun_of bytes Wrong h = tt
+begun_of bytes (Goes l) h = record { plain = h.plain; name = h.name; unnamed = h.unnamed; fits = h.fits }
+begun_of bytes (Ends r) h = tt
+
+pub stays_begun : (l : Begun) (c : ℕ) → IsBegun l → StaysBegun (step l c)
+stays_begun l c h =
+    let text : List ℕ = text_at l.place l.number l.range in
+    let at : IsAt text l.place l.number l.range = record { text = refl; plain = h.plain; name = h.name; unnamed = h.unnamed; fits = h.fits } in
+    begun_of (text ++ c ∷ []) (step l c) (sound_step l.place l.number l.range text c at)
+
+pub nothing_begun : IsBegun no_line
+nothing_begun = record { plain = nothing_at.plain; name = nothing_at.name; unnamed = nothing_at.unnamed; fits = nothing_at.fits }

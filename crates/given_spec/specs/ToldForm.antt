@@ -1,9 +1,9 @@
 -- The text of told ranges byte by byte: how far a line is read, and what its next byte makes of that.
-use Rattle.std.specs.Prelude.{ℕ, ◌+◌, ◌-◌, ◌*◌, ◌==◌, nat_le, nat_lt, Bool, true, false, ◌&&◌, if◌then◌else◌, List, [], ◌∷◌, ◌++◌, length, slice_index_or, Option, None, Some}
-use Rattle.pci_spec.specs.Slot.{Slot, slot_number}
-use Rattle.pci_spec.specs.System.{Space, Io, Memory}
+use Rattle.std.specs.Prelude.{◌≡◌, ◌<◌, ◌≤◌, ◌^◌, ℕ, ◌+◌, ◌-◌, ◌*◌, ◌==◌, nat_le, nat_lt, Bool, true, false, ◌&&◌, if◌then◌else◌, List, [], ◌∷◌, ◌++◌, length, slice_index_or, Option, None, Some}
+use Rattle.pci_spec.specs.Slot.{Slot, IsSlot, slot_number}
+use Rattle.pci_spec.specs.System.{Space, Io, Memory, IsAddress}
 use Rattle.pci_spec.specs.Text.{TextFault, BadSlot, BadLine, Order, TooMany}
-use Rattle.given_spec.specs.Told.{Command, Always, Held, ToldRange, is_name_byte}
+use Rattle.given_spec.specs.Told.{Command, Always, Held, ToldRange, is_name_byte, IsName}
 use Rattle.given_spec.specs.ToldText.{space_word, mark_word}
 
 -- ---- a line
@@ -182,6 +182,41 @@ is_of_slot (After Bus) = true
 is_of_slot (After Device) = true
 is_of_slot (After Function) = true
 is_of_slot place = false
+
+-- ---- what is known of a line that is begun
+
+-- the numbers that are read, and the places in them, are in their ranges
+abbrev pub IsFit : Place → ℕ → ToldRange → Type 0
+IsFit (Digits Bus k) n r = (k < 2) × (n < 16 ^ k)
+IsFit (Digits Device k) n r = (k < 2) × (n < 2 ^ k) × (r.slot.bus < 256)
+IsFit (Digits Function k) n r = (k < 1) × (n < 1) × (r.slot.bus < 256) × (r.slot.device < 32)
+IsFit (Digits First k) n r = (k < digits_of First r.space) × (n < 16 ^ k) × IsSlot r.slot
+IsFit (Digits Last k) n r =
+    (k < digits_of First r.space) × (n < 16 ^ k) × IsSlot r.slot × IsAddress r.space r.first
+IsFit (After Bus) n r = r.slot.bus < 256
+IsFit (After Device) n r = (r.slot.bus < 256) × (r.slot.device < 32)
+IsFit (After Function) n r = IsSlot r.slot
+IsFit (After First) n r = IsSlot r.slot × IsAddress r.space r.first
+IsFit (After Last) n r = IsSlot r.slot × IsAddress r.space r.first × IsAddress r.space r.last
+IsFit (InSpace k) n r = (k ≤ length (space_word r.space r.prefetchable)) × IsSlot r.slot
+IsFit (InMark k) n r =
+    (k ≤ length (mark_word r.mark)) × IsSlot r.slot × IsAddress r.space r.first
+    × IsAddress r.space r.last
+IsFit InName n r = IsSlot r.slot × IsAddress r.space r.first × IsAddress r.space r.last
+
+-- there is no name before it comes
+abbrev pub IsUnnamed : Place → ToldRange → Type 0
+IsUnnamed (Digits f k) r = r.name ≡ []
+IsUnnamed (After f) r = r.name ≡ []
+IsUnnamed (InSpace k) r = r.name ≡ []
+IsUnnamed (InMark k) r = r.name ≡ []
+IsUnnamed InName r = Unit {0}
+
+pub record IsBegun (l : Begun) : Type 0 where
+  pub plain : l.range.space ≡ Io → l.range.prefetchable ≡ false
+  pub name : IsName l.range.name
+  pub unnamed : IsUnnamed l.place l.range
+  pub fits : IsFit l.place l.number l.range
 
 -- ---- all lines
 

@@ -1,0 +1,4 @@
+pub mod Marks
+pub mod Places
+pub mod Steps
+pub mod Faults
