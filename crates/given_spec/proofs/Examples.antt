@@ -7,3 +7,4 @@ pub mod Moved
 pub mod CutBodies
 pub mod Fits
 pub mod Isa
+pub mod ToldTexts

@@ -19,3 +19,4 @@ pub mod ToldWhole
 pub mod ToldRows
 pub mod ToldFaults
 pub mod ToldLengths
+pub mod ToldInputs

@@ -98,7 +98,7 @@ text_lines (r ∷ ranges) each =
     omega (arith, one, more, all)
 
 -- the line of the byte behind what is read
-line_of : (front : List ℕ) (s : ToldSoFar) → IsReading front s → line_number s.ranges ≡ line_after front
+pub line_of : (front : List ℕ) (s : ToldSoFar) → IsReading front s → line_number s.ranges ≡ line_after front
 line_of front s h =
     let a = ap line_ends h.split ∙ line_ends_append (told_text s.ranges) h.part in
     let b = text_lines s.ranges h.told.each in
@@ -143,7 +143,7 @@ behind_slot part InName n r a h = long part _ _ _ _ _ _ _ _ _ a.text
 
 -- ---- what holds where reading stops
 
-abbrev HoldsAt : List ToldRange → List ℕ → ℕ → TextFault → Type 0
+abbrev pub HoldsAt : List ToldRange → List ℕ → ℕ → TextFault → Type 0
 HoldsAt ranges part c (BadSlot n) = (n ≡ line_number ranges) × (length part < 8) × (length ranges < 4096) × (BreaksOrder ranges part c → ⊥)
 HoldsAt ranges part c (BadTitle n) = ⊥
 HoldsAt ranges part c (BadLine n) = (n ≡ line_number ranges) × (8 ≤ length part) × (BreaksOrder ranges part c → ⊥)
@@ -152,7 +152,7 @@ HoldsAt ranges part c (Order n) = (n ≡ line_number ranges) × BreaksOrder rang
 HoldsAt ranges part c (TooMany n) = (n ≡ line_number ranges) × (length ranges ≡ 4096)
 HoldsAt ranges part c (Ended n) = ⊥
 
-abbrev Holds : List ToldRange → List ℕ → ℕ → Reads → Type 0
+abbrev pub Holds : List ToldRange → List ℕ → ℕ → Reads → Type 0
 Holds ranges part c (Reading s) = Unit {0}
 Holds ranges part c (Stopped f) = HoldsAt ranges part c f
 
@@ -216,7 +216,7 @@ stop_step front s c (Goes l) h e free =
     (λ bad. (refl, out_of_order s.ranges h.part c l.place l.number l.range at bad))
 stop_step front s c (Ends r) h e free = tt
 
-stop_byte : (front : List ℕ) (s : ToldSoFar) (c : ℕ) (h : IsReading front s) → Holds s.ranges h.part c (take_byte s c)
+pub stop_byte : (front : List ℕ) (s : ToldSoFar) (c : ℕ) (h : IsReading front s) → Holds s.ranges h.part c (take_byte s c)
 unfolding take_byte
 stop_byte front s c h =
     cond_both (length s.ranges == 4096) _ _ (λ (x : Reads). Holds s.ranges h.part c x) (λ full. (refl, eqb-true (length s.ranges) 4096 full))
@@ -224,7 +224,7 @@ stop_byte front s c h =
 
 -- ---- the fault of a text
 
-stopped_reading : (f : TextFault) (s : ToldSoFar) → Stopped f ≡ Reading s → ⊥
+pub stopped_reading : (f : TextFault) (s : ToldSoFar) → Stopped f ≡ Reading s → ⊥
 stopped_reading f s e = cc
 
 one_byte : (s : ToldSoFar) (c : ℕ) (x : Reads) → take_byte s c ≡ x → take_bytes s (c ∷ []) ≡ and_then x (λ t. take_bytes t [])

@@ -18,3 +18,4 @@ pub mod Told
 pub mod ToldText
 pub mod ToldStops
 pub mod ToldForm
+pub mod ToldLaws

@@ -9,3 +9,4 @@ pub mod determined_laws;
 pub mod given_laws;
 pub mod list_laws;
 pub mod moved_laws;
+pub mod told_laws;
