@@ -16,6 +16,8 @@ mod line;
 mod lines;
 mod place;
 pub mod reader;
+#[cfg(test)]
+mod tests;
 pub mod told_range;
 mod words;
 

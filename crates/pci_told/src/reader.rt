@@ -15,7 +15,10 @@ const CHUNK_LEN: usize = 4096;
 
 /// The ranges whose text `source` has left.
 ///
-/// Errors: 3, 5 and 7 to 9 where that is no such text, 1 `Io` where a read failed, 2 `Memory` where a growth was refused.
+/// Errors, of 3 to 9 with the line: 3 `BadSlot` where one of the first eight bytes of a line is wrong, 5 `BadLine` where a
+/// later one is, 7 `Order` where a slot is below the one before it or a range is backward, 8 `TooMany` where bytes follow
+/// 4,096 lines, 9 `Ended` where the text ends within a line. 1 `Io` where a read failed, 2 `Memory` where a growth was
+/// refused.
 pub fn read_told<S: Source, A: Allocator>(
     alloc: A,
     source: &mut S,
