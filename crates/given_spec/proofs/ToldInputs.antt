@@ -5,8 +5,8 @@ use Rattle.pci_spec.specs.Text.{TextFault, BadSlot, BadTitle, BadLine, NoBlank, 
 use Rattle.given_spec.specs.Told.{ToldRange}
 use Rattle.given_spec.specs.ToldText.{told_text, IsToldTextOf}
 use Rattle.given_spec.specs.ToldStops.{IsGoodTold, BreaksOrder, ToldStopWhere, IsToldFaultOf}
-use Rattle.given_spec.specs.ToldForm.{Bus, Device, Function, First, Last, Place, Digits, After, InSpace, InMark, InName, Begun, ToldSoFar, nothing_read, Reads, Reading, Stopped, line_number, take_byte, and_then, take_bytes}
-use Rattle.given_spec.specs.ToldLaws.{ToldHaveText, ToldHaveOneText, TextTellsOneRow, ToldTextHasNoFault, InputHasOneToldFault, InputIsToldOrHasFault}
+use Rattle.given_spec.specs.ToldForm.{Bus, Device, Function, First, Last, Place, Digits, After, InSpace, InMark, InName, Begun, no_line, ToldSoFar, nothing_read, Reads, Reading, Stopped, line_number, take_byte, and_then, take_bytes}
+use Rattle.given_spec.specs.ToldLaws.{ToldHaveText, ToldHaveOneText, TextTellsOneRow, ToldTextIsGood, ToldBeginningsAreGood, ToldTextHasNoFault, InputHasOneToldFault, InputIsToldOrHasFault}
 use Rattle.given_spec.proofs.ToldRows.{take_bytes-append, IsReading, reading_of, front_of, front_read, text_read, whole_text, one_row, same_reading}
 use Rattle.given_spec.proofs.ToldFaults.{HoldsAt, Holds, stop_byte, stopped_reading, line_of, fault_read, fault_at_end}
 
@@ -64,6 +64,15 @@ prefix_read xs ys t e = go (take_bytes nothing_read xs) refl (sym (take_bytes-ap
 
 good_read : (bytes : List ℕ) (s : ToldSoFar) → take_bytes nothing_read bytes ≡ Reading s → IsGoodTold bytes
 good_read bytes s e = let h = reading_of bytes s e in (s.ranges, h.part, front_of bytes s h)
+
+pub told_text_is_good : ToldTextIsGood
+told_text_is_good bytes ranges text = good_read bytes record { ranges = ranges; line = no_line } (text_read bytes ranges text)
+
+pub told_beginnings_are_good : ToldBeginningsAreGood
+told_beginnings_are_good front rest (ranges, part, good) =
+    let read = front_read (front ++ rest) ranges part good in
+    let u = prefix_read front rest record { ranges = ranges; line = read.line } read.all_read in
+    good_read front u.0 u.1
 
 stop_is_none : (bytes : List ℕ) (n : ℕ) (P : List ToldRange → List ℕ → ℕ → Type 0) (s : ToldSoFar) → take_bytes nothing_read bytes ≡ Reading s → ToldStopWhere bytes n P → ⊥
 stop_is_none bytes n P s e stop =

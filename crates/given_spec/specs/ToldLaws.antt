@@ -1,9 +1,9 @@
 -- Laws of the text of told ranges: ranges and their text are one to one, and each input is a text or has one fault.
-use Rattle.std.specs.Prelude.{◌≡◌, ◌⊎◌, ℕ, List}
+use Rattle.std.specs.Prelude.{◌≡◌, ◌⊎◌, ℕ, List, ◌++◌}
 use Rattle.pci_spec.specs.Text.{TextFault}
 use Rattle.given_spec.specs.Told.{ToldRange, IsTold}
 use Rattle.given_spec.specs.ToldText.{IsToldTextOf}
-use Rattle.given_spec.specs.ToldStops.{IsToldFaultOf}
+use Rattle.given_spec.specs.ToldStops.{IsGoodTold, IsToldFaultOf}
 
 -- ranges in such an order have a text
 abbrev pub ToldHaveText : Type 0
@@ -20,6 +20,13 @@ abbrev pub TextTellsOneRow : Type 0
 TextTellsOneRow =
     (bytes : List ℕ) (ranges others : List ToldRange) → IsToldTextOf bytes ranges
     → IsToldTextOf bytes others → ranges ≡ others
+
+-- a text is good, and so is what a good input begins with
+abbrev pub ToldTextIsGood : Type 0
+ToldTextIsGood = (bytes : List ℕ) (ranges : List ToldRange) → IsToldTextOf bytes ranges → IsGoodTold bytes
+
+abbrev pub ToldBeginningsAreGood : Type 0
+ToldBeginningsAreGood = (front rest : List ℕ) → IsGoodTold (front ++ rest) → IsGoodTold front
 
 -- a text has no fault
 abbrev pub ToldTextHasNoFault : Type 0
