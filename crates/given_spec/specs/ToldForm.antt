@@ -1,4 +1,5 @@
 -- The text of told ranges byte by byte: how far a line is read, and what its next byte makes of that.
+-- Reading goes on exactly where the bytes are a good beginning, and stops with the fault: proofs/ToldRows, proofs/ToldFaults.
 use Rattle.std.specs.Prelude.{◌≡◌, ◌<◌, ◌≤◌, ◌^◌, ℕ, ◌+◌, ◌-◌, ◌*◌, ◌==◌, nat_le, nat_lt, Bool, true, false, ◌&&◌, if◌then◌else◌, List, [], ◌∷◌, ◌++◌, length, slice_index_or, Option, None, Some}
 use Rattle.pci_spec.specs.Slot.{Slot, IsSlot, slot_number}
 use Rattle.pci_spec.specs.System.{Space, Io, Memory, IsAddress}
