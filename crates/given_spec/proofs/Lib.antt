@@ -20,3 +20,6 @@ pub mod ToldRows
 pub mod ToldFaults
 pub mod ToldLengths
 pub mod ToldInputs
+pub mod NothingTold
+pub mod NothingToldLists
+pub mod ToldAdds

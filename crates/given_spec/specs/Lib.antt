@@ -19,3 +19,9 @@ pub mod ToldText
 pub mod ToldStops
 pub mod ToldForm
 pub mod ToldLaws
+pub mod ToldClaims
+pub mod ToldFault
+pub mod ToldAllFaults
+pub mod ToldFaultLines
+pub mod ToldLine
+pub mod ToldJudgingLaws

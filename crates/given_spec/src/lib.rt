@@ -10,4 +10,5 @@ pub mod determined_laws;
 pub mod given_laws;
 pub mod list_laws;
 pub mod moved_laws;
+pub mod told_judging_laws;
 pub mod told_laws;

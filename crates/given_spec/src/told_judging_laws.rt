@@ -1,0 +1,20 @@
+//! Laws of judging with told ranges. These functions do nothing: each contract is a law.
+
+ghost use Rattle.given_spec.specs.ToldJudgingLaws.{SameClaimsOnBus, SameToldFaults, NoneNotListed, SameToldList, SameToldText, ToldOnlyAdds, HeldAreNotUnreached, HeldAreNotOutside, SameOrder};
+
+/// With nothing told each word of judging is the one without it, and so are the list of all faults and its text.
+pub fn nothing_told_changes_no_list()
+    ensures claims { SameClaimsOnBus }
+    ensures faults { SameToldFaults }
+    ensures listed { NoneNotListed }
+    ensures list { SameToldList }
+    ensures text { SameToldText }
+{}
+
+/// What is told takes no fault away. 60 and 63 name no held range, and registers keep their order.
+pub fn told_ranges_only_add()
+    ensures adds { ToldOnlyAdds }
+    ensures unreached { HeldAreNotUnreached }
+    ensures outside { HeldAreNotOutside }
+    ensures order { SameOrder }
+{}
