@@ -8,3 +8,6 @@ pub mod CutBodies
 pub mod Fits
 pub mod Isa
 pub mod ToldTexts
+pub mod ToldClaims
+pub mod ToldJudging
+pub mod ToldSlots

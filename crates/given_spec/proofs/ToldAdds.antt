@@ -6,7 +6,7 @@ use Rattle.std.proofs.lemmas.Bool.{ne_eqb, eq-eqb, or_from, cases_Bool}
 use Rattle.std.proofs.Math.Bool.{or-false}
 use Rattle.pci_spec.specs.Slot.{Slot, same_slot}
 use Rattle.pci_spec.specs.System.{System, Space}
-use Rattle.pci_spec.specs.Fault.{Orphan, Unreached, Clash, Split, RegionName, TwoRegions, Address, address_in, named_region, named_regions}
+use Rattle.pci_spec.specs.Fault.{Orphan, Unreached, Clash, Split, RegionName, Address, address_in, named_region, named_regions}
 use Rattle.pci_spec.specs.Fault as plain
 use Rattle.pci_spec.proofs.Regions.{register_of-lt}
 use Rattle.given_spec.specs.Given.{Given}

@@ -32,7 +32,7 @@ by_control = refl
 no_device : isa_bridges (device (slot 0 1 0) 3 ((0x3c, 0x00040000) ∷ []) [] ∷ []) ≡ []
 no_device = refl
 
-abbrev isa_at : List Slot → Given
+abbrev pub isa_at : List Slot → Given
 isa_at slots = record { io = None; memory = None; legacy = []; isa = slots }
 
 abbrev enabled : Given
