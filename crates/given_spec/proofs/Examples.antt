@@ -11,3 +11,4 @@ pub mod ToldTexts
 pub mod ToldClaims
 pub mod ToldJudging
 pub mod ToldSlots
+pub mod ToldOrder

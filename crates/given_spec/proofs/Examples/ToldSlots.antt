@@ -1,20 +1,20 @@
 -- Told ranges of slots that aren't listed, of functions that are asleep, outside what the host sends, and on two roots.
-use Rattle.std.proofs.Common.{◌≡◌, ℕ, [], ◌∷◌, zero, suc, refl, true, false, inl, inr, arith, lit<, lit≤, ap, map, subst, sym, ◌∙◌, codes, None, Some}
+use Rattle.std.proofs.Common.{◌≡◌, ℕ, [], ◌∷◌, zero, suc, refl, true, false, inl, inr, arith, lit<, lit≤, ap, map, sym, ◌∙◌, codes, None, Some}
 use Rattle.std.specs.Fmt.{digits}
 use Rattle.std.specs.List.{Contains, slice_get}
 use Rattle.std.proofs.lemmas.Bool.{both_ways}
 use Rattle.pci_spec.specs.Slot.{Slot}
 use Rattle.pci_spec.specs.System.{Function, System, Io, Memory, Bar}
 use Rattle.pci_spec.specs.Fault.{Orphan, Unreached, Clash, Split, RegionName, address_in, named_region}
-use Rattle.pci_spec.proofs.Members.{in_nil, in_head, in_cons_cases}
+use Rattle.pci_spec.proofs.Members.{in_nil, in_cons_cases}
 use Rattle.pci_spec.proofs.Examples.Samples.{slot, device, bridge, host}
-use Rattle.given_spec.specs.Given.{Given, nothing_given}
+use Rattle.given_spec.specs.Given.{Given, nothing_given, starts}
 use Rattle.given_spec.specs.Claims.{Own, passes}
 use Rattle.given_spec.specs.Fault as untold_fault
 use Rattle.given_spec.specs.Told.{Mark, Command, Always, Held, ToldRange}
 use Rattle.given_spec.specs.ToldClaims.{Told, IsRangeAt, RangeClaimsOnBus, is_marked_held, is_range_on}
-use Rattle.given_spec.specs.ToldFault.{Known, NotListed, IsIn, IsNotListed, IsHeldOrphan}
-use Rattle.given_spec.specs.ToldFaultLines.{HasNotListed, AreAllFaults}
+use Rattle.given_spec.specs.ToldFault.{Known, NotListed, IsIn, IsNotListed, IsHeldOrphan, IsRangeUnreached}
+use Rattle.given_spec.specs.ToldFaultLines.{HasNotListed}
 use Rattle.given_spec.specs.ToldLine.{fault_text}
 use Rattle.given_spec.proofs.Examples.Ranges.{to_each, sent_memory}
 use Rattle.given_spec.proofs.Examples.Isa.{isa_at}
@@ -23,11 +23,11 @@ use Rattle.given_spec.proofs.Examples.ToldClaims.{told_io, told_memory, told_ran
 use Rattle.given_spec.proofs.Examples.ToldJudging.{only_line, card, card_claims, hidden}
 
 -- a slot in a list of one
-only_slot : (at other : Slot) → Contains (at ∷ []) other → at ≡ other
+pub only_slot : (at other : Slot) → Contains (at ∷ []) other → at ≡ other
 only_slot at other has = elim (in_cons_cases at [] other has) [ inl here ↦ here | inr later ↦ absurd (in_nil other later) ]
 
 -- a range in a list of one, and that of its register
-only_range : (r other : ToldRange) → Contains (r ∷ []) other → r ≡ other
+pub only_range : (r other : ToldRange) → Contains (r ∷ []) other → r ≡ other
 only_range r other has = elim (in_cons_cases r [] other has) [ inl here ↦ here | inr later ↦ absurd (in_nil other later) ]
 
 range_in_one : (r other : ToldRange) (index : ℕ) → slice_get (r ∷ []) index ≡ Some other → r ≡ other
@@ -55,27 +55,14 @@ listed_slot : IsNotListed (told_ranges (hidden (slot 0 2 0) Always ∷ [])) (car
 listed_slot not = not.not_listed (0, lit< tt, refl)
 
 -- two lines of one slot, and one fault
-abbrev two_of_one : Told
+abbrev pub two_of_one : Told
 two_of_one = told_ranges (hidden (slot 0 31 1) Command ∷ hidden (slot 0 31 1) Always ∷ [])
 
-not_listed_slot : (at : Slot) → HasNotListed two_of_one [] [] at → slot 0 31 1 ≡ at
+pub not_listed_slot : (at : Slot) → HasNotListed two_of_one [] [] at → slot 0 31 1 ≡ at
 not_listed_slot at not = elim (in_cons_cases (hidden (slot 0 31 1) Command) (hidden (slot 0 31 1) Always ∷ []) not.r not.is_told) [
   | inl here ↦ ap (λ (r : ToldRange). r.slot) here ∙ not.of_slot
   | inr later ↦ ap (λ (r : ToldRange). r.slot) (only_range (hidden (slot 0 31 1) Always) not.r later) ∙ not.of_slot
 ]
-
-one_line_a_slot : AreAllFaults two_of_one nothing_given host [] [] (NotListed (slot 0 31 1) ∷ [])
-one_line_a_slot = inr (inl record {
-  same = refl;
-  slots = slot 0 31 1 ∷ [];
-  some = λ e. cc;
-  all = record {
-    each = λ at has. subst (λ x. HasNotListed two_of_one [] [] x) (only_slot (slot 0 31 1) at has) record { r = hidden (slot 0 31 1) Command; is_told = (0, lit< tt, refl); not_held = refl; of_slot = refl; not_listed = λ has. in_nil (slot 0 31 1) has };
-    complete = λ at not. subst (λ x. Contains (slot 0 31 1 ∷ []) x) (not_listed_slot at not) (in_head (slot 0 31 1) []);
-    rising = λ i j d less within. absurd (let no : ⊥ = omega (arith, less, within) in no);
-  };
-  are = refl;
-})
 
 -- ---- a held range of a bus to which no bridge leads
 
@@ -120,6 +107,13 @@ is_outside = inr record {
 
 held_needs_no_way : IsIn (timer Held) sent host (card ∷ []) (Known (untold_fault.Outside (slot 0 2 0) 256 Memory 0xfed00000)) → ⊥
 held_needs_no_way outside = both_ways true (held_are_not_outside (timer Held) sent host (card ∷ []) (slot 0 2 0) 256 Memory 0xfed00000 outside) refl
+
+-- what isn't sent isn't told to be unreached, too
+abbrev closed_bridge : System
+closed_bridge = bridge (slot 0 1 0) 2 0x010100 ((0x20, 0x0000fff0) ∷ []) [] ∷ device (slot 1 0 0) 2 [] [] ∷ []
+
+unsent_is_not_unreached : (u : IsRangeUnreached (told_ranges (told_memory (slot 1 0 0) 0xfed00000 0xfed003ff Always ∷ [])) sent host closed_bridge (named_region (slot 1 0 0) 256) (address_in Memory 0xfed00000) (slot 0 1 0)) → u.root ≡ 0 → ⊥
+unsent_is_not_unreached u root = both_ways (starts sent Memory u.root 0xfed00000) (ap (λ n. starts sent Memory n 0xfed00000) root) u.sent
 
 -- ---- on two root buses
 
