@@ -75,7 +75,7 @@ pairs_of_map R f (x ∷ xs) pairs =
     pairs_cons (λ x y. R (f x) (f y)) x xs (λ y has. pairs_head R (f x) (map f xs) (f y) pairs (in_map_from f xs y has))
     (pairs_of_map R f xs (pairs_tail R (f x) (map f xs) pairs))
 
-slot_decided : (slots : List Slot) (t : Slot) → Contains slots t ⊎ (Contains slots t → ⊥)
+pub slot_decided : (slots : List Slot) (t : Slot) → Contains slots t ⊎ (Contains slots t → ⊥)
 slot_decided [] t = inr (λ has. in_nil t has)
 slot_decided (s ∷ slots) t = elim (region_decided s t 0 0) [
   | inl same ↦ inl (subst (λ (x : Slot). Contains (s ∷ slots) x) same.0 (in_head s slots))

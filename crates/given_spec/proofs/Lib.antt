@@ -23,3 +23,4 @@ pub mod ToldInputs
 pub mod NothingTold
 pub mod NothingToldLists
 pub mod ToldAdds
+pub mod ToldEmpty

@@ -27,7 +27,7 @@ use Rattle.given_spec.proofs.Judging.{single_without, without_single, home_witho
 
 module _ {X : Type 0} (m : X → ℕ) (P : ℕ → X → Type 0)
     (none_least : (n : ℕ) (x : X) → P n x → ((k : ℕ) (y : X) → P k y → (n < k) ⊎ ((n ≡ k) × (m x ≤ m y))) → ⊥) where
-  none_there : (n : ℕ) (x : X) → P n x → ⊥
+  pub none_there : (n : ℕ) (x : X) → P n x → ⊥
   none_there n x p = none_below m P none_least (suc n) n x (omega arith) p
 
 -- ---- names of regions

@@ -21,6 +21,7 @@ pub mod ToldForm
 pub mod ToldLaws
 pub mod ToldClaims
 pub mod ToldFault
+pub mod ToldSound
 pub mod ToldAllFaults
 pub mod ToldFaultLines
 pub mod ToldLine

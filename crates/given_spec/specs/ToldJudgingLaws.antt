@@ -1,7 +1,8 @@
 -- Laws of judging with told ranges.
-use Rattle.std.specs.Prelude.{◌≡◌, ℕ, ◌<◌, ◌↔◌, IsFalse, List, map}
+use Rattle.std.specs.Prelude.{◌≡◌, ℕ, ◌<◌, ◌↔◌, IsFalse, List, [], map}
 use Rattle.pci_spec.specs.Slot.{Slot}
-use Rattle.pci_spec.specs.System.{System, Space}
+use Rattle.pci_spec.specs.System.{System, Space, IsSystem}
+use Rattle.pci_spec.specs.Bus.{IsNested}
 use Rattle.pci_spec.specs.Text.{Block, IsDump}
 use Rattle.pci_spec.specs.Fault.{Unreached, Address, RegionName}
 use Rattle.pci_spec.specs.JudgingLaws as plain
@@ -10,10 +11,12 @@ use Rattle.given_spec.specs.Claims as untold
 use Rattle.given_spec.specs.Fault as untold_fault
 use Rattle.given_spec.specs.FaultLines as untold_lines
 use Rattle.given_spec.specs.Line as untold_line
+use Rattle.given_spec.specs.Told.{IsTold}
 use Rattle.given_spec.specs.ToldClaims.{Told, nothing_told, is_held, ClaimsOnBus}
-use Rattle.given_spec.specs.ToldFault.{Fault, Known, NotListed, IsIn}
-use Rattle.given_spec.specs.ToldAllFaults.{region_number}
+use Rattle.given_spec.specs.ToldFault.{Fault, Known, NotListed, IsIn, IsNotListed}
+use Rattle.given_spec.specs.ToldAllFaults.{region_number, AreAllOfJudging}
 use Rattle.given_spec.specs.ToldFaultLines.{AreAllFaults}
+use Rattle.given_spec.specs.ToldSound.{IsSingle, IsHome}
 use Rattle.given_spec.specs.ToldLine.{list_text}
 
 -- ---- with nothing told each word is the one without it, whoever is asleep
@@ -88,3 +91,14 @@ SameOrder =
     → first_register < 256 → second_register < 256
     → (region_number first first_register < region_number second second_register)
     ↔ (plain.region_number first first_register < plain.region_number second second_register)
+
+-- ---- what judging is good for
+
+-- A list of all is empty exactly where at most one region claims an access, and each region is reached.
+abbrev pub ToldEmptyWhereNoneFails : Type 0
+ToldEmptyWhereNoneFails =
+    (told : Told) (given : Given) (roots : List ℕ) (s : System) (faults : List untold_fault.Fault)
+    → IsTold told.ranges → IsSystem s → IsNested roots s
+    → ((slot : Slot) → IsNotListed told s slot → ⊥)
+    → AreAllOfJudging told given roots s faults
+    → (faults ≡ []) ↔ (IsSingle told given roots s × IsHome told given roots s)

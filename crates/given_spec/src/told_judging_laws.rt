@@ -1,6 +1,6 @@
 //! Laws of judging with told ranges. These functions do nothing: each contract is a law.
 
-ghost use Rattle.given_spec.specs.ToldJudgingLaws.{SameClaimsOnBus, SameToldFaults, NoneNotListed, SameToldList, SameToldText, ToldOnlyAdds, HeldAreNotUnreached, HeldAreNotOutside, SameOrder};
+ghost use Rattle.given_spec.specs.ToldJudgingLaws.{SameClaimsOnBus, SameToldFaults, NoneNotListed, SameToldList, SameToldText, ToldOnlyAdds, HeldAreNotUnreached, HeldAreNotOutside, SameOrder, ToldEmptyWhereNoneFails};
 
 /// With nothing told each word of judging is the one without it, and so are the list of all faults and its text.
 pub fn nothing_told_changes_no_list()
@@ -17,4 +17,9 @@ pub fn told_ranges_only_add()
     ensures unreached { HeldAreNotUnreached }
     ensures outside { HeldAreNotOutside }
     ensures order { SameOrder }
+{}
+
+/// A list of all faults of judging is empty exactly where at most one region claims an access, and each region is reached.
+pub fn told_faults_are_what_fails()
+    ensures empty { ToldEmptyWhereNoneFails }
 {}
