@@ -24,3 +24,4 @@ pub mod NothingTold
 pub mod NothingToldLists
 pub mod ToldAdds
 pub mod ToldEmpty
+pub mod ToldSounding

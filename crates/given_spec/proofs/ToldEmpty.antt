@@ -181,7 +181,7 @@ module _ (told : Told) where
         ]
       ]
 
-      single : IsSingle told given roots s
+      pub single : IsSingle told given roots s
       single = record { on_a_bus = on_a_bus; over_roots = over_roots }
 
     -- ---- home
@@ -234,7 +234,7 @@ module _ (told : Told) where
             never_unreached region at.space at.address b.slot (inr record { r = r; needs = needs; bridges = way.2; root = way.0; is_root = way.1; leads = leads; sent = sent; b = b; on_the_way = on_the_way; named_bridge = refl; stops = stops }))) in
             (way.0, way.1, sent, way.2, leads, passed)
 
-        home : IsHome told given roots s
+        pub home : IsHome told given roots s
         home = record {
           regions = without_home given roots s system nested (
             λ slot register space a outside. never_outside none (named_region slot register) space a (inl outside),
@@ -245,23 +245,23 @@ module _ (told : Told) where
 
       -- ---- where each is home, and at most one claims, no list has a fault
 
-      no_outside : IsHome told given roots s → (region : RegionName) (space : Space) (a : ℕ) → IsOutside told given roots s region (address_in space a) → ⊥
+      pub no_outside : IsHome told given roots s → (region : RegionName) (space : Space) (a : ℕ) → IsOutside told given roots s region (address_in space a) → ⊥
       no_outside at_home region space a (inl o) = (home_without given roots s system nested at_home.regions).0 region.slot region.register space a o
       no_outside at_home region space a (inr o) =
           both_ways _ o.none (passed_is_sent given roots s system nested space o.r.prefetchable a o.root region.slot.bus o.bridges o.is_root o.leads (at_home.ranges region (address_in space a) o.r o.needs))
 
-      no_unreached : IsHome told given roots s → (region : RegionName) (space : Space) (a : ℕ) (bridge : Slot) → IsUnreached told given roots s region (address_in space a) bridge → ⊥
+      pub no_unreached : IsHome told given roots s → (region : RegionName) (space : Space) (a : ℕ) (bridge : Slot) → IsUnreached told given roots s region (address_in space a) bridge → ⊥
       no_unreached at_home region space a bridge (inl u) = (home_without given roots s system nested at_home.regions).1 region.slot region.register space a bridge u
       no_unreached at_home region space a bridge (inr u) =
           both_ways _ u.stops (passed_by_each given roots s system nested space u.r.prefetchable a u.root region.slot.bus u.bridges u.is_root u.leads (at_home.ranges region (address_in space a) u.r u.needs) u.b u.on_the_way)
 
-      no_clash : IsSingle told given roots s → (bus : ℕ) (at : Address) (two : TwoRegions) → IsClash told given roots s bus at two → ⊥
+      pub no_clash : IsSingle told given roots s → (bus : ℕ) (at : Address) (two : TwoRegions) → IsClash told given roots s bus at two → ⊥
       no_clash one bus at two clash = elim (one.on_a_bus at.space at.address bus clash.gets two.first two.second clash.claims_first clash.claims_second) [
         | inl same ↦ clash.differ same
         | inr share ↦ both_ways _ clash.apart share
       ]
 
-      no_split : IsSingle told given roots s → (at : Address) (two : TwoRegions) → IsSplit told given roots s at two → ⊥
+      pub no_split : IsSingle told given roots s → (at : Address) (two : TwoRegions) → IsSplit told given roots s at two → ⊥
       no_split one at two split = elim (one.over_roots at.space at.address two.first two.second split.root_first split.root_second split.sent_first split.sent_second split.claims_first split.claims_second) [
         | inl same ↦ split.buses (ap (λ (x : Slot). x.bus) same.0)
         | inr share ↦ both_ways _ split.apart share

@@ -16,7 +16,7 @@ use Rattle.given_spec.specs.ToldClaims.{Told, nothing_told, is_held, ClaimsOnBus
 use Rattle.given_spec.specs.ToldFault.{Fault, Known, NotListed, IsIn, IsNotListed}
 use Rattle.given_spec.specs.ToldAllFaults.{region_number, AreAllOfJudging}
 use Rattle.given_spec.specs.ToldFaultLines.{AreAllFaults}
-use Rattle.given_spec.specs.ToldSound.{IsSingle, IsHome}
+use Rattle.given_spec.specs.ToldSound.{IsSingle, IsHome, IsSound}
 use Rattle.given_spec.specs.ToldLine.{list_text}
 
 -- ---- with nothing told each word is the one without it, whoever is asleep
@@ -102,3 +102,9 @@ ToldEmptyWhereNoneFails =
     → ((slot : Slot) → IsNotListed told s slot → ⊥)
     → AreAllOfJudging told given roots s faults
     → (faults ≡ []) ↔ (IsSingle told given roots s × IsHome told given roots s)
+
+-- A system is sound exactly where no fault is there.
+abbrev pub ToldSoundWithoutFaults : Type 0
+ToldSoundWithoutFaults =
+    (told : Told) (given : Given) (roots : List ℕ) (s : System) → IsTold told.ranges → IsSystem s
+    → IsSound told given roots s ↔ ((fault : Fault) → IsIn told given roots s fault → ⊥)

@@ -1,14 +1,17 @@
 -- What judging is for, with what is given and told: at most one region claims an access, and each region is reached.
 use Rattle.std.specs.Prelude.{◌≡◌, ◌⊎◌, ℕ, IsTrue, List}
 use Rattle.std.specs.List.{Contains}
+use Rattle.pci_spec.specs.Slot.{Slot}
 use Rattle.pci_spec.specs.System.{System, Space}
+use Rattle.pci_spec.specs.Bus.{IsNested}
+use Rattle.pci_spec.specs.Sound.{IsInProfile, HasChains}
 use Rattle.pci_spec.specs.Fault.{Address, RegionName, address_in}
 use Rattle.given_spec.specs.Given.{Given, starts}
 use Rattle.given_spec.specs.Claims.{Gets, IsPassedTo}
 use Rattle.given_spec.specs.Sound as untold
 use Rattle.given_spec.specs.Told.{ToldRange}
 use Rattle.given_spec.specs.ToldClaims.{Told, ClaimsOnBus, may_share}
-use Rattle.given_spec.specs.ToldFault.{HasToReach}
+use Rattle.given_spec.specs.ToldFault.{HasToReach, IsNotListed, IsHeldOrphan}
 
 -- two names are of one region, or of two that may share an address
 abbrev pub MayBoth : Told → RegionName → RegionName → Type 0
@@ -38,3 +41,15 @@ pub record IsHome (told : Told) (given : Given) (roots : List ℕ) (s : System) 
   pub ranges : (region : RegionName) (at : Address) (r : ToldRange)
       → HasToReach told s region at r
       → IsPassedTo given roots s at r.prefetchable region.slot.bus
+
+-- a sound system, with what is given and told
+pub record IsSound (told : Told) (given : Given) (roots : List ℕ) (s : System) : Type 0 where
+  pub single : IsSingle told given roots s
+  pub home : IsHome told given roots s
+  pub nested : IsNested roots s
+  pub profile : IsInProfile roots s
+  pub chains : HasChains s
+  -- each range that isn't held is of a function that is listed
+  pub listed : (slot : Slot) → IsNotListed told s slot → ⊥
+  -- each held range is on a root, or bridges lead to its bus
+  pub led_to : (slot : Slot) → IsHeldOrphan told roots s slot → ⊥

@@ -1,6 +1,6 @@
 //! Laws of judging with told ranges. These functions do nothing: each contract is a law.
 
-ghost use Rattle.given_spec.specs.ToldJudgingLaws.{SameClaimsOnBus, SameToldFaults, NoneNotListed, SameToldList, SameToldText, ToldOnlyAdds, HeldAreNotUnreached, HeldAreNotOutside, SameOrder, ToldEmptyWhereNoneFails};
+ghost use Rattle.given_spec.specs.ToldJudgingLaws.{SameClaimsOnBus, SameToldFaults, NoneNotListed, SameToldList, SameToldText, ToldOnlyAdds, HeldAreNotUnreached, HeldAreNotOutside, SameOrder, ToldEmptyWhereNoneFails, ToldSoundWithoutFaults};
 
 /// With nothing told each word of judging is the one without it, and so are the list of all faults and its text.
 pub fn nothing_told_changes_no_list()
@@ -20,6 +20,8 @@ pub fn told_ranges_only_add()
 {}
 
 /// A list of all faults of judging is empty exactly where at most one region claims an access, and each region is reached.
+/// A system is sound with what is told exactly where no fault is there.
 pub fn told_faults_are_what_fails()
     ensures empty { ToldEmptyWhereNoneFails }
+    ensures sound { ToldSoundWithoutFaults }
 {}
