@@ -31,7 +31,7 @@ use Rattle.given_spec.proofs.Determined.{why_is_determined, plain_why_is_determi
 
 -- ---- lists in the order of their keys
 
-precedes_one_way : (xs ys : List ℕ) → precedes xs ys ≡ true → precedes ys xs ≡ true → ⊥
+pub precedes_one_way : (xs ys : List ℕ) → precedes xs ys ≡ true → precedes ys xs ≡ true → ⊥
 precedes_one_way [] ys h k = no h
 precedes_one_way (x ∷ xs) [] h k = no h
 precedes_one_way (x ∷ xs) (y ∷ ys) h k = elim (precedes-cases x y xs ys h) [

@@ -25,3 +25,4 @@ pub mod NothingToldLists
 pub mod ToldAdds
 pub mod ToldEmpty
 pub mod ToldSounding
+pub mod ToldDetermined

@@ -108,3 +108,10 @@ abbrev pub ToldSoundWithoutFaults : Type 0
 ToldSoundWithoutFaults =
     (told : Told) (given : Given) (roots : List ℕ) (s : System) → IsTold told.ranges → IsSystem s
     → IsSound told given roots s ↔ ((fault : Fault) → IsIn told given roots s fault → ⊥)
+
+-- Two lists of all faults of a dump and its probe are equal.
+abbrev pub ToldListIsDetermined : Type 0
+ToldListIsDetermined =
+    (told : Told) (given : Given) (roots : List ℕ) (dump probe : List Block)
+    (faults others : List Fault) → AreAllFaults told given roots dump probe faults
+    → AreAllFaults told given roots dump probe others → faults ≡ others

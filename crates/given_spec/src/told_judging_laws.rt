@@ -1,6 +1,6 @@
 //! Laws of judging with told ranges. These functions do nothing: each contract is a law.
 
-ghost use Rattle.given_spec.specs.ToldJudgingLaws.{SameClaimsOnBus, SameToldFaults, NoneNotListed, SameToldList, SameToldText, ToldOnlyAdds, HeldAreNotUnreached, HeldAreNotOutside, SameOrder, ToldEmptyWhereNoneFails, ToldSoundWithoutFaults};
+ghost use Rattle.given_spec.specs.ToldJudgingLaws.{SameClaimsOnBus, SameToldFaults, NoneNotListed, SameToldList, SameToldText, ToldOnlyAdds, HeldAreNotUnreached, HeldAreNotOutside, SameOrder, ToldEmptyWhereNoneFails, ToldSoundWithoutFaults, ToldListIsDetermined};
 
 /// With nothing told each word of judging is the one without it, and so are the list of all faults and its text.
 pub fn nothing_told_changes_no_list()
@@ -24,4 +24,9 @@ pub fn told_ranges_only_add()
 pub fn told_faults_are_what_fails()
     ensures empty { ToldEmptyWhereNoneFails }
     ensures sound { ToldSoundWithoutFaults }
+{}
+
+/// Two lists of all faults of a dump and its probe are equal, whatever is told.
+pub fn told_lists_are_determined()
+    ensures { ToldListIsDetermined }
 {}
