@@ -1,17 +1,20 @@
 -- In which order a list with told ranges tells: 30 before 34, 34 before all others, and 58 of held ranges before judging.
-use Rattle.std.proofs.Common.{◌≡◌, ◌∙◌, ◌<◌, List, [], ◌∷◌, refl, true, false, inl, inr, arith, lit<, ap, sym, subst, None}
+use Rattle.std.proofs.Common.{◌≡◌, ℕ, Bool, ◌∙◌, ◌<◌, List, [], ◌∷◌, refl, true, false, inl, inr, arith, lit<, ap, sym, subst, None}
 use Rattle.std.specs.List.{Contains}
 use Rattle.std.proofs.lemmas.Bool.{both_ways}
+use Rattle.pci_spec.specs.Slot.{Slot}
 use Rattle.pci_spec.specs.Text.{Block}
+use Rattle.pci_spec.specs.System.{Memory}
 use Rattle.pci_spec.specs.Fault.{SlotsDiffer, Orphan, Unreached, Clash, Split}
 use Rattle.pci_spec.specs.Fault as plain
-use Rattle.pci_spec.specs.Order.{phase_of, is_before, image_at}
+use Rattle.pci_spec.specs.Order.{phase_of, precedes, is_before, image_at}
 use Rattle.pci_spec.specs.FaultLines.{subject}
 use Rattle.pci_spec.proofs.Looking.{phase_le}
 use Rattle.pci_spec.proofs.Members.{in_nil, in_head, in_cons_cases}
 use Rattle.pci_spec.proofs.Examples.Samples.{slot, zeros, host}
 use Rattle.given_spec.specs.Given.{nothing_given}
 use Rattle.given_spec.specs.Fault as untold_fault
+use Rattle.given_spec.specs.AllFaults.{judging_key}
 use Rattle.given_spec.specs.Told.{Command, Held, ToldRange}
 use Rattle.given_spec.specs.ToldClaims.{Told, is_marked_held}
 use Rattle.given_spec.specs.ToldFault.{Fault, Known, NotListed, IsHeldOrphan}
@@ -111,3 +114,16 @@ line_of_held = inr (inr (inl record {
 
 before_judging_of_held : (faults : List Fault) → AreJudged far nothing_given host [] [] faults → ⊥
 before_judging_of_held faults judged = judged.none_earlier (Orphan (slot 5 0 0)) (lit< tt) (inr far_orphan)
+
+-- ---- judging: told ranges stand behind the registers of their slot, by line, and before the next slot
+
+abbrev unreached_at : Slot → ℕ → untold_fault.Fault
+unreached_at at register = untold_fault.Known (Unreached at register Memory 0xe0000000 (slot 0 1 0))
+
+abbrev is_first : untold_fault.Fault → untold_fault.Fault → Bool
+is_first fault other = precedes (judging_key fault) (judging_key other)
+
+by_line : is_first (unreached_at (slot 1 0 0) 0x30) (unreached_at (slot 1 0 0) 256) ∷ is_first (unreached_at (slot 1 0 0) 256) (unreached_at (slot 1 0 0) 257)
+    ∷ is_first (unreached_at (slot 1 0 0) 4351) (unreached_at (slot 1 0 1) 0x10) ∷ is_first (unreached_at (slot 1 0 0) 257) (unreached_at (slot 1 0 0) 256) ∷ []
+    ≡ true ∷ true ∷ true ∷ false ∷ []
+by_line = refl
