@@ -1,11 +1,12 @@
 -- What is told takes no fault away, and 60 and 63 name no held range.
-use Rattle.std.proofs.Common.{◌≡◌, ℕ, zero, suc, ◌+◌, ◌<◌, inl, inr, List, [], ◌∷◌, false, ◌&&◌, ◌||◌, refl, sym, ◌∙◌, ap, arith, None, Some}
+use Rattle.std.proofs.Common.{◌≡◌, ◌≤◌, subst, get_or, ℕ, zero, suc, ◌+◌, ◌<◌, inl, inr, List, [], ◌∷◌, false, ◌&&◌, ◌||◌, refl, sym, ◌∙◌, ap, arith, None, Some}
 use Rattle.std.specs.Bool.{◌==◌}
 use Rattle.std.specs.List.{slice_get}
 use Rattle.std.proofs.lemmas.Bool.{ne_eqb, eq-eqb, or_from, cases_Bool}
 use Rattle.std.proofs.Math.Bool.{or-false}
+use Rattle.std.proofs.lemmas.Option.{slice_get_within, get_or_from_slice_get}
 use Rattle.pci_spec.specs.Slot.{Slot, same_slot}
-use Rattle.pci_spec.specs.System.{System, Space}
+use Rattle.pci_spec.specs.System.{System, Space, Io, Memory, IsAddress}
 use Rattle.pci_spec.specs.Fault.{Orphan, Unreached, Clash, Split, RegionName, Address, address_in, named_region, named_regions}
 use Rattle.pci_spec.specs.Fault as plain
 use Rattle.pci_spec.proofs.Regions.{register_of-lt}
@@ -15,7 +16,7 @@ use Rattle.given_spec.specs.Fault as untold_fault
 use Rattle.given_spec.specs.Told.{ToldRange}
 use Rattle.given_spec.specs.ToldClaims.{Told, IsRangeAt, is_held, is_held_from, is_held_beside, is_marked_held, may_share}
 use Rattle.given_spec.specs.ToldFault.{Known, IsIn, IsOutside, IsUnreached, IsClash, IsSplit}
-use Rattle.given_spec.specs.ToldJudgingLaws.{ToldOnlyAdds, HeldAreNotUnreached, HeldAreNotOutside}
+use Rattle.given_spec.specs.ToldJudgingLaws.{ToldOnlyAdds, HeldAreNotUnreached, HeldAreNotOutside, ToldClaimAddresses}
 use Rattle.given_spec.proofs.Judging.{shared_slot}
 use Rattle.given_spec.proofs.Naming.{named_register}
 
@@ -123,3 +124,16 @@ held_are_not_unreached told given roots s slot register space a bridge h = unrea
 
 pub held_are_not_outside : HeldAreNotOutside
 held_are_not_outside told given roots s slot register space a h = outside_not_held told given roots s (named_region slot register) (address_in space a) h
+
+-- ---- addresses
+
+below_last : (space : Space) (first last : ℕ) → first ≤ last → IsAddress space last → IsAddress space first
+below_last Io first last le high = omega (arith, le, high)
+below_last Memory first last le high = omega (arith, le, high)
+
+pub told_claim_addresses : ToldClaimAddresses
+told_claim_addresses told s region r space a is_told named claims =
+    let within = slice_get_within told.ranges named.index r named.at in
+    let is : get_or told.ranges named.index r ≡ r = get_or_from_slice_get told.ranges named.index r r named.at in
+    let last : IsAddress r.space r.last = subst (λ (x : ToldRange). IsAddress x.space x.last) is (is_told.each named.index r within).line.last in
+    subst (λ sp. IsAddress sp a) claims.holds.0 (below_last r.space a r.last claims.holds.2 last)

@@ -19,7 +19,7 @@ use Rattle.given_spec.specs.Claims as untold
 use Rattle.given_spec.specs.Fault as untold_fault
 use Rattle.given_spec.specs.Told.{ToldRange, IsTold}
 use Rattle.given_spec.specs.ToldClaims.{Told, ClaimsOnBus, IsRangeAt, is_held_beside, may_share}
-use Rattle.given_spec.specs.ToldFault.{IsNotListed, HasToReach, IsOutside, IsUnreached, IsClash, IsSplit}
+use Rattle.given_spec.specs.ToldFault.{IsNotListed, HasToBeReached, IsOutside, IsUnreached, IsClash, IsSplit}
 use Rattle.given_spec.specs.ToldAllFaults.{IsOutsideOf, IsUnreachedOf, IsClashOf, IsSplitOf, IsNamed, AreAllOfJudging, region_number}
 use Rattle.given_spec.specs.ToldSound.{MayBoth, IsSingle, IsHome}
 use Rattle.given_spec.specs.ToldJudgingLaws.{ToldEmptyWhereNoneFails}
@@ -211,7 +211,7 @@ module _ (told : Told) where
             line_of_unreached region space a bridge unreached (λ sp b other line. none (untold_fault.Known (Unreached region.slot region.register sp b other)) line)
 
         -- the function of a range that has to be reached
-        its_function : (region : RegionName) (at : Address) (r : ToldRange) → HasToReach told s region at r → (f : Function) × Contains s f × (f.slot ≡ region.slot)
+        its_function : (region : RegionName) (at : Address) (r : ToldRange) → HasToBeReached told s region at r → (f : Function) × Contains s f × (f.slot ≡ region.slot)
         its_function region at r needs = elim (slot_decided (map (λ (f : Function). f.slot) s) region.slot) [
           | inl has ↦ (let made = in_map_to (λ (f : Function). f.slot) s region.slot has in (made.from, made.has, made.is))
           | inr not ↦ absurd (all_listed region.slot record {
@@ -223,7 +223,7 @@ module _ (told : Told) where
           })
         ]
 
-        range_is_home : (region : RegionName) (at : Address) (r : ToldRange) → HasToReach told s region at r → IsPassedTo given roots s at r.prefetchable region.slot.bus
+        range_is_home : (region : RegionName) (at : Address) (r : ToldRange) → HasToBeReached told s region at r → IsPassedTo given roots s at r.prefetchable region.slot.bus
         range_is_home region at r needs =
             let function = its_function region at r needs in
             let way = a_way_to_each roots s nested function.0 function.1 in

@@ -39,18 +39,20 @@ is_asleep told slot = list_any (λ other. same_slot other slot) told.asleep
 abbrev pub is_enabled_at : System → Slot → Space → Bool
 is_enabled_at s slot space = list_any (λ f. same_slot f.slot slot && is_space_on f space) s
 
--- the same by mark, for a function that is awake or asleep, and whose Command enables the space or doesn't
+-- whether a range with a mark is on, by whether its function is awake and Command enables its space
 abbrev pub is_on_by : Mark → Bool → Bool → Bool
 is_on_by Command is_awake is_enabled = is_awake && is_enabled
 is_on_by Always is_awake is_enabled = is_awake
 is_on_by Held is_awake is_enabled = true
 
+-- whether a range is on
 abbrev pub is_range_on : Told → System → ToldRange → Bool
 is_range_on told s r =
     is_on_by r.mark (not (is_asleep told r.slot)) (is_enabled_at s r.slot r.space)
 
 -- ---- what it claims
 
+-- it has the address, from its first to its last
 abbrev pub Holds : ToldRange → Space → ℕ → Type 0
 Holds r space a = (r.space ≡ space) × (r.first ≤ a) × (a ≤ r.last)
 

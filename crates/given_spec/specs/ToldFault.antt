@@ -44,7 +44,7 @@ pub record IsHeldOrphan (told : Told) (roots : List ℕ) (s : System) (slot : Sl
 -- ---- judging
 
 -- A told range that has to be sent and reached claims the address: one that isn't held.
-pub record HasToReach (told : Told) (s : System) (region : RegionName) (at : Address)
+pub record HasToBeReached (told : Told) (s : System) (region : RegionName) (at : Address)
     (r : ToldRange) : Type 0 where
   pub named : IsRangeAt told region r
   pub not_held : IsFalse (is_marked_held r.mark)
@@ -54,7 +54,7 @@ pub record HasToReach (told : Told) (s : System) (region : RegionName) (at : Add
 pub record IsRangeOutside (told : Told) (given : Given) (roots : List ℕ) (s : System)
     (region : RegionName) (at : Address) : Type 0 where
   pub r : ToldRange
-  pub needs : HasToReach told s region at r
+  pub needs : HasToBeReached told s region at r
   pub bridges : List Function
   pub root : ℕ
   pub is_root : Contains roots root
@@ -66,7 +66,7 @@ pub record IsRangeOutside (told : Told) (given : Given) (roots : List ℕ) (s : 
 pub record IsRangeUnreached (told : Told) (given : Given) (roots : List ℕ) (s : System)
     (region : RegionName) (at : Address) (bridge : Slot) : Type 0 where
   pub r : ToldRange
-  pub needs : HasToReach told s region at r
+  pub needs : HasToBeReached told s region at r
   pub bridges : List Function
   pub root : ℕ
   pub is_root : Contains roots root

@@ -1,7 +1,7 @@
 -- Laws of judging with told ranges.
 use Rattle.std.specs.Prelude.{◌≡◌, ℕ, ◌<◌, ◌↔◌, IsFalse, List, [], map}
 use Rattle.pci_spec.specs.Slot.{Slot}
-use Rattle.pci_spec.specs.System.{System, Space, IsSystem}
+use Rattle.pci_spec.specs.System.{System, Space, IsAddress, IsSystem}
 use Rattle.pci_spec.specs.Bus.{IsNested}
 use Rattle.pci_spec.specs.Text.{Block, IsDump}
 use Rattle.pci_spec.specs.Fault.{Unreached, Address, RegionName}
@@ -11,8 +11,8 @@ use Rattle.given_spec.specs.Claims as untold
 use Rattle.given_spec.specs.Fault as untold_fault
 use Rattle.given_spec.specs.FaultLines as untold_lines
 use Rattle.given_spec.specs.Line as untold_line
-use Rattle.given_spec.specs.Told.{IsTold}
-use Rattle.given_spec.specs.ToldClaims.{Told, nothing_told, is_held, ClaimsOnBus}
+use Rattle.given_spec.specs.Told.{ToldRange, IsTold}
+use Rattle.given_spec.specs.ToldClaims.{Told, nothing_told, is_held, ClaimsOnBus, IsRangeAt, RangeClaims}
 use Rattle.given_spec.specs.ToldFault.{Fault, Known, NotListed, IsIn, IsNotListed}
 use Rattle.given_spec.specs.ToldAllFaults.{region_number, AreAllOfJudging}
 use Rattle.given_spec.specs.ToldFaultLines.{AreAllFaults}
@@ -115,3 +115,10 @@ ToldListIsDetermined =
     (told : Told) (given : Given) (roots : List ℕ) (dump probe : List Block)
     (faults others : List Fault) → AreAllFaults told given roots dump probe faults
     → AreAllFaults told given roots dump probe others → faults ≡ others
+
+-- What a range of a text claims is an address of its space.
+abbrev pub ToldClaimAddresses : Type 0
+ToldClaimAddresses =
+    (told : Told) (s : System) (region : RegionName) (r : ToldRange) (space : Space) (a : ℕ)
+    → IsTold told.ranges → IsRangeAt told region r → RangeClaims told s r space a
+    → IsAddress space a

@@ -11,7 +11,7 @@ use Rattle.given_spec.specs.Claims.{Gets, IsPassedTo}
 use Rattle.given_spec.specs.Sound as untold
 use Rattle.given_spec.specs.Told.{ToldRange}
 use Rattle.given_spec.specs.ToldClaims.{Told, ClaimsOnBus, may_share}
-use Rattle.given_spec.specs.ToldFault.{HasToReach, IsNotListed, IsHeldOrphan}
+use Rattle.given_spec.specs.ToldFault.{HasToBeReached, IsNotListed, IsHeldOrphan}
 
 -- two names are of one region, or of two that may share an address
 abbrev pub MayBoth : Told → RegionName → RegionName → Type 0
@@ -39,7 +39,7 @@ pub record IsSingle (told : Told) (given : Given) (roots : List ℕ) (s : System
 pub record IsHome (told : Told) (given : Given) (roots : List ℕ) (s : System) : Type 0 where
   pub regions : untold.IsHome given roots s
   pub ranges : (region : RegionName) (at : Address) (r : ToldRange)
-      → HasToReach told s region at r
+      → HasToBeReached told s region at r
       → IsPassedTo given roots s at r.prefetchable region.slot.bus
 
 -- a sound system, with what is given and told

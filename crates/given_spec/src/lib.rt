@@ -1,9 +1,9 @@
 //! What is given beside a system: the addresses that the host sends to its root buses, the bridges that answer for a VGA
-//! adapter behind them, and a text that tells what functions answer beside their BARs. Definitions that contracts cite, and
-//! their laws; what they stand on is in `pci_spec`.
+//! adapter behind them, and a text that tells what functions answer beside their BARs. Judging with all of it. Definitions
+//! that contracts cite, and their laws; what they stand on is in `pci_spec`.
 //!
-//! In their comments "PCI 3.0" is the PCI Local Bus Specification 3.0, and "Bridge 1.2" the PCI-to-PCI Bridge
-//! Architecture Specification 1.2.
+//! In their comments "PCI 3.0" is the PCI Local Bus Specification 3.0, "Bridge 1.2" the PCI-to-PCI Bridge Architecture
+//! Specification 1.2, and "Power Management 1.2" the PCI Bus Power Management Interface Specification 1.2.
 #![tactic(auto)]
 
 pub mod determined_laws;

@@ -12,7 +12,7 @@ use Rattle.given_spec.specs.Claims.{Own, passes}
 use Rattle.given_spec.specs.Fault as untold_fault
 use Rattle.given_spec.specs.Told.{Mark, Command, Always, Held, ToldRange}
 use Rattle.given_spec.specs.ToldClaims.{Told, RangeClaims, RangeClaimsOnBus, may_share, is_range_on}
-use Rattle.given_spec.specs.ToldFault.{Known, IsIn, HasToReach}
+use Rattle.given_spec.specs.ToldFault.{Known, IsIn, HasToBeReached}
 use Rattle.given_spec.proofs.Examples.ToldClaims.{told_io, told_memory, told_ranges}
 
 -- the range of the only line claims an address on the bus of its slot
@@ -84,7 +84,7 @@ abbrev virtual : ℕ → ℕ → ToldRange
 virtual first last = told_memory (slot 1 0 0) first last Always
 
 -- a range of the only line, which the bridge stops
-stopped : (windows : List (ℕ × ℕ)) (r : ToldRange) → r.slot ≡ slot 1 0 0 → HasToReach (told_ranges (r ∷ [])) (behind windows) (named_region (slot 1 0 0) 256) (address_in Memory 0xe0100000) r
+stopped : (windows : List (ℕ × ℕ)) (r : ToldRange) → r.slot ≡ slot 1 0 0 → HasToBeReached (told_ranges (r ∷ [])) (behind windows) (named_region (slot 1 0 0) 256) (address_in Memory 0xe0100000) r
     → Leads (behind windows) 0 (port windows ∷ []) 1 → passes nothing_given Memory r.prefetchable 0xe0100000 (port windows) ≡ false
     → IsIn (told_ranges (r ∷ [])) nothing_given host (behind windows) (Known (untold_fault.Known (Unreached (slot 1 0 0) 256 Memory 0xe0100000 (slot 0 1 0))))
 stopped windows r at needs leads stops = inr record {
@@ -101,7 +101,7 @@ stopped windows r at needs leads stops = inr record {
   stops = stops;
 }
 
-needs_of : (windows : List (ℕ × ℕ)) (first last : ℕ) → first ≤ 0xe0100000 → 0xe0100000 ≤ last → HasToReach (told_ranges (virtual first last ∷ [])) (behind windows) (named_region (slot 1 0 0) 256) (address_in Memory 0xe0100000) (virtual first last)
+needs_of : (windows : List (ℕ × ℕ)) (first last : ℕ) → first ≤ 0xe0100000 → 0xe0100000 ≤ last → HasToBeReached (told_ranges (virtual first last ∷ [])) (behind windows) (named_region (slot 1 0 0) 256) (address_in Memory 0xe0100000) (virtual first last)
 needs_of windows first last low high = record { named = record { index = 0; at = refl; slot = refl; register = refl }; not_held = refl; claims = record { on = refl; holds = (refl, low, high) } }
 
 over_the_end : IsIn (told_ranges (virtual 0xe00fc000 0xe0103fff ∷ [])) nothing_given host (behind []) (Known (untold_fault.Known (Unreached (slot 1 0 0) 256 Memory 0xe0100000 (slot 0 1 0))))

@@ -1,5 +1,5 @@
 use Rattle.given_spec.proofs.NothingTold.{same_order}
-use Rattle.given_spec.proofs.ToldAdds.{told_only_adds, held_are_not_unreached, held_are_not_outside}
+use Rattle.given_spec.proofs.ToldAdds.{told_only_adds, held_are_not_unreached, held_are_not_outside, told_claim_addresses}
 use Rattle.given_spec.proofs.told_judging_laws.told_ranges_only_add.Goals as goal
 
 pub returns : goal.returns
@@ -8,4 +8,5 @@ returns c = record {
   unreached = held_are_not_unreached;
   outside = held_are_not_outside;
   order = same_order;
+  addresses = told_claim_addresses;
 }
