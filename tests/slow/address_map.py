@@ -1,12 +1,12 @@
 """The slow map: what `map` prints (docs/FORMATS.md, "Address map")."""
 
-from judge import early_faults, system_of
+from judge import early_faults, name_words, system_of
 from model import IO, MEM, slot_text
-from why import off_bars, range_words, runs
+from why import off_regions, range_words, runs, title_words
 
 
 def is_outside(system, region):
-    """Whether a BAR or ROM has an address that the host doesn't send to the root above it."""
+    """Whether a region that has to be sent has an address that the host doesn't send to the root above it."""
     return region.is_home and any(
         region.claims(address) and not system.given.starts(region.space, root, address)
         for address in system.turns(region.space) for root, _ in system.ways(region.bus))
@@ -26,7 +26,7 @@ class Map:
 
     def __init__(self, system):
         self.system = system
-        self.own = [region for region in system.regions if region.kind != 'legacy']
+        self.own = [region for region in system.regions if region.kind not in ('legacy', 'snoop')]
         self.outside = [region for region in self.own if is_outside(system, region)]
         self.shown = []
 
@@ -67,7 +67,22 @@ class Map:
         lines = self.lines_of(
             space, regions,
             lambda a: is_said and given.starts(space, bus, a) and not self.is_claimed(bus, space, a), 1)
+        for b in self.system.functions:
+            if b.slot in given.unclaimed and bus in [root for root, _ in self.system.ways(b.slot[0])]:
+                lines += self.unclaimed_lines(b, space)
         return ['bus %02x %s' % (bus, space)] + lines if lines else []
+
+    def unclaimed_lines(self, b, space):
+        """What a bridge takes as nobody on its bus claims it: a heading, and the regions behind without a window."""
+        if not b.is_bridge:
+            return []
+        behind = [region for region in self.own
+                  if region.bus == b.secondary and region.space == space and region not in self.outside
+                  and self.system.takes(b, space, region.first)
+                  and not any(w.space == space and w.claims(region.first) for w in self.system.windows[b.slot])]
+        lines = [line for region in sorted(behind, key=lambda region: (region.first, region.name))
+                 for line in self.region_lines(region, 2)]
+        return ['  unclaimed ' + slot_text(b.slot)] + lines if lines else []
 
     def lines(self):
         """All lines."""
@@ -78,7 +93,7 @@ class Map:
         left = [region for region in self.own if region not in self.shown and region not in self.outside]
         lines += headed('outside', [region_words(region) for region in self.outside])
         lines += headed('unreached', [region_words(region) for region in left])
-        return lines + headed('off', [off_words(f, bar) for f, bar in off_bars(self.system.functions)])
+        return lines + headed('off', [region_words(region) for region in off_regions(self.system)])
 
 
 def headed(heading, lines):
@@ -88,20 +103,14 @@ def headed(heading, lines):
 
 def region_words(region):
     """The line of a region."""
-    return '%s %s%s %s %02x%s' % (range_words(region.space, region.first, region.last), region.kind,
-                                  ' pref' if region.prefetchable else '', slot_text(region.slot), region.register,
-                                  ' isa' if region.is_cut else '')
-
-
-def off_words(f, bar):
-    """The line of a BAR that is off."""
-    return '%s bar%s %s %02x' % (range_words(bar.space, bar.first, bar.last), ' pref' if bar.prefetchable else '',
-                                 slot_text(f.slot), bar.register)
+    return '%s %s%s %s%s%s' % (range_words(region.space, region.first, region.last), region.kind,
+                               ' pref' if region.prefetchable else '', name_words(region),
+                               ' isa' if region.is_cut else '', title_words(region))
 
 
 def address_map(functions, probe_slots, given, words=None):
     """What `map` prints."""
-    lines = early_faults(functions, probe_slots, given.roots, words)
+    lines = early_faults(functions, probe_slots, given, words)
     if lines:
         return 'no %s\n' % lines[0]
     return ''.join(line + '\n' for line in Map(system_of(functions, given, words)).lines())

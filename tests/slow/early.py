@@ -1,6 +1,7 @@
-"""Faults that are looked for before judging: 20 to 31 and 50 to 58, of docs/FORMATS.md.
+"""Faults that are looked for before judging: 20 to 34 and 50 to 58, of docs/FORMATS.md.
 
-`early_lines(functions, probe_slots, roots)` is the list of the earliest phase that has any fault.
+`early_lines(functions, roots, held)` is the list of the earliest phase that has any fault. `held` has the slots of which
+a held range is told.
 """
 
 from model import bit, bar_mask, is_wide_bar, number_at, rom_mask, slot_text, starting_registers
@@ -178,6 +179,13 @@ def has_lawful_buses(functions, roots, b):
     return not buses_behind(b) & set(roots)
 
 
+def orphan_lines(functions, roots, slot):
+    """58 of a slot whose bus is no root, and to which no bridge leads."""
+    if slot[0] in roots or any(g.is_bridge and g.secondary == slot[0] for g in functions):
+        return []
+    return ['58 Orphan ' + slot_text(slot)]
+
+
 def place_lines(functions, roots, f):
     """The faults of a function's place among the others."""
     bus, device, number = f.slot
@@ -185,8 +193,7 @@ def place_lines(functions, roots, f):
     lines = []
     if number > 0 and not any(g.slot == (bus, device, 0) for g in functions):
         lines.append('50 LoneFunction ' + name)
-    if bus not in roots and not any(g.is_bridge and g.secondary == bus for g in functions):
-        lines.append('58 Orphan ' + name)
+    lines += orphan_lines(functions, roots, f.slot)
     if f.is_bridge and not has_lawful_buses(functions, roots, f):
         lines.append('57 BusRange ' + name)
     return lines
@@ -202,10 +209,24 @@ def slot_lines(slots, probe_slots):
     return ['30 SlotsDiffer ' + slot_text(slot) for slot in sorted(set(slots) ^ set(probe_slots))]
 
 
-def early_lines(functions, roots):
+def unlisted_lines(slots, to_list):
+    """34: each slot that has to be listed, as a range of its function is told, and isn't."""
+    return ['34 NotListed ' + slot_text(slot) for slot in sorted(set(to_list) - set(slots))]
+
+
+def all_place_lines(functions, roots, held):
+    """The faults of place, by slot, and of the slots of held ranges that aren't listed."""
+    found = {f.slot: place_lines(functions, roots, f) for f in functions}
+    for slot in held:
+        if slot not in found:
+            found[slot] = orphan_lines(functions, roots, slot)
+    return [line for slot in sorted(found) for line in found[slot]]
+
+
+def early_lines(functions, roots, held=()):
     """All faults of the earliest phase before judging that has any; both texts list the functions."""
-    for phase in (identity_lines, decoding_lines, profile_lines, lambda f: place_lines(functions, roots, f)):
+    for phase in (identity_lines, decoding_lines, profile_lines):
         lines = [line for f in functions for line in phase(f)]
         if lines:
             return lines
-    return []
+    return all_place_lines(functions, roots, held)

@@ -9,10 +9,10 @@ combination of ranges, so the least address with an answer is where a range begi
 `functions` are those of the dump with their probes; `probe_slots` are the slots of the probe, None where they are equal.
 """
 
-from early import early_lines, slot_lines
+from early import early_lines, slot_lines, unlisted_lines
 from model import IO, MEM, slot_text
-from regions import Given, System, may_share
-from words import isa_bridges, legacy_parts, names_of, taken
+from regions import TOLD, Given, System, may_share
+from words import isa_bridges, legacy_parts, names_of, palette_parts, sleepers, taken, unclaimed_bridges
 
 
 def address_words(space, address):
@@ -20,9 +20,14 @@ def address_words(space, address):
     return '%s %0*x' % (space, 8 if space == IO else 16, address)
 
 
+def register_words(register):
+    """A register, or the line of a told range."""
+    return '%02x' % register if register <= TOLD else '+%d' % (register - TOLD)
+
+
 def name_words(region):
     """A region, as faults name it."""
-    return '%s %02x' % (slot_text(region.slot), region.register)
+    return '%s %s' % (slot_text(region.slot), register_words(region.register))
 
 
 class Fault:
@@ -42,7 +47,7 @@ class Fault:
 
 
 def outside(system, turns):
-    """63: each BAR and ROM with its least address that the host doesn't send to the root above."""
+    """63: each BAR, ROM and told range that isn't held, with its least address that the host doesn't send to the root above."""
     found = []
     for region in system.regions:
         if not region.is_home:
@@ -68,7 +73,7 @@ def missing_bridge(system, region, addresses):
 
 
 def unreached(system, turns):
-    """60: each BAR and ROM that a bridge on its way doesn't pass."""
+    """60: each BAR, ROM and told range that isn't held, which a bridge on its way doesn't pass."""
     found = []
     for region in system.regions:
         if not region.is_home:
@@ -138,30 +143,37 @@ def judging(system):
 
 def faults(functions, probe_slots, given, words=None):
     """What `faults` prints, without reasons."""
-    lines = early_faults(functions, probe_slots, given.roots, words)
+    lines = early_faults(functions, probe_slots, given, words)
     if not lines:
         lines = [fault.line for fault in judging(system_of(functions, given, words))]
     return '\n'.join(lines or ['yes']) + '\n'
 
 
-def early_faults(functions, probe_slots, roots, words=None):
+def early_faults(functions, probe_slots, given, words=None):
     """The lines of the earliest phase before judging that has any."""
-    if probe_slots is not None and probe_slots != [f.slot for f in functions]:
-        return slot_lines([f.slot for f in functions], probe_slots)
-    return early_lines(taken(functions, names_of(words)), roots)
+    slots = [f.slot for f in functions]
+    if probe_slots is not None and probe_slots != slots:
+        return slot_lines(slots, probe_slots)
+    to_list = [told.slot for told in given.told if told.mark != 'held']
+    held = [told.slot for told in given.told if told.mark == 'held']
+    return unlisted_lines(slots, to_list) or early_lines(taken(functions, names_of(words)), given.roots, held)
 
 
 def system_of(functions, given, words=None):
-    """The system as words take it, with its legacy parts and the bridges with ISA Enable."""
+    """The system as words take it, with what they say of its bridges."""
     names = names_of(words)
-    given = Given(given.roots, given.host[IO], given.host[MEM], legacy_parts(functions, names),
-                  isa_bridges(functions, names))
+    given = Given(given.roots, given.host[IO], given.host[MEM], given.told)
+    given.legacy = legacy_parts(functions, names)
+    given.palette = palette_parts(functions, names)
+    given.isa = isa_bridges(functions, names)
+    given.unclaimed = unclaimed_bridges(functions, names)
+    given.asleep = sleepers(functions, names)
     return System(taken(functions, names), given)
 
 
 def verdict(functions, probe_slots, roots):
     """What `check` prints."""
-    lines = early_faults(functions, probe_slots, roots)
+    lines = early_faults(functions, probe_slots, Given(roots))
     if not lines:
         system = system_of(functions, Given(roots))
         turns = {space: system.turns(space) for space in (IO, MEM)}

@@ -1,29 +1,55 @@
 """Regions of a system, and which accesses get to a bus, one address and one bridge at a time.
 
-A region is an enabled BAR, ROM or window that claims an address, or the legacy part of a bridge in a space.
+A region is an enabled BAR, ROM or window that claims an address, the legacy part of a bridge in a space, the palette part
+of one, or a told range that is on.
 """
 
 from model import IO, MEM, WIDTH
 
 LEGACY = 0x3E
+PALETTE = 0x04
+# the number of line n of what is told is above this: behind all registers
+TOLD = 255
 VGA_PORTS = ((0x3B0, 0x3BB), (0x3C0, 0x3DF))
+PALETTE_PORTS = ((0x3C6, 0x3C6), (0x3C8, 0x3C9))
 FRAME_BUFFER = (0xA0000, 0xBFFFF)
 KILOBYTE = 0x400
 CUT_END = 0x10000
 
 
-class Given:
-    """What is said beside the functions: root buses, what the host sends, and bridges with legacy parts or ISA Enable.
+class ToldRange:
+    """Line n of what is told of a function: `slot`, `space`, `prefetchable`, `first`, `last`, `mark`, and its name."""
 
-    `host` has for each space None, where all is sent, or a list of (root or None, first, last). `legacy` has the slots
-    of bridges with legacy parts, and whether they decode 16 bits of a port; `isa` those of bridges with ISA Enable.
+    def __init__(self, n, slot, space, span, mark):
+        self.n = n
+        self.slot = slot
+        self.space = IO if space == IO else MEM
+        self.prefetchable = space == 'pref'
+        self.first, self.last = span
+        self.mark = mark
+        self.title = ''
+
+    @property
+    def register(self):
+        """Its place among the registers of its function."""
+        return TOLD + self.n
+
+
+class Given:
+    """What is said beside the functions: root buses, what the host sends, told ranges, and what words say of bridges.
+
+    `host` has for each space None, where all is sent, or a list of (root or None, first, last). `told` has told ranges.
+    By words `legacy` and `palette` have the slots of bridges with such parts, and whether they decode 16 bits of a port.
+    `isa` has those of bridges with ISA Enable, `unclaimed` those of bridges that take what nobody claims, and `asleep`
+    those of functions that sleep.
     """
 
-    def __init__(self, roots, host_io=None, host_mem=None, legacy=None, isa=None):
+    def __init__(self, roots, host_io=None, host_mem=None, told=()):
         self.roots = list(roots)
         self.host = {IO: host_io, MEM: host_mem}
-        self.legacy = legacy or {}
-        self.isa = isa or set()
+        self.told = list(told)
+        self.legacy, self.palette = {}, {}
+        self.isa, self.unclaimed, self.asleep = set(), set(), set()
 
     def starts(self, space, root, address):
         """Whether an access of the host to an address starts on a root bus."""
@@ -37,6 +63,23 @@ class Given:
         if f.slot not in self.legacy or not f.is_bridge or not f.is_on(space):
             return False
         return legacy_holds(self.legacy[f.slot], space, address)
+
+    def palette_claims(self, space, address, f):
+        """Whether the palette part of a bridge claims an address."""
+        if space != IO or f.slot not in self.palette or not f.is_bridge or not f.is_on(IO):
+            return False
+        return palette_holds(self.palette[f.slot], address)
+
+
+def palette_holds(is_wide, address):
+    """Whether a palette part has a port, by 16 bits of it or by 10."""
+    return address < 0x10000 and (address if is_wide else address % 0x400) in (0x3C6, 0x3C8, 0x3C9)
+
+
+def palette_ranges(is_wide):
+    """The ranges of ports of a palette part."""
+    bases = [0] if is_wide else range(0, 0x10000, 0x400)
+    return [(base + first, base + last) for base in bases for first, last in PALETTE_PORTS]
 
 
 def legacy_holds(is_wide, space, address):
@@ -77,11 +120,22 @@ class Region:
         self.ranges = [(part.first, part.last)] if ranges is None else ranges
         self.is_cut = part is not None and ranges is not None
         self.name = (f.slot, register)
+        self.title = ''
 
     @property
     def is_home(self):
+        """Whether it has to be sent and reached: a BAR, a ROM, or a told range that isn't held."""
+        return self.kind in ('bar', 'rom', 'told')
+
+    @property
+    def is_movable(self):
         """Whether it is a BAR or a ROM."""
         return self.kind in ('bar', 'rom')
+
+    @property
+    def is_told(self):
+        """Whether it is a told range."""
+        return self.kind in ('told', 'held')
 
     @property
     def first(self):
@@ -110,20 +164,51 @@ def own_regions(f, given):
     return [own_region(f, part, given) for part in f.parts() if part.enabled and not part.is_closed]
 
 
+def told_region(told):
+    """The region of a told range."""
+    kind = 'held' if told.mark == 'held' else 'told'
+    region = Region(told, told.register, told.space, kind, None, [(told.first, told.last)])
+    region.prefetchable = told.prefetchable
+    region.title = told.title
+    return region
+
+
+def is_told_on(told, functions, given):
+    """Whether a told range is on."""
+    if told.mark == 'held':
+        return True
+    if told.slot in given.asleep:
+        return False
+    own = [f for f in functions if f.slot == told.slot]
+    return bool(own) and (told.mark == 'always' or own[0].is_on(told.space))
+
+
 def regions_of(functions, given):
     """All regions, by slot and register."""
-    regions = []
+    regions = [told_region(told) for told in given.told if is_told_on(told, functions, given)]
     for f in functions:
         regions += own_regions(f, given)
         if f.slot in given.legacy and f.is_bridge:
             regions += [Region(f, LEGACY, space, 'legacy', None, legacy_ranges(given.legacy[f.slot], space))
                         for space in (IO, MEM) if f.is_on(space)]
+        if f.slot in given.palette and f.is_bridge and f.is_on(IO):
+            regions.append(Region(f, PALETTE, IO, 'snoop', None, palette_ranges(given.palette[f.slot])))
     return sorted(regions, key=lambda region: region.name)
 
 
 def may_share(one, other):
-    """Whether two regions may claim one address: a window and the legacy part of one bridge."""
-    return one.slot == other.slot and {one.kind, other.kind} == {'window', 'legacy'}
+    """Whether two regions may claim one address.
+
+    Two held ranges may, and so may a held range and what is of the same function. A window, the legacy part and the
+    palette part of one bridge may.
+    """
+    if one.kind == other.kind == 'held':
+        return True
+    if one.slot != other.slot:
+        return False
+    if 'held' in (one.kind, other.kind):
+        return True
+    return one.kind != other.kind and {one.kind, other.kind} <= {'window', 'legacy', 'snoop'}
 
 
 class System:
@@ -147,15 +232,24 @@ class System:
             self.ways_to[bus] = found
         return self.ways_to[bus]
 
+    def takes(self, b, space, address):
+        """Whether a bridge takes an address as nobody on its bus claims it."""
+        if b.slot not in self.given.unclaimed or not b.is_bridge or not b.is_on(space):
+            return False
+        return not any(region.bus == b.slot[0] and region.space == space and region.claims(address)
+                       for region in self.regions)
+
     def forwards(self, b, space, address):
         """Whether a bridge forwards an access to an address."""
-        if self.given.legacy_claims(space, address, b):
+        if self.given.legacy_claims(space, address, b) or self.given.palette_claims(space, address, b):
+            return True
+        if self.takes(b, space, address):
             return True
         return any(window.space == space and window.claims(address) for window in self.windows[b.slot])
 
     def passes(self, b, region, address):
         """Whether a bridge passes an address of a region: a prefetchable window serves prefetchable BARs alone."""
-        if self.given.legacy_claims(region.space, address, b):
+        if self.given.legacy_claims(region.space, address, b) or self.takes(b, region.space, address):
             return True
         for window in self.windows[b.slot]:
             serves = window.part.window != 'pref' or region.prefetchable

@@ -1,8 +1,8 @@
 """Reasons behind faults of judging, and BARs that are off: what `faults --why` prints ("All faults" of docs/FORMATS.md)."""
 
-from judge import early_faults, judging, system_of
+from judge import early_faults, judging, name_words, system_of
 from model import IO, WIDTH, assumed, slot_text
-from regions import may_share
+from regions import Region, is_told_on, may_share, told_region
 
 
 def range_words(space, first, last):
@@ -33,12 +33,20 @@ def part_words(region):
     return '%s %s%s' % (region.kind, region.space, ' pref' if is_prefetch else '')
 
 
+def title_words(region):
+    """The name of a told range, behind a space where there is one."""
+    return ' ' + region.title if region.title else ''
+
+
 def region_line(word, region, system):
     """The line of a region."""
-    name = '  %s %s %02x ' % (word, slot_text(region.slot), region.register)
+    name = '  %s %s ' % (word, name_words(region))
+    if region.kind == 'snoop':
+        ports = ' io 000003c6,000003c8-000003c9'
+        return name + ('snoop16' + ports if system.given.palette[region.slot] else 'snoop' + ports + ' of each 1K')
     if region.kind != 'legacy':
         extent = range_words(region.space, region.first, region.last)
-        return name + '%s %s%s' % (part_words(region), extent, ' isa' if region.is_cut else '')
+        return name + '%s %s%s%s' % (part_words(region), extent, ' isa' if region.is_cut else '', title_words(region))
     if region.space != IO:
         return name + 'vga mem 00000000000a0000-00000000000bffff 128K'
     ports = ' io 000003b0-000003bb,000003c0-000003df'
@@ -64,6 +72,8 @@ def bridge_line(system, b, region):
         words += ['pref', window_words(b, 'pref')]
     if region.space == IO and b.slot in system.given.isa:
         words.append('isa')
+    if b.slot in system.given.unclaimed:
+        words.append('unclaimed')
     if b.slot in system.given.legacy:
         words.append('vga16' if system.given.legacy[b.slot] else 'vga')
     return ' '.join(words)
@@ -125,11 +135,16 @@ def least_place(system, region):
     return None
 
 
+def moved_by(fault):
+    """The region that can be moved: the second of two, but the first where the second is a told range."""
+    return fault.beside if fault.number in (61, 62) and fault.region.is_told else fault.region
+
+
 def advice(system, fault):
     """The line that tells where a region would fit, or none."""
-    region = fault.region
+    region = moved_by(fault)
     is_said = system.given.host[region.space] is not None
-    if not region.is_home or (region.bus in system.given.roots and not is_said):
+    if not region.is_movable or (region.bus in system.given.roots and not is_said):
         return []
     if fault.number == 62 and not is_said:
         return []
@@ -139,20 +154,18 @@ def advice(system, fault):
     return ['  fits ' + (range_words(region.space, *place) if place else 'none')]
 
 
-def off_bars(functions):
-    """The implemented BARs whose space Command doesn't enable."""
-    return [(f, bar) for f in functions for bar in f.bars() if not f.is_on(bar.space)]
-
-
-def off_line(f, bar):
-    """The line of a BAR that is off."""
-    return 'off %s %02x bar %s%s %s' % (slot_text(f.slot), bar.register, bar.space, ' pref' if bar.prefetchable else '',
-                                        range_words(bar.space, bar.first, bar.last))
+def off_regions(system):
+    """The implemented BARs whose space Command doesn't enable, and told ranges that aren't on, by slot and register."""
+    found = [Region(f, bar.register, bar.space, 'bar', bar) for f in system.functions for bar in f.bars()
+             if not f.is_on(bar.space)]
+    found += [told_region(told) for told in system.given.told
+              if not is_told_on(told, system.functions, system.given)]
+    return sorted(found, key=lambda region: region.name)
 
 
 def faults_and_why(functions, probe_slots, given, words=None):
     """What `faults --why` prints."""
-    lines = early_faults(functions, probe_slots, given.roots, words)
+    lines = early_faults(functions, probe_slots, given, words)
     if lines:
         return '\n'.join(lines) + '\n'
     system = system_of(functions, given, words)
@@ -160,5 +173,5 @@ def faults_and_why(functions, probe_slots, given, words=None):
     lines = [] if found else ['yes']
     for fault in found:
         lines += [fault.line] + evidence(system, fault) + advice(system, fault)
-    lines += [off_line(f, bar) for f, bar in off_bars(system.functions)]
+    lines += [region_line('off', region, system)[2:] for region in off_regions(system)]
     return '\n'.join(lines) + '\n'

@@ -1,10 +1,15 @@
-"""The words of `--model`: how functions are taken by a user's words, and which bridges have legacy parts or ISA Enable."""
+"""The words of `--model`: how functions are taken by a user's words, and what bridges do by them.
+
+`snoop` and `unclaimed` count where they are said by name. `all` is what docs/FORMATS.md says that it is.
+"""
 
 from early import decoding_lines, has_window_fault, identity_lines, is_asleep, profile_lines
 from model import (BRIDGE_CONTROL, CLASS, COMMAND, HEADER, STATUS, IO, WINDOWS, bit, number_at, put_bounds,
-                   window_bounds)
+                   put_number, window_bounds)
 
 NAMES = ('cardbus', 'ide', 'isa', 'power', 'reset', 'subtractive', 'unnumbered', 'vga', 'vga16', 'windows')
+SUBTRACTIVE = 0x060401
+PLAIN_BRIDGE = 0x060400
 
 
 def names_of(words):
@@ -39,6 +44,37 @@ def isa_bridges(functions, names):
 def is_anyone_behind(functions, b):
     """Whether a function is listed on a bus of a bridge's range."""
     return any(b.secondary <= f.slot[0] <= b.subordinate for f in functions)
+
+
+def is_subtractive(f):
+    """Whether it is a bridge of the class of subtractive decode."""
+    return f.is_bridge and number_at(f.image, CLASS, 3) == SUBTRACTIVE
+
+
+def unclaimed_bridges(functions, names):
+    """`unclaimed`: the slots of bridges alone of the class on their bus, but those that `subtractive` is about."""
+    if 'unclaimed' not in names:
+        return set()
+    alone = set()
+    for b in functions:
+        beside = [f for f in functions if is_subtractive(f) and f.slot[0] == b.slot[0]]
+        if is_subtractive(b) and len(beside) == 1:
+            alone.add(b.slot)
+    if 'subtractive' in names:
+        alone = {b.slot for b in functions if b.slot in alone and is_anyone_behind(functions, b)}
+    return alone
+
+
+def has_snooping(f):
+    """Whether it is a bridge with palette snooping."""
+    return f.is_bridge and bit(f.command, 5)
+
+
+def palette_parts(functions, names):
+    """`snoop`: the slots of bridges with palette parts, and whether each decodes 16 bits of a port."""
+    if 'snoop' not in names:
+        return {}
+    return {f.slot: 'vga16' in names or bit(f.bridge_control, 4) for f in functions if has_snooping(f)}
 
 
 def clear(image, offset, width):
@@ -87,9 +123,25 @@ def take_registers(f, names):
             take_window(f, kind)
 
 
+def is_taken_asleep(f, names):
+    """Whether `power` takes a function as asleep, whose registers are as `cardbus` and `windows` leave them."""
+    return 'power' in names and not identity_lines(f) and not decoding_lines(f) and is_asleep(f.image)
+
+
+def sleepers(functions, names):
+    """The slots of functions that `power` takes as asleep."""
+    found = set()
+    for listed in functions:
+        f = listed.copy()
+        take_registers(f, names)
+        if is_taken_asleep(f, names):
+            found.add(f.slot)
+    return found
+
+
 def take_sleeping(f, names):
     """`power`: what sleeps decodes nothing, and has no list of capabilities."""
-    if 'power' in names and not identity_lines(f) and not decoding_lines(f) and is_asleep(f.image):
+    if is_taken_asleep(f, names):
         f.image[COMMAND] &= ~3 & 0xFF
         f.image[STATUS] &= ~0x10 & 0xFF
 
@@ -100,7 +152,7 @@ def take_bridge(functions, f, names):
         return
     if 'reset' in names:
         f.image[BRIDGE_CONTROL] &= ~0x40 & 0xFF
-    if 'subtractive' in names and number_at(f.image, CLASS, 3) == 0x060401:
+    if 'subtractive' in names and is_subtractive(f):
         f.image[CLASS] = 0
 
 
@@ -116,13 +168,15 @@ def take_channels(f):
             clear(f.probe, bar.register, width)
 
 
-def is_unnumbered(f, has_legacy):
-    """Whether a bridge has no bus numbers, claims nothing by a window or legacy part, and has its ROM off."""
+def is_unnumbered(f, has_legacy, has_palette):
+    """Whether a bridge has no bus numbers, claims nothing by a window or such a part, and has its ROM off."""
     if not f.is_bridge or f.primary or f.secondary or f.subordinate:
         return False
     if any(window.enabled and not window.is_closed for window in f.windows()):
         return False
     if has_legacy and (f.is_on(IO) or f.is_on('mem')):
+        return False
+    if has_palette and f.is_on(IO):
         return False
     return not any(bit(rom.value, 0) for rom in f.rom())
 
@@ -138,6 +192,7 @@ def take_unnumbered(f):
 def taken(functions, names):
     """The functions as the words take them."""
     all_taken = []
+    unclaimed = unclaimed_bridges(functions, names)
     for listed in functions:
         f = listed.copy()
         has_legacy = bool(names & {'vga', 'vga16'}) and has_vga_enable(f)
@@ -145,13 +200,18 @@ def taken(functions, names):
             f.image[BRIDGE_CONTROL] &= ~8 & 0xFF
         if 'isa' in names and has_isa_enable(f):
             f.image[BRIDGE_CONTROL] &= ~4 & 0xFF
+        if 'snoop' in names:
+            f.image[COMMAND] &= ~0x20 & 0xFF
+        if f.slot in unclaimed:
+            put_number(f.image, CLASS, 3, PLAIN_BRIDGE)
         take_registers(f, names)
         take_sleeping(f, names)
         take_bridge(functions, f, names)
         if not identity_lines(f) and not decoding_lines(f) and not profile_lines(f):
             if 'ide' in names and f.layout == 0 and number_at(f.image, CLASS + 1, 2) == 0x0101:
                 take_channels(f)
-            elif 'unnumbered' in names and is_unnumbered(f, has_legacy):
+            elif 'unnumbered' in names and is_unnumbered(
+                    f, has_legacy, 'snoop' in names and has_snooping(listed)):
                 take_unnumbered(f)
         all_taken.append(f)
     return all_taken
