@@ -4,9 +4,9 @@
 Usage: slow.py KIND COUNT [FIRST [PROGRAM]]
        slow.py KIND show SEED
 
-KIND is `judge`, `plan`, `settle`, `growth`, `spare`, or `all`, which is each of them. COUNT seeds are taken from FIRST on
-(0 if not said). Of `all` a quarter of these are for `plan` and `settle`, of which a seed has several boards, and an eighth
-for `growth` and `spare`. PROGRAM is the built program, by default crates/pciplan/out/pciplan. What is printed:
+KIND is `judge`, `plan`, `settle`, `growth`, `spare`, `also`, or `all`, which is each of them. COUNT seeds are taken from
+FIRST on (0 if not said). Of `all` a quarter of these are for `plan` and `settle`, of which a seed has several boards, and an
+eighth for `growth`, `spare` and `also`. PROGRAM is the built program, by default crates/pciplan/out/pciplan. What is printed:
 
 - a line for each board on which program and model differ, and below it what differs;
 - for each kind of how many seeds boards were of each sort, and of 1,000 seeds or more a line for each sort that lacks;
@@ -14,8 +14,10 @@ for `growth` and `spare`. PROGRAM is the built program, by default crates/pcipla
 
 Boards of `growth` have tight windows, of which some grow. Laws are tried of what the slow settler does there, and it
 settles the boards of growth_rows.py. Boards of `spare` have slots behind which room is wanted. The same is done there, with
-those of spare_rows.py. The program is asked for the same writes and denied spares, but not of one of these two kinds
-without a PROGRAM.
+those of spare_rows.py. The program is asked for the same writes and denied spares. Beside boards of `also` ranges are told
+that no register shows. Laws are tried of what the slow judge and the slow map say there, and of the boards of also_rows.py
+they say what stands there. A program that takes `--also` is asked for the same. Of one of these three kinds no program is
+asked without a PROGRAM.
 
 The status is 1 where boards disagree or a sort is lacking. `show` prints the board of a seed. RT_JOBS sets how many
 processes run at a time (as many as there are cores if not said).
@@ -31,7 +33,9 @@ import tempfile
 HERE = os.path.dirname(os.path.abspath(__file__))
 sys.path.insert(0, os.path.join(HERE, 'slow'))
 
-import growth_laws  # noqa: E402  (the modules beside this file)
+import also_laws  # noqa: E402  (the modules beside this file)
+import also_rows  # noqa: E402
+import growth_laws  # noqa: E402
 import growth_rows  # noqa: E402
 import judged  # noqa: E402
 import moving  # noqa: E402
@@ -45,12 +49,13 @@ KINDS = {
     'settle': (moving.compare_settling, moving.show_settling, moving.SETTLE_SORTS),
     'growth': (growth_laws.compare, growth_laws.show, growth_laws.SORTS),
     'spare': (spare_laws.compare, spare_laws.show, spare_laws.SORTS),
+    'also': (also_laws.compare, also_laws.show, also_laws.SORTS),
 }
 MANY = 1000
 # boards that were worked out by hand
-ROWS = {'growth': growth_rows, 'spare': spare_rows}
+ROWS = {'growth': growth_rows, 'spare': spare_rows, 'also': also_rows}
 # of how many seeds for `all` each kind takes one, by what its boards cost
-SHARES = {'judge': 1, 'plan': 4, 'settle': 4, 'growth': 8, 'spare': 8}
+SHARES = {'judge': 1, 'plan': 4, 'settle': 4, 'growth': 8, 'spare': 8, 'also': 8}
 
 
 class Task:

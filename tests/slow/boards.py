@@ -107,8 +107,8 @@ class Maker:
         """Whether a draw of n is the first."""
         return self.draw.randrange(n) == 0
 
-    def make(self):
-        """The board."""
+    def lay_out(self):
+        """Puts functions on the board, and gives them addresses."""
         board = self.board
         if self.one_in(3):
             board.roots = sorted(self.draw.sample((0, 0x10, 0x40, 0xFE), self.draw.randrange(1, 4)))
@@ -120,6 +120,11 @@ class Maker:
             self.crowd()
         else:
             place_tidily(self.draw, board)
+
+    def make(self):
+        """The board."""
+        board = self.board
+        self.lay_out()
         for f in board.functions:
             self.decorate(f)
         self.say_beside()

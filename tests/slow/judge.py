@@ -47,7 +47,7 @@ class Fault:
 
 
 def outside(system, turns):
-    """63: each BAR, ROM and told range that isn't held, with its least address that the host doesn't send to the root above."""
+    """63: each region that has to be sent, with its least address that the host doesn't send to the root above."""
     found = []
     for region in system.regions:
         if not region.is_home:
@@ -73,7 +73,7 @@ def missing_bridge(system, region, addresses):
 
 
 def unreached(system, turns):
-    """60: each BAR, ROM and told range that isn't held, which a bridge on its way doesn't pass."""
+    """60: each region that has to be reached, which a bridge on its way doesn't pass."""
     found = []
     for region in system.regions:
         if not region.is_home:

@@ -121,6 +121,7 @@ class Region:
         self.is_cut = part is not None and ranges is not None
         self.name = (f.slot, register)
         self.title = ''
+        self.holds = None
 
     @property
     def is_home(self):
@@ -149,14 +150,39 @@ class Region:
 
     def claims(self, address):
         """Whether it claims an address of its space."""
+        if self.holds:
+            return self.holds(address)
         return any(first <= address <= last for first, last in self.ranges)
+
+
+def isa_holds(first, last, address):
+    """Whether an I/O window that ISA Enable cuts claims an address."""
+    return first <= address <= last and (address >= CUT_END or address % KILOBYTE < 0x100)
 
 
 def own_region(f, part, given):
     """The region of a part of a function."""
     is_cut = part.window == 'io' and f.slot in given.isa
     ranges = isa_ranges(part.first, part.last) if is_cut else None
-    return Region(f, part.register, part.space, part.kind, part, ranges)
+    region = Region(f, part.register, part.space, part.kind, part, ranges)
+    if is_cut:
+        first, last = part.first, part.last
+        region.holds = lambda address: isa_holds(first, last, address)
+    return region
+
+
+def legacy_region(f, space, is_wide):
+    """The region of a legacy part in a space."""
+    region = Region(f, LEGACY, space, 'legacy', None, legacy_ranges(is_wide, space))
+    region.holds = lambda address: legacy_holds(is_wide, space, address)
+    return region
+
+
+def palette_region(f, is_wide):
+    """The region of a palette part."""
+    region = Region(f, PALETTE, IO, 'snoop', None, palette_ranges(is_wide))
+    region.holds = lambda address: palette_holds(is_wide, address)
+    return region
 
 
 def own_regions(f, given):
@@ -189,10 +215,9 @@ def regions_of(functions, given):
     for f in functions:
         regions += own_regions(f, given)
         if f.slot in given.legacy and f.is_bridge:
-            regions += [Region(f, LEGACY, space, 'legacy', None, legacy_ranges(given.legacy[f.slot], space))
-                        for space in (IO, MEM) if f.is_on(space)]
+            regions += [legacy_region(f, space, given.legacy[f.slot]) for space in (IO, MEM) if f.is_on(space)]
         if f.slot in given.palette and f.is_bridge and f.is_on(IO):
-            regions.append(Region(f, PALETTE, IO, 'snoop', None, palette_ranges(given.palette[f.slot])))
+            regions.append(palette_region(f, given.palette[f.slot]))
     return sorted(regions, key=lambda region: region.name)
 
 
