@@ -37,15 +37,22 @@ def text_fault(board, rule):
     text = told_text(board.told)
     if told_text(told_ranges(text)) != text:
         return 'the text is read otherwise'
-    if not text:
-        return None
-    place = rule.randrange(len(text))
-    other = bytearray(text.encode('latin-1'))
-    other[place] = rule.choice(b'09afghx-. \n\x7f\x20')
-    answer = judge(bytes(other))
+    other = spoilt_text(text, rule)
+    answer = judge(other)
     if isinstance(answer, list) or answer[0] == 9:
         return None
-    return None if judge(bytes(other) + b'x') == answer else 'more text changes %s' % message(answer)
+    return None if judge(other + b'x') == answer else 'more text changes %s' % message(answer)
+
+
+def spoilt_text(text, rule):
+    """A text of which a byte is another one, or which is cut."""
+    other = bytearray(text.encode('latin-1'))
+    if other:
+        place = rule.randrange(len(other))
+        other[place] = rule.choice(b'09afghx-. \n\x7f')
+        if rule.randrange(4) == 0:
+            del other[place:]
+    return bytes(other)
 
 
 def early_fault(case, bare):
@@ -420,7 +427,20 @@ def program_fault(board, program, folder, texts):
         if got != (0 if is_good else 1, wanted, ''):
             return '%s: status %d\nthe program:\n%s%sthe slow judge:\n%s' % (' '.join(words + options), got[0], got[1],
                                                                           got[2], wanted)
-    return None
+    return refusal_fault(board, program, files, random.Random(board.seed))
+
+
+def refusal_fault(board, program, files, rule):
+    """What a program says otherwise of a text that is refused, or none."""
+    text = spoilt_text(told_text(board.told), rule)
+    answer = judge(text)
+    if isinstance(answer, list):
+        return None
+    with open(files[2], 'wb') as out:
+        out.write(text)
+    got = run(program, ['map'] + files[:2] + board.options() + ['--also', files[2]])
+    wanted = 2, '', 'pciplan: also: %s\n' % message(answer)
+    return None if got == wanted else 'the text %r: %s, and not %s' % (text, got, wanted)
 
 
 def law_fault(case, bare, rule, sorts):
