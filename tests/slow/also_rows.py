@@ -117,6 +117,34 @@ LISTS = [
     (SOCKET, None, '', '21 HeaderKind 00:05.0'),
     (SOCKET, 'cardbus', '00:05.0 mem 00000000fc402000-00000000fc402fff command socket',
      '61 Clash bus 00 mem 00000000fc402000 00:05.0 +1 00:06.0 10'),
+    # what has to be listed comes before a header, and once a slot
+    (SOCKET, None, '00:07.0 io 00000000-00000000 always\n00:07.0 io 00000001-00000001 command\n'
+     '00:08.0 io 00000000-00000000 held\n05:00.0 io 00000000-00000000 always',
+     '34 NotListed 00:07.0\n34 NotListed 05:00.0'),
+    (HOSTS, None, '05:00.0 io 00000000-00000000 held\n05:00.0 io 00000001-00000001 held\n'
+     '40:01.0 io 00000000-00000000 held', '58 Orphan 05:00.0\n58 Orphan 40:01.0'),
+    # a held range may share with what else is told of its function
+    (LOW, None, '00:02.0 mem 00000000e0000000-00000000e0000fff always\n'
+     '00:02.0 mem 00000000e0000000-00000000e0000fff held', 'yes'),
+    (LOW, None, '00:02.0 mem 00000000e0000000-00000000e0000fff always\n'
+     '00:02.0 mem 00000000e0000fff-00000000e0001fff command',
+     '61 Clash bus 00 mem 00000000e0000fff 00:02.0 +1 00:02.0 +2'),
+    (OVER, None, '00:01.0 mem 00000000e00fffff-00000000e0100000 always',
+     '61 Clash bus 00 mem 00000000e00fffff 00:01.0 20 00:01.0 +1'),
+    # ten bits of a palette port, and sixteen
+    (SNOOPS + '; 00:02.0 (0) cmd 0001, 10 = 000007c1/ffffffe1', 'snoop,vga', '',
+     '61 Clash bus 00 io 000007c6 00:01.0 04 00:02.0 10'),
+    (SNOOPS + '; 00:02.0 (0) cmd 0001, 10 = 000007c1/ffffffe1', 'snoop,vga16', '', 'yes'),
+    (SNOOPS + ', ctl 0010; 00:02.0 (0) cmd 0001, 10 = 000007c1/ffffffe1', 'snoop', '', 'yes'),
+    (SNOOPS + '; 00:02.0 (0) cmd 0001', 'snoop', '00:02.0 io 000003c7-000003c7 command', 'yes'),
+    ('00:01.0 (1) cmd 0021, 0-0-0', 'snoop,unnumbered', '', '57 BusRange 00:01.0'),
+    ('00:01.0 (1) cmd 0020, 0-0-0', 'snoop,unnumbered', '', 'yes'),
+    # the bridge beside it is of the class, though nothing is behind
+    (TAKES + '; ' + SOUND + '; 00:1d.0 (1) class 060401, cmd 0000, 0-2-2', 'subtractive,unclaimed', '',
+     '54 Subtractive 00:1e.0'),
+    # what it takes goes on to the bus behind, and what is told of the bridge itself doesn't
+    (TAKES + '; ' + SOUND, 'unclaimed', '00:1e.0 mem 00000000e0000000-00000000e00000ff always',
+     '60 Unreached 01:00.0 10 mem 00000000e0000000 bridge 00:1e.0'),
 ]
 
 # board, words, what is told, and the list with its reasons
@@ -165,6 +193,34 @@ off 01:02.0 +2 told mem 00000000e0080000-00000000e0080fff 4K ea0'''),
   bridge 00:1e.0 on mem closed unclaimed
   missed 00000000e0000800-00000000e00008ff 256
   fits 0000000000000000-0000000000000fff 4K'''),
+    ('00:02.0 (0) cmd 0001, 10 = 00001101/ffffff01; 00:1e.0 (1) class 060401, cmd 0001, 0-1-1, ctl 000c, 1c = 1010/f0f0; '
+     '01:00.0 (0) cmd 0001, 10 = 00001101/ffffff01', 'isa,unclaimed,vga', '',
+     '''60 Unreached 01:00.0 10 io 00001100 bridge 00:1e.0
+  needs 01:00.0 10 bar io 00001100-000011ff 256
+  bridge 00:1e.0 on io 00001000-00001fff isa unclaimed vga
+  missed 00001100-000011ff 256
+  fits 00000000-000000ff 256'''),
+    (SNOOPS + ', ctl 0010; 00:02.0 (0) cmd 0001, 10 = 000003c1/ffffffe1', 'snoop', '',
+     '''61 Clash bus 00 io 000003c6 00:01.0 04 00:02.0 10
+  first 00:01.0 04 snoop16 io 000003c6,000003c8-000003c9
+  second 00:02.0 10 bar io 000003c0-000003df 32
+  shared 000003c6-000003c6 1
+  shared 000003c8-000003c9 2'''),
+    (LARGE + '; 40:01.0 (0) cmd 0002', {'roots': [0, 0x40], 'host_mem': [(None, 0xE0000000, 0xE07FFFFF)]},
+     '40:01.0 pref 00000000e0000000-00000000e0000fff always',
+     '''62 Split mem 00000000e0000000 00:02.0 10 40:01.0 +1
+  first 00:02.0 10 bar mem 00000000e0000000-00000000e00fffff 1M
+  second 40:01.0 +1 told mem pref 00000000e0000000-00000000e0000fff 4K
+  shared 00000000e0000000-00000000e0000fff 4K
+  fits 00000000e0100000-00000000e01fffff 1M'''),
+    (LARGE, ON_PCI, '00:02.0 mem 00000000fed00000-00000000fed003ff always hpet',
+     '''63 Outside 00:02.0 +1 mem 00000000fed00000
+  needs 00:02.0 +1 told mem 00000000fed00000-00000000fed003ff 1K hpet
+  host mem 00000000e0000000-00000000febfffff'''),
+    (ASLEEP, 'power', '00:01.0 io 00000000-00000000 always\n00:01.0 pref 0000000000000000-0000000000000fff command x',
+     '''yes
+off 00:01.0 +1 told io 00000000-00000000 1
+off 00:01.0 +2 told mem pref 0000000000000000-0000000000000fff 4K x'''),
 ]
 
 # board, words, what is told, and the map
@@ -192,6 +248,30 @@ off
      '''bus 00 mem
   unclaimed 00:1e.0
     00000000e0000000-00000000e0000fff 4K bar 01:00.0 10'''),
+    ('00:01.0 (1) cmd 0002, 0-1-2, 20 = e000e000/fff0fff0; 01:1e.0 (1) class 060401, cmd 0002, 1-2-2; '
+     '02:00.0 (0) cmd 0002, 10 = e0000000/fffff000', 'unclaimed', '02:1f.0 mem 00000000e0000fff-00000000e0001000 held',
+     '''bus 00 mem
+  00000000e0000000-00000000e00fffff 1M window 00:01.0 20
+    00000000e0000000-00000000e00fffff 1M free
+  unclaimed 01:1e.0
+    00000000e0000000-00000000e0000fff 4K bar 02:00.0 10
+    00000000e0000fff-00000000e0001000 2 held 02:1f.0 +1'''),
+    (OVER, None, '01:1f.0 pref 00000000f0000000-00000000f0000fff held x\n'
+     '01:1f.0 pref 00000000e00ff000-00000000e0100fff held',
+     '''bus 00 mem
+  00000000e0000000-00000000e00fffff 1M window 00:01.0 20
+    00000000e0000000-00000000e00fefff 1020K free
+    00000000e00ff000-00000000e0100fff 8K held pref 01:1f.0 +2
+unreached
+  00000000f0000000-00000000f0000fff 4K held pref 01:1f.0 +1 x'''),
+    (LARGE, ON_PCI, '00:02.0 mem 00000000fed00000-00000000fed003ff always hpet\n'
+     '00:1f.0 mem 00000000febffc00-00000000fed003ff held',
+     '''bus 00 mem
+  00000000e0000000-00000000e00fffff 1M bar 00:02.0 10
+  00000000e0100000-00000000febffbff 502783K free
+  00000000febffc00-00000000fed003ff 1026K held 00:1f.0 +2
+outside
+  00000000fed00000-00000000fed003ff 1K told 00:02.0 +1 hpet'''),
 ]
 
 
