@@ -107,6 +107,9 @@ class AlsoMaker(Maker):
         parts = [part for f in self.board.functions if f.layout < 2 for part in f.parts()]
         near = [part for part in parts if part.function.slot == slot
                 or (part.kind == 'window' and part.function.secondary == slot[0])]
+        roots = self.board.roots
+        if slot[0] in roots and len(roots) > 1 and self.one_in(2):
+            near = [part for part in parts if part.function.slot[0] in roots and part.function.slot[0] != slot[0]]
         part = self.draw.choice((near if near and not self.one_in(3) else parts) or [None])
         space = part.space if part else self.draw.choice((IO, MEM))
         ends = [part.first, part.last, part.last + 1] if part else []

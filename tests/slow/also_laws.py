@@ -11,7 +11,8 @@ import random
 
 from also import answers, numbered, told_ranges, told_text
 from also_boards import also_board
-from also_plain import Case, plain_fault
+from also_maps import map_fault, under
+from also_plain import Case, clash_fault, plain_fault
 from boards import described
 from early import has_window_fault
 from judge import faults
@@ -214,6 +215,8 @@ def address_fault(case, rule):
                 told = plain_fault(case, space, address)
                 if told:
                     return told
+            if clash_fault(case, space, first):
+                return clash_fault(case, space, first)
             for region in case.system.regions:
                 if region.space == space and region.claims(first) != region.claims(last):
                     return '%s %x: no cut at an end of %s' % (space, first, region.name)
@@ -346,20 +349,6 @@ def list_fault(case, lines):
     return None
 
 
-def map_fault(case, lines):
-    """Each region has one line in a map, and each told range too, whether on or off."""
-    kinds = ('bar', 'rom', 'window', 'told', 'held')
-    found = [words for words in map(str.split, lines) if len(words) > 2 and words[2] in kinds]
-    off = sum(1 for line in case.given.told if not any(region.name == (line.slot, line.register)
-                                                       for region in case.system.regions))
-    bars = sum(1 for f in case.system.functions for bar in f.bars() if not f.is_on(bar.space))
-    wanted = sum(1 for region in case.system.regions if region.kind in kinds) + off + bars
-    names = {tuple(word for word in words[3:6] if word != 'pref')[:2] for words in found}
-    if len(found) != wanted or len(names) != wanted:
-        return 'the map has %d regions, %d by name, and not %d' % (len(found), len(names), wanted)
-    return None
-
-
 # ---- sorts
 
 def sorts_of(case, texts):
@@ -385,17 +374,6 @@ def sorts_of(case, texts):
             ('a palette part', any(region.kind == 'snoop' for region in case.system.regions))):
         sorts |= {sort} if there else set()
     return sorts
-
-
-def under(heading, lines):
-    """The lines below a heading at the end of a map."""
-    found = []
-    if heading in lines:
-        for line in lines[lines.index(heading) + 1:]:
-            if not line.startswith('  '):
-                break
-            found.append(line)
-    return found
 
 
 def needed_words(case, listed):

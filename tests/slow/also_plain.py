@@ -1,7 +1,7 @@
 """Who answers an address, and which bridge takes it further: once more, by the definitions, and by that address alone.
 
 Nothing is asked of regions or of where they begin. `plain_fault(case, space, address)` tells what the slow judge says
-otherwise, or none. A `Case` is a board as it is judged:
+otherwise, or none, and `clash_fault` of two regions. A `Case` is a board as it is judged:
 
 - `functions` (of the dump), `given`, `words`, `names`; `early`: the faults before judging, and where there are none
 - `system`, and all faults of judging: `clashes` (61 and 62 of each two and each address), `missed` (60), `sent` (63).
@@ -136,3 +136,41 @@ def plain_fault(case, space, address):
             if system.passes(b, region, address) != bool(by):
                 return '%s %x and what %s passes for %s' % (space, address, b.slot, region.name)
     return None
+
+
+def gets(case, space, address, bus):
+    """Whether an access of the host to an address gets to a bus."""
+    if bus in case.given.roots:
+        return case.given.starts(space, bus, address)
+    above = [b for b in case.system.functions if b.is_bridge and b.secondary == bus]
+    return any(serving(case, b, space, address) and gets(case, space, address, b.slot[0]) for b in above)
+
+
+def is_shared(case, one, other):
+    """Whether two may share an address, by their slots and registers."""
+    held = {(told.slot, 255 + told.n) for told in case.given.told if told.mark == 'held'}
+    if one in held and other in held:
+        return True
+    if one[0] != other[0]:
+        return False
+    windows = {(b.slot, register) for b in case.system.functions if b.is_bridge for register in (0x1C, 0x20, 0x24)}
+    parts = {(b.slot, register) for b in case.system.functions if b.is_bridge for register in (0x04, 0x3E)}
+    if one in windows and other in windows:
+        return False
+    return one in held or other in held or (one in windows | parts and other in windows | parts)
+
+
+def clash_fault(case, space, address):
+    """What the slow judge says otherwise of each two that claim an address, or none."""
+    there, roots, wanted = claimers(case, space, address), case.given.roots, set()
+    for place, second in enumerate(there):
+        for first in there[:place]:
+            bus, other = first[0][0], second[0][0]
+            if bus == other and gets(case, space, address, bus) and not is_shared(case, first, second):
+                wanted.add((61, first, second))
+            if bus != other and bus in roots and other in roots and not is_shared(case, first, second):
+                if case.given.starts(space, bus, address) and case.given.starts(space, other, address):
+                    wanted.add((62, first, second))
+    found = {(fault.number, fault.beside.name, fault.region.name) for fault in case.clashes
+             if fault.region.space == space and fault.address == address}
+    return None if found == wanted else '%s %x: clashes are %s, and not %s' % (space, address, found, wanted)

@@ -131,6 +131,10 @@ LISTS = [
      '61 Clash bus 00 mem 00000000e0000fff 00:02.0 +1 00:02.0 +2'),
     (OVER, None, '00:01.0 mem 00000000e00fffff-00000000e0100000 always',
      '61 Clash bus 00 mem 00000000e00fffff 00:01.0 20 00:01.0 +1'),
+    (HOSTS, {'roots': [0, 0x40]}, '00:01.0 io 00000000-00000001 held\n40:01.0 io 00000001-00000002 held', 'yes'),
+    (HOSTS, {'roots': [0, 0x40]}, '00:01.0 mem 0000000000000000-0000000000000001 held\n'
+     '40:01.0 mem 0000000000000001-0000000000000002 always',
+     '62 Split mem 0000000000000001 00:01.0 +1 40:01.0 +2'),
     # ten bits of a palette port, and sixteen
     (SNOOPS + '; 00:02.0 (0) cmd 0001, 10 = 000007c1/ffffffe1', 'snoop,vga', '',
      '61 Clash bus 00 io 000007c6 00:01.0 04 00:02.0 10'),
@@ -256,6 +260,11 @@ off
   unclaimed 01:1e.0
     00000000e0000000-00000000e0000fff 4K bar 02:00.0 10
     00000000e0000fff-00000000e0001000 2 held 02:1f.0 +1'''),
+    (TAKES + '; ' + SOUND, 'unclaimed', '00:1f.0 mem 00000000e0000000-00000000e0000000 held',
+     '''bus 00 mem
+  00000000e0000000-00000000e0000000 1 held 00:1f.0 +1
+unreached
+  00000000e0000000-00000000e0000fff 4K bar 01:00.0 10'''),
     (OVER, None, '01:1f.0 pref 00000000f0000000-00000000f0000fff held x\n'
      '01:1f.0 pref 00000000e00ff000-00000000e0100fff held',
      '''bus 00 mem

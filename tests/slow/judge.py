@@ -114,8 +114,8 @@ def pairs(system, turns):
             gets = {region.bus: system.gets(space, address, region.bus) for region in there}
             starts = {root: system.given.starts(space, root, address) for root in roots}
             for place, second in enumerate(there):
-                for first in there[:place]:
-                    if first.bus == second.bus and gets[first.bus] and not may_share(first, second):
+                for first in [first for first in there[:place] if not may_share(first, second)]:
+                    if first.bus == second.bus and gets[first.bus]:
                         found.append(clash_at(first, second, address))
                     if (first.bus != second.bus and first.bus in roots and second.bus in roots
                             and starts[first.bus] and starts[second.bus]):
