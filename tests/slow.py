@@ -5,8 +5,9 @@ Usage: slow.py KIND COUNT [FIRST [PROGRAM]]
        slow.py KIND show SEED
 
 KIND is `judge`, `plan`, `settle`, `growth`, `spare`, `also`, or `all`, which is each of them. COUNT seeds are taken from
-FIRST on (0 if not said). Of `all` a quarter of these are for `plan` and `settle`, of which a seed has several boards, and an
-eighth for `growth`, `spare` and `also`. PROGRAM is the built program, by default crates/pciplan/out/pciplan. What is printed:
+FIRST on (0 if not said). Of `all` a quarter of these are for `plan` and `settle`, of which a seed has several boards, and
+an eighth for `growth`, `spare` and `also`. PROGRAM is the built program, by default crates/pciplan/out/pciplan. What is
+printed:
 
 - a line for each board on which program and model differ, and below it what differs;
 - for each kind of how many seeds boards were of each sort, and of 1,000 seeds or more a line for each sort that lacks;
