@@ -53,8 +53,9 @@ class AlsoMaker(Maker):
             self.set_bits(f)
         for _ in range(self.draw.choice((0, 0, 0, 1, 1, 2, 3))):
             change = self.draw.choice(RARE if self.one_in(6) else COMMON)
-            if board.functions:
-                change(self.draw, board, self.draw.choice([f for f in board.functions if f.layout < 2] or [None]))
+            with_registers = [f for f in board.functions if f.layout < 2]
+            if with_registers:
+                change(self.draw, board, self.draw.choice(with_registers))
         self.say_beside()
         if board.functions:
             board.told = numbered([self.told_range() for _ in range(self.draw.choice((0, 1, 1, 2, 3, 4, 6, 9)))])
