@@ -17,8 +17,8 @@ from spoiling import (change_buses, change_class, change_command, change_roots, 
 from words import has_isa_enable, has_snooping, has_vga_enable, is_subtractive
 
 COMMON = (move_part, move_part, move_window, move_window, change_command, switch_rom)
-RARE = (change_buses, change_class, change_roots, clear_buses, drop_function, fix_window, fix_window, make_socket,
-        put_to_sleep)
+RARE = (change_buses, change_class, change_roots, clear_buses, drop_function, fix_window, fix_window, fix_window, fix_window,
+        make_socket, make_socket, put_to_sleep)
 EDGES = {IO: (0x3C6, 0x3C8, 0x3C9, 0x3B0, 0x3DF, 0x7C6, 0xFFFF, 0x10000, 0), MEM: (0xA0000, 0xBFFFF, 0, (1 << 32) - 1)}
 SIZES = (1, 1, 2, 8, 0x100, 0x101, 0x400, 0x1000, 0x1000, 0x4000, 0x100000)
 TITLES = ('', '', 'vf0', 'p2sb', '!', '~' * 32)
@@ -52,7 +52,7 @@ class AlsoMaker(Maker):
             self.decorate(f)
             self.set_bits(f)
         for _ in range(self.draw.choice((0, 0, 0, 1, 1, 2, 3))):
-            change = self.draw.choice(RARE if self.one_in(6) else COMMON)
+            change = self.draw.choice(RARE if self.one_in(3) else COMMON)
             with_registers = [f for f in board.functions if f.layout < 2]
             if with_registers:
                 change(self.draw, board, self.draw.choice(with_registers))
