@@ -23,6 +23,7 @@ pub mod ToldClaims
 pub mod ToldFault
 pub mod ToldSound
 pub mod ToldAllFaults
+pub mod ToldNumbered
 pub mod ToldFaultLines
 pub mod ToldLine
 pub mod ToldJudgingLaws

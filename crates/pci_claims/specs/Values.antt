@@ -2,9 +2,11 @@
 use Rattle.std.specs.Prelude.{map}
 use Rattle.std.specs.Option.{option_map}
 use Rattle.given_spec.specs.Given as spec
+use Rattle.given_spec.specs.ToldClaims as told_spec
 use Rattle.pci_base.specs.declared.range.RootRange.{RootRange}
 use Rattle.pci_claims.specs.declared.given.LegacyBridge.{LegacyBridge}
 use Rattle.pci_claims.specs.declared.given.Given.{Given}
+use Rattle.pci_claims.specs.declared.told.Told.{Told}
 
 abbrev pub host_value : RootRange → spec.HostRange
 host_value r = record { root = r.root; first = r.range.first; last = r.range.last }
@@ -19,3 +21,6 @@ given_value g = record {
   legacy = map legacy_value g.legacy.now;
   isa = g.isa.now;
 }
+
+abbrev pub told_value : Told → told_spec.Told
+told_value t = record { ranges = t.ranges.now; asleep = t.asleep.now }

@@ -14,4 +14,5 @@ pub mod passed;
 pub mod reach;
 pub mod root_claims;
 pub mod sent;
+pub mod told;
 pub mod vga;

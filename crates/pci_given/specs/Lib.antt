@@ -8,3 +8,4 @@ pub mod BarsAndRoms
 pub mod OutsideLines
 pub mod UnreachedLines
 pub mod AllLines
+pub mod Named
