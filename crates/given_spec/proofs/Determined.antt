@@ -1,7 +1,7 @@
 -- The lines behind a fault are one text.
 use Rattle.std.proofs.Common.{◌≡◌, ℕ, List, [], ◌++◌, refl, sym, ◌∙◌, ap, subst, arith, Bool, true, false, codes, Option, None, Some}
 use Rattle.std.specs.Prelude.{IsTrue, MatchOption, MatchBool}
-use Rattle.std.specs.List.{Contains, flat_map}
+use Rattle.std.specs.List.{Contains, flat_map, slice_get}
 use Rattle.pci_spec.specs.Slot.{Slot, slot_number}
 use Rattle.pci_spec.specs.System.{System, Function, Space, Part, IsSystem, Claims, has_part, is_prefetchable_part}
 use Rattle.pci_spec.specs.System as system
@@ -18,9 +18,12 @@ use Rattle.pci_spec.proofs.Ways.{one_way}
 use Rattle.given_spec.specs.Given.{Given, HostRange, nothing_given}
 use Rattle.given_spec.specs.Fault.{Known, Outside}
 use Rattle.given_spec.specs.DeterminedLaws.{WhyIsDetermined, KnownWhyIsDetermined, PlainWhyIsDetermined}
-use Rattle.given_spec.specs.Why.{AnyRegion, Own, Legacy, Holds, IsRegionIn, IsNamed, region_line, ranges_for, host_line, bridge_line, Misses, IsBehindOutside, IsBehindUnreached, IsBehindTwo, AreNamedTwo, IsKnownEvidence, IsPlaceFor, IsLeastPlace, IsFit, is_said, IsFitBehind, IsAdviceFor, IsKnownAdvice, IsWhy}
+use Rattle.given_spec.specs.Told.{ToldRange}
+use Rattle.given_spec.specs.ToldClaims.{Told, nothing_told}
+use Rattle.given_spec.specs.ToldRegion.{ToldRegion, IsToldIn}
+use Rattle.given_spec.specs.Why.{AnyRegion, Own, Legacy, OfLine, space_of, is_prefetchable, bus_of, to_move, Holds, IsRegionIn, IsNamed, region_line, ranges_for, host_line, bridge_line, Misses, IsBehindOutside, IsBehindUnreached, IsBehindTwo, AreNamedTwo, IsKnownEvidence, IsPlaceFor, IsLeastPlace, IsFit, is_said, IsFitBehind, IsAdviceFor, IsKnownAdvice, IsWhy}
 use Rattle.given_spec.proofs.Nothing.{not_at_control}
-use Rattle.given_spec.proofs.Reasons.{same_why}
+use Rattle.given_spec.proofs.Reasons.{same_why, low_register}
 use Rattle.given_spec.proofs.OneList.{range_from, same_range, same_runs}
 
 abbrev said_or_none : Option (List HostRange) → List HostRange
@@ -76,22 +79,51 @@ module _ (s : System) (is_system : IsSystem s) where
   own_not_legacy : (q : plain.Region) (register : ℕ) → plain.IsRegionIn s q → q.register ≡ register → 0x3e ≡ register → ⊥
   own_not_legacy q register is at control = not_at_control is.f q.part (is.register ∙ at ∙ sym control)
 
-  module _ (given : Given) where
+  -- ---- told ranges
+
+  range_of : ToldRange → Option ToldRange → ToldRange
+  range_of r None = r
+  range_of r (Some other) = other
+
+  -- a register names one range
+  same_told : (told : Told) (x y : ToldRegion) → IsToldIn told s x → IsToldIn told s y → x.register ≡ y.register → x ≡ y
+  unfolding range_of
+  same_told told x y is also register =
+      let first = is.named.register in
+      let second = also.named.register in
+      let index : is.named.index ≡ also.named.index = omega (arith, first, second, register) in
+      let at : Some x.told ≡ Some y.told = sym is.named.at ∙ ap (λ n. slice_get told.ranges n) index ∙ also.named.at in
+      let range : x.told ≡ y.told = ap (λ o. range_of x.told o) at in
+      λ i. record { register = register i; told = range i }
+
+  -- no region of address registers is named as a told range, and no legacy part is
+  own_not_told : (told : Told) (q : plain.Region) (x : ToldRegion) → plain.IsRegionIn s q → IsToldIn told s x → q.register ≡ x.register → ⊥
+  own_not_told told q x is also same = let low = low_register s q is in let line = also.named.register in omega (arith, low, line, same)
+
+  control_not_told : (told : Told) (x : ToldRegion) → IsToldIn told s x → 0x3e ≡ x.register → ⊥
+  control_not_told told x is control = let line = is.named.register in omega (arith, line, control)
+
+  module _ (told : Told) (given : Given) where
     named_one : (p q : AnyRegion) (slot : Slot) (register : ℕ) (space : Space) → IsNamed p slot register space → IsNamed q slot register space
-        → IsRegionIn given s p → IsRegionIn given s q → p ≡ q
+        → IsRegionIn told given s p → IsRegionIn told given s q → p ≡ q
     named_one (Own p) (Own q) slot register space named other is also = ap Own (named_own p q slot register space named other is also)
     named_one (Own p) (Legacy c sp) slot register space named other is also = absurd (own_not_legacy p register is named.1 other.1)
+    named_one (Own p) (OfLine y) slot register space named other is also = absurd (own_not_told told p y is also (named.1 ∙ sym other.1))
     named_one (Legacy b sp) (Own q) slot register space named other is also = absurd (own_not_legacy q register also other.1 named.1)
     named_one (Legacy b sp) (Legacy c sq) slot register space named other is also =
         ap (λ (f : Function). Legacy f sp) (at_slot b c slot is.0 also.0 named.0 other.0) ∙ ap (λ sp. Legacy c sp) (named.2 ∙ sym other.2)
+    named_one (Legacy b sp) (OfLine y) slot register space named other is also = absurd (control_not_told told y also (named.1 ∙ sym other.1))
+    named_one (OfLine x) (Own q) slot register space named other is also = absurd (own_not_told told q x also is (other.1 ∙ sym named.1))
+    named_one (OfLine x) (Legacy c sq) slot register space named other is also = absurd (control_not_told told x is (other.1 ∙ sym named.1))
+    named_one (OfLine x) (OfLine y) slot register space named other is also = ap OfLine (same_told told x y is also (named.1 ∙ sym other.1))
 
     -- ---- what tells that a fault is there
 
-    abbrev unreached_lines : plain.Region → Function → List Range → List ℕ
+    abbrev unreached_lines : AnyRegion → Function → List Range → List ℕ
     unreached_lines q b missed =
-        plain.region_line (codes "needs") q ++ (bridge_line given b q.space q.prefetchable ++ flat_map (range_line (codes "missed") q.space) missed)
+        region_line given (codes "needs") q ++ (bridge_line given b (space_of q) (is_prefetchable q) ++ flat_map (range_line (codes "missed") (space_of q)) missed)
 
-    one_unreached : (q : plain.Region) (bridge : Slot) (lines others : List ℕ) → IsBehindUnreached given s q bridge lines → IsBehindUnreached given s q bridge others → lines ≡ others
+    one_unreached : (q : AnyRegion) (bridge : Slot) (lines others : List ℕ) → IsBehindUnreached told given s q bridge lines → IsBehindUnreached told given s q bridge others → lines ≡ others
     one_unreached q bridge lines others h k =
         let of : h.b ≡ k.b = at_slot h.b k.b bridge h.listed k.listed h.named k.named in
         let missed : h.missed ≡ k.missed = same_runs (Misses given q k.b) h.missed k.missed (subst (λ (b : Function). AreRuns (Misses given q b) h.missed) of h.runs) k.runs in
@@ -101,42 +133,42 @@ module _ (s : System) (is_system : IsSystem s) where
     two_lines space p q shared =
         region_line given (codes "first") p ++ (region_line given (codes "second") q ++ flat_map (range_line (codes "shared") space) shared)
 
-    one_two : (space : Space) (p q : AnyRegion) (lines others : List ℕ) → IsBehindTwo given s space p q lines → IsBehindTwo given s space p q others → lines ≡ others
+    one_two : (space : Space) (p q : AnyRegion) (lines others : List ℕ) → IsBehindTwo told given s space p q lines → IsBehindTwo told given s space p q others → lines ≡ others
     one_two space p q lines others h k =
         h.text ∙ ap (λ (rs : List Range). two_lines space p q rs) (same_runs (λ a. Holds given p a × Holds given q a) h.shared k.shared h.runs k.runs) ∙ sym k.text
 
-    one_named_two : (space : Space) (two : TwoRegions) (lines others : List ℕ) → AreNamedTwo given s space two lines → AreNamedTwo given s space two others → lines ≡ others
+    one_named_two : (space : Space) (two : TwoRegions) (lines others : List ℕ) → AreNamedTwo told given s space two lines → AreNamedTwo told given s space two others → lines ≡ others
     one_named_two space two lines others (p, q, np, nq, h) (v, w, nv, nw, k) =
         let first : v ≡ p = named_one v p two.first.slot two.first.register space nv np k.first h.first in
         let second : w ≡ q = named_one w q two.second.slot two.second.register space nw nq k.second h.second in
         one_two space p q lines others h
-        (subst (λ (x : AnyRegion). IsBehindTwo given s space p x others) second (subst (λ (x : AnyRegion). IsBehindTwo given s space x w others) first k))
+        (subst (λ (x : AnyRegion). IsBehindTwo told given s space p x others) second (subst (λ (x : AnyRegion). IsBehindTwo told given s space x w others) first k))
 
-    one_known_evidence : (fault : faults.Fault) (lines others : List ℕ) → IsKnownEvidence given s fault lines → IsKnownEvidence given s fault others → lines ≡ others
-    one_known_evidence fault lines others = elim fault as (λ fault. IsKnownEvidence given s fault lines → IsKnownEvidence given s fault others → lines ≡ others) [
+    one_known_evidence : (fault : faults.Fault) (lines others : List ℕ) → IsKnownEvidence told given s fault lines → IsKnownEvidence told given s fault others → lines ≡ others
+    one_known_evidence fault lines others = elim fault as (λ fault. IsKnownEvidence told given s fault lines → IsKnownEvidence told given s fault others → lines ≡ others) [
       | Unreached slot register space a bridge ↦ λ h k.
-          let same : k.0 ≡ h.0 = named_own k.0 h.0 slot register space k.1 h.1 k.2.is h.2.is in
-          one_unreached h.0 bridge lines others h.2 (subst (λ (q : plain.Region). IsBehindUnreached given s q bridge others) same k.2)
+          let same : k.0 ≡ h.0 = named_one k.0 h.0 slot register space k.1 h.1 k.2.is h.2.is in
+          one_unreached h.0 bridge lines others h.2 (subst (λ (q : AnyRegion). IsBehindUnreached told given s q bridge others) same k.2)
       | Clash bus space a first fr second sr ↦ one_named_two space (named_regions first fr second sr) lines others
       | Split space a first fr second sr ↦ one_named_two space (named_regions first fr second sr) lines others
       | _ ↦ λ h k. h ∙ sym k
     ]
 
     module _ (roots : List ℕ) where
-      abbrev outside_lines : plain.Region → ℕ → List HostRange → List ℕ
-      outside_lines q root ranges = plain.region_line (codes "needs") q ++ host_line q.space (ranges_for root ranges)
+      abbrev outside_lines : AnyRegion → ℕ → List HostRange → List ℕ
+      outside_lines q root ranges = region_line given (codes "needs") q ++ host_line (space_of q) (ranges_for root ranges)
 
-      one_outside : IsNested roots s → (q : plain.Region) (lines others : List ℕ) → IsBehindOutside given roots s q lines → IsBehindOutside given roots s q others → lines ≡ others
+      one_outside : IsNested roots s → (q : AnyRegion) (lines others : List ℕ) → IsBehindOutside told given roots s q lines → IsBehindOutside told given roots s q others → lines ≡ others
       one_outside nested q lines others h k =
-          let root : h.root ≡ k.root = (one_way roots s nested (one_function s is_system) h.root k.root h.bridges k.bridges q.slot.bus h.is_root k.is_root h.leads k.leads).0 in
+          let root : h.root ≡ k.root = (one_way roots s nested (one_function s is_system) h.root k.root h.bridges k.bridges (bus_of q) h.is_root k.is_root h.leads k.leads).0 in
           let ranges : h.ranges ≡ k.ranges = ap said_or_none (sym h.said ∙ k.said) in
           h.text ∙ ap (λ root. outside_lines q root h.ranges) root ∙ ap (λ (rs : List HostRange). outside_lines q k.root rs) ranges ∙ sym k.text
 
       -- ---- where a region would fit
 
       one_place : (q : plain.Region) (wide : Bool) (o p : Option Range)
-          → MatchOption o ((first : ℕ) → IsPlaceFor given roots s q wide first → ⊥) (λ r. IsLeastPlace given roots s q wide r)
-          → MatchOption p ((first : ℕ) → IsPlaceFor given roots s q wide first → ⊥) (λ r. IsLeastPlace given roots s q wide r) → o ≡ p
+          → MatchOption o ((first : ℕ) → IsPlaceFor told given roots s q wide first → ⊥) (λ r. IsLeastPlace told given roots s q wide r)
+          → MatchOption p ((first : ℕ) → IsPlaceFor told given roots s q wide first → ⊥) (λ r. IsLeastPlace told given roots s q wide r) → o ≡ p
       one_place q wide None None h k = refl
       one_place q wide None (Some t) h k = absurd (h t.first k.is)
       one_place q wide (Some r) None h k = absurd (k r.first h.is)
@@ -147,10 +179,10 @@ module _ (s : System) (is_system : IsSystem s) where
           let other = k.size in
           ap (λ (x : Range). Some x) (range_from r t (let e : r.first ≡ t.first = omega (arith, low, high) in e) (let e : r.last ≡ t.last = omega (arith, low, high, size, other) in e))
 
-      one_fit : (q : plain.Region) (lines others : List ℕ) → IsFit given roots s q lines → IsFit given roots s q others → lines ≡ others
+      one_fit : (q : plain.Region) (lines others : List ℕ) → IsFit told given roots s q lines → IsFit told given roots s q others → lines ≡ others
       one_fit q lines others h k =
           let of : h.f ≡ k.f = at_slot h.f k.f q.slot h.listed k.listed h.slot k.slot in
-          let exact = subst (λ (f : Function). MatchOption h.place ((first : ℕ) → IsPlaceFor given roots s q (is_wide_part f q.part) first → ⊥) (λ r. IsLeastPlace given roots s q (is_wide_part f q.part) r)) of h.exact in
+          let exact = subst (λ (f : Function). MatchOption h.place ((first : ℕ) → IsPlaceFor told given roots s q (is_wide_part f q.part) first → ⊥) (λ r. IsLeastPlace told given roots s q (is_wide_part f q.part) r)) of h.exact in
           h.text ∙ ap (λ o. fits_line q.space o) (one_place q (is_wide_part k.f q.part) h.place k.place exact k.exact) ∙ sym k.text
 
       one_of_match : (b : Bool) (X Y V W Z : Type 0) → (X → V → Z) → (Y → W → Z) → MatchBool b X Y → MatchBool b V W → Z
@@ -158,53 +190,54 @@ module _ (s : System) (is_system : IsSystem s) where
       one_of_match false X Y V W Z on off h k = off h k
 
       module _ (assumed : List AssumedRegister) where
-        one_fit_behind : (q : AnyRegion) (lines others : List ℕ) → IsFitBehind assumed given roots s q lines → IsFitBehind assumed given roots s q others → lines ≡ others
+        one_fit_behind : (q : AnyRegion) (lines others : List ℕ) → IsFitBehind assumed told given roots s q lines → IsFitBehind assumed told given roots s q others → lines ≡ others
         one_fit_behind (Legacy b space) lines others h k = h ∙ sym k
+        one_fit_behind (OfLine x) lines others h k = h ∙ sym k
         one_fit_behind (Own q) lines others h k =
             one_of_match _ (lines ≡ []) _ (others ≡ []) _ (lines ≡ others) (λ x y. x ∙ sym y)
-            (one_of_match (is_size_assumed assumed q.slot q.register) (lines ≡ unknown_line) (IsFit given roots s q lines) (others ≡ unknown_line) (IsFit given roots s q others) (lines ≡ others)
+            (one_of_match (is_size_assumed assumed q.slot q.register) (lines ≡ unknown_line) (IsFit told given roots s q lines) (others ≡ unknown_line) (IsFit told given roots s q others) (lines ≡ others)
             (λ x y. x ∙ sym y) (one_fit q lines others))
             h k
 
-        one_advice_for : (region : RegionName) (space : Space) (lines others : List ℕ) → IsAdviceFor assumed given roots s region space lines → IsAdviceFor assumed given roots s region space others → lines ≡ others
+        one_advice_for : (region : RegionName) (space : Space) (lines others : List ℕ) → IsAdviceFor assumed told given roots s region space lines → IsAdviceFor assumed told given roots s region space others → lines ≡ others
         one_advice_for region space lines others (q, named, is, fit) (w, other, also, fits) =
             let same : w ≡ q = named_one w q region.slot region.register space other named also is in
-            one_fit_behind q lines others fit (subst (λ (x : AnyRegion). IsFitBehind assumed given roots s x others) same fits)
+            one_fit_behind q lines others fit (subst (λ (x : AnyRegion). IsFitBehind assumed told given roots s x others) same fits)
 
-        one_known_advice : (fault : faults.Fault) (lines others : List ℕ) → IsKnownAdvice assumed given roots s fault lines → IsKnownAdvice assumed given roots s fault others → lines ≡ others
-        one_known_advice fault lines others = elim fault as (λ fault. IsKnownAdvice assumed given roots s fault lines → IsKnownAdvice assumed given roots s fault others → lines ≡ others) [
+        one_known_advice : (fault : faults.Fault) (lines others : List ℕ) → IsKnownAdvice assumed told given roots s fault lines → IsKnownAdvice assumed told given roots s fault others → lines ≡ others
+        one_known_advice fault lines others = elim fault as (λ fault. IsKnownAdvice assumed told given roots s fault lines → IsKnownAdvice assumed told given roots s fault others → lines ≡ others) [
           | Unreached slot register space a bridge ↦ one_advice_for (named_region slot register) space lines others
-          | Clash bus space a first fr second sr ↦ one_advice_for (named_region second sr) space lines others
+          | Clash bus space a first fr second sr ↦ one_advice_for (to_move (named_regions first fr second sr)) space lines others
           | Split space a first fr second sr ↦
-              one_of_match (is_said given space) (IsAdviceFor assumed given roots s (named_region second sr) space lines) (lines ≡ [])
-              (IsAdviceFor assumed given roots s (named_region second sr) space others) (others ≡ []) (lines ≡ others)
-              (one_advice_for (named_region second sr) space lines others) (λ x y. x ∙ sym y)
+              one_of_match (is_said given space) (IsAdviceFor assumed told given roots s (to_move (named_regions first fr second sr)) space lines) (lines ≡ [])
+              (IsAdviceFor assumed told given roots s (to_move (named_regions first fr second sr)) space others) (others ≡ []) (lines ≡ others)
+              (one_advice_for (to_move (named_regions first fr second sr)) space lines others) (λ x y. x ∙ sym y)
           | _ ↦ λ h k. h ∙ sym k
         ]
 
-        two_texts : (evidence advice told fits : List ℕ) → evidence ≡ told → advice ≡ fits → evidence ++ advice ≡ told ++ fits
-        two_texts evidence advice told fits e a = ap (λ xs. xs ++ advice) e ∙ ap (λ xs. told ++ xs) a
+        two_texts : (evidence advice shows fits : List ℕ) → evidence ≡ shows → advice ≡ fits → evidence ++ advice ≡ shows ++ fits
+        two_texts evidence advice shows fits e a = ap (λ xs. xs ++ advice) e ∙ ap (λ xs. shows ++ xs) a
 
-        one_known_why : (fault : faults.Fault) (lines others : List ℕ) → IsWhy assumed given roots s (Known fault) lines → IsWhy assumed given roots s (Known fault) others → lines ≡ others
+        one_known_why : (fault : faults.Fault) (lines others : List ℕ) → IsWhy assumed told given roots s (Known fault) lines → IsWhy assumed told given roots s (Known fault) others → lines ≡ others
         one_known_why fault lines others h k =
-            h.text ∙ two_texts h.evidence h.advice k.evidence k.advice (one_known_evidence fault h.evidence k.evidence h.told k.told) (one_known_advice fault h.advice k.advice h.fits k.fits) ∙ sym k.text
+            h.text ∙ two_texts h.evidence h.advice k.evidence k.advice (one_known_evidence fault h.evidence k.evidence h.shows k.shows) (one_known_advice fault h.advice k.advice h.fits k.fits) ∙ sym k.text
 
         one_outside_why : IsNested roots s → (slot : Slot) (register : ℕ) (space : Space) (a : ℕ) (lines others : List ℕ)
-            → IsWhy assumed given roots s (Outside slot register space a) lines → IsWhy assumed given roots s (Outside slot register space a) others → lines ≡ others
+            → IsWhy assumed told given roots s (Outside slot register space a) lines → IsWhy assumed told given roots s (Outside slot register space a) others → lines ≡ others
         one_outside_why nested slot register space a lines others h k =
-            let same : k.told.0 ≡ h.told.0 = named_own k.told.0 h.told.0 slot register space k.told.1 h.told.1 k.told.2.is h.told.2.is in
-            let told : h.evidence ≡ k.evidence = one_outside nested h.told.0 h.evidence k.evidence h.told.2 (subst (λ (q : plain.Region). IsBehindOutside given roots s q k.evidence) same k.told.2) in
-            h.text ∙ two_texts h.evidence h.advice k.evidence k.advice told (one_advice_for (named_region slot register) space h.advice k.advice h.fits k.fits) ∙ sym k.text
+            let same : k.shows.0 ≡ h.shows.0 = named_one k.shows.0 h.shows.0 slot register space k.shows.1 h.shows.1 k.shows.2.is h.shows.2.is in
+            let shown : h.evidence ≡ k.evidence = one_outside nested h.shows.0 h.evidence k.evidence h.shows.2 (subst (λ (q : AnyRegion). IsBehindOutside told given roots s q k.evidence) same k.shows.2) in
+            h.text ∙ two_texts h.evidence h.advice k.evidence k.advice shown (one_advice_for (named_region slot register) space h.advice k.advice h.fits k.fits) ∙ sym k.text
 
 pub known_why_is_determined : KnownWhyIsDetermined
-known_why_is_determined assumed given roots s fault lines others is_system h k = one_known_why s is_system given roots assumed fault lines others h k
+known_why_is_determined assumed told given roots s fault lines others is_system h k = one_known_why s is_system told given roots assumed fault lines others h k
 
 pub why_is_determined : WhyIsDetermined
-why_is_determined assumed given roots s (Known fault) lines others is_system nested h k = one_known_why s is_system given roots assumed fault lines others h k
-why_is_determined assumed given roots s (Outside slot register space a) lines others is_system nested h k =
-    one_outside_why s is_system given roots assumed nested slot register space a lines others h k
+why_is_determined assumed told given roots s (Known fault) lines others is_system nested h k = one_known_why s is_system told given roots assumed fault lines others h k
+why_is_determined assumed told given roots s (Outside slot register space a) lines others is_system nested h k =
+    one_outside_why s is_system told given roots assumed nested slot register space a lines others h k
 
--- with nothing given the lines are those
+-- with nothing given and told the lines are those
 pub plain_why_is_determined : PlainWhyIsDetermined
 plain_why_is_determined assumed roots s fault lines others is_system h k =
-    one_known_why s is_system nothing_given roots assumed fault lines others ((same_why assumed roots s fault lines).1 h) ((same_why assumed roots s fault others).1 k)
+    one_known_why s is_system (nothing_told []) nothing_given roots assumed fault lines others ((same_why assumed [] roots s fault lines).1 h) ((same_why assumed [] roots s fault others).1 k)

@@ -1,4 +1,4 @@
--- A dump and its probe have at most one list of all faults, and at most one text of it.
+-- A dump and its probe have at most one list of all faults, and with nothing given and told at most one text of it.
 use Rattle.std.proofs.Common.{◌≡◌, ℕ, ◌<◌, List, [], ◌∷◌, ◌++◌, ◌⊎◌, map, refl, sym, ◌∙◌, ap, subst, inl, inr, arith, Bool, true, false}
 use Rattle.std.specs.Prelude.{IsTrue}
 use Rattle.std.specs.List.{Contains, AllPairs}
@@ -13,7 +13,7 @@ use Rattle.pci_spec.specs.Order.{Judging, phase_key, phase_of, precedes, is_befo
 use Rattle.pci_spec.specs.Mark.{AssumedRegister}
 use Rattle.pci_spec.specs.Why as why
 use Rattle.pci_spec.proofs.Firsts.{no}
-use Rattle.pci_spec.proofs.Members.{in_nil, in_cons_cases, in_head, in_tail, IsMade, in_map_to, in_map_from, pairs_nil, pairs_cons, pairs_head, pairs_tail}
+use Rattle.pci_spec.proofs.Members.{in_nil, in_cons_cases, in_head, in_tail, in_map_from, pairs_nil, pairs_cons, pairs_head, pairs_tail}
 use Rattle.pci_spec.proofs.Nesting.{nested_without_bus_faults}
 use Rattle.pci_spec.proofs.Pairing.{IsSystem-of_dumps, there-of_in}
 use Rattle.pci_spec.proofs.Regions.{region_decided, precedes-cases}
@@ -21,13 +21,10 @@ use Rattle.pci_spec.proofs.Rising.{pairs_of_rising}
 use Rattle.given_spec.specs.Given.{Given}
 use Rattle.given_spec.specs.Fault.{Fault, Known}
 use Rattle.given_spec.specs.AllFaults.{judging_key}
-use Rattle.given_spec.specs.Line.{fault_line}
 use Rattle.given_spec.specs.FaultLines.{AreEarlier, AreJudged, AreAllFaults}
-use Rattle.given_spec.specs.Why.{IsWhy}
-use Rattle.given_spec.specs.FaultsText.{AreReasoned, IsFaultsText, yes_line, off_behind}
-use Rattle.given_spec.specs.DeterminedLaws.{ListIsDetermined, PlainListIsDetermined, TextIsDetermined, PlainTextIsDetermined}
+use Rattle.given_spec.specs.DeterminedLaws.{ListIsDetermined, PlainListIsDetermined, PlainTextIsDetermined}
 use Rattle.given_spec.proofs.OneList.{same_list}
-use Rattle.given_spec.proofs.Determined.{why_is_determined, plain_why_is_determined}
+use Rattle.given_spec.proofs.Determined.{plain_why_is_determined}
 
 -- ---- lists in the order of their keys
 
@@ -111,53 +108,6 @@ module _ (dump probe : List Block) (is_dump : IsDump dump) (is_probe : IsDump pr
                 λ is. none (Orphan slot) (omega arith) (there-of_in roots dump probe (Orphan slot) same is),
               )),
         )
-
--- ---- texts
-
--- behind a fault that is looked for before judging there are no lines
-early_why : (assumed : List AssumedRegister) (given : Given) (roots : List ℕ) (s : System) (fault : plain.Fault) (lines : List ℕ)
-    → phase_of fault < phase_key Judging → IsWhy assumed given roots s (Known fault) lines → lines ≡ []
-early_why assumed given roots s fault lines = elim fault as (λ fault. phase_of fault < phase_key Judging → IsWhy assumed given roots s (Known fault) lines → lines ≡ []) [
-  | Unreached slot register space a bridge ↦ λ early h. absurd (let none : ⊥ = omega (arith, early) in none)
-  | Clash bus space a first fr second sr ↦ λ early h. absurd (let none : ⊥ = omega (arith, early) in none)
-  | Split space a first fr second sr ↦ λ early h. absurd (let none : ⊥ = omega (arith, early) in none)
-  | _ ↦ λ early h. h.text ∙ ap (λ xs. xs ++ h.advice) h.told ∙ h.fits
-]
-
-module _ (assumed : List AssumedRegister) (given : Given) (roots : List ℕ) (s : System) where
-  abbrev HasOneWhy : Fault → Type 0
-  HasOneWhy fault = (lines others : List ℕ) → IsWhy assumed given roots s fault lines → IsWhy assumed given roots s fault others → lines ≡ others
-
-  one_reasoned : (faults : List Fault) → ((fault : Fault) → Contains faults fault → HasOneWhy fault) → (lines others : List ℕ)
-      → AreReasoned assumed given roots s faults lines → AreReasoned assumed given roots s faults others → lines ≡ others
-  one_reasoned [] one lines others h k = h ∙ sym k
-  one_reasoned (fault ∷ rest) one lines others (behind, more, is, are, e) (other, later, also, too, f) =
-      let here : behind ≡ other = one fault (in_head fault rest) behind other is also in
-      let next : more ≡ later = one_reasoned rest (λ x has. one x (in_tail fault rest x has)) more later are too in
-      e ∙ ap (λ xs. (fault_line fault ++ xs) ++ more) here ∙ ap (λ xs. (fault_line fault ++ other) ++ xs) next ∙ sym f
-
-  one_text : (faults : List Fault) → ((fault : Fault) → Contains faults fault → HasOneWhy fault) → (asked : Bool) (text other : List ℕ)
-      → IsFaultsText assumed given roots s asked faults text → IsFaultsText assumed given roots s asked faults other → text ≡ other
-  one_text faults one false text other h k = h ∙ sym k
-  one_text faults one true text other h k =
-      h.is ∙ ap (λ xs. (yes_line faults ++ xs) ++ off_behind s faults) (one_reasoned faults one h.lines k.lines h.reasoned k.reasoned) ∙ sym k.is
-
-each_has_one : (assumed : List AssumedRegister) (given : Given) (roots : List ℕ) (dump probe : List Block) (faults : List Fault) → IsDump dump → IsDump probe
-    → AreAllFaults given roots dump probe faults → (fault : Fault) → Contains faults fault → HasOneWhy assumed given roots (system_of dump probe) fault
-each_has_one assumed given roots dump probe faults is_dump is_probe (inl earlier) fault has lines others h k =
-    let made : IsMade Known earlier.early fault = in_map_to Known earlier.early fault (subst (λ (xs : List Fault). Contains xs fault) earlier.are has) in
-    let early = earlier.before made.from made.has in
-    early_why assumed given roots (system_of dump probe) made.from lines early (subst (λ (x : Fault). IsWhy assumed given roots (system_of dump probe) x lines) (sym made.is) h)
-    ∙ sym (early_why assumed given roots (system_of dump probe) made.from others early (subst (λ (x : Fault). IsWhy assumed given roots (system_of dump probe) x others) (sym made.is) k))
-each_has_one assumed given roots dump probe faults is_dump is_probe (inr judged) fault has lines others h k =
-    let is = system_and_buses dump probe is_dump is_probe roots judged.none_earlier in
-    why_is_determined assumed given roots (system_of dump probe) fault lines others is.0 is.1 h k
-
-pub text_is_determined : TextIsDetermined
-text_is_determined assumed given roots dump probe asked text other is_dump is_probe h k =
-    let same : k.faults ≡ h.faults = list_is_determined given roots dump probe k.faults h.faults k.all h.all in
-    one_text assumed given roots (system_of dump probe) h.faults (each_has_one assumed given roots dump probe h.faults is_dump is_probe h.all) asked text other h.is
-    (subst (λ (xs : List Fault). IsFaultsText assumed given roots (system_of dump probe) asked xs other) same k.is)
 
 -- ---- with nothing given
 

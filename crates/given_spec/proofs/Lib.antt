@@ -10,6 +10,7 @@ pub mod Determined
 pub mod DeterminedTexts
 pub mod LeastFaults
 pub mod PlainLists
+pub mod PlainTexts
 pub mod Moving
 pub mod Writing
 pub mod Isa
@@ -26,3 +27,4 @@ pub mod ToldAdds
 pub mod ToldEmpty
 pub mod ToldSounding
 pub mod ToldDetermined
+pub mod ListTexts

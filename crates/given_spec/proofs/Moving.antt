@@ -2,7 +2,7 @@
 use Rattle.std.proofs.Common.{◌≡◌, ℕ, ◌+◌, ◌*◌, ◌/◌, inl, inr, List, [], ◌∷◌, Bool, true, false, ◌&&◌, ◌||◌, not, refl, sym, ◌∙◌, ap, subst, arith}
 use Rattle.std.specs.Prelude.{IsTrue, ◌==◌, nat_le}
 use Rattle.std.specs.List.{Contains, list_all, list_any}
-use Rattle.std.proofs.lemmas.Bool.{both_ways, cases_Bool}
+use Rattle.std.proofs.lemmas.Bool.{both_ways, and_parts, and_from}
 use Rattle.pci_spec.specs.Number.{has_bit}
 use Rattle.pci_spec.specs.Slot.{Slot, same_slot}
 use Rattle.pci_spec.specs.Header.{rom_register, secondary_bus}
@@ -11,23 +11,29 @@ use Rattle.pci_spec.specs.Window.{WindowKind, IoWindow, MemoryWindow, PrefetchWi
 use Rattle.pci_spec.specs.System.{System, Function, Space, Io, Memory, Bar, Rom, Window, IsSystem, Leads, is_bridge, is_space_on, is_prefetchable_part, window_claims, window_space}
 use Rattle.pci_spec.specs.System as system
 use Rattle.pci_spec.specs.Bus.{IsNested}
-use Rattle.pci_spec.specs.Fault.{Unreached, Clash, Split, address_in, named_region, named_regions}
+use Rattle.pci_spec.specs.Fault.{Unreached, Clash, Split, Address, RegionName, address_in, named_region, named_regions}
 use Rattle.pci_spec.specs.Fault as plain
 use Rattle.pci_spec.specs.Decoded.{Range, InRange}
 use Rattle.pci_spec.specs.Why.{Region}
-use Rattle.pci_spec.proofs.BusRanges.{all_gives, all_from}
+use Rattle.pci_spec.proofs.BusRanges.{all_gives, all_from, any_gives, any_from}
 use Rattle.pci_spec.proofs.Firsts.{same_region}
 use Rattle.pci_spec.proofs.Members.{in_nil, in_cons_cases, in_head, in_tail, in_map_to, in_map_from}
 use Rattle.given_spec.specs.Given.{Given, nothing_given, legacy_claims, legacy_holds, is_cut, starts}
-use Rattle.given_spec.specs.Claims.{Part, Own, Legacy, Claims, is_cut_of, IsPassedTo, Gets, ClaimsOnBus, passes, forwards, register_of, may_share}
-use Rattle.given_spec.specs.Fault.{Fault, Known, Outside, IsIn, IsOutside, IsUnreached, IsClash, IsSplit}
+use Rattle.given_spec.specs.Claims.{Part, Own, Legacy, Claims, is_cut_of, IsPassedTo, Gets, passes, forwards, register_of}
+use Rattle.given_spec.specs.Claims as untold
+use Rattle.given_spec.specs.Fault.{Fault, Known, Outside}
+use Rattle.given_spec.specs.Fault as untold_fault
+use Rattle.given_spec.specs.Told.{Mark, Command, Always, Held, ToldRange}
+use Rattle.given_spec.specs.ToldClaims.{Told, nothing_told, is_asleep, is_enabled_at, is_on_by, IsRangeAt, RangeClaims, ClaimsOnBus, may_share}
+use Rattle.given_spec.specs.ToldFault.{HasToBeReached, IsOutside, IsUnreached, IsClash, IsSplit, IsKnownIn}
 use Rattle.given_spec.specs.FaultsText.{is_of_judging}
 use Rattle.given_spec.specs.Why.{IsTakenBeside, IsPlaceFor}
-use Rattle.given_spec.specs.Moved.{IsSameBut, IsMovedTo, NamesRegion, IsKnownFaultOf, HasItsSize, part_name, NoFaultWhereItFits, NoFaultOfOthers, NoPlainFaultWhereItFits}
+use Rattle.given_spec.specs.Moved.{at_range, IsSameBut, IsMovedTo, NamesRegion, IsKnownFaultOf, HasItsSize, part_name, NoFaultWhereItFits, NoFaultOfOthers, NoPlainFaultWhereItFits}
 use Rattle.given_spec.proofs.Nothing.{not_at_control, same_faults, same_passed_to}
-use Rattle.given_spec.proofs.Judging.{passed_is_sent, passed_by_each, shared_slot}
-use Rattle.given_spec.proofs.Naming.{turned, swapped, swapped_split}
-use Rattle.given_spec.proofs.Reasons.{taken_plain, no_root}
+use Rattle.given_spec.proofs.Judging.{passed_is_sent, passed_by_each}
+use Rattle.given_spec.proofs.NothingTold.{same_told_faults}
+use Rattle.given_spec.proofs.Reasons.{low_register, taken_plain, no_root}
+use Rattle.given_spec.proofs.ToldEmpty.{turned_told}
 
 -- ---- a function before and after
 
@@ -97,14 +103,16 @@ module _ (q : Region) (f g : Function) (slot : f.slot ≡ g.slot) (same : IsSame
         ∙ ap (λ x. (system.passes space pf a g && not (is_cut given space a x)) || legacy_claims given space a f) slot
         ∙ ap (λ b. (system.passes space pf a g && not (is_cut given space a g.slot)) || b) (legacy_same given space a)
 
--- two regions may not share an address, by other words for their names
-apart_by : (x y u v : Slot) (m n k l : ℕ) → x ≡ u → m ≡ k → y ≡ v → n ≡ l → may_share x m y n ≡ false → may_share u k v l ≡ false
-apart_by x y u v m n k l xu mk yv nl apart =
-    subst (λ z. may_share u k v z ≡ false) nl (subst (λ z. may_share u k z n ≡ false) yv (subst (λ z. may_share u z y n ≡ false) mk (subst (λ z. may_share z m y n ≡ false) xu apart)))
+-- a told range that is on by what is enabled after was on by what was enabled before
+on_by : (mark : Mark) (awake before after : Bool) → (IsTrue after → IsTrue before) → IsTrue (is_on_by mark awake after) → IsTrue (is_on_by mark awake before)
+on_by Command true before after was h = was h
+on_by Command false before after was h = h
+on_by Always awake before after was h = h
+on_by Held awake before after was h = h
 
 -- ---- the region
 
-module _ (given : Given) (roots : List ℕ) (s t : System) (q : Region) (r : Range) (moved : IsMovedTo s t q r) where
+module _ (told : Told) (given : Given) (roots : List ℕ) (s t : System) (q : Region) (r : Range) (moved : IsMovedTo s t q r) where
   -- what a function was
   record Was (g : Function) : Type 0 where
     f : Function
@@ -157,7 +165,7 @@ module _ (given : Given) (roots : List ℕ) (s t : System) (q : Region) (r : Ran
       (w.same.others part space a (λ e. other (sym w.slot ∙ e.0, sym (register_same q w.f g w.slot w.same given (Own part)) ∙ e.1))).1 claims
 
   claim_was : (bus : ℕ) (space : Space) (a : ℕ) (slot : Slot) (register : ℕ) → ((slot ≡ q.slot) × (register ≡ q.register) → ⊥)
-      → ClaimsOnBus given t bus (address_in space a) (named_region slot register) → ClaimsOnBus given s bus (address_in space a) (named_region slot register)
+      → untold.ClaimsOnBus given t bus (address_in space a) (named_region slot register) → untold.ClaimsOnBus given s bus (address_in space a) (named_region slot register)
   claim_was bus space a slot register other (g, part, has, at, on, named, claims) =
       let w = was g has in
       let name = register_same q w.f g w.slot w.same given part in (
@@ -176,7 +184,7 @@ module _ (given : Given) (roots : List ℕ) (s t : System) (q : Region) (r : Ran
       (root, starts_at, sent, way.others, way.leads, way.forwarded space a ∙ all)
 
   outside_was : (slot : Slot) (register : ℕ) (space : Space) (a : ℕ) → ((slot ≡ q.slot) × (register ≡ q.register) → ⊥)
-      → IsOutside given roots t (named_region slot register) (address_in space a) → IsOutside given roots s (named_region slot register) (address_in space a)
+      → untold_fault.IsOutside given roots t (named_region slot register) (address_in space a) → untold_fault.IsOutside given roots s (named_region slot register) (address_in space a)
   outside_was slot register space a other o =
       let w = was o.f o.listed in
       let way = was_way o.root o.bridges slot.bus o.leads in
@@ -200,7 +208,7 @@ module _ (given : Given) (roots : List ℕ) (s t : System) (q : Region) (r : Ran
   prefetchable_was g (Window kind) w = refl
 
   unreached_was : (slot : Slot) (register : ℕ) (space : Space) (a : ℕ) (bridge : Slot) → ((slot ≡ q.slot) × (register ≡ q.register) → ⊥)
-      → IsUnreached given roots t (named_region slot register) (address_in space a) bridge → IsUnreached given roots s (named_region slot register) (address_in space a) bridge
+      → untold_fault.IsUnreached given roots t (named_region slot register) (address_in space a) bridge → untold_fault.IsUnreached given roots s (named_region slot register) (address_in space a) bridge
   unreached_was slot register space a bridge other u =
       let w = was u.f u.listed in
       let way = was_way u.root u.bridges slot.bus u.leads in
@@ -223,17 +231,79 @@ module _ (given : Given) (roots : List ℕ) (s t : System) (q : Region) (r : Ran
         stops = ap (λ pf. passes given space pf a b.f) (prefetchable_was u.f u.part w) ∙ b.same space (is_prefetchable_part u.f u.part) a ∙ u.stops;
       }
 
+  -- ---- told ranges
+
+  enabled_was : (slot : Slot) (space : Space) → IsTrue (is_enabled_at t slot space) → IsTrue (is_enabled_at s slot space)
+  enabled_was slot space on =
+      let found = any_gives (λ (f : Function). same_slot f.slot slot && is_space_on f space) t on in
+      let w = was found.0 found.1 in
+      let parts = and_parts (same_slot found.0.slot slot) (is_space_on found.0 space) found.2 in
+      any_from (λ (f : Function). same_slot f.slot slot && is_space_on f space) s w.f w.listed
+      (and_from (same_slot w.f.slot slot) (is_space_on w.f space) (ap (λ x. same_slot x slot) w.slot ∙ parts.0) (on_same q w.f found.0 w.slot w.same space ∙ parts.1))
+
+  -- what a range claims it claimed
+  range_was : (x : ToldRange) (space : Space) (a : ℕ) → RangeClaims told t x space a → RangeClaims told s x space a
+  range_was x space a claims = record {
+    on = on_by x.mark (not (is_asleep told x.slot)) (is_enabled_at s x.slot x.space) (is_enabled_at t x.slot x.space) (enabled_was x.slot x.space) claims.on;
+    holds = claims.holds;
+  }
+
+  needs_was : (region : RegionName) (at : Address) (x : ToldRange) → HasToBeReached told t region at x → HasToBeReached told s region at x
+  needs_was region at x needs = record { named = needs.named; not_held = needs.not_held; claims = range_was x at.space at.address needs.claims }
+
+  told_claim_was : (bus : ℕ) (space : Space) (a : ℕ) (slot : Slot) (register : ℕ) → ((slot ≡ q.slot) × (register ≡ q.register) → ⊥)
+      → ClaimsOnBus told given t bus (address_in space a) (named_region slot register) → ClaimsOnBus told given s bus (address_in space a) (named_region slot register)
+  told_claim_was bus space a slot register other (inl claims) = inl (claim_was bus space a slot register other claims)
+  told_claim_was bus space a slot register other (inr claims) = inr record { r = claims.r; named = claims.named; on_the_bus = claims.on_the_bus; claims = range_was claims.r space a claims.claims }
+
+  told_outside_was : (slot : Slot) (register : ℕ) (space : Space) (a : ℕ) → ((slot ≡ q.slot) × (register ≡ q.register) → ⊥)
+      → IsOutside told given roots t (named_region slot register) (address_in space a) → IsOutside told given roots s (named_region slot register) (address_in space a)
+  told_outside_was slot register space a other (inl o) = inl (outside_was slot register space a other o)
+  told_outside_was slot register space a other (inr o) =
+      let way = was_way o.root o.bridges slot.bus o.leads in
+      inr record {
+        r = o.r;
+        needs = needs_was (named_region slot register) (address_in space a) o.r o.needs;
+        bridges = way.others;
+        root = o.root;
+        is_root = o.is_root;
+        leads = way.leads;
+        none = o.none;
+      }
+
+  told_unreached_was : (slot : Slot) (register : ℕ) (space : Space) (a : ℕ) (bridge : Slot) → ((slot ≡ q.slot) × (register ≡ q.register) → ⊥)
+      → IsUnreached told given roots t (named_region slot register) (address_in space a) bridge → IsUnreached told given roots s (named_region slot register) (address_in space a) bridge
+  told_unreached_was slot register space a bridge other (inl u) = inl (unreached_was slot register space a bridge other u)
+  told_unreached_was slot register space a bridge other (inr u) =
+      let way = was_way u.root u.bridges slot.bus u.leads in
+      let b = way.each u.b u.on_the_way in
+      inr record {
+        r = u.r;
+        needs = needs_was (named_region slot register) (address_in space a) u.r u.needs;
+        bridges = way.others;
+        root = u.root;
+        is_root = u.is_root;
+        leads = way.leads;
+        sent = u.sent;
+        b = b.f;
+        on_the_way = b.on;
+        named_bridge = b.slot ∙ u.named_bridge;
+        stops = b.same space u.r.prefetchable a ∙ u.stops;
+      }
+
+  -- ---- all of judging
+
   -- what a region is named by, where a fault doesn't name the region
   other_name : (slot : Slot) (register : ℕ) → (named_region slot register ≡ part_name q → ⊥) → (slot ≡ q.slot) × (register ≡ q.register) → ⊥
   other_name slot register other e = other (λ i. record { slot = e.0 i; register = e.1 i })
 
-  known_was : (fault : plain.Fault) → IsTrue (is_of_judging (Known fault)) → (IsKnownFaultOf (part_name q) fault → ⊥) → IsIn given roots t (Known fault) → IsIn given roots s (Known fault)
-  known_was fault = elim fault as (λ fault. IsTrue (is_of_judging (Known fault)) → (IsKnownFaultOf (part_name q) fault → ⊥) → IsIn given roots t (Known fault) → IsIn given roots s (Known fault)) [
-    | Unreached slot register space a bridge ↦ (λ judged other u. unreached_was slot register space a bridge (other_name slot register other) u)
+  known_was : (fault : plain.Fault) → IsTrue (is_of_judging (Known fault)) → (IsKnownFaultOf (part_name q) fault → ⊥) → IsKnownIn told given roots t (Known fault) → IsKnownIn told given roots s (Known fault)
+  known_was fault = elim fault as (λ fault. IsTrue (is_of_judging (Known fault)) → (IsKnownFaultOf (part_name q) fault → ⊥) → IsKnownIn told given roots t (Known fault) → IsKnownIn told given roots s (Known fault)) [
+    | Unreached slot register space a bridge ↦ (λ judged other u. told_unreached_was slot register space a bridge (other_name slot register other) u)
     | Clash bus space a first fr second sr ↦ (λ judged other c. record {
       gets = gets_was space a bus c.gets;
-      claims_first = claim_was bus space a first fr (other_name first fr (λ e. other (inl e))) c.claims_first;
-      claims_second = claim_was bus space a second sr (other_name second sr (λ e. other (inr e))) c.claims_second;
+      claims_first = told_claim_was bus space a first fr (other_name first fr (λ e. other (inl e))) c.claims_first;
+      claims_second = told_claim_was bus space a second sr (other_name second sr (λ e. other (inr e))) c.claims_second;
       differ = c.differ;
       apart = c.apart;
     })
@@ -243,19 +313,20 @@ module _ (given : Given) (roots : List ℕ) (s t : System) (q : Region) (r : Ran
       buses = c.buses;
       sent_first = c.sent_first;
       sent_second = c.sent_second;
-      claims_first = claim_was first.bus space a first fr (other_name first fr (λ e. other (inl e))) c.claims_first;
-      claims_second = claim_was second.bus space a second sr (other_name second sr (λ e. other (inr e))) c.claims_second;
+      claims_first = told_claim_was first.bus space a first fr (other_name first fr (λ e. other (inl e))) c.claims_first;
+      claims_second = told_claim_was second.bus space a second sr (other_name second sr (λ e. other (inr e))) c.claims_second;
+      apart = c.apart;
     })
     | _ ↦ (λ judged other is. absurd (both_ways false refl judged))
   ]
 
-  was_there : (fault : Fault) → IsTrue (is_of_judging fault) → (NamesRegion (part_name q) fault → ⊥) → IsIn given roots t fault → IsIn given roots s fault
+  was_there : (fault : Fault) → IsTrue (is_of_judging fault) → (NamesRegion (part_name q) fault → ⊥) → IsKnownIn told given roots t fault → IsKnownIn told given roots s fault
   was_there (Known fault) judged other is = known_was fault judged other is
-  was_there (Outside slot register space a) judged other o = outside_was slot register space a (other_name slot register other) o
+  was_there (Outside slot register space a) judged other o = told_outside_was slot register space a (other_name slot register other) o
 
   -- ---- the region's own
 
-  module _ (wide : Bool) (system_s : IsSystem s) (system_t : IsSystem t) (nested : IsNested roots s) (place : IsPlaceFor given roots s q wide r.first) (size : HasItsSize q r) where
+  module _ (wide : Bool) (system_s : IsSystem s) (system_t : IsSystem t) (nested : IsNested roots s) (place : IsPlaceFor told given roots s q wide r.first) (size : HasItsSize q r) where
     -- what claims an address by the region's slot and register is the region
     own_is : (g : Function) (part : system.Part) (space : Space) (a : ℕ) → Contains t g → g.slot ≡ q.slot → system.register_of g part ≡ q.register → system.Claims g part space a
         → (q.space ≡ space) × InRange r a × (is_prefetchable_part g part ≡ q.prefetchable)
@@ -276,20 +347,20 @@ module _ (given : Given) (roots : List ℕ) (s t : System) (q : Region) (r : Ran
     reached : (a : ℕ) → InRange r a → IsPassedTo given roots s (address_in q.space a) q.prefetchable q.slot.bus
     reached a in_range = place.reached a in_range.0 (let below = in_range.1 in omega (arith, below, size))
 
-    never_taken : (a : ℕ) → InRange r a → IsTakenBeside given roots s q a → ⊥
+    never_taken : (a : ℕ) → InRange r a → IsTakenBeside told given roots s q a → ⊥
     never_taken a in_range = place.free a in_range.0 (let below = in_range.1 in omega (arith, below, size))
 
     -- ---- not sent, or not reached
 
-    not_outside : (slot : Slot) (register : ℕ) (space : Space) (a : ℕ) → slot ≡ q.slot → register ≡ q.register → IsOutside given roots t (named_region slot register) (address_in space a) → ⊥
-    not_outside slot register space a at named o =
+    own_not_outside : (slot : Slot) (register : ℕ) (space : Space) (a : ℕ) → slot ≡ q.slot → register ≡ q.register → untold_fault.IsOutside given roots t (named_region slot register) (address_in space a) → ⊥
+    own_not_outside slot register space a at named o =
         let is = own_is o.f o.part space a o.listed (o.named.0 ∙ at) (o.named.1 ∙ named) o.claims in
         let way = was_way o.root o.bridges slot.bus o.leads in
         let sent = passed_is_sent given roots s system_s nested q.space q.prefetchable a o.root q.slot.bus way.others o.is_root (subst (λ (x : Slot). Leads s o.root way.others x.bus) at way.leads) (reached a is.1) in
         both_ways _ o.none (subst (λ (x : Space). starts given x o.root a ≡ true) is.0 sent)
 
-    not_unreached : (slot : Slot) (register : ℕ) (space : Space) (a : ℕ) (bridge : Slot) → slot ≡ q.slot → register ≡ q.register → IsUnreached given roots t (named_region slot register) (address_in space a) bridge → ⊥
-    not_unreached slot register space a bridge at named u =
+    own_not_unreached : (slot : Slot) (register : ℕ) (space : Space) (a : ℕ) (bridge : Slot) → slot ≡ q.slot → register ≡ q.register → untold_fault.IsUnreached given roots t (named_region slot register) (address_in space a) bridge → ⊥
+    own_not_unreached slot register space a bridge at named u =
         let is = own_is u.f u.part space a u.listed (u.named.0 ∙ at) (u.named.1 ∙ named) u.claims in
         let way = was_way u.root u.bridges slot.bus u.leads in
         let leads : Leads s u.root way.others q.slot.bus = subst (λ (x : Slot). Leads s u.root way.others x.bus) at way.leads in
@@ -299,92 +370,126 @@ module _ (given : Given) (roots : List ℕ) (s t : System) (q : Region) (r : Ran
         let passed : passes given q.space q.prefetchable a u.b ≡ true = all_gives (passes given q.space q.prefetchable a) u.bridges all_now u.b u.on_the_way in
         both_ways _ u.stops (subst (λ (x : Space). passes given x (is_prefetchable_part u.f u.part) a u.b ≡ true) is.0 (subst (λ pf. passes given q.space pf a u.b ≡ true) (sym is.2) passed))
 
+    -- no told range has its register
+    not_a_range : (slot : Slot) (register : ℕ) (x : ToldRange) → register ≡ q.register → IsRangeAt told (named_region slot register) x → ⊥
+    not_a_range slot register x same named = let low = low_register t (at_range q r) moved.moved in let line = named.register in omega (arith, low, line, same)
+
+    not_outside : (slot : Slot) (register : ℕ) (space : Space) (a : ℕ) → slot ≡ q.slot → register ≡ q.register → IsOutside told given roots t (named_region slot register) (address_in space a) → ⊥
+    not_outside slot register space a at named (inl o) = own_not_outside slot register space a at named o
+    not_outside slot register space a at named (inr o) = not_a_range slot register o.r named o.needs.named
+
+    not_unreached : (slot : Slot) (register : ℕ) (space : Space) (a : ℕ) (bridge : Slot) → slot ≡ q.slot → register ≡ q.register → IsUnreached told given roots t (named_region slot register) (address_in space a) bridge → ⊥
+    not_unreached slot register space a bridge at named (inl u) = own_not_unreached slot register space a bridge at named u
+    not_unreached slot register space a bridge at named (inr u) = not_a_range slot register u.r named u.needs.named
+
     -- ---- one of two
 
+    -- what claims an address by its name is the region
+    told_claim_is : (bus : ℕ) (space : Space) (a : ℕ) (slot : Slot) (register : ℕ) → slot ≡ q.slot → register ≡ q.register
+        → ClaimsOnBus told given t bus (address_in space a) (named_region slot register) → (q.space ≡ space) × InRange r a × (slot.bus ≡ bus)
+    told_claim_is bus space a slot register at named (inl (g, part, has, is_at, on, is_named, claims)) =
+        let is = claim_is g part space a has (is_at ∙ at) (is_named ∙ named) claims in (is.0, is.1, on)
+    told_claim_is bus space a slot register at named (inr claims) = absurd (not_a_range slot register claims.r named claims.named)
+
+    bus_of_claim : (bus : ℕ) (at : Address) (region : RegionName) → ClaimsOnBus told given s bus at region → region.slot.bus ≡ bus
+    bus_of_claim bus at region (inl claims) = claims.4
+    bus_of_claim bus at region (inr claims) = claims.on_the_bus
+
+    apart_from : (first : Slot) (fr : ℕ) (second : Slot) (sr : ℕ) → second ≡ q.slot → sr ≡ q.register → may_share told first fr second sr ≡ false → may_share told q.slot q.register first fr ≡ false
+    apart_from first fr second sr at named apart =
+        subst (λ register. may_share told q.slot register first fr ≡ false) named (subst (λ slot. may_share told slot sr first fr ≡ false) at (turned_told told first second fr sr apart))
+
     not_second : (bus : ℕ) (space : Space) (a : ℕ) (first : Slot) (fr : ℕ) (second : Slot) (sr : ℕ) → second ≡ q.slot → sr ≡ q.register
-        → IsClash given roots t bus (address_in space a) (named_regions first fr second sr) → ⊥
+        → IsClash told given roots t bus (address_in space a) (named_regions first fr second sr) → ⊥
     not_second bus space a first fr second sr at named c =
-        let one = c.claims_first in
-        let two = c.claims_second in
-        let is = claim_is two.0 two.1 space a two.2 (two.3 ∙ at) (two.5 ∙ named) two.6 in
-        let w = was one.0 one.2 in
-        let slot : w.f.slot ≡ first = w.slot ∙ one.3 in
-        let register : register_of w.f one.1 ≡ fr = register_same q w.f one.0 w.slot w.same given one.1 ∙ one.5 in
-        let other : (w.f.slot ≡ q.slot) × (register_of w.f one.1 ≡ q.register) → ⊥ = λ e. c.differ (sym slot ∙ e.0 ∙ sym at, sym register ∙ e.1 ∙ sym named) in
+        let is = told_claim_is bus space a second sr at named c.claims_second in
+        let other : (first ≡ q.slot) × (fr ≡ q.register) → ⊥ = λ e. c.differ (e.0 ∙ sym at, e.1 ∙ sym named) in
+        let claims = told_claim_was bus space a first fr other c.claims_first in
+        let on : first.bus ≡ bus = bus_of_claim bus (address_in space a) (named_region first fr) claims in
         never_taken a is.1 record {
-          f = w.f;
-          part = one.1;
-          listed = w.listed;
-          beside = inl (ap (λ (x : Slot). x.bus) slot ∙ one.4 ∙ sym two.4 ∙ ap (λ (x : Slot). x.bus) at);
+          by = named_region first fr;
+          beside = inl (on ∙ sym is.2 ∙ ap (λ (x : Slot). x.bus) at);
           other = other;
-          apart = apart_by second first q.slot w.f.slot sr fr q.register (register_of w.f one.1) at named (sym slot) (sym register) (turned first second fr sr c.apart);
-          claims = subst (λ (x : Space). Claims given w.f one.1 x a) (sym is.0) (claimed q w.f one.0 w.slot w.same given one.1 space a other one.6);
+          apart = apart_from first fr second sr at named c.apart;
+          claims = subst (λ (x : Space). ClaimsOnBus told given s first.bus (address_in x a) (named_region first fr)) (sym is.0)
+              (subst (λ n. ClaimsOnBus told given s n (address_in space a) (named_region first fr)) (sym on) claims);
         }
 
     not_second_split : (space : Space) (a : ℕ) (first : Slot) (fr : ℕ) (second : Slot) (sr : ℕ) → second ≡ q.slot → sr ≡ q.register
-        → IsSplit given roots t (address_in space a) (named_regions first fr second sr) → ⊥
+        → IsSplit told given roots t (address_in space a) (named_regions first fr second sr) → ⊥
     not_second_split space a first fr second sr at named c =
-        let one = c.claims_first in
-        let two = c.claims_second in
-        let is = claim_is two.0 two.1 space a two.2 (two.3 ∙ at) (two.5 ∙ named) two.6 in
-        let w = was one.0 one.2 in
-        let slot : w.f.slot ≡ first = w.slot ∙ one.3 in
-        let differ : q.slot ≡ w.f.slot → ⊥ = λ e. c.buses (ap (λ (x : Slot). x.bus) (sym slot ∙ sym e ∙ sym at)) in
-        let other : (w.f.slot ≡ q.slot) × (register_of w.f one.1 ≡ q.register) → ⊥ = λ e. differ (sym e.0) in
+        let is = told_claim_is second.bus space a second sr at named c.claims_second in
+        let other : (first ≡ q.slot) × (fr ≡ q.register) → ⊥ = λ e. c.buses (ap (λ (x : Slot). x.bus) (e.0 ∙ sym at)) in
         never_taken a is.1 record {
-          f = w.f;
-          part = one.1;
-          listed = w.listed;
+          by = named_region first fr;
           beside = inr (
             subst (λ (x : Slot). Contains roots x.bus) at c.root_second,
-            subst (λ (x : Slot). Contains roots x.bus) (sym slot) c.root_first,
-            subst (λ (x : Slot). IsTrue (starts given q.space x.bus a)) (sym slot) (subst (λ (x : Space). IsTrue (starts given x first.bus a)) (sym is.0) c.sent_first),
+            c.root_first,
+            subst (λ (x : Space). IsTrue (starts given x first.bus a)) (sym is.0) c.sent_first,
           );
           other = other;
-          apart = elim (cases_Bool (may_share q.slot q.register w.f.slot (register_of w.f one.1))) [
-            | inl share ↦ absurd (differ (shared_slot q.slot w.f.slot q.register (register_of w.f one.1) share))
-            | inr apart ↦ apart
-          ];
-          claims = subst (λ (x : Space). Claims given w.f one.1 x a) (sym is.0) (claimed q w.f one.0 w.slot w.same given one.1 space a other one.6);
+          apart = apart_from first fr second sr at named c.apart;
+          claims = subst (λ (x : Space). ClaimsOnBus told given s first.bus (address_in x a) (named_region first fr)) (sym is.0) (told_claim_was first.bus space a first fr other c.claims_first);
         }
 
     -- ---- all of judging
 
     slot_of : (slot : Slot) (register : ℕ) → named_region slot register ≡ part_name q → slot ≡ q.slot
-    slot_of slot register e = ap (λ (n : plain.RegionName). n.slot) e
+    slot_of slot register e = ap (λ (n : RegionName). n.slot) e
 
     register_is : (slot : Slot) (register : ℕ) → named_region slot register ≡ part_name q → register ≡ q.register
-    register_is slot register e = ap (λ (n : plain.RegionName). n.register) e
+    register_is slot register e = ap (λ (n : RegionName). n.register) e
 
-    no_known : (fault : plain.Fault) → IsKnownFaultOf (part_name q) fault → IsIn given roots t (Known fault) → ⊥
-    no_known fault = elim fault as (λ fault. IsKnownFaultOf (part_name q) fault → IsIn given roots t (Known fault) → ⊥) [
+    clash_turned : (bus : ℕ) (at : Address) (first : Slot) (fr : ℕ) (second : Slot) (sr : ℕ) → IsClash told given roots t bus at (named_regions first fr second sr) → IsClash told given roots t bus at (named_regions second sr first fr)
+    clash_turned bus at first fr second sr c = record {
+      gets = c.gets;
+      claims_first = c.claims_second;
+      claims_second = c.claims_first;
+      differ = λ same. c.differ (sym same.0, sym same.1);
+      apart = turned_told told first second fr sr c.apart;
+    }
+
+    split_turned : (at : Address) (first : Slot) (fr : ℕ) (second : Slot) (sr : ℕ) → IsSplit told given roots t at (named_regions first fr second sr) → IsSplit told given roots t at (named_regions second sr first fr)
+    split_turned at first fr second sr c = record {
+      root_first = c.root_second;
+      root_second = c.root_first;
+      buses = λ same. c.buses (sym same);
+      sent_first = c.sent_second;
+      sent_second = c.sent_first;
+      claims_first = c.claims_second;
+      claims_second = c.claims_first;
+      apart = turned_told told first second fr sr c.apart;
+    }
+
+    no_known : (fault : plain.Fault) → IsKnownFaultOf (part_name q) fault → IsKnownIn told given roots t (Known fault) → ⊥
+    no_known fault = elim fault as (λ fault. IsKnownFaultOf (part_name q) fault → IsKnownIn told given roots t (Known fault) → ⊥) [
       | Unreached slot register space a bridge ↦ (λ e u. not_unreached slot register space a bridge (slot_of slot register e) (register_is slot register e) u)
       | Clash bus space a first fr second sr ↦ (λ e c. elim e [
-        | inl e ↦ not_second bus space a second sr first fr (slot_of first fr e) (register_is first fr e) (swapped given roots t bus space a first fr second sr c)
+        | inl e ↦ not_second bus space a second sr first fr (slot_of first fr e) (register_is first fr e) (clash_turned bus (address_in space a) first fr second sr c)
         | inr e ↦ not_second bus space a first fr second sr (slot_of second sr e) (register_is second sr e) c
       ])
       | Split space a first fr second sr ↦ (λ e c. elim e [
-        | inl e ↦ not_second_split space a second sr first fr (slot_of first fr e) (register_is first fr e) (swapped_split given roots t space a first fr second sr c)
+        | inl e ↦ not_second_split space a second sr first fr (slot_of first fr e) (register_is first fr e) (split_turned (address_in space a) first fr second sr c)
         | inr e ↦ not_second_split space a first fr second sr (slot_of second sr e) (register_is second sr e) c
       ])
       | _ ↦ (λ e is. absurd e)
     ]
 
-    none_is : (fault : Fault) → NamesRegion (part_name q) fault → IsIn given roots t fault → ⊥
+    none_is : (fault : Fault) → NamesRegion (part_name q) fault → IsKnownIn told given roots t fault → ⊥
     none_is (Known fault) e is = no_known fault e is
     none_is (Outside slot register space a) e o = not_outside slot register space a (slot_of slot register e) (register_is slot register e) o
 
 pub no_fault : NoFaultWhereItFits
-no_fault given roots s t q wide r system_s system_t nested place size moved fault named is = none_is given roots s t q r moved wide system_s system_t nested place size fault named is
+no_fault told given roots s t q wide r system_s system_t nested place size moved fault named is = none_is told given roots s t q r moved wide system_s system_t nested place size fault named is
 
 pub no_fault_of_others : NoFaultOfOthers
-no_fault_of_others given roots s t q r moved fault judged other is = was_there given roots s t q r moved fault judged other is
+no_fault_of_others told given roots s t q r moved fault judged other is = was_there told given roots s t q r moved fault judged other is
 
 pub no_plain_fault : NoPlainFaultWhereItFits
 no_plain_fault roots s t q wide r system_s system_t nested below place size moved fault named is =
-    no_fault nothing_given roots s t q wide r system_s system_t nested record {
+    no_fault (nothing_told []) nothing_given roots s t q wide r system_s system_t nested record {
       aligned = place.aligned;
       fits = place.fits;
       reached = λ a low high. (same_passed_to roots s q.space q.prefetchable a q.slot.bus).1 (place.reached a low high);
-      free = λ a low high taken. place.free a low high (taken_plain roots s q a taken.f taken.part (no_root roots q.slot.bus below) taken.listed taken.beside taken.other taken.claims);
-    } size moved (Known fault) named ((same_faults roots t fault).1 is)
+      free = λ a low high taken. place.free a low high (taken_plain [] roots s q a (no_root roots q.slot.bus below) taken);
+    } size moved (Known fault) named ((same_told_faults [] nothing_given roots t (Known fault)).1 ((same_faults roots t fault).1 is))

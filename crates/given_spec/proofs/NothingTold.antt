@@ -1,6 +1,6 @@
 -- With nothing told each word of judging is the one without it.
-use Rattle.std.proofs.Common.{◌≡◌, ℕ, ◌<◌, ◌≤◌, inl, inr, List, false, ◌||◌, sym, ◌∙◌, ap, arith, None, Some}
-use Rattle.std.specs.Prelude.{◌↔◌}
+use Rattle.std.proofs.Common.{◌≡◌, ℕ, ◌<◌, ◌≤◌, inl, inr, List, true, false, ◌||◌, sym, ◌∙◌, ap, arith, None, Some}
+use Rattle.std.specs.Prelude.{◌↔◌, IsTrue}
 use Rattle.std.proofs.lemmas.Bool.{cases_Bool}
 use Rattle.std.proofs.Math.Bool.{or-false}
 use Rattle.pci_spec.specs.Slot.{Slot}
@@ -36,18 +36,28 @@ same_order-le first fr second sr low high = (
   λ less. omega (arith, less, low, high),
 )
 
+-- ---- registers of faults
+
+-- the registers that a fault of judging names stand below the told ranges
+abbrev pub HasLowRegisters : untold_fault.Fault → Type 0
+HasLowRegisters (untold_fault.Known (Unreached slot register space a bridge)) = register < 256
+HasLowRegisters (untold_fault.Known (Clash bus space a first fr second sr)) = (fr < 256) × (sr < 256)
+HasLowRegisters (untold_fault.Known (Split space a first fr second sr)) = (fr < 256) × (sr < 256)
+HasLowRegisters (untold_fault.Known fault) = IsTrue true
+HasLowRegisters (untold_fault.Outside slot register space a) = register < 256
+
 module _ (asleep : List Slot) where
-  no_range_at : (region : RegionName) (r : ToldRange) → IsRangeAt (nothing_told asleep) region r → ⊥
+  pub no_range_at : (region : RegionName) (r : ToldRange) → IsRangeAt (nothing_told asleep) region r → ⊥
   no_range_at region r named = let e : None ≡ Some r = named.at in cc
 
-  same_share : (s : Slot) (r : ℕ) (t : Slot) (q : ℕ) → may_share (nothing_told asleep) s r t q ≡ untold.may_share s r t q
+  pub same_share : (s : Slot) (r : ℕ) (t : Slot) (q : ℕ) → may_share (nothing_told asleep) s r t q ≡ untold.may_share s r t q
   same_share s r t q = or-false (untold.may_share s r t q || false) ∙ or-false (untold.may_share s r t q)
 
   pub no_held_orphan : (roots : List ℕ) (s : System) (slot : Slot) → IsHeldOrphan (nothing_told asleep) roots s slot → ⊥
   no_held_orphan roots s slot orphan = in_nil orphan.r orphan.is_told
 
   module _ (given : Given) (s : System) where
-    untold_claims : (bus : ℕ) (at : Address) (region : RegionName) → ClaimsOnBus (nothing_told asleep) given s bus at region → untold.ClaimsOnBus given s bus at region
+    pub untold_claims : (bus : ℕ) (at : Address) (region : RegionName) → ClaimsOnBus (nothing_told asleep) given s bus at region → untold.ClaimsOnBus given s bus at region
     untold_claims bus at region (inl claims) = claims
     untold_claims bus at region (inr claims) = absurd (no_range_at region claims.r claims.named)
 

@@ -1,6 +1,6 @@
 -- With nothing told the list of all faults is the one without it, and so is its text.
-use Rattle.std.proofs.Common.{◌≡◌, ◌≢◌, ℕ, ◌<◌, ◌⊎◌, inl, inr, List, [], ◌∷◌, ◌++◌, ◌-◌, codes, map, true, refl, sym, ◌∙◌, ap, subst, arith}
-use Rattle.std.specs.Prelude.{◌↔◌, nat_lt, IsTrue}
+use Rattle.std.proofs.Common.{◌≡◌, ◌≢◌, ℕ, ◌<◌, ◌⊎◌, inl, inr, List, [], ◌∷◌, ◌++◌, ◌-◌, codes, map, refl, sym, ◌∙◌, ap, subst, arith}
+use Rattle.std.specs.Prelude.{◌↔◌, nat_lt}
 use Rattle.std.specs.List.{Contains, flat_map}
 use Rattle.std.specs.Fmt.{decimal}
 use Rattle.std.proofs.lemmas.Bool.{cases_lt, cond-true, lt-ltb}
@@ -26,11 +26,11 @@ use Rattle.given_spec.specs.ToldLine.{register_text, fault_line, list_text}
 use Rattle.given_spec.specs.ToldJudgingLaws.{AreUntoldFaults, SameToldList, SameToldText}
 use Rattle.given_spec.proofs.Naming.{named_register}
 use Rattle.given_spec.proofs.DeterminedTexts.{same_slots}
-use Rattle.given_spec.proofs.NothingTold.{no_held_orphan, none_not_listed, judging_same}
+use Rattle.given_spec.proofs.NothingTold.{HasLowRegisters, no_held_orphan, none_not_listed, judging_same}
 
 -- ---- lists
 
-known_twice : (faults : List plain.Fault) → map (λ f. Known (untold_fault.Known f)) faults ≡ map Known (map untold_fault.Known faults)
+pub known_twice : (faults : List plain.Fault) → map (λ f. Known (untold_fault.Known f)) faults ≡ map Known (map untold_fault.Known faults)
 known_twice [] = refl
 known_twice (f ∷ faults) = ap (λ l. Known (untold_fault.Known f) ∷ l) (known_twice faults)
 
@@ -170,14 +170,6 @@ same_told_list asleep given roots dump probe faults is_dump is_probe = (
 text_of_register : (register : ℕ) → register < 256 → register_text register ≡ hex_byte register
 text_of_register register low = cond-true (nat_lt register 256) (hex_byte register) (43 ∷ decimal (register - 255)) (lt-ltb register 256 low)
 
--- the registers that a fault of judging names stand below the told ranges
-abbrev HasLowRegisters : untold_fault.Fault → Type 0
-HasLowRegisters (untold_fault.Known (Unreached slot register space a bridge)) = register < 256
-HasLowRegisters (untold_fault.Known (Clash bus space a first fr second sr)) = (fr < 256) × (sr < 256)
-HasLowRegisters (untold_fault.Known (Split space a first fr second sr)) = (fr < 256) × (sr < 256)
-HasLowRegisters (untold_fault.Known fault) = IsTrue true
-HasLowRegisters (untold_fault.Outside slot register space a) = register < 256
-
 low_plain : (f : plain.Fault) → phase_of f < 5 → HasLowRegisters (untold_fault.Known f)
 low_plain f = elim f as (λ f. phase_of f < 5 → HasLowRegisters (untold_fault.Known f)) [
   | Unreached slot register space a bridge ↦ λ early. absurd (let no : ⊥ = omega (arith, early) in no)
@@ -208,7 +200,7 @@ module _ (given : Given) (roots : List ℕ) (s : System) where
       let named = o.named.1 in
       omega (arith, low, named)
 
-abbrev SameLine : untold_fault.Fault → Type 0
+abbrev pub SameLine : untold_fault.Fault → Type 0
 SameLine f = fault_line (Known f) ≡ untold_line.fault_line f
 
 same_plain_line : (f : plain.Fault) → HasLowRegisters (untold_fault.Known f) → SameLine (untold_fault.Known f)
@@ -224,7 +216,7 @@ same_plain_line f = elim f as (λ f. HasLowRegisters (untold_fault.Known f) → 
   | _ ↦ λ low. refl
 ]
 
-same_line : (f : untold_fault.Fault) → HasLowRegisters f → SameLine f
+pub same_line : (f : untold_fault.Fault) → HasLowRegisters f → SameLine f
 same_line (untold_fault.Known f) low = same_plain_line f low
 same_line (untold_fault.Outside slot register space a) low =
     ap (λ t. (two_digits 63 ++ field (codes "Outside") ++ field (slot_text slot ++ field t) ++ place_field space a) ++ 10 ∷ []) (text_of_register register low)

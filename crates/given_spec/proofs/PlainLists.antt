@@ -1,7 +1,7 @@
 -- With nothing given the list of all faults is the one without it.
-use Rattle.std.proofs.Common.{◌≡◌, ℕ, ◌<◌, ◌≤◌, List, [], ◌∷◌, ◌++◌, get_or, map, refl, true, false, sym, ◌∙◌, ap, subst, inl, inr, arith}
-use Rattle.std.specs.Prelude.{◌↔◌, Bool, IsTrue}
-use Rattle.std.specs.List.{Contains, AllPairs, flat_map}
+use Rattle.std.proofs.Common.{◌≡◌, ℕ, ◌<◌, ◌≤◌, List, [], ◌∷◌, get_or, map, refl, true, sym, ap, subst, inl, inr, arith}
+use Rattle.std.specs.Prelude.{◌↔◌, IsTrue}
+use Rattle.std.specs.List.{Contains, AllPairs}
 use Rattle.std.proofs.lemmas.Bool.{cases_lt}
 use Rattle.std.proofs.lemmas.List.Elements.{Contains-get_or}
 use Rattle.pci_spec.specs.Slot.{Slot}
@@ -11,10 +11,8 @@ use Rattle.pci_spec.specs.Fault.{Unreached, Clash, Split, SlotsDiffer, IsThere}
 use Rattle.pci_spec.specs.Fault as plain
 use Rattle.pci_spec.specs.AllFaults as plain_all
 use Rattle.pci_spec.specs.FaultLines as plain_lines
-use Rattle.pci_spec.specs.FaultsText as plain_text
 use Rattle.pci_spec.specs.Order.{precedes, looking_key, is_before, phase_of, image_at}
 use Rattle.pci_spec.specs.Order as order
-use Rattle.pci_spec.specs.Mark.{AssumedRegister}
 use Rattle.pci_spec.proofs.FirstLines.{first_line_is_first, same_precedes}
 use Rattle.pci_spec.proofs.Members.{in_nil, in_cons_cases, in_head, in_tail, IsMade, in_map_to, in_map_from, pairs_head, pairs_map}
 use Rattle.pci_spec.proofs.Pairing.{there-of_in, in-of_there}
@@ -23,11 +21,8 @@ use Rattle.given_spec.specs.Given.{nothing_given}
 use Rattle.given_spec.specs.Fault.{Fault, Known, Outside}
 use Rattle.given_spec.specs.AllFaults.{IsNamed, IsKnownNamed, AreAllOfJudging, judging_key}
 use Rattle.given_spec.specs.FaultLines.{AreJudged, AreAllFaults}
-use Rattle.given_spec.specs.FaultsText.{IsFaultsText}
-use Rattle.given_spec.specs.Line.{fault_line, list_text}
-use Rattle.given_spec.specs.ListLaws.{ArePlainFaults, SameList, SameTextOfAll, FirstOfListIsFirst}
+use Rattle.given_spec.specs.ListLaws.{ArePlainFaults, SameList, FirstOfListIsFirst}
 use Rattle.given_spec.proofs.Nothing.{none_outside, same_faults}
-use Rattle.given_spec.proofs.Reasons.{same_text}
 use Rattle.given_spec.proofs.DeterminedTexts.{pairs_of_map, same_slots, system_and_buses}
 use Rattle.given_spec.proofs.LeastFaults.{first_has_line}
 
@@ -232,7 +227,7 @@ module _ (roots : List ℕ) (dump probe : List Block) (is_dump : IsDump dump) (i
     all = plain_judging roots (system_of dump probe) ps (judging_of_all roots dump probe (same_where_none none) none ps all);
   }
 
-  given_of_plain : (ps : List plain.Fault) → plain_lines.AreAllFaults roots dump probe ps → AreAllFaults nothing_given roots dump probe (map Known ps)
+  pub given_of_plain : (ps : List plain.Fault) → plain_lines.AreAllFaults roots dump probe ps → AreAllFaults nothing_given roots dump probe (map Known ps)
   given_of_plain [] all = inr (judged [] (none_of_empty all) all)
   given_of_plain (f ∷ rest) all =
       let line = all.each f (in_head f rest) in
@@ -250,7 +245,7 @@ module _ (roots : List ℕ) (dump probe : List Block) (is_dump : IsDump dump) (i
         | inr late ↦ inr (judged (f ∷ rest) (λ fault early there. line.none_earlier fault (omega (arith, early, late)) there) all)
       ]
 
-  plain_of_given : (fs : List Fault) → AreAllFaults nothing_given roots dump probe fs → ArePlainFaults roots dump probe fs
+  pub plain_of_given : (fs : List Fault) → AreAllFaults nothing_given roots dump probe fs → ArePlainFaults roots dump probe fs
   plain_of_given fs (inl earlier) = record { plain_faults = earlier.early; all = earlier.all; are = earlier.are }
   plain_of_given fs (inr h) =
       let made = plain_of roots (system_of dump probe) fs h.all.each in
@@ -265,38 +260,6 @@ pub same_list : SameList
 same_list roots dump probe faults is_dump is_probe = (
   λ h. plain_of_given roots dump probe is_dump is_probe faults h,
   λ h. subst (λ l. AreAllFaults nothing_given roots dump probe l) (sym h.are) (given_of_plain roots dump probe is_dump is_probe h.plain_faults h.all),
-)
-
--- ---- texts
-
-same_lines : (ps : List plain.Fault) → flat_map fault_line (map Known ps) ≡ flat_map plain_text.fault_line ps
-same_lines [] = refl
-same_lines (f ∷ ps) = ap (λ l. plain_text.fault_line f ++ l) (same_lines ps)
-
-same_list_text : (ps : List plain.Fault) → list_text (map Known ps) ≡ plain_text.yes_line ps ++ flat_map plain_text.fault_line ps
-same_list_text [] = refl
-same_list_text (f ∷ ps) = same_lines (f ∷ ps)
-
-pub same_text_with : (assumed : List AssumedRegister) (roots : List ℕ) (s : System) (why : Bool) (ps : List plain.Fault) (text : List ℕ)
-    → IsFaultsText assumed nothing_given roots s why (map Known ps) text ↔ plain_text.IsFaultsText assumed roots s why ps text
-same_text_with assumed roots s true ps text = same_text assumed roots s ps text
-same_text_with assumed roots s false ps text = (λ is. is ∙ same_list_text ps, λ is. is ∙ sym (same_list_text ps))
-
-pub same_text_of_all : SameTextOfAll
-same_text_of_all assumed roots dump probe why text is_dump is_probe = (
-  λ h.
-      let list = plain_of_given roots dump probe is_dump is_probe h.faults h.all in
-      record {
-        faults = list.plain_faults;
-        all = list.all;
-        is = (same_text_with assumed roots (system_of dump probe) why list.plain_faults text).0
-            (subst (λ fs. IsFaultsText assumed nothing_given roots (system_of dump probe) why fs text) list.are h.is);
-      },
-  λ h. record {
-    faults = map Known h.faults;
-    all = given_of_plain roots dump probe is_dump is_probe h.faults h.all;
-    is = (same_text_with assumed roots (system_of dump probe) why h.faults text).1 h.is;
-  },
 )
 
 -- ---- the first of the list

@@ -40,7 +40,7 @@ region_same first second at_first at_second low high e = (
 
 module _ (told : Told) where
   -- what two regions may share is the same the other way round
-  turned_told : (s t : Slot) (r q : ℕ) → may_share told s r t q ≡ false → may_share told t q s r ≡ false
+  pub turned_told : (s t : Slot) (r q : ℕ) → may_share told s r t q ≡ false → may_share told t q s r ≡ false
   turned_told s t r q apart =
       let outer = or_parts (untold.may_share s r t q || is_held_beside told s r t q) (is_held_beside told t q s r) apart in
       let inner = or_parts (untold.may_share s r t q) (is_held_beside told s r t q) outer.0 in

@@ -11,6 +11,9 @@ use Rattle.pci_spec.specs.FaultsText as plain_text
 use Rattle.given_spec.specs.Given.{Given}
 use Rattle.given_spec.specs.Fault.{Fault, Known}
 use Rattle.given_spec.specs.FaultLines.{AreAllFaults}
+use Rattle.given_spec.specs.ToldClaims.{Told}
+use Rattle.given_spec.specs.ToldFault as told_fault
+use Rattle.given_spec.specs.ToldFaultLines as told_lines
 use Rattle.given_spec.specs.Why.{IsWhy}
 use Rattle.given_spec.specs.FaultsText.{IsFaultsText}
 
@@ -19,20 +22,20 @@ use Rattle.given_spec.specs.FaultsText.{IsFaultsText}
 -- Two texts behind one fault are equal.
 abbrev pub WhyIsDetermined : Type 0
 WhyIsDetermined =
-    (assumed : List AssumedRegister) (given : Given) (roots : List ℕ) (s : System) (fault : Fault)
-    (lines others : List ℕ) → IsSystem s → IsNested roots s
-    → IsWhy assumed given roots s fault lines → IsWhy assumed given roots s fault others
+    (assumed : List AssumedRegister) (told : Told) (given : Given) (roots : List ℕ) (s : System)
+    (fault : Fault) (lines others : List ℕ) → IsSystem s → IsNested roots s
+    → IsWhy assumed told given roots s fault lines → IsWhy assumed told given roots s fault others
     → lines ≡ others
 
 -- Behind a fault other than 63 they are equal whatever bus numbers the bridges have.
 abbrev pub KnownWhyIsDetermined : Type 0
 KnownWhyIsDetermined =
-    (assumed : List AssumedRegister) (given : Given) (roots : List ℕ) (s : System)
+    (assumed : List AssumedRegister) (told : Told) (given : Given) (roots : List ℕ) (s : System)
     (fault : plain.Fault) (lines others : List ℕ) → IsSystem s
-    → IsWhy assumed given roots s (Known fault) lines
-    → IsWhy assumed given roots s (Known fault) others → lines ≡ others
+    → IsWhy assumed told given roots s (Known fault) lines
+    → IsWhy assumed told given roots s (Known fault) others → lines ≡ others
 
--- The same without what is given.
+-- The same without what is given and told.
 abbrev pub PlainWhyIsDetermined : Type 0
 PlainWhyIsDetermined =
     (assumed : List AssumedRegister) (roots : List ℕ) (s : System) (fault : plain.Fault)
@@ -55,22 +58,22 @@ PlainListIsDetermined =
     → plain_lines.AreAllFaults roots dump probe faults
     → plain_lines.AreAllFaults roots dump probe others → faults ≡ others
 
--- a text of the list of all faults of a dump and its probe, with reasons or without
-pub record IsTextOfAll (assumed : List AssumedRegister) (given : Given) (roots : List ℕ)
-    (dump probe : List Block) (why : Bool) (text : List ℕ) : Type 0 where
-  pub faults : List Fault
-  pub all : AreAllFaults given roots dump probe faults
-  pub is : IsFaultsText assumed given roots (system_of dump probe) why faults text
+-- a text of the list of all faults of a dump and its probe, with what is told, and with reasons or without
+pub record IsTextOfAll (assumed : List AssumedRegister) (told : Told) (given : Given)
+    (roots : List ℕ) (dump probe : List Block) (why : Bool) (text : List ℕ) : Type 0 where
+  pub faults : List told_fault.Fault
+  pub all : told_lines.AreAllFaults told given roots dump probe faults
+  pub is : IsFaultsText assumed told given roots (system_of dump probe) why faults text
 
 -- Two such texts are equal.
 abbrev pub TextIsDetermined : Type 0
 TextIsDetermined =
-    (assumed : List AssumedRegister) (given : Given) (roots : List ℕ) (dump probe : List Block)
-    (why : Bool) (text other : List ℕ) → IsDump dump → IsDump probe
-    → IsTextOfAll assumed given roots dump probe why text
-    → IsTextOfAll assumed given roots dump probe why other → text ≡ other
+    (assumed : List AssumedRegister) (told : Told) (given : Given) (roots : List ℕ)
+    (dump probe : List Block) (why : Bool) (text other : List ℕ) → IsDump dump → IsDump probe
+    → IsTextOfAll assumed told given roots dump probe why text
+    → IsTextOfAll assumed told given roots dump probe why other → text ≡ other
 
--- the same without what is given
+-- the same without what is given and told
 pub record IsPlainTextOfAll (assumed : List AssumedRegister) (roots : List ℕ)
     (dump probe : List Block) (why : Bool) (text : List ℕ) : Type 0 where
   pub faults : List plain.Fault

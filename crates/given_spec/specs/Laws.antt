@@ -19,6 +19,8 @@ use Rattle.given_spec.specs.AllFaults.{IsOutsideOf, AreAllOfJudging}
 use Rattle.given_spec.specs.Words.{taken_by_vga, taken_by_isa}
 use Rattle.given_spec.specs.Why.{IsWhy}
 use Rattle.given_spec.specs.FaultsText.{IsReasonedText}
+use Rattle.given_spec.specs.ToldClaims.{nothing_told}
+use Rattle.given_spec.specs.ToldFault as told_fault
 
 -- ---- with nothing given each word is the one without it
 
@@ -71,20 +73,24 @@ SameSound =
     (roots : List ℕ) (s : System) → IsSystem s
     → IsSound nothing_given roots s ↔ sound.IsSound roots s
 
--- the lines behind a fault
+-- the lines behind a fault, with nothing told, either
 abbrev pub SameWhy : Type 0
 SameWhy =
-    (assumed : List AssumedRegister) (roots : List ℕ) (s : System) (fault : plain.Fault)
-    (lines : List ℕ)
-    → IsWhy assumed nothing_given roots s (Known fault) lines
+    (assumed : List AssumedRegister) (asleep : List Slot) (roots : List ℕ) (s : System)
+    (fault : plain.Fault) (lines : List ℕ)
+    → IsWhy assumed (nothing_told asleep) nothing_given roots s (Known fault) lines
     ↔ why.IsWhy assumed roots s fault lines
+
+-- a fault of the list without what is given and told
+abbrev pub plain_known : plain.Fault → told_fault.Fault
+plain_known fault = told_fault.Known (Known fault)
 
 -- the text of a list with reasons
 abbrev pub SameText : Type 0
 SameText =
-    (assumed : List AssumedRegister) (roots : List ℕ) (s : System) (faults : List plain.Fault)
-    (text : List ℕ)
-    → IsReasonedText assumed nothing_given roots s (map Known faults) text
+    (assumed : List AssumedRegister) (asleep : List Slot) (roots : List ℕ) (s : System)
+    (faults : List plain.Fault) (text : List ℕ)
+    → IsReasonedText assumed (nothing_told asleep) nothing_given roots s (map plain_known faults) text
     ↔ faults_text.IsReasonedText assumed roots s faults text
 
 -- ---- what faults are good for

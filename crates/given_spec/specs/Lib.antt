@@ -27,3 +27,4 @@ pub mod ToldNumbered
 pub mod ToldFaultLines
 pub mod ToldLine
 pub mod ToldJudgingLaws
+pub mod ToldRegion

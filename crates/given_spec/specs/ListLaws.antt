@@ -1,5 +1,6 @@
--- Laws of the list of all faults: with nothing given it is the plain one, and so is its text.
+-- Laws of the list of all faults: with nothing given it is the plain one, and with nothing told, either, so is its text.
 use Rattle.std.specs.Prelude.{◌≡◌, ℕ, ◌↔◌, Bool, List, ◌∷◌, map}
+use Rattle.pci_spec.specs.Slot.{Slot}
 use Rattle.pci_spec.specs.Text.{Block, IsDump}
 use Rattle.pci_spec.specs.Fault as plain
 use Rattle.pci_spec.specs.FaultLines as plain_lines
@@ -8,6 +9,7 @@ use Rattle.pci_spec.specs.Mark.{AssumedRegister}
 use Rattle.given_spec.specs.Given.{nothing_given}
 use Rattle.given_spec.specs.Fault.{Fault, Known}
 use Rattle.given_spec.specs.FaultLines.{AreAllFaults}
+use Rattle.given_spec.specs.ToldClaims.{nothing_told}
 use Rattle.given_spec.specs.DeterminedLaws.{IsTextOfAll, IsPlainTextOfAll}
 
 -- the faults are those of the list without what is given, in its order
@@ -23,12 +25,12 @@ SameList =
     (roots : List ℕ) (dump probe : List Block) (faults : List Fault) → IsDump dump → IsDump probe
     → AreAllFaults nothing_given roots dump probe faults ↔ ArePlainFaults roots dump probe faults
 
--- So is its text, with reasons or without.
+-- So is its text, with reasons or without, where nothing is told, either.
 abbrev pub SameTextOfAll : Type 0
 SameTextOfAll =
-    (assumed : List AssumedRegister) (roots : List ℕ) (dump probe : List Block) (why : Bool)
-    (text : List ℕ) → IsDump dump → IsDump probe
-    → IsTextOfAll assumed nothing_given roots dump probe why text
+    (assumed : List AssumedRegister) (asleep : List Slot) (roots : List ℕ)
+    (dump probe : List Block) (why : Bool) (text : List ℕ) → IsDump dump → IsDump probe
+    → IsTextOfAll assumed (nothing_told asleep) nothing_given roots dump probe why text
     ↔ IsPlainTextOfAll assumed roots dump probe why text
 
 -- The first fault of that list is the one that is looked for first, which a verdict names.

@@ -13,7 +13,9 @@ use Rattle.pci_spec.specs.Decoded.{Range}
 use Rattle.pci_spec.specs.Why.{Region, IsRegionIn, is_wide_part, address_count}
 use Rattle.pci_spec.specs.Why as why
 use Rattle.given_spec.specs.Given.{Given}
-use Rattle.given_spec.specs.Fault.{Fault, Known, Outside, IsIn}
+use Rattle.given_spec.specs.Fault.{Fault, Known, Outside}
+use Rattle.given_spec.specs.ToldClaims.{Told}
+use Rattle.given_spec.specs.ToldFault as told_fault
 use Rattle.given_spec.specs.FaultsText.{is_of_judging}
 use Rattle.given_spec.specs.Why.{IsPlaceFor}
 
@@ -77,19 +79,22 @@ NamesRegion region (Outside slot register space address) = named_region slot reg
 -- (The windows of bridges stay as they were, so no window is moved here.)
 abbrev pub NoFaultWhereItFits : Type 0
 NoFaultWhereItFits =
-    (given : Given) (roots : List ℕ) (s t : System) (q : Region) (wide : Bool) (r : Range)
-    → IsSystem s → IsSystem t → IsNested roots s
-    → IsPlaceFor given roots s q wide r.first → HasItsSize q r → IsMovedTo s t q r
-    → (fault : Fault) → NamesRegion (part_name q) fault → IsIn given roots t fault → ⊥
+    (told : Told) (given : Given) (roots : List ℕ) (s t : System) (q : Region) (wide : Bool)
+    (r : Range) → IsSystem s → IsSystem t → IsNested roots s
+    → IsPlaceFor told given roots s q wide r.first → HasItsSize q r → IsMovedTo s t q r
+    → (fault : Fault) → NamesRegion (part_name q) fault
+    → told_fault.IsIn told given roots t (told_fault.Known fault) → ⊥
 
 -- A move makes no fault of other regions: each fault of judging that doesn't name the region was there before.
 abbrev pub NoFaultOfOthers : Type 0
 NoFaultOfOthers =
-    (given : Given) (roots : List ℕ) (s t : System) (q : Region) (r : Range) → IsMovedTo s t q r
+    (told : Told) (given : Given) (roots : List ℕ) (s t : System) (q : Region) (r : Range)
+    → IsMovedTo s t q r
     → (fault : Fault) → IsTrue (is_of_judging fault) → (NamesRegion (part_name q) fault → ⊥)
-    → IsIn given roots t fault → IsIn given roots s fault
+    → told_fault.IsIn told given roots t (told_fault.Known fault)
+    → told_fault.IsIn told given roots s (told_fault.Known fault)
 
--- With nothing given it is so of a region that is on no root bus.
+-- With nothing given and told it is so of a region that is on no root bus.
 abbrev pub NoPlainFaultWhereItFits : Type 0
 NoPlainFaultWhereItFits =
     (roots : List ℕ) (s t : System) (q : Region) (wide : Bool) (r : Range)

@@ -1,6 +1,6 @@
--- What stands behind a fault of judging, with what is given: the lines that pci_spec defines, where a bridge passes what
--- its legacy part claims, too, and where accesses start as the host sends them.
-use Rattle.std.specs.Prelude.{◌≡◌, ◌⊎◌, ℕ, ◌+◌, ◌<◌, ◌≤◌, ◌%◌, Bool, false, ◌&&◌, ◌||◌, not, IsTrue, IsFalse, if◌then◌else◌, List, [], ◌∷◌, ◌++◌, map, codes, Option, Some, MatchOption, MatchBool}
+-- What stands behind a fault of judging, with what is given and told: the lines that pci_spec defines, where a bridge passes
+-- what its legacy part claims, too, where accesses start as the host sends them, and where told ranges claim addresses.
+use Rattle.std.specs.Prelude.{◌≡◌, ◌⊎◌, ℕ, ◌+◌, ◌<◌, ◌≤◌, ◌%◌, nat_lt, Bool, false, ◌&&◌, ◌||◌, not, IsTrue, IsFalse, if◌then◌else◌, List, [], ◌∷◌, ◌++◌, map, codes, Option, Some, MatchOption, MatchBool}
 use Rattle.std.specs.Option.{is_some}
 use Rattle.std.specs.List.{Contains, filter, flat_map, list_any}
 use Rattle.pci_spec.specs.Slot.{Slot, same_slot}
@@ -13,13 +13,15 @@ use Rattle.pci_spec.specs.Fault.{Unreached, Clash, Split, RegionName, TwoRegions
 use Rattle.pci_spec.specs.Fault as faults
 use Rattle.pci_spec.specs.Decoded.{Range, InRange, decoded_windows}
 use Rattle.pci_spec.specs.Line.{space_text}
-use Rattle.pci_spec.specs.Listing.{inner_line, range_text, on_text}
+use Rattle.pci_spec.specs.Listing.{words, inner_line, range_text, on_text}
 use Rattle.pci_spec.specs.Mark.{AssumedRegister, is_size_assumed}
-use Rattle.pci_spec.specs.Why.{AreRuns, place_words, part_text, range_line, windows_text, fits_line, unknown_line, address_count, place_end, is_wide_part}
+use Rattle.pci_spec.specs.Why.{AreRuns, place_words, part_text, range_line, windows_text, fits_line, unknown_line, address_count, place_end, is_wide_part, off_lines_of}
 use Rattle.pci_spec.specs.Why as plain
 use Rattle.given_spec.specs.Given.{Given, HostRange, ranges_said, is_for, starts, has_isa}
-use Rattle.given_spec.specs.Claims.{Part, Claims, LegacyClaims, is_cut_of, passes, IsPassedTo, register_of, may_share}
+use Rattle.given_spec.specs.Claims.{LegacyClaims, is_cut_of, passes, IsPassedTo}
 use Rattle.given_spec.specs.Fault.{Fault, Known, Outside}
+use Rattle.given_spec.specs.ToldClaims.{Told, ClaimsOnBus, may_share}
+use Rattle.given_spec.specs.ToldRegion.{ToldRegion, told_extent, IsToldIn, off_ranges, told_words}
 
 -- ---- legacy parts
 
@@ -57,26 +59,46 @@ isa_words_of given part space slot = if is_window part then isa_words given spac
 
 -- ---- regions
 
--- a region as a line tells it: one that address registers show, or the legacy part of a bridge in a space
+-- a region as a line tells it: one that address registers show, the legacy part of a bridge in a space, or a told range
 pub data AnyRegion : Type 0 where
   Own : plain.Region → AnyRegion
   Legacy : Function → Space → AnyRegion
+  OfLine : ToldRegion → AnyRegion
+
+abbrev pub space_of : AnyRegion → Space
+space_of (Own q) = q.space
+space_of (Legacy b space) = space
+space_of (OfLine x) = x.told.space
+
+abbrev pub is_prefetchable : AnyRegion → Bool
+is_prefetchable (Own q) = q.prefetchable
+is_prefetchable (Legacy b space) = false
+is_prefetchable (OfLine x) = x.told.prefetchable
+
+abbrev pub bus_of : AnyRegion → ℕ
+bus_of (Own q) = q.slot.bus
+bus_of (Legacy b space) = b.slot.bus
+bus_of (OfLine x) = x.told.slot.bus
 
 -- it claims the address
 abbrev pub Holds : Given → AnyRegion → ℕ → Type 0
 Holds given (Own q) a = InRange q.range a × IsFalse (is_cut_of given q.part q.space a q.slot)
 Holds given (Legacy b space) a = LegacyClaims given b space a
+Holds given (OfLine x) a = InRange (told_extent x.told) a
 
--- it is one of the system's, and claims an address
-abbrev pub IsRegionIn : Given → System → AnyRegion → Type 0
-IsRegionIn given s (Own q) = plain.IsRegionIn s q
-IsRegionIn given s (Legacy b space) = Contains s b × (a : ℕ) × LegacyClaims given b space a
+-- it is one of the system's or of what is told, and claims an address
+abbrev pub IsRegionIn : Told → Given → System → AnyRegion → Type 0
+IsRegionIn told given s (Own q) = plain.IsRegionIn s q
+IsRegionIn told given s (Legacy b space) = Contains s b × (a : ℕ) × LegacyClaims given b space a
+IsRegionIn told given s (OfLine x) = IsToldIn told s x
 
 -- the region that a slot and a register name, in a space
 abbrev pub IsNamed : AnyRegion → Slot → ℕ → Space → Type 0
 IsNamed (Own q) slot register space = plain.IsNamed q slot register space
 IsNamed (Legacy b of_space) slot register space =
     (b.slot ≡ slot) × (BRIDGE_CONTROL ≡ register) × (of_space ≡ space)
+IsNamed (OfLine x) slot register space =
+    (x.told.slot ≡ slot) × (x.register ≡ register) × (x.told.space ≡ space)
 
 abbrev pub region_line : Given → List ℕ → AnyRegion → List ℕ
 region_line given word (Own q) =
@@ -85,6 +107,7 @@ region_line given word (Own q) =
 region_line given word (Legacy b space) =
     inner_line (word ∷ slot_text b.slot ∷ hex_byte BRIDGE_CONTROL
     ∷ legacy_text (is_narrow given b.slot) space ∷ [])
+region_line given word (OfLine x) = inner_line (word ∷ told_words x)
 
 -- ---- what the host sends
 
@@ -103,17 +126,17 @@ host_line space ranges =
     inner_line (codes "host" ∷ space_text space ∷ ranges_words space ranges)
 
 -- The lines behind a region outside the host's ranges: what it needs, and what is sent to the root above it.
-pub record IsBehindOutside (given : Given) (roots : List ℕ) (s : System) (q : plain.Region)
-    (lines : List ℕ) : Type 0 where
-  pub is : plain.IsRegionIn s q
+pub record IsBehindOutside (told : Told) (given : Given) (roots : List ℕ) (s : System)
+    (q : AnyRegion) (lines : List ℕ) : Type 0 where
+  pub is : IsRegionIn told given s q
   pub root : ℕ
   pub is_root : Contains roots root
   pub bridges : List Function
-  pub leads : Leads s root bridges q.slot.bus
+  pub leads : Leads s root bridges (bus_of q)
   pub ranges : List HostRange
-  pub said : ranges_said given q.space ≡ Some ranges
+  pub said : ranges_said given (space_of q) ≡ Some ranges
   pub text : lines
-      ≡ plain.region_line (codes "needs") q ++ host_line q.space (ranges_for root ranges)
+      ≡ region_line given (codes "needs") q ++ host_line (space_of q) (ranges_for root ranges)
 
 -- ---- what a bridge misses
 
@@ -125,29 +148,31 @@ bridge_line given b space prefetchable =
     ∷ isa_words given space b.slot ++ legacy_words given b.slot)
 
 -- an address of the region doesn't pass the bridge
-abbrev pub Misses : Given → plain.Region → Function → ℕ → Type 0
-Misses given q b a = InRange q.range a × (passes given q.space q.prefetchable a b ≡ false)
+abbrev pub Misses : Given → AnyRegion → Function → ℕ → Type 0
+Misses given q b a =
+    Holds given q a × (passes given (space_of q) (is_prefetchable q) a b ≡ false)
 
 -- The lines behind an unreached region: what it needs, the bridge, and each run of addresses that this doesn't pass.
-pub record IsBehindUnreached (given : Given) (s : System) (q : plain.Region) (bridge : Slot)
-    (lines : List ℕ) : Type 0 where
-  pub is : plain.IsRegionIn s q
+pub record IsBehindUnreached (told : Told) (given : Given) (s : System) (q : AnyRegion)
+    (bridge : Slot) (lines : List ℕ) : Type 0 where
+  pub is : IsRegionIn told given s q
   pub b : Function
   pub listed : Contains s b
   pub named : b.slot ≡ bridge
   pub missed : List Range
   pub runs : AreRuns (Misses given q b) missed
   pub text : lines
-      ≡ plain.region_line (codes "needs") q ++ (bridge_line given b q.space q.prefetchable
-      ++ flat_map (range_line (codes "missed") q.space) missed)
+      ≡ region_line given (codes "needs") q
+      ++ (bridge_line given b (space_of q) (is_prefetchable q)
+      ++ flat_map (range_line (codes "missed") (space_of q)) missed)
 
 -- ---- two regions
 
 -- The lines behind two regions that claim an address: both, and each run of addresses that are of the two.
-pub record IsBehindTwo (given : Given) (s : System) (space : Space) (p q : AnyRegion)
-    (lines : List ℕ) : Type 0 where
-  pub first : IsRegionIn given s p
-  pub second : IsRegionIn given s q
+pub record IsBehindTwo (told : Told) (given : Given) (s : System) (space : Space)
+    (p q : AnyRegion) (lines : List ℕ) : Type 0 where
+  pub first : IsRegionIn told given s p
+  pub second : IsRegionIn told given s q
   pub shared : List Range
   pub some : shared ≡ [] → ⊥
   pub runs : AreRuns (λ a. Holds given p a × Holds given q a) shared
@@ -155,77 +180,77 @@ pub record IsBehindTwo (given : Given) (s : System) (space : Space) (p q : AnyRe
       ≡ region_line given (codes "first") p ++ (region_line given (codes "second") q
       ++ flat_map (range_line (codes "shared") space) shared)
 
-abbrev pub AreNamedTwo : Given → System → Space → TwoRegions → List ℕ → Type 0
-AreNamedTwo given s space two lines =
+abbrev pub AreNamedTwo : Told → Given → System → Space → TwoRegions → List ℕ → Type 0
+AreNamedTwo told given s space two lines =
     (p : AnyRegion) × (q : AnyRegion) × IsNamed p two.first.slot two.first.register space
-    × IsNamed q two.second.slot two.second.register space × IsBehindTwo given s space p q lines
+    × IsNamed q two.second.slot two.second.register space
+    × IsBehindTwo told given s space p q lines
 
-abbrev pub IsKnownEvidence : Given → System → faults.Fault → List ℕ → Type 0
-IsKnownEvidence given s (Unreached slot register space address bridge) lines =
-    (q : plain.Region) × plain.IsNamed q slot register space
-    × IsBehindUnreached given s q bridge lines
-IsKnownEvidence given s (Clash bus space address first first_register second second_register)
-    lines =
-    AreNamedTwo given s space (named_regions first first_register second second_register) lines
-IsKnownEvidence given s (Split space address first first_register second second_register) lines =
-    AreNamedTwo given s space (named_regions first first_register second second_register) lines
-IsKnownEvidence given s fault lines = lines ≡ []
+abbrev pub IsKnownEvidence : Told → Given → System → faults.Fault → List ℕ → Type 0
+IsKnownEvidence told given s (Unreached slot register space address bridge) lines =
+    (q : AnyRegion) × IsNamed q slot register space
+    × IsBehindUnreached told given s q bridge lines
+IsKnownEvidence told given s
+    (Clash bus space address first first_register second second_register) lines =
+    AreNamedTwo told given s space (named_regions first first_register second second_register) lines
+IsKnownEvidence told given s
+    (Split space address first first_register second second_register) lines =
+    AreNamedTwo told given s space (named_regions first first_register second second_register) lines
+IsKnownEvidence told given s fault lines = lines ≡ []
 
 -- the lines that tell with what ranges a fault is there; of others than those of judging none
-abbrev pub IsEvidence : Given → List ℕ → System → Fault → List ℕ → Type 0
-IsEvidence given roots s (Known fault) lines = IsKnownEvidence given s fault lines
-IsEvidence given roots s (Outside slot register space address) lines =
-    (q : plain.Region) × plain.IsNamed q slot register space
-    × IsBehindOutside given roots s q lines
+abbrev pub IsEvidence : Told → Given → List ℕ → System → Fault → List ℕ → Type 0
+IsEvidence told given roots s (Known fault) lines = IsKnownEvidence told given s fault lines
+IsEvidence told given roots s (Outside slot register space address) lines =
+    (q : AnyRegion) × IsNamed q slot register space
+    × IsBehindOutside told given roots s q lines
 
 -- ---- where a region would fit
 
--- a region that can clash with the region at the address: one of its bus, or where that is a root bus one of another to
--- which accesses to it start, too
-abbrev pub IsBeside : Given → List ℕ → plain.Region → ℕ → Function → Type 0
-IsBeside given roots q a f =
-    (f.slot.bus ≡ q.slot.bus) ⊎ (Contains roots q.slot.bus × Contains roots f.slot.bus
-    × IsTrue (starts given q.space f.slot.bus a))
+-- regions of a bus can clash with the region at the address: the bus is the region's, or where that is a root bus it is
+-- another to which accesses to it start, too
+abbrev pub IsBeside : Given → List ℕ → plain.Region → ℕ → ℕ → Type 0
+IsBeside given roots q a bus =
+    (bus ≡ q.slot.bus) ⊎ (Contains roots q.slot.bus × Contains roots bus
+    × IsTrue (starts given q.space bus a))
 
 -- another one claims the address, and may not share it
-pub record IsTakenBeside (given : Given) (roots : List ℕ) (s : System) (q : plain.Region)
-    (a : ℕ) : Type 0 where
-  pub f : Function
-  pub part : Part
-  pub listed : Contains s f
-  pub beside : IsBeside given roots q a f
-  pub other : (f.slot ≡ q.slot) × (register_of f part ≡ q.register) → ⊥
-  pub apart : may_share q.slot q.register f.slot (register_of f part) ≡ false
-  pub claims : Claims given f part q.space a
+pub record IsTakenBeside (told : Told) (given : Given) (roots : List ℕ) (s : System)
+    (q : plain.Region) (a : ℕ) : Type 0 where
+  pub by : RegionName
+  pub beside : IsBeside given roots q a by.slot.bus
+  pub other : (by.slot ≡ q.slot) × (by.register ≡ q.register) → ⊥
+  pub apart : may_share told q.slot q.register by.slot by.register ≡ false
+  pub claims : ClaimsOnBus told given s by.slot.bus (address_in q.space a) by
 
 -- the region can stand at an address: accesses to each of its addresses start on the root above, each bridge on the way
 -- passes it, and no other region claims one that can clash with it
-pub record IsPlaceFor (given : Given) (roots : List ℕ) (s : System) (q : plain.Region)
-    (wide : Bool) (first : ℕ) : Type 0 where
+pub record IsPlaceFor (told : Told) (given : Given) (roots : List ℕ) (s : System)
+    (q : plain.Region) (wide : Bool) (first : ℕ) : Type 0 where
   pub aligned : first % address_count q.range ≡ 0
   pub fits : first + address_count q.range ≤ place_end q.space wide
   pub reached : (a : ℕ) → first ≤ a → a < first + address_count q.range
       → IsPassedTo given roots s (address_in q.space a) q.prefetchable q.slot.bus
   pub free : (a : ℕ) → first ≤ a → a < first + address_count q.range
-      → IsTakenBeside given roots s q a → ⊥
+      → IsTakenBeside told given roots s q a → ⊥
 
 -- the least such place, with its last address too
-pub record IsLeastPlace (given : Given) (roots : List ℕ) (s : System) (q : plain.Region)
-    (wide : Bool) (r : Range) : Type 0 where
-  pub is : IsPlaceFor given roots s q wide r.first
+pub record IsLeastPlace (told : Told) (given : Given) (roots : List ℕ) (s : System)
+    (q : plain.Region) (wide : Bool) (r : Range) : Type 0 where
+  pub is : IsPlaceFor told given roots s q wide r.first
   pub size : r.last + 1 ≡ r.first + address_count q.range
-  pub least : (first : ℕ) → IsPlaceFor given roots s q wide first → r.first ≤ first
+  pub least : (first : ℕ) → IsPlaceFor told given roots s q wide first → r.first ≤ first
 
 -- the line that tells where a region would fit, if it would
-pub record IsFit (given : Given) (roots : List ℕ) (s : System) (q : plain.Region)
+pub record IsFit (told : Told) (given : Given) (roots : List ℕ) (s : System) (q : plain.Region)
     (lines : List ℕ) : Type 0 where
   pub f : Function
   pub listed : Contains s f
   pub slot : f.slot ≡ q.slot
   pub place : Option Range
   pub exact : MatchOption place
-      ((first : ℕ) → IsPlaceFor given roots s q (is_wide_part f q.part) first → ⊥)
-      (λ r. IsLeastPlace given roots s q (is_wide_part f q.part) r)
+      ((first : ℕ) → IsPlaceFor told given roots s q (is_wide_part f q.part) first → ⊥)
+      (λ r. IsLeastPlace told given roots s q (is_wide_part f q.part) r)
   pub text : lines ≡ fits_line q.space place
 
 -- whether a list is said of a space
@@ -233,47 +258,71 @@ abbrev pub is_said : Given → Space → Bool
 is_said given space = is_some (ranges_said given space)
 
 -- A window has no such line: what is behind its bridge would have to move with it. Neither has a region on a root bus to
--- which all of the space is sent, nor a legacy part, which can't be moved. Where the read back of the region's register is
--- assumed, its size isn't known.
-abbrev pub IsFitBehind : List AssumedRegister → Given → List ℕ → System → AnyRegion → List ℕ → Type 0
-IsFitBehind assumed given roots s (Own q) lines =
+-- which all of the space is sent, nor a legacy part or a told range, which can't be moved. Where the read back of the
+-- region's register is assumed, its size isn't known.
+abbrev pub IsFitBehind :
+    List AssumedRegister → Told → Given → List ℕ → System → AnyRegion → List ℕ → Type 0
+IsFitBehind assumed told given roots s (Own q) lines =
     MatchBool (is_window q.part || is_root roots q.slot.bus && not (is_said given q.space)) (lines ≡ [])
     (MatchBool (is_size_assumed assumed q.slot q.register) (lines ≡ unknown_line)
-    (IsFit given roots s q lines))
-IsFitBehind assumed given roots s (Legacy b space) lines = lines ≡ []
+    (IsFit told given roots s q lines))
+IsFitBehind assumed told given roots s (Legacy b space) lines = lines ≡ []
+IsFitBehind assumed told given roots s (OfLine x) lines = lines ≡ []
 
 abbrev pub IsAdviceFor :
-    List AssumedRegister → Given → List ℕ → System → RegionName → Space → List ℕ → Type 0
-IsAdviceFor assumed given roots s region space lines =
-    (q : AnyRegion) × IsNamed q region.slot region.register space × IsRegionIn given s q
-    × IsFitBehind assumed given roots s q lines
+    List AssumedRegister → Told → Given → List ℕ → System → RegionName → Space → List ℕ → Type 0
+IsAdviceFor assumed told given roots s region space lines =
+    (q : AnyRegion) × IsNamed q region.slot region.register space × IsRegionIn told given s q
+    × IsFitBehind assumed told given roots s q lines
+
+-- of two the second would be moved, or the first where the second is a told range
+abbrev pub to_move : TwoRegions → RegionName
+to_move two = if nat_lt two.second.register 256 then two.second else two.first
 
 abbrev pub IsKnownAdvice :
-    List AssumedRegister → Given → List ℕ → System → faults.Fault → List ℕ → Type 0
-IsKnownAdvice assumed given roots s (Unreached slot register space address bridge) lines =
-    IsAdviceFor assumed given roots s (named_region slot register) space lines
-IsKnownAdvice assumed given roots s
+    List AssumedRegister → Told → Given → List ℕ → System → faults.Fault → List ℕ → Type 0
+IsKnownAdvice assumed told given roots s (Unreached slot register space address bridge) lines =
+    IsAdviceFor assumed told given roots s (named_region slot register) space lines
+IsKnownAdvice assumed told given roots s
     (Clash bus space address first first_register second second_register) lines =
-    IsAdviceFor assumed given roots s (named_region second second_register) space lines
--- the second region stands on a root bus
-IsKnownAdvice assumed given roots s
+    IsAdviceFor assumed told given roots s
+    (to_move (named_regions first first_register second second_register)) space lines
+-- both regions stand on root buses
+IsKnownAdvice assumed told given roots s
     (Split space address first first_register second second_register) lines =
     MatchBool (is_said given space)
-    (IsAdviceFor assumed given roots s (named_region second second_register) space lines)
+    (IsAdviceFor assumed told given roots s
+    (to_move (named_regions first first_register second second_register)) space lines)
     (lines ≡ [])
-IsKnownAdvice assumed given roots s fault lines = lines ≡ []
+IsKnownAdvice assumed told given roots s fault lines = lines ≡ []
 
--- the line of the region that isn't sent or reached, or the second of two
-abbrev pub IsAdvice : List AssumedRegister → Given → List ℕ → System → Fault → List ℕ → Type 0
-IsAdvice assumed given roots s (Known fault) lines = IsKnownAdvice assumed given roots s fault lines
-IsAdvice assumed given roots s (Outside slot register space address) lines =
-    IsAdviceFor assumed given roots s (named_region slot register) space lines
+-- the line of the region that isn't sent or reached, or of one of two
+abbrev pub IsAdvice :
+    List AssumedRegister → Told → Given → List ℕ → System → Fault → List ℕ → Type 0
+IsAdvice assumed told given roots s (Known fault) lines =
+    IsKnownAdvice assumed told given roots s fault lines
+IsAdvice assumed told given roots s (Outside slot register space address) lines =
+    IsAdviceFor assumed told given roots s (named_region slot register) space lines
 
 -- all lines behind a fault
-pub record IsWhy (assumed : List AssumedRegister) (given : Given) (roots : List ℕ) (s : System)
-    (fault : Fault) (lines : List ℕ) : Type 0 where
+pub record IsWhy (assumed : List AssumedRegister) (told : Told) (given : Given) (roots : List ℕ)
+    (s : System) (fault : Fault) (lines : List ℕ) : Type 0 where
   pub evidence : List ℕ
   pub advice : List ℕ
-  pub told : IsEvidence given roots s fault evidence
-  pub fits : IsAdvice assumed given roots s fault advice
+  pub shows : IsEvidence told given roots s fault evidence
+  pub fits : IsAdvice assumed told given roots s fault advice
   pub text : lines ≡ evidence ++ advice
+
+-- ---- BARs and told ranges that are off
+
+abbrev pub range_off_line : ToldRegion → List ℕ
+range_off_line x = codes "off" ++ words (told_words x)
+
+-- those of a function, by register
+abbrev pub all_off_lines_of : Told → System → Function → List ℕ
+all_off_lines_of told s f =
+    off_lines_of f ++ flat_map range_off_line (off_ranges told s f.slot)
+
+-- those of all functions
+abbrev pub all_off_lines : Told → System → List ℕ
+all_off_lines told s = flat_map (all_off_lines_of told s) s

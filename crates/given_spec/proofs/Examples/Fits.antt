@@ -1,5 +1,5 @@
 -- Two BARs of 4 KB and of 64 KB at one address behind a bridge: behind the clash stands where the second one, of 64 KB, fits.
-use Rattle.std.proofs.Common.{◌≡◌, ◌⊎◌, ◌≤◌, ◌%◌, ℕ, zero, suc, List, [], ◌∷◌, ◌++◌, codes, refl, true, false, Some, inl, inr, arith, lit<, lit≤, subst, sym, ap}
+use Rattle.std.proofs.Common.{◌≡◌, ◌⊎◌, ◌≤◌, ◌%◌, ℕ, zero, suc, List, [], ◌∷◌, ◌++◌, codes, refl, true, false, Some, inl, inr, arith, lit<, lit≤, subst, sym, ◌∙◌, ap}
 use Rattle.std.specs.Fmt.{digits}
 use Rattle.std.specs.Prelude.{◌↔◌, IsTrue, Bool, ◌&&◌, ◌||◌}
 use Rattle.std.specs.List.{Contains, list_all}
@@ -12,7 +12,7 @@ use Rattle.pci_spec.specs.Window.{MemoryWindow, holds}
 use Rattle.pci_spec.specs.Decoded.{InRange}
 use Rattle.pci_spec.specs.System.{Function, System, Memory, Bar, Rom, Window, Leads, is_bridge}
 use Rattle.pci_spec.specs.System as system
-use Rattle.pci_spec.specs.Fault.{Clash, address_in}
+use Rattle.pci_spec.specs.Fault.{Clash, address_in, named_region}
 use Rattle.pci_spec.specs.Why.{scaled_text}
 use Rattle.pci_spec.specs.Why as plain
 use Rattle.pci_spec.proofs.Absent.{not_lawful, no_rom}
@@ -24,9 +24,11 @@ use Rattle.pci_spec.proofs.Examples.Sized.{answered}
 use Rattle.given_spec.specs.Given.{nothing_given}
 use Rattle.given_spec.specs.Claims.{Own, Legacy, IsPassedTo, passes}
 use Rattle.given_spec.specs.Fault.{Known}
+use Rattle.given_spec.specs.ToldClaims.{nothing_told}
 use Rattle.given_spec.specs.Why.{IsTakenBeside, IsPlaceFor, IsFit, IsAdvice}
 use Rattle.given_spec.specs.Claims as claims
 use Rattle.given_spec.specs.Why as why
+use Rattle.given_spec.proofs.NothingTold.{untold_claims}
 
 -- memory E0000000 to E00FFFFF
 abbrev above : Function
@@ -121,10 +123,10 @@ is_one_of_three f listed = elim (in_cons_cases above (small ∷ large ∷ []) f 
 -- ---- what others take
 
 abbrev Taken : ℕ → Type 0
-Taken a = IsTakenBeside nothing_given host s of_large a
+Taken a = IsTakenBeside (nothing_told []) nothing_given host s of_large a
 
 -- the bridge stands on another bus
-not_beside : (a : ℕ) → why.IsBeside nothing_given host of_large a above → ⊥
+not_beside : (a : ℕ) → why.IsBeside nothing_given host of_large a 0 → ⊥
 not_beside a (inl same) = omega (arith, same)
 not_beside a (inr roots) = elim (in_cons_cases 0 [] 1 roots.0) [
   | inl e ↦ omega (arith, e)
@@ -139,25 +141,27 @@ not_by_itself : (a : ℕ) (part : claims.Part) → ((large.slot ≡ of_large.slo
 not_by_itself a (Own part) other own = other (refl, ap (λ p. system.register_of large p) (large_parts part a own.claims))
 not_by_itself a Legacy other c = no c.claims
 
-taken_below : (a : ℕ) → Taken a → a ≤ 0xe0000fff
-taken_below a taken = elim (is_one_of_three taken.f taken.listed) [
-  | inl is ↦ absurd (not_beside a (subst (λ (x : Function). why.IsBeside nothing_given host of_large a x) (sym is) taken.beside))
-  | inr (inl is) ↦ taken_by_small a taken.part (subst (λ (x : Function). claims.Claims nothing_given x taken.part Memory a) (sym is) taken.claims)
+-- by a part of a function, as nothing is told
+taken_by_part : (a : ℕ) (t : Taken a) → claims.ClaimsOnBus nothing_given s t.by.slot.bus (address_in Memory a) t.by → a ≤ 0xe0000fff
+taken_by_part a t (f, part, listed, at, on, named, c) = elim (is_one_of_three f listed) [
+  | inl is ↦ absurd (not_beside a (subst (λ n. why.IsBeside nothing_given host of_large a n) (ap (λ (x : Slot). x.bus) (sym at) ∙ ap (λ (x : Function). x.slot.bus) (sym is)) t.beside))
+  | inr (inl is) ↦ taken_by_small a part (subst (λ (x : Function). claims.Claims nothing_given x part Memory a) (sym is) c)
   | inr (inr is) ↦
-      absurd (not_by_itself a taken.part
-      (subst (λ (x : Function). (x.slot ≡ of_large.slot) × (claims.register_of x taken.part ≡ 0x10) → ⊥) (sym is) taken.other)
-      (subst (λ (x : Function). claims.Claims nothing_given x taken.part Memory a) (sym is) taken.claims))
+      absurd (not_by_itself a part
+      (subst (λ (x : Function). (x.slot ≡ of_large.slot) × (claims.register_of x part ≡ 0x10) → ⊥) (sym is) (λ e. t.other (sym at ∙ e.0, sym named ∙ e.1)))
+      (subst (λ (x : Function). claims.Claims nothing_given x part Memory a) (sym is) c))
 ]
+
+taken_below : (a : ℕ) → Taken a → a ≤ 0xe0000fff
+taken_below a t = taken_by_part a t (untold_claims [] nothing_given s t.by.slot.bus (address_in Memory a) t.by t.claims)
 
 first_is_taken : Taken 0xe0000fff
 first_is_taken = record {
-  f = small;
-  part = Own (Bar 0);
-  listed = (1, lit< tt, refl);
+  by = named_region (slot 1 0 0) 0x10;
   beside = inl refl;
   other = λ same. let device = ap (λ (x : Slot). x.device) same.0 in omega (arith, device);
   apart = refl;
-  claims = record { claims = small_claims; kept = refl };
+  claims = inl (small, Own (Bar 0), (1, lit< tt, refl), refl, refl, refl, record { claims = small_claims; kept = refl });
 }
 
 -- ---- what the bridge passes
@@ -209,7 +213,7 @@ passed_from a way = elim (in_cons_cases 0 [] way.0 way.1) [
 
 -- ---- the place
 
-behind_the_small_one : IsPlaceFor nothing_given host s of_large false 0xe0010000
+behind_the_small_one : IsPlaceFor (nothing_told []) nothing_given host s of_large false 0xe0010000
 behind_the_small_one = record {
   aligned = refl;
   fits = lit≤ tt;
@@ -218,7 +222,7 @@ behind_the_small_one = record {
 }
 
 -- places are multiples of 64 KB, and the small one takes an address of the first in the window
-none_is_lower : (first : ℕ) → IsPlaceFor nothing_given host s of_large false first → 0xe0010000 ≤ first
+none_is_lower : (first : ℕ) → IsPlaceFor (nothing_told []) nothing_given host s of_large false first → 0xe0010000 ≤ first
 none_is_lower first place = elim (cases_lt first 0xe0010000) [
   | inr low ↦ omega (arith, low)
   | inl less ↦
@@ -230,7 +234,7 @@ none_is_lower first place = elim (cases_lt first 0xe0010000) [
 abbrev told : List ℕ
 told = codes "  fits 00000000e0010000-00000000e001ffff 64K" ++ 10 ∷ []
 
-large_fits : IsFit nothing_given host s of_large told
+large_fits : IsFit (nothing_told []) nothing_given host s of_large told
 unfolding scaled_text digits
 large_fits = record {
   f = large;
@@ -253,5 +257,5 @@ large_is_a_region = record {
 }
 
 -- the second region of the clash is the one that is told to fit
-second_is_moved : IsAdvice [] nothing_given host s (Known (Clash 1 Memory 0xe0000000 (slot 1 0 0) 0x10 (slot 1 1 0) 0x10)) told
+second_is_moved : IsAdvice [] (nothing_told []) nothing_given host s (Known (Clash 1 Memory 0xe0000000 (slot 1 0 0) 0x10 (slot 1 1 0) 0x10)) told
 second_is_moved = (why.Own of_large, (refl, refl, refl), large_is_a_region, large_fits)

@@ -72,5 +72,5 @@ its_line = refl
 its_memory_line : bridge_line enabled (with_control 4) Memory false ≡ line (codes "  bridge 00:01.0 on mem 00000000e0000000-00000000e00fffff")
 its_memory_line = refl
 
-missed : Misses enabled needed (with_control 4) 0x1100
-missed = ((lit≤ tt, lit≤ tt), refl)
+missed : Misses enabled (why.Own needed) (with_control 4) 0x1100
+missed = (((lit≤ tt, lit≤ tt), refl), refl)

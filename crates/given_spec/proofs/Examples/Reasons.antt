@@ -8,12 +8,16 @@ use Rattle.pci_spec.specs.Mark.{assumed_at}
 use Rattle.pci_spec.specs.Why as plain
 use Rattle.pci_spec.proofs.Examples.Samples.{slot, device, bridge, range}
 use Rattle.given_spec.specs.Given.{LegacyBridge, nothing_given}
+use Rattle.given_spec.specs.ToldClaims.{Told, nothing_told}
 use Rattle.given_spec.specs.Why.{Own, Legacy, IsFit, IsFitBehind, legacy_words, region_line, ranges_for, host_line, bridge_line, Misses, IsBeside}
 use Rattle.given_spec.proofs.Examples.Ranges.{to_each, to_root, sent_memory}
 use Rattle.given_spec.proofs.Examples.Legacy.{legacy_at}
 
 abbrev pub line : List ℕ → List ℕ
 line text = text ++ 10 ∷ []
+
+abbrev untold : Told
+untold = nothing_told []
 
 -- ---- legacy parts: the word is that of the bridge, and 10 bits count where an entry has them
 
@@ -56,10 +60,10 @@ without_one = refl
 abbrev needed : plain.Region
 needed = record { slot = slot 1 0 0; register = 0x10; part = Bar 0; space = Memory; prefetchable = false; range = range 0x80000 0xbffff }
 
-below_the_legacy_part : Misses (legacy_at (entry 1 false ∷ [])) needed closed 0x9ffff
-below_the_legacy_part = ((lit≤ tt, lit≤ tt), refl)
+below_the_legacy_part : Misses (legacy_at (entry 1 false ∷ [])) (Own needed) closed 0x9ffff
+below_the_legacy_part = (((lit≤ tt, lit≤ tt), refl), refl)
 
-what_it_passes_is_not_missed : Misses (legacy_at (entry 1 false ∷ [])) needed closed 0xa0000 → ⊥
+what_it_passes_is_not_missed : Misses (legacy_at (entry 1 false ∷ [])) (Own needed) closed 0xa0000 → ⊥
 what_it_passes_is_not_missed misses = both_ways true misses.1 refl
 
 -- ---- on another root bus what the host sends there counts, and nothing else
@@ -70,36 +74,36 @@ moved = record { slot = slot 0x40 1 0; register = 0x10; part = Bar 0; space = Me
 abbrev other : Function
 other = device (slot 0 1 0) 2 ((0x10, 0xe0000000) ∷ []) ((0x10, 0xfff00000) ∷ [])
 
-sent_to_both : IsBeside (sent_memory (to_each 0xe0000000 0xefffffff ∷ [])) (0 ∷ 0x40 ∷ []) moved 0xe0000000 other
+sent_to_both : IsBeside (sent_memory (to_each 0xe0000000 0xefffffff ∷ [])) (0 ∷ 0x40 ∷ []) moved 0xe0000000 0
 sent_to_both = inr ((1, lit< tt, refl), (0, lit< tt, refl), refl)
 
-sent_to_one_alone : IsBeside (sent_memory (to_root 0x40 0xe0000000 0xefffffff ∷ [])) (0 ∷ 0x40 ∷ []) moved 0xe0000000 other → ⊥
+sent_to_one_alone : IsBeside (sent_memory (to_root 0x40 0xe0000000 0xefffffff ∷ [])) (0 ∷ 0x40 ∷ []) moved 0xe0000000 0 → ⊥
 sent_to_one_alone (inl same) = cc
 sent_to_one_alone (inr both) = both_ways false refl both.2
 
 -- ---- where the read back of a register is assumed, no place is known
 
-place_of_an_assumed_size : IsFitBehind (assumed_at (slot 0x40 1 0) 0x10 ∷ []) (sent_memory (to_each 0xe0000000 0xefffffff ∷ [])) (0x40 ∷ []) (other ∷ []) (Own moved) (line (codes "  fits unknown"))
+place_of_an_assumed_size : IsFitBehind (assumed_at (slot 0x40 1 0) 0x10 ∷ []) untold (sent_memory (to_each 0xe0000000 0xefffffff ∷ [])) (0x40 ∷ []) (other ∷ []) (Own moved) (line (codes "  fits unknown"))
 place_of_an_assumed_size = refl
 
-place_beside_an_assumed_size : (lines : List ℕ) → IsFitBehind (assumed_at (slot 0x40 1 0) 0x14 ∷ []) (sent_memory []) (0x40 ∷ []) (other ∷ []) (Own moved) lines
-    ↔ IsFit (sent_memory []) (0x40 ∷ []) (other ∷ []) moved lines
+place_beside_an_assumed_size : (lines : List ℕ) → IsFitBehind (assumed_at (slot 0x40 1 0) 0x14 ∷ []) untold (sent_memory []) (0x40 ∷ []) (other ∷ []) (Own moved) lines
+    ↔ IsFit untold (sent_memory []) (0x40 ∷ []) (other ∷ []) moved lines
 place_beside_an_assumed_size lines = (λ fit. fit, λ fit. fit)
 
 -- on a root bus of which nothing is said there is no such line
-nothing_is_told_at_a_root : IsFitBehind (assumed_at (slot 0x40 1 0) 0x10 ∷ []) nothing_given (0x40 ∷ []) (other ∷ []) (Own moved) []
+nothing_is_told_at_a_root : IsFitBehind (assumed_at (slot 0x40 1 0) 0x10 ∷ []) untold nothing_given (0x40 ∷ []) (other ∷ []) (Own moved) []
 nothing_is_told_at_a_root = refl
 
 -- nor of a window, on a root bus of which something is said and elsewhere
 abbrev window_moved : plain.Region
 window_moved = record moved { part = Window MemoryWindow; register = 0x20 }
 
-no_window_moves_alone : IsFitBehind [] (sent_memory []) (0x40 ∷ []) (other ∷ []) (Own window_moved) []
+no_window_moves_alone : IsFitBehind [] untold (sent_memory []) (0x40 ∷ []) (other ∷ []) (Own window_moved) []
 no_window_moves_alone = refl
 
-no_window_moves_alone_behind : IsFitBehind [] nothing_given (0 ∷ []) (other ∷ []) (Own window_moved) []
+no_window_moves_alone_behind : IsFitBehind [] untold nothing_given (0 ∷ []) (other ∷ []) (Own window_moved) []
 no_window_moves_alone_behind = refl
 
 -- nor of a legacy part
-no_legacy_part_moves : IsFitBehind (assumed_at (slot 0 1 0) 0x3e ∷ []) nothing_given (0 ∷ []) (closed ∷ []) (Legacy closed Memory) []
+no_legacy_part_moves : IsFitBehind (assumed_at (slot 0 1 0) 0x3e ∷ []) untold nothing_given (0 ∷ []) (closed ∷ []) (Legacy closed Memory) []
 no_legacy_part_moves = refl

@@ -1,4 +1,5 @@
-use Rattle.given_spec.proofs.DeterminedTexts.{list_is_determined, plain_list_is_determined, text_is_determined, plain_text_is_determined}
+use Rattle.given_spec.proofs.DeterminedTexts.{list_is_determined, plain_list_is_determined, plain_text_is_determined}
+use Rattle.given_spec.proofs.ListTexts.{text_is_determined}
 use Rattle.given_spec.proofs.determined_laws.lists_are_determined.Goals as goal
 
 pub returns : goal.returns

@@ -1,4 +1,5 @@
-use Rattle.given_spec.proofs.PlainLists.{same_list, same_text_of_all, first_of_list_is_first}
+use Rattle.given_spec.proofs.PlainLists.{same_list, first_of_list_is_first}
+use Rattle.given_spec.proofs.PlainTexts.{same_text_of_all}
 use Rattle.given_spec.proofs.list_laws.nothing_given_changes_no_list.Goals as goal
 
 pub returns : goal.returns
