@@ -1,7 +1,7 @@
 -- The lines behind a fault are one text.
 use Rattle.std.proofs.Common.{◌≡◌, ℕ, List, [], ◌++◌, refl, sym, ◌∙◌, ap, subst, arith, Bool, true, false, codes, Option, None, Some}
 use Rattle.std.specs.Prelude.{IsTrue, MatchOption, MatchBool}
-use Rattle.std.specs.List.{Contains, flat_map, slice_get}
+use Rattle.std.specs.List.{Contains, flat_map}
 use Rattle.pci_spec.specs.Slot.{Slot, slot_number}
 use Rattle.pci_spec.specs.System.{System, Function, Space, Part, IsSystem, Claims, has_part, is_prefetchable_part}
 use Rattle.pci_spec.specs.System as system
@@ -18,12 +18,12 @@ use Rattle.pci_spec.proofs.Ways.{one_way}
 use Rattle.given_spec.specs.Given.{Given, HostRange, nothing_given}
 use Rattle.given_spec.specs.Fault.{Known, Outside}
 use Rattle.given_spec.specs.DeterminedLaws.{WhyIsDetermined, KnownWhyIsDetermined, PlainWhyIsDetermined}
-use Rattle.given_spec.specs.Told.{ToldRange}
-use Rattle.given_spec.specs.ToldClaims.{Told, nothing_told}
-use Rattle.given_spec.specs.ToldRegion.{ToldRegion, IsToldIn}
+use Rattle.given_spec.specs.ToldClaims.{Told, nothing_told, IsRangeAt}
+use Rattle.given_spec.specs.ToldRegion.{ToldRegion, told_name, IsToldIn}
 use Rattle.given_spec.specs.Why.{AnyRegion, Own, Legacy, OfLine, space_of, is_prefetchable, bus_of, to_move, Holds, IsRegionIn, IsNamed, region_line, ranges_for, host_line, bridge_line, Misses, IsBehindOutside, IsBehindUnreached, IsBehindTwo, AreNamedTwo, IsKnownEvidence, IsPlaceFor, IsLeastPlace, IsFit, is_said, IsFitBehind, IsAdviceFor, IsKnownAdvice, IsWhy}
 use Rattle.given_spec.proofs.Nothing.{not_at_control}
 use Rattle.given_spec.proofs.Reasons.{same_why, low_register}
+use Rattle.given_spec.proofs.ToldNames.{one_range}
 use Rattle.given_spec.proofs.OneList.{range_from, same_range, same_runs}
 
 abbrev said_or_none : Option (List HostRange) → List HostRange
@@ -81,19 +81,11 @@ module _ (s : System) (is_system : IsSystem s) where
 
   -- ---- told ranges
 
-  range_of : ToldRange → Option ToldRange → ToldRange
-  range_of r None = r
-  range_of r (Some other) = other
-
   -- a register names one range
-  same_told : (told : Told) (x y : ToldRegion) → IsToldIn told s x → IsToldIn told s y → x.register ≡ y.register → x ≡ y
-  unfolding range_of
-  same_told told x y is also register =
-      let first = is.named.register in
-      let second = also.named.register in
-      let index : is.named.index ≡ also.named.index = omega (arith, first, second, register) in
-      let at : Some x.told ≡ Some y.told = sym is.named.at ∙ ap (λ n. slice_get told.ranges n) index ∙ also.named.at in
-      let range : x.told ≡ y.told = ap (λ o. range_of x.told o) at in
+  same_told : (told : Told) (x y : ToldRegion) (slot : Slot) → IsToldIn told s x → IsToldIn told s y → x.told.slot ≡ slot → y.told.slot ≡ slot → x.register ≡ y.register → x ≡ y
+  same_told told x y slot is also at other register =
+      let here : IsRangeAt told (told_name y) x.told = record { index = is.named.index; at = is.named.at; slot = at ∙ sym other; register = is.named.register ∙ register } in
+      let range : x.told ≡ y.told = one_range told (told_name y) x.told y.told here also.named in
       λ i. record { register = register i; told = range i }
 
   -- no region of address registers is named as a told range, and no legacy part is
@@ -115,7 +107,7 @@ module _ (s : System) (is_system : IsSystem s) where
     named_one (Legacy b sp) (OfLine y) slot register space named other is also = absurd (control_not_told told y also (named.1 ∙ sym other.1))
     named_one (OfLine x) (Own q) slot register space named other is also = absurd (own_not_told told q x also is (other.1 ∙ sym named.1))
     named_one (OfLine x) (Legacy c sq) slot register space named other is also = absurd (control_not_told told x is (other.1 ∙ sym named.1))
-    named_one (OfLine x) (OfLine y) slot register space named other is also = ap OfLine (same_told told x y is also (named.1 ∙ sym other.1))
+    named_one (OfLine x) (OfLine y) slot register space named other is also = ap OfLine (same_told told x y slot is also named.0 other.0 (named.1 ∙ sym other.1))
 
     -- ---- what tells that a fault is there
 

@@ -1,5 +1,6 @@
 pub mod Examples
 pub mod Nothing
+pub mod ToldNames
 pub mod Reasons
 pub mod Judging
 pub mod Naming

@@ -1,5 +1,5 @@
 -- A list of all faults of judging with told ranges leaves nothing out.
-use Rattle.std.proofs.Common.{◌≡◌, ℕ, get_or, ◌||◌, ◌<◌, ◌⊎◌, inl, inr, List, [], ◌∷◌, refl, false, arith, sym, ◌∙◌, ap, subst, map}
+use Rattle.std.proofs.Common.{◌≡◌, ℕ, ◌||◌, ◌<◌, ◌⊎◌, inl, inr, List, [], ◌∷◌, refl, false, arith, sym, ◌∙◌, ap, subst, map}
 use Rattle.std.specs.Bool.{IsTrue}
 use Rattle.std.specs.List.{Contains}
 use Rattle.std.proofs.lemmas.Bool.{cases_order, cases_Bool, cases_eq, both_ways, or_from, or_parts, true_from_ne_false}
@@ -26,6 +26,7 @@ use Rattle.given_spec.specs.ToldJudgingLaws.{ToldEmptyWhereNoneFails}
 use Rattle.given_spec.proofs.Judging.{home_without, without_home, passed_is_sent, passed_by_each}
 use Rattle.given_spec.proofs.Naming.{named_register, none_there, turned}
 use Rattle.given_spec.proofs.DeterminedTexts.{slot_decided}
+use Rattle.given_spec.proofs.ToldNames.{told_slot}
 
 -- ---- names of regions
 
@@ -49,10 +50,7 @@ module _ (told : Told) where
 
   module _ (given : Given) (roots : List ℕ) (s : System) (is_told : IsTold told.ranges) (system : IsSystem s) where
     range_slot : (region : RegionName) (r : ToldRange) → IsRangeAt told region r → IsSlot region.slot
-    range_slot region r named =
-        let within = slice_get_within told.ranges named.index r named.at in
-        let is : get_or told.ranges named.index r ≡ r = get_or_from_slice_get told.ranges named.index r r named.at in
-        subst IsSlot named.slot (subst (λ (x : ToldRange). IsSlot x.slot) is (is_told.each named.index r within).line.slot)
+    range_slot region r named = told_slot told region r is_told named
 
     range_register : (region : RegionName) (r : ToldRange) → IsRangeAt told region r → region.register < 8192
     range_register region r named =
