@@ -1,13 +1,14 @@
--- A system has at most one map, with what is given.
+-- A system has at most one map, with what is given and told.
 use Rattle.std.proofs.Common.{◌≡◌, ℕ, ◌<◌, List, [], ◌∷◌, map, drop, refl, sym, ◌∙◌, ap, subst, inl, inr, arith}
 use Rattle.std.specs.List.{Contains, AllPairs}
 use Rattle.pci_spec.specs.System.{System, Space, Io, Memory, Part, Bar, Rom, Window}
 use Rattle.pci_spec.specs.Decoded.{Range}
-use Rattle.pci_spec.specs.Why.{Region}
 use Rattle.pci_spec.proofs.Members.{in_nil, in_cons_cases, in_head, in_tail, pairs_nil, pairs_cons, pairs_head, pairs_tail}
 use Rattle.given_spec.specs.Given.{Given}
+use Rattle.given_spec.specs.ToldClaims.{Told}
 use Rattle.given_spec.proofs.OneList.{same_list, same_runs}
-use Rattle.map_spec.specs.Lines.{MapPlace, OnRoot, Inside, Lines, End, Free, Sits, regions_at, runs_at, marks, Mark, run_mark, region_mark, region_rank, MarkIsBefore, IsFreeInPlace, IsOutOfPlace, AreLinesAt, AreInside, AreAllInside, AreLinesOfPlace}
+use Rattle.map_spec.specs.Regions.{MapRegion, Own, OfLine, region_rank}
+use Rattle.map_spec.specs.Lines.{MapPlace, OnRoot, Inside, Lines, End, Free, Sits, regions_at, runs_at, marks, Mark, run_mark, region_mark, MarkIsBefore, IsFreeInPlace, IsOutOfPlace, AreLinesAt, AreInPart, AreInside, AreAllInside, AreLinesOfPlace}
 use Rattle.map_spec.specs.Map.{MapRoot, Map, IsRootOfMap, IsOnlyLeft, AreRegionsBySlot, IsMap}
 use Rattle.map_spec.specs.MapText.{map_text_of}
 use Rattle.map_spec.specs.DeterminedLaws.{LinesAreDetermined, MapIsDetermined, MapTextIsDetermined}
@@ -16,7 +17,7 @@ use Rattle.map_spec.specs.DeterminedLaws.{LinesAreDetermined, MapIsDetermined, M
 
 data Item : Type 0 where
   Run : Range → Item
-  Line : Region → Item
+  Line : MapRegion → Item
 
 abbrev items : Lines → List Item
 items End = []
@@ -31,17 +32,17 @@ abbrev run_or : Range → Item → Range
 run_or d (Run r) = r
 run_or d (Line q) = d
 
-abbrev region_or : Region → Item → Region
+abbrev region_or : MapRegion → Item → MapRegion
 region_or d (Run r) = d
 region_or d (Line q) = q
 
 run_is : (r t : Range) → Run r ≡ Run t → r ≡ t
 run_is r t e = ap (run_or r) e
 
-line_is : (q w : Region) → Line q ≡ Line w → q ≡ w
+line_is : (q w : MapRegion) → Line q ≡ Line w → q ≡ w
 line_is q w e = ap (region_or q) e
 
-no_line : {X : Type 0} (r : Range) (q : Region) → Run r ≡ Line q → X
+no_line : {X : Type 0} (r : Range) (q : MapRegion) → Run r ≡ Line q → X
 no_line r q e = cc
 
 item_run : (lines : Lines) (r : Range) → Contains (items lines) (Run r) → Contains (runs_at lines) r
@@ -63,22 +64,22 @@ run_item (Free t rest) r has = elim (in_cons_cases t (runs_at rest) r has) [
 ]
 run_item (Sits q inside rest) r has = in_tail (Line q) (items rest) (Run r) (run_item rest r has)
 
-item_line : (lines : Lines) (q : Region) → Contains (items lines) (Line q) → Contains (regions_at lines) q
+item_line : (lines : Lines) (q : MapRegion) → Contains (items lines) (Line q) → Contains (regions_at lines) q
 item_line End q has = absurd (in_nil (Line q) has)
 item_line (Free t rest) q has = elim (in_cons_cases (Run t) (items rest) (Line q) has) [
   | inl here ↦ no_line t q here
   | inr later ↦ item_line rest q later
 ]
 item_line (Sits w inside rest) q has = elim (in_cons_cases (Line w) (items rest) (Line q) has) [
-  | inl here ↦ subst (λ (x : Region). Contains (w ∷ regions_at rest) x) (line_is w q here) (in_head w (regions_at rest))
+  | inl here ↦ subst (λ (x : MapRegion). Contains (w ∷ regions_at rest) x) (line_is w q here) (in_head w (regions_at rest))
   | inr later ↦ in_tail w (regions_at rest) q (item_line rest q later)
 ]
 
-line_item : (lines : Lines) (q : Region) → Contains (regions_at lines) q → Contains (items lines) (Line q)
+line_item : (lines : Lines) (q : MapRegion) → Contains (regions_at lines) q → Contains (items lines) (Line q)
 line_item End q has = absurd (in_nil q has)
 line_item (Free t rest) q has = in_tail (Run t) (items rest) (Line q) (line_item rest q has)
 line_item (Sits w inside rest) q has = elim (in_cons_cases w (regions_at rest) q has) [
-  | inl here ↦ subst (λ (x : Region). Contains (Line w ∷ items rest) (Line x)) here (in_head (Line w) (items rest))
+  | inl here ↦ subst (λ (x : MapRegion). Contains (Line w ∷ items rest) (Line x)) here (in_head (Line w) (items rest))
   | inr later ↦ in_tail (Line w) (items rest) (Line q) (line_item rest q later)
 ]
 
@@ -116,28 +117,35 @@ items_rise (Sits q inside rest) rising =
 -- ---- the lines of a place
 
 -- what is inside a region that isn't a window is nothing
-inside_same : (part : Part) (inside other : Lines) (P Q : Type 0) → (P → Q → inside ≡ other) → AreInside part inside P → AreInside part other Q → inside ≡ other
-inside_same (Bar n) inside other P Q f h k = h ∙ sym k
-inside_same Rom inside other P Q f h k = h ∙ sym k
-inside_same (Window kind) inside other P Q f h k = f h k
+inside_part : (part : Part) (inside other : Lines) (P Q : Type 0) → (P → Q → inside ≡ other) → AreInPart part inside P → AreInPart part other Q → inside ≡ other
+inside_part (Bar n) inside other P Q f h k = h ∙ sym k
+inside_part Rom inside other P Q f h k = h ∙ sym k
+inside_part (Window kind) inside other P Q f h k = f h k
 
-module _ (given : Given) (roots : List ℕ) (s : System) where
+module _ (told : Told) (given : Given) (roots : List ℕ) (s : System) where
   module _ (space : Space) where
-    item_in_other : (place : MapPlace) (lines others : Lines) → AreLinesAt given roots s space place lines → AreLinesAt given roots s space place others
+    item_in_other : (place : MapPlace) (lines others : Lines) → AreLinesAt told given roots s space place lines → AreLinesAt told given roots s space place others
         → (x : Item) → Contains (items lines) x → Contains (items others) x
     item_in_other place lines others are also (Run r) has =
-        let same : runs_at lines ≡ runs_at others = same_runs (IsFreeInPlace given s space place) (runs_at lines) (runs_at others) are.free also.free in
+        let same : runs_at lines ≡ runs_at others = same_runs (IsFreeInPlace told given s space place) (runs_at lines) (runs_at others) are.free also.free in
         run_item others r (subst (λ (rs : List Range). Contains rs r) same (item_run lines r has))
     item_in_other place lines others are also (Line q) has =
         let at : Contains (regions_at lines) q = item_line lines q has in
         line_item others q (also.complete q (are.regions q at) (are.of_space q at) (are.stand q at) (are.within q at))
 
-    same_items : (place : MapPlace) (lines others : Lines) → AreLinesAt given roots s space place lines → AreLinesAt given roots s space place others → items lines ≡ items others
+    same_items : (place : MapPlace) (lines others : Lines) → AreLinesAt told given roots s space place lines → AreLinesAt told given roots s space place others → items lines ≡ items others
     same_items place lines others are also =
         same_list Comes (λ x y. before_one_way (mark_of x) (mark_of y)) (items lines) (items others) (items_rise lines are.rising) (items_rise others also.rising)
         (item_in_other place lines others are also) (item_in_other place others lines also are)
 
-    same_lines : (lines others : Lines) → items lines ≡ items others → AreAllInside given roots s space lines → AreAllInside given roots s space others → lines ≡ others
+    inside_same : (q : MapRegion) (inside other : Lines)
+        → ((place : MapPlace) → AreLinesAt told given roots s space place inside → AreLinesAt told given roots s space place other → inside ≡ other)
+        → AreInside told given roots s space q inside → AreInside told given roots s space q other → inside ≡ other
+    inside_same (Own q) inside other f h k =
+        inside_part q.part inside other (AreLinesAt told given roots s space (Inside q) inside) (AreLinesAt told given roots s space (Inside q) other) (f (Inside q)) h k
+    inside_same (OfLine x) inside other f h k = h ∙ sym k
+
+    same_lines : (lines others : Lines) → items lines ≡ items others → AreAllInside told given roots s space lines → AreAllInside told given roots s space others → lines ≡ others
     same_lines End End e are also = refl
     same_lines End (Free t rest) e are also = cc
     same_lines End (Sits w inside rest) e are also = cc
@@ -152,12 +160,12 @@ module _ (given : Given) (roots : List ℕ) (s : System) where
     same_lines (Sits q inside rest) (Sits w within more) e (here, deep, are) (here_too, deep_too, also) =
         let first : q ≡ w = cc in
         let later : rest ≡ more = same_lines rest more (ap (drop 1) e) are also in
-        let moved = subst (λ (x : Region). AreInside x.part within (AreLinesAt given roots s space (Inside x) within)) (sym first) here_too in
-        let deeper : inside ≡ within = inside_same q.part inside within (AreLinesAt given roots s space (Inside q) inside) (AreLinesAt given roots s space (Inside q) within)
-        (λ h k. same_lines inside within (same_items (Inside q) inside within h k) deep deep_too) here moved in
-        ap (λ (x : Region). Sits x inside rest) first ∙ ap (λ (x : Lines). Sits w x rest) deeper ∙ ap (λ (x : Lines). Sits w within x) later
+        let moved = subst (λ (x : MapRegion). AreInside told given roots s space x within) (sym first) here_too in
+        let deeper : inside ≡ within = inside_same q inside within
+        (λ place h k. same_lines inside within (same_items place inside within h k) deep deep_too) here moved in
+        ap (λ (x : MapRegion). Sits x inside rest) first ∙ ap (λ (x : Lines). Sits w x rest) deeper ∙ ap (λ (x : Lines). Sits w within x) later
 
-    all_lines : (place : MapPlace) (lines others : Lines) → AreLinesOfPlace given roots s space place lines → AreLinesOfPlace given roots s space place others → lines ≡ others
+    all_lines : (place : MapPlace) (lines others : Lines) → AreLinesOfPlace told given roots s space place lines → AreLinesOfPlace told given roots s space place others → lines ≡ others
     all_lines place lines others are also = same_lines lines others (same_items place lines others are.0 also.0) are.1 also.1
 
   -- ---- the map
@@ -165,14 +173,14 @@ module _ (given : Given) (roots : List ℕ) (s : System) where
   root_from : (r t : MapRoot) → r.bus ≡ t.bus → r.io ≡ t.io → r.memory ≡ t.memory → r ≡ t
   root_from r t bus io memory = λ i. record { bus = bus i; io = io i; memory = memory i }
 
-  same_root : (r t : MapRoot) → r.bus ≡ t.bus → IsRootOfMap given roots s r → IsRootOfMap given roots s t → r ≡ t
+  same_root : (r t : MapRoot) → r.bus ≡ t.bus → IsRootOfMap told given roots s r → IsRootOfMap told given roots s t → r ≡ t
   same_root r t bus is also =
       root_from r t bus
-      (all_lines Io (OnRoot t.bus) r.io t.io (subst (λ bus. AreLinesOfPlace given roots s Io (OnRoot bus) r.io) bus is.io) also.io)
-      (all_lines Memory (OnRoot t.bus) r.memory t.memory (subst (λ bus. AreLinesOfPlace given roots s Memory (OnRoot bus) r.memory) bus is.memory) also.memory)
+      (all_lines Io (OnRoot t.bus) r.io t.io (subst (λ bus. AreLinesOfPlace told given roots s Io (OnRoot bus) r.io) bus is.io) also.io)
+      (all_lines Memory (OnRoot t.bus) r.memory t.memory (subst (λ bus. AreLinesOfPlace told given roots s Memory (OnRoot bus) r.memory) bus is.memory) also.memory)
 
-  same_roots : (rs ts : List MapRoot) → map (λ r. r.bus) rs ≡ map (λ r. r.bus) ts → ((r : MapRoot) → Contains rs r → IsRootOfMap given roots s r)
-      → ((t : MapRoot) → Contains ts t → IsRootOfMap given roots s t) → rs ≡ ts
+  same_roots : (rs ts : List MapRoot) → map (λ r. r.bus) rs ≡ map (λ r. r.bus) ts → ((r : MapRoot) → Contains rs r → IsRootOfMap told given roots s r)
+      → ((t : MapRoot) → Contains ts t → IsRootOfMap told given roots s t) → rs ≡ ts
   same_roots [] [] e are also = refl
   same_roots [] (t ∷ ts) e are also = cc
   same_roots (r ∷ rs) [] e are also = cc
@@ -182,25 +190,25 @@ module _ (given : Given) (roots : List ℕ) (s : System) where
       let rest : rs ≡ ts = same_roots rs ts (ap (drop 1) e) (λ x has. are x (in_tail r rs x has)) (λ x has. also x (in_tail t ts x has)) in
       ap (λ (x : MapRoot). x ∷ rs) first ∙ ap (λ (xs : List MapRoot). t ∷ xs) rest
 
-  same_listed : (P : Region → Type 0) (ps qs : List Region) → AreRegionsBySlot P s ps → AreRegionsBySlot P s qs → ps ≡ qs
+  same_listed : (P : MapRegion → Type 0) (ps qs : List MapRegion) → AreRegionsBySlot P told s ps → AreRegionsBySlot P told s qs → ps ≡ qs
   same_listed P ps qs are also =
-      same_list (λ (p q : Region). region_rank p < region_rank q) (λ p q low high. omega (arith, low, high)) ps qs are.rising also.rising
+      same_list (λ (p q : MapRegion). region_rank p < region_rank q) (λ p q low high. omega (arith, low, high)) ps qs are.rising also.rising
       (λ q has. also.complete q (are.regions q has) (are.hold q has)) (λ q has. are.complete q (also.regions q has) (also.hold q has))
 
   map_from : (m n : Map) → m.roots ≡ n.roots → m.outside ≡ n.outside → m.unreached ≡ n.unreached → m ≡ n
   map_from m n at outside unreached = λ i. record { roots = at i; outside = outside i; unreached = unreached i }
 
-  same_map : (m n : Map) → IsMap given roots s m → IsMap given roots s n → m ≡ n
+  same_map : (m n : Map) → IsMap told given roots s m → IsMap told given roots s n → m ≡ n
   same_map m n is also =
       map_from m n (same_roots m.roots n.roots (is.buses ∙ sym also.buses) is.each also.each)
-      (same_listed (IsOutOfPlace given roots s) m.outside n.outside is.outside also.outside)
-      (same_listed (IsOnlyLeft given roots s) m.unreached n.unreached is.left also.left)
+      (same_listed (IsOutOfPlace told given roots s) m.outside n.outside is.outside also.outside)
+      (same_listed (IsOnlyLeft told given roots s) m.unreached n.unreached is.left also.left)
 
 pub lines_are_determined : LinesAreDetermined
-lines_are_determined given roots s space place lines others are also = all_lines given roots s space place lines others are also
+lines_are_determined told given roots s space place lines others are also = all_lines told given roots s space place lines others are also
 
 pub map_is_determined : MapIsDetermined
-map_is_determined given roots s m n is also = same_map given roots s m n is also
+map_is_determined told given roots s m n is also = same_map told given roots s m n is also
 
 pub text_is_determined : MapTextIsDetermined
-text_is_determined given roots s text other h k = h.says ∙ ap (λ (m : Map). map_text_of given m s) (same_map given roots s h.m k.m h.is k.is) ∙ sym k.says
+text_is_determined told given roots s text other h k = h.says ∙ ap (λ (m : Map). map_text_of told given m s) (same_map told given roots s h.m k.m h.is k.is) ∙ sym k.says

@@ -1,53 +1,67 @@
 -- Which regions have a line.
 use Rattle.std.proofs.Common.{◌≡◌, ℕ, ◌<◌, List, [], ◌∷◌, ◌++◌, sym, ap, subst, inl, inr, ◌∙◌, not, refl, arith}
-use Rattle.std.specs.Prelude.{IsTrue, true}
+use Rattle.std.specs.Prelude.{IsTrue, IsFalse, true}
 use Rattle.std.specs.List.{Contains, flat_map, range_with_len}
 use Rattle.std.proofs.lemmas.Bool.{and_parts, false≢true}
 use Rattle.std.proofs.lemmas.List.Elements.{Contains-append_cases, Contains-append_left, Contains-append_right}
 use Rattle.pci_spec.specs.Slot.{Slot, slot_number}
 use Rattle.pci_spec.specs.Window.{WindowKind, IoWindow, MemoryWindow, PrefetchWindow, holds}
-use Rattle.pci_spec.specs.System.{System, Space, Io, Memory, Part, Bar, Rom, Window, IsSystem, IsAddress, Function, Claims, Decodes, window_claims, window_space, space_of, register_of, is_space_on, is_window}
+use Rattle.pci_spec.specs.System.{System, Space, Io, Memory, Part, Bar, Rom, Window, IsSystem, IsAddress, Function, Claims, Decodes, window_claims, window_space, is_space_on, is_window}
+use Rattle.pci_spec.specs.System as system
 use Rattle.pci_spec.specs.Bus.{is_root}
+use Rattle.pci_spec.specs.Fault.{Address, address_in, named_region}
 use Rattle.pci_spec.specs.Decoded.{InRange}
 use Rattle.pci_spec.specs.Why.{Region, IsRegionIn}
 use Rattle.pci_spec.proofs.Members.{in_nil, in_cons_cases, in_head, in_tail, IsMade, in_map_to, in_filter_from, in_range_from, IsInPiece, in_flat_map_to, in_flat_map_from}
 use Rattle.pci_spec.proofs.BusRanges.{root_means}
-use Rattle.pci_spec.proofs.Firsts.{slot_of}
+use Rattle.pci_spec.proofs.Firsts.{slot_of as slot_of_function}
 use Rattle.pci_spec.proofs.Nesting.{one_function}
-use Rattle.pci_spec.proofs.Regions.{part_same}
+use Rattle.pci_spec.proofs.Regions.{part_same, register_of-lt}
 use Rattle.given_spec.specs.Given.{Given, is_cut}
-use Rattle.map_spec.specs.Lines.{is_first_window, BelongsUnder, IsOutOfPlace, MapPlace, OnRoot, Inside, Lines, End, Free, Sits, regions_at, all_regions, AreLinesAt, AreInside, AreAllInside, AreLinesOfPlace}
+use Rattle.given_spec.specs.Told.{ToldRange, IsTold}
+use Rattle.given_spec.specs.ToldClaims.{Told, is_marked_held}
+use Rattle.given_spec.specs.ToldFault.{IsOutside}
+use Rattle.given_spec.specs.ToldRegion.{ToldRegion, told_name, IsToldIn}
+use Rattle.given_spec.proofs.Reasons.{low_register}
+use Rattle.given_spec.proofs.ToldAdds.{told_claim_addresses}
+use Rattle.given_spec.proofs.ToldNames.{one_range, told_slot}
+use Rattle.map_spec.specs.Regions.{MapRegion, Own, OfLine, slot_of, space_of, range_of, IsIn}
+use Rattle.map_spec.specs.Lines.{is_first_window, BelongsUnder, IsOutOfPlace, MapPlace, OnRoot, Inside, Lines, End, Free, Sits, regions_at, all_regions, AreLinesAt, AreInPart, AreInside, AreAllInside, AreLinesOfPlace}
 use Rattle.map_spec.specs.Map.{MapRoot, Map, HasWay, IsMap, regions_on, regions_in}
 use Rattle.map_spec.specs.MapLaws.{WindowsAreInPlace}
 
 -- ---- each line is of a region
 
-module _ (given : Given) (roots : List ℕ) (s : System) (space : Space) where
+module _ (told : Told) (given : Given) (roots : List ℕ) (s : System) (space : Space) where
   -- a region of a space, in its place
-  abbrev IsOf : Region → Type 0
-  IsOf q = IsRegionIn s q × (q.space ≡ space) × (IsOutOfPlace given roots s q → ⊥)
+  abbrev IsOf : MapRegion → Type 0
+  IsOf q = IsIn told s q × (space_of q ≡ space) × (IsOutOfPlace told given roots s q → ⊥)
 
-  inside_of : (part : Part) (w q : Region) (lines : Lines) → AreInside part lines (AreLinesAt given roots s space (Inside w) lines) → Contains (regions_at lines) q → IsOf q
-  inside_of (Bar n) w q lines none has = absurd (in_nil q (subst (λ ls. Contains (regions_at ls) q) none has))
-  inside_of Rom w q lines none has = absurd (in_nil q (subst (λ ls. Contains (regions_at ls) q) none has))
-  inside_of (Window kind) w q lines are has = (are.regions q has, are.of_space q has, are.within q has)
+  inside_part : (part : Part) (w : Region) (q : MapRegion) (lines : Lines) → AreInPart part lines (AreLinesAt told given roots s space (Inside w) lines) → Contains (regions_at lines) q → IsOf q
+  inside_part (Bar n) w q lines none has = absurd (in_nil q (subst (λ ls. Contains (regions_at ls) q) none has))
+  inside_part Rom w q lines none has = absurd (in_nil q (subst (λ ls. Contains (regions_at ls) q) none has))
+  inside_part (Window kind) w q lines are has = (are.regions q has, are.of_space q has, are.within q has)
 
-  pub line_of_region : (lines : Lines) (q : Region) → ((p : Region) → Contains (regions_at lines) p → IsOf p) → AreAllInside given roots s space lines → Contains (all_regions lines) q → IsOf q
+  inside_of : (p q : MapRegion) (lines : Lines) → AreInside told given roots s space p lines → Contains (regions_at lines) q → IsOf q
+  inside_of (Own w) q lines are has = inside_part w.part w q lines are has
+  inside_of (OfLine x) q lines none has = absurd (in_nil q (subst (λ ls. Contains (regions_at ls) q) none has))
+
+  pub line_of_region : (lines : Lines) (q : MapRegion) → ((p : MapRegion) → Contains (regions_at lines) p → IsOf p) → AreAllInside told given roots s space lines → Contains (all_regions lines) q → IsOf q
   line_of_region End q here inside has = absurd (in_nil q has)
   line_of_region (Free r rest) q here inside has = line_of_region rest q here inside has
   line_of_region (Sits p below rest) q here inside has = elim (in_cons_cases p (all_regions below ++ all_regions rest) q has) [
     | inl first ↦ subst (IsOf) first (here p (in_head p (regions_at rest)))
     | inr later ↦ elim (Contains-append_cases (all_regions below) (all_regions rest) q later) [
-      | inl within ↦ line_of_region below q (λ z there. inside_of p.part p z below inside.0 there) inside.1 within
+      | inl within ↦ line_of_region below q (λ z there. inside_of p z below inside.0 there) inside.1 within
       | inr behind ↦ line_of_region rest q (λ z there. here z (in_tail p (regions_at rest) z there)) inside.2 behind
     ]
   ]
 
-  pub line_in_place : (place : MapPlace) (lines : Lines) (q : Region) → AreLinesOfPlace given roots s space place lines → Contains (all_regions lines) q → IsOf q
+  pub line_in_place : (place : MapPlace) (lines : Lines) (q : MapRegion) → AreLinesOfPlace told given roots s space place lines → Contains (all_regions lines) q → IsOf q
   line_in_place place lines q are has = line_of_region lines q (λ p there. (are.0.regions p there, are.0.of_space p there, are.0.within p there)) are.1 has
 
   -- what stands in a place has a line there
-  pub stands_there : (lines : Lines) (q : Region) → Contains (regions_at lines) q → Contains (all_regions lines) q
+  pub stands_there : (lines : Lines) (q : MapRegion) → Contains (regions_at lines) q → Contains (all_regions lines) q
   stands_there End q has = has
   stands_there (Free r rest) q has = stands_there rest q has
   stands_there (Sits p below rest) q has = elim (in_cons_cases p (regions_at rest) q has) [
@@ -56,16 +70,17 @@ module _ (given : Given) (roots : List ℕ) (s : System) (space : Space) where
   ]
 
   -- what belongs under a window that has a line has one
-  pub below_window : (lines : Lines) (w q : Region) (kind : WindowKind) → w.part ≡ Window kind → AreAllInside given roots s space lines → Contains (all_regions lines) w
+  pub below_window : (lines : Lines) (w : Region) (q : MapRegion) (kind : WindowKind) → w.part ≡ Window kind → AreAllInside told given roots s space lines → Contains (all_regions lines) (Own w)
       → IsOf q → BelongsUnder given s w q → Contains (all_regions lines) q
-  below_window End w q kind window inside has of under = absurd (in_nil w has)
+  below_window End w q kind window inside has of under = absurd (in_nil (Own w) has)
   below_window (Free r rest) w q kind window inside has of under = below_window rest w q kind window inside has of under
-  below_window (Sits p below rest) w q kind window inside has of under = elim (in_cons_cases p (all_regions below ++ all_regions rest) w has) [
+  below_window (Sits p below rest) w q kind window inside has of under = elim (in_cons_cases p (all_regions below ++ all_regions rest) (Own w) has) [
     | inl first ↦ (
-        let here : AreLinesAt given roots s space (Inside p) below = subst (λ part. AreInside part below (AreLinesAt given roots s space (Inside p) below)) (ap (λ (z : Region). z.part) first ∙ window) inside.0 in
-        let there : Contains (regions_at below) q = here.complete q of.0 of.1 (subst (λ z. BelongsUnder given s z q) (sym first) under) of.2 in
+        let its : AreInside told given roots s space (Own w) below = subst (λ z. AreInside told given roots s space z below) first inside.0 in
+        let here : AreLinesAt told given roots s space (Inside w) below = subst (λ part. AreInPart part below (AreLinesAt told given roots s space (Inside w) below)) window its in
+        let there : Contains (regions_at below) q = here.complete q of.0 of.1 under of.2 in
         in_tail p (all_regions below ++ all_regions rest) q (Contains-append_left (all_regions below) (all_regions rest) q (stands_there below q there)))
-    | inr later ↦ in_tail p (all_regions below ++ all_regions rest) q (elim (Contains-append_cases (all_regions below) (all_regions rest) w later) [
+    | inr later ↦ in_tail p (all_regions below ++ all_regions rest) q (elim (Contains-append_cases (all_regions below) (all_regions rest) (Own w) later) [
       | inl within ↦ Contains-append_left (all_regions below) (all_regions rest) q (below_window below w q kind window inside.1 within of under)
       | inr behind ↦ Contains-append_right (all_regions below) (all_regions rest) q (below_window rest w q kind window inside.2 behind of under)
     ])
@@ -95,60 +110,79 @@ pub first_claimed : (s : System) (q : Region) (is : IsRegionIn s q) → Claims i
 first_claimed s q is = (is.claims q.range.first).0 (omega arith, is.some)
 
 -- a window has the space of what belongs under it
-pub window_has_space : (given : Given) (s : System) (w q : Region) → IsRegionIn s w → BelongsUnder given s w q → w.space ≡ q.space
+pub window_has_space : (given : Given) (s : System) (w : Region) (q : MapRegion) → IsRegionIn s w → BelongsUnder given s w q → w.space ≡ space_of q
 window_has_space given s w q is under =
-    let maps : window_space under.kind ≡ w.space = ap (λ part. space_of is.f part) (sym under.window) ∙ (first_claimed s w is).maps in
-    sym maps ∙ first_space given q.space under.kind q.range.first under.b under.first
+    let maps : window_space under.kind ≡ w.space = ap (λ part. system.space_of is.f part) (sym under.window) ∙ (first_claimed s w is).maps in
+    sym maps ∙ first_space given (space_of q) under.kind (range_of q).first under.b under.first
 
--- and its first address
-pub window_holds : (given : Given) (s : System) (w q : Region) → IsSystem s → IsRegionIn s w → IsRegionIn s q → BelongsUnder given s w q → InRange w.range q.range.first
-window_holds given s w q system is of under =
+-- a region's first address is one of its space
+first_address : (told : Told) (s : System) (q : MapRegion) → IsTold told.ranges → IsIn told s q → IsAddress (space_of q) (range_of q).first
+first_address told s (Own q) lawful of = (first_claimed s q of).address
+first_address told s (OfLine x) lawful of =
+    told_claim_addresses told s (told_name x) x.told x.told.space x.told.first lawful of.named record { on = of.on; holds = (refl, omega arith, of.some) }
+
+-- and the window has it
+pub window_holds : (told : Told) (given : Given) (s : System) (w : Region) (q : MapRegion) → IsSystem s → IsTold told.ranges → IsRegionIn s w → IsIn told s q → BelongsUnder given s w q
+    → InRange w.range (range_of q).first
+window_holds told given s w q system lawful is of under =
     let same : under.b ≡ is.f = one_function s system under.b is.f under.listed is.listed (ap slot_number (under.slot ∙ sym is.slot)) in
     let first = first_claimed s w is in
-    let claims : IsTrue (window_claims is.f under.kind q.range.first) = subst (λ (b : Function). IsTrue (window_claims b under.kind q.range.first)) same (first_claims given q.space under.kind q.range.first under.b under.first) in
-    let both = and_parts (is_space_on is.f (window_space under.kind)) (holds under.kind is.f.image is.f.probe q.range.first) claims in
+    let claims : IsTrue (window_claims is.f under.kind (range_of q).first) = subst (λ (b : Function). IsTrue (window_claims b under.kind (range_of q).first)) same (first_claims given (space_of q) under.kind (range_of q).first under.b under.first) in
+    let both = and_parts (is_space_on is.f (window_space under.kind)) (holds under.kind is.f.image is.f.probe (range_of q).first) claims in
     let space = window_has_space given s w q is under in
-    (is.claims q.range.first).1 record {
+    (is.claims (range_of q).first).1 record {
       there = first.there;
       enabled = first.enabled;
       maps = first.maps;
-      address = subst (λ sp. IsAddress sp q.range.first) (sym space) (first_claimed s q of).address;
-      decodes = subst (λ part. Decodes is.f part q.range.first) (sym under.window) both.1;
+      address = subst (λ sp. IsAddress sp (range_of q).first) (sym space) (first_address told s q lawful of);
+      decodes = subst (λ part. Decodes is.f part (range_of q).first) (sym under.window) both.1;
     }
 
--- BARs and ROMs are at other registers
-pub windows_in_place : WindowsAreInPlace
-windows_in_place given roots s q system is window out =
-    let o = out.outside in
-    let same : o.f ≡ is.f = one_function s system o.f is.f o.listed is.listed (ap slot_number (o.named.0 ∙ sym is.slot)) in
-    let claims = subst (λ (f : Function). Claims f o.part q.space out.address) same o.claims in
-    let part : o.part ≡ q.part = part_same is.f o.part q.part claims.there (first_claimed s q is).there (ap (λ f. register_of f o.part) (sym same) ∙ o.named.1 ∙ sym is.register) in
+-- BARs and ROMs are at other registers, and so are told ranges
+window_in_place : (told : Told) (given : Given) (roots : List ℕ) (s : System) (q : Region) (a : ℕ) → IsSystem s → IsRegionIn s q → IsTrue (is_window q.part)
+    → IsOutside told given roots s (named_region q.slot q.register) (address_in q.space a) → ⊥
+window_in_place told given roots s q a is_system is window (inl o) =
+    let same : o.f ≡ is.f = one_function s is_system o.f is.f o.listed is.listed (ap slot_number (o.named.0 ∙ sym is.slot)) in
+    let claims = subst (λ (f : Function). Claims f o.part q.space a) same o.claims in
+    let part : o.part ≡ q.part = part_same is.f o.part q.part claims.there (first_claimed s q is).there (ap (λ f. system.register_of f o.part) (sym same) ∙ o.named.1 ∙ sym is.register) in
     false≢true (sym o.no_window ∙ ap is_window part ∙ window)
+window_in_place told given roots s q a is_system is window (inr o) =
+    let low = low_register s q is in let line = o.needs.named.register in omega (arith, low, line)
+
+pub windows_in_place : WindowsAreInPlace
+windows_in_place told given roots s q system is window out = window_in_place told given roots s q out.address system is window out.outside
+
+-- what is out of place isn't held
+held_in_place : (told : Told) (given : Given) (roots : List ℕ) (s : System) (x : ToldRegion) (at : Address) → IsToldIn told s x → IsOutside told given roots s (told_name x) at → IsFalse (is_marked_held x.told.mark)
+held_in_place told given roots s x at is (inl o) =
+    let low = register_of-lt o.f o.part o.claims.there in let named = o.named.1 in let line = is.named.register in absurd (let no : ⊥ = omega (arith, low, named, line) in no)
+held_in_place told given roots s x at is (inr o) =
+    subst (λ (r : ToldRange). IsFalse (is_marked_held r.mark)) (one_range told (told_name x) o.r x.told o.needs.named is.named) o.needs.not_held
 
 -- ---- the regions of a map
 
-module _ (given : Given) (roots : List ℕ) (s : System) where
-  abbrev pub IsInPlace : Region → Type 0
-  IsInPlace q = IsOutOfPlace given roots s q → ⊥
+module _ (told : Told) (given : Given) (roots : List ℕ) (s : System) where
+  abbrev pub IsInPlace : MapRegion → Type 0
+  IsInPlace q = IsOutOfPlace told given roots s q → ⊥
 
-  on_side : (space : Space) (place : MapPlace) (lines : Lines) (w q : Region) → AreLinesOfPlace given roots s space place lines → IsRegionIn s w → IsRegionIn s q → IsInPlace q → BelongsUnder given s w q
-      → Contains (all_regions lines) w → Contains (all_regions lines) q
+  on_side : (space : Space) (place : MapPlace) (lines : Lines) (w : Region) (q : MapRegion) → AreLinesOfPlace told given roots s space place lines → IsRegionIn s w → IsIn told s q → IsInPlace q → BelongsUnder given s w q
+      → Contains (all_regions lines) (Own w) → Contains (all_regions lines) q
   on_side space place lines w q are is of in_place under has =
-      let here = line_in_place given roots s space place lines w are has in
-      below_window given roots s space lines w q under.kind under.window are.1 has (of, sym (window_has_space given s w q is under) ∙ here.1, in_place) under
+      let here = line_in_place told given roots s space place lines (Own w) are has in
+      below_window told given roots s space lines w q under.kind under.window are.1 has (of, sym (window_has_space given s w q is under) ∙ here.1, in_place) under
 
-  module _ (m : Map) (is : IsMap given roots s m) where
+  module _ (m : Map) (is : IsMap told given roots s m) where
     -- what has a line on or below a root bus
-    pub on_roots : (q : Region) → Contains (flat_map regions_on m.roots) q → IsRegionIn s q × IsInPlace q
+    pub on_roots : (q : MapRegion) → Contains (flat_map regions_on m.roots) q → IsIn told s q × IsInPlace q
     on_roots q on =
         let piece : IsInPiece regions_on m.roots q = in_flat_map_to regions_on m.roots q on in
         let root = is.each piece.of piece.has in
         elim (Contains-append_cases (all_regions piece.of.io) (all_regions piece.of.memory) q piece.piece) [
-          | inl io ↦ (let of = line_in_place given roots s Io (OnRoot piece.of.bus) piece.of.io q root.io io in (of.0, of.2))
-          | inr memory ↦ (let of = line_in_place given roots s Memory (OnRoot piece.of.bus) piece.of.memory q root.memory memory in (of.0, of.2))
+          | inl io ↦ (let of = line_in_place told given roots s Io (OnRoot piece.of.bus) piece.of.io q root.io io in (of.0, of.2))
+          | inr memory ↦ (let of = line_in_place told given roots s Memory (OnRoot piece.of.bus) piece.of.memory q root.memory memory in (of.0, of.2))
         ]
 
-    pub of_region : (q : Region) → Contains (regions_in m) q → IsRegionIn s q
+    pub of_region : (q : MapRegion) → Contains (regions_in m) q → IsIn told s q
     of_region q has = elim (Contains-append_cases (flat_map regions_on m.roots) (m.outside ++ m.unreached) q has) [
       | inl on ↦ (on_roots q on).0
       | inr aside ↦ elim (Contains-append_cases m.outside m.unreached q aside) [
@@ -157,11 +191,16 @@ module _ (given : Given) (roots : List ℕ) (s : System) where
       ]
     ]
 
-    pub outside_alone : (q : Region) → Contains m.outside q → (Contains (flat_map regions_on m.roots) q → ⊥) × (Contains m.unreached q → ⊥)
+    pub outside_alone : (q : MapRegion) → Contains m.outside q → (Contains (flat_map regions_on m.roots) q → ⊥) × (Contains m.unreached q → ⊥)
     outside_alone q has = (
       λ on. (on_roots q on).1 (is.outside.hold q has),
       λ left. (is.left.hold q left).within (is.outside.hold q has),
     )
+
+    pub held_not_outside : (x : ToldRegion) → Contains m.outside (OfLine x) → IsFalse (is_marked_held x.told.mark)
+    held_not_outside x has =
+        let out = is.outside.hold (OfLine x) has in
+        held_in_place told given roots s x (address_in x.told.space out.address) (is.outside.regions (OfLine x) has) out.outside
 
     -- the root bus of a number
     root_at : (bus : ℕ) → bus < 256 → Contains roots bus → IsMade (λ (root : MapRoot). root.bus) m.roots bus
@@ -169,34 +208,38 @@ module _ (given : Given) (roots : List ℕ) (s : System) where
         in_map_to (λ (root : MapRoot). root.bus) m.roots bus
         (subst (λ xs. Contains xs bus) (sym is.buses) (in_filter_from (is_root roots) (range_with_len 0 256) bus (in_range_from 0 256 bus (omega arith) (omega arith)) ((root_means roots bus).1 has)))
 
-    on_root : (q : Region) (space : Space) → IsSystem s → IsRegionIn s q → IsInPlace q → q.space ≡ space → Contains roots q.slot.bus → Contains (flat_map regions_on m.roots) q
-    on_root q Io system of in_place at has =
-        let made = root_at q.slot.bus (subst (λ (slot : Slot). slot.bus < 256) of.slot (slot_of s system of.f of.listed).0) has in
+    bus_small : (q : MapRegion) → IsSystem s → IsTold told.ranges → IsIn told s q → (slot_of q).bus < 256
+    bus_small (Own q) system lawful of = subst (λ (slot : Slot). slot.bus < 256) of.slot (slot_of_function s system of.f of.listed).0
+    bus_small (OfLine x) system lawful of = (told_slot told (told_name x) x.told lawful of.named).0
+
+    on_root : (q : MapRegion) (space : Space) → IsSystem s → IsTold told.ranges → IsIn told s q → IsInPlace q → space_of q ≡ space → Contains roots (slot_of q).bus → Contains (flat_map regions_on m.roots) q
+    on_root q Io system lawful of in_place at has =
+        let made = root_at (slot_of q).bus (bus_small q system lawful of) has in
         in_flat_map_from regions_on m.roots made.from q made.has (Contains-append_left (all_regions made.from.io) (all_regions made.from.memory) q
-        (stands_there given roots s Io made.from.io q ((is.each made.from made.has).io.0.complete q of at (sym made.is) in_place)))
-    on_root q Memory system of in_place at has =
-        let made = root_at q.slot.bus (subst (λ (slot : Slot). slot.bus < 256) of.slot (slot_of s system of.f of.listed).0) has in
+        (stands_there told given roots s Io made.from.io q ((is.each made.from made.has).io.0.complete q of at (sym made.is) in_place)))
+    on_root q Memory system lawful of in_place at has =
+        let made = root_at (slot_of q).bus (bus_small q system lawful of) has in
         in_flat_map_from regions_on m.roots made.from q made.has (Contains-append_right (all_regions made.from.io) (all_regions made.from.memory) q
-        (stands_there given roots s Memory made.from.memory q ((is.each made.from made.has).memory.0.complete q of at (sym made.is) in_place)))
+        (stands_there told given roots s Memory made.from.memory q ((is.each made.from made.has).memory.0.complete q of at (sym made.is) in_place)))
 
     -- what windows lead to from a root has a line below one
-    pub with_way : (windows : List Region) (q : Region) → IsSystem s → IsRegionIn s q → IsInPlace q → HasWay given roots s q windows → Contains (flat_map regions_on m.roots) q
-    with_way [] q system of in_place way = on_root q q.space system of in_place refl way
-    with_way (w ∷ windows) q system of in_place way =
+    pub with_way : (windows : List Region) (q : MapRegion) → IsSystem s → IsTold told.ranges → IsIn told s q → IsInPlace q → HasWay given roots s q windows → Contains (flat_map regions_on m.roots) q
+    with_way [] q system lawful of in_place way = on_root q (space_of q) system lawful of in_place refl way
+    with_way (w ∷ windows) q system lawful of in_place way =
         let window : is_window w.part ≡ true = ap is_window way.1.window in
-        let above : Contains (flat_map regions_on m.roots) w = with_way windows w system way.0 (windows_in_place given roots s w system way.0 window) way.2 in
-        let piece : IsInPiece regions_on m.roots w = in_flat_map_to regions_on m.roots w above in
+        let above : Contains (flat_map regions_on m.roots) (Own w) = with_way windows (Own w) system lawful way.0 (windows_in_place told given roots s w system way.0 window) way.2 in
+        let piece : IsInPiece regions_on m.roots (Own w) = in_flat_map_to regions_on m.roots (Own w) above in
         let root = is.each piece.of piece.has in
-        in_flat_map_from regions_on m.roots piece.of q piece.has (elim (Contains-append_cases (all_regions piece.of.io) (all_regions piece.of.memory) w piece.piece) [
+        in_flat_map_from regions_on m.roots piece.of q piece.has (elim (Contains-append_cases (all_regions piece.of.io) (all_regions piece.of.memory) (Own w) piece.piece) [
           | inl io ↦ Contains-append_left (all_regions piece.of.io) (all_regions piece.of.memory) q (on_side Io (OnRoot piece.of.bus) piece.of.io w q root.io way.0 of in_place way.1 io)
           | inr memory ↦ Contains-append_right (all_regions piece.of.io) (all_regions piece.of.memory) q (on_side Memory (OnRoot piece.of.bus) piece.of.memory w q root.memory way.0 of in_place way.1 memory)
         ])
 
-    pub not_missed : (q : Region) → IsSystem s → IsRegionIn s q → (Contains (regions_in m) q → ⊥) → ⊥
-    not_missed q system of missed =
+    pub not_missed : (q : MapRegion) → IsSystem s → IsTold told.ranges → IsIn told s q → (Contains (regions_in m) q → ⊥) → ⊥
+    not_missed q system lawful of missed =
         let aside : Contains (m.outside ++ m.unreached) q → ⊥ = λ has. missed (Contains-append_right (flat_map regions_on m.roots) (m.outside ++ m.unreached) q has) in
         let in_place : IsInPlace q = λ out. aside (Contains-append_left m.outside m.unreached q (is.outside.complete q of out)) in
         aside (Contains-append_right m.outside m.unreached q (is.left.complete q of record {
-          left = λ windows way. missed (Contains-append_left (flat_map regions_on m.roots) (m.outside ++ m.unreached) q (with_way windows q system of in_place way));
+          left = λ windows way. missed (Contains-append_left (flat_map regions_on m.roots) (m.outside ++ m.unreached) q (with_way windows q system lawful of in_place way));
           within = in_place;
         }))

@@ -1,3 +1,4 @@
+pub mod Regions
 pub mod Lines
 pub mod Map
 pub mod MapText

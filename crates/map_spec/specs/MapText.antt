@@ -1,5 +1,5 @@
 -- The text of a map.
-use Rattle.std.specs.Prelude.{◌≡◌, ℕ, zero, suc, Bool, true, false, List, [], ◌∷◌, ◌++◌, map, codes}
+use Rattle.std.specs.Prelude.{◌≡◌, ℕ, zero, suc, Bool, true, false, if◌then◌else◌, List, [], ◌∷◌, ◌++◌, map, codes}
 use Rattle.std.specs.List.{flat_map}
 use Rattle.pci_spec.specs.Slot.{Slot}
 use Rattle.pci_spec.specs.Text.{hex_byte, slot_text}
@@ -7,9 +7,13 @@ use Rattle.pci_spec.specs.System.{System, Space, Io, Memory, Part, Bar, Rom, Win
 use Rattle.pci_spec.specs.Line.{space_text, field, byte_field}
 use Rattle.pci_spec.specs.Decoded.{Range, DecodedBar}
 use Rattle.pci_spec.specs.Listing.{words, range_text, kind_space}
-use Rattle.pci_spec.specs.Why.{Region, amount_text, address_count, off_bars}
+use Rattle.pci_spec.specs.Why.{amount_text, address_count, off_bars}
 use Rattle.given_spec.specs.Given.{Given}
+use Rattle.given_spec.specs.ToldClaims.{Told}
+use Rattle.given_spec.specs.ToldLine.{register_text}
+use Rattle.given_spec.specs.ToldRegion.{ToldRegion, told_extent, off_ranges, mark_word, name_words}
 use Rattle.given_spec.specs.Why.{isa_words_of}
+use Rattle.map_spec.specs.Regions.{MapRegion, Own, OfLine}
 use Rattle.map_spec.specs.Lines.{Lines, End, Free, Sits}
 use Rattle.map_spec.specs.Map.{MapRoot, Map, IsMap}
 
@@ -29,8 +33,19 @@ abbrev pub extent_line : ℕ → Space → Range → List (List ℕ) → List �
 extent_line depth space r what =
     indent depth ++ (range_text space r ++ words (amount_text (address_count r) ∷ what))
 
-abbrev pub map_region_line : Given → ℕ → Region → List ℕ
-map_region_line given depth q =
+-- `held`, or `told`
+abbrev pub told_part_name : ToldRegion → List ℕ
+told_part_name x = mark_word x.told.mark ++ (if x.told.prefetchable then codes " pref" else [])
+
+-- the line of a told range
+abbrev pub map_told_line : ℕ → ToldRegion → List ℕ
+map_told_line depth x =
+    extent_line depth x.told.space (told_extent x.told)
+    (told_part_name x ∷ slot_text x.told.slot ∷ register_text x.register ∷ name_words x.told.name)
+
+abbrev pub map_region_line : Given → ℕ → MapRegion → List ℕ
+map_region_line given depth (OfLine x) = map_told_line depth x
+map_region_line given depth (Own q) =
     extent_line depth q.space q.range
     (part_name q.part q.prefetchable ∷ slot_text q.slot ∷ hex_byte q.register
     ∷ isa_words_of given q.part q.space q.slot)
@@ -71,10 +86,10 @@ abbrev pub under_heading : List ℕ → List (List ℕ) → List ℕ
 under_heading heading [] = []
 under_heading heading (line ∷ lines) = heading ++ (10 ∷ flat_map (λ text. text) (line ∷ lines))
 
-abbrev pub outside_text : Given → List Region → List ℕ
+abbrev pub outside_text : Given → List MapRegion → List ℕ
 outside_text given qs = under_heading (codes "outside") (map (map_region_line given 1) qs)
 
-abbrev pub unreached_text : Given → List Region → List ℕ
+abbrev pub unreached_text : Given → List MapRegion → List ℕ
 unreached_text given qs = under_heading (codes "unreached") (map (map_region_line given 1) qs)
 
 -- the line of an implemented BAR
@@ -84,20 +99,26 @@ map_off_line slot b =
     (part_name (Bar 0) b.prefetchable ∷ slot_text slot ∷ hex_byte b.register ∷ [])
 
 -- those of a function whose space its Command doesn't enable
-abbrev pub map_off_lines_of : Function → List (List ℕ)
-map_off_lines_of f = map (map_off_line f.slot) (off_bars f)
+abbrev pub map_off_bars_of : Function → List (List ℕ)
+map_off_bars_of f = map (map_off_line f.slot) (off_bars f)
 
-abbrev pub map_off_text : System → List ℕ
-map_off_text s = under_heading (codes "off") (flat_map map_off_lines_of s)
+-- and its told ranges that aren't on
+abbrev pub map_off_lines_of : Told → System → Function → List (List ℕ)
+map_off_lines_of told s f =
+    map_off_bars_of f ++ map (map_told_line 1) (off_ranges told s f.slot)
+
+abbrev pub map_off_text : Told → System → List ℕ
+map_off_text told s = under_heading (codes "off") (flat_map (map_off_lines_of told s) s)
 
 -- ---- the whole text
 
-abbrev pub map_text_of : Given → Map → System → List ℕ
-map_text_of given m s =
+abbrev pub map_text_of : Told → Given → Map → System → List ℕ
+map_text_of told given m s =
     flat_map (root_text given) m.roots
-    ++ (outside_text given m.outside ++ (unreached_text given m.unreached ++ map_off_text s))
+    ++ (outside_text given m.outside ++ (unreached_text given m.unreached ++ map_off_text told s))
 
-pub record IsMapText (given : Given) (roots : List ℕ) (s : System) (text : List ℕ) : Type 0 where
+pub record IsMapText (told : Told) (given : Given) (roots : List ℕ) (s : System)
+    (text : List ℕ) : Type 0 where
   pub m : Map
-  pub is : IsMap given roots s m
-  pub says : text ≡ map_text_of given m s
+  pub is : IsMap told given roots s m
+  pub says : text ≡ map_text_of told given m s

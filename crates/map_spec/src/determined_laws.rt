@@ -2,7 +2,7 @@
 
 ghost use Rattle.map_spec.specs.DeterminedLaws.{LinesAreDetermined, MapIsDetermined, MapTextIsDetermined};
 
-/// A system has at most one map with what is given, and at most one text of it.
+/// A system has at most one map with what is given and told, and at most one text of it.
 pub fn maps_are_determined()
     ensures lines { LinesAreDetermined }
     ensures map { MapIsDetermined }

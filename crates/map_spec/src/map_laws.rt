@@ -1,6 +1,6 @@
 //! Laws of maps. These functions do nothing: each contract is a law.
 
-ghost use Rattle.map_spec.specs.MapLaws.{LinesAreOfRegions, NoRegionIsMissed, OutsideStandsAlone, WindowsAreInPlace, WindowsHoldWhatIsInside, FreeLinesAreExact, FreeOnRootsIsExact, NothingIsOutOfPlace, NothingIsOutside, AllLeftAreUnreached, NothingIsFreeOnRoots};
+ghost use Rattle.map_spec.specs.MapLaws.{LinesAreOfRegions, NoRegionIsMissed, OutsideStandsAlone, WindowsAreInPlace, HeldAreInPlace, WindowsHoldWhatIsInside, FreeLinesAreExact, FreeOnRootsIsExact, NothingIsOutOfPlace, NothingIsOutside, AllLeftAreUnreached, NothingIsFreeOnRoots, NoLineIsTold, BarsAloneAreOff};
 
 /// Enabled regions that claim an address have lines, and nothing else has.
 pub fn regions_have_lines()
@@ -8,10 +8,11 @@ pub fn regions_have_lines()
     ensures each { NoRegionIsMissed }
 {}
 
-/// What is out of place has no other line, and no window is.
+/// What is out of place has no other line, and no window and no held range is.
 pub fn outside_stands_alone()
     ensures alone { OutsideStandsAlone }
     ensures windows { WindowsAreInPlace }
+    ensures held { HeldAreInPlace }
 {}
 
 /// What stands under a window belongs there, and what of it is free is free.
@@ -31,4 +32,10 @@ pub fn nothing_given_changes_nothing()
     ensures outside { NothingIsOutside }
     ensures left { AllLeftAreUnreached }
     ensures free { NothingIsFreeOnRoots }
+{}
+
+/// With nothing told a map has lines of functions alone.
+pub fn nothing_told_adds_no_line()
+    ensures lines { NoLineIsTold }
+    ensures off { BarsAloneAreOff }
 {}

@@ -18,10 +18,13 @@ use Rattle.pci_spec.proofs.Members.{in_nil, in_cons_cases, in_head, in_tail, pai
 use Rattle.pci_spec.proofs.Examples.Samples.{slot, device, bridge, range, host}
 use Rattle.pci_spec.proofs.Examples.Sized.{answered}
 use Rattle.given_spec.specs.Given.{nothing_given}
+use Rattle.given_spec.specs.ToldRegion.{told_name}
+use Rattle.given_spec.proofs.NothingTold.{no_range_at}
+use Rattle.map_spec.specs.Regions.{MapRegion, Own, OfLine, space_of, IsIn}
 use Rattle.given_spec.proofs.OneList.{same_range}
 use Rattle.map_spec.specs.Lines.{BelongsUnder, Inside, IsClaimedOn, IsFreeIn, Lines, End, Free, Sits, MarkIsBefore, marks, AreLinesAt}
 use Rattle.map_spec.proofs.Nothing.{all_in_place}
-use Rattle.map_spec.proofs.Examples.Samples.{region}
+use Rattle.map_spec.proofs.Examples.Samples.{region, untold}
 
 -- memory E0000000 to E00FFFFF
 abbrev above : Function
@@ -117,7 +120,7 @@ upper_is = record {
 }
 
 -- each belongs under the window
-lower_belongs : BelongsUnder nothing_given s window lower
+lower_belongs : BelongsUnder nothing_given s window (Own lower)
 lower_belongs = record {
   b = above;
   listed = (0, lit< tt, refl);
@@ -129,7 +132,7 @@ lower_belongs = record {
   first = refl;
 }
 
-upper_belongs : BelongsUnder nothing_given s window upper
+upper_belongs : BelongsUnder nothing_given s window (Own upper)
 upper_belongs = record {
   b = above;
   listed = (0, lit< tt, refl);
@@ -181,27 +184,29 @@ on_bus_one f listed at = elim (in_pair above behind f listed) [
   | inr is ↦ is
 ]
 
-abbrev bars : List Region
-bars = lower ∷ upper ∷ []
+abbrev bars : List MapRegion
+bars = Own lower ∷ Own upper ∷ []
 
-bars_alone : (q : Region) → IsRegionIn s q → q.space ≡ Memory → BelongsUnder nothing_given s window q → Contains bars q
+bars_alone : (q : MapRegion) → IsIn untold s q → space_of q ≡ Memory → BelongsUnder nothing_given s window q → Contains bars q
 unfolding lower_is upper_is
-bars_alone q is space under =
+bars_alone (OfLine x) is space under = absurd (no_range_at [] (told_name x) x.told is.named)
+bars_alone (Own q) is space under =
     let bus : q.slot.bus ≡ 1 = sym under.leads ∙ bus_below under.b under.listed under.slot in
     let of : behind ≡ is.f = on_bus_one is.f is.listed (ap (λ (x : Slot). x.bus) is.slot ∙ bus) in
     let claims = moved is.f behind q.part q.part q.space Memory q.range.first (sym of) refl space ((is.claims q.range.first).0 (omega arith, is.some)) in
     elim (two_alone q.part q.range.first claims) [
-      | inl part ↦ subst (λ (x : Region). Contains bars x) (one_region lower q lower_is is of (sym part) (sym space)) (in_head lower (upper ∷ []))
-      | inr part ↦ subst (λ (x : Region). Contains bars x) (one_region upper q upper_is is of (sym part) (sym space)) (in_tail lower (upper ∷ []) upper (in_head upper []))
+      | inl part ↦ subst (λ (x : Region). Contains bars (Own x)) (one_region lower q lower_is is of (sym part) (sym space)) (in_head (Own lower) (Own upper ∷ []))
+      | inr part ↦ subst (λ (x : Region). Contains bars (Own x)) (one_region upper q upper_is is of (sym part) (sym space)) (in_tail (Own lower) (Own upper ∷ []) (Own upper) (in_head (Own upper) []))
     ]
 
 -- ---- what is free
 
 abbrev IsFree : ℕ → Type 0
-IsFree a = IsFreeIn nothing_given s window a
+IsFree a = IsFreeIn untold nothing_given s window a
 
-claimed_is_held : (a : ℕ) → IsClaimedOn nothing_given s 1 Memory a → InRange lower.range a ⊎ InRange upper.range a
-claimed_is_held a c =
+claimed_is_held : (a : ℕ) → IsClaimedOn untold nothing_given s 1 Memory a → InRange lower.range a ⊎ InRange upper.range a
+claimed_is_held a (inr c) = absurd (no_range_at [] c.0 c.1.r c.1.named)
+claimed_is_held a (inl c) =
     let claims = subst (λ (x : Function). Claims x c.part Memory a) (sym (on_bus_one c.f c.listed c.on_bus)) c.claims.claims in
     elim (two_alone c.part a claims) [
       | inl part ↦ inl (lower_holds a (subst (λ p. Claims behind p Memory a) part claims))
@@ -212,17 +217,17 @@ is_free : (a : ℕ) → InRange window.range a → (InRange lower.range a → �
 is_free a held not_lower not_upper = record {
   held = held;
   kept = refl;
-  unclaimed = λ b listed at claimed. elim (claimed_is_held a (subst (λ bus. IsClaimedOn nothing_given s bus Memory a) (bus_below b listed at) claimed)) [
+  unclaimed = λ b listed at claimed. elim (claimed_is_held a (subst (λ bus. IsClaimedOn untold nothing_given s bus Memory a) (bus_below b listed at) claimed)) [
     | inl inside ↦ not_lower inside
     | inr inside ↦ not_upper inside
   ];
 }
 
 lower_is_taken : (a : ℕ) → InRange lower.range a → IsFree a → ⊥
-lower_is_taken a held free = free.unclaimed above (0, lit< tt, refl) refl record { f = behind; part = Bar 0; listed = (1, lit< tt, refl); on_bus = refl; claims = record { claims = lower_claims a held; kept = refl } }
+lower_is_taken a held free = free.unclaimed above (0, lit< tt, refl) refl (inl record { f = behind; part = Bar 0; listed = (1, lit< tt, refl); on_bus = refl; claims = record { claims = lower_claims a held; kept = refl } })
 
 upper_is_taken : (a : ℕ) → InRange upper.range a → IsFree a → ⊥
-upper_is_taken a held free = free.unclaimed above (0, lit< tt, refl) refl record { f = behind; part = Bar 1; listed = (1, lit< tt, refl); on_bus = refl; claims = record { claims = upper_claims a held; kept = refl } }
+upper_is_taken a held free = free.unclaimed above (0, lit< tt, refl) refl (inl record { f = behind; part = Bar 1; listed = (1, lit< tt, refl); on_bus = refl; claims = record { claims = upper_claims a held; kept = refl } })
 
 abbrev before : Range
 before = range 0xe0000000 0xe003ffff
@@ -286,10 +291,10 @@ each_run (suc zero) d less = free_between
 each_run (suc (suc zero)) d less = free_after
 each_run (suc (suc (suc k))) d less = absurd (let no : ⊥ = omega (arith, less) in no)
 
-both_have : (P : Region → Type 0) → P lower → P upper → (q : Region) → Contains bars q → P q
-both_have P low high q has = elim (in_cons_cases lower (upper ∷ []) q has) [
+both_have : (P : MapRegion → Type 0) → P (Own lower) → P (Own upper) → (q : MapRegion) → Contains bars q → P q
+both_have P low high q has = elim (in_cons_cases (Own lower) (Own upper ∷ []) q has) [
   | inl is ↦ subst P is low
-  | inr more ↦ elim (in_cons_cases upper [] q more) [
+  | inr more ↦ elim (in_cons_cases (Own upper) [] q more) [
     | inl is ↦ subst P is high
     | inr none ↦ absurd (in_nil q none)
   ]
@@ -315,14 +320,14 @@ by_test R test holds (x ∷ xs) all =
 -- ---- the lines
 
 abbrev lines : Lines
-lines = Free before (Sits lower End (Free between (Sits upper End (Free after End))))
+lines = Free before (Sits (Own lower) End (Free between (Sits (Own upper) End (Free after End))))
 
-free_before_between_and_behind : AreLinesAt nothing_given host s Memory (Inside window) lines
+free_before_between_and_behind : AreLinesAt untold nothing_given host s Memory (Inside window) lines
 free_before_between_and_behind = record {
-  regions = both_have (λ q. IsRegionIn s q) lower_is upper_is;
-  of_space = both_have (λ q. q.space ≡ Memory) refl refl;
+  regions = both_have (λ q. IsIn untold s q) lower_is upper_is;
+  of_space = both_have (λ q. space_of q ≡ Memory) refl refl;
   stand = both_have (λ q. BelongsUnder nothing_given s window q) lower_belongs upper_belongs;
-  within = λ q has. all_in_place host s q;
+  within = λ q has. all_in_place untold host s q;
   complete = λ q is space under within. bars_alone q is space under;
   free = record {
     each = each_run;

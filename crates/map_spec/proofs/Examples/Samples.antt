@@ -4,6 +4,8 @@ use Rattle.pci_spec.specs.Slot.{Slot}
 use Rattle.pci_spec.specs.System.{Space, Part}
 use Rattle.pci_spec.specs.Why.{Region}
 use Rattle.pci_spec.proofs.Examples.Samples.{range}
+use Rattle.given_spec.specs.ToldClaims.{Told, nothing_told}
+use Rattle.map_spec.specs.Regions.{MapRegion, Own}
 
 abbrev pub line : List ℕ → List ℕ
 line text = text ++ 10 ∷ []
@@ -11,3 +13,11 @@ line text = text ++ 10 ∷ []
 abbrev pub region : Slot → ℕ → Part → Space → Bool → ℕ → ℕ → Region
 region slot register part space prefetchable first last =
     record { slot = slot; register = register; part = part; space = space; prefetchable = prefetchable; range = range first last }
+
+-- the same as a map has it
+abbrev pub own : Slot → ℕ → Part → Space → Bool → ℕ → ℕ → MapRegion
+own slot register part space prefetchable first last =
+    Own (region slot register part space prefetchable first last)
+
+abbrev pub untold : Told
+untold = nothing_told []

@@ -8,27 +8,27 @@ use Rattle.pci_spec.proofs.Examples.Samples.{slot, range, device}
 use Rattle.given_spec.specs.Given.{nothing_given}
 use Rattle.map_spec.specs.Lines.{Lines, End, Free, Sits}
 use Rattle.map_spec.specs.MapText.{indent, lines_text, map_region_line, root_text, map_text_of}
-use Rattle.map_spec.proofs.Examples.Samples.{line, region}
+use Rattle.map_spec.proofs.Examples.Samples.{line, own, untold}
 
 -- bus 40 of a server: a bar in an I/O window, and three windows of memory, each inside the one before
 abbrev io_lines : Lines
 io_lines =
-    Sits (region (slot 0x40 3 0) 0x1c (Window IoWindow) Io false 0xc000 0xcfff)
-    (Sits (region (slot 0x45 0 0) 0x18 (Bar 2) Io false 0xc000 0xc01f) End
+    Sits (own (slot 0x40 3 0) 0x1c (Window IoWindow) Io false 0xc000 0xcfff)
+    (Sits (own (slot 0x45 0 0) 0x18 (Bar 2) Io false 0xc000 0xc01f) End
     (Free (range 0xc020 0xcfff) End))
     End
 
 abbrev memory_lines : Lines
 memory_lines =
-    Sits (region (slot 0x40 0 0) 0x20 (Window MemoryWindow) Memory false 0xfde00000 0xfe1fffff)
-    (Sits (region (slot 0x41 0 0) 0x20 (Window MemoryWindow) Memory false 0xfde00000 0xfe1fffff)
-    (Sits (region (slot 0x42 1 0) 0x20 (Window MemoryWindow) Memory false 0xfde00000 0xfdffffff)
+    Sits (own (slot 0x40 0 0) 0x20 (Window MemoryWindow) Memory false 0xfde00000 0xfe1fffff)
+    (Sits (own (slot 0x41 0 0) 0x20 (Window MemoryWindow) Memory false 0xfde00000 0xfe1fffff)
+    (Sits (own (slot 0x42 1 0) 0x20 (Window MemoryWindow) Memory false 0xfde00000 0xfdffffff)
     (Free (range 0xfde00000 0xfde3ffff)
-    (Sits (region (slot 0x44 0 0) 0x14 (Bar 1) Memory false 0xfde40000 0xfde40fff) End
+    (Sits (own (slot 0x44 0 0) 0x14 (Bar 1) Memory false 0xfde40000 0xfde40fff) End
     (Free (range 0xfde41000 0xfdffffff) End)))
     End)
     End)
-    (Sits (region (slot 0x40 0 0) 0x10 (Bar 0) Memory false 0xfe401000 0xfe401fff) End End)
+    (Sits (own (slot 0x40 0 0) 0x10 (Bar 0) Memory false 0xfe401000 0xfe401fff) End End)
 
 server : root_text nothing_given (record { bus = 0x40; io = io_lines; memory = memory_lines })
     ≡ line (codes "bus 40 io")
@@ -51,12 +51,12 @@ empty_bus : root_text nothing_given (record { bus = 0; io = End; memory = End })
 empty_bus = refl
 
 -- what each part is called
-prefetchable_bar : map_region_line nothing_given 1 (region (slot 0x44 0 0) 0x20 (Bar 4) Memory true 0xfe600000 0xfe603fff)
+prefetchable_bar : map_region_line nothing_given 1 (own (slot 0x44 0 0) 0x20 (Bar 4) Memory true 0xfe600000 0xfe603fff)
     ≡ line (codes "  00000000fe600000-00000000fe603fff 16K bar pref 44:00.0 20")
 unfolding indent scaled_text digits
 prefetchable_bar = refl
 
-rom : map_region_line nothing_given 2 (region (slot 0 2 0) 0x30 Rom Memory false 0xfe9e0000 0xfe9effff)
+rom : map_region_line nothing_given 2 (own (slot 0 2 0) 0x30 Rom Memory false 0xfe9e0000 0xfe9effff)
     ≡ line (codes "    00000000fe9e0000-00000000fe9effff 64K rom 00:02.0 30")
 unfolding indent scaled_text digits
 rom = refl
@@ -65,8 +65,8 @@ rom = refl
 cut_window : root_text (record nothing_given { isa = slot 0 1 0 ∷ [] }) (record {
   bus = 0;
   io =
-      Sits (region (slot 0 1 0) 0x1c (Window IoWindow) Io false 0x1000 0x1fff)
-      (Sits (region (slot 1 0 0) 0x10 (Bar 0) Io false 0x1000 0x101f) End
+      Sits (own (slot 0 1 0) 0x1c (Window IoWindow) Io false 0x1000 0x1fff)
+      (Sits (own (slot 1 0 0) 0x10 (Bar 0) Io false 0x1000 0x101f) End
       (Free (range 0x1020 0x10ff) (Free (range 0x1400 0x14ff) (Free (range 0x1800 0x18ff) (Free (range 0x1c00 0x1cff) End)))))
       End;
   memory = End;
@@ -88,15 +88,15 @@ unfolding indent lines_text scaled_text digits
 all_free = refl
 
 -- what is out of place, regions that are left, and BARs that are off: the second function's Command enables memory alone
-aside_and_off : map_text_of nothing_given (record {
+aside_and_off : map_text_of untold nothing_given (record {
   roots = [];
   outside =
-      region (slot 0 1 0) 0x30 Rom Memory false 0xd0000000 0xd00fffff
-      ∷ region (slot 1 0 0) 0x18 (Bar 2) Memory true 0xd8000000 0xd80fffff
+      own (slot 0 1 0) 0x30 Rom Memory false 0xd0000000 0xd00fffff
+      ∷ own (slot 1 0 0) 0x18 (Bar 2) Memory true 0xd8000000 0xd80fffff
       ∷ [];
   unreached =
-      region (slot 1 0 0) 0x10 (Bar 0) Memory false 0xe0000000 0xe00000ff
-      ∷ region (slot 1 0 0) 0x14 (Bar 1) Io false 0xd000 0xd0ff
+      own (slot 1 0 0) 0x10 (Bar 0) Memory false 0xe0000000 0xe00000ff
+      ∷ own (slot 1 0 0) 0x14 (Bar 1) Io false 0xd000 0xd0ff
       ∷ [];
 })
     (device (slot 0 1 0) 3 ((0x10, 0xe001) ∷ []) ((0x10, 0xffffff01) ∷ [])
