@@ -5,7 +5,12 @@ pub mod Lines
 pub mod Reasons
 pub mod Moved
 pub mod CutBodies
+pub mod Behind
 pub mod Fits
+pub mod ToldReasons
+pub mod ToldFits
+pub mod ToldSecond
+pub mod ToldFirst
 pub mod Isa
 pub mod ToldTexts
 pub mod ToldClaims

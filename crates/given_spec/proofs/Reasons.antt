@@ -70,7 +70,7 @@ module _ (P : ℕ → Type 0) (r : Range) (some : r.first ≤ r.last) (exact : (
     behind = λ p. (let held = (exact (r.last + 1)).1 p in let high = held.1 in omega (arith, high));
   }
 
-  just_one : AreRuns P (r ∷ [])
+  pub just_one : AreRuns P (r ∷ [])
   just_one = record {
     each = All-cons (IsRun P) r [] is_run (All-nil (IsRun P));
     complete = λ a p. (0, r, omega arith, refl, (exact a).1 p);
