@@ -7,6 +7,7 @@ pub mod Moved
 pub mod CutBodies
 pub mod Behind
 pub mod Fits
+pub mod IsaReasons
 pub mod ToldReasons
 pub mod ToldFits
 pub mod ToldSecond
