@@ -1,6 +1,7 @@
 pub mod Examples
 pub mod Nothing
 pub mod ToldNames
+pub mod ToldNumbering
 pub mod Reasons
 pub mod Judging
 pub mod Naming

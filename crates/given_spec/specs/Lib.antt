@@ -28,3 +28,4 @@ pub mod ToldFaultLines
 pub mod ToldLine
 pub mod ToldJudgingLaws
 pub mod ToldRegion
+pub mod ToldRegionLaws

@@ -12,3 +12,4 @@ pub mod list_laws;
 pub mod moved_laws;
 pub mod told_judging_laws;
 pub mod told_laws;
+pub mod told_region_laws;
