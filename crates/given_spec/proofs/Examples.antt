@@ -8,6 +8,7 @@ pub mod CutBodies
 pub mod Behind
 pub mod Fits
 pub mod IsaReasons
+pub mod ToldLinesBehind
 pub mod ToldReasons
 pub mod ToldFits
 pub mod ToldSecond
