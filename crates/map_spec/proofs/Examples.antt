@@ -1,5 +1,6 @@
 pub mod Samples
 pub mod Texts
+pub mod ToldTexts
 pub mod FirstWindows
 pub mod Places
 pub mod InsideWindows
