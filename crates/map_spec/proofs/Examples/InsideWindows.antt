@@ -156,13 +156,13 @@ region_from p q slot register part space prefetchable range = λ i. record {
   range = range i;
 }
 
-moved : (f g : Function) (p q : Part) (sp sq : Space) (a : ℕ) → f ≡ g → p ≡ q → sp ≡ sq → Claims f p sp a → Claims g q sq a
+pub moved : (f g : Function) (p q : Part) (sp sq : Space) (a : ℕ) → f ≡ g → p ≡ q → sp ≡ sq → Claims f p sp a → Claims g q sq a
 moved f g p q sp sq a of part space claims =
     subst (λ (x : Space). Claims g q x a) space (subst (λ (x : Part). Claims g x sp a) part (subst (λ (x : Function). Claims x p sp a) of claims))
 
 -- regions of one part in one space are one
-one_region : (p q : Region) (is : IsRegionIn s p) (other : IsRegionIn s q) → is.f ≡ other.f → p.part ≡ q.part → p.space ≡ q.space → p ≡ q
-one_region p q is other of part space =
+pub one_region : (t : System) (p q : Region) (is : IsRegionIn t p) (other : IsRegionIn t q) → is.f ≡ other.f → p.part ≡ q.part → p.space ≡ q.space → p ≡ q
+one_region t p q is other of part space =
     let slot : p.slot ≡ q.slot = sym is.slot ∙ ap (λ (x : Function). x.slot) of ∙ other.slot in
     let register : p.register ≡ q.register = sym is.register ∙ ap (λ (x : Function). register_of x p.part) of ∙ ap (λ x. register_of other.f x) part ∙ other.register in
     let prefetchable : p.prefetchable ≡ q.prefetchable =
@@ -195,8 +195,8 @@ bars_alone (Own q) is space under =
     let of : behind ≡ is.f = on_bus_one is.f is.listed (ap (λ (x : Slot). x.bus) is.slot ∙ bus) in
     let claims = moved is.f behind q.part q.part q.space Memory q.range.first (sym of) refl space ((is.claims q.range.first).0 (omega arith, is.some)) in
     elim (two_alone q.part q.range.first claims) [
-      | inl part ↦ subst (λ (x : Region). Contains bars (Own x)) (one_region lower q lower_is is of (sym part) (sym space)) (in_head (Own lower) (Own upper ∷ []))
-      | inr part ↦ subst (λ (x : Region). Contains bars (Own x)) (one_region upper q upper_is is of (sym part) (sym space)) (in_tail (Own lower) (Own upper ∷ []) (Own upper) (in_head (Own upper) []))
+      | inl part ↦ subst (λ (x : Region). Contains bars (Own x)) (one_region s lower q lower_is is of (sym part) (sym space)) (in_head (Own lower) (Own upper ∷ []))
+      | inr part ↦ subst (λ (x : Region). Contains bars (Own x)) (one_region s upper q upper_is is of (sym part) (sym space)) (in_tail (Own lower) (Own upper ∷ []) (Own upper) (in_head (Own upper) []))
     ]
 
 -- ---- what is free
@@ -307,11 +307,11 @@ passes_each p (y ∷ xs) all x has = elim (in_cons_cases y xs x has) [
   | inr later ↦ passes_each p xs (and_parts (p y) (list_all p xs) all).1 x later
 ]
 
-abbrev rises : {X : Type 0} → (X → X → Bool) → List X → Bool
+abbrev pub rises : {X : Type 0} → (X → X → Bool) → List X → Bool
 rises test [] = true
 rises test (x ∷ xs) = list_all (test x) xs && rises test xs
 
-by_test : {X : Type 0} (R : X → X → Type 0) (test : X → X → Bool) → ((x y : X) → test x y ≡ true → R x y) → (xs : List X) → rises test xs ≡ true → AllPairs R xs
+pub by_test : {X : Type 0} (R : X → X → Type 0) (test : X → X → Bool) → ((x y : X) → test x y ≡ true → R x y) → (xs : List X) → rises test xs ≡ true → AllPairs R xs
 by_test R test holds [] all = pairs_nil R
 by_test R test holds (x ∷ xs) all =
     let parts = and_parts (list_all (test x) xs) (rises test xs) all in
