@@ -5,4 +5,5 @@ pub mod ToldBoard
 pub mod ToldMaps
 pub mod FirstWindows
 pub mod Places
+pub mod ToldPlaces
 pub mod InsideWindows

@@ -14,7 +14,7 @@ use Rattle.map_spec.specs.Lines.{IsOutOfPlace, IsFreeOn, IsClaimedOn}
 use Rattle.map_spec.proofs.Examples.Samples.{own, untold}
 
 -- a list of memory alone, with one range
-abbrev memory_to : Option ℕ → ℕ → ℕ → Given
+abbrev pub memory_to : Option ℕ → ℕ → ℕ → Given
 memory_to root first last = record { io = None; memory = Some (record { root = root; first = first; last = last } ∷ []); legacy = []; isa = [] }
 
 -- a list of I/O alone
