@@ -207,8 +207,8 @@ IsEvidence told given roots s (Outside slot register space address) lines =
 
 -- ---- where a region would fit
 
--- regions of a bus can clash with the region at the address: the bus is the region's, or where that is a root bus it is
--- another to which accesses to it start, too
+-- what stands on a bus can clash with the region at the address: it is the region's bus, or both are root buses and
+-- accesses to the address start there, too
 abbrev pub IsBeside : Given → List ℕ → plain.Region → ℕ → ℕ → Type 0
 IsBeside given roots q a bus =
     (bus ≡ q.slot.bus) ⊎ (Contains roots q.slot.bus × Contains roots bus

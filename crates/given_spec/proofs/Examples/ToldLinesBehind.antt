@@ -13,7 +13,7 @@ use Rattle.given_spec.specs.Told.{Mark, Command, Always, Held, ToldRange}
 use Rattle.given_spec.specs.ToldClaims.{Told, may_share}
 use Rattle.given_spec.specs.ToldFault.{Known, NotListed}
 use Rattle.given_spec.specs.ToldRegion.{ToldRegion, IsToldIn}
-use Rattle.given_spec.specs.Why.{AnyRegion, OfLine, IsNamed, Misses, IsTakenBeside, IsWhy, IsAdvice, IsAdviceFor, region_line, to_move, all_off_lines}
+use Rattle.given_spec.specs.Why.{AnyRegion, OfLine, space_of, bus_of, IsNamed, Misses, IsTakenBeside, IsWhy, IsAdvice, IsAdviceFor, region_line, to_move, all_off_lines}
 use Rattle.given_spec.specs.FaultsText.{IsReasonedText, off_behind}
 use Rattle.given_spec.proofs.Examples.Behind.{above, large, of_large}
 use Rattle.given_spec.proofs.Examples.Ranges.{to_each, sent_memory}
@@ -48,6 +48,14 @@ prefetchable_held : region_line nothing_given (codes "needs") (of_line 4096 (nam
     ≡ line (codes "  needs 01:00.0 +4096 held mem pref 0000000000000000-ffffffffffffffff 16E x")
 unfolding scaled_text digits
 prefetchable_held = refl
+
+-- ---- its space, and its bus
+
+spaces : map space_of (of_line 1 (told_io (slot 1 0 0) 0 0 Always) ∷ of_line 2 (told_memory (slot 1 0 0) 0 0 Held) ∷ []) ≡ Io ∷ Memory ∷ []
+spaces = refl
+
+buses : map bus_of (of_line 1 (told_io (slot 1 0 0) 0 0 Always) ∷ of_line 2 (told_io (slot 0x40 0 0) 0 0 Always) ∷ []) ≡ 1 ∷ 0x40 ∷ []
+buses = refl
 
 -- ---- which region a fault names: by its slot, its register and its space
 
