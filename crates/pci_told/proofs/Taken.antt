@@ -4,7 +4,7 @@ use Rattle.std.specs.Io.KnownBytes.{Consumes, IsAtEnd}
 use Rattle.std.proofs.lemmas.Bool.{cond_both}
 use Rattle.std.proofs.lemmas.List.{drop_more, length-append}
 use Rattle.pci_spec.specs.Text.{BadSlot, BadTitle, BadLine, NoBlank, Order, TooMany, Ended}
-use Rattle.given_spec.specs.Told.{ToldRange}
+use Rattle.given_spec.specs.Told.{ToldRange, IsTold}
 use Rattle.given_spec.specs.ToldText.{IsToldTextOf}
 use Rattle.given_spec.specs.ToldForm.{Bus, Place, Digits, ToldSoFar, nothing_read, Step, Wrong, Goes, Ends, is_in_order, IsBegun, Reads, Reading, Stopped, line_number, take_byte, and_then, take_bytes, step, take_step}
 use Rattle.given_spec.proofs.ToldLines.{StaysBegun, stays_begun, nothing_begun}
@@ -99,6 +99,10 @@ read_more before middle left s t chunk r consumed e = record {
 
 pub read_begun : (before left : Option (List ℕ)) (s : ToldSoFar) → IsReadOn before left s → IsBegun s.line
 read_begun before left s r = begun_read r.consumed s r.all
+
+-- whole lines are in their order
+pub read_ranges : (before left : Option (List ℕ)) (s : ToldSoFar) → IsReadOn before left s → IsTold s.ranges
+read_ranges before left s r = (reading_of r.consumed s r.all).told
 
 -- each chunk brings the loop nearer to its end
 pub read_further : (before middle left : Option (List ℕ)) (s t : ToldSoFar) (chunk : List ℕ) → IsReadOn before middle s → IsReadOn before left t → take_bytes s chunk ≡ Reading t → 0 < length chunk

@@ -18,8 +18,10 @@ mod place;
 pub mod reader;
 #[cfg(test)]
 mod tests;
+pub mod told_list;
 pub mod told_range;
 mod words;
 
 pub use reader::read_told;
+pub use told_list::ToldList;
 pub use told_range::{Mark, NAME_MAX, ToldRange};

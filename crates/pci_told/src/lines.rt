@@ -1,10 +1,12 @@
 //! Lines one after the other.
 ghost use Rattle.std.specs.Prelude.{◌≡◌, ◌+◌, length, OnOk, IfOk, IfErr};
+ghost use Rattle.given_spec.specs.Told.{IsTold};
 ghost use Rattle.given_spec.specs.ToldForm.{Bus, Digits, nothing_read, IsBegun, is_in_order, slot_follows, Reading, take_byte, take_bytes};
 ghost use Rattle.pci_told.specs.Faults.{StopsWith};
 
 use super::line::{Line, Next};
 use super::place::{Field, Place};
+use super::told_list::ToldList;
 use super::told_range::ToldRange;
 use pci_base::slot::Slot;
 use pci_dump::read_fault::ReadFault;
@@ -122,12 +124,13 @@ impl<A: Allocator> Lines<A> {
     /// The ranges of a text that has ended.
     ///
     /// Errors: 9 `Ended` where a line is begun.
-    pub(crate) fn finish(self) -> Result<Vec<ToldRange, A>, ReadFault>
-        ensures ok { IfOk result (λ ranges. (ranges.items ≡ self.ranges) × (self.line.place ≡ Digits Bus 0)) }
+    pub(crate) fn finish(self) -> Result<ToldList<A>, ReadFault>
+        requires { IsTold self.ranges }
+        ensures ok { IfOk result (λ list. (list ≡ self.ranges) × (self.line.place ≡ Digits Bus 0)) }
         ensures err { IfErr result (λ fault. (fault ≡ ReadFault.Ended (length self.ranges + 1)) × (self.line.place ≡ Digits Bus 0 → ⊥)) }
     {
         if self.line.is_new() {
-            Ok(self.ranges)
+            Ok(ToldList::of(self.ranges))
         } else {
             Err(ReadFault::Ended(self.number()))
         }

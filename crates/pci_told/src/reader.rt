@@ -5,7 +5,7 @@ ghost use Rattle.given_spec.specs.ToldText.{IsToldTextOf};
 ghost use Rattle.pci_told.specs.Faults.{IsToldTextFault};
 
 use super::lines::Lines;
-use super::told_range::ToldRange;
+use super::told_list::ToldList;
 use pci_dump::read_fault::ReadFault;
 use pci_dump::streams::{Failed, Source};
 use std::alloc::Allocator;
@@ -22,12 +22,12 @@ const CHUNK_LEN: usize = 4096;
 pub fn read_told<S: Source, A: Allocator>(
     alloc: A,
     source: &mut S,
-) -> Result<Vec<ToldRange, A>, ReadFault>
-    ensures ok { IfOk result (λ ranges. (bytes : List ℕ) → S.left source.old ≡ Some bytes
-        → IsToldTextOf bytes ranges.items) }
+) -> Result<ToldList<A>, ReadFault>
+    ensures ok { IfOk result (λ list. (bytes : List ℕ) → S.left source.old ≡ Some bytes
+        → IsToldTextOf bytes list) }
     // text and ranges are one to one, so no others can have been meant
-    ensures only { IfOk result (λ ranges. (bytes : List ℕ) → S.left source.old ≡ Some bytes
-        → (others : List RangeValue) → IsToldTextOf bytes others → others ≡ ranges.items) }
+    ensures only { IfOk result (λ list. (bytes : List ℕ) → S.left source.old ≡ Some bytes
+        → (others : List RangeValue) → IsToldTextOf bytes others → others ≡ list) }
     ensures fine { OnOk result (S.failures source.new ≡ S.failures source.old) }
     // 1 and 2 may come at any text, so they say nothing of this one
     ensures fault { IfErr result (λ fault. (bytes : List ℕ) → S.left source.old ≡ Some bytes

@@ -89,7 +89,7 @@ const TEXTS: &[(&[u8], Result<usize, ReadFault>)] = &[
 /// How many ranges a text has, where it is one.
 fn outcome(rt: &HostRuntime, text: &[u8]) -> Result<usize, ReadFault> {
     match read_told(rt.alloc(), &mut Incoming::new(text)) {
-        Ok(ranges) => Ok(ranges.len()),
+        Ok(list) => Ok(list.as_slice().len()),
         Err(fault) => Err(fault),
     }
 }
@@ -136,8 +136,8 @@ fn is_second(range: &ToldRange) -> bool {
 
 #[test]
 fn a_line_tells_all_its_fields(rt: HostRuntime) {
-    let ranges = read_told(rt.alloc(), &mut Incoming::new(TWO));
-    assert!(rt; matches!(&ranges, Ok(ranges) if ranges.last().is_some_and(is_second)));
+    let list = read_told(rt.alloc(), &mut Incoming::new(TWO));
+    assert!(rt; matches!(&list, Ok(list) if list.as_slice().last().is_some_and(is_second)));
 }
 
 /// The same line so many times.

@@ -4,7 +4,7 @@ use Rattle.std.proofs.lemmas.Result.{err_from_is_err_and}
 use Rattle.given_spec.specs.ToldForm.{ToldSoFar}
 use Rattle.given_spec.proofs.ToldRows.{one_row}
 use Rattle.pci_told.specs.Faults.{IsToldTextFault}
-use Rattle.pci_told.proofs.Taken.{IsReadOn, read_none, read_more, read_over, read_begun, read_further, read_fault, read_whole, read_ended, ok_by, err_by}
+use Rattle.pci_told.proofs.Taken.{IsReadOn, read_none, read_more, read_over, read_begun, read_ranges, read_further, read_fault, read_whole, read_ended, ok_by, err_by}
 use Rattle.given_spec.specs.ToldText.{IsToldTextOf}
 use Rattle.given_spec.specs.Told.{ToldRange}
 use Rattle.pci_told.proofs.reader.read_told.Goals as goal
@@ -52,6 +52,9 @@ returns-then-len-eq0-clause-fault g c =
 
 pub take_all-requires : goal.take_all-requires
 take_all-requires g c = read_begun (g.S.Source.left c.args.source.now) (g.S.Source.left c.loop-lines.source) c.loop-lines.lines c.loop-lines.invariant.read
+
+pub finish-requires : goal.finish-requires
+finish-requires g c = read_ranges (g.S.Source.left c.args.source.now) (g.S.Source.left c.loop-lines.source) c.loop-lines.lines c.loop-lines.invariant.read
 
 pub loop-lines-smaller : goal.loop-lines-smaller
 loop-lines-smaller g c =
