@@ -15,18 +15,17 @@ use Rattle.model_spec.specs.Taken.{function_with_image, without_buses}
 
 -- ---- off
 
-without_low_bits : (image : List ℕ) → IsImage image → byte_at (switched_off image) COMMAND ≡ byte_at image COMMAND / 4 * 4
-without_low_bits image is =
-    let full = is.full in
+pub without_low_bits : (image : List ℕ) → length image ≡ 256 → byte_at (switched_off image) COMMAND ≡ byte_at image COMMAND / 4 * 4
+without_low_bits image full =
     get_or-set_other (set image COMMAND (byte_at image COMMAND / 4 * 4)) STATUS COMMAND _ 0 (λ e. cc e)
     ∙ get_or-set_same image COMMAND _ 0 (omega (arith, full))
 
 off_space : (image : List ℕ) (i : ℕ) → IsImage image → i < 2 → has_bit (command (switched_off image)) i ≡ false
 off_space image zero is small =
-    let low = without_low_bits image is in
+    let low = without_low_bits image is.full in
     ne_eqb (bit_at (command (switched_off image)) 0) 1 (λ one. omega (arith, one, low))
 off_space image (suc zero) is small =
-    let low = without_low_bits image is in
+    let low = without_low_bits image is.full in
     ne_eqb (bit_at (command (switched_off image)) 1) 1 (λ one. omega (arith, one, low))
 off_space image (suc (suc i)) is small = absurd (omega (arith, small))
 

@@ -3,5 +3,6 @@ pub mod Reset
 pub mod Unnumbered
 pub mod Ide
 pub mod Power
+pub mod Asleep
 pub mod Windows
 pub mod WordLists

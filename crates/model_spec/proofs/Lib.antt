@@ -3,6 +3,7 @@ pub mod Examples
 pub mod Kept
 pub mod NoEnables
 mod HeaderLaws
+mod Asleep
 mod Others
 mod ShownWindows
 mod Sockets

@@ -193,6 +193,13 @@ taken_has_none bit which w slots f h start_is taken =
 vga_full : (w : Words) (f : Function) → length f.image ≡ 256 → length (vga_aside_by w f).image ≡ 256
 vga_full w f full = cond_both (is_some w.vga) (vga_aside f) f (λ x. length x.image ≡ 256) (λ counts. (vga_off f.image full).full) (λ other. full)
 
+pub first_full : (w : Words) (f : Function) → length f.image ≡ 256 → length (first_aside w f).image ≡ 256
+first_full w f full =
+    let shown = aside_differs w f in
+    let first = vga_aside_by w (windows_aside w f) in
+    let first_is = vga_full w (windows_aside w f) (shown.full ∙ full) in
+    cond_both w.isa (isa_aside first) first (λ x. length x.image ≡ 256) (λ counts. (isa_off first.image first_is).full) (λ other. first_is)
+
 pub taken_has_no_vga_enable : TakenHasNoVgaEnable
 taken_has_no_vga_enable w slots f h is counts taken =
     let shown = aside_differs w f in

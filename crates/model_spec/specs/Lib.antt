@@ -3,4 +3,6 @@ pub mod Bytes
 pub mod Windows
 pub mod Taken
 pub mod TakenDumps
+pub mod Asleep
 pub mod WordsLaws
+pub mod AsleepLaws

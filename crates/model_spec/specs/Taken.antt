@@ -59,6 +59,10 @@ has_legacy_by w f = is_some w.vga && has_legacy f
 abbrev pub IsAsleep : Function → Type 0
 IsAsleep f = HasNoOwnFaultBefore Profile f × IsNotInD0 f.image
 
+-- one that is taken as asleep: `power` counts, and the function is asleep behind what is left aside first
+abbrev pub IsAsleepBy : Words → Function → Type 0
+IsAsleepBy w f = IsTrue w.power × IsAsleep (first_aside w f)
+
 -- ---- reset, subtractive
 
 -- a bridge without Secondary Bus Reset, where it may be left out (Bridge 1.2, 3.2.5.18)
@@ -179,7 +183,7 @@ IsWhere Condition f changed g = (Condition × (g ≡ changed)) ⊎ ((Condition �
 pub record IsTakenAs (w : Words) (slots : List Slot) (f h : Function) : Type 0 where
   pub g : Function
   pub k : Function
-  pub power : IsWhere (IsTrue w.power × IsAsleep (first_aside w f)) (first_aside w f)
+  pub power : IsWhere (IsAsleepBy w f) (first_aside w f)
       (function_with_image (first_aside w f) (switched_off (first_aside w f).image)) g
   pub parts : IsWhere
       (IsTrue (may_have_parts_by w (bridge_aside w slots g))

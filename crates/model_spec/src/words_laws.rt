@@ -1,6 +1,7 @@
 //! Laws of words. These functions do nothing: each contract is a law.
 
 ghost use Rattle.model_spec.specs.WordsLaws.{NoWordsChangeNothing, SlotsAreKept, OffByWordsClaimsNothing, OffShowsNoState, OutOfResetIs, PositiveIs, DeviceLeadsNowhere, SocketIsBare, SocketShowsNoState, ShownWindowsAreLawful, ShownWindowsKeepPages, TakenHasNoIsaEnable, TakenHasNoVgaEnable, NoPartsChangeNothing, IdeLeavesOthers, UnnumberedLeavesOthers, UnnumberedLeavesNumbers, CardbusLeavesOthers, OthersLeaveCardbus, IsaLeavesOthers, WindowsLeaveOthers, BothLeaveOthers, IdeAloneLeavesOthers, UnnumberedAloneLeavesOthers};
+ghost use Rattle.model_spec.specs.AsleepLaws.{AsleepAreDetermined, AsleepAreListed, NoneIsAsleepWithoutPower, AsleepEnableNothing};
 
 /// Without words a system is taken as it is.
 pub fn no_words_change_nothing()
@@ -67,4 +68,16 @@ pub fn words_leave_other_headers_alone()
     ensures windows { WindowsLeaveOthers }
     ensures both { BothLeaveOthers }
     ensures others { OthersLeaveCardbus }
+{}
+
+/// The functions that are taken as asleep have one list of slots, which is empty where `power` doesn't count.
+pub fn sleepers_are_listed()
+    ensures determined { AsleepAreDetermined }
+    ensures listed { AsleepAreListed }
+    ensures without { NoneIsAsleepWithoutPower }
+{}
+
+/// What is taken as asleep enables nothing.
+pub fn sleepers_enable_nothing()
+    ensures off { AsleepEnableNothing }
 {}

@@ -3,4 +3,5 @@ pub mod Behind
 pub mod Channels
 pub mod ShownWindows
 pub mod Takes
+pub mod Sleepers
 pub mod Parts

@@ -64,6 +64,16 @@ field_more {X} field dump found i b c so_far inside at same =
     map-append field found (b ∷ []) ∙ ap (λ (xs : List X). xs ++ field b ∷ []) so_far ∙ ap (λ (x : X). take i (map field dump) ++ x ∷ []) (same ∙ sym there)
     ∙ sym (take_more (map field dump) i (field c) (omega (arith, size, inside)))
 
+-- one function more
+pub functions_more : (dump probe : List Block) (i : ℕ) (c q : Block) → slots_of dump ≡ slots_of probe → i < length dump → c ≡ get_or dump i c → q ≡ get_or probe i q
+    → take (i + 1) (system_of dump probe) ≡ take i (system_of dump probe) ++ function_of c q ∷ []
+functions_more dump probe i c q same inside c_at q_at =
+    let count = same_length dump probe same in
+    let size = length-system_of dump probe count in
+    let f_at : get_or (system_of dump probe) i (function_of c q) ≡ function_of c q =
+    function-at dump probe i c q (function_of c q) inside (omega (arith, count, inside)) ∙ ap (λ (d : Block). function_of d (get_or probe i q)) (sym c_at) ∙ ap (λ (d : Block). function_of c d) (sym q_at) in
+    take_more (system_of dump probe) i (function_of c q) (omega (arith, size, inside)) ∙ ap (λ f. take i (system_of dump probe) ++ f ∷ []) f_at
+
 -- one more
 pub next_taken : (w : Words) (dump probe : List Block) (i : ℕ) (found found_probe : List Block) (b p c q : Block) → slots_of dump ≡ slots_of probe
     → AreTakenSoFar w dump probe i found found_probe → i < length dump
@@ -71,12 +81,8 @@ pub next_taken : (w : Words) (dump probe : List Block) (i : ℕ) (found found_pr
     → AreTakenSoFar w dump probe (i + 1) (found ++ b ∷ []) (found_probe ++ p ∷ [])
 next_taken w dump probe i found found_probe b p c q same so_far inside c_at q_at slot probe_slot probe_title taken =
     let count = same_length dump probe same in
-    let size = length-system_of dump probe count in
     let in_probe : i < length probe = omega (arith, count, inside) in
-    let f_at : get_or (system_of dump probe) i (function_of c q) ≡ function_of c q =
-    function-at dump probe i c q (function_of c q) inside in_probe ∙ ap (λ (d : Block). function_of d (get_or probe i q)) (sym c_at) ∙ ap (λ (d : Block). function_of c d) (sym q_at) in
-    let functions : take (i + 1) (system_of dump probe) ≡ take i (system_of dump probe) ++ function_of c q ∷ [] =
-    take_more (system_of dump probe) i (function_of c q) (omega (arith, size, inside)) ∙ ap (λ f. take i (system_of dump probe) ++ f ∷ []) f_at in
+    let functions = functions_more dump probe i c q same inside c_at q_at in
     let own = count_of dump found i so_far.slots (omega (arith, inside)) in
     let own_probe = count_of probe found_probe i so_far.probe_slots (omega (arith, in_probe)) in
     let R : Function → Function → Type 0 = IsTakenAs w (slots_of dump) in

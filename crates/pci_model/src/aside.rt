@@ -16,6 +16,7 @@ use super::bytes::{
     take_out_of_reset,
 };
 use super::listed_behind::is_anyone_behind;
+use super::windows::windows_aside;
 use super::words::Words;
 use pci_base::image::Image;
 use pci_base::offset::INTERFACE;
@@ -49,7 +50,7 @@ pub fn has_legacy(image: &Image, words: Words) -> bool
 }
 
 /// Leaves VGA Enable aside, where a word for legacy parts counts.
-pub fn vga_aside(image: &mut Image, words: Words)
+fn vga_aside(image: &mut Image, words: Words)
     ensures { (slot : SlotValue) (probe : List ℕ)
         → record { slot = slot; image = image.new.0; probe = probe }
         ≡ taken.vga_aside_by (words_value words) record
@@ -61,7 +62,7 @@ pub fn vga_aside(image: &mut Image, words: Words)
 }
 
 /// Leaves ISA Enable aside, where the word for it counts.
-pub fn isa_aside(image: &mut Image, words: Words)
+fn isa_aside(image: &mut Image, words: Words)
     ensures { (slot : SlotValue) (probe : List ℕ)
         → record { slot = slot; image = image.new.0; probe = probe }
         ≡ taken.isa_aside_by (words_value words) record
@@ -70,6 +71,18 @@ pub fn isa_aside(image: &mut Image, words: Words)
     if words.isa {
         set_isa_aside(image);
     }
+}
+
+/// Leaves aside what is left aside before anything is asked of a function: the read backs of windows, VGA Enable and ISA
+/// Enable.
+pub fn first_aside(image: &mut Image, probe: &mut Image, words: Words)
+    ensures { (slot : SlotValue) → record { slot = slot; image = image.new.0; probe = probe.new.0 }
+        ≡ taken.first_aside (words_value words) record
+        { slot = slot; image = image.old.0; probe = probe.old.0 } }
+{
+    windows_aside(image, probe, words);
+    vga_aside(image, words);
+    isa_aside(image, words);
 }
 
 /// Leaves a bridge's reset and its subtractive decoding aside, where these count and nothing is listed behind it.

@@ -8,6 +8,7 @@
 #![tactic(auto)]
 
 pub mod aside;
+pub mod asleep;
 pub mod bytes;
 pub mod listed_behind;
 pub mod power;

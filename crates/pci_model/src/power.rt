@@ -42,7 +42,7 @@ fn shows_sleep(image: &Image) -> bool
 }
 
 /// Whether a function whose registers and list decode isn't in D0.
-fn is_asleep(slot: Slot, image: &Image, probe: &Image) -> bool
+pub fn is_asleep(slot: Slot, image: &Image, probe: &Image) -> bool
     ensures { IsTrue result ↔ IsAsleep record
         { slot = slot; image = image.now.0; probe = probe.now.0 } }
 {

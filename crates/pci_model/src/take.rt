@@ -6,10 +6,9 @@ ghost use Rattle.model_spec.specs.Taken.{IsTakenAs};
 ghost use Rattle.model_spec.specs.TakenDumps.{AreTakenAs};
 ghost use Rattle.pci_model.specs.WordsValue.{words_value};
 
-use super::aside::{bridge_aside, has_legacy, isa_aside, parts_aside, vga_aside};
+use super::aside::{bridge_aside, first_aside, has_legacy, parts_aside};
 use super::power::take_asleep;
 use super::socket::cardbus_aside;
-use super::windows::windows_aside;
 use super::words::Words;
 use pci_base::image::Image;
 use pci_base::memory::OutOfMemory;
@@ -33,9 +32,7 @@ fn take(slot: Slot, image: &mut Image, probe: &mut Image, blocks: &[Block], word
         record { slot = slot; image = image.new.0; probe = probe.new.0 } }
 {
     let legacy = has_legacy(image, words);
-    windows_aside(image, probe, words);
-    vga_aside(image, words);
-    isa_aside(image, words);
+    first_aside(image, probe, words);
     take_asleep(slot, image, probe, words);
     bridge_aside(image, blocks, words);
     parts_aside(slot, image, probe, legacy, words);

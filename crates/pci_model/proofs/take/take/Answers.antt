@@ -1,9 +1,9 @@
-use Rattle.std.proofs.Common.{◌≡◌, ◌∙◌, Bool, IsTrue, ap, subst}
+use Rattle.std.proofs.Common.{◌≡◌, Bool, IsTrue, subst}
 use Rattle.pci_spec.specs.Text.{slots_of}
 use Rattle.pci_spec.specs.System.{Function}
 use Rattle.pci_spec.specs.Order.{Place}
 use Rattle.model_spec.specs.Bytes.{switched_off}
-use Rattle.model_spec.specs.Taken.{HasNoOwnFaultBefore, IsAsleep, IsWhere, bridge_aside, cardbus_aside, first_aside, has_legacy_by, isa_aside_by, may_have_parts_by, parts_aside, vga_aside_by, windows_aside, function_with_image}
+use Rattle.model_spec.specs.Taken.{HasNoOwnFaultBefore, IsAsleep, IsWhere, bridge_aside, first_aside, has_legacy_by, may_have_parts_by, parts_aside, function_with_image}
 use Rattle.pci_model.specs.WordsValue.{words_value}
 use Rattle.pci_model.proofs.take.take.Goals as goal
 
@@ -12,17 +12,13 @@ returns c =
     let w = words_value c.args.words in
     let slots = slots_of c.args.blocks.now in
     let slot = c.args.slot in
-    let probe = c.windows_aside.new.probe.0 in
+    let probe = c.first_aside.new.probe.0 in
     let f : Function = record { slot = slot; image = c.args.image.now.0; probe = c.args.probe.now.0 } in
-    let s : Function = record { slot = slot; image = c.windows_aside.new.image.0; probe = probe } in
-    let v : Function = record { slot = slot; image = c.vga_aside.new.image.0; probe = probe } in
     let g : Function = record { slot = slot; image = c.take_asleep.new.image.0; probe = probe } in
     let b : Function = record { slot = slot; image = c.bridge_aside.new.image.0; probe = probe } in
     let k : Function = record { slot = slot; image = c.parts_aside.new.image.0; probe = c.parts_aside.new.probe.0 } in
-    let s_is : s ≡ windows_aside w f = c.windows_aside.ensures slot in
-    let a : Function = record { slot = slot; image = c.isa_aside.new.image.0; probe = probe } in
-    let v_is : v ≡ vga_aside_by w (windows_aside w f) = c.vga_aside.ensures slot probe ∙ ap (vga_aside_by w) s_is in
-    let a_is : a ≡ first_aside w f = c.isa_aside.ensures slot probe ∙ ap (isa_aside_by w) v_is in
+    let a : Function = record { slot = slot; image = c.first_aside.new.image.0; probe = probe } in
+    let a_is : a ≡ first_aside w f = c.first_aside.ensures slot in
     let b_is : b ≡ bridge_aside w slots g = c.bridge_aside.ensures slot probe in
     let legacy_is : c.has_legacy-legacy.result ≡ has_legacy_by w f = c.has_legacy-legacy.ensures slot c.args.probe.now.0 in
     let by_own : IsWhere (IsTrue (may_have_parts_by w b) × HasNoOwnFaultBefore Place b) b (parts_aside w (has_legacy_by w f) b) k =
