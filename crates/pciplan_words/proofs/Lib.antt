@@ -1,3 +1,4 @@
 mod CommandWords
 mod CommandLines
 mod FurtherLines
+mod Also

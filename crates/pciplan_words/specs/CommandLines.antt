@@ -28,15 +28,15 @@ checking = with_rule (with_paths (codes "check")) (option_rule (codes "root"))
 
 abbrev pub listing_app : App
 listing_app =
-    with_rule (with_rule (with_rule (with_rule (with_rule (with_paths (codes "faults"))
+    with_rule (with_rule (with_rule (with_rule (with_rule (with_rule (with_paths (codes "faults"))
     (option_rule (codes "root"))) (option_rule (codes "model"))) (option_rule (codes "host-io")))
-    (option_rule (codes "host-mem"))) (flag_rule (codes "why"))
+    (option_rule (codes "host-mem"))) (option_rule (codes "also"))) (flag_rule (codes "why"))
 
 abbrev pub mapping : App
 mapping =
-    with_rule (with_rule (with_rule (with_rule (with_paths (codes "map"))
+    with_rule (with_rule (with_rule (with_rule (with_rule (with_paths (codes "map"))
     (option_rule (codes "root"))) (option_rule (codes "model"))) (option_rule (codes "host-io")))
-    (option_rule (codes "host-mem"))
+    (option_rule (codes "host-mem"))) (option_rule (codes "also"))
 
 abbrev pub planning : App
 planning =

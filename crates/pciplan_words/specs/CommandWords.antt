@@ -25,6 +25,7 @@ pub record HasFaultsWords (rows : List Row) (words : FaultsWords) : Type 0 where
   pub model : first_of (codes "model") rows ≡ word_of words.model
   pub host_io : first_of (codes "host-io") rows ≡ word_of words.host_io
   pub host_mem : first_of (codes "host-mem") rows ≡ word_of words.host_mem
+  pub also : first_of (codes "also") rows ≡ word_of words.also
   pub why : IsFlag (one_of (codes "why") rows) words.why
 
 -- the words of the options of `map`
@@ -33,6 +34,7 @@ pub record HasMapWords (rows : List Row) (words : MapWords) : Type 0 where
   pub model : first_of (codes "model") rows ≡ word_of words.model
   pub host_io : first_of (codes "host-io") rows ≡ word_of words.host_io
   pub host_mem : first_of (codes "host-mem") rows ≡ word_of words.host_mem
+  pub also : first_of (codes "also") rows ≡ word_of words.also
 
 -- the words of the options of `plan`
 pub record HasPlanWords (rows : List Row) (words : PlanWords) : Type 0 where

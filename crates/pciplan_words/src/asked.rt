@@ -47,6 +47,8 @@ pub struct FaultsWords<'a> {
     pub host_io: Option<&'a str>,
     /// The list of memory addresses that the host sends to its root buses, where it is said.
     pub host_mem: Option<&'a str>,
+    /// The path of a text of told ranges, where there is one.
+    pub also: Option<&'a str>,
     /// Whether what stands behind each fault is asked for.
     pub why: bool,
 }
@@ -62,6 +64,8 @@ pub struct MapWords<'a> {
     pub host_io: Option<&'a str>,
     /// The list of memory addresses that the host sends to its root buses, where it is said.
     pub host_mem: Option<&'a str>,
+    /// The path of a text of told ranges, where there is one.
+    pub also: Option<&'a str>,
 }
 
 /// The task that is asked for, with the words of its options.

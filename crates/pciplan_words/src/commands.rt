@@ -25,6 +25,9 @@ pub const HOST_IO: &str = "host-io";
 
 pub const HOST_MEM: &str = "host-mem";
 
+/// The name of the option that names a text of the addresses that functions answer beside their BARs and ROMs.
+pub const ALSO: &str = "also";
+
 /// The name of the option that asks for what stands behind faults.
 pub const WHY: &str = "why";
 
@@ -123,6 +126,7 @@ const SUBCOMMANDS: [Subcommand<'static>; 8] = [
             Argument::Word(MODEL),
             Argument::Word(HOST_IO),
             Argument::Word(HOST_MEM),
+            Argument::Word(ALSO),
             Argument::Flag(WHY),
         ],
     },
@@ -133,6 +137,7 @@ const SUBCOMMANDS: [Subcommand<'static>; 8] = [
             Argument::Word(MODEL),
             Argument::Word(HOST_IO),
             Argument::Word(HOST_MEM),
+            Argument::Word(ALSO),
         ],
     },
     Subcommand {

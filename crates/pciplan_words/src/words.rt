@@ -11,8 +11,8 @@ ghost use Rattle.pciplan_words.specs.declared.asked.WordsFault.{WordsFault};
 
 use crate::asked::{Asked, FaultsWords, Given, MapWords, PlanWords, SettleWords, WordsFault};
 use crate::commands::{
-    ANEW, DUMP, EXACT, FIXED, HOST_IO, HOST_MEM, IO, LEAST, MEM, MODEL, PREF, PROBE, ROOT, SLOTS,
-    SPARE, WHY, WRITES, command,
+    ALSO, ANEW, DUMP, EXACT, FIXED, HOST_IO, HOST_MEM, IO, LEAST, MEM, MODEL, PREF, PROBE, ROOT,
+    SLOTS, SPARE, WHY, WRITES, command,
 };
 use clap::ArgMatches;
 use std::alloc::{AllocError, Global};
@@ -49,6 +49,7 @@ fn faults_words<'a>(found: &ArgMatches<'a>) -> FaultsWords<'a>
         model: found.get_str(MODEL),
         host_io: found.get_str(HOST_IO),
         host_mem: found.get_str(HOST_MEM),
+        also: found.get_str(ALSO),
         why: found.get_flag(WHY),
     }
 }
@@ -62,6 +63,7 @@ fn map_words<'a>(found: &ArgMatches<'a>) -> MapWords<'a>
         model: found.get_str(MODEL),
         host_io: found.get_str(HOST_IO),
         host_mem: found.get_str(HOST_MEM),
+        also: found.get_str(ALSO),
     }
 }
 

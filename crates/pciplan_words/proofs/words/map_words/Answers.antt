@@ -11,4 +11,5 @@ returns c =
       model = word_there found (codes "model") c.get_str-2.result c.get_str-2.ensures;
       host_io = word_there found (codes "host-io") c.get_str-3.result c.get_str-3.ensures;
       host_mem = word_there found (codes "host-mem") c.get_str-4.result c.get_str-4.ensures;
+      also = word_there found (codes "also") c.get_str-5.result c.get_str-5.ensures;
     }
