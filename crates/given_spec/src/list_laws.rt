@@ -2,10 +2,12 @@
 
 ghost use Rattle.given_spec.specs.ListLaws.{SameList, SameTextOfAll, FirstOfListIsFirst};
 ghost use Rattle.given_spec.specs.Numbered.{AllOfFour};
+ghost use Rattle.given_spec.specs.ToldNumbered as told;
 
-/// The faults of each number, one list behind the other, are all of judging.
+/// The faults of each number, one list behind the other, are all of judging, whatever is told.
 pub fn lists_of_numbers_are_all()
-    ensures { AllOfFour }
+    ensures given { AllOfFour }
+    ensures told { told.AllOfFour }
 {}
 
 /// With nothing given the list of all faults is the one without it, and so is its text; the first fault of that list is the
