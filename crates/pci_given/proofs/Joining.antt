@@ -1,41 +1,46 @@
--- Lists of faults of judging, one behind the other.
-use Rattle.std.proofs.Common.{◌≡◌, List, ◌++◌, map, sym, ◌∙◌, ap, subst}
+-- Lists of faults of judging, one behind the other, with what is given and told.
+use Rattle.std.proofs.Common.{◌≡◌, List, [], ◌∷◌, ◌++◌, map, refl, sym, ◌∙◌, ap}
 use Rattle.std.proofs.lemmas.List.{map-append}
-use Rattle.std.proofs.lemmas.Simd.{map-map}
-use Rattle.pci_function.specs.declared.fault.Fault.{Fault}
-use Rattle.pci_function.specs.Fault.{fault_of}
 use Rattle.pci_tree.specs.Outline.{Tree}
 use Rattle.given_spec.specs.Given.{Given}
-use Rattle.given_spec.specs.Fault as spec
-use Rattle.given_spec.specs.AllFaults.{AreAllOfJudging}
-use Rattle.given_spec.proofs.Numbers.{all_of_four}
+use Rattle.given_spec.specs.Fault as untold
+use Rattle.given_spec.specs.ToldClaims.{Told}
+use Rattle.given_spec.specs.ToldFault as spec
+use Rattle.given_spec.proofs.Numbers.{told_all_of_four}
 use Rattle.pci_given.specs.declared.any_fault.AnyFault.{AnyFault}
-use Rattle.pci_given.specs.declared.any_fault.AnyFault.TheVariants.{OutsideHost, Known}
-use Rattle.pci_given.specs.declared.outside_lines.Outside as outside
-use Rattle.pci_given.specs.OutsideLines.{outside_of, AreAllOutside}
-use Rattle.pci_given.specs.UnreachedLines.{AreAllUnreached}
-use Rattle.pci_given.specs.Clashes.{AreAllClashes}
-use Rattle.pci_given.specs.Splits.{AreAllSplits}
-use Rattle.pci_given.specs.AllLines.{judged_of, AreAllLines}
+use Rattle.pci_given.specs.declared.any_fault.AnyFault.TheVariants as codes
+use Rattle.pci_given.specs.declared.named.Unreached.{Unreached}
+use Rattle.pci_given.specs.declared.named.Clash.{Clash}
+use Rattle.pci_given.specs.declared.named.Split.{Split}
+use Rattle.pci_given.specs.declared.named.Outside.{Outside}
+use Rattle.pci_given.specs.Named.{unreached_of, clash_of, split_of, outside_of, AreAllOutside, AreAllUnreached, AreAllClashes, AreAllSplits}
+use Rattle.pci_given.specs.AllLines.{fault_of, AreAllLines}
 
-abbrev known : Fault → spec.Fault
-known f = spec.Known (fault_of f)
+module _ {X : Type 0} (code : X → AnyFault) (of : X → untold.Fault) (is : (x : X) → fault_of (code x) ≡ spec.Known (of x)) where
+  coded : (fs : List X) → map fault_of (map code fs) ≡ map spec.Known (map of fs)
+  coded [] = refl
+  coded (f ∷ fs) = ap (λ (l : List spec.Fault). fault_of (code f) ∷ l) (coded fs) ∙ ap (λ (g : spec.Fault). g ∷ map spec.Known (map of fs)) (is f)
 
--- what is added to a list comes behind its faults
-more_known : (xs : List AnyFault) (fs : List Fault) → map judged_of (xs ++ map (λ f. Known f) fs) ≡ map judged_of xs ++ map known fs
-more_known xs fs = map-append judged_of xs (map (λ f. Known f) fs) ∙ ap (λ (l : List spec.Fault). map judged_of xs ++ l) (map-map judged_of (λ f. Known f) fs)
+  -- these are added to what is there
+  behind : (xs : List AnyFault) (judged : List untold.Fault) (fs : List X) → map fault_of xs ≡ map spec.Known judged → map fault_of (xs ++ map code fs) ≡ map spec.Known (judged ++ map of fs)
+  behind xs judged fs are =
+      map-append fault_of xs (map code fs) ∙ ap (λ (l : List spec.Fault). l ++ map fault_of (map code fs)) are
+      ∙ ap (λ (l : List spec.Fault). map spec.Known judged ++ l) (coded fs) ∙ sym (map-append spec.Known judged (map of fs))
 
-module _ (o : List outside.Outside) (u k s : List Fault) where
+module _ (o : List Outside) (u : List Unreached) (k : List Clash) (s : List Split) where
   abbrev joined : List AnyFault
-  joined = (((map (λ x. OutsideHost x) o) ++ map (λ f. Known f) u) ++ map (λ f. Known f) k) ++ map (λ f. Known f) s
+  joined = ((map (λ f. codes.OutsideHost f) o ++ map (λ f. codes.Unreached f) u) ++ map (λ f. codes.Clash f) k) ++ map (λ f. codes.Split f) s
 
-  joined_is : map judged_of joined ≡ map outside_of o ++ map known u ++ map known k ++ map known s
-  joined_is =
-      more_known _ s ∙ ap (λ (l : List spec.Fault). l ++ map known s) (more_known _ k ∙ ap (λ (l : List spec.Fault). l ++ map known k) (more_known _ u
-      ∙ ap (λ (l : List spec.Fault). l ++ map known u) (map-map judged_of (λ x. OutsideHost x) o)))
+  joined_are : map fault_of joined ≡ map spec.Known (map outside_of o ++ map unreached_of u ++ map clash_of k ++ map split_of s)
+  joined_are =
+      behind (λ f. codes.Split f) split_of (λ f. refl) _ _ s (behind (λ f. codes.Clash f) clash_of (λ f. refl) _ _ k
+      (behind (λ f. codes.Unreached f) unreached_of (λ f. refl) _ _ u (coded (λ f. codes.OutsideHost f) outside_of (λ f. refl) o)))
 
-  pub all_lines : (given : Given) (t : Tree) (list : List AnyFault) → list ≡ joined → AreAllOutside given t o → AreAllUnreached given t u → AreAllClashes given t k → AreAllSplits given t s
-      → AreAllLines given t list
-  all_lines given t list is outsides unreached clashes splits sys tree =
-      subst (λ (l : List spec.Fault). AreAllOfJudging given t.roots sys l) (sym (ap (map judged_of) is ∙ joined_is))
-      (all_of_four given t.roots sys (map outside_of o) (map known u) (map known k) (map known s) (outsides sys tree) (unreached sys tree) (clashes sys tree) (splits sys tree))
+  pub all_lines : (told : Told) (given : Given) (t : Tree) (list : List AnyFault) → list ≡ joined → AreAllOutside told given t o → AreAllUnreached told given t u → AreAllClashes told given t k
+      → AreAllSplits told given t s → AreAllLines told given t list
+  all_lines told given t list is outsides unreached clashes splits = record {
+    judged = map outside_of o ++ map unreached_of u ++ map clash_of k ++ map split_of s;
+    are = ap (map fault_of) is ∙ joined_are;
+    all = λ sys tree listed. told_all_of_four told given t.roots sys (map outside_of o) (map unreached_of u) (map clash_of k) (map split_of s)
+        (outsides sys tree listed) (unreached sys tree listed) (clashes sys tree listed) (splits sys tree listed);
+  }

@@ -17,4 +17,9 @@ pub mod SplitNaming
 pub mod AllSplitting
 pub mod Joining
 pub mod WithNothing
-pub mod EveryGiven
+pub mod NamedSlots
+pub mod Leading
+pub mod ToldFirst
+pub mod ToldPlaces
+pub mod ToldEarly
+pub mod EveryTold

@@ -1,29 +1,47 @@
--- The list of judging with nothing given is the one without it.
-use Rattle.std.proofs.Common.{◌≡◌, true, false, ◌||◌, List, [], ◌∷◌, Option, None, Some, length, map, option_map, refl, sym, ◌∙◌, ap, subst, arith}
+-- The list of judging with nothing given and nothing told is the one without either.
+use Rattle.std.proofs.Common.{◌≡◌, true, false, ◌||◌, List, [], ◌∷◌, ◌++◌, Option, None, Some, length, map, take, option_map, refl, sym, ◌∙◌, ap, arith, ℕ, ◌+◌, ◌<◌, get_or}
 use Rattle.std.specs.Prelude.{◌==◌, is_some, not}
 use Rattle.std.proofs.lemmas.Bool.{both_ways, or_parts}
+use Rattle.std.proofs.lemmas.List.{take_more, append_assoc, map_push}
+use Rattle.pci_spec.specs.Slot.{Slot}
 use Rattle.pci_function.specs.declared.fault.Fault.{Fault}
-use Rattle.pci_function.specs.Fault.{fault_of}
+use Rattle.pci_function.specs.Fault as plain
 use Rattle.pci_tree.specs.Outline.{Tree}
 use Rattle.pci_faults.specs.Lines.{AreAllListed}
 use Rattle.given_spec.specs.Given.{nothing_given}
-use Rattle.given_spec.specs.Fault as spec
-use Rattle.given_spec.specs.AllFaults.{AreAllOfJudging}
+use Rattle.given_spec.specs.Fault as untold
+use Rattle.given_spec.specs.ToldClaims.{nothing_told}
+use Rattle.given_spec.specs.ToldFault as spec
 use Rattle.given_spec.proofs.PlainLists.{plain_judging}
+use Rattle.given_spec.proofs.NothingTold.{judging_same}
 use Rattle.pci_given.specs.declared.any_fault.AnyFault.{AnyFault}
-use Rattle.pci_given.specs.declared.any_fault.AnyFault.TheVariants.{Known}
-use Rattle.pci_claims.specs.Values.{given_value, host_value, legacy_value}
+use Rattle.pci_claims.specs.Values.{given_value, told_value, host_value, legacy_value}
 use Rattle.pci_claims.specs.declared.given.Given as claims
-use Rattle.pci_given.specs.AllLines.{judged_of, AreAllLines, is_given}
+use Rattle.pci_claims.specs.declared.told.Told as told
+use Rattle.pci_given.specs.AllLines.{fault_of, plain_fault, AreAllLines, is_given}
 
-pub known_values : (list : List Fault) → map judged_of (map (λ f. Known f) list) ≡ map (λ f. spec.Known f) (map fault_of list)
+-- ---- faults to which no told range belongs
+
+pub known_values : (list : List Fault) → map plain_fault list ≡ map spec.Known (map untold.Known (map plain.fault_of list))
 known_values [] = refl
-known_values (f ∷ rest) = ap (λ l. spec.Known (fault_of f) ∷ l) (known_values rest)
+known_values (f ∷ rest) = ap (λ l. plain_fault f ∷ l) (known_values rest)
 
-pub plain_lines : (t : Tree) (known : List Fault) (list : List AnyFault) → list ≡ map (λ f. Known f) known → AreAllListed t known → AreAllLines nothing_given t list
-plain_lines t known list is listed s tree =
-    subst (λ (l : List spec.Fault). AreAllOfJudging nothing_given t.roots s l) (sym (ap (map judged_of) is ∙ known_values known))
-    (plain_judging t.roots s (map fault_of known) (listed s tree))
+-- one more of them
+pub plain_more : (old : List spec.Fault) (items : List AnyFault) (fs : List Fault) (i : ℕ) (f : Fault) (x : AnyFault) → i < length fs → f ≡ get_or fs i f
+    → map fault_of items ≡ old ++ map plain_fault (take i fs) → fault_of x ≡ plain_fault f → map fault_of (items ++ x ∷ []) ≡ old ++ map plain_fault (take (i + 1) fs)
+plain_more old items fs i f x within at before is =
+    map_push fault_of items x ∙ ap (λ l. l ++ fault_of x ∷ []) before ∙ append_assoc old (map plain_fault (take i fs)) (fault_of x ∷ [])
+    ∙ ap (λ l. old ++ l) (ap (λ g. map plain_fault (take i fs) ++ g ∷ []) (is ∙ ap plain_fault at) ∙ sym (map_push plain_fault (take i fs) (get_or fs i f)) ∙ ap (map plain_fault) (sym (take_more fs i f within)))
+
+-- ---- with nothing given and nothing told
+
+pub plain_lines : (asleep : List Slot) (t : Tree) (known : List Fault) (list : List AnyFault) → map fault_of list ≡ map plain_fault known → AreAllListed t known
+    → AreAllLines (nothing_told asleep) nothing_given t list
+plain_lines asleep t known list is listed = record {
+  judged = map untold.Known (map plain.fault_of known);
+  are = is ∙ known_values known;
+  all = λ s tree all_listed. (judging_same asleep nothing_given t.roots s (map untold.Known (map plain.fault_of known))).1 (plain_judging t.roots s (map plain.fault_of known) (listed s tree));
+}
 
 none_there : {X : Type 0} (xs : List X) → not (length xs == 0) ≡ false → xs ≡ []
 none_there [] e = refl
@@ -46,3 +64,6 @@ nothing_is given none =
       legacy = map legacy_value (said.2 i);
       isa = said.3 i;
     }
+
+pub nothing_told_is : (one : told.Told) → one.ranges.now ≡ [] → told_value one ≡ nothing_told one.asleep.now
+nothing_told_is one none i = record { ranges = none i; asleep = one.asleep.now }

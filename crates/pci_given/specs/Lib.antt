@@ -9,3 +9,5 @@ pub mod OutsideLines
 pub mod UnreachedLines
 pub mod AllLines
 pub mod Named
+pub mod Before
+pub mod Every

@@ -1,17 +1,19 @@
-//! All faults of judging, with what is given.
-ghost use Rattle.std.specs.Prelude.{◌≡◌, ◌++◌, map, IfOk, OnOk};
+//! All faults of judging, with what is given and told.
+ghost use Rattle.std.specs.Prelude.{◌≡◌, ◌++◌, map, List, IfOk, OnOk};
+ghost use Rattle.pci_spec.specs.Slot.{Slot};
 ghost use Rattle.given_spec.specs.Given.{nothing_given};
-ghost use Rattle.pci_given.specs.declared.any_fault.AnyFault.TheVariants.{OutsideHost, Known};
-ghost use Rattle.pci_claims.specs.Values.{given_value};
-ghost use Rattle.pci_given.specs.AllLines.{AreAllLines, is_given};
+ghost use Rattle.given_spec.specs.Told.{IsTold};
+ghost use Rattle.given_spec.specs.ToldClaims.{nothing_told};
+ghost use Rattle.pci_given.specs.declared.any_fault.AnyFault.TheVariants as codes;
+ghost use Rattle.pci_claims.specs.Values.{given_value, told_value};
+ghost use Rattle.pci_given.specs.AllLines.{AreAllLines, fault_of, plain_fault, is_given};
 
-use super::any_fault::AnyFault;
-use super::clash_lines::all_clashes;
-use super::outside_lines::{Outside, all_outside};
-use super::split_lines::all_splits;
-use super::unreached_lines::all_unreached;
+use super::any_fault::{AnyFault, without_told};
+use super::named::{Clash, Outside, Split, Unreached};
+use super::told_lists::{all_clashes, all_outside, all_splits, all_unreached};
 use pci_base::memory::OutOfMemory;
 use pci_claims::given::Given;
+use pci_claims::told::Told;
 use pci_faults::judging;
 use pci_function::fault::Fault;
 use pci_tree::outline::Outline;
@@ -23,44 +25,90 @@ fn add_outside<A: Allocator>(
     outside: &[Outside],
 ) -> Result<(), OutOfMemory>
     ensures { OnOk result
-        (faults.new.items ≡ faults.old.items ++ map (λ o. OutsideHost o) outside.now) }
+        (faults.new.items ≡ faults.old.items ++ map (λ f. codes.OutsideHost f) outside.now) }
 {
-    for one in outside {
-        faults.push(AnyFault::OutsideHost(*one))?;
+    for fault in outside {
+        faults.push(AnyFault::OutsideHost(*fault))?;
     }
     Ok(())
 }
 
-/// Adds faults of the other numbers.
-pub fn add_known<A: Allocator>(
+/// Adds faults 60.
+fn add_unreached<A: Allocator>(
+    faults: &mut Vec<AnyFault, A>,
+    unreached: &[Unreached],
+) -> Result<(), OutOfMemory>
+    ensures { OnOk result
+        (faults.new.items ≡ faults.old.items ++ map (λ f. codes.Unreached f) unreached.now) }
+{
+    for fault in unreached {
+        faults.push(AnyFault::Unreached(*fault))?;
+    }
+    Ok(())
+}
+
+/// Adds faults 61.
+fn add_clashes<A: Allocator>(
+    faults: &mut Vec<AnyFault, A>,
+    clashes: &[Clash],
+) -> Result<(), OutOfMemory>
+    ensures { OnOk result
+        (faults.new.items ≡ faults.old.items ++ map (λ f. codes.Clash f) clashes.now) }
+{
+    for fault in clashes {
+        faults.push(AnyFault::Clash(*fault))?;
+    }
+    Ok(())
+}
+
+/// Adds faults 62.
+fn add_splits<A: Allocator>(
+    faults: &mut Vec<AnyFault, A>,
+    splits: &[Split],
+) -> Result<(), OutOfMemory>
+    ensures { OnOk result
+        (faults.new.items ≡ faults.old.items ++ map (λ f. codes.Split f) splits.now) }
+{
+    for fault in splits {
+        faults.push(AnyFault::Split(*fault))?;
+    }
+    Ok(())
+}
+
+/// Adds faults to which no told range belongs.
+pub fn add_without_told<A: Allocator>(
     faults: &mut Vec<AnyFault, A>,
     known: &[Fault],
 ) -> Result<(), OutOfMemory>
-    ensures { OnOk result (faults.new.items ≡ faults.old.items ++ map (λ f. Known f) known.now) }
+    ensures { OnOk result (map fault_of faults.new.items ≡ map fault_of faults.old.items
+        ++ map plain_fault known.now) }
 {
     for fault in known {
-        faults.push(AnyFault::Known(*fault))?;
+        faults.push(without_told(fault))?;
     }
     Ok(())
 }
 
-/// All faults of judging by number, each with what is given.
+/// All faults of judging by number, each with what is given and told.
 fn all_by_number<A: Allocator + Copy>(
     alloc: A,
     given: &Given<'_>,
+    told: &Told<'_>,
     outline: &Outline<A>,
 ) -> Result<Vec<AnyFault, A>, OutOfMemory>
-    ensures { IfOk result (λ v. AreAllLines (given_value given.now) outline.now v.items) }
+    requires { IsTold told.now.ranges.now }
+    ensures { IfOk result (λ v. AreAllLines (told_value told.now) (given_value given.now)
+        outline.now v.items) }
 {
-    let outside = all_outside(alloc, given, outline)?;
-    let unreached = all_unreached(alloc, given, outline)?;
-    let clashes = all_clashes(alloc, given, outline)?;
-    let splits = all_splits(alloc, given, outline)?;
+    let outside = all_outside(alloc, given, told, outline)?;
+    let unreached = all_unreached(alloc, given, told, outline)?;
+    let clashes = all_clashes(alloc, given, told, outline)?;
+    let splits = all_splits(alloc, given, told, outline)?;
     let mut faults = Vec::new(alloc);
     add_outside(&mut faults, &outside)?;
-    add_known(&mut faults, &unreached)?;
-    add_known(&mut faults, &clashes)?;
-    add_known(&mut faults, &splits)?;
+    add_unreached(&mut faults, &unreached)?;
+    add_clashes(&mut faults, &clashes)?;
+    add_splits(&mut faults, &splits)?;
     Ok(faults)
 }
 
@@ -74,33 +122,38 @@ fn is_given(given: &Given<'_>) -> bool
         || !given.isa.is_empty()
 }
 
-/// All faults of judging without what is given.
+/// All faults of judging with nothing given and nothing told, whoever is asleep.
 fn all_plain<A: Allocator + Copy>(
     alloc: A,
     outline: &Outline<A>,
 ) -> Result<Vec<AnyFault, A>, OutOfMemory>
-    ensures { IfOk result (λ v. AreAllLines nothing_given outline.now v.items) }
+    ensures { (asleep : List Slot)
+        → IfOk result (λ v. AreAllLines (nothing_told asleep) nothing_given outline.now v.items) }
 {
     let known = judging::all_of_judging(alloc, outline)?;
     let mut faults = Vec::new(alloc);
-    add_known(&mut faults, &known)?;
+    add_without_told(&mut faults, &known)?;
     Ok(faults)
 }
 
-/// All faults of judging of the systems with these records and root buses, with what is given: 63, as [`all_outside`] tells
-/// them, then 60, 61 and 62, as [`all_unreached`], [`all_clashes`] and [`all_splits`] do. They stand in the order in which
-/// judging looks for them.
+/// All faults of judging of the systems with these records and root buses, with what is given and told: 63, as
+/// [`all_outside`] tells them, then 60, 61 and 62, as [`all_unreached`], [`all_clashes`] and [`all_splits`] do. They stand in
+/// the order in which judging looks for them.
 ///
-/// Where nothing is given it costs what [`judging::all_of_judging`] does.
+/// Where nothing is given and nothing told it costs what [`judging::all_of_judging`] does.
 pub fn all_of_judging<A: Allocator + Copy>(
     alloc: A,
     given: &Given<'_>,
+    told: &Told<'_>,
     outline: &Outline<A>,
 ) -> Result<Vec<AnyFault, A>, OutOfMemory>
-    ensures { IfOk result (λ v. AreAllLines (given_value given.now) outline.now v.items) }
+    // they are read of a text
+    requires { IsTold told.now.ranges.now }
+    ensures { IfOk result (λ v. AreAllLines (told_value told.now) (given_value given.now)
+        outline.now v.items) }
 {
-    if is_given(given) {
-        all_by_number(alloc, given, outline)
+    if is_given(given) || !told.ranges.is_empty() {
+        all_by_number(alloc, given, told, outline)
     } else {
         all_plain(alloc, outline)
     }

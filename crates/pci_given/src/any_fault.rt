@@ -1,47 +1,114 @@
-//! Faults, with what is given.
-ghost use Rattle.std.specs.Prelude.{Some};
-ghost use Rattle.given_spec.specs.Line.{fault_text};
+//! Faults, with what is given and told.
+ghost use Rattle.std.specs.Prelude.{◌≡◌, Some};
+ghost use Rattle.given_spec.specs.ToldLine.{fault_text};
+ghost use Rattle.pci_given.specs.AllLines.{fault_of, plain_fault, IsResolved};
 
-use super::outside_lines::Outside;
-use pci_base::space::Address;
+use super::named::{Clash, Name, Outside, Split, Unreached};
+use pci_base::slot::Slot;
 use pci_function::fault::Fault;
 use std::fmt;
 
-/// A fault, with what is given. It is shown as number, name and fields.
+/// A fault, with what is given and told. It is shown as number, name and fields.
 #[derive(Clone, Copy, Debug, PartialEq, Eq)]
 pub enum AnyFault {
-    /// 63: an address of an enabled BAR or ROM that the host doesn't send to the root above it.
+    /// 20 to 31, and 50 to 58.
+    Early(Fault),
+    /// 34: a `command` or an `always` range names a slot that isn't listed.
+    NotListed(Slot),
+    /// 63: an address of a region that the host doesn't send to the root above it.
     OutsideHost(Outside),
-    /// 20 to 62.
-    Known(Fault),
+    /// 60: an address of a region that a bridge on the way to it doesn't pass.
+    Unreached(Unreached),
+    /// 61: an address that two regions of a bus claim.
+    Clash(Clash),
+    /// 62: an address that two regions on two root buses claim.
+    Split(Split),
 }
 
-impl fmt::Display for Outside {
-    ghost use Rattle.pci_given.specs.OutsideLines.{outside_of};
+impl fmt::Display for AnyFault {
+    ghost use Rattle.pci_given.specs.AllLines.{fault_of};
 
-    ghost output = { λ o. Some (fault_text (outside_of o)) };
+    ghost output = { λ fault. Some (fault_text (fault_of fault)) };
 
     fn fmt<W: fmt::Write>(&self, f: &mut fmt::Formatter<W>) -> fmt::Result {
-        let Outside {
+        match resolved(self) {
+            AnyFault::Early(fault) => write!(f, "{fault}"),
+            AnyFault::NotListed(slot) => write!(f, "34 NotListed {slot}"),
+            AnyFault::OutsideHost(outside) => write!(f, "{outside}"),
+            AnyFault::Unreached(unreached) => write!(f, "{unreached}"),
+            AnyFault::Clash(clash) => write!(f, "{clash}"),
+            AnyFault::Split(split) => write!(f, "{split}"),
+        }
+    }
+}
+
+/// A region whose register is in the configuration space.
+fn name(slot: Slot, reg: u8) -> Name
+    ensures { result ≡ record { slot = slot; register = reg } }
+{
+    Name {
+        slot,
+        register: u16::from(reg),
+    }
+}
+
+/// A fault that names no told range.
+pub fn without_told(fault: &Fault) -> AnyFault
+    ensures same { fault_of result ≡ plain_fault fault.now }
+    ensures resolved { IsResolved result }
+{
+    match *fault {
+        Fault::Unreached {
             slot,
             reg,
             space,
             address,
-        } = *self;
-        let at = Address { space, address };
-        write!(f, "63 Outside {slot} {reg:02x} {at}")
+            bridge,
+        } => AnyFault::Unreached(Unreached {
+            region: name(slot, reg),
+            space,
+            address,
+            bridge,
+        }),
+        Fault::Clash {
+            bus,
+            space,
+            address,
+            first,
+            first_reg,
+            second,
+            second_reg,
+        } => AnyFault::Clash(Clash {
+            bus,
+            space,
+            address,
+            first: name(first, first_reg),
+            second: name(second, second_reg),
+        }),
+        Fault::Split {
+            space,
+            address,
+            first,
+            first_reg,
+            second,
+            second_reg,
+        } => AnyFault::Split(Split {
+            space,
+            address,
+            first: name(first, first_reg),
+            second: name(second, second_reg),
+        }),
+        early => AnyFault::Early(early),
     }
 }
 
-impl fmt::Display for AnyFault {
-    ghost use Rattle.pci_given.specs.AllLines.{judged_of};
-
-    ghost output = { λ fault. Some (fault_text (judged_of fault)) };
-
-    fn fmt<W: fmt::Write>(&self, f: &mut fmt::Formatter<W>) -> fmt::Result {
-        match self {
-            AnyFault::OutsideHost(outside) => write!(f, "{outside}"),
-            AnyFault::Known(fault) => write!(f, "{fault}"),
-        }
+/// The same fault, and as one of judging where it is one.
+fn resolved(fault: &AnyFault) -> AnyFault
+    ensures same { fault_of result ≡ fault_of fault.now }
+    ensures resolved { IsResolved result }
+{
+    match *fault {
+        AnyFault::Early(fault) => without_told(&fault),
+        other => other,
     }
 }

@@ -1,23 +1,33 @@
-//! All faults of a dump and its probe, with what is given.
+//! All faults of a dump and its probe, with what is given and told.
 ghost use Rattle.std.specs.Prelude.{◌≡◌, ◌↔◌, [], map, IfOk, MatchOption};
-ghost use Rattle.given_spec.specs.FaultLines.{AreEarlier, AreJudged, AreAllFaults, AreSound};
+ghost use Rattle.pci_spec.specs.Text.{IsDump};
+ghost use Rattle.given_spec.specs.Told.{IsTold};
+ghost use Rattle.given_spec.specs.ToldFault.{NotListed};
+ghost use Rattle.given_spec.specs.ToldFaultLines.{AreJudged, AreAllFaults};
 ghost use Rattle.pci_tree.specs.Admission.{IsOutlineFor};
 ghost use Rattle.pci_tree.specs.Roots.{buses_of};
-ghost use Rattle.pci_claims.specs.Values.{given_value};
-ghost use Rattle.pci_given.specs.AllLines.{judged_of};
+ghost use Rattle.pci_claims.specs.Values.{given_value, told_value};
+ghost use Rattle.pci_given.specs.AllLines.{fault_of, plain_fault};
+ghost use Rattle.pci_given.specs.Every.{first_phase, AreBefore, AreEarlyWith, AreSound};
 
-use super::all_lines::{add_known, all_of_judging};
+use super::all_lines::{add_without_told, all_of_judging};
 use super::any_fault::AnyFault;
+use super::before::{add_orphans, slots_not_listed, slots_of_no_bus};
 use pci_base::memory::{OutOfMemory, Refused};
+use pci_base::slot::Slot;
 use pci_claims::given::Given;
+use pci_claims::told::Told;
+use pci_dump::block::Block;
 use pci_dump::dump::Dump;
 use pci_early::early::faults_from;
+use pci_function::fault::Fault;
+use pci_told::told_range::ToldRange;
 use pci_tree::admit::outline_of;
 use pci_tree::outline::Outline;
 use pci_tree::roots::Roots;
 use std::alloc::Allocator;
 
-/// All faults of a dump and its probe, with what is given.
+/// All faults of a dump and its probe, with what is given and told.
 #[derive(Drop)]
 pub struct AllFaults<A: Allocator> {
     /// In the order in which they are looked for.
@@ -26,9 +36,73 @@ pub struct AllFaults<A: Allocator> {
     pub judged: Option<Outline<A>>,
 }
 
+/// Faults that name no told range.
+fn all_without_told<A: Allocator>(
+    alloc: A,
+    known: &[Fault],
+) -> Result<Vec<AnyFault, A>, OutOfMemory>
+    ensures { IfOk result (λ v. map fault_of v.items ≡ map plain_fault known.now) }
+{
+    let mut faults = Vec::new(alloc);
+    add_without_told(&mut faults, known)?;
+    Ok(faults)
+}
+
+/// 34 of each of these slots.
+fn all_not_listed<A: Allocator>(alloc: A, slots: &[Slot]) -> Result<Vec<AnyFault, A>, OutOfMemory>
+    ensures { IfOk result (λ v. map fault_of v.items ≡ map NotListed slots.now) }
+{
+    let mut faults = Vec::new(alloc);
+    for slot in slots {
+        faults.push(AnyFault::NotListed(*slot))?;
+    }
+    Ok(faults)
+}
+
+/// The phase of the first of some faults; that of places where there is none.
+fn first_phase(faults: &[Fault]) -> u8
+    ensures { result ≡ first_phase faults.now }
+{
+    match faults.first() {
+        Some(fault) => fault.phase(),
+        None => 4,
+    }
+}
+
+/// The faults before judging, where `early` are those without what is told, of one phase: 30 as it is. Else 34 of each slot
+/// that a `command` or an `always` range names and that isn't listed. Else the others, and 58 of held ranges with those of
+/// places.
+fn early_with<A: Allocator + Copy>(
+    alloc: A,
+    ranges: &[ToldRange],
+    dump: &[Block],
+    roots: &Roots,
+    mut early: Vec<Fault, A>,
+) -> Result<Vec<AnyFault, A>, OutOfMemory>
+    requires told { IsTold ranges.now }
+    requires dump { IsDump dump.now }
+    ensures { IfOk result (λ v. AreEarlyWith ranges.now (buses_of roots.now) dump.now early.items
+        (map fault_of v.items)) }
+{
+    let phase = first_phase(&early);
+    if phase == 0 {
+        return all_without_told(alloc, &early);
+    }
+    let slots = slots_not_listed(alloc, ranges, dump)?;
+    if !slots.is_empty() {
+        return all_not_listed(alloc, &slots);
+    }
+    if phase < 4 {
+        return all_without_told(alloc, &early);
+    }
+    let orphans = slots_of_no_bus(alloc, ranges, dump, roots)?;
+    add_orphans(&mut early, &orphans)?;
+    all_without_told(alloc, &early)
+}
+
 /// All faults of the earliest phase that has any, of a dump and its probe as a system with these root buses, with what is
-/// given: those before judging as without it, else all of judging, as [`all_of_judging`] tells them. They stand in the
-/// order in which they are looked for.
+/// given and told: those before judging, with 34 behind 30, and 58 of held ranges, else all of judging, as
+/// [`all_of_judging`] tells them. They stand in the order in which they are looked for.
 ///
 /// # Errors
 ///
@@ -39,32 +113,44 @@ pub fn all_faults<A: Allocator + Copy, B: Allocator, C: Allocator>(
     probe: &Dump<C>,
     roots: Roots,
     given: &Given<'_>,
+    told: &Told<'_>,
 ) -> Result<AllFaults<A>, OutOfMemory>
-    ensures all { IfOk result (λ found. AreAllFaults (given_value given.now) (buses_of roots)
-        dump.now probe.now (map judged_of found.faults.items)) }
+    // they are read of a text
+    requires { IsTold told.now.ranges.now }
+    ensures all { IfOk result (λ found. AreAllFaults (told_value told.now) (given_value given.now)
+        (buses_of roots) dump.now probe.now (map fault_of found.faults.items)) }
     ensures none { IfOk result (λ found. (found.faults.items ≡ [])
-        ↔ AreSound (given_value given.now) (buses_of roots) dump.now probe.now) }
+        ↔ AreSound (told_value told.now) (given_value given.now) (buses_of roots) dump.now probe.now) }
     // what was judged is told where no fault is of an earlier phase
     ensures judged { IfOk result (λ found. MatchOption found.judged
-        (AreEarlier (buses_of roots) dump.now probe.now (map judged_of found.faults.items))
-        (λ outline. AreJudged (given_value given.now) (buses_of roots) dump.now probe.now
-        (map judged_of found.faults.items) × IsOutlineFor record {
+        (AreBefore (told_value told.now) (given_value given.now) (buses_of roots) dump.now probe.now
+        (map fault_of found.faults.items))
+        (λ outline. AreJudged (told_value told.now) (given_value given.now) (buses_of roots)
+        dump.now probe.now (map fault_of found.faults.items) × IsOutlineFor record {
           roots = buses_of roots;
           dump = dump.now;
           probe = probe.now;
         } outline)) }
 {
     match outline_of(alloc, dump, probe, roots) {
-        Ok(outline) => Ok(AllFaults {
-            faults: all_of_judging(alloc, given, &outline)?,
-            judged: Some(outline),
-        }),
+        Ok(outline) => {
+            let none = Vec::new(alloc);
+            let early = early_with(alloc, told.ranges, dump.blocks(), &roots, none)?;
+            if !early.is_empty() {
+                return Ok(AllFaults {
+                    faults: early,
+                    judged: None,
+                });
+            }
+            Ok(AllFaults {
+                faults: all_of_judging(alloc, given, told, &outline)?,
+                judged: Some(outline),
+            })
+        }
         Err(Refused::Fault(first)) => {
             let early = faults_from(alloc, dump, probe, &roots, first)?;
-            let mut faults = Vec::new(alloc);
-            add_known(&mut faults, &early)?;
             Ok(AllFaults {
-                faults,
+                faults: early_with(alloc, told.ranges, dump.blocks(), &roots, early)?,
                 judged: None,
             })
         }

@@ -1,10 +1,11 @@
-//! Judging with what is given beside a system: the addresses that the host sends to its root buses, and the legacy parts
-//! of bridges.
+//! Judging with what is given and told beside a system: the addresses that the host sends to its root buses, the legacy
+//! parts of bridges, and ranges that functions answer though no BAR shows them.
 #![tactic(auto)]
 
 pub mod all_lines;
 pub mod any_fault;
 pub mod bars_and_roms;
+mod before;
 pub mod board;
 pub mod clash_lines;
 pub mod every;

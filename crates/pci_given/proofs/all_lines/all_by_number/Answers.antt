@@ -1,9 +1,11 @@
 use Rattle.std.proofs.Common.{List, ◌++◌, map, ◌∙◌, ap}
-use Rattle.pci_function.specs.declared.fault.Fault.{Fault}
 use Rattle.pci_given.specs.declared.any_fault.AnyFault.{AnyFault}
-use Rattle.pci_given.specs.declared.any_fault.AnyFault.TheVariants.{OutsideHost, Known}
-use Rattle.pci_given.specs.declared.outside_lines.Outside as outside
-use Rattle.pci_claims.specs.Values.{given_value}
+use Rattle.pci_given.specs.declared.any_fault.AnyFault.TheVariants as codes
+use Rattle.pci_given.specs.declared.named.Unreached.{Unreached}
+use Rattle.pci_given.specs.declared.named.Clash.{Clash}
+use Rattle.pci_given.specs.declared.named.Split.{Split}
+use Rattle.pci_given.specs.declared.named.Outside.{Outside}
+use Rattle.pci_claims.specs.Values.{given_value, told_value}
 use Rattle.pci_given.proofs.Joining.{all_lines}
 use Rattle.pci_given.proofs.all_lines.all_by_number.Goals as goal
 
@@ -13,10 +15,10 @@ returns g c =
     let u = c.in_ok-unreached.unreached.items in
     let k = c.in_ok-clashes.clashes.items in
     let s = c.in_ok-splits.splits.items in
-    all_lines o u k s (given_value c.args.given.now) c.args.outline.now c.add_known-3.new.faults.items
-    (c.in_ok-add_known-3.ensures ∙ ap (λ (l : List Fault). c.add_known-2.new.faults.items ++ map (λ f. Known f) l) c.deref-4.ensures.value
-    ∙ ap (λ (l : List AnyFault). l ++ map (λ f. Known f) s) (c.in_ok-add_known-2.ensures ∙ ap (λ (l : List Fault). c.add_known.new.faults.items ++ map (λ f. Known f) l) c.deref-3.ensures.value
-    ∙ ap (λ (l : List AnyFault). l ++ map (λ f. Known f) k) (c.in_ok-add_known.ensures ∙ ap (λ (l : List Fault). c.add_outside.new.faults.items ++ map (λ f. Known f) l) c.deref-2.ensures.value
-    ∙ ap (λ (l : List AnyFault). l ++ map (λ f. Known f) u) (c.in_ok-add_outside.ensures ∙ ap (λ (l : List outside.Outside). c.new-faults.result.items ++ map (λ x. OutsideHost x) l) c.deref.ensures.value
-    ∙ ap (λ (l : List AnyFault). l ++ map (λ x. OutsideHost x) o) c.new-faults.ensures.items))))
+    all_lines o u k s (told_value c.args.told.now) (given_value c.args.given.now) c.args.outline.now c.add_splits.new.faults.items
+    (c.in_ok-add_splits.ensures ∙ ap (λ (l : List Split). c.add_clashes.new.faults.items ++ map (λ f. codes.Split f) l) c.deref-4.ensures.value
+    ∙ ap (λ (l : List AnyFault). l ++ map (λ f. codes.Split f) s) (c.in_ok-add_clashes.ensures ∙ ap (λ (l : List Clash). c.add_unreached.new.faults.items ++ map (λ f. codes.Clash f) l) c.deref-3.ensures.value
+    ∙ ap (λ (l : List AnyFault). l ++ map (λ f. codes.Clash f) k) (c.in_ok-add_unreached.ensures ∙ ap (λ (l : List Unreached). c.add_outside.new.faults.items ++ map (λ f. codes.Unreached f) l) c.deref-2.ensures.value
+    ∙ ap (λ (l : List AnyFault). l ++ map (λ f. codes.Unreached f) u) (c.in_ok-add_outside.ensures ∙ ap (λ (l : List Outside). c.new-faults.result.items ++ map (λ f. codes.OutsideHost f) l) c.deref.ensures.value
+    ∙ ap (λ (l : List AnyFault). l ++ map (λ f. codes.OutsideHost f) o) c.new-faults.ensures.items))))
     c.in_ok-outside.ensures c.in_ok-unreached.ensures c.in_ok-clashes.ensures c.in_ok-splits.ensures

@@ -1,0 +1,197 @@
+-- All faults of a dump and its probe, with what is given and told.
+use Rattle.std.proofs.Common.{◌≡◌, ℕ, ◌<◌, inl, inr, List, [], ◌∷◌, map, refl, sym, ◌∙◌, ap, subst, arith}
+use Rattle.std.specs.Prelude.{◌↔◌, IsTrue}
+use Rattle.std.specs.List.{Contains}
+use Rattle.pci_spec.specs.Slot.{Slot}
+use Rattle.pci_spec.specs.Text.{Block, IsDump}
+use Rattle.pci_spec.specs.System.{System, system_of}
+use Rattle.pci_spec.specs.Fault.{Orphan, IsThere, fault_number}
+use Rattle.pci_spec.specs.Fault as plain
+use Rattle.pci_spec.specs.Order.{phase_of, is_before, image_at, IsFirstThere}
+use Rattle.pci_spec.specs.FaultLines as plain_lines
+use Rattle.pci_spec.proofs.Members.{in_nil, in_head, pairs_nil}
+use Rattle.pci_spec.proofs.Pairing.{in-of_there}
+use Rattle.pci_function.specs.declared.fault.Fault as code
+use Rattle.pci_function.specs.Fault.{fault_of}
+use Rattle.pci_tree.specs.Admission.{IsOutlineFor}
+use Rattle.pci_tree.specs.Outline.{Tree}
+use Rattle.pci_early.specs.Lists.{BeginsWith}
+use Rattle.pci_check.proofs.FirstOfAll.{none_early}
+use Rattle.given_spec.specs.Given.{Given}
+use Rattle.given_spec.specs.Fault as untold
+use Rattle.given_spec.specs.Told.{IsTold}
+use Rattle.given_spec.specs.ToldClaims.{Told}
+use Rattle.given_spec.specs.ToldFault.{Fault, Known, NotListed}
+use Rattle.given_spec.specs.ToldAllFaults.{AreAllOfJudging}
+use Rattle.given_spec.specs.ToldFaultLines.{AreListed, IsEarlyThere, AreJudged, AreAllFaults}
+use Rattle.given_spec.proofs.ToldEmpty.{told_empty_where_none_fails}
+use Rattle.pci_given.specs.declared.any_fault.AnyFault.{AnyFault}
+use Rattle.pci_given.specs.AllLines as lines
+use Rattle.pci_given.specs.AllLines.{AreAllLines}
+use Rattle.pci_given.specs.Every.{AreEarlyWith, AreBefore, AreSound}
+use Rattle.pci_given.proofs.ToldFirst.{all_not_listed}
+use Rattle.pci_given.proofs.ToldPlaces.{there_cases, all_places, no_place}
+use Rattle.pci_given.proofs.ToldEarly.{plain_twice, none_plain, all_listed, before_of_first, some_of_first}
+
+-- what stands of faults before judging
+pub record IsEveryBefore (told : Told) (given : Given) (roots : List ℕ) (dump probe : List Block) (list : List AnyFault) : Type 0 where
+  pub before : AreBefore told given roots dump probe (map lines.fault_of list)
+  pub none : (list ≡ []) ↔ AreSound told given roots dump probe
+
+-- and of those of judging
+pub record IsEveryJudged (told : Told) (given : Given) (roots : List ℕ) (dump probe : List Block) (list : List AnyFault) : Type 0 where
+  pub judged : AreJudged told given roots dump probe (map lines.fault_of list)
+  pub none : (list ≡ []) ↔ AreSound told given roots dump probe
+
+pub in_all : (told : Told) (given : Given) (roots : List ℕ) (dump probe : List Block) (faults : List Fault) → AreBefore told given roots dump probe faults → AreAllFaults told given roots dump probe faults
+in_all told given roots dump probe faults (inl h) = inl h
+in_all told given roots dump probe faults (inr (inl h)) = inr (inl h)
+in_all told given roots dump probe faults (inr (inr h)) = inr (inr (inl h))
+
+no_fault : (list : List AnyFault) → map lines.fault_of list ≡ [] → list ≡ []
+no_fault [] e = refl
+no_fault (f ∷ rest) e = absurd (let no : ⊥ = cc in no)
+
+none_known : (list : List untold.Fault) → map Known list ≡ [] → list ≡ []
+none_known [] e = refl
+none_known (f ∷ rest) e = absurd (let no : ⊥ = cc in no)
+
+module _ (told : Told) (is_told : IsTold told.ranges) (given : Given) (roots : List ℕ) (dump probe : List Block) (is_dump : IsDump dump) where
+  -- ---- where there is a fault without what is told
+
+  pub every_of_first : (first : plain.Fault) (early : List code.Fault) (list : List AnyFault) → IsFirstThere roots dump probe first → fault_number first < 60 → plain_lines.AreAllFaults roots dump probe (map fault_of early)
+      → BeginsWith first (map fault_of early) → AreEarlyWith told.ranges roots dump early (map lines.fault_of list) → IsEveryBefore told given roots dump probe list
+  every_of_first first early list is low all begins with = record {
+    before = before_of_first told is_told given roots dump probe is_dump first is low early all begins (map lines.fault_of list) with;
+    none = (
+      λ none. absurd (some_of_first told is_told given roots dump probe is_dump first is low early all begins (map lines.fault_of list) with (ap (map lines.fault_of) none)),
+      λ are. absurd (none_early roots (system_of dump probe) are.sound.nested are.sound.profile are.sound.chains first (soon first low) (in-of_there roots dump probe first are.slots is.there)),
+    );
+  } where
+    soon : (f : plain.Fault) → fault_number f < 60 → phase_of f < 5
+    soon (plain.Unreached slot register space a bridge) low = absurd (let no : ⊥ = omega (arith, low) in no)
+    soon (plain.Clash bus space a first fr second sr) low = absurd (let no : ⊥ = omega (arith, low) in no)
+    soon (plain.Split space a first fr second sr) low = absurd (let no : ⊥ = omega (arith, low) in no)
+    soon _ low = omega arith
+
+  -- ---- where there is none
+
+  module _ (o : Tree) (outline : IsOutlineFor record { roots = roots; dump = dump; probe = probe } o) where
+    abbrev s : System
+    s = system_of dump probe
+
+    none_there : (f : plain.Fault) → phase_of f < 5 → IsThere roots dump probe f → ⊥
+    none_there f early there =
+        let admitted = outline.admitted in
+        none_early roots s admitted.nested admitted.profile admitted.chains f early (in-of_there roots dump probe f admitted.slots there)
+
+    there : (f : plain.Fault) → Contains (map fault_of []) f → IsThere roots dump probe f × (phase_of f ≡ 4)
+    there f has = absurd (in_nil f has)
+
+    complete : (f : plain.Fault) → phase_of f < 5 → IsThere roots dump probe f → Contains (map fault_of []) f
+    complete f early is = absurd (none_there f early is)
+
+    abbrev Before : plain.Fault → plain.Fault → Type 0
+    Before f g = IsTrue (is_before (image_at s) f g)
+
+    -- some are told
+    before_of_told : (faults : List Fault) → AreEarlyWith told.ranges roots dump [] faults → (faults ≡ [] → ⊥) → AreBefore told given roots dump probe faults
+    before_of_told faults (inl alone) some = absurd (let e = alone.phase in let no : ⊥ = omega (arith, e) in no)
+    before_of_told faults (inr (inl not)) some =
+        let same = outline.admitted.slots in
+        inr (inl record { same = same; slots = not.slots; some = not.some; all = all_not_listed told dump probe same not.slots not.all; are = not.are })
+    before_of_told faults (inr (inr (inl h))) some = absurd (let e = h.soon in let no : ⊥ = omega (arith, e) in no)
+    before_of_told faults (inr (inr (inr h))) some =
+        let same = outline.admitted.slots in
+        inr (inr record {
+          same = same;
+          listed = all_listed told is_told given roots dump probe is_dump same h.listed;
+          early = map fault_of h.with;
+          some = λ none. some (h.are ∙ plain_twice h.with ∙ ap (map (λ f. Known (untold.Known f))) none);
+          all = all_places told is_told roots dump probe is_dump same [] there complete (pairs_nil Before) h.orphans h.all h.with h.added;
+          are = h.are ∙ plain_twice h.with;
+        })
+
+    -- which no sound system has
+    unsound : (faults : List Fault) → AreEarlyWith told.ranges roots dump [] faults → (faults ≡ [] → ⊥) → AreSound told given roots dump probe → ⊥
+    unsound faults (inl alone) some sound = let e = alone.phase in omega (arith, e)
+    unsound faults (inr (inl not)) some sound =
+        let all = all_not_listed told dump probe sound.slots not.slots not.all in
+        some_slot not.slots not.some (λ slot has. sound.sound.listed slot (all.each slot has))
+      where
+        some_slot : (slots : List Slot) → (slots ≡ [] → ⊥) → ((slot : Slot) → Contains slots slot → ⊥) → ⊥
+        some_slot [] some none = some refl
+        some_slot (slot ∷ rest) some none = none slot (in_head slot rest)
+    unsound faults (inr (inr (inl h))) some sound = let e = h.soon in omega (arith, e)
+    unsound faults (inr (inr (inr h))) some sound =
+        let all = all_places told is_told roots dump probe is_dump sound.slots [] there complete (pairs_nil Before) h.orphans h.all h.with h.added in
+        some_fault (map fault_of h.with) (λ none. some (h.are ∙ plain_twice h.with ∙ ap (map (λ f. Known (untold.Known f))) none))
+        (λ f has. (let line = all.each f has in none_held f line.early line.there))
+      where
+        some_fault : (fs : List plain.Fault) → (fs ≡ [] → ⊥) → ((f : plain.Fault) → Contains fs f → ⊥) → ⊥
+        some_fault [] some none = some refl
+        some_fault (f ∷ rest) some none = none f (in_head f rest)
+
+        none_held : (f : plain.Fault) → phase_of f < 5 → IsEarlyThere told roots dump probe f → ⊥
+        none_held f early is = elim (there_cases told is_told roots dump probe is_dump sound.slots f is) [
+          | inl plain ↦ none_there f early plain
+          | inr (slot, at, held) ↦ sound.sound.led_to slot held
+        ]
+
+    pub every_of_told : (list : List AnyFault) → AreEarlyWith told.ranges roots dump [] (map lines.fault_of list) → (list ≡ [] → ⊥) → IsEveryBefore told given roots dump probe list
+    every_of_told list with some = record {
+      before = before_of_told (map lines.fault_of list) with (λ none. some (no_fault list none));
+      none = (λ none. absurd (some none), λ sound. absurd (unsound (map lines.fault_of list) with (λ none. some (no_fault list none)) sound));
+    }
+
+    -- none is told: judging is begun
+    record IsJudgeable : Type 0 where
+      listed : AreListed told dump probe
+      none : (f : plain.Fault) → phase_of f < 5 → IsEarlyThere told roots dump probe f → ⊥
+
+    judgeable : (faults : List Fault) → AreEarlyWith told.ranges roots dump [] faults → faults ≡ [] → IsJudgeable
+    judgeable faults (inl alone) none = absurd (let e = alone.phase in let no : ⊥ = omega (arith, e) in no)
+    judgeable faults (inr (inl not)) none = absurd (not.some (none_unlisted not.slots (sym not.are ∙ none)))
+      where
+        none_unlisted : (slots : List Slot) → map NotListed slots ≡ [] → slots ≡ []
+        none_unlisted [] e = refl
+        none_unlisted (slot ∷ slots) e = absurd (let no : ⊥ = cc in no)
+    judgeable faults (inr (inr (inl h))) none = absurd (let e = h.soon in let no : ⊥ = omega (arith, e) in no)
+    judgeable faults (inr (inr (inr h))) none =
+        let same = outline.admitted.slots in record {
+          listed = all_listed told is_told given roots dump probe is_dump same h.listed;
+          none = no_place told is_told roots dump probe is_dump same [] there complete (pairs_nil Before) h.orphans h.all h.with h.added (none_plain h.with (sym h.are ∙ none));
+        }
+
+    pub every_of_judging : (faults : List Fault) → AreEarlyWith told.ranges roots dump [] faults → faults ≡ [] → (list : List AnyFault) → AreAllLines told given o list → IsEveryJudged told given roots dump probe list
+    every_of_judging faults with none_told list all_lines =
+        let admitted = outline.admitted in
+        let ready = judgeable faults with none_told in
+        let all = subst (λ roots. AreAllOfJudging told given roots s all_lines.judged) outline.roots (all_lines.all s record { system = admitted.system; records = outline.records } ready.listed) in
+        let empty = told_empty_where_none_fails told given roots s all_lines.judged is_told admitted.system admitted.nested ready.listed all in
+        record {
+          judged = record {
+            same = admitted.slots;
+            listed = ready.listed;
+            none_earlier = ready.none;
+            judged = all_lines.judged;
+            all = all;
+            are = all_lines.are;
+          };
+          none = (
+            λ none.
+                let sound = empty.0 (none_known all_lines.judged (sym all_lines.are ∙ ap (map lines.fault_of) none)) in record {
+                  slots = admitted.slots;
+                  sound = record {
+                    single = sound.0;
+                    home = sound.1;
+                    nested = admitted.nested;
+                    profile = admitted.profile;
+                    chains = admitted.chains;
+                    listed = ready.listed;
+                    led_to = λ slot held. ready.none (Orphan slot) (omega arith) (inr held);
+                  };
+                },
+            λ are. no_fault list (all_lines.are ∙ ap (map Known) (empty.1 (are.sound.single, are.sound.home))),
+          );
+        }
