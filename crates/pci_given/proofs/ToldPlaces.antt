@@ -2,6 +2,7 @@
 use Rattle.std.proofs.Common.{◌≡◌, ◌⊎◌, ℕ, ◌+◌, ◌*◌, ◌<◌, inl, inr, List, [], ◌∷◌, ◌++◌, get_or, map, true, refl, sym, ◌∙◌, ap, subst, arith}
 use Rattle.std.specs.Prelude.{IsTrue, not}
 use Rattle.std.specs.List.{All, AllPairs, Contains}
+use Rattle.std.specs.List.Sorted.{IsNonDecreasingBy}
 use Rattle.std.proofs.lemmas.Bool.{cases_order}
 use Rattle.std.proofs.lemmas.List.Elements.{All-contains, Contains-get_or, Contains-append_left, Contains-append_right, Contains-append_cases}
 use Rattle.std.proofs.lemmas.List.Sorted.{Contains-permutation, IsPermutation-sym}
@@ -220,16 +221,22 @@ module _ (told : Told) (is_told : IsTold told.ranges) (roots : List ℕ) (dump p
         slot_number-same p.slot orphan.from (slot_in (fault_of x) is_x.1 (early_there (fault_of x) is_x.0)) (slot_in (Orphan orphan.from) refl (inr (orphan_to told dump probe same roots orphan.from some))) number in
         some.is.not_listed (subst (λ x. Contains (slots_of dump) x) (slots ∙ sym some.of_slot) (slot_listed (fault_of x) is_x.1 is_x.0))
 
-    up : AllPairs (λ x y. place x < place y) new
-    up = rise_in_order place joined new (pairs_append Differ early (map (λ slot. codes.Orphan slot) orphans) differ_old differ_orphans differ_across) added.moved added.sorted
+    up : IsNonDecreasingBy place new → AllPairs (λ x y. place x < place y) new
+    up sorted = rise_in_order place joined new (pairs_append Differ early (map (λ slot. codes.Orphan slot) orphans) differ_old differ_orphans differ_across) added.moved sorted
 
-    rises : AllPairs (λ f g. IsTrue (is_before (image_at s) f g)) (map fault_of new)
-    rises = pairs_map (λ f g. IsTrue (is_before (image_at s) f g)) fault_of new (λ i j d less within.
-        let x = get_or new i d in
-        let y = get_or new j d in
-        let is_x = in_new (fault_of x) (in_map_from fault_of new x (Contains-get_or new i d (omega (arith, less, within)))) in
-        let is_y = in_new (fault_of y) (in_map_from fault_of new y (Contains-get_or new j d within)) in
-        before_of (fault_of x) (fault_of y) (placed (fault_of x) is_x.1) (placed (fault_of y) is_y.1) (slot_in (fault_of x) is_x.1 is_x.0) (slot_in (fault_of y) is_y.1 is_y.0) (up i j d less within) (image_at s))
+    abbrev Before : Fault → Fault → Type 0
+    Before f g = IsTrue (is_before (image_at s) f g)
+
+    rises : AllPairs Before (map fault_of new)
+    rises = elim added.sorted [
+      | inl same ↦ subst (λ (l : List code.Fault). AllPairs Before (map fault_of l)) (sym same) rising
+      | inr sorted ↦ pairs_map Before fault_of new (λ i j d less within.
+          let x = get_or new i d in
+          let y = get_or new j d in
+          let is_x = in_new (fault_of x) (in_map_from fault_of new x (Contains-get_or new i d (omega (arith, less, within)))) in
+          let is_y = in_new (fault_of y) (in_map_from fault_of new y (Contains-get_or new j d within)) in
+          before_of (fault_of x) (fault_of y) (placed (fault_of x) is_x.1) (placed (fault_of y) is_y.1) (slot_in (fault_of x) is_x.1 is_x.0) (slot_in (fault_of y) is_y.1 is_y.0) (up sorted i j d less within) (image_at s))
+    ]
 
     line_of : (f : Fault) → IsEarlyThere told roots dump probe f → phase_of f ≡ 4 → IsEarlyLine told roots dump probe f
     line_of f is phase = record {

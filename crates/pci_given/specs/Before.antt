@@ -62,7 +62,7 @@ place_number (plain.Orphan slot) = 3 * slot_number slot + 1
 place_number (plain.BusRange slot) = 3 * slot_number slot + 2
 place_number fault = 0
 
--- 58 of these slots have their places among the faults
+-- 58 of these slots have their places among the faults; where there is none, those stay as they are
 pub record AreOrphansAdded (slots : List Slot) (old new : List Fault) : Type 0 where
   pub moved : IsPermutation (old ++ map (λ slot. Orphan slot) slots) new
-  pub sorted : IsNonDecreasingBy (λ f. place_number (fault_of f)) new
+  pub sorted : (new ≡ old) ⊎ IsNonDecreasingBy (λ f. place_number (fault_of f)) new

@@ -204,6 +204,9 @@ pub fn add_orphans<A: Allocator>(
 ) -> Result<(), OutOfMemory>
     ensures { OnOk result (AreOrphansAdded slots.now faults.old.items faults.new.items) }
 {
+    if slots.is_empty() {
+        return Ok(());
+    }
     for slot in slots {
         faults.push(Fault::Orphan(*slot))?;
     }

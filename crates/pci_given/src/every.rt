@@ -27,6 +27,12 @@ use pci_tree::outline::Outline;
 use pci_tree::roots::Roots;
 use std::alloc::Allocator;
 
+/// The phase in which 30 is looked for.
+const SLOTS: u8 = 0;
+
+/// The phase in which 50, 57 and 58 are looked for.
+const PLACES: u8 = 4;
+
 /// All faults of a dump and its probe, with what is given and told.
 #[derive(Drop)]
 pub struct AllFaults<A: Allocator> {
@@ -65,7 +71,7 @@ fn first_phase(faults: &[Fault]) -> u8
 {
     match faults.first() {
         Some(fault) => fault.phase(),
-        None => 4,
+        None => PLACES,
     }
 }
 
@@ -85,14 +91,14 @@ fn early_with<A: Allocator + Copy>(
         (map fault_of v.items)) }
 {
     let phase = first_phase(&early);
-    if phase == 0 {
+    if phase == SLOTS {
         return all_without_told(alloc, &early);
     }
     let slots = slots_not_listed(alloc, ranges, dump)?;
     if !slots.is_empty() {
         return all_not_listed(alloc, &slots);
     }
-    if phase < 4 {
+    if phase < PLACES {
         return all_without_told(alloc, &early);
     }
     let orphans = slots_of_no_bus(alloc, ranges, dump, roots)?;
