@@ -1,6 +1,7 @@
 //! The lines of all faults of judging of a board, with what is given.
 use pci_base::range::RootRange;
 use pci_claims::given::Given;
+use pci_claims::told::Told;
 use pci_claims::vga::legacy_bridges;
 use pci_dump::dump::Dump;
 use pci_dump::reader::read_dump;
@@ -62,7 +63,11 @@ fn faults_of(
         legacy: &legacy,
         isa: &[],
     };
-    all_of_judging(alloc, &given, admitted.outline()).ok()
+    let told = Told {
+        ranges: &[],
+        asleep: &[],
+    };
+    all_of_judging(alloc, &given, &told, admitted.outline()).ok()
 }
 
 /// The lines of faults.
