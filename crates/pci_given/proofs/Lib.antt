@@ -9,7 +9,10 @@ pub mod Telling
 pub mod ClashNaming
 pub mod Numbering
 pub mod AllClashing
+pub mod Sleeping
+pub mod ToldListing
 pub mod Listing
+pub mod Sending
 pub mod Lining
 pub mod OutsideLining
 pub mod UnreachedLining

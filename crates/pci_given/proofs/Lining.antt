@@ -3,11 +3,11 @@ use Rattle.std.proofs.Common.{◌≡◌, ℕ, ◌<◌, inl, inr, List, ◌∷◌
 use Rattle.std.proofs.lemmas.Bool.{cases_order}
 use Rattle.pci_spec.specs.Slot.{Slot, IsSlot}
 use Rattle.pci_spec.specs.Order.{precedes, slot_key}
-use Rattle.pci_spec.specs.JudgingLaws.{region_number}
+use Rattle.given_spec.specs.ToldAllFaults.{region_number}
 use Rattle.pci_spec.proofs.FirstLines.{less_precedes, same_precedes}
 
 -- a lesser region in front
-pub region_precedes : (s t : Slot) (r q : ℕ) (xs ys : List ℕ) → IsSlot s × (r < 256) → IsSlot t × (q < 256) → region_number s r < region_number t q
+pub region_precedes : (s t : Slot) (r q : ℕ) (xs ys : List ℕ) → IsSlot s × (r < 8192) → IsSlot t × (q < 8192) → region_number s r < region_number t q
     → precedes (slot_key s ++ r ∷ xs) (slot_key t ++ q ∷ ys) ≡ true
 region_precedes s t r q xs ys (hs, hr) (ht, hq) less = elim (cases_order s.bus t.bus) [
   | inr (inl low) ↦ less_precedes s.bus t.bus (s.device ∷ s.function ∷ r ∷ xs) (t.device ∷ t.function ∷ q ∷ ys) low

@@ -1,170 +1,287 @@
--- The enabled BARs and ROMs of a system: bus by bus, and in order.
-use Rattle.std.proofs.Common.{◌≡◌, ℕ, ◌+◌, ◌<◌, ◌⊎◌, inl, inr, Bool, List, [], ◌++◌, false, not, refl, sym, ◌∙◌, ap, subst, arith, append_assoc, append-nil}
+-- Regions that have to be sent and reached: gathered from one source after another, and in order.
+use Rattle.std.proofs.Common.{◌≡◌, ℕ, ◌+◌, ◌<◌, ◌⊎◌, inl, inr, Bool, List, [], ◌++◌, get_or, false, not, refl, sym, ◌∙◌, ap, subst, arith, append_assoc, append-nil}
 use Rattle.std.specs.Prelude.{◌↔◌}
-use Rattle.std.specs.List.{Contains, filter}
+use Rattle.std.specs.List.{AllPairs, Contains, filter}
 use Rattle.std.specs.List.Sorted.{IsPermutation, IsNonDecreasingBy}
 use Rattle.std.proofs.lemmas.Bool.{not-true, not_from_false}
-use Rattle.std.proofs.lemmas.List.Elements.{Contains-append_left, Contains-append_right, Contains-append_cases}
+use Rattle.std.proofs.lemmas.List.Elements.{Contains-get_or, Contains-append_left, Contains-append_right, Contains-append_cases}
 use Rattle.std.proofs.lemmas.List.Sorted.{Contains-permutation, IsPermutation-sym}
-use Rattle.pci_spec.specs.Slot.{Slot, IsSlot}
-use Rattle.pci_spec.specs.System.{System, Function, Part, Space as SpaceValue, Io, Memory, IsSystem, Claims, is_window}
+use Rattle.pci_spec.specs.Slot.{Slot, IsSlot, slot_number}
+use Rattle.pci_spec.specs.System.{System, Function, Space as SpaceValue, Io, Memory, IsSystem, Claims, is_prefetchable_part}
 use Rattle.pci_spec.proofs.Firsts.{slot_of, same_region}
 use Rattle.pci_spec.proofs.Members.{in_nil, in_filter_to, in_filter_from, in_map_to, in_map_from, pairs_nil, pairs_append, pairs_filter, pairs_map}
-use Rattle.pci_spec.proofs.Regions.{register_of-lt, region_number-same}
+use Rattle.pci_spec.proofs.Regions.{register_of-lt, slot_number-same}
 use Rattle.pci_base.specs.declared.space.Space.{Space}
 use Rattle.pci_base.specs.Space.{space_of}
 use Rattle.pci_tree.specs.declared.region.Region.{Region}
 use Rattle.pci_tree.specs.Outline.{Tree}
-use Rattle.pci_tree.specs.Regions.{IsRegionOn, IsRegionOf, AreRegionsOf, region_number, is_of_window}
+use Rattle.pci_tree.specs.Ranges.{Holds}
+use Rattle.pci_tree.specs.Regions.{IsRegionOn, AreRegionsOf, is_of_window}
 use Rattle.pci_tree.specs.Trees.{HasTree}
 use Rattle.pci_tree.proofs.RegionParts.{window_named}
-use Rattle.pci_given.specs.declared.bars_and_roms.BarOrRom.{BarOrRom}
+use Rattle.given_spec.specs.ToldClaims.{Told}
+use Rattle.pci_given.specs.declared.needed.Needed.{Needed}
 use Rattle.pci_given.specs.Clashes.{IsOnBusIn}
-use Rattle.pci_given.specs.BarsAndRoms.{bar_or_rom_place, among, IsBarOrRom, HasBarOrRom, AreBarsAndRomsAt, AreBarsAndRomsAdded, AreAllBarsAndRoms}
-use Rattle.pci_given.proofs.AllClashing.{Where, IsBelow, IsOnBus, IsAnywhere, not_both_spaces, either_space, not_below_and_on, below_or_on}
+use Rattle.pci_given.specs.Needed.{IsOfBar, IsOfRange, Which, IsNeeded, IsOfBarAt, needed_place, IsOneOf, HasName, AreJust, Differ, AreAdded, AreBarsAdded, AreAllNeeded, needed_of, needed_among}
+use Rattle.pci_given.proofs.AllClashing.{Where, IsBelow, IsOnBus, not_both_spaces, either_space, not_below_and_on, below_or_on}
 use Rattle.pci_claims.proofs.Making.{rise_in_order}
 
-abbrev Differ : BarOrRom → BarOrRom → Type 0
-Differ b c = bar_or_rom_place b ≡ bar_or_rom_place c → ⊥
+-- ---- places
 
--- ---- names of regions
+-- regions with one place have one name
+pub one_name : (n m : Needed) → IsSlot n.name.slot → IsSlot m.name.slot → n.name.register < 8192 → m.name.register < 8192 → needed_place n ≡ needed_place m
+    → (n.name.slot ≡ m.name.slot) × (n.name.register ≡ m.name.register)
+one_name n m hs ht hr hq e = (
+  slot_number-same n.name.slot m.name.slot hs ht (let numbers : slot_number n.name.slot ≡ slot_number m.name.slot = omega (arith, e, hr, hq) in numbers),
+  (let registers : n.name.register ≡ m.name.register = omega (arith, e, hr, hq) in registers),
+)
 
-module _ (s : System) (system : IsSystem s) where
-  claims_first : (bus : ℕ) (space : SpaceValue) (r : Region) (on : IsRegionOn s bus space r) → Claims on.f on.part space r.first
-  claims_first bus space r on = let some = on.is.some in (on.is.claims r.first).0 (omega arith, some)
+-- a region has its first address
+pub first_of : (W : Which) (s : System) (n : Needed) → IsOneOf W s n → W s n.name.slot n.name.register (space_of n.space) n.range.first n.prefetch
+first_of W s n one = one.each n.range.first (omega arith, one.some)
 
-  -- a region has a slot, and a register below offset 40h
-  pub named_as : (bus : ℕ) (space : SpaceValue) (r : Region) → IsRegionOn s bus space r → IsSlot r.slot × (r.reg < 256)
-  named_as bus space r on =
-      let low = register_of-lt on.f on.part (claims_first bus space r on).there in
-      let register = on.is.register in
-      (subst IsSlot (sym on.is.slot) (slot_of s system on.f on.listed), omega (arith, low, register))
+-- ---- of several sources
 
-  -- two with one place are of one bus and space
-  one_place : (b c : BarOrRom) → IsBarOrRom s b → IsBarOrRom s c → bar_or_rom_place b ≡ bar_or_rom_place c → (b.region.slot.bus ≡ c.region.slot.bus) × (space_of b.space ≡ space_of c.space)
-  one_place b c is_b is_c same =
-      let named_b = named_as b.region.slot.bus (space_of b.space) b.region is_b.on in
-      let named_c = named_as c.region.slot.bus (space_of c.space) c.region is_c.on in
-      let e = region_number-same b.region.slot c.region.slot b.region.reg c.region.reg named_b.0 named_c.0 named_b.1 named_c.1 same in
-      let region = same_region s system is_b.on.f is_c.on.f is_b.on.part is_c.on.part (space_of b.space) (space_of c.space) b.region.first c.region.first is_b.on.listed is_c.on.listed
-      (sym is_b.on.is.slot ∙ e.0 ∙ is_c.on.is.slot) (sym is_b.on.is.register ∙ e.1 ∙ is_c.on.is.register)
-      (claims_first b.region.slot.bus (space_of b.space) b.region is_b.on) (claims_first c.region.slot.bus (space_of c.space) c.region is_c.on) in
-      (ap (λ (x : Slot). x.bus) e.0, region.2)
+-- no name is of both
+abbrev pub Apart : Which → Which → Type 0
+Apart A B =
+    (s : System) → IsSystem s → (slot : Slot) (register : ℕ) (space : SpaceValue) (a : ℕ) (p : Bool) (sp : SpaceValue) (b : ℕ) (q : Bool)
+    → A s slot register space a p → B s slot register sp b q → ⊥
 
--- ---- of a bus and a space
+abbrev pub Either : Which → Which → Which → Type 0
+Either A B C =
+    (s : System) (slot : Slot) (register : ℕ) (space : SpaceValue) (a : ℕ) (p : Bool) → C s slot register space a p ↔ (A s slot register space a p ⊎ B s slot register space a p)
 
-module _ (s : System) (bus : ℕ) (space : Space) (regions : List Region) (are : AreRegionsOf s bus (space_of space) regions) where
-  abbrev as_one : Region → BarOrRom
-  as_one r = record { region = r; space = space }
+has_more : (xs ys : List Needed) → ((n : Needed) → Contains xs n → Contains ys n) → (slot : Slot) (register : ℕ) → HasName xs slot register → HasName ys slot register
+has_more xs ys within slot register found = record { n = found.n; has = within found.n found.has; slot_is = found.slot_is; register_is = found.register_is }
 
+module _ (A B C : Which) (apart : Apart A B) (either : Either A B C) where
+  left_of : (s : System) → IsSystem s → (n : Needed) → IsOneOf A s n → IsOneOf C s n
+  left_of s system n one = record {
+    slot = one.slot;
+    register = one.register;
+    some = one.some;
+    addresses = one.addresses;
+    each = λ a held. (either s n.name.slot n.name.register (space_of n.space) a n.prefetch).1 (inl (one.each a held));
+    only = λ space a p is. elim ((either s n.name.slot n.name.register space a p).0 is) [
+      | inl here ↦ one.only space a p here
+      | inr other ↦ absurd (apart s system n.name.slot n.name.register (space_of n.space) n.range.first n.prefetch space a p (first_of A s n one) other)
+    ];
+  }
+
+  right_of : (s : System) → IsSystem s → (n : Needed) → IsOneOf B s n → IsOneOf C s n
+  right_of s system n one = record {
+    slot = one.slot;
+    register = one.register;
+    some = one.some;
+    addresses = one.addresses;
+    each = λ a held. (either s n.name.slot n.name.register (space_of n.space) a n.prefetch).1 (inr (one.each a held));
+    only = λ space a p is. elim ((either s n.name.slot n.name.register space a p).0 is) [
+      | inl other ↦ absurd (apart s system n.name.slot n.name.register space a p (space_of n.space) n.range.first n.prefetch other (first_of B s n one))
+      | inr here ↦ one.only space a p here
+    ];
+  }
+
+  two_differ : (s : System) → IsSystem s → (n m : Needed) → IsOneOf A s n → IsOneOf B s m → Differ n m
+  two_differ s system n m one two same =
+      let names = one_name n m one.slot two.slot one.register two.register same in
+      let there : A s m.name.slot m.name.register (space_of n.space) n.range.first n.prefetch =
+      subst (λ (x : Slot). A s x m.name.register (space_of n.space) n.range.first n.prefetch) names.0
+      (subst (λ r. A s n.name.slot r (space_of n.space) n.range.first n.prefetch) names.1 (first_of A s n one)) in
+      apart s system m.name.slot m.name.register (space_of n.space) n.range.first n.prefetch (space_of m.space) m.range.first m.prefetch there (first_of B s m two)
+
+  both_are : (s : System) → IsSystem s → (xs ys : List Needed) → AreJust A Differ s xs → AreJust B Differ s ys → AreJust C Differ s (xs ++ ys)
+  both_are s system xs ys one two = record {
+    each = λ n has. elim (Contains-append_cases xs ys n has) [
+      | inl before ↦ left_of s system n (one.each n before)
+      | inr here ↦ right_of s system n (two.each n here)
+    ];
+    complete = λ slot register space a p is. elim ((either s slot register space a p).0 is) [
+      | inl here ↦ has_more xs (xs ++ ys) (Contains-append_left xs ys) slot register (one.complete slot register space a p here)
+      | inr there ↦ has_more ys (xs ++ ys) (Contains-append_right xs ys) slot register (two.complete slot register space a p there)
+    ];
+    pairs = pairs_append Differ xs ys one.pairs two.pairs (λ n m in_xs in_ys. two_differ s system n m (one.each n in_xs) (two.each m in_ys));
+  }
+
+  pub both_added : (t : Tree) (a b c : List Needed) → AreAdded A t a b → AreAdded B t b c → AreAdded C t a c
+  both_added t a b c one two = record {
+    more = one.more ++ two.more;
+    appended = two.appended ∙ ap (λ (l : List Needed). l ++ two.more) one.appended ∙ append_assoc a one.more two.more;
+    are = λ s tree. both_are s tree.system one.more two.more (one.are s tree) (two.are s tree);
+  }
+
+-- where there is none
+pub none_added : (W : Which) (t : Tree) → ((s : System) → HasTree t s → (slot : Slot) (register : ℕ) (space : SpaceValue) (a : ℕ) (p : Bool) → W s slot register space a p → ⊥)
+    → (list : List Needed) → AreAdded W t list list
+none_added W t none list = record {
+  more = [];
+  appended = sym (append-nil list);
+  are = λ s tree. record {
+    each = λ n has. absurd (in_nil n has);
+    complete = λ slot register space a p is. absurd (none s tree slot register space a p is);
+    pairs = pairs_nil Differ;
+  };
+}
+
+-- where two sources are the same
+pub same_added : (A B : Which) (t : Tree)
+    → ((s : System) → HasTree t s → (slot : Slot) (register : ℕ) (space : SpaceValue) (a : ℕ) (p : Bool) → A s slot register space a p ↔ B s slot register space a p)
+    → (before after : List Needed) → AreAdded A t before after → AreAdded B t before after
+same_added A B t same before after added = record {
+  more = added.more;
+  appended = added.appended;
+  are = λ s tree.
+      let are = added.are s tree in record {
+        each = λ n has. (let one = are.each n has in record {
+          slot = one.slot;
+          register = one.register;
+          some = one.some;
+          addresses = one.addresses;
+          each = λ a held. (same s tree n.name.slot n.name.register (space_of n.space) a n.prefetch).0 (one.each a held);
+          only = λ space a p is. one.only space a p ((same s tree n.name.slot n.name.register space a p).1 is);
+        });
+        complete = λ slot register space a p is. are.complete slot register space a p ((same s tree slot register space a p).1 is);
+        pairs = are.pairs;
+      };
+}
+
+-- ---- BARs and ROMs of a bus and a space
+
+module _ (s : System) (system : IsSystem s) (bus : ℕ) (space : Space) (regions : List Region) (are : AreRegionsOf s bus (space_of space) regions) where
   abbrev is_one : Region → Bool
   is_one r = not (is_of_window r.part)
 
-  each_among : (b : BarOrRom) → Contains (among space regions) b → IsBarOrRom s b × IsOnBusIn bus (space_of space) b.region.slot.bus (space_of b.space)
-  each_among b has =
-      let made = in_map_to as_one (filter is_one regions) b has in
-      let kept = in_filter_to is_one regions made.from made.has in
-      let on = are.each made.from kept.0 in
-      let at : made.from.slot.bus ≡ bus = ap (λ (x : Slot). x.bus) on.is.slot ∙ on.on_bus in
-      let is : IsBarOrRom s (as_one made.from) = record {
-        on = subst (λ n. IsRegionOn s n (space_of space) made.from) (sym at) on;
-        no_window = not-true _ kept.1;
-      } in
-      subst (λ (x : BarOrRom). IsBarOrRom s x × IsOnBusIn bus (space_of space) x.region.slot.bus (space_of x.space)) made.is (is, (at, refl))
+  module _ (r : Region) (on : IsRegionOn s bus (space_of space) r) where
+    first_claimed : Claims on.f on.part (space_of space) r.first
+    first_claimed = (on.is.claims r.first).0 (omega arith, on.is.some)
 
-  complete_among : (f : Function) (part : Part) (sp : SpaceValue) (a : ℕ) → Contains s f → is_window part ≡ false → IsOnBusIn bus (space_of space) f.slot.bus sp → Claims f part sp a
-      → HasBarOrRom (among space regions) f part sp
-  complete_among f part sp a listed no_window at claims =
-      let found = are.complete f part a listed at.0 (subst (λ (x : SpaceValue). Claims f part x a) at.1 claims) in
+    register_low : r.reg < 256
+    register_low = let low = register_of-lt on.f on.part first_claimed.there in let register = on.is.register in omega (arith, low, register)
+
+    slot_on : r.slot.bus ≡ bus
+    slot_on = ap (λ (x : Slot). x.bus) on.is.slot ∙ on.on_bus
+
+    only_here : (sp : SpaceValue) (a : ℕ) (p : Bool) → IsOfBar s r.slot r.reg sp a p → (sp ≡ space_of space) × Holds (needed_of space r).range a × (p ≡ r.prefetch)
+    only_here sp a p bar =
+        let same = same_region s system bar.f on.f bar.part on.part sp (space_of space) a r.first bar.listed on.listed (bar.named.0 ∙ on.is.slot) (bar.named.1 ∙ on.is.register) bar.claims first_claimed in
+        let claims : Claims on.f on.part (space_of space) a =
+        subst (λ (x : SpaceValue). Claims on.f on.part x a) same.2 (subst (λ q. Claims on.f q sp a) same.1 (subst (λ f. Claims f bar.part sp a) same.0 bar.claims)) in
+        let kind : is_prefetchable_part on.f on.part ≡ p =
+        subst (λ q. is_prefetchable_part on.f q ≡ p) same.1 (subst (λ (f : Function). is_prefetchable_part f bar.part ≡ p) same.0 bar.kind) in
+        (same.2, (on.is.claims a).1 claims, sym kind ∙ sym on.is.prefetch)
+
+    one_region : is_of_window r.part ≡ false → IsOneOf (IsOfBarAt (IsOnBusIn bus (space_of space))) s (needed_of space r)
+    one_region no_window = record {
+      slot = subst IsSlot (sym on.is.slot) (slot_of s system on.f on.listed);
+      register = (let low = register_low in omega (arith, low));
+      some = on.is.some;
+      addresses = λ a held. ((on.is.claims a).0 held).address;
+      each = λ a held. (
+        record {
+          f = on.f;
+          part = on.part;
+          listed = on.listed;
+          named = (sym on.is.slot, sym on.is.register);
+          no_window = window_named on.part ∙ ap is_of_window (sym on.is.named) ∙ no_window;
+          claims = (on.is.claims a).0 held;
+          kind = sym on.is.prefetch;
+        },
+        (slot_on, refl),
+      );
+      only = λ sp a p is. only_here sp a p is.0;
+    }
+
+  each_among : (n : Needed) → Contains (needed_among space regions) n → IsOneOf (IsOfBarAt (IsOnBusIn bus (space_of space))) s n
+  each_among n has =
+      let made = in_map_to (needed_of space) (filter is_one regions) n has in
+      let kept = in_filter_to is_one regions made.from made.has in
+      subst (IsOneOf (IsOfBarAt (IsOnBusIn bus (space_of space))) s) made.is (one_region made.from (are.each made.from kept.0) (not-true _ kept.1))
+
+  complete_among : (slot : Slot) (register : ℕ) (sp : SpaceValue) (a : ℕ) (p : Bool) → IsOfBarAt (IsOnBusIn bus (space_of space)) s slot register sp a p → HasName (needed_among space regions) slot register
+  complete_among slot register sp a p (bar, at) =
+      let found = are.complete bar.f bar.part a bar.listed (ap (λ (x : Slot). x.bus) bar.named.0 ∙ at.0) (subst (λ (x : SpaceValue). Claims bar.f bar.part x a) at.1 bar.claims) in
       record {
-        b = as_one found.q;
-        has = in_map_from as_one (filter is_one regions) found.q (in_filter_from is_one regions found.q found.has
-            (not_from_false _ (ap is_of_window found.is.named ∙ sym (window_named part) ∙ no_window)));
-        space_is = sym at.1;
-        is = subst (λ (x : SpaceValue). IsRegionOf f part x found.q) (sym at.1) found.is;
+        n = needed_of space found.q;
+        has = in_map_from (needed_of space) (filter is_one regions) found.q (in_filter_from is_one regions found.q found.has
+            (not_from_false _ (ap is_of_window found.is.named ∙ sym (window_named bar.part) ∙ bar.no_window)));
+        slot_is = found.is.slot ∙ bar.named.0;
+        register_is = found.is.register ∙ bar.named.1;
       }
 
-  among_are : AreBarsAndRomsAt (IsOnBusIn bus (space_of space)) Differ s (among space regions)
+  regions_differ : AllPairs (λ p q. Differ (needed_of space p) (needed_of space q)) regions
+  regions_differ i j d less within same =
+      let p = get_or regions i d in
+      let q = get_or regions j d in
+      let up = are.rising i j d less within in
+      let low = register_low p (are.each p (Contains-get_or regions i d (omega (arith, less, within)))) in
+      let high = register_low q (are.each q (Contains-get_or regions j d within)) in
+      let no : ⊥ = omega (arith, up, same, low, high) in
+      no
+
+  among_are : AreJust (IsOfBarAt (IsOnBusIn bus (space_of space))) Differ s (needed_among space regions)
   among_are = record {
     each = each_among;
     complete = complete_among;
-    pairs = pairs_map Differ as_one (filter is_one regions) (pairs_filter (λ p q. region_number p ≡ region_number q → ⊥) is_one regions
-        (λ i j d less within e. (let up = are.rising i j d less within in let no : ⊥ = omega (arith, up, e) in no)));
+    pairs = pairs_map Differ (needed_of space) (filter is_one regions) (pairs_filter (λ p q. Differ (needed_of space p) (needed_of space q)) is_one regions regions_differ);
   }
 
-pub among_added : (t : Tree) (bus : ℕ) (space : Space) (regions : List Region) (before after : List BarOrRom)
-    → ((s : System) → HasTree t s → AreRegionsOf s bus (space_of space) regions) → after ≡ before ++ among space regions
-    → AreBarsAndRomsAdded (IsOnBusIn bus (space_of space)) t before after
-among_added t bus space regions before after are appended = record { more = among space regions; appended = appended; are = λ s tree. among_are s bus space regions (are s tree) }
+pub among_added : (t : Tree) (bus : ℕ) (space : Space) (regions : List Region) (before after : List Needed)
+    → ((s : System) → HasTree t s → AreRegionsOf s bus (space_of space) regions) → after ≡ before ++ needed_among space regions
+    → AreBarsAdded (IsOnBusIn bus (space_of space)) t before after
+among_added t bus space regions before after are appended = record { more = needed_among space regions; appended = appended; are = λ s tree. among_are s tree.system bus space regions (are s tree) }
 
--- ---- of several
+-- ---- BARs and ROMs of all buses
 
-has_more : (xs ys : List BarOrRom) → ((b : BarOrRom) → Contains xs b → Contains ys b) → (f : Function) (part : Part) (space : SpaceValue)
-    → HasBarOrRom xs f part space → HasBarOrRom ys f part space
-has_more xs ys within f part space has = record { b = has.b; has = within has.b has.has; space_is = has.space_is; is = has.is }
+-- a name is of one bus and space
+bars_apart : (A B : Where) → ((n : ℕ) (sp : SpaceValue) → A n sp → B n sp → ⊥) → Apart (IsOfBarAt A) (IsOfBarAt B)
+bars_apart A B never s system slot register space a p sp b q (x, in_a) (y, in_b) =
+    let same = same_region s system x.f y.f x.part y.part space sp a b x.listed y.listed (x.named.0 ∙ sym y.named.0) (x.named.1 ∙ sym y.named.1) x.claims y.claims in
+    never slot.bus sp (subst (λ (v : SpaceValue). A slot.bus v) same.2 in_a) in_b
+
+bars_either : (A B C : Where) → ((n : ℕ) (sp : SpaceValue) → C n sp ↔ (A n sp ⊎ B n sp)) → Either (IsOfBarAt A) (IsOfBarAt B) (IsOfBarAt C)
+bars_either A B C either s slot register space a p = (
+  λ (x, at). elim ((either slot.bus space).0 at) [ inl in_a ↦ inl (x, in_a) | inr in_b ↦ inr (x, in_b) ],
+  λ of. elim of [ inl (x, in_a) ↦ (x, (either slot.bus space).1 (inl in_a)) | inr (x, in_b) ↦ (x, (either slot.bus space).1 (inr in_b)) ],
+)
 
 module _ (t : Tree) where
-  module _ (A B C : Where) (never : (n : ℕ) (sp : SpaceValue) → A n sp → B n sp → ⊥) (either : (n : ℕ) (sp : SpaceValue) → C n sp ↔ (A n sp ⊎ B n sp)) where
-    both_are : (s : System) → IsSystem s → (xs ys : List BarOrRom) → AreBarsAndRomsAt A Differ s xs → AreBarsAndRomsAt B Differ s ys → AreBarsAndRomsAt C Differ s (xs ++ ys)
-    both_are s system xs ys one two = record {
-      each = λ b has. elim (Contains-append_cases xs ys b has) [
-        | inl before ↦ (let is = one.each b before in (is.0, (either b.region.slot.bus (space_of b.space)).1 (inl is.1)))
-        | inr here ↦ (let is = two.each b here in (is.0, (either b.region.slot.bus (space_of b.space)).1 (inr is.1)))
-      ];
-      complete = λ f part space a listed no_window at claims. elim ((either f.slot.bus space).0 at) [
-        | inl p ↦ has_more xs (xs ++ ys) (Contains-append_left xs ys) f part space (one.complete f part space a listed no_window p claims)
-        | inr q ↦ has_more ys (xs ++ ys) (Contains-append_right xs ys) f part space (two.complete f part space a listed no_window q claims)
-      ];
-      pairs = pairs_append Differ xs ys one.pairs two.pairs (λ b c in_xs in_ys same.
-          let is_b = one.each b in_xs in
-          let is_c = two.each c in_ys in
-          let at = one_place s system b c is_b.0 is_c.0 same in
-          never c.region.slot.bus (space_of c.space)
-          (subst (λ (x : SpaceValue). A c.region.slot.bus x) at.1 (subst (λ n. A n (space_of b.space)) at.0 is_b.1)) is_c.1);
+  both_bars : (A B C : Where) → ((n : ℕ) (sp : SpaceValue) → A n sp → B n sp → ⊥) → ((n : ℕ) (sp : SpaceValue) → C n sp ↔ (A n sp ⊎ B n sp))
+      → (a b c : List Needed) → AreBarsAdded A t a b → AreBarsAdded B t b c → AreBarsAdded C t a c
+  both_bars A B C never either a b c one two = both_added (IsOfBarAt A) (IsOfBarAt B) (IsOfBarAt C) (bars_apart A B never) (bars_either A B C either) t a b c one two
+
+  pub both_spaces : (bus : ℕ) (a b c : List Needed) → AreBarsAdded (IsOnBusIn bus Io) t a b → AreBarsAdded (IsOnBusIn bus Memory) t b c → AreBarsAdded (IsOnBus bus) t a c
+  both_spaces bus a b c one two = both_bars (IsOnBusIn bus Io) (IsOnBusIn bus Memory) (IsOnBus bus) (not_both_spaces bus) (either_space bus) a b c one two
+
+  pub no_bus : (list : List Needed) → AreBarsAdded (IsBelow 0) t list list
+  no_bus list = none_added (IsOfBarAt (IsBelow 0)) t (λ s tree slot register space a p is. (let below = is.1 in let no : ⊥ = omega (arith, below) in no)) list
+
+  pub one_bus_more : (n : ℕ) (a b c : List Needed) → AreBarsAdded (IsBelow n) t a b → AreBarsAdded (IsOnBus n) t b c → AreBarsAdded (IsBelow (n + 1)) t a c
+  one_bus_more n a b c one two = both_bars (IsBelow n) (IsOnBus n) (IsBelow (n + 1)) (not_below_and_on n) (below_or_on n) a b c one two
+
+  pub all_buses : (a b : List Needed) → AreBarsAdded (IsBelow 256) t a b → AreAdded IsOfBar t a b
+  all_buses a b added = same_added (IsOfBarAt (IsBelow 256)) IsOfBar t (λ s tree slot register space a p. (
+    λ is. is.0,
+    λ (bar : IsOfBar s slot register space a p). (bar, subst (λ (x : Slot). x.bus < 256) bar.named.0 (slot_of s tree.system bar.f bar.listed).0),
+  )) a b added
+
+-- ---- all
+
+-- a BAR's register is below those of told ranges
+bars_and_ranges_apart : (told : Told) → Apart IsOfBar (IsOfRange told)
+bars_and_ranges_apart told s system slot register space a p sp b q bar range =
+    let low = register_of-lt bar.f bar.part bar.claims.there in
+    let is = bar.named.1 in
+    let high = range.needs.named.register in
+    let no : ⊥ = omega (arith, low, is, high) in
+    no
+
+pub all_are : (told : Told) (t : Tree) (none bars xs ys : List Needed) → none ≡ [] → AreAdded IsOfBar t none bars → AreAdded (IsOfRange told) t bars xs → IsPermutation xs ys
+    → IsNonDecreasingBy needed_place ys → AreAllNeeded told t ys
+all_are told t none bars xs ys empty of_bars of_ranges moved sorted s tree =
+    let added = both_added IsOfBar (IsOfRange told) (IsNeeded told) (bars_and_ranges_apart told) (λ s slot register space a p. (λ x. x, λ x. x)) t none bars xs of_bars of_ranges in
+    let is : xs ≡ added.more = added.appended ∙ ap (λ (l : List Needed). l ++ added.more) empty in
+    let all = subst (AreJust (IsNeeded told) Differ s) (sym is) (added.are s tree) in record {
+      each = λ n has. all.each n (Contains-permutation ys xs n (IsPermutation-sym xs ys moved) has);
+      complete = λ slot register space a p is. has_more xs ys (λ n has. Contains-permutation xs ys n moved has) slot register (all.complete slot register space a p is);
+      pairs = rise_in_order needed_place xs ys all.pairs moved sorted;
     }
-
-    both_added : (a b c : List BarOrRom) → AreBarsAndRomsAdded A t a b → AreBarsAndRomsAdded B t b c → AreBarsAndRomsAdded C t a c
-    both_added a b c one two = record {
-      more = one.more ++ two.more;
-      appended = two.appended ∙ ap (λ (l : List BarOrRom). l ++ two.more) one.appended ∙ append_assoc a one.more two.more;
-      are = λ s tree. both_are s tree.system one.more two.more (one.are s tree) (two.are s tree);
-    }
-
-  pub both_spaces : (bus : ℕ) (a b c : List BarOrRom) → AreBarsAndRomsAdded (IsOnBusIn bus Io) t a b → AreBarsAndRomsAdded (IsOnBusIn bus Memory) t b c → AreBarsAndRomsAdded (IsOnBus bus) t a c
-  both_spaces bus a b c one two = both_added (IsOnBusIn bus Io) (IsOnBusIn bus Memory) (IsOnBus bus) (not_both_spaces bus) (either_space bus) a b c one two
-
-  pub no_bus : (list : List BarOrRom) → AreBarsAndRomsAdded (IsBelow 0) t list list
-  no_bus list = record {
-    more = [];
-    appended = sym (append-nil list);
-    are = λ s tree. record {
-      each = λ b has. absurd (in_nil b has);
-      complete = λ f part space a listed no_window at claims. absurd (let no : ⊥ = omega (arith, at) in no);
-      pairs = pairs_nil Differ;
-    };
-  }
-
-  pub one_bus_more : (n : ℕ) (a b c : List BarOrRom) → AreBarsAndRomsAdded (IsBelow n) t a b → AreBarsAndRomsAdded (IsOnBus n) t b c → AreBarsAndRomsAdded (IsBelow (n + 1)) t a c
-  one_bus_more n a b c one two = both_added (IsBelow n) (IsOnBus n) (IsBelow (n + 1)) (not_below_and_on n) (below_or_on n) a b c one two
-
-  pub all_buses : (a b : List BarOrRom) → AreBarsAndRomsAdded (IsBelow 256) t a b → AreBarsAndRomsAdded IsAnywhere t a b
-  all_buses a b added = record {
-    more = added.more;
-    appended = added.appended;
-    are = λ s tree.
-        let below = added.are s tree in record {
-          each = λ b has. ((below.each b has).0, tt {0});
-          complete = λ f part space a listed no_window at claims. below.complete f part space a listed no_window (slot_of s tree.system f listed).0 claims;
-          pairs = below.pairs;
-        };
-  }
-
-  pub all_are : (none xs ys : List BarOrRom) → none ≡ [] → AreBarsAndRomsAdded IsAnywhere t none xs → IsPermutation xs ys → IsNonDecreasingBy bar_or_rom_place ys → AreAllBarsAndRoms t ys
-  all_are none xs ys empty added moved sorted s tree =
-      let is : xs ≡ added.more = added.appended ∙ ap (λ (l : List BarOrRom). l ++ added.more) empty in
-      let all = subst (AreBarsAndRomsAt IsAnywhere Differ s) (sym is) (added.are s tree) in record {
-        each = λ b has. all.each b (Contains-permutation ys xs b (IsPermutation-sym xs ys moved) has);
-        complete = λ f part space a listed no_window at claims.
-            has_more xs ys (λ b has. Contains-permutation xs ys b moved has) f part space (all.complete f part space a listed no_window at claims);
-        pairs = rise_in_order bar_or_rom_place xs ys all.pairs moved sorted;
-      }

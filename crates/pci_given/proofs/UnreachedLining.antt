@@ -1,4 +1,4 @@
--- The faults 60 of all BARs and ROMs, as a list of all has them.
+-- The faults 60 of all regions that have to be reached, as a list of all has them.
 use Rattle.std.proofs.Common.{rules, ◌≡◌, ℕ, ◌+◌, ◌<◌, inl, inr, List, [], ◌∷◌, ◌++◌, length, get_or, map, take, refl, sym, ◌∙◌, ap, subst, arith}
 use Rattle.std.specs.Bool.{IsTrue}
 use Rattle.std.specs.List.{AllPairs, Contains}
@@ -11,47 +11,49 @@ use Rattle.pci_spec.specs.Fault.{address_in, named_region}
 use Rattle.pci_spec.proofs.FirstLines.{same_precedes}
 use Rattle.pci_spec.proofs.Members.{in_map_to, in_map_from, pairs_map}
 use Rattle.pci_base.specs.Space.{space_of}
-use Rattle.pci_function.specs.declared.fault.Fault.{Fault}
-use Rattle.pci_function.specs.Fault.{fault_of}
 use Rattle.pci_tree.specs.Outline.{Tree}
 use Rattle.pci_tree.specs.Trees.{HasTree}
 use Rattle.given_spec.specs.Given.{Given}
 use Rattle.given_spec.specs.Fault.{Known, Outside, fault_number}
 use Rattle.given_spec.specs.Fault as spec
-use Rattle.given_spec.specs.AllFaults.{IsUnreachedOf, IsNamed, judging_key}
-use Rattle.given_spec.specs.Numbered.{AreAllNumbered}
-use Rattle.pci_given.specs.declared.bars_and_roms.BarOrRom.{BarOrRom}
+use Rattle.given_spec.specs.AllFaults.{judging_key}
+use Rattle.given_spec.specs.ToldClaims.{Told}
+use Rattle.given_spec.specs.ToldAllFaults.{region_number, IsUnreachedOf, IsNamed}
+use Rattle.given_spec.specs.ToldNumbered.{AreListedIn, AreAllNumbered}
+use Rattle.pci_given.specs.declared.needed.Needed.{Needed}
+use Rattle.pci_given.specs.declared.named.Unreached.{Unreached}
+use Rattle.pci_given.specs.Named.{unreached_of, AreAllUnreached}
+use Rattle.pci_given.specs.Needed.{needed_place, IsNeeded, AreJust, AreAllNeeded}
 use Rattle.pci_given.specs.Stopped.{IsNeverUnreached, IsUnreachedLine}
-use Rattle.pci_given.specs.BarsAndRoms.{bar_or_rom_place, AreBarsAndRomsOf, AreAllBarsAndRoms}
-use Rattle.pci_given.specs.UnreachedLines.{unreached_at, place_of_fault, IsUnreachedOfOne, AreUnreachedLines, AreAllUnreached}
+use Rattle.pci_given.specs.UnreachedLines.{unreached_at, IsUnreachedOfOne, AreUnreachedLines}
 use Rattle.pci_claims.proofs.Making.{made_none, made_more, made_less}
-use Rattle.pci_given.proofs.Listing.{named_as}
 use Rattle.pci_given.proofs.Lining.{region_precedes}
+use Rattle.pci_given.proofs.Unreaching.{unreached_from}
 
 -- ---- one by one
 
 module _ (given : Given) (t : Tree) where
-  abbrev place : Fault → ℕ
-  place f = place_of_fault (fault_of f)
+  abbrev place : Unreached → ℕ
+  place f = region_number f.region.slot f.region.register
 
-  abbrev HasOne : BarOrRom → Type 0
-  HasOne b = IsNeverUnreached given t (space_of b.space) b.region → ⊥
+  abbrev HasOne : Needed → Type 0
+  HasOne n = IsNeverUnreached given t n → ⊥
 
-  numbered : (b : BarOrRom) (f : Fault) → IsUnreachedOfOne given t b f → place f ≡ bar_or_rom_place b
-  numbered b f (address, bridge, line, is) = sym (ap place is)
+  numbered : (n : Needed) (f : Unreached) → IsUnreachedOfOne given t n f → place f ≡ needed_place n
+  numbered n f (address, bridge, line, is) = sym (ap place is)
 
   pub none_unreached : AreUnreachedLines given t [] []
-  none_unreached = made_none (IsUnreachedOfOne given t) HasOne bar_or_rom_place place numbered
+  none_unreached = made_none (IsUnreachedOfOne given t) HasOne needed_place place numbered
 
-  module _ (list : List BarOrRom) (i : ℕ) (b : BarOrRom) (lines : List Fault) (within : i < length list) (at : b ≡ get_or list i b)
+  module _ (list : List Needed) (i : ℕ) (n : Needed) (lines : List Unreached) (within : i < length list) (at : n ≡ get_or list i n)
       (made : AreUnreachedLines given t (take i list) lines) where
-    pub one_unreached_more : (address : ℕ) (bridge : Slot) → IsUnreachedLine given t (space_of b.space) b.region address bridge
-        → AreUnreachedLines given t (take (i + 1) list) (lines ++ unreached_at b address bridge ∷ [])
+    pub one_unreached_more : (address : ℕ) (bridge : Slot) → IsUnreachedLine given t n address bridge
+        → AreUnreachedLines given t (take (i + 1) list) (lines ++ unreached_at n address bridge ∷ [])
     one_unreached_more address bridge line =
-        made_more (IsUnreachedOfOne given t) HasOne bar_or_rom_place place numbered list i b lines within at made (unreached_at b address bridge) (address, bridge, line, refl)
+        made_more (IsUnreachedOfOne given t) HasOne needed_place place numbered list i n lines within at made (unreached_at n address bridge) (address, bridge, line, refl)
 
-    pub no_unreached_more : IsNeverUnreached given t (space_of b.space) b.region → AreUnreachedLines given t (take (i + 1) list) lines
-    no_unreached_more never = made_less (IsUnreachedOfOne given t) HasOne bar_or_rom_place place numbered list i b lines within at made (λ has. has never)
+    pub no_unreached_more : IsNeverUnreached given t n → AreUnreachedLines given t (take (i + 1) list) lines
+    no_unreached_more never = made_less (IsUnreachedOfOne given t) HasOne needed_place place numbered list i n lines within at made (λ has. has never)
 
 -- ---- all
 
@@ -60,9 +62,9 @@ same_fault s t r q space other a b slot register same =
     ap (λ (x : Slot). plain.Unreached x r space a b) slot ∙ ap (λ n. plain.Unreached t n space a b) register ∙ ap (λ (x : Space). plain.Unreached t q x a b) same
 
 -- two lines of one region
-one_line : (given : Given) (roots : List ℕ) (s : System) (slot : Slot) (register : ℕ) (space : Space) (a e : ℕ) (b c : Slot)
-    → IsUnreachedOf given roots s (named_region slot register) (address_in space a) b → IsUnreachedOf given roots s (named_region slot register) (address_in space e) c → (a ≡ e) × (b ≡ c)
-one_line given roots s slot register space a e b c one other = elim (one.first space e c other.there) [
+one_line : (told : Told) (given : Given) (roots : List ℕ) (s : System) (slot : Slot) (register : ℕ) (space : Space) (a e : ℕ) (b c : Slot)
+    → IsUnreachedOf told given roots s (named_region slot register) (address_in space a) b → IsUnreachedOf told given roots s (named_region slot register) (address_in space e) c → (a ≡ e) × (b ≡ c)
+one_line told given roots s slot register space a e b c one other = elim (one.first space e c other.there) [
   | inl less ↦ elim (other.first space a b one.there) [
     | inl more ↦ absurd (let no : ⊥ = omega (arith, less, more) in no)
     | inr (same, up) ↦ absurd (let number = ap slot_number same in let no : ⊥ = omega (arith, less, number) in no)
@@ -73,84 +75,83 @@ one_line given roots s slot register space a e b c one other = elim (one.first s
   ]
 ]
 
-module _ (given : Given) (t : Tree) (s : System) (tree : HasTree t s) (list : List BarOrRom) (bars : AreBarsAndRomsOf s list) (lines : List Fault) (made : AreUnreachedLines given t list lines) where
+module _ (told : Told) (given : Given) (t : Tree) (s : System) (tree : HasTree t s) (listed : AreListedIn told s) (list : List Needed)
+    (needed : AreJust (IsNeeded told) (λ n m. needed_place n < needed_place m) s list) (lines : List Unreached) (made : AreUnreachedLines given t list lines) where
   abbrev IsLineAt : Slot → ℕ → Space → ℕ → Slot → Type 0
-  IsLineAt slot register space a bridge = IsUnreachedOf given t.roots s (named_region slot register) (address_in space a) bridge
+  IsLineAt slot register space a bridge = IsUnreachedOf told given t.roots s (named_region slot register) (address_in space a) bridge
 
-  abbrev known : Fault → spec.Fault
-  known f = Known (fault_of f)
+  abbrev plain_of : Unreached → plain.Fault
+  plain_of f = plain.Unreached f.region.slot f.region.register (space_of f.space) f.address f.bridge
 
-  abbrev key : Fault → List ℕ
-  key f = judging_key (known f)
+  abbrev key : Unreached → List ℕ
+  key f = judging_key (unreached_of f)
 
-  line_of : (f : Fault) → Contains lines f → IsNamed given t.roots s (known f) × (fault_number (known f) ≡ 60)
+  line_of : (f : Unreached) → Contains lines f → IsNamed told given t.roots s (unreached_of f)
   line_of f has =
-      let (b, in_list, (address, bridge, line, is)) = made.each f has in
-      let one = (bars.each b in_list).0 in
-      subst (λ (x : Fault). IsNamed given t.roots s (known x) × (fault_number (known x) ≡ 60)) is (line s tree b.region.slot.bus one.on one.no_window, refl)
+      let (n, in_list, (address, bridge, line, is)) = made.each f has in
+      subst (λ (x : Unreached). IsNamed told given t.roots s (unreached_of x)) is (line told s tree listed (needed.each n in_list))
 
-  found_at : (b : BarOrRom) → Contains list b → (address : ℕ) (bridge : Slot) → IsLineAt b.region.slot b.region.reg (space_of b.space) address bridge
-      → (f : Fault) × Contains lines f × (fault_of f ≡ plain.Unreached b.region.slot b.region.reg (space_of b.space) address bridge)
-  found_at b has address bridge line =
-      let one = (bars.each b has).0 in
-      let (f, in_lines, (a, c, of, is)) = made.complete b has (λ never. never s tree b.region.slot.bus one.on one.no_window (space_of b.space) address bridge line.there) in
-      let same = one_line given t.roots s b.region.slot b.region.reg (space_of b.space) a address c bridge (of s tree b.region.slot.bus one.on one.no_window) line in (
+  found_at : (n : Needed) → Contains list n → (address : ℕ) (bridge : Slot) → IsLineAt n.name.slot n.name.register (space_of n.space) address bridge
+      → (f : Unreached) × Contains lines f × (plain_of f ≡ plain.Unreached n.name.slot n.name.register (space_of n.space) address bridge)
+  found_at n has address bridge line =
+      let one = needed.each n has in
+      let (f, in_lines, (a, c, of, is)) = made.complete n has (λ never. never told s tree listed one (space_of n.space) address bridge line.there) in
+      let same = one_line told given t.roots s n.name.slot n.name.register (space_of n.space) a address c bridge (of told s tree listed one) line in (
         f,
         in_lines,
-        ap fault_of (sym is) ∙ ap (λ n. plain.Unreached b.region.slot b.region.reg (space_of b.space) n c) same.0
-            ∙ ap (λ (x : Slot). plain.Unreached b.region.slot b.region.reg (space_of b.space) address x) same.1,
+        ap plain_of (sym is) ∙ ap (λ k. plain.Unreached n.name.slot n.name.register (space_of n.space) k c) same.0
+            ∙ ap (λ (x : Slot). plain.Unreached n.name.slot n.name.register (space_of n.space) address x) same.1,
       )
 
   found : (slot : Slot) (register : ℕ) (space : Space) (address : ℕ) (bridge : Slot) → IsLineAt slot register space address bridge
-      → (f : Fault) × Contains lines f × (fault_of f ≡ plain.Unreached slot register space address bridge)
+      → (f : Unreached) × Contains lines f × (plain_of f ≡ plain.Unreached slot register space address bridge)
   found slot register space address bridge line =
-      let u = line.there in
-      let has = bars.complete u.f u.part space address u.listed u.no_window (tt {0}) u.claims in
-      let slot_is : has.b.region.slot ≡ slot = has.is.slot ∙ u.named.0 in
-      let register_is : has.b.region.reg ≡ register = has.is.register ∙ u.named.1 in
-      let (f, in_lines, is) = found_at has.b has.has address bridge
-      (subst (λ (x : Space). IsLineAt has.b.region.slot has.b.region.reg x address bridge) (sym has.space_is)
-      (subst (λ n. IsLineAt has.b.region.slot n space address bridge) (sym register_is) (subst (λ (x : Slot). IsLineAt x register space address bridge) (sym slot_is) line))) in
-      (f, in_lines, is ∙ same_fault has.b.region.slot slot has.b.region.reg register (space_of has.b.space) space address bridge slot_is register_is has.space_is)
+      let (p, needs, stop) = unreached_from told given t.roots s slot register space address bridge line.there in
+      let has = needed.complete slot register space address p needs in
+      let moved : IsNeeded told s has.n.name.slot has.n.name.register space address p =
+      subst (λ k. IsNeeded told s has.n.name.slot k space address p) (sym has.register_is) (subst (λ (x : Slot). IsNeeded told s x register space address p) (sym has.slot_is) needs) in
+      let only = (needed.each has.n has.has).only space address p moved in
+      let (f, in_lines, is) = found_at has.n has.has address bridge
+      (subst (λ (x : Space). IsLineAt has.n.name.slot has.n.name.register x address bridge) only.0
+      (subst (λ k. IsLineAt has.n.name.slot k space address bridge) (sym has.register_is) (subst (λ (x : Slot). IsLineAt x register space address bridge) (sym has.slot_is) line))) in
+      (f, in_lines, is ∙ same_fault has.n.name.slot slot has.n.name.register register (space_of has.n.space) space address bridge has.slot_is has.register_is (sym only.0))
 
-  listed_as : (f : plain.Fault) → IsNamed given t.roots s (Known f) → fault_number (Known f) ≡ 60 → (g : Fault) × Contains lines g × (fault_of g ≡ f)
+  listed_as : (f : plain.Fault) → IsNamed told given t.roots s (Known f) → fault_number (Known f) ≡ 60 → (g : Unreached) × Contains lines g × (plain_of g ≡ f)
   listed_as (plain.Unreached slot register space a bridge) line number = found slot register space a bridge line
   listed_as (plain.Clash bus space a f r g q) line number = absurd (let no : ⊥ = omega (arith, number) in no)
   listed_as (plain.Split space a f r g q) line number = absurd (let no : ⊥ = omega (arith, number) in no)
   listed_as f line number = absurd (search rules)
 
-  complete_of : (f : spec.Fault) → IsNamed given t.roots s f → fault_number f ≡ 60 → Contains (map known lines) f
+  complete_of : (f : spec.Fault) → IsNamed told given t.roots s f → fault_number f ≡ 60 → Contains (map unreached_of lines) f
   complete_of (Known f) named number =
       let (g, has, is) = listed_as f named number in
-      subst (λ (x : plain.Fault). Contains (map known lines) (Known x)) is (in_map_from known lines g has)
+      subst (λ (x : plain.Fault). Contains (map unreached_of lines) (Known x)) is (in_map_from unreached_of lines g has)
   complete_of (Outside slot register space a) named number = absurd (let no : ⊥ = omega (arith, number) in no)
 
-  named_at : (b : BarOrRom) → Contains list b → IsSlot b.region.slot × (b.region.reg < 256)
-  named_at b has = named_as s tree.system b.region.slot.bus (space_of b.space) b.region (bars.each b has).0.on
+  named_at : (f : Unreached) → Contains lines f → IsSlot f.region.slot × (f.region.register < 8192)
+  named_at f has =
+      let (n, in_list, (address, bridge, line, is)) = made.each f has in
+      let one = needed.each n in_list in
+      subst (λ (x : Unreached). IsSlot x.region.slot × (x.region.register < 8192)) is (one.slot, one.register)
 
-  two_rise : (f g : Fault) → Contains lines f → Contains lines g → place_of_fault (fault_of f) < place_of_fault (fault_of g) → IsTrue (precedes (key f) (key g))
+  two_rise : (f g : Unreached) → Contains lines f → Contains lines g → place given t f < place given t g → IsTrue (precedes (key f) (key g))
   two_rise f g in_f in_g less =
-      let (b, has_b, (a, d, line, is)) = made.each f in_f in
-      let (c, has_c, (e, h, other, same)) = made.each g in_g in
-      let low = numbered given t b f (a, d, line, is) in
-      let up = numbered given t c g (e, h, other, same) in
-      let ahead = slot_key b.region.slot ++ b.region.reg ∷ slot_key d ++ a ∷ [] in
-      let behind = slot_key c.region.slot ++ c.region.reg ∷ slot_key h ++ e ∷ [] in
-      subst (λ (x : Fault). IsTrue (precedes (key f) (key x))) same (subst (λ (x : Fault). IsTrue (precedes (key x) (key (unreached_at c e h)))) is
-      (same_precedes 1 1 (0 ∷ ahead) (0 ∷ behind) refl (same_precedes 0 0 ahead behind refl
-      (region_precedes b.region.slot c.region.slot b.region.reg c.region.reg (slot_key d ++ a ∷ []) (slot_key h ++ e ∷ []) (named_at b has_b) (named_at c has_c) (omega (arith, less, low, up))))))
+      let ahead = slot_key f.region.slot ++ f.region.register ∷ slot_key f.bridge ++ f.address ∷ [] in
+      let behind = slot_key g.region.slot ++ g.region.register ∷ slot_key g.bridge ++ g.address ∷ [] in
+      same_precedes 1 1 (0 ∷ ahead) (0 ∷ behind) refl (same_precedes 0 0 ahead behind refl
+      (region_precedes f.region.slot g.region.slot f.region.register g.region.register (slot_key f.bridge ++ f.address ∷ []) (slot_key g.bridge ++ g.address ∷ []) (named_at f in_f) (named_at g in_g) less))
 
   rise : AllPairs (λ f g. IsTrue (precedes (key f) (key g))) lines
   rise i j d less within =
-      two_rise (get_or lines i d) (get_or lines j d) (Contains-get_or lines i d (omega (arith, less, within))) (Contains-get_or lines j d within) (made.rising bars.pairs i j d less within)
+      two_rise (get_or lines i d) (get_or lines j d) (Contains-get_or lines i d (omega (arith, less, within))) (Contains-get_or lines j d within) (made.rising needed.pairs i j d less within)
 
-  all_numbered : AreAllNumbered 60 given t.roots s (map known lines)
+  all_numbered : AreAllNumbered 60 told given t.roots s (map unreached_of lines)
   all_numbered = record {
-    each = λ f has. (let of = in_map_to known lines f has in
-        subst (λ (x : spec.Fault). IsNamed given t.roots s x × (fault_number x ≡ 60)) of.is (line_of of.from of.has));
+    each = λ f has. (let of = in_map_to unreached_of lines f has in
+        subst (λ (x : spec.Fault). IsNamed told given t.roots s x × (fault_number x ≡ 60)) of.is (line_of of.from of.has, refl));
     complete = complete_of;
-    rising = pairs_map (λ f g. IsTrue (precedes (judging_key f) (judging_key g))) known lines rise;
+    rising = pairs_map (λ f g. IsTrue (precedes (judging_key f) (judging_key g))) unreached_of lines rise;
   }
 
-pub all_unreached_are : (given : Given) (t : Tree) (list : List BarOrRom) (lines : List Fault) → AreAllBarsAndRoms t list → AreUnreachedLines given t list lines → AreAllUnreached given t lines
-all_unreached_are given t list lines bars made s tree = all_numbered given t s tree list (bars s tree) lines made
+pub all_unreached_are : (told : Told) (given : Given) (t : Tree) (list : List Needed) (lines : List Unreached) → AreAllNeeded told t list → AreUnreachedLines given t list lines → AreAllUnreached told given t lines
+all_unreached_are told given t list lines needed made s tree listed = all_numbered told given t s tree listed list (needed s tree) lines made

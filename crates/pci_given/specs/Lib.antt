@@ -4,9 +4,11 @@ pub mod Splits
 pub mod Quiet
 pub mod Missed
 pub mod Stopped
-pub mod BarsAndRoms
+pub mod Needed
+pub mod Asleep
 pub mod OutsideLines
 pub mod UnreachedLines
+pub mod UntoldLines
 pub mod AllLines
 pub mod Named
 pub mod Before

@@ -1,42 +1,46 @@
--- All faults 63 of a system.
-use Rattle.std.specs.Prelude.{◌≡◌, ℕ, List, map}
-use Rattle.pci_spec.specs.System.{System}
-use Rattle.pci_spec.specs.JudgingLaws.{region_number}
+-- The faults 63 of regions that have to be sent.
+use Rattle.std.specs.Prelude.{◌≡◌, ℕ, List}
+use Rattle.pci_spec.specs.System.{System, Space}
+use Rattle.pci_spec.specs.Fault.{address_in, named_region}
 use Rattle.pci_base.specs.Space.{space_of}
 use Rattle.pci_tree.specs.Outline.{Tree}
 use Rattle.pci_tree.specs.Trees.{HasTree}
 use Rattle.given_spec.specs.Given.{Given}
-use Rattle.given_spec.specs.Fault as spec
-use Rattle.given_spec.specs.Numbered.{AreAllNumbered}
-use Rattle.pci_given.specs.declared.bars_and_roms.BarOrRom.{BarOrRom}
-use Rattle.pci_given.specs.declared.outside_lines.Outside.{Outside}
-use Rattle.pci_claims.specs.Outside.{IsNeverOutside, IsOutsideLine}
-use Rattle.pci_given.specs.BarsAndRoms.{bar_or_rom_place}
+use Rattle.given_spec.specs.ToldClaims.{Told}
+use Rattle.given_spec.specs.ToldFault.{IsOutside}
+use Rattle.given_spec.specs.ToldAllFaults.{IsOutsideOf, region_number}
+use Rattle.given_spec.specs.ToldNumbered.{AreListedIn}
 use Rattle.pci_claims.specs.Made.{AreOneEach}
+use Rattle.pci_given.specs.declared.named.Outside.{Outside}
+use Rattle.pci_given.specs.declared.needed.Needed.{Needed}
+use Rattle.pci_given.specs.Needed.{IsNeeded, IsOneOf, needed_place}
 
--- the fault, as the definitions have it
-abbrev pub outside_of : Outside → spec.Fault
-outside_of o = spec.Outside o.slot o.reg (space_of o.space) o.address
+-- in each system with the tree that has the region, whatever else is told, it has no fault 63
+abbrev pub IsNeverOutside : Given → Tree → Needed → Type 0
+IsNeverOutside given t n =
+    (told : Told) (s : System) → HasTree t s → AreListedIn told s → IsOneOf (IsNeeded told) s n
+    → (space : Space) (a : ℕ)
+    → IsOutside told given t.roots s (named_region n.name.slot n.name.register) (address_in space a)
+    → ⊥
 
--- the fault of a BAR or a ROM with this address
-abbrev pub outside_at : BarOrRom → ℕ → Outside
-outside_at b address =
-    record { slot = b.region.slot; reg = b.region.reg; space = b.space; address = address }
+-- in each such system a list of all faults names the region with this address
+abbrev pub IsOutsideLine : Given → Tree → Needed → ℕ → Type 0
+IsOutsideLine given t n a =
+    (told : Told) (s : System) → HasTree t s → AreListedIn told s → IsOneOf (IsNeeded told) s n
+    → IsOutsideOf told given t.roots s (named_region n.name.slot n.name.register)
+    (address_in (space_of n.space) a)
+
+-- the fault of a region with this address
+abbrev pub outside_at : Needed → ℕ → Outside
+outside_at n address = record { region = n.name; space = n.space; address = address }
 
 -- a list of all faults names it
-abbrev pub IsOutsideOfOne : Given → Tree → BarOrRom → Outside → Type 0
-IsOutsideOfOne given t b o =
-    (address : ℕ) × IsOutsideLine given t (space_of b.space) b.region address
-    × (outside_at b address ≡ o)
+abbrev pub IsOutsideOfOne : Given → Tree → Needed → Outside → Type 0
+IsOutsideOfOne given t n o =
+    (address : ℕ) × IsOutsideLine given t n address × (outside_at n address ≡ o)
 
 -- of each of these that has a fault 63 that fault, in their order
-abbrev pub AreOutsideLines : Given → Tree → List BarOrRom → List Outside → Type 0
+abbrev pub AreOutsideLines : Given → Tree → List Needed → List Outside → Type 0
 AreOutsideLines given t list lines =
-    AreOneEach (IsOutsideOfOne given t)
-    (λ b. IsNeverOutside given t (space_of b.space) b.region → ⊥) bar_or_rom_place
-    (λ o. region_number o.slot o.reg) list lines
-
--- all of them, in each system with the tree
-abbrev pub AreAllOutside : Given → Tree → List Outside → Type 0
-AreAllOutside given t lines =
-    (s : System) → HasTree t s → AreAllNumbered 63 given t.roots s (map outside_of lines)
+    AreOneEach (IsOutsideOfOne given t) (λ n. IsNeverOutside given t n → ⊥) needed_place
+    (λ o. region_number o.region.slot o.region.register) list lines

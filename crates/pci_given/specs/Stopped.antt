@@ -1,22 +1,26 @@
 -- The first bridge on the way to a region that doesn't pass all that is sent of it.
-use Rattle.std.specs.Prelude.{◌≡◌, ℕ, ◌<◌, false, IsFalse, List, length, take}
+use Rattle.std.specs.Prelude.{◌≡◌, ℕ, ◌<◌, IsFalse, List, length, take}
 use Rattle.std.specs.List.{All, HoldsAt}
 use Rattle.pci_spec.specs.Slot.{Slot}
 use Rattle.pci_spec.specs.Window.{WindowKind}
 use Rattle.pci_spec.specs.System.{System, Space, window_space}
 use Rattle.pci_spec.specs.Fault.{address_in, named_region}
 use Rattle.pci_base.specs.declared.range.Range.{Range}
+use Rattle.pci_base.specs.Space.{space_of}
 use Rattle.pci_function.specs.declared.record.Record.{Record}
-use Rattle.pci_tree.specs.declared.region.Region.{Region}
 use Rattle.pci_tree.specs.Outline.{Tree}
-use Rattle.pci_tree.specs.Ranges.{Holds}
-use Rattle.pci_tree.specs.Regions.{IsRegionOn, is_of_window}
+use Rattle.pci_tree.specs.Ranges.{Holds, Covers}
 use Rattle.pci_tree.specs.Trees.{HasTree}
+use Rattle.pci_check.specs.Stops.{Reaches, ranges_at}
 use Rattle.given_spec.specs.Given.{Given, is_cut}
-use Rattle.given_spec.specs.Fault.{IsUnreached}
-use Rattle.given_spec.specs.AllFaults.{IsUnreachedOf}
+use Rattle.given_spec.specs.ToldClaims.{Told}
+use Rattle.given_spec.specs.ToldFault.{IsUnreached}
+use Rattle.given_spec.specs.ToldAllFaults.{IsUnreachedOf}
+use Rattle.given_spec.specs.ToldNumbered.{AreListedIn}
 use Rattle.pci_claims.specs.Outside.{IsSent}
 use Rattle.pci_claims.specs.Reached.{PassesAt}
+use Rattle.pci_given.specs.declared.needed.Needed.{Needed}
+use Rattle.pci_given.specs.Needed.{IsNeeded, IsOneOf}
 
 -- ISA Enable takes no address of a space from any window
 abbrev pub NeverCut : Given → Space → Type 0
@@ -44,15 +48,24 @@ pub record IsFirstBridgeThatStops (IsSentThere : ℕ → Type 0) (IsPassedAt : �
   pub stopped : IsPassedAt a bridge → ⊥
   pub least : (b : ℕ) → b < a → Holds range b → IsSentThere b → IsPassedAt b bridge
 
--- in each system with the tree that has the region, a BAR or a ROM, it has no fault 60
-abbrev pub IsNeverUnreached : Given → Tree → Space → Region → Type 0
-IsNeverUnreached given t space r =
-    (s : System) → HasTree t s → (bus : ℕ) → IsRegionOn s bus space r → is_of_window r.part ≡ false
-    → (sp : Space) (a : ℕ) (bridge : Slot)
-    → IsUnreached given t.roots s (named_region r.slot r.reg) (address_in sp a) bridge → ⊥
+-- each address of a region gets to its bus
+abbrev pub IsWholeAt : Reaches → Needed → Type 0
+IsWholeAt reaches n =
+    (a : ℕ) → Holds n.range a
+    → Covers (ranges_at reaches (space_of n.space) n.prefetch n.name.slot.bus) a
+
+-- in each system with the tree that has the region, whatever else is told, it has no fault 60
+abbrev pub IsNeverUnreached : Given → Tree → Needed → Type 0
+IsNeverUnreached given t n =
+    (told : Told) (s : System) → HasTree t s → AreListedIn told s → IsOneOf (IsNeeded told) s n
+    → (space : Space) (a : ℕ) (bridge : Slot)
+    → IsUnreached told given t.roots s (named_region n.name.slot n.name.register)
+    (address_in space a) bridge
+    → ⊥
 
 -- in each such system a list of all faults names the region with this address and this bridge
-abbrev pub IsUnreachedLine : Given → Tree → Space → Region → ℕ → Slot → Type 0
-IsUnreachedLine given t space r a bridge =
-    (s : System) → HasTree t s → (bus : ℕ) → IsRegionOn s bus space r → is_of_window r.part ≡ false
-    → IsUnreachedOf given t.roots s (named_region r.slot r.reg) (address_in space a) bridge
+abbrev pub IsUnreachedLine : Given → Tree → Needed → ℕ → Slot → Type 0
+IsUnreachedLine given t n a bridge =
+    (told : Told) (s : System) → HasTree t s → AreListedIn told s → IsOneOf (IsNeeded told) s n
+    → IsUnreachedOf told given t.roots s (named_region n.name.slot n.name.register)
+    (address_in (space_of n.space) a) bridge

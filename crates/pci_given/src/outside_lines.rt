@@ -1,45 +1,57 @@
-//! All regions outside the host's ranges: one fault for each BAR or ROM with an address to which no access starts on
-//! the root above it.
-ghost use Rattle.std.specs.Prelude.{IfOk};
-ghost use Rattle.pci_claims.specs.Values.{given_value};
-ghost use Rattle.pci_given.specs.OutsideLines.{AreOutsideLines, AreAllOutside};
+//! All regions outside the host's ranges: one fault for each BAR, ROM or told range with an address to which no access
+//! starts on the root above it.
+ghost use Rattle.std.specs.Prelude.{IfOk, MatchOption};
+ghost use Rattle.given_spec.specs.Told.{IsTold};
+ghost use Rattle.pci_claims.specs.Values.{given_value, told_value};
+ghost use Rattle.pci_given.specs.Named.{AreAllOutside};
+ghost use Rattle.pci_given.specs.OutsideLines.{IsNeverOutside, IsOutsideLine, AreOutsideLines};
 
-use super::bars_and_roms::{BarOrRom, bars_and_roms};
+use super::named::Outside;
+use super::needed::{Needed, all_needed};
 use pci_base::memory::OutOfMemory;
-use pci_base::slot::Slot;
-use pci_base::space::Space;
 use pci_claims::given::Given;
-use pci_claims::outside::least_outside_host;
+use pci_claims::outside::{least_unsent, root_above};
+use pci_claims::told::Told;
 use pci_tree::outline::Outline;
 use std::alloc::Allocator;
 
-/// Fault 63: an enabled BAR or ROM, and its least address to which no access starts on the root above it.
-#[derive(Clone, Copy, Debug, PartialEq, Eq)]
-pub struct Outside {
-    pub slot: Slot,
-    /// The byte offset of its register.
-    pub reg: u8,
-    pub space: Space,
-    pub address: u64,
+/// The address that a fault 63 of a region names: the least one to which no access starts on the root above it. None where
+/// there is no such address.
+fn least_outside_host<A: Allocator + Copy>(
+    alloc: A,
+    given: &Given<'_>,
+    outline: &Outline<A>,
+    one: &Needed,
+) -> Result<Option<u64>, OutOfMemory>
+    ensures { IfOk result (λ o. MatchOption o
+        (IsNeverOutside (given_value given.now) outline.now one.now)
+        (λ a. IsOutsideLine (given_value given.now) outline.now one.now a)) }
+{
+    let slot = one.name.slot;
+    match outline.path(slot) {
+        None => Ok(None),
+        Some(bridges) => {
+            let root = root_above(bridges.as_slice(), slot.bus());
+            least_unsent(alloc, given, one.space, root, one.range)
+        }
+    }
 }
 
-/// The faults 63 of some BARs and ROMs, in their order.
+/// The faults 63 of some regions, in their order.
 fn outside_among<A: Allocator + Copy>(
     alloc: A,
     given: &Given<'_>,
     outline: &Outline<A>,
-    list: &[BarOrRom],
+    list: &[Needed],
 ) -> Result<Vec<Outside, A>, OutOfMemory>
     ensures { IfOk result
         (λ v. AreOutsideLines (given_value given.now) outline.now list.now v.items) }
 {
     let mut out = Vec::new(alloc);
     for one in list {
-        let region = &one.region;
-        if let Some(address) = least_outside_host(alloc, given, outline, region, one.space)? {
+        if let Some(address) = least_outside_host(alloc, given, outline, one)? {
             out.push(Outside {
-                slot: region.slot,
-                reg: region.reg,
+                region: one.name,
                 space: one.space,
                 address,
             })?;
@@ -48,20 +60,23 @@ fn outside_among<A: Allocator + Copy>(
     Ok(out)
 }
 
-/// All faults 63 of the systems with these records and root buses, with what is given: of each BAR or ROM that is
-/// enabled, and has an address to which no access starts on the root above it, with the least such address. They stand
-/// in the order in which judging looks for them.
+/// All faults 63 of the systems with these records and root buses, with what is given and told: of each region that has to
+/// be sent and has an address to which no access starts on the root above it, with the least such address. They stand in
+/// the order in which judging looks for them.
 pub fn all_outside<A: Allocator + Copy>(
     alloc: A,
     given: &Given<'_>,
+    told: &Told<'_>,
     outline: &Outline<A>,
 ) -> Result<Vec<Outside, A>, OutOfMemory>
-    ensures { IfOk result (λ v. AreAllOutside (given_value given.now) outline.now v.items) }
+    // they are read of a text
+    requires { IsTold told.now.ranges.now }
+    ensures { IfOk result (λ v. AreAllOutside (told_value told.now) (given_value given.now) outline.now v.items) }
 {
     // all is sent to each root bus
     if given.io.is_none() && given.memory.is_none() {
         return Ok(Vec::new(alloc));
     }
-    let list = bars_and_roms(alloc, outline)?;
+    let list = all_needed(alloc, told, outline)?;
     outside_among(alloc, given, outline, &list)
 }

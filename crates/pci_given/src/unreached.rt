@@ -1,6 +1,6 @@
-//! Unreached regions: a BAR or a ROM that is enabled, and has an address that the host sends to the root above it and
-//! that a bridge on the way from there doesn't pass.
-ghost use Rattle.std.specs.Prelude.{IsFalse, MatchOption, IfOk};
+//! Unreached regions: a BAR, a ROM or a told range that has to be reached, and has an address that the host sends to the
+//! root above it and that a bridge on the way from there doesn't pass.
+ghost use Rattle.std.specs.Prelude.{IsFalse, IsTrue, MatchOption, IfOk};
 ghost use Rattle.std.specs.List.{All};
 ghost use Rattle.pci_spec.specs.System.{window_space};
 ghost use Rattle.pci_base.specs.Space.{space_of};
@@ -11,17 +11,16 @@ ghost use Rattle.pci_check.specs.Stops.{AreReachesOf, AlwaysNested};
 ghost use Rattle.pci_claims.specs.Values.{given_value};
 ghost use Rattle.pci_claims.specs.Outside.{IsSent};
 ghost use Rattle.pci_claims.specs.Reached.{PassesAt};
-ghost use Rattle.pci_given.specs.Stopped.{NeverCut, PassesSent, IsFirstBridgeThatStops, IsNeverUnreached, IsUnreachedLine};
+ghost use Rattle.pci_given.specs.Stopped.{NeverCut, PassesSent, IsFirstBridgeThatStops, IsWholeAt, IsNeverUnreached, IsUnreachedLine};
 
-use super::bars_and_roms::BarOrRom;
 use super::missed::least_missed;
+use super::needed::Needed;
 use pci_base::memory::OutOfMemory;
 use pci_base::range::Range;
 use pci_base::slot::Slot;
 use pci_base::space::Space;
 use pci_base::window_kind::WindowKind;
 use pci_check::reached::Reached;
-use pci_check::unreached::is_lost;
 use pci_claims::given::Given;
 use pci_claims::outside::root_above;
 use pci_claims::passed::passed_with;
@@ -29,6 +28,7 @@ use pci_claims::sent::sent_to;
 use pci_function::record::Record;
 use pci_tree::bus::record_at;
 use pci_tree::outline::Outline;
+use pci_tree::ranges::least_outside;
 use std::alloc::Allocator;
 
 /// A bridge, and an address that it doesn't pass.
@@ -82,35 +82,29 @@ fn first_stop<A: Allocator + Copy>(
     Ok(None)
 }
 
-/// What a fault 60 of a BAR or a ROM names: the first bridge on the way to it that doesn't pass all that the host sends of
-/// it, and the least address that this bridge doesn't pass. None where there is no such bridge.
-pub fn first_stop_of<A: Allocator + Copy>(
+/// What a fault 60 of a region names: the first bridge on the way to it that doesn't pass all that the host sends of it,
+/// and the least address that this bridge doesn't pass. None where there is no such bridge.
+fn first_stop_of<A: Allocator + Copy>(
     alloc: A,
     given: &Given<'_>,
     outline: &Outline<A>,
-    one: &BarOrRom,
+    one: &Needed,
 ) -> Result<Option<Stop>, OutOfMemory>
     ensures { IfOk result (λ o. MatchOption o
-        (IsNeverUnreached (given_value given.now) outline.now (space_of one.now.space) one.now.region)
-        (λ stop. IsUnreachedLine (given_value given.now) outline.now (space_of one.now.space)
-        one.now.region stop.address stop.bridge)) }
+        (IsNeverUnreached (given_value given.now) outline.now one.now)
+        (λ stop. IsUnreachedLine (given_value given.now) outline.now one.now stop.address stop.bridge)) }
 {
-    let region = &one.region;
-    match outline.path(region.slot) {
+    let slot = one.name.slot;
+    match outline.path(slot) {
         None => Ok(None),
         Some(bridges) => {
             let path = bridges.as_slice();
             let way = Way {
-                root: root_above(path, region.slot.bus()),
+                root: root_above(path, slot.bus()),
                 bridges: path,
                 records: outline.records(),
             };
-            let range = Range {
-                first: region.first,
-                last: region.last,
-            };
-            let kind = one.space.kind(region.prefetch);
-            first_stop(alloc, given, &way, range, kind)
+            first_stop(alloc, given, &way, one.range, one.space.kind(one.prefetch))
         }
     }
 }
@@ -125,31 +119,45 @@ pub fn are_any_cut(given: &Given<'_>, space: Space) -> bool
     }
 }
 
-/// The same, `reached` being what windows alone let to each bus.
+/// Whether windows alone let all of a region to its bus.
+fn is_whole<A: Allocator + Copy>(reached: &Reached<A>, one: &Needed) -> bool
+    ensures { IsTrue result → IsWholeAt reached.now one.now }
+{
+    let range = one.range;
+    if range.last < range.first {
+        return true;
+    }
+    let passed = reached.ranges(one.name.slot.bus(), one.space.kind(one.prefetch));
+    match least_outside(range, passed) {
+        None => true,
+        Some(_) => false,
+    }
+}
+
+/// What a fault 60 of a region names, `reached` being what windows alone let to each bus.
 pub fn stop_of_lost<A: Allocator + Copy>(
     alloc: A,
     given: &Given<'_>,
     outline: &Outline<A>,
     reached: &Reached<A>,
-    one: &BarOrRom,
+    one: &Needed,
 ) -> Result<Option<Stop>, OutOfMemory>
     // made once, for all regions
     requires reached { AreReachesOf outline.now reached.now }
     // one way alone leads to each bus
     requires nested { AlwaysNested outline.now }
     ensures { IfOk result (λ o. MatchOption o
-        (IsNeverUnreached (given_value given.now) outline.now (space_of one.now.space) one.now.region)
-        (λ stop. IsUnreachedLine (given_value given.now) outline.now (space_of one.now.space)
-        one.now.region stop.address stop.bridge)) }
+        (IsNeverUnreached (given_value given.now) outline.now one.now)
+        (λ stop. IsUnreachedLine (given_value given.now) outline.now one.now stop.address stop.bridge)) }
 {
     // a window may not pass what it holds
     if are_any_cut(given, one.space) {
         return first_stop_of(alloc, given, outline, one);
     }
     // what the windows on the way pass isn't stopped, so that few ways are walked
-    if is_lost(&one.region, reached, one.space, one.region.slot.bus()) {
-        first_stop_of(alloc, given, outline, one)
-    } else {
+    if is_whole(reached, one) {
         Ok(None)
+    } else {
+        first_stop_of(alloc, given, outline, one)
     }
 }

@@ -1,14 +1,17 @@
-//! All unreached regions: one fault for each BAR or ROM with an address that the host sends to the root above it and
-//! that a bridge on the way from there doesn't pass.
+//! All unreached regions: one fault for each BAR, ROM or told range with an address that the host sends to the root above
+//! it and that a bridge on the way from there doesn't pass.
 ghost use Rattle.std.specs.Prelude.{IfOk, IsTrue};
 ghost use Rattle.pci_spec.specs.System.{Io};
 ghost use Rattle.pci_check.specs.Judgement.{AreHome};
 ghost use Rattle.pci_check.specs.Stops.{AreReachesOf, AlwaysNested};
-ghost use Rattle.pci_claims.specs.Values.{given_value};
+ghost use Rattle.given_spec.specs.Told.{IsTold};
+ghost use Rattle.pci_claims.specs.Values.{given_value, told_value};
+ghost use Rattle.pci_given.specs.Named.{AreAllUnreached};
 ghost use Rattle.pci_given.specs.Stopped.{NeverCut};
-ghost use Rattle.pci_given.specs.UnreachedLines.{AreUnreachedLines, AreAllUnreached};
+ghost use Rattle.pci_given.specs.UnreachedLines.{AreUnreachedLines};
 
-use super::bars_and_roms::{BarOrRom, bars_and_roms};
+use super::named::Unreached;
+use super::needed::{Needed, all_needed};
 use super::unreached::{are_any_cut, stop_of_lost};
 use pci_base::memory::OutOfMemory;
 use pci_base::slot::BUSES;
@@ -16,18 +19,18 @@ use pci_base::space::Space;
 use pci_check::reached::Reached;
 use pci_check::unreached::first_unreached;
 use pci_claims::given::Given;
-use pci_function::fault::Fault;
+use pci_claims::told::Told;
 use pci_tree::outline::Outline;
 use std::alloc::Allocator;
 
-/// The faults 60 of some BARs and ROMs, in their order.
+/// The faults 60 of some regions, in their order.
 fn unreached_among<A: Allocator + Copy>(
     alloc: A,
     given: &Given<'_>,
     outline: &Outline<A>,
     reached: &Reached<A>,
-    list: &[BarOrRom],
-) -> Result<Vec<Fault, A>, OutOfMemory>
+    list: &[Needed],
+) -> Result<Vec<Unreached, A>, OutOfMemory>
     requires reached { AreReachesOf outline.now reached.now }
     requires nested { AlwaysNested outline.now }
     ensures { IfOk result
@@ -36,9 +39,8 @@ fn unreached_among<A: Allocator + Copy>(
     let mut out = Vec::new(alloc);
     for one in list {
         if let Some(stop) = stop_of_lost(alloc, given, outline, reached, one)? {
-            out.push(Fault::Unreached {
-                slot: one.region.slot,
-                reg: one.region.reg,
+            out.push(Unreached {
+                region: one.name,
                 space: one.space,
                 address: stop.address,
                 bridge: stop.bridge,
@@ -85,22 +87,25 @@ fn are_all_home<A: Allocator + Copy>(
     }
 }
 
-/// All unreached regions of the systems with these records and root buses, with what is given: 60 of each BAR or ROM
-/// that is enabled, and has an address that the host sends to the root above it and that a bridge on the way from there
-/// doesn't pass, with the first such bridge and the least address that this one doesn't pass. They stand in the order
-/// in which judging looks for them.
+/// All faults 60 of the systems with these records and root buses, with what is given and told: of each region that has to
+/// be reached, and has an address that the host sends to the root above it and that a bridge on the way from there doesn't
+/// pass, with the first such bridge and the least address that this one doesn't pass. They stand in the order in which
+/// judging looks for them.
 pub fn all_unreached<A: Allocator + Copy>(
     alloc: A,
     given: &Given<'_>,
+    told: &Told<'_>,
     outline: &Outline<A>,
-) -> Result<Vec<Fault, A>, OutOfMemory>
-    ensures { IfOk result (λ v. AreAllUnreached (given_value given.now) outline.now v.items) }
+) -> Result<Vec<Unreached, A>, OutOfMemory>
+    // they are read of a text
+    requires { IsTold told.now.ranges.now }
+    ensures { IfOk result (λ v. AreAllUnreached (told_value told.now) (given_value given.now) outline.now v.items) }
 {
     let reached = Reached::of(outline)?;
     // so it is on most boards, and what else is given only adds to what windows pass
-    if are_all_home(given, outline, &reached)? {
+    if told.ranges.is_empty() && are_all_home(given, outline, &reached)? {
         return Ok(Vec::new(alloc));
     }
-    let list = bars_and_roms(alloc, outline)?;
+    let list = all_needed(alloc, told, outline)?;
     unreached_among(alloc, given, outline, &reached, &list)
 }

@@ -1,12 +1,12 @@
 use Rattle.std.proofs.Common.{List, subst}
 use Rattle.std.proofs.lemmas.Result.{IfOk-weaker}
-use Rattle.pci_given.specs.declared.bars_and_roms.BarOrRom.{BarOrRom}
-use Rattle.pci_claims.specs.Values.{given_value}
+use Rattle.pci_claims.specs.Values.{given_value, told_value}
+use Rattle.pci_given.specs.declared.needed.Needed.{Needed}
 use Rattle.pci_given.specs.OutsideLines.{AreOutsideLines}
 use Rattle.pci_given.proofs.OutsideLining.{all_outside_are}
 use Rattle.pci_given.proofs.outside_lines.all_outside.Goals as goal
 
 pub returns : goal.returns
 returns g c = IfOk-weaker c.outside_among.result _ _
-    (λ v made. all_outside_are (given_value c.args.given.now) c.args.outline.now c.in_ok-list.list.items v.items c.in_ok-list.ensures
-    (subst (λ (l : List BarOrRom). AreOutsideLines (given_value c.args.given.now) c.args.outline.now l v.items) c.deref.ensures.value made)) c.outside_among.ensures
+    (λ v made. all_outside_are (told_value c.args.told.now) (given_value c.args.given.now) c.args.outline.now c.in_ok-list.list.items v.items c.in_ok-list.ensures
+    (subst (λ (l : List Needed). AreOutsideLines (given_value c.args.given.now) c.args.outline.now l v.items) c.deref.ensures.value made)) c.outside_among.ensures

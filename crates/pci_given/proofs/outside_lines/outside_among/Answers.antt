@@ -1,5 +1,5 @@
 use Rattle.std.proofs.Common.{◌+◌, List, [], ◌∙◌, ap, subst, sym, take}
-use Rattle.pci_given.specs.declared.outside_lines.Outside.{Outside}
+use Rattle.pci_given.specs.declared.named.Outside.{Outside}
 use Rattle.pci_claims.specs.Values.{given_value}
 use Rattle.pci_given.specs.OutsideLines.{AreOutsideLines}
 use Rattle.pci_given.proofs.OutsideLining.{none_outside, one_outside_more, no_outside_more}

@@ -1,8 +1,8 @@
 use Rattle.std.proofs.Common.{◌≡◌, subst, arith}
-use Rattle.pci_given.specs.BarsAndRoms.{AreBarsAndRomsAdded}
+use Rattle.pci_given.specs.Needed.{AreBarsAdded}
 use Rattle.pci_given.proofs.AllClashing.{IsBelow}
 use Rattle.pci_given.proofs.Listing.{no_bus, one_bus_more, all_buses}
-use Rattle.pci_given.proofs.bars_and_roms.add_all.Goals as goal
+use Rattle.pci_given.proofs.bars_and_roms.add_bars_and_roms.Goals as goal
 
 pub loop-bus-init : goal.loop-bus-init
 loop-bus-init g c = no_bus c.args.outline.now c.args.out.now.items
@@ -14,4 +14,4 @@ pub returns : goal.returns
 returns g c =
     let all : c.loop-bus.bus ≡ 256 = omega arith in
     all_buses c.args.outline.now c.args.out.now.items c.loop-bus.out.items
-    (subst (λ n. AreBarsAndRomsAdded (IsBelow n) c.args.outline.now c.args.out.now.items c.loop-bus.out.items) all c.loop-bus.invariant)
+    (subst (λ n. AreBarsAdded (IsBelow n) c.args.outline.now c.args.out.now.items c.loop-bus.out.items) all c.loop-bus.invariant)
