@@ -18,7 +18,6 @@ pub mod OutsideLining
 pub mod UnreachedLining
 pub mod SplitNaming
 pub mod AllSplitting
-pub mod UntoldLining
 pub mod Joining
 pub mod WithNothing
 pub mod NamedSlots

@@ -8,7 +8,6 @@ pub mod Needed
 pub mod Asleep
 pub mod OutsideLines
 pub mod UnreachedLines
-pub mod UntoldLines
 pub mod AllLines
 pub mod Named
 pub mod Before

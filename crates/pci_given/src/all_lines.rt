@@ -10,7 +10,9 @@ ghost use Rattle.pci_given.specs.AllLines.{AreAllLines, fault_of, plain_fault, i
 
 use super::any_fault::{AnyFault, without_told};
 use super::named::{Clash, Outside, Split, Unreached};
-use super::told_lists::{all_clashes, all_outside, all_splits, all_unreached};
+use super::outside_lines::all_outside;
+use super::told_lists::{all_clashes, all_splits};
+use super::unreached_lines::all_unreached;
 use pci_base::memory::OutOfMemory;
 use pci_claims::given::Given;
 use pci_claims::told::Told;

@@ -4,10 +4,9 @@
 
 pub mod all_lines;
 pub mod any_fault;
-pub mod bars_and_roms;
-mod before;
 mod asleep;
 mod bars_and_roms;
+mod before;
 pub mod board;
 pub mod clash_lines;
 pub mod every;
@@ -24,4 +23,3 @@ pub mod told_lists;
 mod told_needed;
 pub mod unreached;
 pub mod unreached_lines;
-pub mod untold_lines;
