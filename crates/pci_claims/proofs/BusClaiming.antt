@@ -5,7 +5,7 @@ use Rattle.std.specs.Option.{is_some}
 use Rattle.std.specs.List.{AllPairs, Contains, filter, list_any}
 use Rattle.std.specs.List.Sorted.{IsPermutation, IsNonDecreasingBy}
 use Rattle.std.proofs.lemmas.Bool.{eqb-true, eq-eqb, and_parts, both_ways}
-use Rattle.std.proofs.lemmas.List.Elements.{Contains-append_left, Contains-append_right, Contains-append_cases}
+use Rattle.std.proofs.lemmas.List.Elements.{Contains-get_or, Contains-append_left, Contains-append_right, Contains-append_cases}
 use Rattle.std.proofs.lemmas.List.Sorted.{Contains-permutation, IsPermutation-sym}
 use Rattle.pci_spec.specs.Slot.{Slot, slot_number}
 use Rattle.pci_spec.specs.System.{System, Function, Space, is_bridge, is_space_on}
@@ -18,24 +18,27 @@ use Rattle.pci_base.specs.declared.range.Range.{Range}
 use Rattle.pci_base.specs.Space.{is_on}
 use Rattle.pci_function.specs.declared.record.Record.{Record}
 use Rattle.pci_tree.specs.declared.region.Region.{Region}
-use Rattle.pci_tree.specs.Regions.{AreRegionsOf, region_number as number_of_region}
+use Rattle.pci_tree.specs.Regions.{AreRegionsOf}
 use Rattle.pci_tree.specs.Ways.{slots_of}
 use Rattle.pci_tree.specs.Outline.{Tree, RiseBySlot}
 use Rattle.pci_tree.proofs.Lifting.{Has, record_for, function_for, functions_rise, same_slot_of, one_by_number}
 use Rattle.pci_tree.specs.Trees.{HasTree}
-use Rattle.pci_tree.proofs.RegionOrder.{number_same}
 use Rattle.given_spec.specs.Given.{Given, legacy_claims}
 use Rattle.given_spec.specs.Claims.{Own, Legacy, ClaimsOnBus}
+use Rattle.given_spec.specs.ToldAllFaults.{region_number}
 use Rattle.pci_claims.specs.Passed.{is_piece_at}
 use Rattle.pci_claims.specs.Reached.{IsAccessReach}
 use Rattle.pci_claims.specs.Claim.{Claimed, IsClaimOn, IsClaimOfRegion, IsClaimOfLegacy}
-use Rattle.pci_claims.specs.BusClaims.{claim_number, AreRegionClaims, IsAnsweringBridge, IsLegacyClaimAt, AreLegacyClaims, AreMoreClaims, AreBridgesOf, IsNamedOn, AreClaimsOn}
+use Rattle.pci_claims.specs.BusClaims.{claim_number, number_of_region, AreRegionClaims, IsAnsweringBridge, IsLegacyClaimAt, AreLegacyClaims, AreMoreClaims, AreBridgesOf, IsNamedOn, AreRegisterClaimsOn}
 use Rattle.pci_claims.proofs.RegionClaims.{not_legacy}
 use Rattle.pci_claims.proofs.Linking.{legacy_same}
 use Rattle.pci_claims.proofs.Rooted.{sent_there}
 use Rattle.pci_claims.proofs.Making.{made_none, made_more, made_less, rise_in_order}
 
 -- ---- claims that are made one by one
+
+number_same : (s t : Slot) (r q : ℕ) → s ≡ t → r ≡ q → region_number s r ≡ region_number t q
+number_same s t r q slot register = ap (λ (x : Slot). region_number x r) slot ∙ ap (λ n. region_number t n) register
 
 region_numbered : (given : Given) (space : Space) (reach : List Range) (r : Region) (c : Claimed) → IsClaimOfRegion given space r reach c → claim_number c ≡ number_of_region r
 region_numbered given space reach r c is = number_same c.slot r.slot c.register r.reg is.slot is.register
@@ -53,7 +56,7 @@ module _ (given : Given) (space : Space) (records : List Record) (reach : List R
   IsHere slot = (r : Record) × IsAnsweringBridge records space slot r
 
   abbrev place : Slot → ℕ
-  place slot = slot_number slot * 256 + 0x3e
+  place slot = slot_number slot * 8192 + 0x3e
 
   legacy_numbered : (slot : Slot) (c : Claimed) → IsLegacyClaimAt given space records reach slot c → claim_number c ≡ place slot
   legacy_numbered slot c (r, at, is) = number_same c.slot slot c.register 0x3e (is.slot ∙ at.1) is.register
@@ -154,7 +157,7 @@ module _ (given : Given) (t : Tree) (s : System) (tree : HasTree t s) (bus : ℕ
       inr record { f = f; listed = listed; has = bridge_here f listed bridge (ap (λ (x : Slot). x.bus) at ∙ on_bus); claims = claims.claims; slot_is = at; register_is = sym named }
 
   -- without regions and bridges nothing claims an address
-  pub no_claims : regions ≡ [] → here ≡ [] → AreClaimsOn given t.roots s bus space []
+  pub no_claims : regions ≡ [] → here ≡ [] → AreRegisterClaimsOn given t.roots s bus space []
   no_claims no_regions no_bridges = record {
     each = λ c has. absurd (in_nil c has);
     complete = λ slot register a claims. absurd (elim (claimant slot register a claims) [
@@ -163,6 +166,7 @@ module _ (given : Given) (t : Tree) (s : System) (tree : HasTree t s) (bus : ℕ
     ]);
     rising = pairs_nil (λ c d. claim_number c < claim_number d);
     named = λ c has. absurd (in_nil c has);
+    plain = λ c has. absurd (in_nil c has);
     sent = λ root c has. absurd (in_nil c has);
   }
 
@@ -196,7 +200,7 @@ module _ (given : Given) (t : Tree) (s : System) (tree : HasTree t s) (bus : ℕ
         (r, (stands.has, same_slot_of r part.f stands.same, (and_parts (is_some r.bridge && is_on r.command space) (list_any (is_piece_at r.slot space a) given.legacy) passes).0)) in
         (c, Contains-permutation (own ++ more) claims c moved (Contains-append_right own more c there), of.slot ∙ at.1 ∙ part.slot_is, of.register ∙ sym part.register_is)
 
-    bridges_rise : AllPairs (λ x y. slot_number x * 256 + 0x3e < slot_number y * 256 + 0x3e) here
+    bridges_rise : AllPairs (λ x y. slot_number x * 8192 + 0x3e < slot_number y * 8192 + 0x3e) here
     bridges_rise =
         let up : AllPairs (λ (x y : Slot). slot_number x < slot_number y) here = subst (AllPairs (λ (x y : Slot). slot_number x < slot_number y)) (sym on)
         (pairs_filter (λ (x y : Slot). slot_number x < slot_number y) (λ (x : Slot). x.bus == bus) bridges
@@ -204,6 +208,21 @@ module _ (given : Given) (t : Tree) (s : System) (tree : HasTree t s) (bus : ℕ
         (pairs_map (λ (x y : Slot). slot_number x < slot_number y) (λ (f : Function). f.slot) (filter is_bridge s)
         (pairs_filter (λ (f g : Function). slot_number f.slot < slot_number g.slot) is_bridge s (functions_rise s records has rise))))) in
         λ i j d less within. (let low = up i j d less within in omega (arith, low))
+
+    region_low : (r : Region) → Contains regions r → r.reg < 256
+    region_low r there =
+        let region = are.each r there in
+        let some = region.is.some in
+        let low = register_of-lt region.f region.part ((region.is.claims r.first).0 (omega arith, some)).there in
+        let register = region.is.register in
+        omega (arith, low, register)
+
+    regions_rise : AllPairs (λ p q. number_of_region p < number_of_region q) regions
+    regions_rise i j d less within =
+        let up = are.rising i j d less within in
+        let one = region_low (get_or regions i d) (Contains-get_or regions i d (omega (arith, less, within))) in
+        let other = region_low (get_or regions j d) (Contains-get_or regions j d within) in
+        omega (arith, up, one, other)
 
     -- no region is named as a legacy part is
     apart : (c d : Claimed) → Contains own c → Contains more d → claim_number c ≡ claim_number d → ⊥
@@ -253,7 +272,13 @@ module _ (given : Given) (t : Tree) (s : System) (tree : HasTree t s) (bus : ℕ
           register = omega (arith, named);
         }
 
-    pub claims_are : AreClaimsOn given t.roots s bus space claims
+    region_plain : (c : Claimed) → Contains own c → c.held ≡ false
+    region_plain c in_own = let (r, there, of) = regional.each c in_own in of.held
+
+    legacy_plain : (c : Claimed) → Contains more c → c.held ≡ false
+    legacy_plain c in_more = let (slot, there, (r, at, of)) = legacy.each c in_more in of.held
+
+    pub claims_are : AreRegisterClaimsOn given t.roots s bus space claims
     claims_are = record {
       each = each_is;
       complete = λ slot register a claims_it. elim (claimant slot register a claims_it) [
@@ -261,9 +286,10 @@ module _ (given : Given) (t : Tree) (s : System) (tree : HasTree t s) (bus : ℕ
         | inr part ↦ legacy_has slot register a part
       ];
       rising = rise_in_order claim_number (own ++ more) claims (pairs_append (λ c d. claim_number c ≡ claim_number d → ⊥) own more
-          (λ i j d less within e. (let up = regional.rising are.rising i j d less within in let no : ⊥ = omega (arith, up, e) in no))
+          (λ i j d less within e. (let up = regional.rising regions_rise i j d less within in let no : ⊥ = omega (arith, up, e) in no))
           (λ i j d less within e. (let up = legacy.rising bridges_rise i j d less within in let no : ⊥ = omega (arith, up, e) in no))
           (λ c d in_own in_more. apart c d in_own in_more)) moved sorted;
+      plain = λ c in_claims. elim (in_either c in_claims) [ inl region ↦ region_plain c region | inr part ↦ legacy_plain c part ];
       named = λ c in_claims. elim (in_either c in_claims) [ inl region ↦ region_named c region | inr part ↦ legacy_named c part ];
       sent = λ root c in_claims a covers. sent_there given t.roots s nested bus root space a ((each_is c in_claims a).0 covers).0;
     }

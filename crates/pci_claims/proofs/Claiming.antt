@@ -7,8 +7,7 @@ use Rattle.pci_base.specs.declared.range.Range.{Range}
 use Rattle.pci_tree.specs.Ranges.{Holds, Covers, IsCanonical, IsLeastFrom}
 use Rattle.pci_tree.proofs.Passing.{covers_push}
 use Rattle.pci_tree.proofs.RangeLists.{found_at, covers_at}
-use Rattle.given_spec.specs.Claims.{may_share}
-use Rattle.pci_claims.specs.Claim.{Claimed, AreAtOdds, IsLeastAtOdds, IsLeastCommon}
+use Rattle.pci_claims.specs.Claim.{Claimed, may_both_claim, AreAtOdds, IsLeastAtOdds, IsLeastCommon}
 use Rattle.pci_claims.proofs.Gathering.{covers_take}
 
 -- the first so many ranges of a list have no address of the other
@@ -83,10 +82,10 @@ apart_around rs ss apart a h both = apart a both h
 
 -- ---- two claims
 
-pub never_at_odds : (c d : Claimed) → may_share c.slot c.register d.slot d.register ≡ true → (a : ℕ) → AreAtOdds c d a → ⊥
+pub never_at_odds : (c d : Claimed) → may_both_claim c d ≡ true → (a : ℕ) → AreAtOdds c d a → ⊥
 never_at_odds c d share a odds = both_ways _ odds.apart share
 
-pub odds_answer : (c d : Claimed) → may_share c.slot c.register d.slot d.register ≡ false → (o : Option ℕ)
+pub odds_answer : (c d : Claimed) → may_both_claim c d ≡ false → (o : Option ℕ)
     → MatchOption o ((a : ℕ) → Covers c.pieces a → Covers d.pieces a → ⊥) (λ a. IsLeastCommon c.pieces d.pieces a)
     → MatchOption o ((a : ℕ) → AreAtOdds c d a → ⊥) (λ a. IsLeastAtOdds c d a)
 odds_answer c d apart None none = λ a odds. none a odds.first odds.second

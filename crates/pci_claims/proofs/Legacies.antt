@@ -1,5 +1,5 @@
 -- Claims of legacy parts.
-use Rattle.std.proofs.Common.{◌≡◌, ℕ, ◌&&◌, List, true, subst, sym, ◌∙◌, ap, refl}
+use Rattle.std.proofs.Common.{◌≡◌, ℕ, ◌&&◌, List, true, false, subst, sym, ◌∙◌, ap, refl}
 use Rattle.std.specs.Prelude.{IsTrue, map}
 use Rattle.std.specs.Option.{is_some}
 use Rattle.std.specs.List.{Contains, list_any}
@@ -43,10 +43,11 @@ legacy_is given s sound space f slot in_s e a (g, Legacy, listed, at, there, nam
     subst (λ (x : Function). LegacyClaims given x space a) (one_function s sound g f listed in_s (ap slot_number (at ∙ e))) claims
 
 pub legacy_claim : (given : Given) (space : Space) (r : Record) (reach own pieces : List Range) → IsLegacyOf given space r own → IsCommon own reach pieces
-    → IsClaimOfLegacy given space r reach record { slot = r.slot; register = 0x3e; pieces = pieces }
+    → IsClaimOfLegacy given space r reach record { slot = r.slot; register = 0x3e; held = false; pieces = pieces }
 legacy_claim given space r reach own pieces legacy is = record {
   slot = refl;
   register = refl;
+  held = refl;
   exact = λ roots s f sound in_s e gets a. (
     λ (h : Covers pieces a). (
         let both = (is.exact a).0 h in

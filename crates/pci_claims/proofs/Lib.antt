@@ -17,3 +17,6 @@ pub mod RootClaims
 pub mod VgaBridges
 pub mod Founds
 pub mod Runs
+pub mod Awake
+pub mod ToBus
+pub mod AllClaiming

@@ -21,7 +21,7 @@ use Rattle.given_spec.specs.Given.{Given, legacy_claims, is_cut}
 use Rattle.given_spec.specs.Claims.{passes}
 use Rattle.pci_claims.specs.Passed.{is_piece_at, legacy_passes, window_passes, passes_with, ArePassed, IsPassedBy}
 
-on_record : (r : Record) (f : Function) (space : Space) → record_value r ≡ record_of f → is_space_on f space ≡ is_on r.command space
+pub on_record : (r : Record) (f : Function) (space : Space) → record_value r ≡ record_of f → is_space_on f space ≡ is_on r.command space
 on_record r f space e = on_same f space ∙ ap (λ (x : decoded.Record). is_on x.command space) (sym e)
 
 -- the legacy part

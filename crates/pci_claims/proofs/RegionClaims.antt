@@ -51,10 +51,11 @@ claimed_is given s sound bus space r on a (f, Own part, listed, at, there, named
 claimed_is given s sound bus space r on a (f, Legacy, listed, at, there, named, claims) = absurd (not_legacy on.f on.part (sym on.is.register ∙ sym named))
 
 pub region_claim : (given : Given) (space : Space) (r : Region) (reach own pieces : List Range) → AreAddressesOf given space r own → IsCommon own reach pieces
-    → IsClaimOfRegion given space r reach record { slot = r.slot; register = r.reg; pieces = pieces }
+    → IsClaimOfRegion given space r reach record { slot = r.slot; register = r.reg; held = false; pieces = pieces }
 region_claim given space r reach own pieces held is = record {
   slot = refl;
   register = refl;
+  held = refl;
   exact = λ roots s bus sound on gets a. (
     λ (h : Covers pieces a). (
         let both = (is.exact a).0 h in (

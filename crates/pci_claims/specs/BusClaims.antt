@@ -1,23 +1,22 @@
--- All claims of a bus.
-use Rattle.std.specs.Prelude.{◌≡◌, ℕ, ◌<◌, ◌&&◌, ◌++◌, IsTrue, List, map}
+-- The claims of a bus of regions that registers show.
+use Rattle.std.specs.Prelude.{◌≡◌, ℕ, ◌<◌, ◌&&◌, ◌++◌, false, IsTrue, List, map}
 use Rattle.std.specs.Option.{is_some}
 use Rattle.std.specs.List.{AllPairs, Contains, filter}
 use Rattle.pci_spec.specs.Slot.{Slot}
 use Rattle.pci_spec.specs.Registers.{BRIDGE_CONTROL}
 use Rattle.pci_spec.specs.System.{System, Function, Space, is_bridge}
 use Rattle.pci_spec.specs.Decoded.{HasRecords}
-use Rattle.pci_spec.specs.JudgingLaws.{region_number}
 use Rattle.pci_spec.specs.Fault.{address_in, named_region}
 use Rattle.pci_base.specs.declared.range.Range.{Range}
 use Rattle.pci_base.specs.Space.{is_on}
 use Rattle.pci_function.specs.declared.record.Record.{Record}
 use Rattle.pci_tree.specs.declared.region.Region.{Region}
-use Rattle.pci_tree.specs.Regions.{region_number as number_of_region}
 use Rattle.pci_tree.specs.Ranges.{Covers}
 use Rattle.pci_tree.specs.Outline.{Tree}
 use Rattle.pci_tree.specs.Trees.{HasTree}
 use Rattle.given_spec.specs.Given.{Given, starts}
 use Rattle.given_spec.specs.Claims.{ClaimsOnBus}
+use Rattle.given_spec.specs.ToldAllFaults.{region_number}
 use Rattle.pci_claims.specs.Claim.{Claimed, IsClaimOn, IsClaimOfRegion, IsClaimOfLegacy}
 use Rattle.pci_claims.specs.Made.{AreOneEach}
 
@@ -34,7 +33,7 @@ pub record IsNamedOn (s : System) (bus : ℕ) (c : Claimed) : Type 0 where
   pub register : c.register < 256
 
 -- of each region of the bus that claims an address of the space there is one claim, by slot and register
-pub record AreClaimsOn (given : Given) (roots : List ℕ) (s : System) (bus : ℕ) (space : Space)
+pub record AreRegisterClaimsOn (given : Given) (roots : List ℕ) (s : System) (bus : ℕ) (space : Space)
     (claims : List Claimed) : Type 0 where
   pub each : (c : Claimed) → Contains claims c → IsClaimOn given roots s bus space c
   pub complete : (slot : Slot) (register a : ℕ)
@@ -43,16 +42,21 @@ pub record AreClaimsOn (given : Given) (roots : List ℕ) (s : System) (bus : �
   pub rising : AllPairs (λ c d. claim_number c < claim_number d) claims
   -- also of a claim that answers no address
   pub named : (c : Claimed) → Contains claims c → IsNamedOn s bus c
+  pub plain : (c : Claimed) → Contains claims c → c.held ≡ false
   -- no bridge leads to a root bus, so what gets there is what the host sends to it
   pub sent : Contains roots bus → (c : Claimed) → Contains claims c → (a : ℕ) → Covers c.pieces a
       → IsTrue (starts given space bus a)
 
 -- in each system with the tree
-abbrev pub AreClaimsInEach : Given → Tree → ℕ → Space → List Claimed → Type 0
-AreClaimsInEach given t bus space claims =
-    (s : System) → HasTree t s → AreClaimsOn given t.roots s bus space claims
+abbrev pub AreRegisterClaimsInEach : Given → Tree → ℕ → Space → List Claimed → Type 0
+AreRegisterClaimsInEach given t bus space claims =
+    (s : System) → HasTree t s → AreRegisterClaimsOn given t.roots s bus space claims
 
 -- ---- how they are made
+
+-- the place of a region in the order of slots and registers
+abbrev pub number_of_region : Region → ℕ
+number_of_region r = region_number r.slot r.reg
 
 -- each region has one
 abbrev pub AreRegionClaims : Given → Space → List Region → List Range → List Claimed → Type 0

@@ -1,7 +1,7 @@
 -- Claims of a bus, and what two lists of ranges have in common.
-use Rattle.std.specs.Prelude.{◌≡◌, ℕ, ◌<◌, ◌≤◌, ◌↔◌, Bool, ◌&&◌, false, IsTrue, IsFalse, List}
+use Rattle.std.specs.Prelude.{◌≡◌, ℕ, ◌<◌, ◌≤◌, ◌↔◌, Bool, ◌&&◌, ◌||◌, false, IsTrue, IsFalse, List}
 use Rattle.std.specs.List.{Contains}
-use Rattle.pci_spec.specs.Slot.{Slot}
+use Rattle.pci_spec.specs.Slot.{Slot, same_slot}
 use Rattle.pci_spec.specs.Registers.{BRIDGE_CONTROL}
 use Rattle.pci_spec.specs.System.{System, Function, Space, IsSystem}
 use Rattle.pci_spec.specs.Decoded.{record_of}
@@ -31,6 +31,8 @@ pub record IsLeastCommon (rs ss : List Range) (a : ℕ) : Type 0 where
 pub record Claimed : Type 0 where
   pub slot : Slot
   pub register : ℕ
+  -- whether the region is a held range
+  pub held : Bool
   pub pieces : List Range
 
 -- they are just those of the space that it claims, and at which an access gets to the bus
@@ -40,11 +42,20 @@ IsClaimOn given roots s bus space c =
     ↔ (Gets given roots s space a bus × ClaimsOnBus given s bus (address_in space a)
     (named_region c.slot c.register))
 
+-- whether the first is of a held range, and the second of another one, or of a region of the same function
+abbrev pub is_held_beside : Claimed → Claimed → Bool
+is_held_beside c d = c.held && (d.held || same_slot c.slot d.slot)
+
+-- whether two may have one address
+abbrev pub may_both_claim : Claimed → Claimed → Bool
+may_both_claim c d =
+    may_share c.slot c.register d.slot d.register || is_held_beside c d || is_held_beside d c
+
 -- both answer an address that they may not share
 pub record AreAtOdds (c d : Claimed) (a : ℕ) : Type 0 where
   pub first : Covers c.pieces a
   pub second : Covers d.pieces a
-  pub apart : may_share c.slot c.register d.slot d.register ≡ false
+  pub apart : may_both_claim c d ≡ false
 
 -- the least such address
 pub record IsLeastAtOdds (c d : Claimed) (a : ℕ) : Type 0 where
@@ -66,6 +77,7 @@ pub record IsClaimOfRegion (given : Given) (space : Space) (r : Region) (reach :
     (c : Claimed) : Type 0 where
   pub slot : c.slot ≡ r.slot
   pub register : c.register ≡ r.reg
+  pub held : c.held ≡ false
   pub exact : (roots : List ℕ) (s : System) (bus : ℕ) → IsSystem s → IsRegionOn s bus space r
       → IsAccessReach given roots s space bus reach → IsClaimOn given roots s bus space c
 
@@ -79,6 +91,7 @@ pub record IsClaimOfLegacy (given : Given) (space : Space) (r : Record) (reach :
     (c : Claimed) : Type 0 where
   pub slot : c.slot ≡ r.slot
   pub register : c.register ≡ BRIDGE_CONTROL
+  pub held : c.held ≡ false
   pub exact : (roots : List ℕ) (s : System) (f : Function) → IsSystem s → Contains s f
       → record_value r ≡ record_of f → IsAccessReach given roots s space f.slot.bus reach
       → IsClaimOn given roots s f.slot.bus space c

@@ -12,3 +12,5 @@ pub mod Vga
 pub mod RootClaims
 pub mod Found
 pub mod Isa
+pub mod ToldOn
+pub mod AllClaims

@@ -1,4 +1,4 @@
-//! All claims of a bus: what its BARs, ROMs, windows and legacy parts answer.
+//! The claims of a bus that registers show: what its BARs, ROMs, windows and legacy parts answer.
 ghost use Rattle.std.specs.Prelude.{◌≡◌, ◌==◌, ◌⊎◌, [], map, MatchOption, IfOk, OnOk};
 ghost use Rattle.std.specs.List.{Contains, filter};
 ghost use Rattle.std.specs.List.Sorted.{IsNonDecreasingBy, IsPermutation};
@@ -6,8 +6,9 @@ ghost use Rattle.pci_base.specs.Space.{space_of};
 ghost use Rattle.pci_tree.specs.Ranges.{IsCanonical};
 ghost use Rattle.pci_tree.specs.Outline.{RiseBySlot};
 ghost use Rattle.pci_claims.specs.Values.{given_value};
-ghost use Rattle.pci_claims.specs.BusClaims.{claim_number, AreRegionClaims, AreLegacyClaims, AreMoreClaims, AreBridgesOf, AreClaimsInEach};
+ghost use Rattle.pci_claims.specs.BusClaims.{claim_number, AreRegionClaims, AreLegacyClaims, AreMoreClaims, AreBridgesOf, AreRegisterClaimsInEach};
 
+use super::board::Board;
 use super::claim::{Claim, claim_of, legacy_claim_of};
 use super::given::Given;
 use super::passed::is_bridge_on;
@@ -31,9 +32,9 @@ struct Bridges<'s, 'r> {
 
 /// The addresses of a space that get to a bus.
 #[derive(Clone, Copy)]
-struct Arriving<'a> {
-    space: Space,
-    reach: &'a [Range],
+pub(crate) struct Arriving<'a> {
+    pub(crate) space: Space,
+    pub(crate) reach: &'a [Range],
 }
 
 /// What some regions answer of the addresses that get to their bus.
@@ -110,7 +111,7 @@ fn some_slot(regions: &[Region], bridges: &[Slot]) -> Option<Slot>
 }
 
 /// Sorts claims by slot and register.
-fn sort<A: Allocator>(claims: &mut Vec<Claim<A>, A>) -> Result<(), OutOfMemory>
+pub(crate) fn sort<A: Allocator>(claims: &mut Vec<Claim<A>, A>) -> Result<(), OutOfMemory>
     ensures permutation { IsPermutation claims.old.items claims.new.items }
     ensures sorted { OnOk result (IsNonDecreasingBy claim_number claims.new.items) }
 {
@@ -120,22 +121,22 @@ fn sort<A: Allocator>(claims: &mut Vec<Claim<A>, A>) -> Result<(), OutOfMemory>
     }
 }
 
-/// The claims of a bus and a space by slot and register, `bridges` being the slots of all bridges.
-pub fn claims_among<A: Allocator + Copy>(
+/// The claims of a bus and a space of its BARs, ROMs, windows and legacy parts, by slot and register.
+pub(crate) fn register_claims<A: Allocator + Copy>(
     alloc: A,
-    given: &Given<'_>,
-    outline: &Outline<A>,
-    bridges: &[Slot],
+    board: &Board<'_, '_, A>,
     bus: u8,
     space: Space,
 ) -> Result<Vec<Claim<A>, A>, OutOfMemory>
     // looked for once, for all buses
-    requires { AreBridgesOf outline.now bridges.now }
-    ensures { IfOk result (λ v. AreClaimsInEach (given_value given.now) outline.now bus
-        (space_of space) v.items) }
+    requires { AreBridgesOf board.now.outline.now board.now.bridges.now }
+    ensures { IfOk result (λ v. AreRegisterClaimsInEach (given_value board.now.given)
+        board.now.outline.now bus (space_of space) v.items) }
 {
+    let given = &board.given;
+    let outline = board.outline;
     let regions = outline.regions(bus, space)?;
-    let bridges = slots_on(alloc, bridges, bus)?;
+    let bridges = slots_on(alloc, board.bridges, bus)?;
     let Some(slot) = some_slot(&regions, &bridges) else {
         return Ok(Vec::new(alloc));
     };
@@ -155,20 +156,4 @@ pub fn claims_among<A: Allocator + Copy>(
     add_legacy_claims(alloc, &mut claims, given, &bridges_here, &arriving)?;
     sort(&mut claims)?;
     Ok(claims)
-}
-
-/// The claims of a bus and a space, by slot and register: of each BAR, ROM, window and legacy part of a function there that
-/// claims an address of the space, the addresses that it answers of those that get to the bus.
-pub fn claims_on<A: Allocator + Copy>(
-    alloc: A,
-    given: &Given<'_>,
-    outline: &Outline<A>,
-    bus: u8,
-    space: Space,
-) -> Result<Vec<Claim<A>, A>, OutOfMemory>
-    ensures { IfOk result (λ v. AreClaimsInEach (given_value given.now) outline.now bus
-        (space_of space) v.items) }
-{
-    let bridges = outline.bridges()?;
-    claims_among(alloc, given, outline, &bridges, bus, space)
 }

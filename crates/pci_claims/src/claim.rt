@@ -1,12 +1,16 @@
 //! Claims of a bus: what one region answers, and the least address that two of them answer.
 ghost use Rattle.std.specs.Prelude.{◌≡◌, ◌≤◌, ◌↔◌, ℕ, IsTrue, MatchOption, IfOk};
-ghost use Rattle.pci_spec.specs.JudgingLaws.{region_number};
+ghost use Rattle.pci_spec.specs.JudgingLaws.{region_number as plain_number};
 ghost use Rattle.pci_base.specs.Space.{space_of};
 ghost use Rattle.pci_tree.specs.Ranges.{Covers, IsCanonical};
 ghost use Rattle.given_spec.specs.Claims.{is_window_register, are_window_and_legacy, may_share};
+ghost use Rattle.given_spec.specs.ToldAllFaults.{region_number};
+ghost use Rattle.given_spec.specs.ToldClaims.{is_marked_held};
+ghost use Rattle.pci_told.specs.Marks.{mark_of};
 ghost use Rattle.pci_claims.specs.Values.{given_value};
 ghost use Rattle.pci_claims.specs.BusClaims.{claim_number};
-ghost use Rattle.pci_claims.specs.Claim.{ShareNoAddress, AreAtOdds, IsLeastAtOdds, IsLeastCommon, AreAddressesOf, IsClaimOfRegion, IsLegacyOf, IsClaimOfLegacy};
+ghost use Rattle.pci_claims.specs.AllClaims.{IsClaimOfRange};
+ghost use Rattle.pci_claims.specs.Claim.{ShareNoAddress, AreAtOdds, IsLeastAtOdds, IsLeastCommon, AreAddressesOf, IsClaimOfRegion, IsLegacyOf, IsClaimOfLegacy, is_held_beside, may_both_claim};
 
 use super::gather::{common, gathered};
 use super::given::Given;
@@ -18,6 +22,7 @@ use pci_base::range::Range;
 use pci_base::slot::Slot;
 use pci_base::space::Space;
 use pci_function::record::Record;
+use pci_told::told_range::{Mark, ToldRange};
 use pci_tree::ranges::least_from;
 use pci_tree::region::Region;
 use std::alloc::{Allocator, Global};
@@ -28,7 +33,9 @@ use std::marker::Model;
 pub struct Claim<A: Allocator = Global> {
     slot: Slot,
     /// The register that names the region: legacy parts are named by Bridge Control.
-    reg: u8,
+    register: u16,
+    /// Whether the region is a held range, which may share its addresses with some others.
+    is_held: bool,
     pieces: Vec<Range, A>,
 }
 
@@ -38,7 +45,7 @@ impl<A: Allocator> Model for Claim<A> {
 
     ghost Value = { Claimed };
 
-    ghost view = { λ c. record { slot = c.slot; register = c.reg; pieces = c.pieces.items } };
+    ghost view = { λ c. record { slot = c.slot; register = c.register; held = c.is_held; pieces = c.pieces.items } };
 
     ghost invariant = { λ c. IsCanonical c.pieces.items };
 }
@@ -51,11 +58,18 @@ impl<A: Allocator> Claim<A> {
         self.slot
     }
 
-    /// The byte offset of the register that names the region.
-    pub fn reg(&self) -> u8
+    /// The register that names the region: its byte offset, or 255 + n for the told range of line n.
+    pub fn register(&self) -> u16
         ensures { result ≡ self.now.register }
     {
-        self.reg
+        self.register
+    }
+
+    /// Whether the region is a held range.
+    pub fn is_held(&self) -> bool
+        ensures { result ≡ self.now.held }
+    {
+        self.is_held
     }
 
     /// The addresses that it answers: ranges that rise, with an address between each two.
@@ -67,33 +81,36 @@ impl<A: Allocator> Claim<A> {
         &self.pieces
     }
 
-    /// Its place in the order of slots and registers, below 2^24.
+    /// Its place in the order of slots and registers.
     pub fn number(&self) -> u32
         ensures { result ≡ claim_number self.now }
     {
-        place(self.slot, self.reg)
+        number_of(self.slot, self.register)
     }
 }
 
-/// The place of a region in the order of slots and registers, below 2^24.
+/// The place of a region in the order of slots and registers, told ranges among them.
+pub fn number_of(slot: Slot, register: u16) -> u32
+    ensures { result ≡ region_number slot register }
+{
+    u32::from(slot.number()) * 8192 + u32::from(register)
+}
+
+/// The place of a BAR, a ROM, a window or a legacy part in the order of slots and registers, below 2^24.
 pub fn place(slot: Slot, reg: u8) -> u32
-    ensures { result ≡ region_number slot reg }
+    ensures { result ≡ plain_number slot reg }
 {
     u32::from(slot.number()) * 256 + u32::from(reg)
 }
 
-/// The addresses of a region, as a list.
-fn whole<A: Allocator>(alloc: A, region: &Region) -> Result<Vec<Range, A>, OutOfMemory>
+/// The addresses from one to another, as a list.
+fn addresses<A: Allocator>(alloc: A, first: u64, last: u64) -> Result<Vec<Range, A>, OutOfMemory>
     ensures canonical { IfOk result (λ v. IsCanonical v.items) }
-    ensures exact { IfOk result (λ v. (a : ℕ) → Covers v.items a
-        ↔ ((region.now.first ≤ a) × (a ≤ region.now.last))) }
+    ensures exact { IfOk result (λ v. (a : ℕ) → Covers v.items a ↔ ((first ≤ a) × (a ≤ last))) }
 {
     let mut out = Vec::new(alloc);
-    if region.first <= region.last {
-        out.push(Range {
-            first: region.first,
-            last: region.last,
-        })?;
+    if first <= last {
+        out.push(Range { first, last })?;
     }
     Ok(out)
 }
@@ -107,7 +124,7 @@ pub fn own<A: Allocator + Copy>(
 ) -> Result<Vec<Range, A>, OutOfMemory>
     ensures { IfOk result (λ v. AreAddressesOf (given_value given.now) (space_of space) region.now v.items) }
 {
-    let whole = whole(alloc, region)?;
+    let whole = addresses(alloc, region.first, region.last)?;
     if is_cut(given, space, region) {
         kept(alloc, &whole)
     } else {
@@ -132,7 +149,8 @@ pub fn claim_of<A: Allocator + Copy>(
     let pieces = common(alloc, &own, reach)?;
     Ok(Claim {
         slot: region.slot,
-        reg: region.reg,
+        register: u16::from(region.reg),
+        is_held: false,
         pieces,
     })
 }
@@ -170,7 +188,39 @@ pub fn legacy_claim_of<A: Allocator + Copy>(
     let pieces = common(alloc, &own, reach)?;
     Ok(Claim {
         slot: function.slot,
-        reg: BRIDGE_CONTROL,
+        register: u16::from(BRIDGE_CONTROL),
+        is_held: false,
+        pieces,
+    })
+}
+
+/// Whether a mark is that of held ranges.
+fn is_marked_held(mark: Mark) -> bool
+    ensures { result ≡ is_marked_held (mark_of mark) }
+{
+    match mark {
+        Mark::Command | Mark::Always => false,
+        Mark::Held => true,
+    }
+}
+
+/// What a told range answers of the addresses that get to its bus.
+pub fn told_claim_of<A: Allocator + Copy>(
+    alloc: A,
+    range: &ToldRange,
+    register: u16,
+    reach: &[Range],
+) -> Result<Claim<A>, OutOfMemory>
+    // two rising lists have in common what one walk along both meets
+    requires { IsCanonical reach.now }
+    ensures { IfOk result (λ c. IsClaimOfRange range.now register reach.now c) }
+{
+    let whole = addresses(alloc, range.first, range.last)?;
+    let pieces = common(alloc, &whole, reach)?;
+    Ok(Claim {
+        slot: range.slot,
+        register,
+        is_held: is_marked_held(range.mark),
         pieces,
     })
 }
@@ -210,33 +260,52 @@ pub fn least_common(rs: &[Range], ss: &[Range]) -> Option<u64>
 }
 
 /// Whether a register of a bridge names a window.
-fn is_window_register(reg: u8) -> bool
-    ensures { result ≡ is_window_register reg }
+fn is_window_register(register: u16) -> bool
+    ensures { result ≡ is_window_register register }
 {
-    reg == IO_BASE || reg == MEMORY_BASE || reg == PREFETCHABLE_BASE
+    register == u16::from(IO_BASE)
+        || register == u16::from(MEMORY_BASE)
+        || register == u16::from(PREFETCHABLE_BASE)
 }
 
 /// Whether two registers name a window and a legacy part.
-fn are_window_and_legacy(window: u8, legacy: u8) -> bool
+fn are_window_and_legacy(window: u16, legacy: u16) -> bool
     ensures { result ≡ are_window_and_legacy window legacy }
 {
-    is_window_register(window) && legacy == BRIDGE_CONTROL
+    is_window_register(window) && legacy == u16::from(BRIDGE_CONTROL)
 }
 
-/// Whether two regions may answer one address: a window and the legacy part of one bridge, which lead to one bus.
-pub fn may_share(first: Slot, first_reg: u8, second: Slot, second_reg: u8) -> bool
-    ensures { result ≡ may_share first first_reg second second_reg }
+/// Whether two regions may answer one address, none of them a held range: a window and the legacy part of one bridge, which
+/// lead to one bus.
+pub fn may_share(first: Slot, first_register: u16, second: Slot, second_register: u16) -> bool
+    ensures { result ≡ may_share first first_register second second_register }
 {
     first == second
-        && (are_window_and_legacy(first_reg, second_reg)
-            || are_window_and_legacy(second_reg, first_reg))
+        && (are_window_and_legacy(first_register, second_register)
+            || are_window_and_legacy(second_register, first_register))
 }
 
 /// Whether two names are of one region.
-pub fn is_same(first: Slot, first_reg: u8, second: Slot, second_reg: u8) -> bool
-    ensures { IsTrue result ↔ ((first ≡ second) × (first_reg ≡ second_reg)) }
+pub fn is_same(first: Slot, first_register: u16, second: Slot, second_register: u16) -> bool
+    ensures { IsTrue result ↔ ((first ≡ second) × (first_register ≡ second_register)) }
 {
-    first == second && first_reg == second_reg
+    first == second && first_register == second_register
+}
+
+/// Whether the first of two claims is of a held range, and the second of another one, or of a region of the same function.
+fn is_held_beside<A: Allocator>(first: &Claim<A>, second: &Claim<A>) -> bool
+    ensures { result ≡ is_held_beside first.now second.now }
+{
+    first.is_held && (second.is_held || first.slot == second.slot)
+}
+
+/// Whether two claims may have one address.
+pub fn may_both_claim<A: Allocator>(first: &Claim<A>, second: &Claim<A>) -> bool
+    ensures { result ≡ may_both_claim first.now second.now }
+{
+    may_share(first.slot, first.register, second.slot, second.register)
+        || is_held_beside(first, second)
+        || is_held_beside(second, first)
 }
 
 /// The least address that two claims answer and may not share.
@@ -244,8 +313,8 @@ pub fn least_at_odds<A: Allocator>(first: &Claim<A>, second: &Claim<A>) -> Optio
     ensures { MatchOption result ((a : ℕ) → AreAtOdds first.now second.now a → ⊥)
         (λ a. IsLeastAtOdds first.now second.now a) }
 {
-    if may_share(first.slot, first.reg, second.slot, second.reg) {
+    if may_both_claim(first, second) {
         return None;
     }
-    least_common(&first.pieces, &second.pieces)
+    least_common(first.pieces(), second.pieces())
 }

@@ -2,6 +2,8 @@
 //! the legacy parts of bridges, and the bridges with ISA Enable.
 #![tactic(auto)]
 
+pub mod all_claims;
+pub mod board;
 pub mod bus_claims;
 pub mod claim;
 pub mod find;

@@ -1,11 +1,16 @@
 //! What gets to a bus: what the host sends to the root above it, and each bridge on the way from there passes.
-ghost use Rattle.std.specs.Prelude.{map, MatchOption, IfOk, IfSome};
+ghost use Rattle.std.specs.Prelude.{◌≡◌, map, MatchOption, IfOk, IfSome};
 ghost use Rattle.std.specs.List.{All, Contains};
+ghost use Rattle.pci_spec.specs.System.{System};
+ghost use Rattle.pci_spec.specs.Bus.{IsNested};
+ghost use Rattle.pci_spec.specs.Decoded.{HasRecords};
 ghost use Rattle.pci_base.specs.Space.{space_of};
 ghost use Rattle.pci_base.specs.WindowKinds.{kind_value};
 ghost use Rattle.pci_tree.specs.Outline.{RiseBySlot};
 ghost use Rattle.pci_tree.specs.Ranges.{IsCanonical};
 ghost use Rattle.pci_tree.specs.Reaches.{HasSpans};
+ghost use Rattle.pci_tree.specs.Ways.{IsBridgeIn, bus_behind};
+ghost use Rattle.pci_function.specs.declared.record.Record.{Record as RecordValue};
 ghost use Rattle.pci_claims.specs.Values.{given_value};
 ghost use Rattle.pci_claims.specs.Reached.{IsReachAlong, IsReachInEach, IsAccessReachInEach};
 
@@ -101,4 +106,49 @@ pub fn access_reach<A: Allocator + Copy>(
         v.items)) }
 {
     reach_of(alloc, given, outline, slot, space.furthest())
+}
+
+/// The bridge that leads to a bus.
+fn bridge_to(records: &[Record], bus: u8) -> Option<&Record>
+    ensures { MatchOption result
+        ((r : RecordValue) → IsBridgeIn records.now r → bus_behind r ≡ bus → ⊥)
+        (λ r. IsBridgeIn records.now r.now × (bus_behind r.now ≡ bus)) }
+{
+    for function in records {
+        if let Some(bridge) = function.bridge {
+            if bridge.secondary == bus {
+                return Some(function);
+            }
+        }
+    }
+    None
+}
+
+/// The addresses of a space at which some access of the host gets to a bus, whether or not a function stands there: what the
+/// host sends to a root bus, what the bridge to another bus passes, and none where no bridge leads.
+pub fn reach_to<A: Allocator + Copy>(
+    alloc: A,
+    given: &Given<'_>,
+    outline: &Outline<A>,
+    bus: u8,
+    space: Space,
+) -> Result<Vec<Range, A>, OutOfMemory>
+    // claims are cut down to them by halving
+    ensures canonical { IfOk result (λ v. IsCanonical v.items) }
+    ensures exact { IfOk result (λ v. IsAccessReachInEach (given_value given.now) outline.now
+        (space_of space) bus v.items) }
+    // handed on with them: no bridge leads to a root bus
+    ensures nested { (s : System) → HasRecords s outline.now.records → IsNested outline.now.roots s }
+{
+    let records = outline.records();
+    if outline.roots().has(bus) {
+        return sent_to(alloc, given, space, bus);
+    }
+    let Some(bridge) = bridge_to(records, bus) else {
+        return Ok(Vec::new(alloc));
+    };
+    let Some(above) = access_reach(alloc, given, outline, bridge.slot, space)? else {
+        return Ok(Vec::new(alloc));
+    };
+    passed_on(alloc, given, &above, bridge, space.furthest())
 }

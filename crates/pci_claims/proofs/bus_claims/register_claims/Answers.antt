@@ -11,14 +11,14 @@ use Rattle.pci_tree.specs.Ranges.{IsCanonical}
 use Rattle.pci_claims.specs.Values.{given_value}
 use Rattle.pci_claims.specs.Reached.{IsAccessReach}
 use Rattle.pci_claims.specs.Claim.{Claimed}
-use Rattle.pci_claims.specs.BusClaims.{AreRegionClaims, AreLegacyClaims, AreClaimsOn}
+use Rattle.pci_claims.specs.BusClaims.{AreRegionClaims, AreLegacyClaims, AreRegisterClaimsOn}
 use Rattle.pci_claims.proofs.BusClaiming.{never_unlisted, bus_of, no_claims, claims_are}
-use Rattle.pci_claims.proofs.bus_claims.claims_among.Goals as goal
+use Rattle.pci_claims.proofs.bus_claims.register_claims.Goals as goal
 
 pub returns : goal.returns
 returns g c s tree =
-    let given = given_value c.args.given.now in
-    let t = c.args.outline.now in
+    let given = given_value c.args.board.now.given in
+    let t = c.args.board.now.outline.now in
     let space = space_of c.args.space in
     let regions = c.in_ok-regions.regions.items in
     let here = c.in_ok-bridges.bridges.items in
@@ -26,11 +26,11 @@ returns g c s tree =
     let some : Contains (map (λ (r : Region). r.slot) regions) c.in-Some.slot ⊎ Contains here c.in-Some.slot =
     subst (λ (l : List Slot). Contains (map (λ (r : Region). r.slot) regions) c.in-Some.slot ⊎ Contains l c.in-Some.slot) c.deref-2.ensures.value
     (subst (λ (l : List Region). Contains (map (λ (r : Region). r.slot) l) c.in-Some.slot ⊎ Contains c.deref-2.result.now c.in-Some.slot) c.deref.ensures.value c.in-Some.ensures) in
-    let on_bus : c.in-Some.slot.bus ≡ c.args.bus = bus_of given t s tree c.args.bus space regions are c.args.bridges.now here c.requires c.in_ok-bridges.ensures c.in-Some.slot some in
+    let on_bus : c.in-Some.slot.bus ≡ c.args.bus = bus_of given t s tree c.args.bus space regions are c.args.board.now.bridges.now here c.requires c.in_ok-bridges.ensures c.in-Some.slot some in
     let gets : IsAccessReach given t.roots s space c.args.bus c.in-Some-2.reach.items =
     subst (λ n. IsAccessReach given t.roots s space n c.in-Some-2.reach.items) on_bus ((rw c.in-Some-2.is at c.in_ok-reach.ensures.exact) s tree.records) in
     let added = c.in_ok-add_legacy_claims.ensures in
-    claims_are given t s tree c.args.bus space regions are c.args.bridges.now here c.requires c.in_ok-bridges.ensures c.records-records.result.now
+    claims_are given t s tree c.args.bus space regions are c.args.board.now.bridges.now here c.requires c.in_ok-bridges.ensures c.records-records.result.now
     (subst (λ (rs : List decoded.Record). HasRecords s rs) (sym c.records-records.ensures.value) tree.records) c.records-records.ensures.rising c.in-Some-2.reach.items gets
     c.in_ok-claims.claims.items added.more c.sort.new.claims.items
     (subst (λ (l : List Region). AreRegionClaims given space l c.in-Some-2.reach.items c.in_ok-claims.claims.items) c.deref-4.ensures.value
@@ -48,14 +48,14 @@ add_legacy_claims-requires-clause-canonical g c = subst (λ (l : List Range). Is
 
 pub returns-in_default : goal.returns-in_default
 returns-in_default g c s tree =
-    subst (λ (l : List Claimed). AreClaimsOn (given_value c.args.given.now) c.args.outline.now.roots s c.args.bus (space_of c.args.space) l) (sym c.new.ensures.items)
-    (no_claims (given_value c.args.given.now) c.args.outline.now s tree c.args.bus (space_of c.args.space) c.in_ok-regions.regions.items (c.in_ok-regions.ensures s tree.records)
-    c.args.bridges.now c.in_ok-bridges.bridges.items c.requires c.in_ok-bridges.ensures (sym c.deref.ensures.value ∙ c.in_default.ensures.0) (sym c.deref-2.ensures.value ∙ c.in_default.ensures.1))
+    subst (λ (l : List Claimed). AreRegisterClaimsOn (given_value c.args.board.now.given) c.args.board.now.outline.now.roots s c.args.bus (space_of c.args.space) l) (sym c.new.ensures.items)
+    (no_claims (given_value c.args.board.now.given) c.args.board.now.outline.now s tree c.args.bus (space_of c.args.space) c.in_ok-regions.regions.items (c.in_ok-regions.ensures s tree.records)
+    c.args.board.now.bridges.now c.in_ok-bridges.bridges.items c.requires c.in_ok-bridges.ensures (sym c.deref.ensures.value ∙ c.in_default.ensures.0) (sym c.deref-2.ensures.value ∙ c.in_default.ensures.1))
 
 pub returns-in_default-2 : goal.returns-in_default-2
 returns-in_default-2 g c s tree = absurd
-    (never_unlisted (given_value c.args.given.now) c.args.outline.now s tree c.args.bus (space_of c.args.space) c.in_ok-regions.regions.items (c.in_ok-regions.ensures s tree.records)
-    c.args.bridges.now c.in_ok-bridges.bridges.items c.requires c.in_ok-bridges.ensures c.in-Some.slot
+    (never_unlisted (given_value c.args.board.now.given) c.args.board.now.outline.now s tree c.args.bus (space_of c.args.space) c.in_ok-regions.regions.items (c.in_ok-regions.ensures s tree.records)
+    c.args.board.now.bridges.now c.in_ok-bridges.bridges.items c.requires c.in_ok-bridges.ensures c.in-Some.slot
     (subst (λ (l : List Slot). Contains (map (λ (r : Region). r.slot) c.in_ok-regions.regions.items) c.in-Some.slot ⊎ Contains l c.in-Some.slot) c.deref-2.ensures.value
     (subst (λ (l : List Region). Contains (map (λ (r : Region). r.slot) l) c.in-Some.slot ⊎ Contains c.deref-2.result.now c.in-Some.slot) c.deref.ensures.value c.in-Some.ensures))
     (rw c.in_default-2.is at c.in_ok-reach.ensures.exact))
