@@ -10,7 +10,7 @@ use Rattle.given_spec.specs.Told.{ToldRange, Command, Always, Held}
 use Rattle.given_spec.specs.ToldClaims.{Told}
 use Rattle.given_spec.proofs.Examples.ToldClaims.{told_ranges, told_io, told_memory, told_asleep}
 use Rattle.pci_spec.specs.Why.{Region}
-use Rattle.map_spec.specs.Regions.{MapRegion, Own, OfLine, region_rank}
+use Rattle.map_spec.specs.Regions.{MapRegion, Own, OfLine, slot_of, register_of, space_of, region_rank}
 use Rattle.map_spec.specs.Lines.{Lines, End, Free, Sits}
 use Rattle.map_spec.specs.Map.{Map}
 use Rattle.map_spec.specs.MapText.{indent, lines_text, map_region_line, map_text_of, map_off_text, outside_text, unreached_text}
@@ -96,6 +96,17 @@ printed =
 pub text_of_the_board : map_text_of told with_isa whole s ≡ printed
 unfolding indent lines_text scaled_text digits
 text_of_the_board = refl
+
+-- ---- its space, its register and its slot
+
+spaces : map space_of (of_line 1 (told_io (slot 0 5 0) 0x1f0 0x1f7 Held) ∷ of_line 2 (told_memory (slot 0 5 0) 0 0xfff Held) ∷ []) ≡ Io ∷ Memory ∷ []
+spaces = refl
+
+registers : map register_of (of_line 1 (told_io (slot 0 5 0) 0x1f0 0x1f7 Held) ∷ of_line 4096 (told_io (slot 0 5 0) 0x1f0 0x1f7 Held) ∷ []) ≡ 256 ∷ 4351 ∷ []
+registers = refl
+
+slots : map slot_of (of_line 1 (told_io (slot 0 5 0) 0x1f0 0x1f7 Held) ∷ of_line 1 (told_io (slot 0x40 1 7) 0x1f0 0x1f7 Held) ∷ []) ≡ slot 0 5 0 ∷ slot 0x40 1 7 ∷ []
+slots = refl
 
 -- ---- what each is called: a name stands last, where there is one
 
