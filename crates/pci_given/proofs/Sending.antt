@@ -1,5 +1,5 @@
 -- The least address of a region to which no access starts, as what a list of all faults names of it.
-use Rattle.std.proofs.Common.{◌≡◌, ℕ, List, map, Bool, false, true, Option, None, Some, inl, inr, refl, subst, ◌∙◌, ap}
+use Rattle.std.proofs.Common.{◌≡◌, ℕ, List, map, Bool, false, true, Option, None, Some, inl, inr, refl, subst, ◌∙◌}
 use Rattle.std.specs.Prelude.{MatchOption}
 use Rattle.std.specs.List.{Contains}
 use Rattle.std.proofs.lemmas.Bool.{cases_lt, both_ways, false_from_ne_true}

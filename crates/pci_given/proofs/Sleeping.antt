@@ -2,7 +2,7 @@
 use Rattle.std.proofs.Common.{◌≡◌, ℕ, ◌+◌, ◌<◌, ◌++◌, inl, inr, List, length, take, drop, set, replicate, get_or, Bool, true, false, ◌||◌, ◌==◌, ◌&&◌, arith, sym, ◌∙◌, ap, refl, append-nil}
 use Rattle.std.specs.List.{list_any}
 use Rattle.std.proofs.lemmas.Bool.{cases_eq, false_from_ne_true, and_from, eq-eqb}
-use Rattle.std.proofs.lemmas.List.{get_or-set_same, get_or-set_other, get_or-replicate, take_all, drop_all}
+use Rattle.std.proofs.lemmas.List.{get_or_default, get_or-set_same, get_or-set_other, get_or-replicate, take_all, drop_all}
 use Rattle.std.proofs.lemmas.List.Folds.{list_any_more}
 use Rattle.pci_spec.specs.Slot.{Slot, IsSlot, same_slot, slot_number}
 use Rattle.pci_spec.proofs.Regions.{slot_number-same}
@@ -78,3 +78,10 @@ slice_back len new old same long =
     ap (λ xs. take len (new ++ xs)) (drop_all (length new) old (omega (arith, same)))
     ∙ ap (take len) (append-nil new)
     ∙ take_all len new (omega (arith, same, long))
+
+-- what the flags say of a slot
+pub flag_at : (slots : List Slot) (flags : List Bool) → AreAsleep slots flags → (slot : Slot) → IsSlot slot → (n : ℕ) → n ≡ slot_number slot → (b : Bool) → b ≡ get_or flags n b → b ≡ is_among slot slots
+flag_at slots flags are slot is n n_is b at =
+    let low = number_low slot is in
+    let size = are.size in
+    at ∙ get_or_default flags n b false (omega (arith, low, size, n_is)) ∙ ap (λ k. get_or flags k false) n_is ∙ are.each slot is

@@ -1,68 +1,24 @@
 -- Told ranges that have to be sent and reached, one after another.
-use Rattle.std.proofs.Common.{◌≡◌, ℕ, ◌+◌, ◌<◌, ◌≤◌, inl, inr, Bool, true, false, not, ◌&&◌, List, [], ◌∷◌, ◌++◌, length, get_or, map, refl, sym, ◌∙◌, ap, subst, arith, Some}
-use Rattle.std.specs.List.{Contains, slice_get}
-use Rattle.std.proofs.lemmas.Bool.{and_from, and_parts, cases_Bool, cases_eq, both_ways, false_from_ne_true, not-true, not_from_false}
+use Rattle.std.proofs.Common.{◌≡◌, ℕ, ◌+◌, ◌<◌, ◌≤◌, inl, inr, Bool, true, false, not, ◌&&◌, List, [], ◌∷◌, ◌++◌, length, get_or, refl, sym, ◌∙◌, ap, subst, arith, Some}
+use Rattle.std.specs.List.{slice_get}
+use Rattle.std.proofs.lemmas.Bool.{and_from, and_parts, cases_eq, both_ways, not-true, not_from_false}
+use Rattle.std.proofs.lemmas.List.{get_or-map}
 use Rattle.std.proofs.lemmas.List.Elements.{Contains-push_cases, Contains-push}
 use Rattle.std.proofs.lemmas.Option.{get_or_from_slice_get, slice_get_within, slice_get_read}
-use Rattle.pci_spec.specs.Slot.{Slot, IsSlot, same_slot, slot_number}
-use Rattle.pci_spec.specs.System.{System, Function, Space, Io, Memory, IsAddress, is_space_on}
-use Rattle.pci_spec.specs.Decoded as decoded
-use Rattle.pci_spec.proofs.BusRanges.{any_gives, any_from}
-use Rattle.pci_spec.proofs.Members.{in_nil, in_map_from}
-use Rattle.pci_base.specs.Space.{space_of, is_on}
-use Rattle.pci_function.specs.declared.record.Record.{Record}
-use Rattle.pci_function.specs.Values.{record_value}
-use Rattle.pci_tree.specs.Outline.{Tree, RiseBySlot}
+use Rattle.pci_spec.specs.Slot.{Slot, IsSlot}
+use Rattle.pci_spec.specs.System.{System, Space, Io, Memory, IsAddress}
+use Rattle.pci_spec.proofs.Members.{in_nil}
+use Rattle.pci_base.specs.Space.{space_of}
+use Rattle.pci_tree.specs.Outline.{Tree}
 use Rattle.pci_tree.specs.Ranges.{Holds}
 use Rattle.pci_tree.specs.Trees.{HasTree}
-use Rattle.pci_tree.specs.Ways.{slots_of}
-use Rattle.pci_tree.proofs.Lifting.{Has, record_for, function_for, same_slot_of, one_by_number}
-use Rattle.pci_tree.proofs.Regions.{on_same}
 use Rattle.given_spec.specs.Told.{ToldRange, IsTold, IsToldRange}
-use Rattle.given_spec.specs.ToldClaims.{Told, told_register, is_enabled_at, is_range_on, is_marked_held}
+use Rattle.given_spec.specs.ToldClaims.{Told, told_register, is_range_on, is_marked_held}
 use Rattle.given_spec.specs.ToldClaims.{Holds as AreAt}
-use Rattle.given_spec.proofs.Judging.{slots_same}
 use Rattle.pci_given.specs.declared.needed.Needed.{Needed}
 use Rattle.pci_given.specs.Needed.{IsOfRange, Which, IsOneOf, AreJust, Differ, AreAdded, IsNeededRange}
+use Rattle.pci_given.specs.ToldOn.{AreOnIn}
 use Rattle.pci_given.proofs.Listing.{Apart, Either, both_added, none_added, same_added}
-use Rattle.pci_given.proofs.Sleeping.{same_slot_refl}
-
--- ---- whether Command enables a space
-
-on_record : (r : Record) (f : Function) (space : Space) → record_value r ≡ decoded.record_of f → is_space_on f space ≡ is_on r.command space
-on_record r f space e = on_same f space ∙ ap (λ (x : decoded.Record). is_on x.command space) (sym e)
-
-module _ (s : System) (records : List Record) (has : Has s records) (slot : Slot) (space : Space) where
-  abbrev enables : Function → Bool
-  enables f = same_slot f.slot slot && is_space_on f space
-
-  -- a record with the slot
-  record_there : (f : Function) → Contains s f → enables f ≡ true → (r : Record) × Contains records r × (r.slot ≡ slot) × (is_on r.command space ≡ true)
-  record_there f listed on =
-      let both = and_parts (same_slot f.slot slot) (is_space_on f space) on in
-      let p = record_for s records f has listed in
-      (p.0, p.1.has, same_slot_of p.0 f p.1.same ∙ slots_same f.slot slot both.0, sym (on_record p.0 f space p.1.same) ∙ both.1)
-
-  -- where no function has the slot
-  pub not_enabled : (Contains (slots_of records) slot → ⊥) → false ≡ is_enabled_at s slot space
-  not_enabled none = sym (false_from_ne_true (is_enabled_at s slot space) (λ some.
-      let (f, listed, on) = any_gives enables s some in
-      let (r, there, at, enabled) = record_there f listed on in
-      none (subst (Contains (slots_of records)) at (in_map_from (λ (x : Record). x.slot) records r there))))
-
-  -- the record of the function that has it
-  pub enabled_by : (r : Record) → RiseBySlot records → Contains records r → r.slot ≡ slot → is_on r.command space ≡ is_enabled_at s slot space
-  enabled_by r rise there at = elim (cases_Bool (is_on r.command space)) [
-    | inl on ↦
-        let (f, listed, same) = function_for s records r has there in
-        on ∙ sym (any_from enables s f listed (and_from (same_slot f.slot slot) (is_space_on f space)
-        (subst (λ (x : Slot). same_slot x slot ≡ true) (sym at ∙ same_slot_of r f same) (same_slot_refl slot)) (on_record r f space same ∙ on)))
-    | inr off ↦ off ∙ sym (false_from_ne_true (is_enabled_at s slot space) (λ some.
-        let (f, listed, on) = any_gives enables s some in
-        let (q, other, at_q, enabled) = record_there f listed on in
-        let one : q ≡ r = one_by_number (λ (x : Record). slot_number x.slot) records q r rise other there (ap slot_number (at_q ∙ sym at)) in
-        both_ways (is_on r.command space) off (subst (λ (x : Record). is_on x.command space ≡ true) one enabled)))
-  ]
 
 -- ---- ranges by index
 
@@ -183,20 +139,31 @@ module _ (told : Told) where
           pairs = λ j k d less inside. absurd (let no : ⊥ = omega (arith, less, inside) in no);
         }
 
+      -- the list of those that are on tells of it
+      on_is : (on : List Bool) → AreOnIn told t on → (s : System) → HasTree t s → get_or on i false ≡ is_range_on told s r
+      on_is on are s tree =
+          ap (λ (l : List Bool). get_or l i false) (are.each s tree) ∙ get_or-map (is_range_on told s) told.ranges i r false within ∙ ap (is_range_on told s) (sym at)
+
       abbrev IsNeededIn : System → Bool
       IsNeededIn s = not (is_marked_held r.mark) && is_range_on told s r
 
-      pub range_added : (n : Needed) → IsNeededRange r (told_register i) n → ((s : System) → HasTree t s → IsNeededIn s ≡ true) → (before after : List Needed) → after ≡ before ++ n ∷ []
-          → AreAdded (IsOfRangeAt told (Is i)) t before after
-      range_added n is needed before after appended = record {
+      needed_is : (on : List Bool) → AreOnIn told t on → (s : System) → HasTree t s → (not (is_marked_held r.mark) && get_or on i false) ≡ IsNeededIn s
+      needed_is on are s tree = ap (λ c. not (is_marked_held r.mark) && c) (on_is on are s tree)
+
+      pub range_added : (on : List Bool) → AreOnIn told t on → (not (is_marked_held r.mark) && get_or on i false) ≡ true
+          → (n : Needed) → IsNeededRange r (told_register i) n → (before after : List Needed) → after ≡ before ++ n ∷ [] → AreAdded (IsOfRangeAt told (Is i)) t before after
+      range_added on are needed n is before after appended = record {
         more = n ∷ [];
         appended = appended;
-        are = λ s tree. (let both = and_parts (not (is_marked_held r.mark)) (is_range_on told s r) (needed s tree) in one_is s (not-true (is_marked_held r.mark) both.0) both.1 n is);
+        are = λ s tree.
+            let both = and_parts (not (is_marked_held r.mark)) (is_range_on told s r) (sym (needed_is on are s tree) ∙ needed) in
+            one_is s (not-true (is_marked_held r.mark) both.0) both.1 n is;
       }
 
-      pub range_left : ((s : System) → HasTree t s → IsNeededIn s ≡ false) → (list : List Needed) → AreAdded (IsOfRangeAt told (Is i)) t list list
-      range_left never list = none_added (IsOfRangeAt told (Is i)) t (λ s tree slot register space a p (x, index).
+      pub range_left : (on : List Bool) → AreOnIn told t on → (not (is_marked_held r.mark) && get_or on i false) ≡ false
+          → (list : List Needed) → AreAdded (IsOfRangeAt told (Is i)) t list list
+      range_left on are unneeded list = none_added (IsOfRangeAt told (Is i)) t (λ s tree slot register space a p (x, index).
           let same = range_is s slot register space a p x index in
-          both_ways (IsNeededIn s) (never s tree) (and_from (not (is_marked_held r.mark)) (is_range_on told s r)
+          both_ways (IsNeededIn s) (sym (needed_is on are s tree) ∙ unneeded) (and_from (not (is_marked_held r.mark)) (is_range_on told s r)
           (not_from_false (is_marked_held r.mark) (subst (λ (q : ToldRange). is_marked_held q.mark ≡ false) same x.needs.not_held))
           (subst (λ (q : ToldRange). is_range_on told s q ≡ true) same x.needs.claims.on))) list

@@ -6,6 +6,7 @@ pub mod Missed
 pub mod Stopped
 pub mod Needed
 pub mod Asleep
+pub mod ToldOn
 pub mod OutsideLines
 pub mod UnreachedLines
 pub mod AllLines

@@ -21,5 +21,6 @@ pub mod split_lines;
 pub mod text;
 pub mod told_lists;
 mod told_needed;
+mod told_on;
 pub mod unreached;
 pub mod unreached_lines;

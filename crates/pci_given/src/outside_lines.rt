@@ -60,9 +60,9 @@ fn outside_among<A: Allocator + Copy>(
     Ok(out)
 }
 
-/// All faults 63 of the systems with these records and root buses, with what is given and told: of each region that has to
-/// be sent and has an address to which no access starts on the root above it, with the least such address. They stand in
-/// the order in which judging looks for them.
+/// All faults 63 of the systems with these records and root buses, with what is given and told. A region that has to be
+/// sent has one where on the root above it no access starts to some address of it. The fault names the least such address.
+/// They stand in the order in which judging looks for them.
 pub fn all_outside<A: Allocator + Copy>(
     alloc: A,
     given: &Given<'_>,

@@ -87,9 +87,9 @@ fn are_all_home<A: Allocator + Copy>(
     }
 }
 
-/// All faults 60 of the systems with these records and root buses, with what is given and told: of each region that has to
-/// be reached, and has an address that the host sends to the root above it and that a bridge on the way from there doesn't
-/// pass, with the first such bridge and the least address that this one doesn't pass. They stand in the order in which
+/// All faults 60 of the systems with these records and root buses, with what is given and told. A region that has to be
+/// reached has one where a bridge on the way to it doesn't pass some address that the host sends to the root above. The
+/// fault names the first such bridge and the least address that this one doesn't pass. They stand in the order in which
 /// judging looks for them.
 pub fn all_unreached<A: Allocator + Copy>(
     alloc: A,

@@ -2,8 +2,8 @@ use Rattle.std.proofs.Common.{List, sym, ◌∙◌, subst}
 use Rattle.pci_spec.specs.Decoded.{HasRecords}
 use Rattle.pci_spec.specs.Decoded as decoded
 use Rattle.pci_base.specs.Space.{space_of}
-use Rattle.pci_given.proofs.ToldListing.{not_enabled, enabled_by}
-use Rattle.pci_given.proofs.told_needed.is_enabled.Goals as goal
+use Rattle.pci_given.proofs.Enabling.{not_enabled, enabled_by}
+use Rattle.pci_given.proofs.told_on.is_enabled.Goals as goal
 
 pub returns-in-None : goal.returns-in-None
 returns-in-None g c s tree =
