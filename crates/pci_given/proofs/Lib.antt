@@ -9,8 +9,6 @@ pub mod Telling
 pub mod ClashNaming
 pub mod Numbering
 pub mod AllClashing
-pub mod Sleeping
-pub mod Enabling
 pub mod ToldListing
 pub mod Listing
 pub mod Sending

@@ -17,7 +17,7 @@ use Rattle.given_spec.specs.ToldClaims.{Told, told_register, is_range_on, is_mar
 use Rattle.given_spec.specs.ToldClaims.{Holds as AreAt}
 use Rattle.pci_given.specs.declared.needed.Needed.{Needed}
 use Rattle.pci_given.specs.Needed.{IsOfRange, Which, IsOneOf, AreJust, Differ, AreAdded, IsNeededRange}
-use Rattle.pci_given.specs.ToldOn.{AreOnIn}
+use Rattle.pci_claims.specs.ToldOn.{AreOnIn}
 use Rattle.pci_given.proofs.Listing.{Apart, Either, both_added, none_added, same_added}
 
 -- ---- ranges by index

@@ -5,8 +5,6 @@ pub mod Quiet
 pub mod Missed
 pub mod Stopped
 pub mod Needed
-pub mod Asleep
-pub mod ToldOn
 pub mod OutsideLines
 pub mod UnreachedLines
 pub mod AllLines

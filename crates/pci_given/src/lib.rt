@@ -4,7 +4,6 @@
 
 pub mod all_lines;
 pub mod any_fault;
-mod asleep;
 mod bars_and_roms;
 mod before;
 pub mod board;
@@ -21,6 +20,5 @@ pub mod split_lines;
 pub mod text;
 pub mod told_lists;
 mod told_needed;
-mod told_on;
 pub mod unreached;
 pub mod unreached_lines;

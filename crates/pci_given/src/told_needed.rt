@@ -5,14 +5,13 @@ ghost use Rattle.given_spec.specs.Told.{IsTold};
 ghost use Rattle.given_spec.specs.ToldClaims.{is_marked_held};
 ghost use Rattle.pci_claims.specs.Values.{told_value};
 ghost use Rattle.pci_given.specs.Needed.{AreAdded, IsNeededRange, IsOfRange};
-ghost use Rattle.pci_given.specs.ToldOn.{AreOnIn};
+ghost use Rattle.pci_claims.specs.ToldOn.{AreOnIn};
 
 use super::named::Name;
 use super::needed::Needed;
-use super::told_on::ranges_on;
 use pci_base::memory::OutOfMemory;
 use pci_base::range::Range;
-use pci_claims::told::Told;
+use pci_claims::told::{Told, ranges_on};
 use pci_told::told_range::{Mark, ToldRange};
 use pci_tree::outline::Outline;
 use std::alloc::Allocator;

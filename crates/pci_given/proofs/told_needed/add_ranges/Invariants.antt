@@ -1,7 +1,7 @@
 use Rattle.pci_tree.specs.Outline.{Tree}
 use Rattle.pci_claims.specs.Values.{told_value}
 use Rattle.pci_given.specs.Needed.{AreAdded}
-use Rattle.pci_given.specs.ToldOn.{AreOnIn}
+use Rattle.pci_claims.specs.ToldOn.{AreOnIn}
 use Rattle.pci_given.proofs.ToldListing.{IsOfRangeAt, Below}
 use Rattle.pci_given.proofs.told_needed.add_ranges.Given as goal
 
