@@ -31,8 +31,9 @@ _pciplan() {
     here) options='--domain --from --log' most=1 words='faults map dump probe words' ;;
     show | size) options='' ;;
     check) options='--root' ;;
-    faults) options='--host-io --host-mem --model --root --why' ;;
-    map | picture) options='--host-io --host-mem --model --root' ;;
+    faults) options='--also --host-io --host-mem --model --root --why' ;;
+    map) options='--also --host-io --host-mem --model --root' ;;
+    picture) options='--host-io --host-mem --model --root' ;;
     plan) options='--io --mem --pref --root --why --writes' ;;
     settle) options='--anew --fixed --io --mem --pref --root --slots --spare --writes' ;;
     probe) options='--exact --least' ;;
@@ -44,7 +45,7 @@ _pciplan() {
     for ((at = 2; at < place; at++)); do
         case $ended${line[at]} in
         --) ended=. ;;
-        --root | --model | --host-io | --host-mem | --io | --mem | --pref | --fixed | --spare | --slots | --domain | --from | --log)
+        --root | --model | --host-io | --host-mem | --also | --io | --mem | --pref | --fixed | --spare | --slots | --domain | --from | --log)
             said+="${line[at]} "
             [ "${line[at + 1]}" != = ] || at=$((at + 1))
             at=$((at + 1))
@@ -57,11 +58,11 @@ _pciplan() {
         *) count=$((count + 1)) ;;
         esac
     done
-    # For an option's own word nothing is offered, but for those of --model, --from and --log, and for the forms of settle.
+    # For an option's own word nothing is offered, but for those of --model, --also, --from and --log, and for the forms of settle.
     if [ "$at" -ne "$place" ]; then
         [[ $said != *' --model ' || $word == = ]] || _pciplan_model "$word"
         [[ $said != *' --from ' || $word == = ]] || compopt -o dirnames
-        [[ $said != *' --log ' || $word == = ]] || compopt -o default
+        [[ $said != *' --log ' && $said != *' --also ' || $word == = ]] || compopt -o default
         [[ $said != *' --writes ' || $word == = || ${line[1]} != settle ]] ||
             mapfile -t COMPREPLY < <(compgen -W 'grub setpci' -- "$word")
         return
