@@ -58,13 +58,13 @@ awk 'BEGIN {
 
 # Boards written as text, with what the program answers about each, run beside what follows, each file in a folder of its
 # own: it prints `FILE: N passed, M failed`. So do the scripts around the program: writes on a running Linux and in scripts, capture and
-# conversion of texts, machines that `here` reads, what is installed, documents of answers, pictures, slow models on boards made by rule, and the commands that pages show.
+# conversion of texts, what is told beside them, machines that `here` reads, what is installed, documents of answers, pictures, slow models on boards made by rule, and the commands that pages show.
 for cases in cases/*.txt; do
     mkdir "$cases.d"
     ln -s ../../pciplan ../../cases "$cases.d"
     (cd "$cases.d" && exec awk -f ../../cases.awk "$cases" >"../../$cases.told") &
 done
-scripts='apply assumed capture explain here install json library lists models pages picture rescan script'
+scripts='apply assumed capture explain here install json library lists models pages picture rescan script told'
 for script in $scripts; do
     "$here/${script}_test.sh" "$made" >$script.told &
 done
