@@ -1,5 +1,5 @@
 -- All claims of a bus: those of regions that registers show, with those of told ranges.
-use Rattle.std.proofs.Common.{◌≡◌, ℕ, zero, suc, ◌+◌, ◌<◌, ◌≤◌, ◌⊎◌, inl, inr, List, [], ◌∷◌, ◌++◌, length, get_or, map, take, Bool, true, false, ◌&&◌, ◌||◌, refl, sym, ◌∙◌, ap, subst, arith, append_assoc, append-nil, Some, None}
+use Rattle.std.proofs.Common.{◌≡◌, ℕ, zero, suc, ◌+◌, ◌<◌, ◌≤◌, ◌⊎◌, inl, inr, List, [], ◌∷◌, ◌++◌, get_or, Bool, true, false, ◌&&◌, ◌||◌, refl, sym, ◌∙◌, ap, subst, arith, append_assoc, append-nil, Some, None}
 use Rattle.std.specs.Prelude.{◌↔◌, IsTrue}
 use Rattle.std.specs.Bool.{◌==◌}
 use Rattle.std.specs.List.{AllPairs, Contains, slice_get}
@@ -11,10 +11,10 @@ use Rattle.std.proofs.lemmas.List.Quantifiers.{all_pairs_push}
 use Rattle.std.proofs.lemmas.Option.{slice_get_within, get_or_from_slice_get}
 use Rattle.std.proofs.lemmas.List.Elements.{Contains-get_or, Contains-push, Contains-push_cases, Contains-append_left, Contains-append_right, Contains-append_cases}
 use Rattle.std.proofs.lemmas.List.Sorted.{Contains-permutation, IsPermutation-sym}
-use Rattle.pci_spec.specs.Slot.{Slot, IsSlot}
-use Rattle.pci_spec.specs.System.{System, Space, IsAddress}
+use Rattle.pci_spec.specs.Slot.{Slot, IsSlot, same_slot}
+use Rattle.pci_spec.specs.System.{System, Space}
 use Rattle.pci_spec.specs.Bus.{IsNested}
-use Rattle.pci_spec.specs.Fault.{RegionName, address_in, named_region}
+use Rattle.pci_spec.specs.Fault.{address_in, named_region}
 use Rattle.pci_spec.proofs.Firsts.{slot_of}
 use Rattle.pci_spec.proofs.Members.{in_nil, pairs_append, pairs_nil}
 use Rattle.pci_base.specs.declared.range.Range.{Range}
@@ -25,11 +25,11 @@ use Rattle.given_spec.specs.Given.{Given, starts}
 use Rattle.given_spec.specs.Claims.{Gets}
 use Rattle.given_spec.specs.Claims as untold
 use Rattle.given_spec.specs.Told.{ToldRange, IsTold, IsToldRange}
-use Rattle.given_spec.specs.ToldClaims.{Told, ClaimsOnBus, RangeClaimsOnBus, is_held, is_held_from, is_marked_held, is_range_on}
+use Rattle.given_spec.specs.ToldClaims.{Told, ClaimsOnBus, is_held, is_held_from, is_marked_held, is_range_on, may_share}
 use Rattle.given_spec.proofs.Naming.{named_register}
 use Rattle.given_spec.proofs.ToldAdds.{low_not_held, told_claim_addresses}
 use Rattle.pci_claims.specs.declared.all_claims.Stretch.{Stretch}
-use Rattle.pci_claims.specs.Claim.{Claimed}
+use Rattle.pci_claims.specs.Claim.{Claimed, may_both_claim}
 use Rattle.pci_claims.specs.BusClaims.{claim_number, AreRegisterClaimsOn, AreMoreClaims}
 use Rattle.pci_claims.specs.Gathered.{IsCommon}
 use Rattle.pci_claims.specs.Reached.{IsAccessReach}
@@ -59,6 +59,12 @@ its_mark first (x ∷ ranges) zero register r place at =
 its_mark first (x ∷ ranges) (suc index) register r place at =
     ap (λ b. (b && is_marked_held x.mark) || is_held_from (first + 1) ranges register) (ne_eqb first register (λ e. omega (arith, e, place)))
     ∙ its_mark (first + 1) ranges index register r (omega (arith, place)) at
+
+-- two claims share what their regions do
+pub share_by_marks : (told : Told) (c d : Claimed) → c.held ≡ is_held told c.register → d.held ≡ is_held told d.register → may_both_claim c d ≡ may_share told c.slot c.register d.slot d.register
+share_by_marks told c d one other =
+    ap (λ b. untold.may_share c.slot c.register d.slot d.register || (b && (d.held || same_slot c.slot d.slot)) || (d.held && (b || same_slot d.slot c.slot))) one
+    ∙ ap (λ b. untold.may_share c.slot c.register d.slot d.register || (is_held told c.register && (b || same_slot c.slot d.slot)) || (b && (is_held told c.register || same_slot d.slot c.slot))) other
 
 -- ---- told ranges that are on
 

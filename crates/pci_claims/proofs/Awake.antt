@@ -1,21 +1,19 @@
 -- Which told ranges are on, by the slots of functions that are asleep and the records of the others.
 use Rattle.std.proofs.Common.{◌≡◌, ℕ, ◌+◌, ◌<◌, ◌≤◌, inl, inr, List, [], ◌∷◌, ◌++◌, take, Bool, true, false, ◌&&◌, not, length, get_or, map, refl, sym, ◌∙◌, ap, subst, arith, ltb}
 use Rattle.std.specs.Prelude.{◌↔◌, IsTrue, ◌==◌}
-use Rattle.std.specs.List.{AllWithin, Contains, list_any}
+use Rattle.std.specs.List.{AllWithin, Contains}
 use Rattle.std.specs.List.Sorted.{IsNonDecreasingBy, IsPartitionedBy, IsPermutation}
 use Rattle.std.proofs.lemmas.Bool.{cases_Bool, cases_lt, both_ways, eq-eqb, and_parts, and_from, false_from_ne_true, iff_false}
 use Rattle.std.proofs.lemmas.List.{get_or_default, length_push, map_push, take_more, take_all}
 use Rattle.std.proofs.lemmas.List.Sorted.{IsPartitionedBy-ltb, Contains-permutation, IsPermutation-sym}
 use Rattle.pci_spec.specs.Slot.{Slot, IsSlot, same_slot, slot_number}
 use Rattle.pci_spec.specs.System.{System, Function, Space, IsSystem, is_space_on}
-use Rattle.pci_spec.specs.Decoded.{record_of}
 use Rattle.pci_spec.proofs.BusRanges.{any_gives, any_from}
 use Rattle.pci_spec.proofs.Members.{in_map_from}
 use Rattle.pci_spec.proofs.Nesting.{one_function}
 use Rattle.pci_spec.proofs.Regions.{slot_number-same}
 use Rattle.pci_base.specs.Space.{is_on}
 use Rattle.pci_function.specs.declared.record.Record.{Record}
-use Rattle.pci_function.specs.Values.{record_value}
 use Rattle.pci_tree.specs.Ways.{slots_of}
 use Rattle.pci_tree.specs.Outline.{Tree}
 use Rattle.pci_tree.specs.Trees.{HasTree}

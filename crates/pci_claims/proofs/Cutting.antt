@@ -1,5 +1,5 @@
 -- What ISA Enable leaves of I/O windows.
-use Rattle.std.proofs.Common.{◌≡◌, ℕ, ◌+◌, ◌*◌, ◌%◌, ◌^◌, ◌<◌, ◌≤◌, ◌⊎◌, List, [], ◌∷◌, ◌++◌, length, get_or, take, Bool, true, false, ◌&&◌, not, nat_lt, nat_le, inl, inr, arith, subst, sym, ◌∙◌, ap, refl}
+use Rattle.std.proofs.Common.{◌≡◌, ℕ, ◌+◌, ◌*◌, ◌%◌, ◌^◌, ◌<◌, ◌≤◌, ◌⊎◌, List, [], ◌∷◌, ◌++◌, length, get_or, Bool, true, false, ◌&&◌, not, nat_lt, nat_le, inl, inr, arith, subst, sym, ◌∙◌, ap, refl}
 use Rattle.std.specs.Prelude.{◌↔◌, IsTrue, IsFalse}
 use Rattle.std.proofs.lemmas.Bool.{and_from, and_parts, both_ways, cases_Bool, cases_lt, leb-true, le-leb, ltb-true, lt-ltb}
 use Rattle.pci_spec.specs.Slot.{Slot}

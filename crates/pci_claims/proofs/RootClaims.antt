@@ -14,7 +14,7 @@ use Rattle.pci_tree.specs.Ranges.{Covers}
 use Rattle.pci_tree.specs.Outline.{Tree}
 use Rattle.pci_tree.specs.Trees.{HasTree}
 use Rattle.given_spec.specs.Given.{Given, starts}
-use Rattle.given_spec.specs.Told.{ToldRange, IsTold, IsToldRange}
+use Rattle.given_spec.specs.Told.{IsTold, IsToldRange}
 use Rattle.given_spec.specs.ToldClaims.{Told, ClaimsOnBus}
 use Rattle.pci_claims.specs.Claim.{Claimed}
 use Rattle.pci_claims.specs.BusClaims.{claim_number}

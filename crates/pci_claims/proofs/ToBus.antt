@@ -1,5 +1,5 @@
 -- What gets to a bus, whether or not a function stands there.
-use Rattle.std.proofs.Common.{◌≡◌, ℕ, ◌+◌, ◌<◌, ◌≤◌, ◌⊎◌, length, get_or, take, inl, inr, List, [], ◌∷◌, ◌++◌, Bool, true, ◌&&◌, refl, sym, ◌∙◌, ap, subst, arith}
+use Rattle.std.proofs.Common.{◌≡◌, ℕ, ◌+◌, ◌<◌, ◌≤◌, ◌⊎◌, length, get_or, take, inl, inr, List, [], ◌∷◌, ◌++◌, Bool, true, refl, sym, ◌∙◌, ap, subst, arith}
 use Rattle.std.specs.Prelude.{IsTrue}
 use Rattle.std.specs.Option.{is_some}
 use Rattle.std.specs.List.{Contains, list_all}
@@ -21,7 +21,7 @@ use Rattle.pci_tree.specs.Ranges.{Covers}
 use Rattle.pci_tree.specs.Ways.{IsBridgeIn, bus_behind}
 use Rattle.pci_tree.specs.Outline.{RiseBySlot}
 use Rattle.pci_tree.proofs.Lifting.{Has, record_for, function_for, functions_rise, same_bridge, same_secondary, same_slot_of, one_by_number}
-use Rattle.given_spec.specs.Given.{Given, starts}
+use Rattle.given_spec.specs.Given.{Given}
 use Rattle.given_spec.specs.Claims.{forwards, passes, Gets}
 use Rattle.pci_claims.specs.Passed.{passes_with, IsPassedOnWith}
 use Rattle.pci_claims.specs.Reached.{IsAccessReach}

@@ -1,6 +1,5 @@
 //! Claims of a bus: what one region answers, and the least address that two of them answer.
 ghost use Rattle.std.specs.Prelude.{◌≡◌, ◌≤◌, ◌↔◌, ℕ, IsTrue, MatchOption, IfOk};
-ghost use Rattle.pci_spec.specs.JudgingLaws.{region_number as plain_number};
 ghost use Rattle.pci_base.specs.Space.{space_of};
 ghost use Rattle.pci_tree.specs.Ranges.{Covers, IsCanonical};
 ghost use Rattle.given_spec.specs.Claims.{is_window_register, are_window_and_legacy, may_share};
@@ -94,13 +93,6 @@ pub fn number_of(slot: Slot, register: u16) -> u32
     ensures { result ≡ region_number slot register }
 {
     u32::from(slot.number()) * 8192 + u32::from(register)
-}
-
-/// The place of a BAR, a ROM, a window or a legacy part in the order of slots and registers, below 2^24.
-pub fn place(slot: Slot, reg: u8) -> u32
-    ensures { result ≡ plain_number slot reg }
-{
-    u32::from(slot.number()) * 256 + u32::from(reg)
 }
 
 /// The addresses from one to another, as a list.

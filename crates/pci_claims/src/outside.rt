@@ -1,10 +1,9 @@
-//! Regions outside the host's ranges: a BAR or a ROM that is enabled, and has an address to which no access starts on
-//! the root above it.
+//! Addresses to which no access starts on a root bus, and the root bus above a function.
 ghost use Rattle.std.specs.Prelude.{ℕ, IfOk, MatchOption};
 ghost use Rattle.pci_base.specs.Space.{space_of};
 ghost use Rattle.pci_tree.specs.Ranges.{Holds};
 ghost use Rattle.pci_claims.specs.Values.{given_value};
-ghost use Rattle.pci_claims.specs.Outside.{IsSent, IsLeastUnsent, IsRootOfPath, IsNeverOutside, IsOutsideLine};
+ghost use Rattle.pci_claims.specs.Outside.{IsSent, IsLeastUnsent, IsRootOfPath};
 
 use super::given::Given;
 use super::sent::sent_to;
@@ -12,9 +11,7 @@ use pci_base::memory::OutOfMemory;
 use pci_base::range::Range;
 use pci_base::slot::Slot;
 use pci_base::space::Space;
-use pci_tree::outline::Outline;
 use pci_tree::ranges::least_outside;
-use pci_tree::region::Region;
 use std::alloc::Allocator;
 
 /// The least address of a range to which no access starts on a root bus.
@@ -41,30 +38,4 @@ pub fn root_above(path: &[Slot], end: u8) -> u8
     ensures { IsRootOfPath path.now end result }
 {
     if path.is_empty() { end } else { path[0].bus() }
-}
-
-/// The address that a fault 63 of a BAR or a ROM names: the least one to which no access starts on the root above it.
-/// None where there is no such address.
-pub fn least_outside_host<A: Allocator + Copy>(
-    alloc: A,
-    given: &Given<'_>,
-    outline: &Outline<A>,
-    region: &Region,
-    space: Space,
-) -> Result<Option<u64>, OutOfMemory>
-    ensures { IfOk result (λ o. MatchOption o
-        (IsNeverOutside (given_value given.now) outline.now (space_of space) region.now)
-        (λ a. IsOutsideLine (given_value given.now) outline.now (space_of space) region.now a)) }
-{
-    match outline.path(region.slot) {
-        None => Ok(None),
-        Some(bridges) => {
-            let root = root_above(bridges.as_slice(), region.slot.bus());
-            let range = Range {
-                first: region.first,
-                last: region.last,
-            };
-            least_unsent(alloc, given, space, root, range)
-        }
-    }
 }

@@ -23,22 +23,17 @@ use Rattle.given_spec.specs.Told.{IsTold}
 use Rattle.given_spec.specs.ToldClaims.{Told}
 use Rattle.given_spec.specs.ToldFault.{Fault, Known, NotListed}
 use Rattle.given_spec.specs.ToldAllFaults.{AreAllOfJudging}
-use Rattle.given_spec.specs.ToldFaultLines.{AreListed, IsEarlyThere, AreJudged, AreAllFaults}
+use Rattle.given_spec.specs.ToldFaultLines.{IsEarlyThere, AreJudged, AreAllFaults}
 use Rattle.given_spec.proofs.ToldEmpty.{told_empty_where_none_fails}
 use Rattle.pci_given.specs.declared.any_fault.AnyFault.{AnyFault}
 use Rattle.pci_given.specs.AllLines as lines
 use Rattle.pci_given.specs.AllLines.{AreAllLines}
-use Rattle.pci_given.specs.Every.{AreEarlyWith, AreBefore, AreSound}
+use Rattle.pci_given.specs.Every.{AreEarlyWith, AreBefore, AreSound, AreFound, AreReady}
 use Rattle.pci_given.proofs.ToldFirst.{all_not_listed}
 use Rattle.pci_given.proofs.ToldPlaces.{there_cases, all_places, no_place}
 use Rattle.pci_given.proofs.ToldEarly.{plain_twice, none_plain, all_listed, before_of_first, some_of_first}
 
--- what stands of faults before judging
-pub record IsEveryBefore (told : Told) (given : Given) (roots : List ℕ) (dump probe : List Block) (list : List AnyFault) : Type 0 where
-  pub before : AreBefore told given roots dump probe (map lines.fault_of list)
-  pub none : (list ≡ []) ↔ AreSound told given roots dump probe
-
--- and of those of judging
+-- what stands of the faults of judging
 pub record IsEveryJudged (told : Told) (given : Given) (roots : List ℕ) (dump probe : List Block) (list : List AnyFault) : Type 0 where
   pub judged : AreJudged told given roots dump probe (map lines.fault_of list)
   pub none : (list ≡ []) ↔ AreSound told given roots dump probe
@@ -60,13 +55,11 @@ module _ (told : Told) (is_told : IsTold told.ranges) (given : Given) (roots : L
   -- ---- where there is a fault without what is told
 
   pub every_of_first : (first : plain.Fault) (early : List code.Fault) (list : List AnyFault) → IsFirstThere roots dump probe first → fault_number first < 60 → plain_lines.AreAllFaults roots dump probe (map fault_of early)
-      → BeginsWith first (map fault_of early) → AreEarlyWith told.ranges roots dump early (map lines.fault_of list) → IsEveryBefore told given roots dump probe list
+      → BeginsWith first (map fault_of early) → AreEarlyWith told.ranges roots dump early (map lines.fault_of list) → AreFound told given roots dump probe (map lines.fault_of list)
   every_of_first first early list is low all begins with = record {
+    some = some_of_first told is_told given roots dump probe is_dump first is low early all begins (map lines.fault_of list) with;
     before = before_of_first told is_told given roots dump probe is_dump first is low early all begins (map lines.fault_of list) with;
-    none = (
-      λ none. absurd (some_of_first told is_told given roots dump probe is_dump first is low early all begins (map lines.fault_of list) with (ap (map lines.fault_of) none)),
-      λ are. absurd (none_early roots (system_of dump probe) are.sound.nested are.sound.profile are.sound.chains first (soon first low) (in-of_there roots dump probe first are.slots is.there)),
-    );
+    unsound = λ are. none_early roots (system_of dump probe) are.sound.nested are.sound.profile are.sound.chains first (soon first low) (in-of_there roots dump probe first are.slots is.there);
   } where
     soon : (f : plain.Fault) → fault_number f < 60 → phase_of f < 5
     soon (plain.Unreached slot register space a bridge) low = absurd (let no : ⊥ = omega (arith, low) in no)
@@ -138,18 +131,15 @@ module _ (told : Told) (is_told : IsTold told.ranges) (given : Given) (roots : L
           | inr (slot, at, held) ↦ sound.sound.led_to slot held
         ]
 
-    pub every_of_told : (list : List AnyFault) → AreEarlyWith told.ranges roots dump [] (map lines.fault_of list) → (list ≡ [] → ⊥) → IsEveryBefore told given roots dump probe list
+    pub every_of_told : (list : List AnyFault) → AreEarlyWith told.ranges roots dump [] (map lines.fault_of list) → (list ≡ [] → ⊥) → AreFound told given roots dump probe (map lines.fault_of list)
     every_of_told list with some = record {
+      some = λ none. some (no_fault list none);
       before = before_of_told (map lines.fault_of list) with (λ none. some (no_fault list none));
-      none = (λ none. absurd (some none), λ sound. absurd (unsound (map lines.fault_of list) with (λ none. some (no_fault list none)) sound));
+      unsound = λ sound. unsound (map lines.fault_of list) with (λ none. some (no_fault list none)) sound;
     }
 
     -- none is told: judging is begun
-    record IsJudgeable : Type 0 where
-      listed : AreListed told dump probe
-      none : (f : plain.Fault) → phase_of f < 5 → IsEarlyThere told roots dump probe f → ⊥
-
-    judgeable : (faults : List Fault) → AreEarlyWith told.ranges roots dump [] faults → faults ≡ [] → IsJudgeable
+    pub judgeable : (faults : List Fault) → AreEarlyWith told.ranges roots dump [] faults → faults ≡ [] → AreReady told roots dump probe
     judgeable faults (inl alone) none = absurd (let e = alone.phase in let no : ⊥ = omega (arith, e) in no)
     judgeable faults (inr (inl not)) none = absurd (not.some (none_unlisted not.slots (sym not.are ∙ none)))
       where
@@ -160,38 +150,40 @@ module _ (told : Told) (is_told : IsTold told.ranges) (given : Given) (roots : L
     judgeable faults (inr (inr (inr h))) none =
         let same = outline.admitted.slots in record {
           listed = all_listed told is_told given roots dump probe is_dump same h.listed;
-          none = no_place told is_told roots dump probe is_dump same [] there complete (pairs_nil Before) h.orphans h.all h.with h.added (none_plain h.with (sym h.are ∙ none));
+          none_earlier = no_place told is_told roots dump probe is_dump same [] there complete (pairs_nil Before) h.orphans h.all h.with h.added (none_plain h.with (sym h.are ∙ none));
         }
 
-    pub every_of_judging : (faults : List Fault) → AreEarlyWith told.ranges roots dump [] faults → faults ≡ [] → (list : List AnyFault) → AreAllLines told given o list → IsEveryJudged told given roots dump probe list
-    every_of_judging faults with none_told list all_lines =
-        let admitted = outline.admitted in
-        let ready = judgeable faults with none_told in
-        let all = subst (λ roots. AreAllOfJudging told given roots s all_lines.judged) outline.roots (all_lines.all s record { system = admitted.system; records = outline.records } ready.listed) in
-        let empty = told_empty_where_none_fails told given roots s all_lines.judged is_told admitted.system admitted.nested ready.listed all in
-        record {
-          judged = record {
-            same = admitted.slots;
-            listed = ready.listed;
-            none_earlier = ready.none;
-            judged = all_lines.judged;
-            all = all;
-            are = all_lines.are;
-          };
-          none = (
-            λ none.
-                let sound = empty.0 (none_known all_lines.judged (sym all_lines.are ∙ ap (map lines.fault_of) none)) in record {
-                  slots = admitted.slots;
-                  sound = record {
-                    single = sound.0;
-                    home = sound.1;
-                    nested = admitted.nested;
-                    profile = admitted.profile;
-                    chains = admitted.chains;
-                    listed = ready.listed;
-                    led_to = λ slot held. ready.none (Orphan slot) (omega arith) (inr held);
-                  };
-                },
-            λ are. no_fault list (all_lines.are ∙ ap (map Known) (empty.1 (are.sound.single, are.sound.home))),
-          );
-        }
+-- ---- and where judging is begun
+
+pub every_of_ready : (told : Told) → IsTold told.ranges → (given : Given) (roots : List ℕ) (dump probe : List Block) (o : Tree) → IsOutlineFor record { roots = roots; dump = dump; probe = probe } o → AreReady told roots dump probe → (list : List AnyFault) → AreAllLines told given o list → IsEveryJudged told given roots dump probe list
+every_of_ready told is_told given roots dump probe o outline ready list all_lines =
+    let s = system_of dump probe in
+    let admitted = outline.admitted in
+    let all = subst (λ roots. AreAllOfJudging told given roots s all_lines.judged) outline.roots (all_lines.all s record { system = admitted.system; records = outline.records } ready.listed) in
+    let empty = told_empty_where_none_fails told given roots s all_lines.judged is_told admitted.system admitted.nested ready.listed all in
+    record {
+      judged = record {
+        same = admitted.slots;
+        listed = ready.listed;
+        none_earlier = ready.none_earlier;
+        judged = all_lines.judged;
+        all = all;
+        are = all_lines.are;
+      };
+      none = (
+        λ none.
+            let sound = empty.0 (none_known all_lines.judged (sym all_lines.are ∙ ap (map lines.fault_of) none)) in record {
+              slots = admitted.slots;
+              sound = record {
+                single = sound.0;
+                home = sound.1;
+                nested = admitted.nested;
+                profile = admitted.profile;
+                chains = admitted.chains;
+                listed = ready.listed;
+                led_to = λ slot held. ready.none_earlier (Orphan slot) (omega arith) (inr held);
+              };
+            },
+        λ are. no_fault list (all_lines.are ∙ ap (map Known) (empty.1 (are.sound.single, are.sound.home))),
+      );
+    }

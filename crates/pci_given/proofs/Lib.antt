@@ -25,3 +25,6 @@ pub mod ToldFirst
 pub mod ToldPlaces
 pub mod ToldEarly
 pub mod EveryTold
+pub mod Addings
+pub mod Orders
+pub mod Tellings

@@ -2,15 +2,14 @@
 use Rattle.std.proofs.Common.{◌≡◌, ℕ, ◌+◌, ◌<◌, ◌≤◌, ◌⊎◌, inl, inr, List, [], ◌∷◌, ◌++◌, length, get_or, Option, None, Some, Bool, true, false, if◌then◌else◌, refl, sym, subst, arith}
 use Rattle.std.specs.Prelude.{MatchOption, nat_le}
 use Rattle.std.specs.List.{Contains}
-use Rattle.std.proofs.lemmas.Bool.{cases_lt, cases_eq, leb-true, leb-false}
+use Rattle.std.proofs.lemmas.Bool.{cases_eq, leb-true, leb-false}
 use Rattle.std.proofs.lemmas.List.Elements.{Contains-get_or, Contains-push, Contains-push_cases, Contains-append_left}
 use Rattle.std.proofs.lemmas.List.Quantifiers.{all_pairs_push}
-use Rattle.pci_tree.specs.Ranges.{Covers}
 use Rattle.pci_faults.specs.declared.shares.Among.{Among}
 use Rattle.pci_faults.specs.declared.shares.Among.TheVariants.{Bus, Roots}
 use Rattle.pci_faults.specs.declared.shares.Share.{Share}
 use Rattle.pci_faults.proofs.Sharing.{both_least, same_share}
-use Rattle.pci_claims.specs.Claim.{Claimed, AreAtOdds, IsLeastAtOdds, IsLeastCommon}
+use Rattle.pci_claims.specs.Claim.{Claimed, AreAtOdds, IsLeastAtOdds}
 use Rattle.pci_given.specs.Clashes.{AreOnTwoBuses, Meet, IsLeastOfTwo, claim_at, AreMeeting, IsLeastBelow, IsFoundBelow, lesser, AreMeetingsBelow}
 
 -- ---- two claims
@@ -20,12 +19,12 @@ pub of_a_bus : (bus : ℕ) (c d : Claimed) (o : Option ℕ) → MatchOption o ((
 of_a_bus bus c d None none = none
 of_a_bus bus c d (Some a) is = record { there = is.there; least = is.least }
 
-pub of_two_buses : (c d : Claimed) → (c.slot.bus ≡ d.slot.bus → ⊥) → (o : Option ℕ) → MatchOption o ((a : ℕ) → Covers c.pieces a → Covers d.pieces a → ⊥) (λ a. IsLeastCommon c.pieces d.pieces a)
+pub of_two_buses : (c d : Claimed) → (c.slot.bus ≡ d.slot.bus → ⊥) → (o : Option ℕ) → MatchOption o ((a : ℕ) → AreAtOdds c d a → ⊥) (λ a. IsLeastAtOdds c d a)
     → MatchOption o ((a : ℕ) → AreOnTwoBuses c d a → ⊥) (λ a. IsLeastOfTwo Roots c d a)
-of_two_buses c d differ None none = λ a two. none a two.first two.second
+of_two_buses c d differ None none = λ a two. none a record { first = two.first; second = two.second; apart = two.apart }
 of_two_buses c d differ (Some a) is = record {
-  there = record { first = is.first; second = is.second; buses = differ };
-  least = λ b two. elim (cases_lt b a) [ inl less ↦ absurd (is.least b less two.first two.second) | inr le ↦ le ];
+  there = record { first = is.there.first; second = is.there.second; apart = is.there.apart; buses = differ };
+  least = λ b two. is.least b record { first = two.first; second = two.second; apart = two.apart };
 }
 
 -- ---- one claim and those before it

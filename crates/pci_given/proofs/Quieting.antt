@@ -1,9 +1,10 @@
 -- Buses on which no two regions can clash.
-use Rattle.std.proofs.Common.{rules, ◌≡◌, ℕ, ◌+◌, ◌<◌, ◌≤◌, ◌⊎◌, inl, inr, List, [], ◌∷◌, ◌++◌, length, get_or, map, take, true, false, refl, sym, ◌∙◌, ap, subst, arith, append-nil}
+use Rattle.std.proofs.Common.{rules, ◌≡◌, ℕ, ◌+◌, ◌<◌, ◌≤◌, ◌⊎◌, inl, inr, List, [], ◌∷◌, ◌++◌, length, get_or, map, take, true, false, refl, sym, ◌∙◌, ap, subst, arith, Some}
 use Rattle.std.specs.Prelude.{◌&&◌, ◌||◌}
-use Rattle.std.specs.List.{All, AllPairs, Contains, list_any}
+use Rattle.std.specs.List.{All, AllPairs, Contains, list_any, slice_get}
 use Rattle.std.specs.List.Sorted.{IsPermutation}
-use Rattle.std.proofs.lemmas.Bool.{and_parts, and_from, or_cases, or_left, or_right, both_ways, cases_lt, cases_eq, false_from_ne_true}
+use Rattle.std.proofs.lemmas.Bool.{and_parts, and_from, or_cases, or_left, or_right, both_ways, cases_Bool, cases_lt, cases_eq, false_from_ne_true}
+use Rattle.std.proofs.lemmas.Option.{slice_get_within, get_or_from_slice_get}
 use Rattle.std.proofs.lemmas.List.{get_or_default, take_all, take_more}
 use Rattle.std.proofs.lemmas.List.Elements.{All-contains, Contains-append_left, Contains-append_right, Contains-append_cases, All-more}
 use Rattle.std.proofs.lemmas.List.Sorted.{Contains-permutation}
@@ -15,12 +16,11 @@ use Rattle.pci_spec.specs.Fault as plain
 use Rattle.pci_spec.proofs.Members.{in_nil, in_head, in_cons_cases, in_map_to, pairs_nil}
 use Rattle.pci_spec.proofs.BusRanges.{any_gives}
 use Rattle.pci_base.specs.declared.range.Range.{Range}
-use Rattle.pci_function.specs.declared.fault.Fault.{Fault}
 use Rattle.pci_tree.specs.declared.region.Region.{Region}
 use Rattle.pci_tree.specs.Regions.{AreRegionsOf}
 use Rattle.pci_tree.specs.Outline.{Tree}
+use Rattle.pci_tree.specs.Trees.{HasTree}
 use Rattle.pci_check.specs.Clashes.{AreRegionsOn}
-use Rattle.pci_faults.proofs.Adding.{just_none}
 use Rattle.given_spec.specs.Given.{Given, legacy_holds, is_legacy_at}
 use Rattle.given_spec.specs.Given as spec
 use Rattle.given_spec.specs.Claims.{Own, Legacy, ClaimsOnBus, may_share, are_window_and_legacy}
@@ -28,9 +28,17 @@ use Rattle.given_spec.proofs.Judging.{slots_same}
 use Rattle.pci_claims.specs.declared.given.LegacyBridge.{LegacyBridge}
 use Rattle.pci_claims.specs.Values.{legacy_value}
 use Rattle.pci_claims.specs.Legacy.{ArePieces}
-use Rattle.pci_given.specs.Clashes.{IsClashLine, IsOnBusIn, AreClashesAdded}
-use Rattle.pci_given.specs.Splits.{IsSplitLine, IsSplitIn, AreSplitsAdded}
-use Rattle.pci_given.specs.Quiet.{IsOff, IsOffLegacy, HasThoseOn, AreQuiet, IsQuiet, IsQuietInEach}
+use Rattle.given_spec.specs.Told.{ToldRange}
+use Rattle.given_spec.specs.ToldClaims.{Told}
+use Rattle.given_spec.specs.ToldClaims as told_claims
+use Rattle.pci_claims.specs.declared.all_claims.Stretch.{Stretch}
+use Rattle.pci_claims.specs.AllClaims.{IsStretchOf}
+use Rattle.pci_given.specs.declared.named.Clash as named
+use Rattle.pci_given.specs.declared.named.Split as named_split
+use Rattle.pci_given.specs.Clashes.{clash_value, IsClashLine, IsOnBusIn, AreClashesAdded}
+use Rattle.pci_given.specs.Splits.{split_value, IsSplitLine, IsSplitIn, AreSplitsAdded}
+use Rattle.pci_given.specs.Quiet.{IsOff, IsOffLegacy, HasThoseOn, AreQuiet, IsQuiet, IsQuietInEach, IsQuietWith}
+use Rattle.pci_given.proofs.Addings.{added_none}
 
 -- ---- regions that rise
 
@@ -199,32 +207,64 @@ of_bus s bus space regions are = record {
   rising = are.rising;
 }
 
+-- ---- with told ranges on other buses
+
+told_in : (told : Told) (k : ℕ) (r : ToldRange) → slice_get told.ranges k ≡ Some r → Contains told.ranges r
+told_in told k r at = (k, slice_get_within told.ranges k r at, get_or_from_slice_get told.ranges k r r at)
+
+-- what two regions may share without what is told they may share with it
+apart_untold : (told : Told) (p q : Slot) (m n : ℕ) → told_claims.may_share told p m q n ≡ false → may_share p m q n ≡ false
+apart_untold told p q m n apart = elim (cases_Bool (may_share p m q n)) [
+  | inr off ↦ off
+  | inl on ↦ absurd (both_ways _ apart (or_left (may_share p m q n || told_claims.is_held_beside told p m q n) (told_claims.is_held_beside told q n p m) (or_left (may_share p m q n) (told_claims.is_held_beside told p m q n) on)))
+]
+
+pub quiet_untold : (told : Told) (given : Given) (t : Tree) (IsOne : ℕ → Type 0) (space : Space) → ((r : ToldRange) → Contains told.ranges r → IsOne r.slot.bus → ⊥) → IsQuietInEach given t IsOne space → IsQuietWith told given t IsOne space
+quiet_untold told given t IsOne space none quiet s tree a b c p q m n on_b on_c (inl one) (inl other) differ apart = quiet s tree a b c p q m n on_b on_c one other differ (apart_untold told p q m n apart)
+quiet_untold told given t IsOne space none quiet s tree a b c p q m n on_b on_c (inr range) other differ apart =
+    none range.r (told_in told range.named.index range.r range.named.at) (subst IsOne (sym range.on_the_bus ∙ ap (λ (x : Slot). x.bus) (sym range.named.slot)) on_b)
+quiet_untold told given t IsOne space none quiet s tree a b c p q m n on_b on_c (inl one) (inr range) differ apart =
+    none range.r (told_in told range.named.index range.r range.named.at) (subst IsOne (sym range.on_the_bus ∙ ap (λ (x : Slot). x.bus) (sym range.named.slot)) on_c)
+
+-- an empty stretch is of a bus without told ranges
+pub none_on_bus : (told : Told) (bus : ℕ) (stretch : Stretch) → IsStretchOf told.ranges bus stretch → stretch.first ≡ stretch.end → (r : ToldRange) → Contains told.ranges r → r.slot.bus ≡ bus → ⊥
+none_on_bus told bus stretch is empty r (k, within, at) on_bus =
+    let its : (get_or told.ranges k r).slot.bus ≡ bus = ap (λ (x : ToldRange). x.slot.bus) at ∙ on_bus in
+    elim (cases_lt k stretch.first) [
+      | inl less ↦ (let low = is.before k r (omega arith) less in let no : ⊥ = omega (arith, low, its) in no)
+      | inr from ↦ (let high = is.after k r (omega (arith, from, empty)) within in let no : ⊥ = omega (arith, high, its) in no)
+    ]
+
 -- ---- no fault is there
 
-module _ (given : Given) (t : Tree) where
-  no_clash : (bus : ℕ) (space : Space) (s : System) → IsQuiet given s (λ b. b ≡ bus) space → (f : plain.Fault) → IsClashLine (IsOnBusIn bus space) given t.roots s f → ⊥
-  no_clash bus space s quiet (Clash b sp a p m q n) (at, is) =
-      quiet a b b p q m n at.0 at.0 (subst (λ (x : Space). ClaimsOnBus given s b (address_in x a) (named_region p m)) at.1 is.there.claims_first)
-      (subst (λ (x : Space). ClaimsOnBus given s b (address_in x a) (named_region q n)) at.1 is.there.claims_second) is.there.differ is.there.apart
-  no_clash bus space s quiet f line = absurd (search rules)
+module _ (told : Told) (given : Given) (t : Tree) where
+  no_clash : (bus : ℕ) (space : Space) (s : System) (tree : HasTree t s) → IsQuietWith told given t (λ b. b ≡ bus) space → (f : plain.Fault) → IsClashLine (IsOnBusIn bus space) told given t.roots s f → ⊥
+  no_clash bus space s tree quiet (Clash b sp a p m q n) (at, is) =
+      quiet s tree a b b p q m n at.0 at.0 (subst (λ (x : Space). told_claims.ClaimsOnBus told given s b (address_in x a) (named_region p m)) at.1 is.there.claims_first)
+      (subst (λ (x : Space). told_claims.ClaimsOnBus told given s b (address_in x a) (named_region q n)) at.1 is.there.claims_second) is.there.differ is.there.apart
+  no_clash bus space s tree quiet f line = absurd (search rules)
 
-  pub no_clashes : (bus : ℕ) (space : Space) (list : List Fault) → IsQuietInEach given t (λ b. b ≡ bus) space → AreClashesAdded (IsOnBusIn bus space) given t list list
-  no_clashes bus space list quiet = record {
-    more = [];
-    appended = sym (append-nil list);
-    just = λ s tree. just_none (IsClashLine (IsOnBusIn bus space) given t.roots s) (no_clash bus space s (quiet s tree));
-  }
+  pub no_clashes : (bus : ℕ) (space : Space) (list : List named.Clash) → IsQuietWith told given t (λ b. b ≡ bus) space → AreClashesAdded (IsOnBusIn bus space) told given t list list
+  no_clashes bus space list quiet = added_none t (IsClashLine (IsOnBusIn bus space) told given t.roots) (map clash_value list) (λ s tree f line. no_clash bus space s tree quiet f line)
 
-  no_split : (space : Space) (s : System) → IsQuiet given s (Contains t.roots) space → (f : plain.Fault) → IsSplitLine (IsSplitIn space) given t.roots s f → ⊥
-  no_split space s quiet (Split sp a p m q n) (at, is) =
+  no_split : (space : Space) (s : System) (tree : HasTree t s) → IsQuietWith told given t (Contains t.roots) space → (f : plain.Fault) → IsSplitLine (IsSplitIn space) told given t.roots s f → ⊥
+  no_split space s tree quiet (Split sp a p m q n) (at, is) =
       let differ : p ≡ q → ⊥ = λ same. is.there.buses (ap (λ (x : Slot). x.bus) same) in
-      quiet a p.bus q.bus p q m n is.there.root_first is.there.root_second (subst (λ (x : Space). ClaimsOnBus given s p.bus (address_in x a) (named_region p m)) at is.there.claims_first)
-      (subst (λ (x : Space). ClaimsOnBus given s q.bus (address_in x a) (named_region q n)) at is.there.claims_second) (λ same. differ same.0) (shared_by_one p q m n differ)
-  no_split space s quiet f line = absurd (search rules)
+      quiet s tree a p.bus q.bus p q m n is.there.root_first is.there.root_second (subst (λ (x : Space). told_claims.ClaimsOnBus told given s p.bus (address_in x a) (named_region p m)) at is.there.claims_first)
+      (subst (λ (x : Space). told_claims.ClaimsOnBus told given s q.bus (address_in x a) (named_region q n)) at is.there.claims_second) (λ same. differ same.0) is.there.apart
+  no_split space s tree quiet f line = absurd (search rules)
 
-  pub no_splits : (space : Space) (list : List Fault) → IsQuietInEach given t (Contains t.roots) space → AreSplitsAdded (IsSplitIn space) given t list list
-  no_splits space list quiet = record {
-    more = [];
-    appended = sym (append-nil list);
-    just = λ s tree. just_none (IsSplitLine (IsSplitIn space) given t.roots s) (no_split space s (quiet s tree));
-  }
+  pub no_splits : (space : Space) (list : List named_split.Split) → IsQuietWith told given t (Contains t.roots) space → AreSplitsAdded (IsSplitIn space) told given t list list
+  no_splits space list quiet = added_none t (IsSplitLine (IsSplitIn space) told given t.roots) (map split_value list) (λ s tree f line. no_split space s tree quiet f line)
+
+-- ---- told ranges one by one
+
+abbrev pub NoneOnRoots : List ℕ → List ToldRange → Type 0
+NoneOnRoots roots ranges = All (λ r. Contains roots r.slot.bus → ⊥) ranges
+
+pub none_on_roots_yet : (roots : List ℕ) → NoneOnRoots roots []
+none_on_roots_yet roots = λ k d less. absurd (let no : ⊥ = omega (arith, less) in no)
+
+pub none_on_roots_more : (roots : List ℕ) (ranges : List ToldRange) (k : ℕ) (r : ToldRange) → k < length ranges → r ≡ get_or ranges k r → (Contains roots r.slot.bus → ⊥) → NoneOnRoots roots (take k ranges)
+    → NoneOnRoots roots (take (k + 1) ranges)
+none_on_roots_more roots ranges k r within at none before = All-more (λ (x : ToldRange). Contains roots x.slot.bus → ⊥) ranges k r within before (subst (λ (x : ToldRange). Contains roots x.slot.bus → ⊥) at none)

@@ -3,12 +3,12 @@ use Rattle.std.proofs.Common.{◌≡◌, ℕ, ◌<◌, List, length, ◌∙◌, 
 use Rattle.std.specs.List.{AllPairs, Contains}
 use Rattle.std.proofs.lemmas.List.{get_or_default}
 use Rattle.pci_spec.specs.Slot.{Slot}
-use Rattle.pci_spec.specs.JudgingLaws.{region_number}
 use Rattle.pci_faults.specs.declared.shares.Among.{Among}
 use Rattle.pci_faults.specs.declared.shares.Share.{Share}
-use Rattle.pci_faults.proofs.Naming.{Places, AreRising, IsAtPlace, IsSharedAs, AreLeastOf, place_before}
+use Rattle.given_spec.specs.ToldAllFaults.{region_number}
 use Rattle.pci_claims.specs.Claim.{Claimed}
 use Rattle.pci_claims.specs.BusClaims.{claim_number}
+use Rattle.pci_given.proofs.Tellings.{Places, AreRising, IsAtPlace, IsSharedAs, AreLeastOf, place_before}
 use Rattle.pci_given.specs.Clashes.{claim_at, nobody, Meet, AreMeeting, AreMeetings}
 
 abbrev pub places_of : List Claimed → Places

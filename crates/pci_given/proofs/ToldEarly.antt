@@ -8,7 +8,7 @@ use Rattle.pci_spec.specs.System.{system_of}
 use Rattle.pci_spec.specs.Fault.{SlotsDiffer, IsThere, fault_number}
 use Rattle.pci_spec.specs.Fault as plain
 use Rattle.pci_spec.specs.Order.{phase_of, image_at, IsFirstThere}
-use Rattle.pci_spec.specs.FaultLines.{subject, IsLine, AreAllFaults}
+use Rattle.pci_spec.specs.FaultLines.{IsLine, AreAllFaults}
 use Rattle.pci_spec.proofs.Looking.{phase_le}
 use Rattle.pci_spec.proofs.Members.{in_nil}
 use Rattle.pci_function.specs.declared.fault.Fault as code
@@ -19,7 +19,6 @@ use Rattle.pci_early.proofs.Lines.{phase_of_line, none_earlier_than}
 use Rattle.pci_early.proofs.Wholes.{before_judging, same_slots}
 use Rattle.given_spec.specs.Given.{Given}
 use Rattle.given_spec.specs.Fault as untold
-use Rattle.given_spec.specs.FaultLines as untold_lines
 use Rattle.given_spec.specs.Told.{IsTold}
 use Rattle.given_spec.specs.ToldClaims.{Told}
 use Rattle.given_spec.specs.ToldFault.{Fault, Known, NotListed}

@@ -1,11 +1,11 @@
 -- What stands in the way of judging, with what is told: slots that aren't listed, and held ranges to which no bridge leads.
-use Rattle.std.proofs.Common.{◌≡◌, ℕ, inl, inr, Bool, true, false, List, length, refl, sym, ◌∙◌, ap, subst}
+use Rattle.std.proofs.Common.{◌≡◌, ℕ, inl, inr, Bool, true, false, List, refl, sym, ◌∙◌, ap, subst}
 use Rattle.std.specs.Prelude.{◌||◌, not, IsTrue}
 use Rattle.std.specs.List.{Contains, list_any}
 use Rattle.std.proofs.lemmas.Bool.{cases_Bool, both_ways, or_parts}
 use Rattle.pci_spec.specs.Slot.{Slot}
 use Rattle.pci_spec.specs.Text.{Block, slots_of}
-use Rattle.pci_spec.specs.System.{System, Function, system_of}
+use Rattle.pci_spec.specs.System.{System, system_of}
 use Rattle.pci_spec.specs.Bus.{is_root, is_led_to}
 use Rattle.pci_spec.proofs.BusRanges.{root_means}
 use Rattle.pci_spec.proofs.Pairing.{same_length, slots-system_of}

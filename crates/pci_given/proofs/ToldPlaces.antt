@@ -1,7 +1,7 @@
 -- Faults of places, and 58 of held ranges among them.
 use Rattle.std.proofs.Common.{◌≡◌, ◌⊎◌, ℕ, ◌+◌, ◌*◌, ◌<◌, inl, inr, List, [], ◌∷◌, ◌++◌, get_or, map, true, refl, sym, ◌∙◌, ap, subst, arith}
-use Rattle.std.specs.Prelude.{IsTrue, not}
-use Rattle.std.specs.List.{All, AllPairs, Contains}
+use Rattle.std.specs.Prelude.{IsTrue}
+use Rattle.std.specs.List.{AllPairs, Contains}
 use Rattle.std.specs.List.Sorted.{IsNonDecreasingBy}
 use Rattle.std.proofs.lemmas.Bool.{cases_order}
 use Rattle.std.proofs.lemmas.List.Elements.{All-contains, Contains-get_or, Contains-append_left, Contains-append_right, Contains-append_cases}
@@ -11,7 +11,6 @@ use Rattle.pci_spec.specs.Text.{Block, IsBlock, IsDump, slots_of}
 use Rattle.pci_spec.specs.System.{System, Function, system_of}
 use Rattle.pci_spec.specs.Fault.{Fault, LoneFunction, Orphan, BusRange, IsIn, IsThere}
 use Rattle.pci_spec.specs.Order.{precedes, slot_key, looking_key, phase_of, is_before, image_at}
-use Rattle.pci_spec.specs.FaultLines.{subject}
 use Rattle.pci_spec.proofs.FirstLines.{less_precedes}
 use Rattle.pci_spec.proofs.Members.{IsMade, in_nil, in_map_to, in_map_from, pairs_map, pairs_append}
 use Rattle.pci_spec.proofs.Pairing.{slots-system_of, there-of_in, in-of_there}
@@ -21,7 +20,7 @@ use Rattle.pci_function.specs.declared.fault.Fault.TheVariants as codes
 use Rattle.pci_function.specs.Fault.{fault_of}
 use Rattle.pci_early.proofs.Checks.{late_alone}
 use Rattle.pci_early.proofs.Keys.{not_before_itself, front_precedes, lower_precedes}
-use Rattle.given_spec.specs.Told.{ToldRange, IsToldRange, IsTold}
+use Rattle.given_spec.specs.Told.{IsToldRange, IsTold}
 use Rattle.given_spec.specs.ToldClaims.{Told}
 use Rattle.given_spec.specs.ToldFault.{IsHeldOrphan}
 use Rattle.given_spec.specs.ToldFaultLines.{IsEarlyThere, IsEarlyLine, AreAllEarly}

@@ -1,33 +1,32 @@
--- Where claims of a list meet, and all clashes of a system.
-use Rattle.std.specs.Prelude.{◌≡◌, ◌≢◌, ℕ, ◌<◌, ◌≤◌, ◌⊎◌, nat_le, if◌then◌else◌, List, [], Option, None, Some, MatchOption, length, map, slice_index_or}
+-- Where claims of a list meet, and the clashes of a system.
+use Rattle.std.specs.Prelude.{◌≡◌, ◌≢◌, ℕ, ◌<◌, ◌≤◌, ◌⊎◌, nat_le, if◌then◌else◌, List, [], Option, None, Some, MatchOption, false, length, map, slice_index_or}
 use Rattle.std.specs.List.{AllPairs, Contains}
 use Rattle.pci_spec.specs.System.{System}
 use Rattle.pci_spec.specs.System as system
 use Rattle.pci_spec.specs.Fault as plain
 use Rattle.pci_spec.specs.Fault.{address_in, named_regions}
 use Rattle.pci_base.specs.declared.space.Space.{Space}
-use Rattle.pci_function.specs.declared.fault.Fault.{Fault}
-use Rattle.pci_function.specs.declared.fault.Fault.TheVariants.{Clash, Split}
-use Rattle.pci_function.specs.Fault.{fault_of}
+use Rattle.pci_base.specs.Space.{space_of}
 use Rattle.pci_tree.specs.Ranges.{Covers}
 use Rattle.pci_tree.specs.Outline.{Tree}
-use Rattle.pci_tree.specs.Trees.{HasTree}
 use Rattle.pci_faults.specs.declared.shares.Among.{Among}
 use Rattle.pci_faults.specs.declared.shares.Among.TheVariants.{Bus, Roots}
 use Rattle.pci_faults.specs.declared.shares.Share.{Share}
-use Rattle.pci_faults.specs.Lines.{AreAdded}
 use Rattle.given_spec.specs.Given.{Given}
-use Rattle.given_spec.specs.Fault.{Known}
-use Rattle.given_spec.specs.AllFaults.{IsClashOf}
-use Rattle.given_spec.specs.Numbered.{AreAllNumbered}
-use Rattle.pci_claims.specs.Claim.{Claimed, AreAtOdds}
+use Rattle.given_spec.specs.ToldClaims.{Told}
+use Rattle.given_spec.specs.ToldAllFaults.{IsClashOf}
+use Rattle.pci_claims.specs.Claim.{Claimed, AreAtOdds, may_both_claim}
+use Rattle.pci_given.specs.declared.named.Name.{Name}
+use Rattle.pci_given.specs.declared.named.Clash.{Clash}
+use Rattle.pci_given.specs.Lines.{AreAdded}
 
 -- ---- two claims
 
--- both answer an address, on two buses
+-- both answer an address that they may not share, on two buses
 pub record AreOnTwoBuses (c d : Claimed) (a : ℕ) : Type 0 where
   pub first : Covers c.pieces a
   pub second : Covers d.pieces a
+  pub apart : may_both_claim c d ≡ false
   pub buses : c.slot.bus ≢ d.slot.bus
 
 -- two of a bus meet where they are at odds, two of the root buses where they are on two of them
@@ -44,7 +43,7 @@ pub record IsLeastOfTwo (among : Among) (c d : Claimed) (a : ℕ) : Type 0 where
 
 -- where a list has no claim
 abbrev pub nobody : Claimed
-nobody = record { slot = record { bus = 0; device = 0; function = 0 }; register = 0; pieces = [] }
+nobody = record { slot = record { bus = 0; device = 0; function = 0 }; register = 0; held = false; pieces = [] }
 
 abbrev pub claim_at : List Claimed → ℕ → Claimed
 claim_at claims k = slice_index_or claims k nobody
@@ -88,40 +87,39 @@ AreMeetings among claims shares = AreMeetingsBelow among (length claims) claims 
 
 -- ---- faults
 
--- the fault that two claims meet
-abbrev pub claims_fault_at : Among → Space → ℕ → Claimed → Claimed → Fault
-claims_fault_at (Bus bus) space address first second =
-    Clash bus space address first.slot first.register second.slot second.register
-claims_fault_at Roots space address first second =
-    Split space address first.slot first.register second.slot second.register
+abbrev pub name_of : Claimed → Name
+name_of c = record { slot = c.slot; register = c.register }
 
--- the fault that claims of a list meet
-abbrev pub claims_fault : Among → Space → List Claimed → Share → Fault
-claims_fault among space claims s =
-    claims_fault_at among space s.address (claim_at claims s.first) (claim_at claims s.second)
+-- the clash that two claims of a list tell of
+abbrev pub claims_clash : ℕ → Space → List Claimed → Share → Clash
+claims_clash bus space claims s = record {
+  bus = bus;
+  space = space;
+  address = s.address;
+  first = name_of (claim_at claims s.first);
+  second = name_of (claim_at claims s.second);
+}
+
+abbrev pub clash_value : Clash → plain.Fault
+clash_value c =
+    plain.Clash c.bus (space_of c.space) c.address c.first.slot c.first.register c.second.slot c.second.register
 
 -- the fault is a clash that a list of all names, on a bus and in a space that are meant
-abbrev pub IsClashLine : (ℕ → system.Space → Type 0) → Given → List ℕ → System → plain.Fault
+abbrev pub IsClashLine : (ℕ → system.Space → Type 0) → Told → Given → List ℕ → System → plain.Fault
     → Type 0
-IsClashLine At given roots s
+IsClashLine At told given roots s
     (plain.Clash bus space address first first_register second second_register) =
     At bus space
-    × IsClashOf given roots s bus (address_in space address)
+    × IsClashOf told given roots s bus (address_in space address)
     (named_regions first first_register second second_register)
-IsClashLine At given roots s fault = ⊥
+IsClashLine At told given roots s fault = ⊥
 
 -- they come behind those of a list, in each system with the tree
-abbrev pub AreClashesAdded : (ℕ → system.Space → Type 0) → Given → Tree → List Fault → List Fault
-    → Type 0
-AreClashesAdded At given t before after =
-    AreAdded t (IsClashLine At given t.roots) before after
+abbrev pub AreClashesAdded : (ℕ → system.Space → Type 0) → Told → Given → Tree → List Clash
+    → List Clash → Type 0
+AreClashesAdded At told given t before after =
+    AreAdded t (IsClashLine At told given t.roots) (map clash_value before) (map clash_value after)
 
 -- of one bus and space
 abbrev pub IsOnBusIn : ℕ → system.Space → ℕ → system.Space → Type 0
 IsOnBusIn bus space b sp = (b ≡ bus) × (sp ≡ space)
-
--- all clashes, in each system with the tree
-abbrev pub AreAllClashes : Given → Tree → List Fault → Type 0
-AreAllClashes given t list =
-    (s : System) → HasTree t s
-    → AreAllNumbered 61 given t.roots s (map (λ f. Known (fault_of f)) list)

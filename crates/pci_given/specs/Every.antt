@@ -3,16 +3,20 @@ use Rattle.std.specs.Prelude.{◌≡◌, ◌≢◌, ◌⊎◌, ℕ, ◌<◌, ◌
 use Rattle.pci_spec.specs.Slot.{Slot}
 use Rattle.pci_spec.specs.Text.{Block, slots_of}
 use Rattle.pci_spec.specs.System.{system_of}
-use Rattle.pci_spec.specs.Order.{phase_of}
+use Rattle.pci_spec.specs.Fault as spec
+use Rattle.pci_spec.specs.Order.{Judging, phase_key, phase_of}
 use Rattle.pci_function.specs.declared.fault.Fault as code
 use Rattle.pci_function.specs.Fault as plain
 use Rattle.given_spec.specs.Given.{Given}
 use Rattle.given_spec.specs.Told.{ToldRange}
 use Rattle.given_spec.specs.ToldClaims.{Told}
 use Rattle.given_spec.specs.ToldFault.{Fault, NotListed}
-use Rattle.given_spec.specs.ToldFaultLines.{AreOfSlots, AreOfNotListed, AreEarlier}
+use Rattle.given_spec.specs.ToldFaultLines.{AreOfSlots, AreOfNotListed, AreEarlier, AreListed, IsEarlyThere}
 use Rattle.given_spec.specs.ToldSound.{IsSound}
-use Rattle.pci_given.specs.AllLines.{plain_fault}
+use Rattle.pci_tree.specs.Admission.{IsOutlineFor}
+use Rattle.pci_given.specs.declared.every.BeforeJudging.{BeforeJudging}
+use Rattle.pci_given.specs.declared.every.BeforeJudging.TheVariants.{Refused, Admitted}
+use Rattle.pci_given.specs.AllLines.{fault_of, plain_fault}
 use Rattle.pci_given.specs.Before.{AreSlotsOf, IsOfNoFunction, IsOfNoBus, AreOrphansAdded}
 
 -- ---- what is told before judging
@@ -73,3 +77,24 @@ AreBefore told given roots dump probe faults =
 pub record AreSound (told : Told) (given : Given) (roots : List ℕ) (dump probe : List Block) : Type 0 where
   pub slots : slots_of dump ≡ slots_of probe
   pub sound : IsSound told given roots (system_of dump probe)
+
+-- some are found before judging, all of their phase, so no sound system is there
+pub record AreFound (told : Told) (given : Given) (roots : List ℕ) (dump probe : List Block)
+    (faults : List Fault) : Type 0 where
+  pub some : faults ≡ [] → ⊥
+  pub before : AreBefore told given roots dump probe faults
+  pub unsound : AreSound told given roots dump probe → ⊥
+
+-- none is there before judging
+pub record AreReady (told : Told) (roots : List ℕ) (dump probe : List Block) : Type 0 where
+  pub listed : AreListed told dump probe
+  pub none_earlier : (fault : spec.Fault) → phase_of fault < phase_key Judging
+      → IsEarlyThere told roots dump probe fault → ⊥
+
+-- what is found before judging, whatever is given: faults, or what is to be judged
+abbrev pub IsBeforeJudging : {A : Type 0} → Told → List ℕ → List Block → List Block → BeforeJudging A → Type 0
+IsBeforeJudging told roots dump probe (Refused faults) =
+    (given : Given) → AreFound told given roots dump probe (map fault_of faults.items)
+IsBeforeJudging told roots dump probe (Admitted outline) =
+    AreReady told roots dump probe
+    × IsOutlineFor record { roots = roots; dump = dump; probe = probe } outline

@@ -11,3 +11,5 @@ pub mod AllLines
 pub mod Named
 pub mod Before
 pub mod Every
+pub mod Lines
+pub mod Order

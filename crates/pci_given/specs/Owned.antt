@@ -1,7 +1,7 @@
 -- Claims of a list by groups, and whose each address is among the first of them.
-use Rattle.std.specs.Prelude.{◌≡◌, ℕ, ◌<◌, ◌≤◌, ◌⊎◌, List, Option, MatchOption, length}
+use Rattle.std.specs.Prelude.{◌≡◌, ℕ, ◌<◌, ◌≤◌, ◌⊎◌, Bool, true, false, List, Option, None, Some, MatchOption, if◌then◌else◌, nat_lt, nat_eq, ◌&&◌, ◌||◌, length}
 use Rattle.pci_base.specs.declared.range.Range.{Range}
-use Rattle.pci_spec.specs.Slot.{slot_number}
+use Rattle.pci_spec.specs.Slot.{IsSlot, slot_number}
 use Rattle.pci_tree.specs.Ranges.{Covers}
 use Rattle.pci_faults.specs.declared.shares.Among.{Among}
 use Rattle.pci_faults.specs.declared.shares.Among.TheVariants.{Bus, Roots}
@@ -21,9 +21,11 @@ claim_group_of Roots c = c.slot.bus
 abbrev pub claim_group_at : Among → List Claimed → ℕ → ℕ
 claim_group_at among claims k = claim_group_of among (claim_at claims k)
 
-abbrev pub ClaimGroupsRise : Among → List Claimed → Type 0
-ClaimGroupsRise among claims =
-    (j k : ℕ) → j ≤ k → k < length claims → claim_group_at among claims j ≤ claim_group_at among claims k
+-- no claim is of a lesser group than one before it, and each is of a slot
+pub record ClaimGroupsRise (among : Among) (claims : List Claimed) : Type 0 where
+  pub rise : (j k : ℕ) → j ≤ k → k < length claims
+      → claim_group_at among claims j ≤ claim_group_at among claims k
+  pub slots : (k : ℕ) → k < length claims → IsSlot (claim_at claims k).slot
 
 -- the first so many are of lesser groups than the one at a place
 abbrev pub AreClaimsBefore : ℕ → ℕ → Among → List Claimed → Type 0
@@ -35,6 +37,15 @@ pub record AreLesserClaims (n i : ℕ) (among : Among) (claims : List Claimed) :
   pub within : n ≤ i
   pub lesser : AreClaimsBefore n i among claims
   pub others : (k : ℕ) → n ≤ k → k < i → claim_group_at among claims k ≡ claim_group_at among claims i
+  pub slots : (k : ℕ) → k ≤ i → IsSlot (claim_at claims k).slot
+
+-- a told range that isn't held
+abbrev pub IsLone : Claimed → Type 0
+IsLone c = (256 ≤ c.register) × (c.held ≡ false)
+
+abbrev pub IsLoneAt : Among → List Claimed → ℕ → Type 0
+IsLoneAt (Bus bus) claims k = IsLone (claim_at claims k)
+IsLoneAt Roots claims k = ⊥
 
 -- ---- owners
 
@@ -51,12 +62,19 @@ pub record IsFirstOwnedPiece (ranges : OwnedRanges) (pieces : List Range) (f : F
   pub owned : Owns ranges f.address f.owner
   pub least : (a i : ℕ) → Covers pieces a → Owns ranges a i → f.address ≤ a
 
--- each address that one of the first so many claims answers has the first of these for its owner
-pub record AreClaimsOwned (n : ℕ) (claims : List Claimed) (ranges : OwnedRanges) : Type 0 where
+-- each address that one of the first so many claims answers, held ones or others, has the first of these for its owner
+pub record AreClaimsOwned (held : Bool) (n : ℕ) (claims : List Claimed)
+    (ranges : OwnedRanges) : Type 0 where
   pub sound : (a k : ℕ) → Owns ranges a k
-      → (k < n) × Covers (claim_at claims k).pieces a
-      × ((j : ℕ) → j < n → Covers (claim_at claims j).pieces a → k ≤ j)
-  pub complete : (a k : ℕ) → k < n → Covers (claim_at claims k).pieces a → (j : ℕ) × Owns ranges a j
+      → (k < n) × ((claim_at claims k).held ≡ held) × Covers (claim_at claims k).pieces a
+      × ((j : ℕ) → j < n → (claim_at claims j).held ≡ held → Covers (claim_at claims j).pieces a → k ≤ j)
+  pub complete : (a k : ℕ) → k < n → (claim_at claims k).held ≡ held
+      → Covers (claim_at claims k).pieces a → (j : ℕ) × Owns ranges a j
+
+-- those that are held, and the others
+pub record AreBothOwned (n : ℕ) (claims : List Claimed) (plain held : OwnedRanges) : Type 0 where
+  pub of_plain : AreClaimsOwned false n claims plain
+  pub of_held : AreClaimsOwned true n claims held
 
 -- the least address of the claim at a place that has an owner, with this one
 abbrev pub IsOwnedShare : OwnedRanges → List Claimed → ℕ → Option Share → Type 0
@@ -65,3 +83,26 @@ IsOwnedShare ranges claims i found =
     (λ s. (s.second ≡ i) × Covers (claim_at claims i).pieces s.address
     × Owns ranges s.address s.first
     × ((a k : ℕ) → Covers (claim_at claims i).pieces a → Owns ranges a k → s.address ≤ a))
+
+-- ---- the sooner of two that were found
+
+-- whether the first has the lesser address, or of one address the lesser index
+abbrev pub is_sooner : Share → Share → Bool
+is_sooner s t = nat_lt s.address t.address || (nat_eq s.address t.address && nat_lt s.first t.first)
+
+abbrev pub sooner : Option Share → Option Share → Option Share
+sooner None other = other
+sooner (Some s) None = Some s
+sooner (Some s) (Some t) = Some (if is_sooner t s then t else s)
+
+-- what a claim has in common with those that have owners, held ones and others
+abbrev pub IsLeastOfBoth : OwnedRanges → OwnedRanges → List Claimed → ℕ → Option Share → Type 0
+IsLeastOfBoth plain held claims i found =
+    (one : Option Share) × IsOwnedShare plain claims i one
+    × ((other : Option Share) × IsOwnedShare held claims i other × (found ≡ sooner one other))
+
+-- the same, but that two held ones may share it
+abbrev pub IsLeastOwned : OwnedRanges → OwnedRanges → List Claimed → ℕ → Option Share → Type 0
+IsLeastOwned plain held claims i found =
+    (((claim_at claims i).held ≡ true) × IsOwnedShare plain claims i found)
+    ⊎ (((claim_at claims i).held ≡ false) × IsLeastOfBoth plain held claims i found)

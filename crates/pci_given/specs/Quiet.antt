@@ -12,6 +12,7 @@ use Rattle.pci_tree.specs.Outline.{Tree}
 use Rattle.pci_tree.specs.Trees.{HasTree}
 use Rattle.given_spec.specs.Given.{Given, legacy_holds}
 use Rattle.given_spec.specs.Claims.{ClaimsOnBus, may_share}
+use Rattle.given_spec.specs.ToldClaims as told_claims
 use Rattle.pci_claims.specs.declared.given.LegacyBridge.{LegacyBridge}
 
 -- the region may share each address that it has of the legacy part of the bridge at a slot
@@ -49,3 +50,11 @@ IsQuiet given s IsOne space =
 -- in each system with the tree
 abbrev pub IsQuietInEach : Given → Tree → (ℕ → Type 0) → Space → Type 0
 IsQuietInEach given t IsOne space = (s : System) → HasTree t s → IsQuiet given s IsOne space
+
+-- with what is told, no two regions of some buses claim an address that they may not share, in each system with the tree
+abbrev pub IsQuietWith : told_claims.Told → Given → Tree → (ℕ → Type 0) → Space → Type 0
+IsQuietWith told given t IsOne space =
+    (s : System) → HasTree t s → (a b c : ℕ) (p q : Slot) (m n : ℕ) → IsOne b → IsOne c
+    → told_claims.ClaimsOnBus told given s b (address_in space a) (named_region p m)
+    → told_claims.ClaimsOnBus told given s c (address_in space a) (named_region q n)
+    → ((p ≡ q) × (m ≡ n) → ⊥) → told_claims.may_share told p m q n ≡ false → ⊥

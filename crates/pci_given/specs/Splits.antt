@@ -1,36 +1,49 @@
--- All splits of a system.
+-- The splits of a system.
 use Rattle.std.specs.Prelude.{◌≡◌, ℕ, List, map}
-use Rattle.pci_spec.specs.System.{System, Space}
+use Rattle.pci_spec.specs.System as system
+use Rattle.pci_spec.specs.System.{System}
 use Rattle.pci_spec.specs.Fault as plain
 use Rattle.pci_spec.specs.Fault.{address_in, named_regions}
-use Rattle.pci_function.specs.declared.fault.Fault.{Fault}
-use Rattle.pci_function.specs.Fault.{fault_of}
+use Rattle.pci_base.specs.declared.space.Space.{Space}
+use Rattle.pci_base.specs.Space.{space_of}
 use Rattle.pci_tree.specs.Outline.{Tree}
-use Rattle.pci_tree.specs.Trees.{HasTree}
-use Rattle.pci_faults.specs.Lines.{AreAdded}
+use Rattle.pci_faults.specs.declared.shares.Share.{Share}
 use Rattle.given_spec.specs.Given.{Given}
-use Rattle.given_spec.specs.Fault.{Known}
-use Rattle.given_spec.specs.AllFaults.{IsSplitOf}
-use Rattle.given_spec.specs.Numbered.{AreAllNumbered}
+use Rattle.given_spec.specs.ToldClaims.{Told}
+use Rattle.given_spec.specs.ToldAllFaults.{IsSplitOf}
+use Rattle.pci_claims.specs.Claim.{Claimed}
+use Rattle.pci_given.specs.declared.named.Split.{Split}
+use Rattle.pci_given.specs.Clashes.{claim_at, name_of}
+use Rattle.pci_given.specs.Lines.{AreAdded}
+
+-- the split that two claims of a list tell of
+abbrev pub claims_split : Space → List Claimed → Share → Split
+claims_split space claims s = record {
+  space = space;
+  address = s.address;
+  first = name_of (claim_at claims s.first);
+  second = name_of (claim_at claims s.second);
+}
+
+abbrev pub split_value : Split → plain.Fault
+split_value c =
+    plain.Split (space_of c.space) c.address c.first.slot c.first.register c.second.slot c.second.register
 
 -- the fault is a split that a list of all names, in a space that is meant
-abbrev pub IsSplitLine : (Space → Type 0) → Given → List ℕ → System → plain.Fault → Type 0
-IsSplitLine In given roots s
+abbrev pub IsSplitLine : (system.Space → Type 0) → Told → Given → List ℕ → System → plain.Fault
+    → Type 0
+IsSplitLine In told given roots s
     (plain.Split space address first first_register second second_register) =
-    In space × IsSplitOf given roots s (address_in space address)
+    In space × IsSplitOf told given roots s (address_in space address)
     (named_regions first first_register second second_register)
-IsSplitLine In given roots s fault = ⊥
+IsSplitLine In told given roots s fault = ⊥
 
 -- they come behind those of a list, in each system with the tree
-abbrev pub AreSplitsAdded : (Space → Type 0) → Given → Tree → List Fault → List Fault → Type 0
-AreSplitsAdded In given t before after = AreAdded t (IsSplitLine In given t.roots) before after
+abbrev pub AreSplitsAdded : (system.Space → Type 0) → Told → Given → Tree → List Split → List Split
+    → Type 0
+AreSplitsAdded In told given t before after =
+    AreAdded t (IsSplitLine In told given t.roots) (map split_value before) (map split_value after)
 
 -- of one space
-abbrev pub IsSplitIn : Space → Space → Type 0
+abbrev pub IsSplitIn : system.Space → system.Space → Type 0
 IsSplitIn space sp = sp ≡ space
-
--- all splits, in each system with the tree
-abbrev pub AreAllSplits : Given → Tree → List Fault → Type 0
-AreAllSplits given t list =
-    (s : System) → HasTree t s
-    → AreAllNumbered 62 given t.roots s (map (λ f. Known (fault_of f)) list)

@@ -9,9 +9,10 @@ ghost use Rattle.pci_claims.specs.Values.{given_value, told_value};
 ghost use Rattle.pci_given.specs.AllLines.{AreAllLines, fault_of, plain_fault, is_given};
 
 use super::any_fault::{AnyFault, without_told};
+use super::clash_lines::all_clashes;
 use super::named::{Clash, Outside, Split, Unreached};
 use super::outside_lines::all_outside;
-use super::told_lists::{all_clashes, all_splits};
+use super::split_lines::all_splits;
 use super::unreached_lines::all_unreached;
 use pci_base::memory::OutOfMemory;
 use pci_claims::given::Given;

@@ -103,7 +103,7 @@ pub fn without_told(fault: &Fault) -> AnyFault
 }
 
 /// The same fault, and as one of judging where it is one.
-fn resolved(fault: &AnyFault) -> AnyFault
+pub fn resolved(fault: &AnyFault) -> AnyFault
     ensures same { fault_of result ≡ fault_of fault.now }
     ensures resolved { IsResolved result }
 {

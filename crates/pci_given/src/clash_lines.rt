@@ -2,69 +2,68 @@
 ghost use Rattle.std.specs.Prelude.{◌≡◌, ◌<◌, ◌++◌, length, map, IfOk, OnOk};
 ghost use Rattle.pci_base.specs.Space.{space_of};
 ghost use Rattle.pci_faults.specs.Shares.{AreWithin};
-ghost use Rattle.pci_claims.specs.Values.{given_value};
-ghost use Rattle.pci_claims.specs.BusClaims.{AreBridgesOf};
-ghost use Rattle.pci_given.specs.Clashes.{claims_fault, AreClashesAdded, IsOnBusIn, AreAllClashes};
+ghost use Rattle.given_spec.specs.Told.{IsTold};
+ghost use Rattle.pci_claims.specs.Values.{given_value, told_value};
+ghost use Rattle.pci_claims.specs.AllClaims.{IsBoard};
+ghost use Rattle.pci_given.specs.Clashes.{name_of, claims_clash, AreClashesAdded, IsOnBusIn};
+ghost use Rattle.pci_given.specs.Named.{AreAllClashes};
 
-use super::board::Board;
 use super::meetings::meetings;
+use super::named::{Clash, Name};
+use super::order::sort_clashes;
 use super::quiet::is_bus_quiet;
 use pci_base::memory::OutOfMemory;
 use pci_base::slot::BUSES;
 use pci_base::space::Space;
-use pci_claims::bus_claims::claims_among;
+use pci_claims::all_claims::claims_among;
+use pci_claims::board::Board;
 use pci_claims::claim::Claim;
 use pci_claims::given::Given;
-use pci_faults::order::sort;
+use pci_claims::told::{Told, ranges_on};
 use pci_faults::shares::{Among, Share};
-use pci_function::fault::Fault;
 use pci_tree::outline::Outline;
 use std::alloc::Allocator;
 
-/// The fault that two claims of a list meet.
-fn fault<A: Allocator>(claims: &[Claim<A>], among: Among, space: Space, share: Share) -> Fault
-    requires first { share.first < length claims.now }
-    requires second { share.second < length claims.now }
-    ensures { result ≡ claims_fault among space claims.now share }
+/// The region of a claim.
+pub(crate) fn name_of<A: Allocator>(claim: &Claim<A>) -> Name
+    ensures { result ≡ name_of claim.now }
 {
-    let first = &claims[share.first];
-    let second = &claims[share.second];
-    match among {
-        Among::Bus(bus) => Fault::Clash {
-            bus,
-            space,
-            address: share.address,
-            first: first.slot(),
-            first_reg: first.reg(),
-            second: second.slot(),
-            second_reg: second.reg(),
-        },
-        Among::Roots => Fault::Split {
-            space,
-            address: share.address,
-            first: first.slot(),
-            first_reg: first.reg(),
-            second: second.slot(),
-            second_reg: second.reg(),
-        },
+    Name {
+        slot: claim.slot(),
+        register: claim.register(),
     }
 }
 
-/// Adds the faults of claims that meet.
-pub fn add_told<A: Allocator + Copy>(
-    out: &mut Vec<Fault, A>,
+/// The clash that two claims of a list tell of.
+fn clash<A: Allocator>(claims: &[Claim<A>], bus: u8, space: Space, share: Share) -> Clash
+    requires first { share.first < length claims.now }
+    requires second { share.second < length claims.now }
+    ensures { result ≡ claims_clash bus space claims.now share }
+{
+    Clash {
+        bus,
+        space,
+        address: share.address,
+        first: name_of(&claims[share.first]),
+        second: name_of(&claims[share.second]),
+    }
+}
+
+/// Adds the clashes that claims of a list tell of.
+fn add_told<A: Allocator>(
+    out: &mut Vec<Clash, A>,
     claims: &[Claim<A>],
-    among: Among,
+    bus: u8,
     space: Space,
     shares: &[Share],
 ) -> Result<(), OutOfMemory>
     // a share names two of the claims by their index
     requires { AreWithin (length claims.now) shares.now }
     ensures { OnOk result
-        (out.new.items ≡ out.old.items ++ map (claims_fault among space claims.now) shares.now) }
+        (out.new.items ≡ out.old.items ++ map (claims_clash bus space claims.now) shares.now) }
 {
     for share in shares {
-        out.push(fault(claims, among, space, *share))?;
+        out.push(clash(claims, bus, space, *share))?;
     }
     Ok(())
 }
@@ -72,42 +71,37 @@ pub fn add_told<A: Allocator + Copy>(
 /// Adds the clashes of a bus in a space.
 fn add_clashes_in<A: Allocator + Copy>(
     alloc: A,
-    out: &mut Vec<Fault, A>,
+    out: &mut Vec<Clash, A>,
     board: &Board<'_, '_, A>,
     bus: u8,
     space: Space,
 ) -> Result<(), OutOfMemory>
-    requires { AreBridgesOf board.now.outline.now board.now.bridges.now }
+    requires { IsBoard (told_value board.now.told) board.now.outline.now board.now.on.now
+        board.now.bridges.now }
     ensures { OnOk result (AreClashesAdded (IsOnBusIn bus (space_of space))
-        (given_value board.now.given) board.now.outline.now out.old.items out.new.items) }
+        (told_value board.now.told) (given_value board.now.given) board.now.outline.now
+        out.old.items out.new.items) }
 {
     // so it is on most buses, and lists of claims cost more
-    if is_bus_quiet(alloc, &board.given, board.outline, bus, space)? {
+    if is_bus_quiet(alloc, board, bus, space)? {
         return Ok(());
     }
-    let claims = claims_among(
-        alloc,
-        &board.given,
-        board.outline,
-        board.bridges,
-        bus,
-        space,
-    )?;
-    let among = Among::Bus(bus);
-    let shares = meetings(alloc, &claims, among)?;
-    add_told(out, &claims, among, space, &shares)
+    let claims = claims_among(alloc, board, bus, space)?;
+    let shares = meetings(alloc, &claims, Among::Bus(bus))?;
+    add_told(out, &claims, bus, space, &shares)
 }
 
 /// Adds the clashes of a bus.
 fn add_clashes_on<A: Allocator + Copy>(
     alloc: A,
-    out: &mut Vec<Fault, A>,
+    out: &mut Vec<Clash, A>,
     board: &Board<'_, '_, A>,
     bus: u8,
 ) -> Result<(), OutOfMemory>
-    requires { AreBridgesOf board.now.outline.now board.now.bridges.now }
-    ensures { OnOk result (AreClashesAdded (λ b sp. b ≡ bus) (given_value board.now.given)
-        board.now.outline.now out.old.items out.new.items) }
+    requires { IsBoard (told_value board.now.told) board.now.outline.now board.now.on.now
+        board.now.bridges.now }
+    ensures { OnOk result (AreClashesAdded (λ b sp. b ≡ bus) (told_value board.now.told)
+        (given_value board.now.given) board.now.outline.now out.old.items out.new.items) }
 {
     add_clashes_in(alloc, out, board, bus, Space::Io)?;
     add_clashes_in(alloc, out, board, bus, Space::Mem)
@@ -116,38 +110,46 @@ fn add_clashes_on<A: Allocator + Copy>(
 /// Adds the clashes of all buses.
 fn add_clashes<A: Allocator + Copy>(
     alloc: A,
-    out: &mut Vec<Fault, A>,
-    given: &Given<'_>,
-    outline: &Outline<A>,
+    out: &mut Vec<Clash, A>,
+    board: &Board<'_, '_, A>,
 ) -> Result<(), OutOfMemory>
-    ensures { OnOk result (AreClashesAdded (λ b sp. Unit {0}) (given_value given.now) outline.now
-        out.old.items out.new.items) }
+    requires { IsBoard (told_value board.now.told) board.now.outline.now board.now.on.now
+        board.now.bridges.now }
+    ensures { OnOk result (AreClashesAdded (λ b sp. Unit {0}) (told_value board.now.told)
+        (given_value board.now.given) board.now.outline.now out.old.items out.new.items) }
 {
-    let bridges = outline.bridges()?;
-    let board = Board {
-        outline,
-        given: *given,
-        bridges: &bridges,
-    };
     for bus in 0..BUSES {
-        add_clashes_on(alloc, out, &board, bus as u8)?;
+        add_clashes_on(alloc, out, board, bus as u8)?;
     }
     Ok(())
 }
 
-/// All clashes of the systems with these records and root buses, with what is given: 61 of each BAR, ROM, window or legacy
-/// part that answers an address with one before it on its bus, by slot and register, but for a window and the legacy part
-/// of one bridge; with the least such address and the first region that answers it. They stand in the order in which
-/// judging looks for them.
+/// All clashes of the systems with these records and root buses, with what is given and told: 61 of each region that answers
+/// an address with one before it on its bus, by slot and register, where the two may not share it; with the least such
+/// address and the first region that answers it. Two regions may share an address: a window and the legacy part of one
+/// bridge, two held ranges, and a held range and a region of its function. They stand in the order in which judging looks
+/// for them.
 pub fn all_clashes<A: Allocator + Copy>(
     alloc: A,
     given: &Given<'_>,
+    told: &Told<'_>,
     outline: &Outline<A>,
-) -> Result<Vec<Fault, A>, OutOfMemory>
-    ensures { IfOk result (λ v. AreAllClashes (given_value given.now) outline.now v.items) }
+) -> Result<Vec<Clash, A>, OutOfMemory>
+    // they are read of a text
+    requires { IsTold told.now.ranges.now }
+    ensures { IfOk result (λ v. AreAllClashes (told_value told.now) (given_value given.now) outline.now v.items) }
 {
-    let mut faults = Vec::new(alloc);
-    add_clashes(alloc, &mut faults, given, outline)?;
-    sort(&mut faults)?;
-    Ok(faults)
+    let bridges = outline.bridges()?;
+    let on = ranges_on(alloc, told, outline)?;
+    let board = Board {
+        outline,
+        given: *given,
+        told: *told,
+        on: &on,
+        bridges: &bridges,
+    };
+    let mut clashes = Vec::new(alloc);
+    add_clashes(alloc, &mut clashes, &board)?;
+    sort_clashes(&mut clashes)?;
+    Ok(clashes)
 }

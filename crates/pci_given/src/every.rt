@@ -8,7 +8,7 @@ ghost use Rattle.pci_tree.specs.Admission.{IsOutlineFor};
 ghost use Rattle.pci_tree.specs.Roots.{buses_of};
 ghost use Rattle.pci_claims.specs.Values.{given_value, told_value};
 ghost use Rattle.pci_given.specs.AllLines.{fault_of, plain_fault};
-ghost use Rattle.pci_given.specs.Every.{first_phase, AreBefore, AreEarlyWith, AreSound};
+ghost use Rattle.pci_given.specs.Every.{first_phase, AreBefore, AreEarlyWith, AreSound, IsBeforeJudging};
 
 use super::all_lines::{add_without_told, all_of_judging};
 use super::any_fault::AnyFault;
@@ -40,6 +40,15 @@ pub struct AllFaults<A: Allocator> {
     pub faults: Vec<AnyFault, A>,
     /// What was judged; none where faults were found before judging.
     pub judged: Option<Outline<A>>,
+}
+
+/// What is found of a dump and its probe before judging.
+#[derive(Drop)]
+pub enum BeforeJudging<A: Allocator> {
+    /// Faults, in the order in which they are looked for; at least one.
+    Refused(Vec<AnyFault, A>),
+    /// There is none; this is to be judged.
+    Admitted(Outline<A>),
 }
 
 /// Faults that name no told range.
@@ -106,9 +115,44 @@ fn early_with<A: Allocator + Copy>(
     all_without_told(alloc, &early)
 }
 
+/// The faults of the earliest phase before judging that has any, of a dump and its probe as a system with these root buses,
+/// with what is told: 34 behind 30, and 58 of held ranges with those of places. Else what is to be judged.
+///
+/// # Errors
+///
+/// 2 where a growth was refused.
+pub fn before_judging<A: Allocator + Copy, B: Allocator, C: Allocator>(
+    alloc: A,
+    dump: &Dump<B>,
+    probe: &Dump<C>,
+    roots: Roots,
+    told: &Told<'_>,
+) -> Result<BeforeJudging<A>, OutOfMemory>
+    // they are read of a text
+    requires { IsTold told.now.ranges.now }
+    ensures { IfOk result (IsBeforeJudging (told_value told.now) (buses_of roots) dump.now probe.now) }
+{
+    match outline_of(alloc, dump, probe, roots) {
+        Ok(outline) => {
+            let none = Vec::new(alloc);
+            let early = early_with(alloc, told.ranges, dump.blocks(), &roots, none)?;
+            if !early.is_empty() {
+                return Ok(BeforeJudging::Refused(early));
+            }
+            Ok(BeforeJudging::Admitted(outline))
+        }
+        Err(Refused::Fault(first)) => {
+            let early = faults_from(alloc, dump, probe, &roots, first)?;
+            let faults = early_with(alloc, told.ranges, dump.blocks(), &roots, early)?;
+            Ok(BeforeJudging::Refused(faults))
+        }
+        Err(Refused::Memory) => Err(OutOfMemory),
+    }
+}
+
 /// All faults of the earliest phase that has any, of a dump and its probe as a system with these root buses, with what is
-/// given and told: those before judging, with 34 behind 30, and 58 of held ranges, else all of judging, as
-/// [`all_of_judging`] tells them. They stand in the order in which they are looked for.
+/// given and told: those of [`before_judging`], else all of judging, as [`all_of_judging`] tells them. They stand in the
+/// order in which they are looked for.
 ///
 /// # Errors
 ///
@@ -138,28 +182,15 @@ pub fn all_faults<A: Allocator + Copy, B: Allocator, C: Allocator>(
           probe = probe.now;
         } outline)) }
 {
-    match outline_of(alloc, dump, probe, roots) {
-        Ok(outline) => {
-            let none = Vec::new(alloc);
-            let early = early_with(alloc, told.ranges, dump.blocks(), &roots, none)?;
-            if !early.is_empty() {
-                return Ok(AllFaults {
-                    faults: early,
-                    judged: None,
-                });
-            }
-            Ok(AllFaults {
-                faults: all_of_judging(alloc, given, told, &outline)?,
-                judged: Some(outline),
-            })
-        }
-        Err(Refused::Fault(first)) => {
-            let early = faults_from(alloc, dump, probe, &roots, first)?;
-            Ok(AllFaults {
-                faults: early_with(alloc, told.ranges, dump.blocks(), &roots, early)?,
-                judged: None,
-            })
-        }
-        Err(Refused::Memory) => Err(OutOfMemory),
+    let found = before_judging(alloc, dump, probe, roots, told)?;
+    match found {
+        BeforeJudging::Refused(faults) => Ok(AllFaults {
+            faults,
+            judged: None,
+        }),
+        BeforeJudging::Admitted(outline) => Ok(AllFaults {
+            faults: all_of_judging(alloc, given, told, &outline)?,
+            judged: Some(outline),
+        }),
     }
 }

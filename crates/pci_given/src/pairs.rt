@@ -5,7 +5,7 @@ ghost use Rattle.pci_faults.specs.declared.shares.Among.TheVariants.{Roots};
 ghost use Rattle.pci_given.specs.Clashes.{AreOnTwoBuses, Meet, IsLeastOfTwo, IsFoundBelow, lesser, AreMeetings};
 
 use pci_base::memory::OutOfMemory;
-use pci_claims::claim::{Claim, least_at_odds, least_common};
+use pci_claims::claim::{Claim, least_at_odds};
 use pci_faults::shares::{Among, Share};
 use std::alloc::Allocator;
 
@@ -19,7 +19,7 @@ fn lesser(found: Option<Share>, share: Share) -> Share
     }
 }
 
-/// The least address that two claims answer, where they are on two buses.
+/// The least address that two claims answer and may not share, where they are on two buses.
 fn least_of_buses<A: Allocator>(first: &Claim<A>, second: &Claim<A>) -> Option<u64>
     ensures { MatchOption result ((a : ℕ) → AreOnTwoBuses first.now second.now a → ⊥)
         (λ a. IsLeastOfTwo Roots first.now second.now a) }
@@ -27,7 +27,7 @@ fn least_of_buses<A: Allocator>(first: &Claim<A>, second: &Claim<A>) -> Option<u
     if first.slot().bus() == second.slot().bus() {
         return None;
     }
-    least_common(first.pieces(), second.pieces())
+    least_at_odds(first, second)
 }
 
 /// The least address at which two claims meet: two of a bus where they may not share it, two of the root buses where they

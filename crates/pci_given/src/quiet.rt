@@ -1,12 +1,13 @@
-//! Buses on which no two regions can clash: what they claim is apart, whatever of it gets there.
+//! Buses on which no two regions can clash: what they claim is apart, whatever of it gets there, and no told range is there.
 ghost use Rattle.std.specs.Prelude.{◌≡◌, ◌<◌, IfOk, IsTrue};
 ghost use Rattle.std.specs.List.{All, AllPairs, Contains};
 ghost use Rattle.std.specs.List.Sorted.{IsPermutation};
 ghost use Rattle.pci_base.specs.Space.{space_of};
 ghost use Rattle.pci_tree.specs.Ranges.{IsCanonical};
 ghost use Rattle.pci_tree.specs.Roots.{buses_of};
-ghost use Rattle.pci_claims.specs.Values.{given_value};
-ghost use Rattle.pci_given.specs.Quiet.{IsOff, IsOffLegacy, HasThoseOn, AreQuiet, IsQuietInEach};
+ghost use Rattle.given_spec.specs.Told.{IsTold};
+ghost use Rattle.pci_claims.specs.Values.{given_value, told_value};
+ghost use Rattle.pci_given.specs.Quiet.{IsOff, IsOffLegacy, HasThoseOn, AreQuiet, IsQuietInEach, IsQuietWith};
 
 use pci_base::memory::OutOfMemory;
 use pci_base::offset::BRIDGE_CONTROL;
@@ -14,10 +15,12 @@ use pci_base::range::Range;
 use pci_base::slot::Slot;
 use pci_base::space::Space;
 use pci_check::split::of_roots;
+use pci_claims::all_claims::ranges_of;
+use pci_claims::board::Board;
 use pci_claims::claim::may_share;
-use pci_claims::given::{Given, LegacyBridge};
+use pci_claims::given::LegacyBridge;
 use pci_claims::legacy::pieces;
-use pci_tree::outline::Outline;
+use pci_told::told_range::ToldRange;
 use pci_tree::ranges::least_from;
 use pci_tree::region::Region;
 use pci_tree::roots::Roots;
@@ -52,7 +55,8 @@ fn is_off(region: &Region, bridge: Slot, pieces: &[Range]) -> bool
     requires { IsCanonical pieces.now }
     ensures { IsTrue result → IsOff bridge pieces.now region.now }
 {
-    if may_share(region.slot, region.reg, bridge, BRIDGE_CONTROL) {
+    let register = u16::from(region.reg);
+    if may_share(region.slot, register, bridge, u16::from(BRIDGE_CONTROL)) {
         return true;
     }
     match least_from(pieces, region.first) {
@@ -145,38 +149,73 @@ fn legacy_on_roots<A: Allocator>(
 }
 
 /// Whether the regions of a bus in a space are seen to be apart, so that none clash whatever gets there.
-pub fn is_bus_quiet<A: Allocator + Copy>(
+fn are_apart_on<A: Allocator + Copy>(
     alloc: A,
-    given: &Given<'_>,
-    outline: &Outline<A>,
+    board: &Board<'_, '_, A>,
     bus: u8,
     space: Space,
 ) -> Result<bool, OutOfMemory>
     ensures { IfOk result (λ quiet. IsTrue quiet
-        → IsQuietInEach (given_value given.now) outline.now (λ b. b ≡ bus) (space_of space)) }
+        → IsQuietInEach (given_value board.now.given) board.now.outline.now (λ b. b ≡ bus)
+        (space_of space)) }
 {
-    let legacy = legacy_on(alloc, given.legacy, bus)?;
+    let legacy = legacy_on(alloc, board.given.legacy, bus)?;
     // whatever the regions are
     if 1 < legacy.len() {
         return Ok(false);
     }
-    let regions = outline.regions(bus, space)?;
+    let regions = board.outline.regions(bus, space)?;
     are_quiet(alloc, regions, &legacy, space)
+}
+
+/// Whether the regions of a bus in a space are seen to be apart, so that none clash whatever gets there.
+pub fn is_bus_quiet<A: Allocator + Copy>(
+    alloc: A,
+    board: &Board<'_, '_, A>,
+    bus: u8,
+    space: Space,
+) -> Result<bool, OutOfMemory>
+    // told ranges stand by slot, so those of a bus are found by halving
+    requires { IsTold board.now.told.ranges.now }
+    ensures { IfOk result (λ quiet. IsTrue quiet
+        → IsQuietWith (told_value board.now.told) (given_value board.now.given)
+        board.now.outline.now (λ b. b ≡ bus) (space_of space)) }
+{
+    if ranges_of(board.told.ranges, bus).is_empty() {
+        are_apart_on(alloc, board, bus, space)
+    } else {
+        Ok(false)
+    }
+}
+
+/// Whether no told range is on a root bus.
+fn are_roots_untold(ranges: &[ToldRange], roots: &Roots) -> bool
+    ensures { IsTrue result
+        → All (λ r. Contains (buses_of roots.now) r.slot.bus → ⊥) ranges.now }
+{
+    for range in ranges {
+        if roots.has(range.slot.bus()) {
+            return false;
+        }
+    }
+    true
 }
 
 /// Whether the regions of all root buses in a space are seen to be apart, so that none are split whatever is sent there.
 pub fn are_roots_quiet<A: Allocator + Copy>(
     alloc: A,
-    given: &Given<'_>,
-    outline: &Outline<A>,
+    board: &Board<'_, '_, A>,
     space: Space,
 ) -> Result<bool, OutOfMemory>
     ensures { IfOk result (λ quiet. IsTrue quiet
-        → IsQuietInEach (given_value given.now) outline.now (Contains outline.now.roots)
-        (space_of space)) }
+        → IsQuietWith (told_value board.now.told) (given_value board.now.given)
+        board.now.outline.now (Contains board.now.outline.now.roots) (space_of space)) }
 {
-    let roots = outline.roots();
-    let regions = of_roots(alloc, outline, &roots, space)?;
-    let legacy = legacy_on_roots(alloc, given.legacy, &roots)?;
+    let roots = board.outline.roots();
+    if !are_roots_untold(board.told.ranges, &roots) {
+        return Ok(false);
+    }
+    let regions = of_roots(alloc, board.outline, &roots, space)?;
+    let legacy = legacy_on_roots(alloc, board.given.legacy, &roots)?;
     are_quiet(alloc, regions, &legacy, space)
 }

@@ -1,76 +1,121 @@
 //! All splits: one for each region of a root bus that answers an address with one before it on another root.
-ghost use Rattle.std.specs.Prelude.{IfOk, OnOk};
+ghost use Rattle.std.specs.Prelude.{◌≡◌, ◌<◌, ◌++◌, length, map, IfOk, OnOk};
 ghost use Rattle.pci_base.specs.Space.{space_of};
-ghost use Rattle.pci_claims.specs.Values.{given_value};
-ghost use Rattle.pci_claims.specs.BusClaims.{AreBridgesOf};
-ghost use Rattle.pci_given.specs.Splits.{AreSplitsAdded, IsSplitIn, AreAllSplits};
+ghost use Rattle.pci_faults.specs.Shares.{AreWithin};
+ghost use Rattle.given_spec.specs.Told.{IsTold};
+ghost use Rattle.pci_claims.specs.Values.{given_value, told_value};
+ghost use Rattle.pci_claims.specs.AllClaims.{IsBoard};
+ghost use Rattle.pci_given.specs.Splits.{claims_split, AreSplitsAdded, IsSplitIn};
+ghost use Rattle.pci_given.specs.Named.{AreAllSplits};
 
-use super::board::Board;
-use super::clash_lines::add_told;
+use super::clash_lines::name_of;
 use super::meetings::meetings;
+use super::named::Split;
+use super::order::sort_splits;
 use super::quiet::are_roots_quiet;
 use pci_base::memory::OutOfMemory;
 use pci_base::space::Space;
+use pci_claims::board::Board;
+use pci_claims::claim::Claim;
 use pci_claims::given::Given;
 use pci_claims::root_claims::claims_of_roots;
-use pci_faults::order::sort;
-use pci_faults::shares::Among;
-use pci_function::fault::Fault;
+use pci_claims::told::{Told, ranges_on};
+use pci_faults::shares::{Among, Share};
 use pci_tree::outline::Outline;
 use std::alloc::Allocator;
+
+/// The split that two claims of a list tell of.
+fn split<A: Allocator>(claims: &[Claim<A>], space: Space, share: Share) -> Split
+    requires first { share.first < length claims.now }
+    requires second { share.second < length claims.now }
+    ensures { result ≡ claims_split space claims.now share }
+{
+    Split {
+        space,
+        address: share.address,
+        first: name_of(&claims[share.first]),
+        second: name_of(&claims[share.second]),
+    }
+}
+
+/// Adds the splits that claims of a list tell of.
+fn add_told<A: Allocator>(
+    out: &mut Vec<Split, A>,
+    claims: &[Claim<A>],
+    space: Space,
+    shares: &[Share],
+) -> Result<(), OutOfMemory>
+    // a share names two of the claims by their index
+    requires { AreWithin (length claims.now) shares.now }
+    ensures { OnOk result
+        (out.new.items ≡ out.old.items ++ map (claims_split space claims.now) shares.now) }
+{
+    for share in shares {
+        out.push(split(claims, space, *share))?;
+    }
+    Ok(())
+}
 
 /// Adds the splits of a space.
 fn add_splits_in<A: Allocator + Copy>(
     alloc: A,
-    out: &mut Vec<Fault, A>,
+    out: &mut Vec<Split, A>,
     board: &Board<'_, '_, A>,
     space: Space,
 ) -> Result<(), OutOfMemory>
-    requires { AreBridgesOf board.now.outline.now board.now.bridges.now }
-    ensures { OnOk result (AreSplitsAdded (IsSplitIn (space_of space)) (given_value board.now.given)
-        board.now.outline.now out.old.items out.new.items) }
+    requires { IsBoard (told_value board.now.told) board.now.outline.now board.now.on.now
+        board.now.bridges.now }
+    ensures { OnOk result (AreSplitsAdded (IsSplitIn (space_of space)) (told_value board.now.told)
+        (given_value board.now.given) board.now.outline.now out.old.items out.new.items) }
 {
-    if are_roots_quiet(alloc, &board.given, board.outline, space)? {
+    if are_roots_quiet(alloc, board, space)? {
         return Ok(());
     }
-    let claims = claims_of_roots(alloc, &board.given, board.outline, board.bridges, space)?;
+    let claims = claims_of_roots(alloc, board, space)?;
     let shares = meetings(alloc, &claims, Among::Roots)?;
-    add_told(out, &claims, Among::Roots, space, &shares)
+    add_told(out, &claims, space, &shares)
 }
 
 /// Adds the splits of both spaces.
 fn add_splits<A: Allocator + Copy>(
     alloc: A,
-    out: &mut Vec<Fault, A>,
-    given: &Given<'_>,
-    outline: &Outline<A>,
+    out: &mut Vec<Split, A>,
+    board: &Board<'_, '_, A>,
 ) -> Result<(), OutOfMemory>
-    ensures { OnOk result (AreSplitsAdded (λ sp. Unit {0}) (given_value given.now) outline.now
-        out.old.items out.new.items) }
+    requires { IsBoard (told_value board.now.told) board.now.outline.now board.now.on.now
+        board.now.bridges.now }
+    ensures { OnOk result (AreSplitsAdded (λ sp. Unit {0}) (told_value board.now.told)
+        (given_value board.now.given) board.now.outline.now out.old.items out.new.items) }
 {
-    let bridges = outline.bridges()?;
-    let board = Board {
-        outline,
-        given: *given,
-        bridges: &bridges,
-    };
-    add_splits_in(alloc, out, &board, Space::Io)?;
-    add_splits_in(alloc, out, &board, Space::Mem)
+    add_splits_in(alloc, out, board, Space::Io)?;
+    add_splits_in(alloc, out, board, Space::Mem)
 }
 
-/// All splits of the systems with these records and root buses, with what is given: 62 of each BAR, ROM, window or legacy
-/// part on a root bus that answers an address with one before it, by slot and register, on another root, where accesses to
-/// it start on both; with the least such address and the first region that answers it. They stand in the order in which
-/// judging looks for them.
+/// All splits of the systems with these records and root buses, with what is given and told: 62 of each region on a root bus
+/// that answers an address with one before it, by slot and register, on another root, where accesses to it start on both
+/// and not both are held ranges; with the least such address and the first region that answers it. They stand in the order
+/// in which judging looks for them.
 pub fn all_splits<A: Allocator + Copy>(
     alloc: A,
     given: &Given<'_>,
+    told: &Told<'_>,
     outline: &Outline<A>,
-) -> Result<Vec<Fault, A>, OutOfMemory>
-    ensures { IfOk result (λ v. AreAllSplits (given_value given.now) outline.now v.items) }
+) -> Result<Vec<Split, A>, OutOfMemory>
+    // they are read of a text
+    requires { IsTold told.now.ranges.now }
+    ensures { IfOk result (λ v. AreAllSplits (told_value told.now) (given_value given.now) outline.now v.items) }
 {
-    let mut faults = Vec::new(alloc);
-    add_splits(alloc, &mut faults, given, outline)?;
-    sort(&mut faults)?;
-    Ok(faults)
+    let bridges = outline.bridges()?;
+    let on = ranges_on(alloc, told, outline)?;
+    let board = Board {
+        outline,
+        given: *given,
+        told: *told,
+        on: &on,
+        bridges: &bridges,
+    };
+    let mut splits = Vec::new(alloc);
+    add_splits(alloc, &mut splits, &board)?;
+    sort_splits(&mut splits)?;
+    Ok(splits)
 }

@@ -1,9 +1,9 @@
-use Rattle.std.proofs.Common.{◌≡◌, ◌+◌, get_or, ap, ◌∙◌, subst, sym, arith}
+use Rattle.std.proofs.Common.{◌+◌, get_or, ap, ◌∙◌, subst, sym, arith}
 use Rattle.std.proofs.lemmas.Bool.{both_ways, iff_false}
 use Rattle.std.proofs.lemmas.Option.{slice_get-get_or}
 use Rattle.pci_base.specs.Space.{space_of}
 use Rattle.pci_claims.specs.BusClaims.{AreMoreClaims}
-use Rattle.pci_claims.specs.AllClaims.{IsClaimOfRange, AreRangeClaims}
+use Rattle.pci_claims.specs.AllClaims.{AreRangeClaims}
 use Rattle.pci_claims.proofs.AllClaiming.{range_more, range_less}
 use Rattle.pci_claims.proofs.all_claims.add_range_claims.Goals.{then-board-i+then-is_of+in_ok-claim+in_ok-push, else-board-i, else-board-i-via-then-board-i+else-is_of, else-board-i-via-else-board-i}
 use Rattle.pci_claims.proofs.all_claims.add_range_claims.Goals as goal

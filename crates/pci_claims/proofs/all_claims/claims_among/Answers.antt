@@ -1,4 +1,4 @@
-use Rattle.std.proofs.Common.{List, ◌≡◌, nat_eq, subst, sym, ◌∙◌}
+use Rattle.std.proofs.Common.{List, subst, sym, ◌∙◌}
 use Rattle.std.specs.List.Sorted.{IsPermutation}
 use Rattle.std.proofs.lemmas.Bool.{eqb-true}
 use Rattle.pci_base.specs.declared.range.Range.{Range}

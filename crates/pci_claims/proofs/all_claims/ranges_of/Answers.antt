@@ -1,4 +1,4 @@
-use Rattle.std.proofs.Common.{◌≡◌, ◌+◌, arith, sym, subst}
+use Rattle.std.proofs.Common.{◌+◌, arith, subst}
 use Rattle.std.specs.Prelude.{◌≤◌, ◌<◌, length}
 use Rattle.std.specs.List.{AllWithin}
 use Rattle.pci_claims.proofs.Awake.{stretch_of}

@@ -1,4 +1,4 @@
-use Rattle.std.proofs.Common.{List, ◌≡◌, subst}
+use Rattle.std.proofs.Common.{List, subst}
 use Rattle.pci_base.specs.declared.range.Range.{Range}
 use Rattle.pci_base.specs.Space.{space_of}
 use Rattle.given_spec.specs.Told.{ToldRange}

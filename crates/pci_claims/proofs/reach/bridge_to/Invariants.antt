@@ -1,5 +1,4 @@
-use Rattle.std.proofs.Common.{◌≡◌, take}
-use Rattle.pci_tree.specs.Ways.{IsBridgeIn, bus_behind}
+use Rattle.std.proofs.Common.{take}
 use Rattle.pci_claims.proofs.ToBus.{NoneLeads}
 use Rattle.pci_claims.proofs.reach.bridge_to.Given as goal
 

@@ -1,6 +1,5 @@
 use Rattle.std.proofs.Common.{List, ◌++◌, map, ◌∙◌, ap}
 use Rattle.pci_function.specs.declared.fault.Fault.{Fault}
-use Rattle.given_spec.specs.ToldFault as spec
 use Rattle.pci_given.specs.declared.any_fault.AnyFault.{AnyFault}
 use Rattle.pci_given.specs.AllLines.{fault_of, plain_fault}
 use Rattle.pci_given.proofs.WithNothing.{plain_lines}

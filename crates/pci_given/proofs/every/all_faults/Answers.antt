@@ -1,50 +1,19 @@
-use Rattle.std.proofs.Common.{◌≡◌, true, List, inr, ap, map, subst, [], rules}
-use Rattle.std.proofs.lemmas.Bool.{both_ways}
-use Rattle.std.proofs.lemmas.List.{nil_from_length}
-use Rattle.pci_spec.specs.Text.{Block}
+use Rattle.std.proofs.Common.{inr, ap, map}
 use Rattle.pci_tree.specs.Roots.{buses_of}
-use Rattle.pci_function.specs.declared.fault.Fault.{Fault}
-use Rattle.pci_function.specs.Fault as plain
 use Rattle.pci_claims.specs.Values.{given_value, told_value}
 use Rattle.pci_given.specs.AllLines.{fault_of}
-use Rattle.pci_given.specs.Every.{AreEarlyWith}
-use Rattle.pci_given.proofs.EveryTold.{in_all, every_of_first, every_of_told, every_of_judging}
+use Rattle.pci_given.proofs.EveryTold.{in_all, every_of_ready}
 use Rattle.pci_given.proofs.every.all_faults.Goals as goal
 
-pub returns-then-not-is_empty : goal.returns-then-not-is_empty
-returns-then-not-is_empty g c =
-    let list = c.in_ok-early-in-Ok.early.items in
-    let with : AreEarlyWith c.args.told.now.ranges.now (buses_of c.args.roots) c.args.dump.now [] (map fault_of list) =
-    subst (λ (early : List Fault). AreEarlyWith c.args.told.now.ranges.now (buses_of c.args.roots) c.args.dump.now early (map fault_of list)) c.new-none.ensures.items
-    (subst (λ (dump : List Block). AreEarlyWith c.args.told.now.ranges.now (buses_of c.args.roots) dump c.new-none.result.items (map fault_of list)) c.blocks-in-Ok.ensures.value c.in_ok-early-in-Ok.ensures) in
-    let every = every_of_told (told_value c.args.told.now) c.requires (given_value c.args.given.now) (buses_of c.args.roots) c.args.dump.now c.args.probe.now c.blocks-in-Ok.ensures.dump c.in-Ok.outline c.in-Ok.ensures list with
-    (λ none. both_ways c.is_empty.result c.if-not-is_empty.true (some_empty none)) in
-    record { all = in_all _ _ _ _ _ _ every.before; none = every.none; judged = every.before }
-  where
-    some_empty : c.in_ok-early-in-Ok.early.items ≡ [] → c.is_empty.result ≡ true
-    some_empty none = search (rules)
+pub returns-in-Refused : goal.returns-in-Refused
+returns-in-Refused g c =
+    let found = (rw c.in-Refused.is at c.in_ok-found.ensures) (given_value c.args.given.now) in
+    record { all = in_all _ _ _ _ _ _ found.before; none = (λ none. absurd (found.some (ap (map fault_of) none)), λ sound. absurd (found.unsound sound)); judged = found.before }
 
-pub returns-in_ok-all_of_judging-in-Ok : goal.returns-in_ok-all_of_judging-in-Ok
-returns-in_ok-all_of_judging-in-Ok g c =
-    let told_list = c.in_ok-early-in-Ok.early.items in
-    let with : AreEarlyWith c.args.told.now.ranges.now (buses_of c.args.roots) c.args.dump.now [] (map fault_of told_list) =
-    subst (λ (early : List Fault). AreEarlyWith c.args.told.now.ranges.now (buses_of c.args.roots) c.args.dump.now early (map fault_of told_list)) c.new-none.ensures.items
-    (subst (λ (dump : List Block). AreEarlyWith c.args.told.now.ranges.now (buses_of c.args.roots) dump c.new-none.result.items (map fault_of told_list)) c.blocks-in-Ok.ensures.value c.in_ok-early-in-Ok.ensures) in
-    let list = c.in_ok-all_of_judging-in-Ok.field-0.items in
-    let every = every_of_judging (told_value c.args.told.now) c.requires (given_value c.args.given.now) (buses_of c.args.roots) c.args.dump.now c.args.probe.now c.blocks-in-Ok.ensures.dump c.in-Ok.outline c.in-Ok.ensures
-    (map fault_of told_list) with (ap (map fault_of) none_told) list c.in_ok-all_of_judging-in-Ok.ensures in
-    record { all = inr (inr (inr every.judged)); none = every.none; judged = (every.judged, c.in-Ok.ensures) }
-  where
-    none_told : c.in_ok-early-in-Ok.early.items ≡ []
-    none_told = nil_from_length c.in_ok-early-in-Ok.early.items (search (rules))
-
-pub returns-in_ok-early_with-in-Err-Fault : goal.returns-in_ok-early_with-in-Err-Fault
-returns-in_ok-early_with-in-Err-Fault g c =
-    let refused = rw c.in-Err-Fault.field-0-is at c.in-Err-Fault.ensures in
-    let found = c.in_ok-early-in-Err-Fault.ensures in
-    let list = c.in_ok-early_with-in-Err-Fault.field-0.items in
-    let early = c.in_ok-early-in-Err-Fault.early.items in
-    let every = every_of_first (told_value c.args.told.now) c.requires (given_value c.args.given.now) (buses_of c.args.roots) c.args.dump.now c.args.probe.now c.blocks-in-Err-Fault.ensures.dump
-    (plain.fault_of c.in-Err-Fault.first) early list refused.0 refused.1 found.all found.head
-    (subst (λ (dump : List Block). AreEarlyWith c.args.told.now.ranges.now (buses_of c.args.roots) dump early (map fault_of list)) c.blocks-in-Err-Fault.ensures.value c.in_ok-early_with-in-Err-Fault.ensures) in
-    record { all = in_all _ _ _ _ _ _ every.before; none = every.none; judged = every.before }
+pub returns-in_ok-all_of_judging-in-Admitted : goal.returns-in_ok-all_of_judging-in-Admitted
+returns-in_ok-all_of_judging-in-Admitted g c =
+    let ready = rw c.in-Admitted.is at c.in_ok-found.ensures in
+    let list = c.in_ok-all_of_judging-in-Admitted.field-0.items in
+    let every = every_of_ready (told_value c.args.told.now) c.requires (given_value c.args.given.now) (buses_of c.args.roots) c.args.dump.now c.args.probe.now c.in-Admitted.outline ready.1
+    ready.0 list c.in_ok-all_of_judging-in-Admitted.ensures in
+    record { all = inr (inr (inr every.judged)); none = every.none; judged = (every.judged, ready.1) }

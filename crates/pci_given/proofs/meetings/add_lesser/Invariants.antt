@@ -1,12 +1,12 @@
 use Rattle.std.proofs.Common.{◌-◌, ◌≤◌}
-use Rattle.pci_given.specs.Owned.{AreClaimsBefore, AreClaimsOwned}
+use Rattle.pci_given.specs.Owned.{AreClaimsBefore, AreBothOwned}
 use Rattle.pci_given.proofs.meetings.add_lesser.Given as goal
 
 abbrev pub invariant-loop-n : goal.invariant-loop-n
 invariant-loop-n g l = record {
   within : l.n ≤ l.i;
   before : AreClaimsBefore l.n l.i l.among l.claims;
-  owned : AreClaimsOwned l.n l.claims l.owners;
+  owned : AreBothOwned l.n l.claims l.owners.plain l.owners.held;
 }
 
 abbrev pub decreases-loop-n : goal.decreases-loop-n

@@ -1,15 +1,13 @@
-use Rattle.std.proofs.Common.{◌≡◌, List, refl, subst}
+use Rattle.std.proofs.Common.{◌≡◌, sym, ◌∙◌}
+use Rattle.std.proofs.lemmas.Bool.{eqb-true}
 use Rattle.std.proofs.lemmas.Result.{IfOk-weaker}
 use Rattle.pci_base.specs.Space.{space_of}
-use Rattle.pci_claims.specs.declared.given.LegacyBridge.{LegacyBridge}
-use Rattle.pci_claims.specs.Values.{given_value}
-use Rattle.pci_given.specs.Quiet.{AreQuiet}
-use Rattle.pci_given.proofs.Quieting.{is_quiet, of_bus}
+use Rattle.pci_claims.specs.Values.{given_value, told_value}
+use Rattle.pci_given.proofs.Quieting.{quiet_untold, none_on_bus}
 use Rattle.pci_given.proofs.quiet.is_bus_quiet.Goals as goal
 
-pub returns : goal.returns
-returns g c = IfOk-weaker c.are_quiet.result _ _
-    (λ quiet is holds s tree. is_quiet (given_value c.args.given.now) s (λ b. b ≡ c.args.bus) (space_of c.args.space) c.in_ok-regions.regions.items
-    (of_bus s c.args.bus (space_of c.args.space) c.in_ok-regions.regions.items (c.in_ok-regions.ensures s tree.records))
-    c.args.given.now.legacy.now c.in_ok-legacy.legacy.items refl c.in_ok-legacy.ensures
-    (subst (λ (l : List LegacyBridge). AreQuiet (space_of c.args.space) c.in_ok-regions.regions.items l) c.deref.ensures.value (is holds))) c.are_quiet.ensures
+pub returns-then-is_empty : goal.returns-then-is_empty
+returns-then-is_empty g c = IfOk-weaker c.are_apart_on.result _ _
+    (λ quiet is holds. quiet_untold (told_value c.args.board.now.told) (given_value c.args.board.now.given) c.args.board.now.outline.now (λ b. b ≡ c.args.bus) (space_of c.args.space)
+    (none_on_bus (told_value c.args.board.now.told) c.args.bus c.ranges_of.result c.ranges_of.ensures (eqb-true c.ranges_of.result.first c.ranges_of.result.end (sym c.is_empty.ensures ∙ c.if-is_empty.true))) (is holds))
+    c.are_apart_on.ensures
