@@ -8,7 +8,7 @@ use Rattle.pci_spec.specs.System.{System, Function, Space, Memory, Leads, is_bri
 use Rattle.pci_spec.specs.System as system
 use Rattle.pci_spec.specs.Decoded.{record_of, bridge_of}
 use Rattle.pci_spec.specs.Listing.{inner_line}
-use Rattle.pci_spec.specs.Why.{part_text, place_words, region_line}
+use Rattle.pci_spec.specs.Why.{part_text, place_words}
 use Rattle.pci_spec.proofs.Members.{in_nil, in_cons_cases}
 use Rattle.pci_tree.specs.declared.region.Region.{Region}
 use Rattle.pci_tree.specs.declared.region.Part.{Part}
@@ -19,7 +19,7 @@ use Rattle.given_spec.specs.Claims.{is_cut_of}
 use Rattle.given_spec.specs.Why.{Own, isa_words, isa_words_of}
 use Rattle.given_spec.specs.Why.{region_line as given_region_line}
 use Rattle.pci_claims.specs.Claim.{is_cut_from}
-use Rattle.pci_why.specs.RegionLines.{words_of, window_at, line_of, given_line_of, isa_words_at}
+use Rattle.pci_why.specs.RegionLines.{words_of, window_at, given_line_of, isa_words_at}
 use Rattle.pci_claims.specs.Found.{bounds_range, region_of_found}
 
 -- ---- a region
@@ -40,12 +40,6 @@ named_words f (system.Window kind) space p reg prefetch e named is maps =
 
 maps_of : (f : Function) (part : system.Part) (space : Space) (q : Region) → IsRegionOf f part space q → system.space_of f part ≡ space
 maps_of f part space q is = ((is.claims q.first).0 (omega arith, is.some)).maps
-
--- its line is the definitions'
-pub line_same : (word : List ℕ) (f : Function) (part : system.Part) (space : Space) (q : Region) → IsRegionOf f part space q → line_of word space q ≡ region_line word (region_of_found q part space)
-line_same word f part space q is =
-    ap (λ words. inner_line (word ∷ place_words q.slot q.reg words space (bounds_range q)))
-    (named_words f part space q.part q.reg q.prefetch is.named is.register is.prefetch (maps_of f part space q is))
 
 -- ISA Enable takes from it what it takes from its part
 pub cut_of_part : (given : Given) (space : Space) (f : Function) (part : system.Part) (q : Region) → IsRegionOf f part space q → (a : ℕ) → is_cut_from given space q a ≡ is_cut_of given part space a q.slot

@@ -1,5 +1,5 @@
 -- What is told of where a region would fit.
-use Rattle.std.proofs.Common.{◌≡◌, ℕ, ◌≤◌, List, [], ◌++◌, map, Bool, true, false, ◌&&◌, ◌||◌, Option, inl, inr, arith, sym, ◌∙◌, ap, subst, refl, append-nil}
+use Rattle.std.proofs.Common.{◌≡◌, ℕ, ◌≤◌, ◌<◌, List, [], ◌++◌, map, Bool, true, false, ◌&&◌, ◌||◌, Option, inl, inr, arith, sym, ◌∙◌, ap, subst, refl, append-nil}
 use Rattle.std.specs.Prelude.{◌↔◌, IsTrue, not, MatchOption, MatchBool}
 use Rattle.std.specs.Option.{option_map}
 use Rattle.std.specs.List.{Contains}
@@ -27,7 +27,10 @@ use Rattle.pci_tree.specs.Outline.{Tree, RiseBySlot}
 use Rattle.pci_tree.proofs.Lifting.{Has, function_for, same_slot_of, one_function}
 use Rattle.pci_tree.specs.Trees.{HasTree}
 use Rattle.given_spec.specs.Given.{Given}
-use Rattle.given_spec.specs.Why.{Own, Legacy, IsPlaceFor, IsLeastPlace, IsFit, IsFitBehind, is_said}
+use Rattle.given_spec.specs.ToldClaims.{Told}
+use Rattle.given_spec.specs.ToldRegion.{ToldRegion, IsToldIn}
+use Rattle.given_spec.proofs.Reasons.{low_register}
+use Rattle.given_spec.specs.Why.{Own, Legacy, OfLine, IsPlaceFor, IsLeastPlace, IsFit, IsFitBehind, is_said}
 use Rattle.pci_claims.proofs.RegionClaims.{not_legacy}
 use Rattle.pci_claims.specs.Found.{NoneClaims, IsFoundIn, region_of_found}
 use Rattle.pci_why.specs.Lines.{Appends}
@@ -101,55 +104,62 @@ module _ (s : System) (slot : Slot) (reg : ℕ) (space : Space) where
             range = record { first = sym first_same i; last = sym last_same i };
           }
 
+-- a told range has another register than those of functions
+no_range : (told : Told) (s : System) (reg : ℕ) → reg < 256 → (x : ToldRegion) → IsToldIn told s x → x.register ≡ reg → ⊥
+no_range told s reg low x is named = let line = is.named.register in omega (arith, line, named, low)
+
 -- ---- lines
 
 -- what is told of a region that may be moved
-abbrev Movable : List AssumedRegister → Given → List ℕ → System → RegionValue → List ℕ → Type 0
-Movable assumed given roots s v lines = MatchBool (is_size_assumed assumed v.slot v.register) (lines ≡ unknown_line) (IsFit given roots s v lines)
+abbrev Movable : List AssumedRegister → Told → Given → List ℕ → System → RegionValue → List ℕ → Type 0
+Movable assumed told given roots s v lines = MatchBool (is_size_assumed assumed v.slot v.register) (lines ≡ unknown_line) (IsFit told given roots s v lines)
 
 -- whether nothing is told of it: it is a window, or on a root bus to which all of the space is sent
 abbrev Stays : Given → List ℕ → plain.Part → ℕ → Space → Bool
 Stays given roots part bus space = is_window part || is_root roots bus && not (is_said given space)
 
-module _ (assumed : List AssumedRegister) (given : Given) (t : Tree) (slot : Slot) (reg : ℕ) (space : Space) (old : List ℕ) where
+module _ (assumed : List AssumedRegister) (told : Told) (given : Given) (t : Tree) (slot : Slot) (reg : ℕ) (space : Space) (low : reg < 256) (old : List ℕ) where
   nothing : old ≡ old ++ []
   nothing = sym (append-nil old)
 
   -- nothing is told where nothing is found
-  pub told_none : ((s : System) → HasTree t s → NoneClaims s slot reg space) → IsFitTold assumed given t (named_region slot reg) space old old
+  pub told_none : ((s : System) → HasTree t s → NoneClaims s slot reg space) → IsFitTold assumed told given t (named_region slot reg) space old old
   told_none none s (Own v) tree named is = absurd (never_named s slot reg space (none s tree) v named is)
   told_none none s (Legacy b of_space) tree named is = record { lines = []; text = nothing; are = refl }
+  told_none none s (OfLine x) tree named is = record { lines = []; text = nothing; are = refl }
 
   -- whether the region's bus is a root bus to which all of the space is sent
   named_bus : (v : RegionValue) → why.IsNamed v slot reg space → (is : Bool) → (is_root t.roots slot.bus && not (is_said given space)) ≡ is → (is_root t.roots v.slot.bus && not (is_said given v.space)) ≡ is
   named_bus v named is e = ap (λ (x : Slot). is_root t.roots x.bus && not (is_said given v.space)) named.0 ∙ ap (λ sp. is_root t.roots slot.bus && not (is_said given sp)) named.2 ∙ e
 
-  nothing_behind : (s : System) (v : RegionValue) → Stays given t.roots v.part v.slot.bus v.space ≡ true → Appends (IsFitBehind assumed given t.roots s (Own v)) old old
+  nothing_behind : (s : System) (v : RegionValue) → Stays given t.roots v.part v.slot.bus v.space ≡ true → Appends (IsFitBehind assumed told given t.roots s (Own v)) old old
   nothing_behind s v stays = record {
     lines = [];
     text = nothing;
-    are = subst (λ b. MatchBool b (◌≡◌ {A = List ℕ} [] []) (Movable assumed given t.roots s v [])) (sym stays) (refl {a = []});
+    are = subst (λ b. MatchBool b (◌≡◌ {A = List ℕ} [] []) (Movable assumed told given t.roots s v [])) (sym stays) (refl {a = []});
   }
 
   -- nothing is told of a window
-  pub told_window : (q : outline.Region) → ((s : System) → HasTree t s → IsFoundIn s slot reg space q) → q.part ≡ parts.Window → IsFitTold assumed given t (named_region slot reg) space old old
+  pub told_window : (q : outline.Region) → ((s : System) → HasTree t s → IsFoundIn s slot reg space q) → q.part ≡ parts.Window → IsFitTold assumed told given t (named_region slot reg) space old old
   told_window q found window s (Own v) tree named is =
       let here = found s tree in
       let same : region_of_found q here.part space ≡ v = named_is s slot reg space q here tree.system v named is in
       let is_one : is_window v.part ≡ true = ap (λ (x : RegionValue). is_window x.part) (sym same) ∙ window_part here.part (sym here.is.named ∙ window) in
       nothing_behind s v (ap (λ b. b || is_root t.roots v.slot.bus && not (is_said given v.space)) is_one)
   told_window q found window s (Legacy b of_space) tree named is = record { lines = []; text = nothing; are = refl }
+  told_window q found window s (OfLine x) tree named is = record { lines = []; text = nothing; are = refl }
 
   -- nor on a root bus to which all of the space is sent
-  pub told_on_root : (is_root t.roots slot.bus && not (is_said given space)) ≡ true → IsFitTold assumed given t (named_region slot reg) space old old
+  pub told_on_root : (is_root t.roots slot.bus && not (is_said given space)) ≡ true → IsFitTold assumed told given t (named_region slot reg) space old old
   told_on_root off s (Own v) tree named is =
       let sent : (is_root t.roots v.slot.bus && not (is_said given v.space)) ≡ true = named_bus v named true off in
       nothing_behind s v (ap (λ b. is_window v.part || b) sent ∙ or_true (is_window v.part))
   told_on_root off s (Legacy b of_space) tree named is = record { lines = []; text = nothing; are = refl }
+  told_on_root off s (OfLine x) tree named is = record { lines = []; text = nothing; are = refl }
 
   -- elsewhere, where its size is assumed, that its place isn't known
   pub told_unknown : (q : outline.Region) (new : List ℕ) → ((s : System) → HasTree t s → IsFoundIn s slot reg space q) → (q.part ≡ parts.Window → ⊥) → (is_root t.roots slot.bus && not (is_said given space)) ≡ false
-      → is_size_assumed assumed slot reg ≡ true → new ≡ old ++ unknown_line → IsFitTold assumed given t (named_region slot reg) space old new
+      → is_size_assumed assumed slot reg ≡ true → new ≡ old ++ unknown_line → IsFitTold assumed told given t (named_region slot reg) space old new
   told_unknown q new found window on assumed_is text s (Own v) tree named is =
       let here = found s tree in
       let same : region_of_found q here.part space ≡ v = named_is s slot reg space q here tree.system v named is in
@@ -159,15 +169,16 @@ module _ (assumed : List AssumedRegister) (given : Given) (t : Tree) (slot : Slo
       record {
         lines = unknown_line;
         text = text;
-        are = subst (λ b. MatchBool b (unknown_line ≡ []) (Movable assumed given t.roots s v unknown_line)) (sym moves)
-            (subst (λ b. MatchBool b (unknown_line ≡ unknown_line) (IsFit given t.roots s v unknown_line)) (sym size) (refl {a = unknown_line}));
+        are = subst (λ b. MatchBool b (unknown_line ≡ []) (Movable assumed told given t.roots s v unknown_line)) (sym moves)
+            (subst (λ b. MatchBool b (unknown_line ≡ unknown_line) (IsFit told given t.roots s v unknown_line)) (sym size) (refl {a = unknown_line}));
       }
   told_unknown q new found window on assumed_is text s (Legacy b of_space) tree named is = absurd (no_legacy s slot reg space q (found s tree) named.1)
+  told_unknown q new found window on assumed_is text s (OfLine x) tree named is = absurd (no_range told s reg low x is named.1)
 
   -- and where it isn't, the least place
   pub told_fit : (q : outline.Region) (rs : List Record) (r : Record) (wide : Bool) (fit : Option Range) (new : List ℕ) → ((s : System) → HasTree t s → IsFoundIn s slot reg space q) → (q.part ≡ parts.Window → ⊥) → t.records ≡ map record_value rs
       → ((s : System) → decoded.HasRecords s t.records → IsNested t.roots s) → RiseBySlot rs → Contains rs r → r.slot ≡ slot → (is_root t.roots slot.bus && not (is_said given space)) ≡ false → is_size_assumed assumed slot reg ≡ false
-      → IsTrue wide ↔ IsWideIn r q → IsFitFor given t space q wide fit → new ≡ old ++ fits_line space (option_map decoded_range_of fit) → IsFitTold assumed given t (named_region slot reg) space old new
+      → IsTrue wide ↔ IsWideIn r q → IsFitFor told given t space q wide fit → new ≡ old ++ fits_line space (option_map decoded_range_of fit) → IsFitTold assumed told given t (named_region slot reg) space old new
   told_fit q rs r wide fit new found window records nested rise has at on known exact fits text s (Own v) tree named is =
       let here = found s tree in
       let rs_is : Has s rs = subst (λ xs. decoded.HasRecords s xs) records tree.records in
@@ -181,22 +192,31 @@ module _ (assumed : List AssumedRegister) (given : Given) (t : Tree) (slot : Slo
       let moves : Stays given t.roots here.part q.slot.bus space ≡ false =
       ap (λ b. b || is_root t.roots q.slot.bus && not (is_said given space)) (no_window_part here.part (λ e. window (here.is.named ∙ e)))
       ∙ ap (λ (x : Slot). is_root t.roots x.bus && not (is_said given space)) here.slot_is ∙ on in
-      let is_fit : IsFit given t.roots s as_told lines = record {
+      let is_fit : IsFit told given t.roots s as_told lines = record {
         f = here.f;
         listed = here.listed;
         slot = sym here.is.slot;
         place = place;
-        exact = subst (λ w. MatchOption place ((first : ℕ) → IsPlaceFor given t.roots s as_told w first → ⊥) (λ range. IsLeastPlace given t.roots s as_told w range)) wide_same
+        exact = subst (λ w. MatchOption place ((first : ℕ) → IsPlaceFor told given t.roots s as_told w first → ⊥) (λ range. IsLeastPlace told given t.roots s as_told w range)) wide_same
             (fits s here.f here.part tree (nested s tree.records) here.listed here.is);
         text = refl;
       } in
-      let behind : IsFitBehind assumed given t.roots s (Own as_told) lines =
-      subst (λ b. MatchBool b (lines ≡ []) (Movable assumed given t.roots s as_told lines)) (sym moves)
-      (subst (λ b. MatchBool b (lines ≡ unknown_line) (IsFit given t.roots s as_told lines)) (sym (same_size assumed s slot reg space q false here known)) is_fit) in
+      let behind : IsFitBehind assumed told given t.roots s (Own as_told) lines =
+      subst (λ b. MatchBool b (lines ≡ []) (Movable assumed told given t.roots s as_told lines)) (sym moves)
+      (subst (λ b. MatchBool b (lines ≡ unknown_line) (IsFit told given t.roots s as_told lines)) (sym (same_size assumed s slot reg space q false here known)) is_fit) in
       record {
         lines = lines;
         text = text;
-        are = subst (λ (x : RegionValue). IsFitBehind assumed given t.roots s (Own x) lines) (named_is s slot reg space q here tree.system v named is) behind;
+        are = subst (λ (x : RegionValue). IsFitBehind assumed told given t.roots s (Own x) lines) (named_is s slot reg space q here tree.system v named is) behind;
       }
   told_fit q rs r wide fit new found window records nested rise has at on known exact fits text s (Legacy b of_space) tree named is =
       absurd (no_legacy s slot reg space q (found s tree) named.1)
+  told_fit q rs r wide fit new found window records nested rise has at on known exact fits text s (OfLine x) tree named is = absurd (no_range told s reg low x is named.1)
+
+-- nothing is told of a told range
+pub told_range : (assumed : List AssumedRegister) (told : Told) (given : Given) (t : Tree) (slot : Slot) (register : ℕ) (space : Space) (old : List ℕ) → 256 ≤ register → IsFitTold assumed told given t (named_region slot register) space old old
+told_range assumed told given t slot register space old high s (Own v) tree named is =
+    absurd (let less = low_register s v is in let at : v.register ≡ register = named.1 in let no : ⊥ = omega (arith, less, at, high) in no)
+told_range assumed told given t slot register space old high s (Legacy b of_space) tree named is =
+    absurd (let at : BRIDGE_CONTROL ≡ register = named.1 in let no : ⊥ = omega (arith, at, high) in no)
+told_range assumed told given t slot register space old high s (OfLine x) tree named is = record { lines = []; text = sym (append-nil old); are = refl }

@@ -1,29 +1,36 @@
 -- What gets to the bus of a region, and no other region claims.
-use Rattle.std.proofs.Common.{◌≡◌, ℕ, List, [], ◌∷◌, map, Bool, true, false, ◌&&◌, ◌||◌, inl, inr, sym, ◌∙◌, ap, subst, refl}
-use Rattle.std.specs.Prelude.{◌↔◌, IsTrue}
+use Rattle.std.proofs.Common.{◌≡◌, ℕ, ◌+◌, ◌<◌, arith, List, [], ◌∷◌, map, Bool, true, false, ◌&&◌, ◌||◌, inl, inr, sym, ◌∙◌, ap, subst, refl}
+use Rattle.std.specs.Prelude.{◌↔◌, ◌==◌, IsTrue}
 use Rattle.std.specs.List.{Contains, list_all}
-use Rattle.std.proofs.lemmas.Bool.{or_cases, and_parts, and_from}
-use Rattle.std.proofs.Math.Bool.{or-true}
-use Rattle.pci_spec.specs.Slot.{Slot}
+use Rattle.std.proofs.lemmas.Bool.{or_cases, or_from, ne_eqb, and_parts, and_from}
+use Rattle.std.proofs.Math.Bool.{or-true, or-false}
+use Rattle.pci_spec.specs.Slot.{Slot, same_slot}
 use Rattle.pci_spec.specs.Window.{MemoryWindow, PrefetchWindow}
 use Rattle.pci_spec.specs.System.{System, Function, Space, Io, Memory, IsAddress, window_claims}
+use Rattle.pci_spec.specs.System as system
 use Rattle.pci_spec.specs.Decoded.{record_of}
 use Rattle.pci_spec.specs.Why.{Region}
-use Rattle.pci_spec.specs.Fault.{address_in}
+use Rattle.pci_spec.specs.Fault.{address_in, named_region}
 use Rattle.pci_spec.proofs.Members.{in_map_from}
+use Rattle.pci_spec.proofs.Regions.{register_of-lt}
 use Rattle.pci_base.specs.declared.range.Range.{Range}
 use Rattle.pci_base.specs.Space.{kind_in}
 use Rattle.pci_tree.specs.Outline.{Tree}
 use Rattle.pci_tree.specs.Ranges.{Holds, Covers}
 use Rattle.pci_tree.specs.Trees.{HasTree}
+use Rattle.pci_tree.specs.declared.region.Region as outline
+use Rattle.pci_tree.specs.Regions.{IsRegionOf}
 use Rattle.given_spec.specs.Given.{Given, legacy_claims}
-use Rattle.given_spec.specs.Claims.{Gets, IsPassedTo, passes, forwards, register_of, may_share}
+use Rattle.given_spec.specs.Claims.{Gets, IsPassedTo, passes, forwards}
+use Rattle.given_spec.specs.Claims as untold
+use Rattle.given_spec.specs.Told.{ToldRange}
+use Rattle.given_spec.specs.ToldClaims.{Told, is_held, is_held_from, is_marked_held, may_share}
 use Rattle.given_spec.specs.Why.{IsTakenBeside}
 use Rattle.pci_claims.specs.Claim.{Claimed}
 use Rattle.pci_claims.specs.Gathered.{IsGathered, IsCommon}
 use Rattle.pci_claims.specs.Reached.{AreReached, IsStartedReachTo}
 use Rattle.pci_why.specs.Missed.{IsOutsideRange}
-use Rattle.pci_why.specs.Free.{IsAnsweredBeside, AreOfOthers, AreClaimsBeside, IsFreeFor}
+use Rattle.pci_why.specs.Free.{may_stand_at, IsAnsweredBeside, AreOfOthers, AreClaimsBeside, IsFreeFor}
 
 -- ---- what a bridge passes it forwards
 
@@ -66,35 +73,60 @@ never_unlisted t s tree f slot listed at none =
 
 -- ---- what is left of it
 
-module _ (given : Given) (roots : List ℕ) (s : System) (q : Region) (claims : List Claimed) (beside : AreClaimsBeside given roots s q.slot.bus q.space claims) where
-  taken_of : (a : ℕ) → IsAnsweredBeside claims q.slot q.register a → IsTakenBeside given roots s q a
+-- a region's register is an offset
+pub region_low : (f : Function) (part : system.Part) (space : Space) (q : outline.Region) → IsRegionOf f part space q → q.reg < 256
+region_low f part space q is =
+    let some = is.some in
+    let low = register_of-lt f part ((is.claims q.first).0 (omega arith, some)).there in
+    let named = is.register in
+    omega (arith, low, named)
+
+-- no register of a function is that of a held range
+held_before : (first : ℕ) (ranges : List ToldRange) (register : ℕ) → register < first → is_held_from first ranges register ≡ false
+held_before first [] register less = refl
+held_before first (r ∷ ranges) register less =
+    or_from ((first == register) && is_marked_held r.mark) (is_held_from (first + 1) ranges register)
+    (ap (λ b. b && is_marked_held r.mark) (ne_eqb first register (λ e. omega (arith, e, less))))
+    (held_before (first + 1) ranges register (omega (arith, less)))
+
+never_held : (told : Told) (register : ℕ) → register < 256 → is_held told register ≡ false
+never_held told register low = held_before 256 told.ranges register low
+
+-- the region of a function may share an address as its claim tells
+shared_as : (told : Told) (slot : Slot) (register : ℕ) (c : Claimed) → register < 256 → c.held ≡ is_held told c.register → may_share told slot register c.slot c.register ≡ may_stand_at slot register c
+shared_as told slot register c low held =
+    ap (λ b. (untold.may_share slot register c.slot c.register || (b && (is_held told c.register || same_slot slot c.slot))) || (is_held told c.register && (b || same_slot c.slot slot))) (never_held told register low)
+    ∙ ap (λ b. b || (is_held told c.register && same_slot c.slot slot)) (or-false (untold.may_share slot register c.slot c.register))
+    ∙ ap (λ b. untold.may_share slot register c.slot c.register || (b && same_slot c.slot slot)) (sym held)
+
+module _ (told : Told) (given : Given) (roots : List ℕ) (s : System) (q : Region) (low : q.register < 256) (claims : List Claimed) (beside : AreClaimsBeside told given roots s q.slot.bus q.space claims) where
+  taken_of : (a : ℕ) → IsAnsweredBeside claims q.slot q.register a → IsTakenBeside told given roots s q a
   taken_of a h =
       let b = beside.each h.c a h.has h.covered in
       record {
-        f = b.f;
-        part = b.part;
-        listed = b.listed;
+        by = named_region h.c.slot h.c.register;
         beside = b.beside;
-        other = λ same. h.other.0 (sym b.slot_is ∙ same.0, sym b.register_is ∙ same.1);
-        apart = ap (λ (x : Slot). may_share q.slot q.register x (register_of b.f b.part)) b.slot_is ∙ ap (λ n. may_share q.slot q.register h.c.slot n) b.register_is ∙ h.other.1;
+        other = h.other.0;
+        apart = shared_as told q.slot q.register h.c low (beside.held h.c h.has) ∙ h.other.1;
         claims = b.claims;
       }
 
-  answered_of : (a : ℕ) → Gets given roots s q.space a q.slot.bus → IsTakenBeside given roots s q a → IsAnsweredBeside claims q.slot q.register a
+  answered_of : (a : ℕ) → Gets given roots s q.space a q.slot.bus → IsTakenBeside told given roots s q a → IsAnsweredBeside claims q.slot q.register a
   answered_of a gets h =
-      let of = beside.complete h.f.slot (register_of h.f h.part) a gets record { f = h.f; part = h.part; listed = h.listed; slot_is = refl; register_is = refl; beside = h.beside; claims = h.claims } in
+      let of = beside.complete h.by.slot h.by.register a gets record { beside = h.beside; claims = h.claims } in
       record {
         c = of.c;
         has = of.has;
         other = (
           λ same. h.other (sym of.slot_is ∙ same.0, sym of.register_is ∙ same.1),
-          ap (λ (x : Slot). may_share q.slot q.register x of.c.register) of.slot_is ∙ ap (λ n. may_share q.slot q.register h.f.slot n) of.register_is ∙ h.apart,
+          sym (shared_as told q.slot q.register of.c low (beside.held of.c of.has))
+              ∙ ap (λ (x : Slot). may_share told q.slot q.register x of.c.register) of.slot_is ∙ ap (λ n. may_share told q.slot q.register h.by.slot n) of.register_is ∙ h.apart,
         );
         covered = of.covered;
       }
 
   pub free_exact : (reach others taken left out : List Range) (whole : Range) → AreReached q.space (λ a. IsPassedTo given roots s (address_in q.space a) q.prefetchable q.slot.bus) reach → AreOfOthers claims q.slot q.register others
-      → IsGathered others taken → ((a : ℕ) → Holds whole a ↔ IsAddress q.space a) → IsOutsideRange whole taken left → IsCommon reach left out → (a : ℕ) → Covers out a ↔ IsFreeFor given roots s q a
+      → IsGathered others taken → ((a : ℕ) → Holds whole a ↔ IsAddress q.space a) → IsOutsideRange whole taken left → IsCommon reach left out → (a : ℕ) → Covers out a ↔ IsFreeFor told given roots s q a
   free_exact reach others taken left out whole gets are gathers all outside both a = (
     λ (h : Covers out a). (
         let (in_reach, in_left) = (both.exact a).0 h in
@@ -105,7 +137,7 @@ module _ (given : Given) (roots : List ℕ) (s : System) (q : Region) (claims : 
           free = λ claimed. ((outside.exact a).0 in_left).1
               ((gathers.exact a).1 ((are.exact a).1 (answered_of a (gets_of given roots s q.space q.prefetchable a q.slot.bus passed.1) claimed)));
         }),
-    λ (h : IsFreeFor given roots s q a). (both.exact a).1 (
+    λ (h : IsFreeFor told given roots s q a). (both.exact a).1 (
       (gets.exact a).1 (h.address, h.reached),
       (outside.exact a).1 ((all a).1 h.address, λ covered. h.free (taken_of a ((are.exact a).0 ((gathers.exact a).0 covered)))),
     ),

@@ -1,13 +1,16 @@
 -- What lies in a range between the ranges of a list.
-use Rattle.std.proofs.Common.{◌≡◌, ℕ, ◌+◌, ◌<◌, ◌≤◌, List, [], ◌∷◌, ◌++◌, length, get_or, take, sym, ap, subst, inl, inr, ◌⊎◌, arith, ◌∙◌, ◌-◌, max, min}
+use Rattle.std.proofs.Common.{◌≡◌, ℕ, ◌+◌, ◌<◌, ◌≤◌, List, [], ◌∷◌, ◌++◌, length, get_or, take, refl, sym, ap, subst, inl, inr, ◌⊎◌, arith, ◌∙◌, ◌-◌, max, min}
 use Rattle.std.specs.Prelude.{◌↔◌}
 use Rattle.std.proofs.lemmas.Bool.{cases_lt}
 use Rattle.std.proofs.lemmas.List.{take_more, take_all, get_or_default}
+use Rattle.given_spec.specs.Told.{ToldRange}
 use Rattle.pci_base.specs.declared.range.Range.{Range}
 use Rattle.pci_tree.specs.Ranges.{Holds, Covers, IsCanonical}
 use Rattle.pci_tree.specs.Passing.{IsPush}
 use Rattle.pci_tree.proofs.Passing.{covers_push, canonical_push}
-use Rattle.pci_why.specs.Missed.{IsBetween, IsOutsideRange, IsOutsideBefore}
+use Rattle.pci_tree.proofs.RangeLists.{found_at, last_rises}
+use Rattle.pci_claims.specs.Gathered.{IsCommon}
+use Rattle.pci_why.specs.Missed.{IsBetween, IsOutsideRange, IsWithout, IsOutsideBefore}
 
 -- a piece between two numbers is pushed
 pub between_pushed : (range m : Range) (from end : ℕ) (old new : List Range) → IsCanonical old → ((a : ℕ) → Covers old a → a + 1 < from) → new ≡ old ++ m ∷ []
@@ -149,3 +152,42 @@ held_between range from end low high first stop a is_low is_high is_first is_sto
   λ (h : IsBetween range from end a). (let at = h.0.0 in let to = h.0.1 in let low_a = h.1 in let high_a = h.2 in
       (omega (arith, at, low_a, is_low, is_first), omega (arith, to, high_a, is_high, is_stop, some))),
 )
+
+-- what ranges that rise have lies from the first address to the last
+pub bounds_hold : (rs : List Range) (last : ℕ) (z w : Range) (a : ℕ) → IsCanonical rs → last + 1 ≡ length rs → Covers rs a → Holds (record { first = (get_or rs 0 z).first; last = (get_or rs last w).last }) a
+bounds_hold rs last z w a can e (k, r, within, at, held) =
+    let at_z = found_at rs a k r z within at held in
+    let at_w = found_at rs a k r w within at held in
+    let top = last_rises rs can k last w (omega (arith, within, e)) (omega (arith, e)) in (
+      elim (cases_lt 0 k) [
+        | inl less ↦ (let apart = can.apart 0 k z less within in let own = can.each 0 z (omega (arith, less, within)) in let low = at_z.0 in omega (arith, apart, own, low))
+        | inr zero_is ↦ (let same : k ≡ 0 = omega (arith, zero_is) in subst (λ n. (get_or rs n z).first ≤ a) same at_z.0)
+      ],
+      (let high = at_w.1 in omega (arith, top, high)),
+    )
+
+pub none_held : (rs : List Range) (a : ℕ) → rs ≡ [] → Covers rs a → ⊥
+none_held rs a empty covers = let within = (subst (λ l. Covers l a) empty covers).2 in let no : ⊥ = omega (arith, within) in no
+
+pub one_covers : (m : Range) (a : ℕ) → Covers (m ∷ []) a ↔ Holds m a
+one_covers m a = (
+  λ (h : Covers (m ∷ []) a). elim ((covers_push [] m a).0 h) [ inl none ↦ absurd (none_held [] a refl none) | inr held ↦ held ],
+  λ (h : Holds m a). (covers_push [] m a).1 (inr h),
+)
+
+-- the range of a told one alone
+pub one_told : (old items : List Range) (first last : ℕ) (r : ToldRange) → old ≡ [] → items ≡ old ++ record { first = first; last = last } ∷ [] → first ≡ r.first → last ≡ r.last → (a : ℕ) → Covers items a ↔ ((r.first ≤ a) × (a ≤ r.last))
+one_told old items first last r empty pushed firsts lasts a =
+    let m : Range = record { first = first; last = last } in
+    subst (λ n. Covers items a ↔ ((n ≤ a) × (a ≤ r.last))) firsts
+    (subst (λ n. Covers items a ↔ ((first ≤ a) × (a ≤ n))) lasts (subst (λ xs. Covers xs a ↔ Holds m a) (sym (pushed ∙ ap (λ xs. xs ++ m ∷ []) empty)) (one_covers m a)))
+
+-- what one list has and none of a part between its bounds
+pub without_is : (addresses ranges left out : List Range) (whole : Range) → ((a : ℕ) → Covers addresses a → Holds whole a) → IsOutsideRange whole ranges left → IsCommon addresses left out → IsWithout addresses ranges out
+without_is addresses ranges left out whole inside outside common = record {
+  canonical = common.canonical;
+  exact = λ a. (
+    λ (h : Covers out a). (let both = (common.exact a).0 h in (both.0, ((outside.exact a).0 both.1).1)),
+    λ (h : Covers addresses a × (Covers ranges a → ⊥)). (common.exact a).1 (h.0, (outside.exact a).1 (inside a h.0, h.1)),
+  );
+}

@@ -1,14 +1,16 @@
 pub mod Texts
 pub mod OffLines
+pub mod OffRanges
 pub mod Gaps
 pub mod Evidences
 pub mod LeastPlaces
 pub mod WideBars
 pub mod LegacyWords
+pub mod ToldTexts
 pub mod Recorded
 pub mod Namings
-pub mod Hosted
 pub mod Bridged
+pub mod Hosted
 pub mod Twos
 pub mod Others
 pub mod Beside

@@ -1,16 +1,21 @@
 -- The lines of BARs that are off.
-use Rattle.std.proofs.Common.{◌≡◌, ℕ, List, [], ◌∷◌, ◌++◌, map, refl, sym, ◌∙◌, ap, codes, Bool, true, false, not, if◌then◌else◌}
+use Rattle.std.proofs.Common.{◌≡◌, ℕ, List, [], ◌∷◌, ◌++◌, map, refl, sym, ◌∙◌, ap, codes, Bool, true, false, not, if◌then◌else◌, append-nil}
 use Rattle.std.specs.List.{flat_map, filter}
 use Rattle.std.proofs.lemmas.List.{append_assoc}
+use Rattle.std.proofs.lemmas.Grind.{flat_map-append}
 use Rattle.pci_spec.specs.Slot.{Slot}
 use Rattle.pci_spec.specs.Header.{command}
 use Rattle.pci_spec.specs.System.{System, Function, Space, is_space_on}
 use Rattle.pci_spec.specs.Decoded.{Range, DecodedBar, Record, HasRecords, record_of, decoded_bars}
 use Rattle.pci_spec.specs.Listing.{words, kind_space}
-use Rattle.pci_spec.specs.Why.{place_words, off_line, off_lines_of, off_lines}
+use Rattle.pci_spec.specs.Why.{place_words, off_line}
+use Rattle.given_spec.specs.Told.{ToldRange}
+use Rattle.given_spec.specs.ToldClaims.{Told}
+use Rattle.given_spec.specs.ToldRegion.{off_ranges}
+use Rattle.given_spec.specs.Why.{range_off_line, all_off_lines_of, all_off_lines}
 use Rattle.pci_tree.proofs.Regions.{on_same}
 use Rattle.pci_why.specs.RegionLines.{bar_words}
-use Rattle.pci_why.specs.Off.{off_of_bars, off_of_record}
+use Rattle.pci_why.specs.Off.{off_of_bars, off_of_record, off_with, AreRangesOffTold, AreOffTold}
 
 -- the line of a BAR, of a space that is told in other words
 pub off_pushed : (start mid last : List ℕ) (slot : Slot) (reg : ℕ) (part : List ℕ) (space other : Space) (prefetch : Bool) (range : Range) → mid ≡ start ++ codes "off"
@@ -36,12 +41,32 @@ off_of_some f (b ∷ bars) =
     ap (λ on. (if on then [] else off_line f.slot b) ++ off_of_bars f.slot (command f.image) bars) (sym (on_same f (kind_space b.kind)))
     ∙ one_more (is_space_on f (kind_space b.kind)) f.slot b (filter (is_off f) bars) (off_of_bars f.slot (command f.image) bars) (off_of_some f bars)
 
-off_of_all : (s : System) → flat_map off_of_record (map record_of s) ≡ off_lines s
-off_of_all [] = refl
-off_of_all (f ∷ s) =
-    ap (λ t. t ++ flat_map off_of_record (map record_of s)) (off_of_some f (decoded_bars f.image f.probe))
-    ∙ ap (λ t. off_lines_of f ++ t) (off_of_all s)
+module _ (told : Told) (s : System) where
+  -- those of a function, with the told ranges of its slot
+  with_ranges : (f : Function) → off_with told s (record_of f) ≡ all_off_lines_of told s f
+  with_ranges f = ap (λ t. t ++ flat_map range_off_line (off_ranges told s f.slot)) (off_of_some f (decoded_bars f.image f.probe))
 
--- of a system with these records
-pub off_of_system : (s : System) (records : List Record) → HasRecords s records → flat_map off_of_record records ≡ off_lines s
-off_of_system s records has = ap (λ rs. flat_map off_of_record rs) (sym has.same) ∙ off_of_all s
+  off_of_each : (fs : List Function) → flat_map (off_with told s) (map record_of fs) ≡ flat_map (all_off_lines_of told s) fs
+  off_of_each [] = refl
+  off_of_each (f ∷ fs) = ap (λ t. t ++ flat_map (off_with told s) (map record_of fs)) (with_ranges f) ∙ ap (λ t. all_off_lines_of told s f ++ t) (off_of_each fs)
+
+  -- of a system with these records
+  pub off_of_system : (records : List Record) → HasRecords s records → flat_map (off_with told s) records ≡ all_off_lines told s
+  off_of_system records has = ap (λ rs. flat_map (off_with told s) rs) (sym has.same) ∙ off_of_each s
+
+-- ---- function by function
+
+pub off_before : (ranges : List ToldRange) (on : List Bool) (old : List ℕ) → AreOffTold ranges on [] old old
+off_before ranges on old told s flagged = sym (append-nil old)
+
+pub off_of_one_more : (ranges : List ToldRange) (on : List Bool) (records more : List Record) (r : Record) (old now mid new : List ℕ) → more ≡ records ++ r ∷ [] → AreOffTold ranges on records old now
+    → mid ≡ now ++ off_of_record r → AreRangesOffTold ranges on r.slot mid new → AreOffTold ranges on more old new
+off_of_one_more ranges on records more r old now mid new is_more so bars with_told told s flagged =
+    let own = off_of_record r in
+    let own_ranges = flat_map range_off_line (off_ranges told s r.slot) in
+    let before = flat_map (off_with told s) records in
+    with_told told s flagged ∙ ap (λ t. t ++ own_ranges) (bars ∙ ap (λ t. t ++ own) (so told s flagged) ∙ append_assoc old before own)
+    ∙ append_assoc old (before ++ own) own_ranges ∙ ap (λ t. old ++ t) (append_assoc before own own_ranges)
+    ∙ ap (λ t. old ++ (before ++ t)) (sym (append-nil (own ++ own_ranges)))
+    ∙ ap (λ t. old ++ t) (sym (flat_map-append (off_with told s) records (r ∷ [])))
+    ∙ ap (λ rs. old ++ flat_map (off_with told s) rs) (sym is_more)

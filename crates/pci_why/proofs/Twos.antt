@@ -12,7 +12,7 @@ use Rattle.pci_why.specs.Lines.{Appends}
 use Rattle.pci_claims.proofs.Runs.{runs_of}
 use Rattle.pci_why.proofs.Texts.{three_appended}
 use Rattle.given_spec.specs.Given.{Given}
-use Rattle.given_spec.specs.Claims.{ClaimsOnBus}
+use Rattle.given_spec.specs.ToldClaims.{Told, ClaimsOnBus}
 use Rattle.given_spec.specs.Why.{Holds, region_line, AreNamedTwo}
 use Rattle.pci_claims.specs.Gathered.{IsCommon}
 use Rattle.pci_claims.proofs.Gathering.{none_covered}
@@ -24,11 +24,11 @@ not_none : (rs : List Range) (a : ℕ) → Covers rs a → map decoded_range_of 
 not_none [] a covered none = none_covered a covered
 not_none (r ∷ rs) a covered none = cc
 
-pub two_told : (given : Given) (s : System) (space : Space) (first second : Slot) (first_reg second_reg : ℕ) (a bus other : ℕ) (p q : Shown) (ps qs shared : List Range) (old one two new : List ℕ)
-    → IsNamedIn given s (named_region first first_reg) space p ps → IsNamedIn given s (named_region second second_reg) space q qs → ClaimsOnBus given s bus (address_in space a) (named_region first first_reg) → ClaimsOnBus given s other (address_in space a) (named_region second second_reg)
+pub two_told : (told : Told) (given : Given) (s : System) (space : Space) (first second : Slot) (first_reg second_reg : ℕ) (a bus other : ℕ) (p q : Shown) (ps qs shared : List Range) (old one two new : List ℕ)
+    → IsNamedIn told given s (named_region first first_reg) space p ps → IsNamedIn told given s (named_region second second_reg) space q qs → ClaimsOnBus told given s bus (address_in space a) (named_region first first_reg) → ClaimsOnBus told given s other (address_in space a) (named_region second second_reg)
     → IsCommon ps qs shared → one ≡ old ++ shown_line given (codes "first") space p → two ≡ one ++ shown_line given (codes "second") space q
-    → new ≡ two ++ flat_map (range_line (codes "shared") space) (map decoded_range_of shared) → Appends (AreNamedTwo given s space (named_regions first first_reg second second_reg)) old new
-two_told given s space first second first_reg second_reg a bus other p q ps qs shared old one two new at_p at_q claims_p claims_q common one_is two_is new_is =
+    → new ≡ two ++ flat_map (range_line (codes "shared") space) (map decoded_range_of shared) → Appends (AreNamedTwo told given s space (named_regions first first_reg second second_reg)) old new
+two_told told given s space first second first_reg second_reg a bus other p q ps qs shared old one two new at_p at_q claims_p claims_q common one_is two_is new_is =
     let v = at_p.region in
     let w = at_q.region in
     let first_line = region_line given (codes "first") v in

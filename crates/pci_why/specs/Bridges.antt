@@ -6,20 +6,19 @@ use Rattle.pci_spec.specs.System.{System, Space}
 use Rattle.pci_spec.specs.Decoded as decoded
 use Rattle.pci_spec.specs.Listing.{inner_line, on_text}
 use Rattle.pci_spec.specs.Why.{windows_text}
-use Rattle.pci_spec.specs.Why as plain
 use Rattle.pci_spec.specs.Fault.{RegionName, address_in}
 use Rattle.pci_base.specs.declared.range.Range.{Range}
-use Rattle.pci_base.specs.Space.{is_on, kind_in}
+use Rattle.pci_base.specs.Space.{is_on}
+use Rattle.pci_spec.specs.Window.{WindowKind}
 use Rattle.pci_function.specs.declared.record.Record.{Record}
-use Rattle.pci_tree.specs.declared.region.Region.{Region}
 use Rattle.pci_tree.specs.Outline.{Tree}
 use Rattle.pci_tree.specs.Trees.{HasTree}
-use Rattle.pci_why.specs.Missed.{IsOutsideRange}
-use Rattle.pci_claims.specs.Found.{range_at}
+use Rattle.pci_why.specs.Missed.{IsWithout}
 use Rattle.pci_why.specs.Lines.{Appends}
 use Rattle.given_spec.specs.Given.{Given}
-use Rattle.given_spec.specs.Fault.{IsUnreached}
-use Rattle.given_spec.specs.Why.{isa_words, legacy_words, IsBehindUnreached}
+use Rattle.given_spec.specs.ToldClaims.{Told}
+use Rattle.given_spec.specs.ToldFault.{IsUnreached}
+use Rattle.given_spec.specs.Why.{AnyRegion, IsNamed, isa_words, legacy_words, IsBehindUnreached}
 use Rattle.pci_claims.specs.Passed.{ArePassed}
 
 -- what the line of a bridge tells before its end
@@ -39,18 +38,18 @@ bridge_text given r space prefetch (Some b) =
 abbrev pub line_of_bridge : Given → decoded.Record → Space → Bool → List ℕ
 line_of_bridge given r space prefetch = bridge_text given r space prefetch r.bridge
 
--- the runs of the region's addresses that the function doesn't pass
-pub record IsMissed (given : Given) (r : Record) (space : Space) (q : Region)
-    (missed : List Range) : Type 0 where
+-- the runs of these addresses that the function doesn't pass
+pub record IsMissed (given : Given) (r : Record) (kind : WindowKind)
+    (addresses missed : List Range) : Type 0 where
   pub passed : List Range
-  pub exact : ArePassed given (kind_in space q.prefetch) r passed
-  pub outside : IsOutsideRange (range_at q) passed missed
+  pub exact : ArePassed given kind r passed
+  pub outside : IsWithout addresses passed missed
 
 -- what stands behind the region that a slot and a register name
-abbrev pub IsBehindOneBridge : Given → System → RegionName → Space → Slot → List ℕ → Type 0
-IsBehindOneBridge given s region space bridge lines =
-    (q : plain.Region) × plain.IsNamed q region.slot region.register space
-    × IsBehindUnreached given s q bridge lines
+abbrev pub IsBehindOneBridge : Told → Given → System → RegionName → Space → Slot → List ℕ → Type 0
+IsBehindOneBridge told given s region space bridge lines =
+    (q : AnyRegion) × IsNamed q region.slot region.register space
+    × IsBehindUnreached told given s q bridge lines
 
 -- a region of a space, and a bridge that doesn't pass all of it
 pub record Stopped : Type 0 where
@@ -59,8 +58,8 @@ pub record Stopped : Type 0 where
   pub bridge : Slot
 
 -- in each system with the tree where it is unreached
-abbrev pub IsUnreachedTold : Given → Tree → Stopped → List ℕ → List ℕ → Type 0
-IsUnreachedTold given t stopped old new =
+abbrev pub IsUnreachedTold : Told → Given → Tree → Stopped → List ℕ → List ℕ → Type 0
+IsUnreachedTold told given t stopped old new =
     (s : System) (a : ℕ) → HasTree t s
-    → IsUnreached given t.roots s stopped.region (address_in stopped.space a) stopped.bridge
-    → Appends (IsBehindOneBridge given s stopped.region stopped.space stopped.bridge) old new
+    → IsUnreached told given t.roots s stopped.region (address_in stopped.space a) stopped.bridge
+    → Appends (IsBehindOneBridge told given s stopped.region stopped.space stopped.bridge) old new

@@ -3,14 +3,15 @@ use Rattle.std.specs.Prelude.{ℕ, List, map}
 use Rattle.std.specs.List.{Contains}
 use Rattle.pci_spec.specs.Slot.{Slot}
 use Rattle.pci_spec.specs.System.{System, Space, Function, Leads}
-use Rattle.pci_spec.specs.Why as plain
 use Rattle.pci_spec.specs.Fault.{RegionName, address_in}
 use Rattle.pci_tree.specs.Outline.{Tree}
 use Rattle.pci_tree.specs.Trees.{HasTree}
 use Rattle.pci_why.specs.Lines.{Appends}
 use Rattle.given_spec.specs.Given.{Given}
-use Rattle.given_spec.specs.Fault.{IsOutside}
-use Rattle.given_spec.specs.Why.{IsBehindOutside}
+use Rattle.given_spec.specs.ToldClaims.{Told}
+use Rattle.given_spec.specs.ToldFault.{IsOutside}
+use Rattle.given_spec.specs.ToldNumbered.{AreListedIn}
+use Rattle.given_spec.specs.Why.{AnyRegion, IsNamed, IsBehindOutside}
 
 -- bridges lead from the root to the bus of the slot, in each system with the tree
 abbrev pub IsRootAbove : Tree → Slot → ℕ → Type 0
@@ -23,13 +24,15 @@ abbrev pub IsNowhere : Tree → Slot → Type 0
 IsNowhere t slot = Contains (map (λ r. r.slot) t.records) slot → ⊥
 
 -- what stands behind the region that a slot and a register name
-abbrev pub IsBehindOneRoot : Given → List ℕ → System → RegionName → Space → List ℕ → Type 0
-IsBehindOneRoot given roots s region space lines =
-    (q : plain.Region) × plain.IsNamed q region.slot region.register space
-    × IsBehindOutside given roots s q lines
+abbrev pub IsBehindOneRoot :
+    Told → Given → List ℕ → System → RegionName → Space → List ℕ → Type 0
+IsBehindOneRoot told given roots s region space lines =
+    (q : AnyRegion) × IsNamed q region.slot region.register space
+    × IsBehindOutside told given roots s q lines
 
--- in each system with the tree where it is outside
-abbrev pub IsOutsideTold : Given → Tree → RegionName → Space → List ℕ → List ℕ → Type 0
-IsOutsideTold given t region space old new =
-    (s : System) (a : ℕ) → HasTree t s → IsOutside given t.roots s region (address_in space a)
-    → Appends (IsBehindOneRoot given t.roots s region space) old new
+-- in each system with the tree where it is outside, and that lists each slot of a range that isn't held
+abbrev pub IsOutsideTold : Told → Given → Tree → RegionName → Space → List ℕ → List ℕ → Type 0
+IsOutsideTold told given t region space old new =
+    (s : System) (a : ℕ) → HasTree t s → AreListedIn told s
+    → IsOutside told given t.roots s region (address_in space a)
+    → Appends (IsBehindOneRoot told given t.roots s region space) old new

@@ -12,6 +12,11 @@ pub record IsOutsideRange (range : Range) (ranges out : List Range) : Type 0 whe
   pub canonical : IsCanonical out
   pub exact : (a : ℕ) → Covers out a ↔ (Holds range a × (Covers ranges a → ⊥))
 
+-- just the addresses of the first list that the second hasn't, with a gap between two ranges
+pub record IsWithout (addresses ranges out : List Range) : Type 0 where
+  pub canonical : IsCanonical out
+  pub exact : (a : ℕ) → Covers out a ↔ (Covers addresses a × (Covers ranges a → ⊥))
+
 -- those before a number, where the ranges so far end before it and the next one, if any, begins there or behind it
 pub record IsOutsideBefore (range : Range) (ranges part : List Range) (k from : ℕ)
     (out : List Range) : Type 0 where

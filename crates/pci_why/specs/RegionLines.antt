@@ -39,10 +39,6 @@ abbrev pub line_ended : List ℕ → Space → Region → List ℕ → List ℕ
 line_ended word space q end =
     32 ∷ ended (word ∷ place_words q.slot q.reg (part_words q space) space (bounds_range q)) end
 
-abbrev pub line_of : List ℕ → Space → Region → List ℕ
-line_of word space q =
-    inner_line (word ∷ place_words q.slot q.reg (part_words q space) space (bounds_range q))
-
 -- what the line of a region tells of ISA Enable
 abbrev pub isa_words_at : Given → Space → Region → List (List ℕ)
 isa_words_at given space q = if is_of_window q.part then isa_words given space q.slot else []

@@ -6,13 +6,13 @@ use Rattle.pci_tree.specs.Outline.{Tree}
 use Rattle.pci_tree.specs.Trees.{HasTree}
 use Rattle.pci_why.specs.Lines.{Appends}
 use Rattle.given_spec.specs.Given.{Given}
-use Rattle.given_spec.specs.Claims.{ClaimsOnBus}
+use Rattle.given_spec.specs.ToldClaims.{Told, ClaimsOnBus}
 use Rattle.given_spec.specs.Why.{AreNamedTwo}
 
 -- in each system with the tree where both claim some address
-abbrev pub AreTwoTold : Given → Tree → Space → TwoRegions → List ℕ → List ℕ → Type 0
-AreTwoTold given t space two old new =
+abbrev pub AreTwoTold : Told → Given → Tree → Space → TwoRegions → List ℕ → List ℕ → Type 0
+AreTwoTold told given t space two old new =
     (s : System) (a bus other : ℕ) → HasTree t s
-    → ClaimsOnBus given s bus (address_in space a) two.first
-    → ClaimsOnBus given s other (address_in space a) two.second
-    → Appends (AreNamedTwo given s space two) old new
+    → ClaimsOnBus told given s bus (address_in space a) two.first
+    → ClaimsOnBus told given s other (address_in space a) two.second
+    → Appends (AreNamedTwo told given s space two) old new

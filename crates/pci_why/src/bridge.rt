@@ -2,29 +2,31 @@
 ghost use Rattle.std.specs.Prelude.{◌≡◌, ◌++◌, IfOk, OnOk};
 ghost use Rattle.std.specs.String.{string_bytes};
 ghost use Rattle.pci_spec.specs.Fault.{named_region};
+ghost use Rattle.given_spec.specs.Told.{IsTold};
 ghost use Rattle.pci_base.specs.Space.{space_of};
+ghost use Rattle.pci_base.specs.WindowKinds.{kind_value};
 ghost use Rattle.pci_function.specs.Values.{record_value};
+ghost use Rattle.pci_tree.specs.Ranges.{IsCanonical};
 ghost use Rattle.pci_tree.specs.Reaches.{HasSpans};
-ghost use Rattle.pci_claims.specs.Values.{given_value};
+ghost use Rattle.pci_claims.specs.Values.{given_value, told_value};
 ghost use Rattle.pci_why.specs.Bridges.{line_of_bridge, IsMissed, IsUnreachedTold};
 
 use super::bridge_line::{push_bridge, push_ranges};
 use super::isa::push_isa_word;
 use super::judged::{Judged, RegionName};
 use super::legacy::push_legacy_word;
-use super::missed::outside;
-use super::region_line::push_region_line;
+use super::missed::without;
+use super::named::{push_shown, region_named};
 use pci_base::memory::OutOfMemory;
 use pci_base::range::Range;
 use pci_base::slot::Slot;
 use pci_base::space::Space;
-use pci_claims::find::region_at;
+use pci_base::window_kind::WindowKind;
 use pci_claims::given::Given;
 use pci_claims::passed::passed_with;
 use pci_function::record::Record;
 use pci_listing::hex_text::end_line;
 use pci_tree::bus::record_at;
-use pci_tree::region::Region;
 use std::alloc::{AllocError, Allocator};
 
 /// Appends the line of a bridge, as `bridge 00:01.0 on mem 00000000e0000000-00000000e00fffff vga`. Of another function
@@ -49,25 +51,22 @@ fn push_bridge_line<A: Allocator>(
     end_line(text)
 }
 
-/// The runs of addresses of a region that a bridge passes neither by a window nor by its legacy part.
+/// The runs of the addresses of a region that a bridge passes neither by a window nor by its legacy part.
 fn missed_by<A: Allocator + Copy>(
     alloc: A,
     given: &Given<'_>,
     function: &Record,
-    space: Space,
-    region: &Region,
+    kind: WindowKind,
+    addresses: &[Range],
 ) -> Result<Vec<Range, A>, OutOfMemory>
     // of an empty window no address could be told
-    requires { HasSpans function.now }
-    ensures { IfOk result (λ v. IsMissed (given_value given.now) function.now (space_of space)
-        region.now v.items) }
+    requires spans { HasSpans function.now }
+    requires canonical { IsCanonical addresses.now }
+    ensures { IfOk result (λ v. IsMissed (given_value given.now) function.now (kind_value kind)
+        addresses.now v.items) }
 {
-    let range = Range {
-        first: region.first,
-        last: region.last,
-    };
-    let passed = passed_with(alloc, given, function, space.kind(region.prefetch))?;
-    outside(alloc, range, passed.as_slice())
+    let passed = passed_with(alloc, given, function, kind)?;
+    without(alloc, addresses, passed.as_slice())
 }
 
 /// Appends what a region that isn't reached needs, and what of it a bridge on the way misses.
@@ -78,25 +77,29 @@ pub fn push_unreached<A: Allocator + Copy, B: Allocator>(
     name: RegionName,
     bridge: Slot,
 ) -> Result<(), OutOfMemory>
-    ensures { OnOk result (IsUnreachedTold (given_value judged.now.given.now) judged.now.outline.now
-        (record {
-          region = named_region name.slot name.reg;
+    // so that the addresses of each told range can be counted
+    requires { IsTold judged.now.told.now.ranges.now }
+    ensures { OnOk result (IsUnreachedTold (told_value judged.now.told.now)
+        (given_value judged.now.given.now) judged.now.outline.now (record {
+          region = named_region name.slot name.register;
           space = space_of name.space;
           bridge = bridge;
         })
         (string_bytes text.old) (string_bytes text.new)) }
 {
-    let RegionName { slot, reg, space } = name;
     let given = judged.given;
-    let Some(region) = region_at(alloc, judged.outline, slot, reg, space)? else {
+    let space = name.space;
+    let Some(region) = region_named(alloc, judged, name)? else {
         return Ok(());
     };
     let Some(function) = record_at(judged.outline.records(), bridge) else {
         return Ok(());
     };
-    let missed = missed_by(alloc, given, function, space, &region)?;
-    push_region_line(text, "needs", space, &region)?;
-    push_bridge_line(text, given, function, space, region.prefetch)?;
+    let prefetch = region.shown.is_prefetchable();
+    let kind = space.kind(prefetch);
+    let missed = missed_by(alloc, given, function, kind, &region.addresses)?;
+    push_shown(text, given, "needs", space, &region.shown)?;
+    push_bridge_line(text, given, function, space, prefetch)?;
     push_ranges(text, "missed", space, &missed)?;
     Ok(())
 }

@@ -1,5 +1,5 @@
 //! Where a region that isn't sent or reached, or is the second of two, would fit on its bus.
-ghost use Rattle.std.specs.Prelude.{◌≡◌, ◌≤◌, ◌^◌, ◌++◌, ◌&&◌, not, IfOk, IfSome, OnOk};
+ghost use Rattle.std.specs.Prelude.{◌≡◌, ◌<◌, ◌≤◌, ◌^◌, ◌++◌, ◌&&◌, not, IfOk, IfSome, OnOk};
 ghost use Rattle.std.specs.Option.{option_map};
 ghost use Rattle.std.specs.String.{string_bytes};
 ghost use Rattle.pci_spec.specs.Text.{IsDump};
@@ -7,17 +7,19 @@ ghost use Rattle.pci_spec.specs.Mark.{all_named};
 ghost use Rattle.pci_spec.specs.Bus.{is_root};
 ghost use Rattle.pci_spec.specs.Why.{place_end, fits_line};
 ghost use Rattle.pci_spec.specs.Fault.{named_region};
+ghost use Rattle.given_spec.specs.Told.{IsTold};
 ghost use Rattle.given_spec.specs.Why.{is_said};
 ghost use Rattle.pci_base.specs.Ranges.{decoded_range_of};
 ghost use Rattle.pci_base.specs.Space.{space_of, kind_in};
-ghost use Rattle.pci_claims.specs.Values.{given_value};
+ghost use Rattle.pci_claims.specs.Values.{given_value, told_value};
+ghost use Rattle.pci_claims.specs.ToldOn.{AreOnIn};
 ghost use Rattle.pci_why.specs.Fits.{IsFitIn, IsFitFor, IsFitTold};
 ghost use Rattle.pci_why.specs.Rooms.{IsRoomKept, AreRoomsKept};
 
 use super::free::free_in;
-use super::judged::{Judged, RegionName};
+use super::judged::{Judged, RegionName, TOLD_FROM};
 use super::place::least_from;
-use super::region_line::push_range_line;
+use super::region_line::{RegionPlace, push_range_line};
 use super::room::{Moving, Room, Rooms, make_ready};
 use super::wide::is_wide;
 use pci_base::memory::OutOfMemory;
@@ -85,43 +87,53 @@ fn fit_in<A: Allocator + Copy>(
 fn fit_by<A: Allocator + Copy>(
     alloc: A,
     kept: &mut Option<Room<A>>,
+    on: &[bool],
     judged: &Judged<'_, A>,
     moving: &Moving,
 ) -> Result<Option<Range>, OutOfMemory>
+    requires told { IsTold judged.now.told.now.ranges.now }
+    requires on { AreOnIn (told_value judged.now.told.now) judged.now.outline.now on.now }
     requires some { moving.now.region.first ≤ moving.now.region.last }
     // else it would be of another kind, or of other functions
-    requires kept { IsRoomKept (given_value judged.now.given.now) judged.now.outline.now
+    requires kept { IsRoomKept (told_value judged.now.told.now)
+        (given_value judged.now.given.now) judged.now.outline.now
         (kind_in (space_of moving.now.space) moving.now.region.prefetch) kept.old }
-    ensures kept { OnOk result (IsRoomKept (given_value judged.now.given.now) judged.now.outline.now
+    ensures kept { OnOk result (IsRoomKept (told_value judged.now.told.now)
+        (given_value judged.now.given.now) judged.now.outline.now
         (kind_in (space_of moving.now.space) moving.now.region.prefetch) kept.new) }
     ensures some { IfOk result (λ o. IfSome o (λ r. r.first ≤ r.last)) }
-    ensures exact { IfOk result (λ o. IsFitFor (given_value judged.now.given.now)
-        judged.now.outline.now (space_of moving.now.space) moving.now.region moving.now.wide o) }
+    ensures exact { IfOk result (λ o. IsFitFor (told_value judged.now.told.now)
+        (given_value judged.now.given.now) judged.now.outline.now (space_of moving.now.space)
+        moving.now.region moving.now.wide o) }
 {
-    make_ready(alloc, kept, judged, moving)?;
+    make_ready(alloc, kept, on, judged, moving)?;
     fit_in(alloc, kept, moving)
 }
 
 /// The same, by what was looked at last for the kind of access.
 fn fit_of<A: Allocator + Copy>(
     alloc: A,
-    rooms: &mut Rooms<A>,
+    rooms: &mut Rooms<'_, A>,
     judged: &Judged<'_, A>,
     moving: &Moving,
 ) -> Result<Option<Range>, OutOfMemory>
     requires some { moving.now.region.first ≤ moving.now.region.last }
-    requires kept { AreRoomsKept (given_value judged.now.given.now) judged.now.outline.now
-        rooms.old.io rooms.old.mem rooms.old.pref }
-    ensures kept { OnOk result (AreRoomsKept (given_value judged.now.given.now) judged.now.outline.now
-        rooms.new.io rooms.new.mem rooms.new.pref) }
+    requires kept { AreRoomsKept (told_value judged.now.told.now)
+        (given_value judged.now.given.now) judged.now.outline.now rooms.old.on.now rooms.old.io
+        rooms.old.mem rooms.old.pref }
+    ensures kept { OnOk result (AreRoomsKept (told_value judged.now.told.now)
+        (given_value judged.now.given.now) judged.now.outline.now rooms.new.on.now rooms.new.io
+        rooms.new.mem rooms.new.pref) }
     ensures some { IfOk result (λ o. IfSome o (λ r. r.first ≤ r.last)) }
-    ensures exact { IfOk result (λ o. IsFitFor (given_value judged.now.given.now)
-        judged.now.outline.now (space_of moving.now.space) moving.now.region moving.now.wide o) }
+    ensures exact { IfOk result (λ o. IsFitFor (told_value judged.now.told.now)
+        (given_value judged.now.given.now) judged.now.outline.now (space_of moving.now.space)
+        moving.now.region moving.now.wide o) }
 {
+    let on = rooms.on;
     match moving.space.kind(moving.region.prefetch) {
-        WindowKind::Io => fit_by(alloc, &mut rooms.io, judged, moving),
-        WindowKind::Memory => fit_by(alloc, &mut rooms.mem, judged, moving),
-        WindowKind::Prefetchable => fit_by(alloc, &mut rooms.pref, judged, moving),
+        WindowKind::Io => fit_by(alloc, &mut rooms.io, on, judged, moving),
+        WindowKind::Memory => fit_by(alloc, &mut rooms.mem, on, judged, moving),
+        WindowKind::Prefetchable => fit_by(alloc, &mut rooms.pref, on, judged, moving),
     }
 }
 
@@ -142,31 +154,30 @@ fn push_fit<A: Allocator>(
     }
 }
 
-/// Appends where the region that is named would fit: the least range of its size whose first address is a multiple of
-/// that, below 4 GB where it is no BAR of 64 bits (of I/O below 64 KB), to which accesses start on the root bus above,
-/// that each bridge on the way passes, and that no other region claims which can clash with it. Where the read back of
-/// the register is assumed, as the titles of the probe's blocks tell it, that isn't known: `fits unknown`. There is no
-/// such line of a window, since what is behind its bridge would have to move with it, nor of a legacy part, which can't
-/// be moved, and none on a root bus to which all of the space is sent.
-pub fn push_fits<A: Allocator + Copy, B: Allocator>(
+/// Appends where the region of a function at a register would fit.
+fn push_own_fits<A: Allocator + Copy, B: Allocator>(
     alloc: A,
     text: &mut String<B>,
-    rooms: &mut Rooms<A>,
+    rooms: &mut Rooms<'_, A>,
     judged: &Judged<'_, A>,
-    name: RegionName,
+    place: RegionPlace,
 ) -> Result<(), OutOfMemory>
     // its slots rise, so a block is found by halving
     requires rising { IsDump judged.now.probe.now }
-    requires kept { AreRoomsKept (given_value judged.now.given.now) judged.now.outline.now
-        rooms.old.io rooms.old.mem rooms.old.pref }
-    ensures kept { OnOk result (AreRoomsKept (given_value judged.now.given.now) judged.now.outline.now
-        rooms.new.io rooms.new.mem rooms.new.pref) }
+    // those from here on name told ranges
+    requires low { place.reg < 256 }
+    requires kept { AreRoomsKept (told_value judged.now.told.now)
+        (given_value judged.now.given.now) judged.now.outline.now rooms.old.on.now rooms.old.io
+        rooms.old.mem rooms.old.pref }
+    ensures kept { OnOk result (AreRoomsKept (told_value judged.now.told.now)
+        (given_value judged.now.given.now) judged.now.outline.now rooms.new.on.now rooms.new.io
+        rooms.new.mem rooms.new.pref) }
     ensures told { OnOk result (IsFitTold (all_named judged.now.probe.now)
-        (given_value judged.now.given.now) judged.now.outline.now
-        (named_region name.slot name.reg) (space_of name.space)
+        (told_value judged.now.told.now) (given_value judged.now.given.now) judged.now.outline.now
+        (named_region place.slot place.reg) (space_of place.space)
         (string_bytes text.old) (string_bytes text.new)) }
 {
-    let RegionName { slot, reg, space } = name;
+    let RegionPlace { slot, reg, space } = place;
     let Some(region) = region_at(alloc, judged.outline, slot, reg, space)? else {
         return Ok(());
     };
@@ -192,4 +203,41 @@ pub fn push_fits<A: Allocator + Copy, B: Allocator>(
     let fit = fit_of(alloc, rooms, judged, &moving)?;
     push_fit(text, space, fit)?;
     Ok(())
+}
+
+/// Appends where the region that is named would fit: the least range of its size whose first address is a multiple of
+/// that, below 4 GB where it is no BAR of 64 bits (of I/O below 64 KB), to which accesses start on the root bus above,
+/// that each bridge on the way passes, and that no other region claims which can clash with it. Where the read back of
+/// the register is assumed, as the titles of the probe's blocks tell it, that isn't known: `fits unknown`. There is no
+/// such line of a window, since what is behind its bridge would have to move with it, nor of a legacy part or a told range,
+/// which can't be moved, and none on a root bus to which all of the space is sent.
+pub fn push_fits<A: Allocator + Copy, B: Allocator>(
+    alloc: A,
+    text: &mut String<B>,
+    rooms: &mut Rooms<'_, A>,
+    judged: &Judged<'_, A>,
+    name: RegionName,
+) -> Result<(), OutOfMemory>
+    // its slots rise, so a block is found by halving
+    requires rising { IsDump judged.now.probe.now }
+    requires kept { AreRoomsKept (told_value judged.now.told.now)
+        (given_value judged.now.given.now) judged.now.outline.now rooms.old.on.now rooms.old.io
+        rooms.old.mem rooms.old.pref }
+    ensures kept { OnOk result (AreRoomsKept (told_value judged.now.told.now)
+        (given_value judged.now.given.now) judged.now.outline.now rooms.new.on.now rooms.new.io
+        rooms.new.mem rooms.new.pref) }
+    ensures told { OnOk result (IsFitTold (all_named judged.now.probe.now)
+        (told_value judged.now.told.now) (given_value judged.now.given.now) judged.now.outline.now
+        (named_region name.slot name.register) (space_of name.space)
+        (string_bytes text.old) (string_bytes text.new)) }
+{
+    if name.register >= TOLD_FROM {
+        return Ok(());
+    }
+    let place = RegionPlace {
+        slot: name.slot,
+        reg: name.register as u8,
+        space: name.space,
+    };
+    push_own_fits(alloc, text, rooms, judged, place)
 }

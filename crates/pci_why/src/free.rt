@@ -1,8 +1,8 @@
 //! What is free for a region that would move: the addresses that get to its bus, and that no other region claims.
-ghost use Rattle.std.specs.Prelude.{◌↔◌, IsTrue, IfOk};
+ghost use Rattle.std.specs.Prelude.{◌≡◌, ◌↔◌, IsTrue, IfOk};
 ghost use Rattle.pci_base.specs.Space.{space_of};
 ghost use Rattle.pci_tree.specs.Ranges.{IsCanonical};
-ghost use Rattle.pci_why.specs.Free.{IsOther, AreOfOthers};
+ghost use Rattle.pci_why.specs.Free.{may_stand_at, IsOther, AreOfOthers};
 ghost use Rattle.pci_why.specs.Fits.{AreFreeIn};
 
 use super::missed::outside;
@@ -14,12 +14,20 @@ use pci_claims::claim::{Claim, is_same, may_share};
 use pci_claims::gather::{common, gathered};
 use std::alloc::Allocator;
 
-/// Whether a claim is of another region than the one that is named, and may not share an address with it.
+/// Whether a region of a function may share an address with the region of a claim.
+fn may_both<A: Allocator>(claim: &Claim<A>, slot: Slot, register: u16) -> bool
+    ensures { result ≡ may_stand_at slot register claim.now }
+{
+    may_share(slot, register, claim.slot(), claim.register())
+        || (claim.is_held() && claim.slot() == slot)
+}
+
+/// Whether a claim is of another region than the one of a function that is named, and may not share an address with it.
 fn is_other<A: Allocator>(claim: &Claim<A>, slot: Slot, reg: u8) -> bool
     ensures { IsTrue result ↔ IsOther slot reg claim.now }
 {
-    !is_same(claim.slot(), claim.reg(), slot, reg)
-        && !may_share(slot, reg, claim.slot(), claim.reg())
+    let register = u16::from(reg);
+    !is_same(claim.slot(), claim.register(), slot, register) && !may_both(claim, slot, register)
 }
 
 /// What others answer than the region that is named.

@@ -5,18 +5,18 @@ ghost use Rattle.pci_spec.specs.Listing.{range_text};
 ghost use Rattle.pci_spec.specs.Fault.{named_region};
 ghost use Rattle.pci_base.specs.Ranges.{decoded_range_of};
 ghost use Rattle.pci_base.specs.Space.{space_of};
+ghost use Rattle.given_spec.specs.Told.{IsTold};
 ghost use Rattle.given_spec.specs.Why.{ranges_for, ranges_words, host_line};
-ghost use Rattle.pci_claims.specs.Values.{host_value, given_value};
+ghost use Rattle.pci_claims.specs.Values.{host_value, given_value, told_value};
 ghost use Rattle.pci_why.specs.Lines.{spaced};
 ghost use Rattle.pci_why.specs.Hosts.{IsRootAbove, IsNowhere, IsOutsideTold};
 
 use super::judged::{Judged, RegionName};
-use super::region_line::push_region_line;
+use super::named::{push_shown, region_named};
 use pci_base::memory::OutOfMemory;
 use pci_base::range::{Range, RootRange};
 use pci_base::slot::Slot;
 use pci_base::space::Space;
-use pci_claims::find::region_at;
 use pci_claims::outside::root_above;
 use pci_claims::sent::{is_for, ranges_said};
 use pci_listing::hex_text::end_line;
@@ -105,12 +105,15 @@ pub fn push_outside<A: Allocator + Copy, B: Allocator>(
     judged: &Judged<'_, A>,
     name: RegionName,
 ) -> Result<(), OutOfMemory>
-    ensures { OnOk result (IsOutsideTold (given_value judged.now.given.now) judged.now.outline.now
-        (named_region name.slot name.reg) (space_of name.space)
+    // so that the addresses of each told range can be counted
+    requires { IsTold judged.now.told.now.ranges.now }
+    ensures { OnOk result (IsOutsideTold (told_value judged.now.told.now)
+        (given_value judged.now.given.now) judged.now.outline.now
+        (named_region name.slot name.register) (space_of name.space)
         (string_bytes text.old) (string_bytes text.new)) }
 {
-    let RegionName { slot, reg, space } = name;
-    let Some(region) = region_at(alloc, judged.outline, slot, reg, space)? else {
+    let (slot, space) = (name.slot, name.space);
+    let Some(region) = region_named(alloc, judged, name)? else {
         return Ok(());
     };
     let Some(root) = root_of(judged.outline, slot) else {
@@ -120,7 +123,7 @@ pub fn push_outside<A: Allocator + Copy, B: Allocator>(
         return Ok(());
     };
     let ranges = ranges_for(alloc, said, root)?;
-    push_region_line(text, "needs", space, &region)?;
+    push_shown(text, judged.given, "needs", space, &region.shown)?;
     push_host(text, space, &ranges)?;
     Ok(())
 }

@@ -1,10 +1,10 @@
-//! What stands behind a fault of judging with what is given beside a system, which BARs are off, and the text of a list of
-//! all faults with reasons.
+//! What stands behind a fault of judging with what is given and told beside a system, which BARs and told ranges are off, and
+//! the text of a list of all faults with reasons.
 //!
 //! ```text
 //! push_why(alloc, &mut text, &mut rooms, &judged, &fault)?; // `needs`, `bridge`, `missed`, `host`; `first`, `second`, `shared`; `fits`
-//! push_off(&mut text, &outline)?; // a line for each BAR of a space that its function's Command doesn't enable
-//! reasoned_text(alloc, &judged, &faults)?; // all faults of judging, each with its lines, and the BARs that are off
+//! push_off(&mut text, &outline, &told, &on)?; // a line for each BAR and each told range that is off
+//! reasoned_text(alloc, &judged, &faults)?; // all faults of judging, each with its lines, and what is off
 //! ```
 #![tactic(auto)]
 
@@ -23,6 +23,8 @@ pub mod off;
 pub mod place;
 pub mod region_line;
 pub mod room;
+mod told_at;
+mod told_line;
 pub mod two;
 pub mod why;
 pub mod wide;

@@ -1,15 +1,18 @@
-//! The region that a slot and a register name, with what is given.
-ghost use Rattle.std.specs.Prelude.{◌≡◌, ◌≢◌, ◌++◌, IfOk, IfSome, MatchOption, OnOk};
+//! The region that a slot and a register name, with what is given and told.
+ghost use Rattle.std.specs.Prelude.{◌≡◌, ◌≢◌, ◌<◌, ◌≤◌, ◌++◌, IfOk, IfSome, MatchOption, OnOk};
 ghost use Rattle.std.specs.String.{string_bytes};
 ghost use Rattle.pci_spec.specs.Fault.{named_region};
+ghost use Rattle.given_spec.specs.Told.{IsTold};
 ghost use Rattle.pci_base.specs.Space.{space_of};
 ghost use Rattle.pci_tree.specs.Ranges.{IsCanonical};
-ghost use Rattle.pci_claims.specs.Values.{given_value};
-ghost use Rattle.pci_why.specs.Named.{shown_line, HasOwnAddress, IsNamedInEach, NoneNamed};
+ghost use Rattle.pci_claims.specs.Values.{given_value, told_value};
+ghost use Rattle.pci_why.specs.Named.{shown_line, is_shown_prefetchable, HasOwnAddress, IsNamedInEach, NoneNamed};
 
-use super::judged::{Judged, RegionName};
+use super::judged::{Judged, RegionName, TOLD_FROM};
 use super::legacy::{is_narrow, push_legacy_line};
 use super::region_line::push_given_line;
+use super::told_at::told_at;
+use super::told_line::push_told_line;
 use pci_base::memory::OutOfMemory;
 use pci_base::offset::BRIDGE_CONTROL;
 use pci_base::range::Range;
@@ -18,13 +21,14 @@ use pci_base::space::Space;
 use pci_claims::claim::{legacy_of, own};
 use pci_claims::find::region_at;
 use pci_claims::given::Given;
+use pci_told::told_range::ToldRange;
 use pci_tree::bus::record_at;
 use pci_tree::region::Region;
 use std::alloc::{AllocError, Allocator, Global};
 
 /// What a line shows of a region.
-#[derive(Clone, Copy, Debug, PartialEq, Eq)]
-pub enum Shown {
+#[derive(Clone, Copy, Debug)]
+pub enum Shown<'a> {
     /// A BAR, a ROM or a window.
     Own(Region),
     /// The legacy part of a bridge.
@@ -33,30 +37,50 @@ pub enum Shown {
         /// Whether it decodes 10 bits of I/O addresses.
         is_narrow: bool,
     },
+    /// A told range.
+    OfLine {
+        /// 255 + n, where it is that of line n.
+        register: u16,
+        range: &'a ToldRange,
+    },
+}
+
+impl Shown<'_> {
+    /// Whether it is prefetchable, as a BAR can be.
+    pub fn is_prefetchable(&self) -> bool
+        ensures { result ≡ is_shown_prefetchable self.now }
+    {
+        match self {
+            Shown::Own(region) => region.prefetch,
+            Shown::Legacy { .. } => false,
+            Shown::OfLine { range, .. } => range.prefetchable,
+        }
+    }
 }
 
 /// A region that claims an address of a space.
 #[derive(Drop)]
-pub struct Named<A: Allocator = Global> {
-    pub shown: Shown,
+pub struct Named<'a, A: Allocator = Global> {
+    pub shown: Shown<'a>,
     /// What it claims: ranges that rise, with an address between each two.
     pub addresses: Vec<Range, A>,
 }
 
 /// The legacy part of the bridge at a slot, where it claims an address.
-fn legacy_named<A: Allocator + Copy>(
+fn legacy_named<'a, A: Allocator + Copy>(
     alloc: A,
-    judged: &Judged<'_, A>,
+    judged: &Judged<'a, A>,
     slot: Slot,
     space: Space,
-) -> Result<Option<Named<A>>, OutOfMemory>
+) -> Result<Option<Named<'a, A>>, OutOfMemory>
     ensures canonical { IfOk result (λ o. IfSome o (λ n. IsCanonical n.addresses.items)) }
     ensures some { IfOk result (λ o. IfSome o (λ n. HasOwnAddress n.shown)) }
     ensures exact { IfOk result (λ o. MatchOption o
-        (NoneNamed (given_value judged.now.given.now) judged.now.outline.now slot BRIDGE_CONTROL
-        (space_of space))
-        (λ n. IsNamedInEach (given_value judged.now.given.now) judged.now.outline.now
-        (named_region slot BRIDGE_CONTROL) (space_of space) n.shown n.addresses.items)) }
+        (NoneNamed (told_value judged.now.told.now) (given_value judged.now.given.now)
+        judged.now.outline.now slot BRIDGE_CONTROL (space_of space))
+        (λ n. IsNamedInEach (told_value judged.now.told.now) (given_value judged.now.given.now)
+        judged.now.outline.now (named_region slot BRIDGE_CONTROL) (space_of space) n.shown
+        n.addresses.items)) }
 {
     let Some(function) = record_at(judged.outline.records(), slot) else {
         return Ok(None);
@@ -73,52 +97,94 @@ fn legacy_named<A: Allocator + Copy>(
 }
 
 /// The BAR, the ROM or the window of a slot and a register, where it claims an address.
-fn own_named<A: Allocator + Copy>(
+fn own_named<'a, A: Allocator + Copy>(
     alloc: A,
-    judged: &Judged<'_, A>,
-    name: RegionName,
-) -> Result<Option<Named<A>>, OutOfMemory>
+    judged: &Judged<'a, A>,
+    slot: Slot,
+    reg: u8,
+    space: Space,
+) -> Result<Option<Named<'a, A>>, OutOfMemory>
     // which names a legacy part
-    requires { name.reg ≢ BRIDGE_CONTROL }
+    requires other { reg ≢ BRIDGE_CONTROL }
+    // those from here on name told ranges
+    requires low { reg < 256 }
     ensures canonical { IfOk result (λ o. IfSome o (λ n. IsCanonical n.addresses.items)) }
     ensures some { IfOk result (λ o. IfSome o (λ n. HasOwnAddress n.shown)) }
     ensures exact { IfOk result (λ o. MatchOption o
-        (NoneNamed (given_value judged.now.given.now) judged.now.outline.now name.slot name.reg
-        (space_of name.space))
-        (λ n. IsNamedInEach (given_value judged.now.given.now) judged.now.outline.now
-        (named_region name.slot name.reg) (space_of name.space) n.shown n.addresses.items)) }
+        (NoneNamed (told_value judged.now.told.now) (given_value judged.now.given.now)
+        judged.now.outline.now slot reg (space_of space))
+        (λ n. IsNamedInEach (told_value judged.now.told.now) (given_value judged.now.given.now)
+        judged.now.outline.now (named_region slot reg) (space_of space) n.shown n.addresses.items)) }
 {
-    let Some(region) = region_at(alloc, judged.outline, name.slot, name.reg, name.space)? else {
+    let Some(region) = region_at(alloc, judged.outline, slot, reg, space)? else {
         return Ok(None);
     };
-    let addresses = own(alloc, judged.given, &region, name.space)?;
+    let addresses = own(alloc, judged.given, &region, space)?;
     Ok(Some(Named {
         shown: Shown::Own(region),
         addresses,
     }))
 }
 
-/// The region of a space that a slot and a register name, where there is one that claims an address: Bridge Control names
-/// the legacy part of a bridge.
-pub fn region_named<A: Allocator + Copy>(
+/// The told range of a slot and a register. One that is off claims no address.
+fn told_named<'a, A: Allocator + Copy>(
     alloc: A,
-    judged: &Judged<'_, A>,
+    judged: &Judged<'a, A>,
     name: RegionName,
-) -> Result<Option<Named<A>>, OutOfMemory>
+) -> Result<Option<Named<'a, A>>, OutOfMemory>
+    requires told { IsTold judged.now.told.now.ranges.now }
+    // those below name regions that registers show
+    requires high { 256 ≤ name.register }
+    ensures canonical { IfOk result (λ o. IfSome o (λ n. IsCanonical n.addresses.items)) }
+    ensures some { IfOk result (λ o. IfSome o (λ n. HasOwnAddress n.shown)) }
+    ensures exact { IfOk result (λ o. MatchOption o
+        (NoneNamed (told_value judged.now.told.now) (given_value judged.now.given.now)
+        judged.now.outline.now name.slot name.register (space_of name.space))
+        (λ n. IsNamedInEach (told_value judged.now.told.now) (given_value judged.now.given.now)
+        judged.now.outline.now (named_region name.slot name.register) (space_of name.space) n.shown
+        n.addresses.items)) }
+{
+    let register = name.register;
+    let Some(range) = told_at(judged.told, name) else {
+        return Ok(None);
+    };
+    let mut addresses = Vec::new(alloc);
+    addresses.push(Range {
+        first: range.first,
+        last: range.last,
+    })?;
+    let shown = Shown::OfLine { register, range };
+    Ok(Some(Named { shown, addresses }))
+}
+
+/// The region of a space that a slot and a register name, where there is one that claims an address: Bridge Control names
+/// the legacy part of a bridge, and registers from 256 on name told ranges.
+pub fn region_named<'a, A: Allocator + Copy>(
+    alloc: A,
+    judged: &Judged<'a, A>,
+    name: RegionName,
+) -> Result<Option<Named<'a, A>>, OutOfMemory>
+    // so that the addresses of each told range can be counted
+    requires { IsTold judged.now.told.now.ranges.now }
     // what two of them have in common is found range by range
     ensures canonical { IfOk result (λ o. IfSome o (λ n. IsCanonical n.addresses.items)) }
     // so that they can be counted
     ensures some { IfOk result (λ o. IfSome o (λ n. HasOwnAddress n.shown)) }
     ensures exact { IfOk result (λ o. MatchOption o
-        (NoneNamed (given_value judged.now.given.now) judged.now.outline.now name.slot name.reg
-        (space_of name.space))
-        (λ n. IsNamedInEach (given_value judged.now.given.now) judged.now.outline.now
-        (named_region name.slot name.reg) (space_of name.space) n.shown n.addresses.items)) }
+        (NoneNamed (told_value judged.now.told.now) (given_value judged.now.given.now)
+        judged.now.outline.now name.slot name.register (space_of name.space))
+        (λ n. IsNamedInEach (told_value judged.now.told.now) (given_value judged.now.given.now)
+        judged.now.outline.now (named_region name.slot name.register) (space_of name.space) n.shown
+        n.addresses.items)) }
 {
-    if name.reg == BRIDGE_CONTROL {
+    if name.register >= TOLD_FROM {
+        return told_named(alloc, judged, name);
+    }
+    let reg = name.register as u8;
+    if reg == BRIDGE_CONTROL {
         legacy_named(alloc, judged, name.slot, name.space)
     } else {
-        own_named(alloc, judged, name)
+        own_named(alloc, judged, name.slot, reg, name.space)
     }
 }
 
@@ -128,7 +194,7 @@ pub fn push_shown<A: Allocator>(
     given: &Given<'_>,
     word: &'static str,
     space: Space,
-    shown: &Shown,
+    shown: &Shown<'_>,
 ) -> Result<(), AllocError>
     // the line tells how many addresses the region has
     requires { HasOwnAddress shown.now }
@@ -139,5 +205,6 @@ pub fn push_shown<A: Allocator>(
     match shown {
         Shown::Own(region) => push_given_line(text, given, word, space, region),
         Shown::Legacy { slot, is_narrow } => push_legacy_line(text, word, *slot, *is_narrow, space),
+        Shown::OfLine { register, range } => push_told_line(text, word, *register, range),
     }
 }

@@ -1,22 +1,31 @@
-//! The BARs that are off: implemented, of a space that their function's Command doesn't enable.
-ghost use Rattle.std.specs.Prelude.{◌≡◌, ◌≤◌, ◌++◌, map, OnOk};
-ghost use Rattle.std.specs.List.{All, flat_map};
+//! The BARs and told ranges that are off: implemented BARs of a space that their function's Command doesn't enable, and told
+//! ranges that their mark, Command or power leaves off.
+ghost use Rattle.std.specs.Prelude.{◌≡◌, ◌<◌, ◌≤◌, ◌++◌, length, map, OnOk};
+ghost use Rattle.std.specs.List.{All, AllWithin};
 ghost use Rattle.std.specs.String.{string_bytes};
+ghost use Rattle.pci_spec.specs.Slot.{Slot as SlotValue, slot_number};
 ghost use Rattle.pci_spec.specs.System.{System};
-ghost use Rattle.pci_spec.specs.Decoded.{HasRecords};
-ghost use Rattle.pci_spec.specs.Why.{off_line, off_lines};
+ghost use Rattle.pci_spec.specs.Why.{off_line};
+ghost use Rattle.given_spec.specs.Told.{IsTold, IsToldRange};
+ghost use Rattle.given_spec.specs.Why.{range_off_line, all_off_lines};
 ghost use Rattle.pci_image.specs.Bars.{decoded_bar_of};
 ghost use Rattle.pci_function.specs.Values.{record_value};
 ghost use Rattle.pci_tree.specs.Regions.{IsLawful};
-ghost use Rattle.pci_why.specs.Off.{off_text, off_of_bars, off_of_record};
+ghost use Rattle.pci_tree.specs.Trees.{HasTree};
+ghost use Rattle.pci_claims.specs.Values.{told_value};
+ghost use Rattle.pci_claims.specs.ToldOn.{AreOnIn};
+ghost use Rattle.pci_why.specs.Off.{off_text, off_of_bars, IsStretchAt, AreRangesOffTold, AreOffTold};
 
-use super::judged::RegionName;
-use super::region_line::{bar_name, push_place};
+use super::region_line::{RegionPlace, bar_name, push_place};
+use super::told_line::push_told;
 use pci_base::memory::OutOfMemory;
 use pci_base::range::Range;
 use pci_base::slot::Slot;
+use pci_claims::all_claims::Stretch;
+use pci_claims::told::Told;
 use pci_function::record::Record;
 use pci_image::bar::Bar;
+use pci_told::told_range::ToldRange;
 use pci_tree::outline::Outline;
 use std::alloc::{AllocError, Allocator};
 
@@ -31,13 +40,13 @@ fn push_line<A: Allocator>(text: &mut String<A>, slot: Slot, bar: Bar) -> Result
         first: bar.first,
         last: bar.last,
     };
-    let name = RegionName {
+    let place = RegionPlace {
         slot,
         reg: bar.reg,
         space,
     };
     text.push_str("off")?;
-    push_place(text, name, bar_name(space, bar.prefetch), range, "\n")
+    push_place(text, place, bar_name(space, bar.prefetch), range, "\n")
 }
 
 /// Appends the line of a BAR, where Command doesn't enable its space.
@@ -74,32 +83,119 @@ fn push_bars<A: Allocator>(
     Ok(())
 }
 
+/// The index of the first told range of a slot with this number or a higher one.
+fn first_from(ranges: &[ToldRange], number: u32) -> usize
+    // they stand by slot, so it is found by halving
+    requires { IsTold ranges.now }
+    ensures bound { result ≤ length ranges.now }
+    ensures before { AllWithin (λ r. slot_number r.slot < number) ranges.now 0 result }
+    ensures after { AllWithin (λ r. number ≤ slot_number r.slot) ranges.now result (length ranges.now) }
+{
+    ranges.partition_point(|range| u32::from(range.slot.number()) < number)
+}
+
+/// Appends the line of a told range that is off, as
+/// `off 01:02.0 +2 told mem 00000000e0080000-00000000e0080fff 4K ea0`.
+fn push_range<A: Allocator>(
+    text: &mut String<A>,
+    register: u16,
+    range: &ToldRange,
+) -> Result<(), AllocError>
+    requires { IsToldRange range.now }
+    ensures { OnOk result (string_bytes text.new ≡ string_bytes text.old
+        ++ range_off_line record { register = register; told = range.now }) }
+{
+    text.push_str("off")?;
+    push_told(text, register, range)
+}
+
+/// The told ranges of the function at a slot.
+fn ranges_at(ranges: &[ToldRange], slot: Slot) -> Stretch
+    // they stand by slot, so those of one stand in a row
+    requires { IsTold ranges.now }
+    ensures { IsStretchAt ranges.now slot result }
+{
+    let number = u32::from(slot.number());
+    let first = first_from(ranges, number);
+    let end = first_from(ranges, number + 1);
+    Stretch { first, end }
+}
+
+/// Appends the lines of the told ranges of a function that are off.
+fn push_stretch<A: Allocator>(
+    text: &mut String<A>,
+    ranges: &[ToldRange],
+    on: &[bool],
+    stretch: Stretch,
+) -> Result<(), AllocError>
+    requires told { IsTold ranges.now }
+    requires on { length on.now ≡ length ranges.now }
+    requires low { stretch.first ≤ stretch.end }
+    requires high { stretch.end ≤ length ranges.now }
+    ensures { OnOk result ((slot : SlotValue) → IsStretchAt ranges.now slot stretch
+        → AreRangesOffTold ranges.now on.now slot (string_bytes text.old) (string_bytes text.new)) }
+{
+    for i in stretch.first..stretch.end {
+        if !on[i] {
+            push_range(text, 256 + i as u16, &ranges[i])?;
+        }
+    }
+    Ok(())
+}
+
+/// The same of the function at a slot.
+fn push_ranges<A: Allocator>(
+    text: &mut String<A>,
+    ranges: &[ToldRange],
+    on: &[bool],
+    slot: Slot,
+) -> Result<(), AllocError>
+    requires told { IsTold ranges.now }
+    requires on { length on.now ≡ length ranges.now }
+    ensures { OnOk result (AreRangesOffTold ranges.now on.now slot
+        (string_bytes text.old) (string_bytes text.new)) }
+{
+    if ranges.is_empty() {
+        return Ok(());
+    }
+    push_stretch(text, ranges, on, ranges_at(ranges, slot))
+}
+
 /// Appends the lines of some functions.
-fn push_records<A: Allocator>(text: &mut String<A>, records: &[Record]) -> Result<(), AllocError>
-    requires { All IsLawful records.now }
-    ensures { OnOk result (string_bytes text.new
-        ≡ string_bytes text.old ++ flat_map off_of_record (map record_value records.now)) }
+fn push_records<A: Allocator>(
+    text: &mut String<A>,
+    records: &[Record],
+    ranges: &[ToldRange],
+    on: &[bool],
+) -> Result<(), AllocError>
+    requires lawful { All IsLawful records.now }
+    requires told { IsTold ranges.now }
+    requires on { length on.now ≡ length ranges.now }
+    ensures { OnOk result (AreOffTold ranges.now on.now (map record_value records.now)
+        (string_bytes text.old) (string_bytes text.new)) }
 {
     for function in records {
-        push_bars(
-            text,
-            function.slot,
-            function.command,
-            function.bars.as_slice(),
-        )?;
+        let slot = function.slot;
+        push_bars(text, slot, function.command, function.bars.as_slice())?;
+        push_ranges(text, ranges, on, slot)?;
     }
     Ok(())
 }
 
 /// Appends a line for each implemented BAR of an outline whose space its function's Command doesn't enable, by slot and
-/// register.
+/// register, and behind those of a function one for each told range of its slot that is off.
 pub fn push_off<A: Allocator, B: Allocator>(
     text: &mut String<A>,
     outline: &Outline<B>,
+    told: &Told<'_>,
+    on: &[bool],
 ) -> Result<(), OutOfMemory>
-    ensures { OnOk result ((s : System) → HasRecords s outline.now.records
-        → string_bytes text.new ≡ string_bytes text.old ++ off_lines s) }
+    // they are read of a text
+    requires told { IsTold told.now.ranges.now }
+    requires on { AreOnIn (told_value told.now) outline.now on.now }
+    ensures { OnOk result ((s : System) → HasTree outline.now s
+        → string_bytes text.new ≡ string_bytes text.old ++ all_off_lines (told_value told.now) s) }
 {
-    push_records(text, outline.records())?;
+    push_records(text, outline.records(), told.ranges, on)?;
     Ok(())
 }

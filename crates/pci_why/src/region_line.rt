@@ -4,15 +4,15 @@ ghost use Rattle.std.specs.String.{string_bytes};
 ghost use Rattle.pci_spec.specs.Why.{extent_words, place_words, range_line};
 ghost use Rattle.pci_base.specs.Ranges.{decoded_range_of};
 ghost use Rattle.pci_base.specs.Space.{space_of};
-ghost use Rattle.pci_why.specs.RegionLines.{bar_words, window_at, part_words, line_of, line_ended, isa_words_at, given_line_of};
+ghost use Rattle.pci_why.specs.RegionLines.{bar_words, window_at, part_words, line_ended, isa_words_at, given_line_of};
 ghost use Rattle.pci_spec.specs.Listing.{words};
 ghost use Rattle.pci_claims.specs.Values.{given_value};
 ghost use Rattle.pci_why.specs.Lines.{ended};
 
 use super::isa::window_end;
-use super::judged::RegionName;
 use pci_base::offset::{IO_BASE, MEMORY_BASE};
 use pci_base::range::Range;
+use pci_base::slot::Slot;
 use pci_base::space::Space;
 use pci_claims::given::Given;
 use pci_listing::amount::push_amount;
@@ -20,6 +20,15 @@ use pci_listing::hex_text::{push_byte, push_slot};
 use pci_listing::listing::span::Span;
 use pci_tree::region::{Part, Region};
 use std::alloc::{AllocError, Allocator};
+
+/// Where a region of a function stands.
+#[derive(Clone, Copy, Debug, PartialEq, Eq)]
+pub struct RegionPlace {
+    pub slot: Slot,
+    /// The byte offset of its register.
+    pub reg: u8,
+    pub space: Space,
+}
 
 /// What a BAR is of.
 pub fn bar_name(space: Space, prefetch: bool) -> &'static str
@@ -78,7 +87,7 @@ pub fn push_extent<A: Allocator>(
 /// Appends a region by its slot, its register and what it is, with its addresses, and what ends the line.
 pub fn push_place<A: Allocator>(
     text: &mut String<A>,
-    name: RegionName,
+    place: RegionPlace,
     part: &'static str,
     range: Range,
     end: &'static str,
@@ -86,16 +95,16 @@ pub fn push_place<A: Allocator>(
     // the line tells how many addresses the range has
     requires { range.first ≤ range.last }
     ensures { OnOk result (string_bytes text.new ≡ string_bytes text.old
-        ++ ended (place_words name.slot name.reg part.now (space_of name.space) (decoded_range_of range))
+        ++ ended (place_words place.slot place.reg part.now (space_of place.space) (decoded_range_of range))
         end.now) }
 {
     text.push_str(" ")?;
-    push_slot(text, name.slot)?;
+    push_slot(text, place.slot)?;
     text.push_str(" ")?;
-    push_byte(text, name.reg)?;
+    push_byte(text, place.reg)?;
     text.push_str(" ")?;
     text.push_str(part)?;
-    push_extent(text, name.space, range, end)
+    push_extent(text, place.space, range, end)
 }
 
 /// Appends the line of a range, as `missed 00000000e0100000-00000000e01fffff 1M`.
@@ -132,7 +141,7 @@ fn push_region_ended<A: Allocator>(
         first: region.first,
         last: region.last,
     };
-    let name = RegionName {
+    let place = RegionPlace {
         slot: region.slot,
         reg: region.reg,
         space,
@@ -140,22 +149,7 @@ fn push_region_ended<A: Allocator>(
     text.push_str("  ")?;
     text.push_str(word)?;
     let part = part_name(region, space);
-    push_place(text, name, part, range, end)
-}
-
-/// Appends the line of a region, as `needs 01:00.0 10 bar mem 00000000e0000000-00000000e0000fff 4K`.
-pub fn push_region_line<A: Allocator>(
-    text: &mut String<A>,
-    word: &'static str,
-    space: Space,
-    region: &Region,
-) -> Result<(), AllocError>
-    // the line tells how many addresses the region has
-    requires { region.now.first ≤ region.now.last }
-    ensures { OnOk result (string_bytes text.new
-        ≡ string_bytes text.old ++ line_of word.now (space_of space) region.now) }
-{
-    push_region_ended(text, word, space, region, "\n")
+    push_place(text, place, part, range, end)
 }
 
 /// What ends the line of a region: ` isa` stands behind the I/O window of a bridge with ISA Enable.

@@ -2,9 +2,13 @@
 //! a list of faults.
 ghost use Rattle.std.specs.Prelude.{◌≡◌, ◌↔◌, IsTrue, IfOk, OnOk, MatchOption};
 ghost use Rattle.given_spec.specs.Given.{Given as GivenValue};
+ghost use Rattle.given_spec.specs.Told.{IsTold};
+ghost use Rattle.given_spec.specs.ToldClaims.{Told as ToldValue};
 ghost use Rattle.pci_base.specs.Space.{space_of, kind_in};
 ghost use Rattle.pci_tree.specs.Outline.{Tree};
-ghost use Rattle.pci_claims.specs.Values.{given_value};
+ghost use Rattle.pci_claims.specs.Values.{given_value, told_value};
+ghost use Rattle.pci_claims.specs.AllClaims.{IsBoard};
+ghost use Rattle.pci_claims.specs.ToldOn.{AreOnIn};
 ghost use Rattle.pci_why.specs.Free.{AreClaimsBesideInEach};
 ghost use Rattle.pci_why.specs.Rooms.{IsRoomKept, AreRoomsKept, IsRoomFor};
 
@@ -12,12 +16,11 @@ use super::judged::Judged;
 use pci_base::memory::OutOfMemory;
 use pci_base::range::Range;
 use pci_base::space::Space;
-use pci_claims::bus_claims::claims_on;
+use pci_claims::all_claims::claims_among;
+use pci_claims::board::Board;
 use pci_claims::claim::Claim;
-use pci_claims::given::Given;
 use pci_claims::reach::reach_of;
 use pci_claims::root_claims::claims_of_roots;
-use pci_tree::outline::Outline;
 use pci_tree::region::Region;
 use std::alloc::{Allocator, Global};
 use std::marker::Model;
@@ -72,17 +75,22 @@ impl<A: Allocator> Room<A> {
 
 /// What was looked at last for each kind of access.
 #[derive(Drop)]
-pub struct Rooms<A: Allocator = Global> {
+pub struct Rooms<'a, A: Allocator = Global> {
+    /// Of each told range whether it is on.
+    pub on: &'a [bool],
     pub io: Option<Room<A>>,
     pub mem: Option<Room<A>>,
     pub pref: Option<Room<A>>,
 }
 
 /// Nothing was looked at.
-pub fn no_rooms<A: Allocator>() -> Rooms<A>
-    ensures { (given : GivenValue) (t : Tree) → AreRoomsKept given t result.io result.mem result.pref }
+pub fn no_rooms<'a, A: Allocator>(on: &'a [bool]) -> Rooms<'a, A>
+    ensures { (told : ToldValue) (given : GivenValue) (t : Tree) → IsTold told.ranges
+        → AreOnIn told t on.now
+        → AreRoomsKept told given t result.on.now result.io result.mem result.pref }
 {
     Rooms {
+        on,
         io: None,
         mem: None,
         pref: None,
@@ -93,30 +101,34 @@ pub fn no_rooms<A: Allocator>() -> Rooms<A>
 /// root buses, as accesses to one address may start on several of them.
 fn claims_beside<A: Allocator + Copy>(
     alloc: A,
-    given: &Given<'_>,
-    outline: &Outline<A>,
+    board: &Board<'_, '_, A>,
     bus: u8,
     space: Space,
 ) -> Result<Vec<Claim<A>, A>, OutOfMemory>
-    ensures { IfOk result (λ v. AreClaimsBesideInEach (given_value given.now) outline.now bus
-        (space_of space) v.items) }
+    requires { IsBoard (told_value board.now.told) board.now.outline.now board.now.on.now
+        board.now.bridges.now }
+    ensures { IfOk result (λ v. AreClaimsBesideInEach (told_value board.now.told)
+        (given_value board.now.given) board.now.outline.now bus (space_of space) v.items) }
 {
-    if outline.roots().has(bus) {
-        let bridges = outline.bridges()?;
-        claims_of_roots(alloc, given, outline, &bridges, space)
+    if board.outline.roots().has(bus) {
+        claims_of_roots(alloc, board, space)
     } else {
-        claims_on(alloc, given, outline, bus, space)
+        claims_among(alloc, board, bus, space)
     }
 }
 
 /// What there is for a region on its bus. None where no function has its slot.
 fn room_of<A: Allocator + Copy>(
     alloc: A,
+    on: &[bool],
     judged: &Judged<'_, A>,
     moving: &Moving,
 ) -> Result<Option<Room<A>>, OutOfMemory>
-    ensures { IfOk result (λ o. IsRoomFor (given_value judged.now.given.now) judged.now.outline.now
-        moving.now.region.slot (kind_in (space_of moving.now.space) moving.now.region.prefetch) o) }
+    requires told { IsTold judged.now.told.now.ranges.now }
+    requires on { AreOnIn (told_value judged.now.told.now) judged.now.outline.now on.now }
+    ensures { IfOk result (λ o. IsRoomFor (told_value judged.now.told.now)
+        (given_value judged.now.given.now) judged.now.outline.now moving.now.region.slot
+        (kind_in (space_of moving.now.space) moving.now.region.prefetch) o) }
 {
     let slot = moving.region.slot;
     let kind = moving.space.kind(moving.region.prefetch);
@@ -124,7 +136,15 @@ fn room_of<A: Allocator + Copy>(
         return Ok(None);
     };
     let bus = slot.bus();
-    let claims = claims_beside(alloc, judged.given, judged.outline, bus, moving.space)?;
+    let bridges = judged.outline.bridges()?;
+    let board = Board {
+        outline: judged.outline,
+        given: *judged.given,
+        told: *judged.told,
+        on,
+        bridges: &bridges,
+    };
+    let claims = claims_beside(alloc, &board, bus, moving.space)?;
     Ok(Some(Room { bus, reach, claims }))
 }
 
@@ -142,19 +162,22 @@ fn is_on<A: Allocator>(kept: &Option<Room<A>>, bus: u8) -> bool
 pub fn make_ready<A: Allocator + Copy>(
     alloc: A,
     kept: &mut Option<Room<A>>,
+    on: &[bool],
     judged: &Judged<'_, A>,
     moving: &Moving,
 ) -> Result<(), OutOfMemory>
+    requires told { IsTold judged.now.told.now.ranges.now }
+    requires on { AreOnIn (told_value judged.now.told.now) judged.now.outline.now on.now }
     // else it would be of another kind, or of other functions
-    requires { IsRoomKept (given_value judged.now.given.now) judged.now.outline.now
-        (kind_in (space_of moving.now.space) moving.now.region.prefetch) kept.old }
-    ensures { OnOk result (IsRoomFor (given_value judged.now.given.now) judged.now.outline.now
-        moving.now.region.slot (kind_in (space_of moving.now.space) moving.now.region.prefetch)
-        kept.new) }
+    requires kept { IsRoomKept (told_value judged.now.told.now) (given_value judged.now.given.now)
+        judged.now.outline.now (kind_in (space_of moving.now.space) moving.now.region.prefetch) kept.old }
+    ensures { OnOk result (IsRoomFor (told_value judged.now.told.now)
+        (given_value judged.now.given.now) judged.now.outline.now moving.now.region.slot
+        (kind_in (space_of moving.now.space) moving.now.region.prefetch) kept.new) }
 {
     if is_on(kept, moving.region.slot.bus()) {
         return Ok(());
     }
-    *kept = room_of(alloc, judged, moving)?;
+    *kept = room_of(alloc, on, judged, moving)?;
     Ok(())
 }

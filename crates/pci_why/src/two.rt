@@ -2,8 +2,9 @@
 ghost use Rattle.std.specs.Prelude.{OnOk};
 ghost use Rattle.std.specs.String.{string_bytes};
 ghost use Rattle.pci_spec.specs.Fault.{named_regions};
+ghost use Rattle.given_spec.specs.Told.{IsTold};
 ghost use Rattle.pci_base.specs.Space.{space_of};
-ghost use Rattle.pci_claims.specs.Values.{given_value};
+ghost use Rattle.pci_claims.specs.Values.{given_value, told_value};
 ghost use Rattle.pci_why.specs.Two.{AreTwoTold};
 
 use super::bridge_line::push_ranges;
@@ -20,9 +21,12 @@ pub fn push_two<A: Allocator + Copy, B: Allocator>(
     judged: &Judged<'_, A>,
     two: &TwoNames,
 ) -> Result<(), OutOfMemory>
-    ensures { OnOk result (AreTwoTold (given_value judged.now.given.now) judged.now.outline.now
-        (space_of two.now.space)
-        (named_regions two.now.first two.now.first_reg two.now.second two.now.second_reg)
+    // so that the addresses of each told range can be counted
+    requires { IsTold judged.now.told.now.ranges.now }
+    ensures { OnOk result (AreTwoTold (told_value judged.now.told.now)
+        (given_value judged.now.given.now) judged.now.outline.now (space_of two.now.space)
+        (named_regions two.now.first.slot two.now.first.register two.now.second.slot
+        two.now.second.register)
         (string_bytes text.old) (string_bytes text.new)) }
 {
     let Some(p) = region_named(alloc, judged, two.first_name())? else {

@@ -3,20 +3,22 @@ use Rattle.std.specs.List.{Contains}
 use Rattle.std.proofs.lemmas.Bool.{iff_false}
 use Rattle.std.proofs.lemmas.Result.{IfOk-weaker}
 use Rattle.pci_base.specs.Space.{space_of}
-use Rattle.pci_claims.specs.Values.{given_value}
+use Rattle.pci_claims.specs.Values.{given_value, told_value}
 use Rattle.pci_why.proofs.Beside.{on_one_bus, on_all_roots}
 use Rattle.pci_why.proofs.room.claims_beside.Goals as goal
 
-pub returns-in_ok-bridges : goal.returns-in_ok-bridges
-returns-in_ok-bridges g c =
+pub returns-then-has : goal.returns-then-has
+returns-then-has g c =
+    let board = c.args.board.now in
     IfOk-weaker c.claims_of_roots.result _ _
-    (λ v each s tree nested. on_all_roots (given_value c.args.given.now) c.args.outline.now.roots s c.args.bus (space_of c.args.space) v.items nested
+    (λ v each s tree nested. on_all_roots (told_value board.told) (given_value board.given) board.outline.now.roots s c.args.bus (space_of c.args.space) v.items nested
     (subst (λ (roots : List ℕ). Contains roots c.args.bus) c.roots.ensures (c.has.ensures.0 c.if-has.true)) (each s tree))
     c.claims_of_roots.ensures
 
 pub returns-else-has : goal.returns-else-has
 returns-else-has g c =
-    IfOk-weaker c.claims_on.result _ _
-    (λ v each s tree nested. on_one_bus (given_value c.args.given.now) c.args.outline.now.roots s c.args.bus (space_of c.args.space) v.items
+    let board = c.args.board.now in
+    IfOk-weaker c.claims_among.result _ _
+    (λ v each s tree nested. on_one_bus (told_value board.told) (given_value board.given) board.outline.now.roots s c.args.bus (space_of c.args.space) v.items
     (λ root. iff_false c.has.ensures c.if-has.false (subst (λ (roots : List ℕ). Contains roots c.args.bus) (sym c.roots.ensures) root)) (each s tree))
-    c.claims_on.ensures
+    c.claims_among.ensures
