@@ -1,7 +1,9 @@
 -- The characters of lines are ASCII.
-use Rattle.std.proofs.Common.{◌≡◌, ℕ, zero, suc, ◌/◌, ◌%◌, ◌<◌, Bool, true, false, ◌&&◌, List, [], ◌∷◌, ◌++◌, refl, arith, sym, subst, codes, nat_lt, IsAscii}
-use Rattle.std.specs.Prelude.{slice_index}
-use Rattle.std.proofs.lemmas.Bool.{ltb-true, false≢true}
+use Rattle.std.proofs.Common.{◌≡◌, ℕ, zero, suc, ◌/◌, ◌%◌, ◌<◌, ◌≤◌, Some, Bool, true, false, ◌&&◌, List, [], ◌∷◌, ◌++◌, refl, arith, sym, subst, codes, nat_lt, IsAscii, if◌then◌else◌}
+use Rattle.std.specs.Prelude.{slice_index, nat_le, IsTrue}
+use Rattle.std.specs.List.{All, slice_get}
+use Rattle.std.proofs.lemmas.Option.{slice_get_within, get_or_from_slice_get}
+use Rattle.std.proofs.lemmas.Bool.{ltb-true, leb-true, false≢true}
 use Rattle.std.proofs.lemmas.Str.{IsAscii-append}
 use Rattle.pci_spec.specs.Slot.{Slot}
 use Rattle.pci_spec.specs.Text.{hex_digit, hex_byte, slot_text}
@@ -9,8 +11,10 @@ use Rattle.pci_spec.specs.Line.{hex_number}
 use Rattle.pci_spec.specs.System.{Space, Io, Memory, Part, Bar, Rom, Window}
 use Rattle.pci_spec.specs.Decoded.{Range}
 use Rattle.pci_spec.specs.Listing.{range_text}
-use Rattle.map_spec.specs.MapText.{indent, part_name}
-use Rattle.pci_map.specs.Lines.{isa_ending}
+use Rattle.given_spec.specs.Told.{Mark, Command, Always, Held, ToldRange, IsToldRange, IsTold, is_name_byte}
+use Rattle.given_spec.specs.ToldRegion.{ToldRegion, mark_word}
+use Rattle.map_spec.specs.MapText.{indent, part_name, told_part_name}
+use Rattle.pci_map.specs.Lines.{isa_ending, name_ending}
 use Rattle.pci_listing.proofs.HexPushes.{digit_ascii}
 use Rattle.pci_listing.specs.Amounts.{unit_text}
 
@@ -82,6 +86,34 @@ name_ascii (Window kind) prefetchable = tested (codes "window") refl
 pub isa_ascii : (cut : Bool) → IsAscii (isa_ending cut)
 isa_ascii true = tested (codes " isa") refl
 isa_ascii false = none_ascii
+
+pub mark_ascii : (mark : Mark) → IsAscii (mark_word mark)
+mark_ascii Command = tested (codes "told") refl
+mark_ascii Always = tested (codes "told") refl
+mark_ascii Held = tested (codes "held") refl
+
+pref_ascii : (prefetchable : Bool) → IsAscii (if prefetchable then codes " pref" else [])
+pref_ascii true = tested (codes " pref") refl
+pref_ascii false = none_ascii
+
+pub told_ascii : (x : ToldRegion) → IsAscii (told_part_name x)
+told_ascii x = IsAscii-append (mark_word x.told.mark) (if x.told.prefetchable then codes " pref" else []) (mark_ascii x.told.mark) (pref_ascii x.told.prefetchable)
+
+pub ending_ascii : (name : List ℕ) → IsAscii name → IsAscii (name_ending name)
+ending_ascii [] is = none_ascii
+ending_ascii (c ∷ name) is = more_ascii 32 (c ∷ name) (omega arith) is
+
+pub name_bytes_ascii : (name : List ℕ) → All (λ c. IsTrue (is_name_byte c)) name → IsAscii name
+name_bytes_ascii [] all = none_ascii
+name_bytes_ascii (c ∷ name) all =
+    let low = leb-true c 0x7e (right_true (nat_le 0x21 c) (nat_le c 0x7e) (all 0 c (omega arith))) in
+    more_ascii c name (omega (arith, low)) (name_bytes_ascii name (λ k d within. all (suc k) d (omega (arith, within))))
+
+-- each range of a text has addresses, and a name of ASCII
+pub told_facts : (ranges : List ToldRange) → IsTold ranges → (i : ℕ) (r : ToldRange) → slice_get ranges i ≡ Some r → (r.first ≤ r.last) × IsAscii r.name
+told_facts ranges lawful i r at =
+    let is : IsToldRange r = subst IsToldRange (get_or_from_slice_get ranges i r r at) (lawful.each i r (slice_get_within ranges i r at)) in
+    (is.forward, name_bytes_ascii r.name is.line.name.1)
 
 pub unit_ascii : (unit : ℕ) → IsAscii (unit_text unit)
 unit_ascii zero = none_ascii

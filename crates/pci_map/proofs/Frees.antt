@@ -10,6 +10,7 @@ use Rattle.pci_spec.specs.Decoded as decoded
 use Rattle.pci_spec.specs.Why.{AreRuns}
 use Rattle.pci_spec.proofs.Members.{pairs_nil}
 use Rattle.given_spec.specs.Given.{Given, ranges_said}
+use Rattle.given_spec.specs.ToldClaims.{Told}
 use Rattle.map_spec.specs.Lines.{IsClaimedOn, IsFreeOn}
 use Rattle.pci_base.specs.declared.range.Range.{Range}
 use Rattle.pci_base.specs.Ranges.{decoded_range_of}
@@ -53,22 +54,22 @@ no_runs P rs none not = subst (λ (xs : List Range). AreRuns P (map decoded_rang
   rising = pairs_nil (λ (r t : decoded.Range). r.last < t.first);
 }
 
-pub none_said : (given : Given) (s : System) (bus : ℕ) (space : Space) (a : ℕ) → is_some (ranges_said given space) ≡ false → IsFreeOn given s bus space a → ⊥
-none_said given s bus space a not free = both_ways (is_some (ranges_said given space)) not free.said
+pub none_said : (told : Told) (given : Given) (s : System) (bus : ℕ) (space : Space) (a : ℕ) → is_some (ranges_said given space) ≡ false → IsFreeOn told given s bus space a → ⊥
+none_said told given s bus space a not free = both_ways (is_some (ranges_said given space)) not free.said
 
 -- what none of the claimed ranges has
-module _ (given : Given) (s : System) (bus : ℕ) (space : Space) (claimed : List Range) (are : AreClaimed given s bus space claimed) (whole : Range) where
-  gap_unclaimed : (a : ℕ) → Covers (gaps whole 0 claimed) a → Holds whole a × (IsClaimedOn given s bus space a → ⊥)
+module _ (told : Told) (given : Given) (s : System) (bus : ℕ) (space : Space) (claimed : List Range) (are : AreClaimed told given s bus space claimed) (whole : Range) where
+  gap_unclaimed : (a : ℕ) → Covers (gaps whole 0 claimed) a → Holds whole a × (IsClaimedOn told given s bus space a → ⊥)
   gap_unclaimed a covered = (
       let gap = gaps_to whole 0 claimed a are.sorted are.some covered in
-      (gap.0, λ (h : IsClaimedOn given s bus space a). gap.2 ((are.exact a).1 h)))
+      (gap.0, λ (h : IsClaimedOn told given s bus space a). gap.2 ((are.exact a).1 h)))
 
-  unclaimed_gap : (a : ℕ) → Holds whole a → (IsClaimedOn given s bus space a → ⊥) → Covers (gaps whole 0 claimed) a
+  unclaimed_gap : (a : ℕ) → Holds whole a → (IsClaimedOn told given s bus space a → ⊥) → Covers (gaps whole 0 claimed) a
   unclaimed_gap a held free = gaps_from whole 0 claimed a held (omega arith) (λ covered. free ((are.exact a).0 covered))
 
   pub free_on : (sent unclaimed out : List Range) → ((a : ℕ) → ((whole.first ≤ a) × (a ≤ whole.last)) ↔ IsAddress space a) → is_some (ranges_said given space) ≡ true → IsSentTo given space bus sent
-      → IsGathered (gaps whole 0 claimed) unclaimed → IsCommon sent unclaimed out → AreRuns (IsFreeOn given s bus space) (map decoded_range_of out)
-  free_on sent unclaimed out exact said to gathered common = runs_of (IsFreeOn given s bus space) out common.canonical (λ a. (
+      → IsGathered (gaps whole 0 claimed) unclaimed → IsCommon sent unclaimed out → AreRuns (IsFreeOn told given s bus space) (map decoded_range_of out)
+  free_on sent unclaimed out exact said to gathered common = runs_of (IsFreeOn told given s bus space) out common.canonical (λ a. (
     λ covered. (
         let both = (common.exact a).0 covered in
         let starting = (to.exact a).0 both.0 in record {
@@ -81,29 +82,29 @@ module _ (given : Given) (s : System) (bus : ℕ) (space : Space) (claimed : Lis
   ))
 
 -- what of a window is free
-module _ (given : Given) (s : System) (bus : ℕ) (space : Space) (w : Region) (claimed : List Range) (are : AreClaimed given s bus space claimed) where
+module _ (told : Told) (given : Given) (s : System) (bus : ℕ) (space : Space) (w : Region) (claimed : List Range) (are : AreClaimed told given s bus space claimed) where
   abbrev left : List Range
   left = gaps (range_at w) 0 claimed
 
-  pub free_of_whole : (out : List Range) → is_cut_region given space w ≡ false → out ≡ left → AreFreeInside given s bus space w out
-  free_of_whole out off is = subst (AreFreeInside given s bus space w) (sym is) record {
+  pub free_of_whole : (out : List Range) → is_cut_region given space w ≡ false → out ≡ left → AreFreeInside told given s bus space w out
+  free_of_whole out off is = subst (AreFreeInside told given s bus space w) (sym is) record {
     canonical = gaps_canonical (range_at w) 0 claimed are.sorted are.some;
     exact = λ a. (
-      λ covered. (let gap = gap_unclaimed given s bus space claimed are (range_at w) a covered in (record { held = gap.0; kept = never_cut_from given space w a off }, gap.1)),
-      λ free. unclaimed_gap given s bus space claimed are (range_at w) a free.0.held free.1,
+      λ covered. (let gap = gap_unclaimed told given s bus space claimed are (range_at w) a covered in (record { held = gap.0; kept = never_cut_from given space w a off }, gap.1)),
+      λ free. unclaimed_gap told given s bus space claimed are (range_at w) a free.0.held free.1,
     );
   }
 
-  pub free_of_cut : (gathered out : List Range) → is_cut_region given space w ≡ true → IsGathered left gathered → AreKept gathered out → AreFreeInside given s bus space w out
+  pub free_of_cut : (gathered out : List Range) → is_cut_region given space w ≡ true → IsGathered left gathered → AreKept gathered out → AreFreeInside told given s bus space w out
   free_of_cut gathered out on is kept = record {
     canonical = kept.canonical;
     exact = λ a. (
       λ covered. (
           let both = (kept.exact a).0 covered in
-          let gap = gap_unclaimed given s bus space claimed are (range_at w) a ((is.exact a).0 both.0) in
+          let gap = gap_unclaimed told given s bus space claimed are (range_at w) a ((is.exact a).0 both.0) in
           (record { held = gap.0; kept = cut_from_where given space w a on ∙ both.1 }, gap.1)),
       λ free. (kept.exact a).1 (
-        (is.exact a).1 (unclaimed_gap given s bus space claimed are (range_at w) a free.0.held free.1),
+        (is.exact a).1 (unclaimed_gap told given s bus space claimed are (range_at w) a free.0.held free.1),
         sym (cut_from_where given space w a on) ∙ free.0.kept,
       ),
     );

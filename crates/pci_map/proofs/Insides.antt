@@ -4,25 +4,26 @@ use Rattle.std.specs.Prelude.{◌==◌, ◌&&◌, nat_le, IsTrue, MatchOption, M
 use Rattle.std.specs.List.{Contains, filter}
 use Rattle.std.proofs.lemmas.Bool.{cases_Bool, and_parts, and_from, both_ways, false≢true, leb-true, le-leb}
 use Rattle.std.proofs.lemmas.Option.{none-some}
-use Rattle.pci_spec.specs.Slot.{Slot}
 use Rattle.pci_spec.specs.Registers.{MEMORY_BASE, PREFETCHABLE_BASE}
 use Rattle.pci_spec.specs.Window.{WindowKind, IoWindow, MemoryWindow, PrefetchWindow, window_register, holds}
 use Rattle.pci_spec.specs.System.{System, Function, Space, Io, Memory, Claims, IsAddress, window_claims, window_space, is_space_on, is_bridge, is_window, register_of}
 use Rattle.pci_spec.specs.System as system
 use Rattle.pci_spec.specs.Bus.{secondary}
 use Rattle.pci_spec.specs.Why.{IsRegionIn, AreRuns}
-use Rattle.pci_spec.proofs.Members.{in_map_from, in_filter_to, in_filter_from, pairs_filter}
+use Rattle.pci_spec.proofs.Members.{in_filter_to, in_filter_from, pairs_filter}
 use Rattle.pci_spec.proofs.Regions.{part_same}
 use Rattle.given_spec.specs.Given.{Given, is_cut}
 use Rattle.given_spec.specs.Claims.{is_cut_of}
+use Rattle.given_spec.specs.Told.{IsTold}
+use Rattle.given_spec.specs.ToldClaims.{Told}
+use Rattle.map_spec.specs.Regions.{slot_of, range_of}
 use Rattle.map_spec.specs.Lines.{is_first_window, BelongsUnder, IsClaimedOn, IsFreeIn, IsOutOfPlace}
 use Rattle.map_spec.proofs.Having.{first_claims}
 use Rattle.pci_base.specs.declared.range.Range.{Range}
 use Rattle.pci_base.specs.Ranges.{decoded_range_of}
 use Rattle.pci_tree.specs.declared.region.Part.TheVariants.{Window}
 use Rattle.pci_tree.specs.declared.region.Region.{Region}
-use Rattle.pci_tree.specs.Regions.{IsRegionOn, is_of_window}
-use Rattle.pci_tree.specs.Outline.{IsBefore, AreSortedRegionsOf}
+use Rattle.pci_tree.specs.Regions.{is_of_window}
 use Rattle.pci_claims.specs.Claim.{is_cut_from}
 use Rattle.pci_claims.specs.Found.{NoneClaims, IsFoundIn}
 use Rattle.pci_claims.specs.Isa.{is_cut_region}
@@ -32,8 +33,9 @@ use Rattle.pci_map.specs.Values.{kind_at, part_at, part_of, value_of}
 use Rattle.pci_map.specs.Gaps.{AreFreeInside}
 use Rattle.pci_map.specs.Above.{AreInPlace}
 use Rattle.pci_map.specs.Inside.{region_has, is_taken, is_in_window, is_held_first, IsEarlierWindow, AreInsideWindow}
-use Rattle.pci_map.specs.Walk.{AreRegionsOnBus}
-use Rattle.pci_map.proofs.Values.{given_region}
+use Rattle.pci_map.specs.declared.seat.Seat.{Seat}
+use Rattle.pci_map.specs.Seats.{seat_value, seat_first, IsSeatOn, AreSeatsOn, SeatIsBefore, AreSortedSeatsOf}
+use Rattle.pci_map.proofs.Values.{among, first_of, seat_address, seat_bus, seat_space}
 
 -- ---- windows and what they claim
 
@@ -130,20 +132,24 @@ module _ (given : Given) (s : System) (space : Space) (w : Region) (iw : IsRegio
         | inr none ↦ and_from (window_claims b PrefetchWindow a) (not (window_claims b MemoryWindow a)) claims (ap not none)
       ])
 
-  pub belongs : (bus : ℕ) (o : Option Region) (cut : Bool) → cut ≡ is_cut_region given space w → secondary b ≡ bus → IsEarlierWindow s space w o → (q : Region) → IsRegionOn s bus space q
-      → is_held_first w o cut q ≡ true → BelongsUnder given s (value_of space w) (value_of space q)
-  belongs bus o cut is leads early q on held =
-      let parts = and_parts (not (is_taken cut q.first)) (is_in_window w o q.first) held in
-      let at = held_in w o q.first parts.1 in
-      let claims = claims_at q.first at.0 at.1 in record {
+  pub belongs : (told : Told) (bus : ℕ) (o : Option Region) (cut : Bool) → cut ≡ is_cut_region given space w → secondary b ≡ bus → IsEarlierWindow s space w o → (q : Seat) → IsSeatOn told s bus space q
+      → is_held_first w o cut q ≡ true → BelongsUnder given s (value_of space w) (seat_value space q)
+  belongs told bus o cut is leads early q on held =
+      let a : ℕ = seat_first q in
+      let parts = and_parts (not (is_taken cut a)) (is_in_window w o a) held in
+      let at = held_in w o a parts.1 in
+      let claims = claims_at a at.0 at.1 in
+      let first : IsTrue (is_first_window given space kind a b) =
+      first_from kind registered first_one.maps o early a parts.1 (sym (taken_here cut is a) ∙ not_true (is_taken cut a) parts.0) (window_claims_of b kind space a claims) claims.address in record {
         b = b;
         listed = iw.listed;
         bridge = is_a_bridge;
         slot = iw.slot;
-        leads = leads ∙ sym on.on_bus ∙ sym (ap (λ (x : Slot). x.bus) on.is.slot);
+        leads = leads ∙ sym (seat_bus told s bus space q on);
         kind = kind;
         window = part_kind;
-        first = first_from kind registered first_one.maps o early q.first parts.1 (sym (taken_here cut is q.first) ∙ not_true (is_taken cut q.first) parts.0) (window_claims_of b kind space q.first claims) claims.address;
+        first = subst (λ sp. IsTrue (is_first_window given sp kind (range_of (seat_value space q)).first b)) (sym (seat_space told s bus space q on))
+            (subst (λ n. IsTrue (is_first_window given space kind n b)) (sym (first_of space q)) first);
       }
 
   -- where an earlier window is looked for, this is the prefetchable one
@@ -182,48 +188,54 @@ module _ (given : Given) (s : System) (space : Space) (w : Region) (iw : IsRegio
         | inr hasnt ↦ ap not hasnt
       ])
 
-  pub held_from : (bus : ℕ) (o : Option Region) (cut : Bool) → cut ≡ is_cut_region given space w → IsEarlierWindow s space w o → (q : Region) → IsRegionOn s bus space q
-      → BelongsUnder given s (value_of space w) (value_of space q) → is_held_first w o cut q ≡ true
-  held_from bus o cut is early q on u =
+  pub held_from : (told : Told) (bus : ℕ) (o : Option Region) (cut : Bool) → cut ≡ is_cut_region given space w → IsEarlierWindow s space w o → IsTold told.ranges → (q : Seat) → IsSeatOn told s bus space q
+      → BelongsUnder given s (value_of space w) (seat_value space q) → is_held_first w o cut q ≡ true
+  held_from told bus o cut is early lawful q on u =
+      let a : ℕ = seat_first q in
       let same : u.b ≡ b = unique u.b b u.listed iw.listed (u.slot ∙ sym iw.slot) in
       let kinds : u.kind ≡ kind = sym (ap kind_in (sym part_kind ∙ u.window)) in
-      let first : IsTrue (is_first_window given space kind q.first b) =
-      subst (λ f. IsTrue (is_first_window given space kind q.first f)) same (subst (λ k. IsTrue (is_first_window given space k q.first u.b)) kinds u.first) in
-      let address : IsAddress space q.first = ((on.is.claims q.first).0 (omega arith, on.is.some)).address in
-      let at = claims_back q.first (claims_of b kind space q.first is_a_bridge first_one.maps address (first_claims given space kind q.first b first)) in
-      and_from (not (is_taken cut q.first)) (is_in_window w o q.first) (ap not (taken_here cut is q.first ∙ kept_first given space kind q.first b first))
-      (held_by o early q.first first (in_true w q.first at.0 at.1))
+      let there : IsTrue (is_first_window given space u.kind a u.b) =
+      subst (λ n. IsTrue (is_first_window given space u.kind n u.b)) (first_of space q)
+      (subst (λ sp. IsTrue (is_first_window given sp u.kind (range_of (seat_value space q)).first u.b)) (seat_space told s bus space q on) u.first) in
+      let first : IsTrue (is_first_window given space kind a b) =
+      subst (λ f. IsTrue (is_first_window given space kind a f)) same (subst (λ k. IsTrue (is_first_window given space k a u.b)) kinds there) in
+      let address : IsAddress space a = seat_address told s bus space q lawful on in
+      let at = claims_back a (claims_of b kind space a is_a_bridge first_one.maps address (first_claims given space kind a b first)) in
+      and_from (not (is_taken cut a)) (is_in_window w o a) (ap not (taken_here cut is a ∙ kept_first given space kind a b first))
+      (held_by o early a first (in_true w a at.0 at.1))
 
   -- ---- what is free
 
-  module _ (bus : ℕ) (leads : secondary b ≡ bus) (qs : List Region) (sorted : AreSortedRegionsOf s bus space qs) where
-    free_runs_are : (runs : List Range) → AreFreeInside given s bus space w runs → AreRuns (IsFreeIn given s (value_of space w)) (map decoded_range_of runs)
-    free_runs_are runs are = runs_of (IsFreeIn given s (value_of space w)) runs are.canonical (λ a. (
+  module _ (told : Told) (lawful : IsTold told.ranges) (bus : ℕ) (leads : secondary b ≡ bus) (qs : List Seat) (sorted : AreSortedSeatsOf told s bus space qs) where
+    free_runs_are : (runs : List Range) → AreFreeInside told given s bus space w runs → AreRuns (IsFreeIn told given s (value_of space w)) (map decoded_range_of runs)
+    free_runs_are runs are = runs_of (IsFreeIn told given s (value_of space w)) runs are.canonical (λ a. (
       λ covered. (let free = (are.exact a).0 covered in record {
         held = free.0.held;
         kept = part_cut a ∙ free.0.kept;
-        unclaimed = λ c listed slot claimed. free.1 (subst (λ n. IsClaimedOn given s n space a) (ap secondary (unique c b listed iw.listed (slot ∙ sym iw.slot)) ∙ leads) claimed);
+        unclaimed = λ c listed slot claimed. free.1 (subst (λ n. IsClaimedOn told given s n space a) (ap secondary (unique c b listed iw.listed (slot ∙ sym iw.slot)) ∙ leads) claimed);
       }),
-      λ free. (are.exact a).1 (record { held = free.held; kept = sym (part_cut a) ∙ free.kept }, λ claimed. free.unclaimed b iw.listed iw.slot (subst (λ n. IsClaimedOn given s n space a) (sym leads) claimed)),
+      λ free. (are.exact a).1 (record { held = free.held; kept = sym (part_cut a) ∙ free.kept }, λ claimed. free.unclaimed b iw.listed iw.slot (subst (λ n. IsClaimedOn told given s n space a) (sym leads) claimed)),
     ))
 
-    pub inside_is : (roots : List ℕ) (o : Option Region) (cut : Bool) (out : List Region) (runs : List Range) → cut ≡ is_cut_region given space w → IsEarlierWindow s space w o → w.slot.bus < bus
-        → AreInPlace given roots s space (filter (is_held_first w o cut) qs) out → AreFreeInside given s bus space w runs → AreInsideWindow record { given = given; roots = roots; system = s; space = space } w bus out runs
+    pub inside_is : (roots : List ℕ) (o : Option Region) (cut : Bool) (out : List Seat) (runs : List Range) → cut ≡ is_cut_region given space w → IsEarlierWindow s space w o → w.slot.bus < bus
+        → AreInPlace told given roots s space (filter (is_held_first w o cut) qs) out → AreFreeInside told given s bus space w runs → AreInsideWindow record { told = told; given = given; roots = roots; system = s; space = space } w bus out runs
     inside_is roots o cut out runs is early rises placed free = record {
       rises = rises;
       each = λ q has. sorted.each q (in_filter_to (is_held_first w o cut) qs q (placed.each q has)).0;
-      belong = λ q has. (let kept = in_filter_to (is_held_first w o cut) qs q (placed.each q has) in belongs bus o cut is leads early q (sorted.each q kept.0) kept.1);
+      belong = λ q has. (let kept = in_filter_to (is_held_first w o cut) qs q (placed.each q has) in belongs told bus o cut is leads early q (sorted.each q kept.0) kept.1);
       within = placed.within;
       complete = λ v is_in same under in_place. (
-          let on : v.slot.bus ≡ bus = sym under.leads ∙ ap secondary (unique under.b b under.listed iw.listed (under.slot ∙ sym iw.slot)) ∙ leads in
-          let found = given_region s bus space qs v sorted.complete is_in on same in
-          let kept = held_from bus o cut is early found.0 (sorted.each found.0 found.1) (subst (λ x. BelongsUnder given s (value_of space w) x) (sym found.2) under) in
-          let has = placed.complete found.0 (in_filter_from (is_held_first w o cut) qs found.0 found.1 kept) (λ out_of. in_place (subst (λ x. IsOutOfPlace given roots s x) found.2 out_of)) in
-          subst (λ x. Contains (map (value_of space) out) x) found.2 (in_map_from (value_of space) out found.0 has));
-      sorted = placed.sorted (pairs_filter IsBefore (is_held_first w o cut) qs sorted.sorted);
+          let on : (slot_of v).bus ≡ bus = sym under.leads ∙ ap secondary (unique under.b b under.listed iw.listed (under.slot ∙ sym iw.slot)) ∙ leads in
+          let found = among told s bus space qs v sorted is_in on same in
+          let kept = held_from told bus o cut is early lawful found.0 (sorted.each found.0 found.1) (subst (λ x. BelongsUnder given s (value_of space w) x) (sym found.2) under) in record {
+            q = found.0;
+            has = placed.complete found.0 (in_filter_from (is_held_first w o cut) qs found.0 found.1 kept) (λ out_of. in_place (subst (λ x. IsOutOfPlace told given roots s x) found.2 out_of));
+            is = found.2;
+          });
+      sorted = placed.sorted (pairs_filter (SeatIsBefore space) (is_held_first w o cut) qs sorted.sorted);
       free = free_runs_are runs free;
     }
 
 -- what is held of a bus is of the bus
-pub held_on : (s : System) (space : Space) (bus : ℕ) (qs : List Region) → AreSortedRegionsOf s bus space qs → (held : List Region) (keeps : Region → Bool) → held ≡ filter keeps qs → AreRegionsOnBus s bus space held
-held_on s space bus qs sorted held keeps is q has = sorted.each q (in_filter_to keeps qs q (subst (λ xs. Contains xs q) is has)).0
+pub held_on : (told : Told) (s : System) (space : Space) (bus : ℕ) (qs : List Seat) → AreSortedSeatsOf told s bus space qs → (held : List Seat) (keeps : Seat → Bool) → held ≡ filter keeps qs → AreSeatsOn told s bus space held
+held_on told s space bus qs sorted held keeps is q has = sorted.each q (in_filter_to keeps qs q (subst (λ xs. Contains xs q) is has)).0

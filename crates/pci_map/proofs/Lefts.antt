@@ -1,5 +1,5 @@
 -- Whether a region is left, by the window that it belongs under.
-use Rattle.std.proofs.Common.{◌≡◌, ℕ, List, [], ◌∷◌, refl, sym, ap, ◌∙◌, subst, arith, Bool, true, false, not, ◌<◌, length, get_or, Option, None, Some}
+use Rattle.std.proofs.Common.{◌≡◌, ℕ, List, [], ◌∷◌, refl, sym, ap, ◌∙◌, subst, arith, Bool, true, false, not, ◌<◌, length, get_or, Option, None}
 use Rattle.std.specs.Prelude.{IsTrue}
 use Rattle.std.specs.List.{Contains}
 use Rattle.std.proofs.Math.Nat.{le_antisymm}
@@ -13,13 +13,15 @@ use Rattle.pci_spec.specs.Decoded.{InRange}
 use Rattle.pci_spec.specs.Why as why
 use Rattle.pci_spec.specs.Why.{IsRegionIn}
 use Rattle.given_spec.specs.Given.{Given}
+use Rattle.map_spec.specs.Regions.{MapRegion, Own, slot_of, range_of}
+use Rattle.map_spec.specs.Regions as regions
 use Rattle.map_spec.specs.Lines.{is_first_window, BelongsUnder}
 use Rattle.map_spec.specs.Map.{HasWay, IsOutsideWindows}
 use Rattle.map_spec.proofs.Having.{window_has_space}
 use Rattle.pci_tree.specs.declared.region.Region.{Region}
 use Rattle.pci_map.specs.Values.{value_of}
-use Rattle.pci_map.specs.Left.{IsSlotAbove, IsFirstHoldingWindow, IsLeftIf}
-use Rattle.pci_map.specs.Ways.{IsFirstJudged, AreAbove, IsWayTo, AreWays}
+use Rattle.pci_map.specs.Left.{IsSlotAbove, IsUnled, IsFirstHoldingWindow, IsLeftIf}
+use Rattle.pci_map.specs.Ways.{IsFirstJudged, IsWayTo, AreWays}
 use Rattle.pci_map.specs.declared.left.Judged.{Judged}
 use Rattle.pci_map.specs.declared.left.Windows.{Windows}
 
@@ -77,44 +79,41 @@ kinds given Memory PrefetchWindow PrefetchWindow a b x y = refl
 pub way_here : (given : Given) (roots : List ℕ) (s : System) (ways : List (Option Windows)) (bus : ℕ) (x o : Option Windows) → bus < length ways → x ≡ get_or ways bus x → x ≡ o → AreWays given roots s ways → IsWayTo given roots s bus o
 way_here given roots s ways bus x o lt at is so = subst (IsWayTo given roots s bus) (sym (get_or_read ways bus x lt at None) ∙ is) (so bus lt)
 
-module _ (given : Given) (roots : List ℕ) (s : System) (space : Space) (q : Region) where
-  abbrev v : why.Region
-  v = value_of space q
+module _ (given : Given) (roots : List ℕ) (s : System) (space : Space) (q : MapRegion) (same_space : regions.space_of q ≡ space) where
+  pub root_way : (bus : ℕ) → IsWayTo given roots s bus None → (slot_of q).bus ≡ bus → IsLeftIf given roots s q false
+  root_way bus way on = ([], subst (Contains roots) (sym on) way)
 
-  on_bus : (bus : ℕ) (is : IsRegionIn s v) → q.slot.bus ≡ bus → is.f.slot.bus ≡ bus
-  on_bus bus is on = ap (λ (y : Slot). y.bus) is.slot ∙ on
+  -- no bridge leads to its bus
+  pub left_unled : (bus : ℕ) → IsUnled roots s bus → (slot_of q).bus ≡ bus → IsOutsideWindows given roots s q
+  left_unled bus unled on [] way = unled.off_root (subst (Contains roots) on way)
+  left_unled bus unled on (p ∷ windows) (is, under, way) = unled.none under.b (under.listed, under.bridge, under.leads ∙ on)
 
-  pub root_way : (bus : ℕ) → IsWayTo given roots s bus None → IsRegionIn s v → q.slot.bus ≡ bus → IsLeftIf given roots s v false
-  root_way bus way is on = ([], subst (Contains roots) (sym on) (way is.f is.listed (on_bus bus is on)))
-
-  pub windows_above : (bus : ℕ) (ws : Windows) → IsWayTo given roots s bus (Some ws) → IsRegionIn s v → q.slot.bus ≡ bus → AreAbove given roots s bus ws
-  windows_above bus ws way is on = way is.f is.listed (on_bus bus is on)
-
-  module _ (bus a : ℕ) (on : q.slot.bus ≡ bus) (at : q.first ≡ a) (x : Slot) (above : IsSlotAbove roots s bus x) where
+  module _ (bus a : ℕ) (on : (slot_of q).bus ≡ bus) (at : (range_of q).first ≡ a) (x : Slot) (above : IsSlotAbove roots s bus x) where
     -- the bridge that a region belongs under
-    the_bridge : AreOne s → (p : why.Region) (under : BelongsUnder given s p v) → under.b ≡ above.b
+    the_bridge : AreOne s → (p : why.Region) (under : BelongsUnder given s p q) → under.b ≡ above.b
     the_bridge unique p under = unique under.b above.b under.listed above.leads.0 (above.only under.b (under.listed, under.bridge, under.leads ∙ on) ∙ sym above.named)
 
-    first_there : AreOne s → (p : why.Region) (under : BelongsUnder given s p v) → IsTrue (is_first_window given space under.kind a above.b)
+    first_there : AreOne s → (p : why.Region) (under : BelongsUnder given s p q) → IsTrue (is_first_window given space under.kind a above.b)
     first_there unique p under =
-        subst (λ n. IsTrue (is_first_window given space under.kind n above.b)) at (subst (λ f. IsTrue (is_first_window given space under.kind q.first f)) (the_bridge unique p under) under.first)
+        subst (λ sp. IsTrue (is_first_window given sp under.kind a above.b)) same_space
+        (subst (λ n. IsTrue (is_first_window given (regions.space_of q) under.kind n above.b)) at (subst (λ f. IsTrue (is_first_window given (regions.space_of q) under.kind (range_of q).first f)) (the_bridge unique p under) under.first))
 
-    pub left_none : AreOne s → ((kind : WindowKind) → IsTrue (is_first_window given space kind a above.b) → ⊥) → IsOutsideWindows given roots s v
+    pub left_none : AreOne s → ((kind : WindowKind) → IsTrue (is_first_window given space kind a above.b) → ⊥) → IsOutsideWindows given roots s q
     left_none unique none [] way = above.off_root (subst (Contains roots) on way)
     left_none unique none (p ∷ windows) (is, under, way) = none under.kind (first_there unique p under)
 
     module _ (w : Region) (first : IsFirstHoldingWindow given s space above.b a w) where
-      the_window : AreOne s → (p : why.Region) → IsRegionIn s p → IsRegionIn s v → BelongsUnder given s p v → p ≡ value_of space w
-      the_window unique p is of under =
+      the_window : AreOne s → (p : why.Region) → IsRegionIn s p → BelongsUnder given s p q → p ≡ value_of space w
+      the_window unique p is under =
           let kind : under.kind ≡ first.kind = kinds given space under.kind first.kind a above.b (first_there unique p under) first.first in
           region_same s unique p (value_of space w) is first.is (sym under.slot ∙ ap (λ (f : Function). f.slot) (the_bridge unique p under) ∙ first.slot)
-          (under.window ∙ ap system.Window kind ∙ sym first.window) (window_has_space given s p v is under)
+          (under.window ∙ ap system.Window kind ∙ sym first.window) (window_has_space given s p q is under ∙ same_space)
 
-      left_below : AreOne s → IsRegionIn s v → IsOutsideWindows given roots s (value_of space w) → IsOutsideWindows given roots s v
-      left_below unique of left [] way = above.off_root (subst (Contains roots) on way)
-      left_below unique of left (p ∷ windows) (is, under, way) = left windows (subst (λ z. HasWay given roots s z windows) (the_window unique p is of under) way)
+      left_below : AreOne s → IsOutsideWindows given roots s (Own (value_of space w)) → IsOutsideWindows given roots s q
+      left_below unique left [] way = above.off_root (subst (Contains roots) on way)
+      left_below unique left (p ∷ windows) (is, under, way) = left windows (subst (λ z. HasWay given roots s (Own z) windows) (the_window unique p is under) way)
 
-      under_it : BelongsUnder given s (value_of space w) v
+      under_it : BelongsUnder given s (value_of space w) q
       under_it = record {
         b = above.b;
         listed = above.leads.0;
@@ -123,13 +122,13 @@ module _ (given : Given) (roots : List ℕ) (s : System) (space : Space) (q : Re
         leads = above.leads.2 ∙ sym on;
         kind = first.kind;
         window = first.window;
-        first = subst (λ n. IsTrue (is_first_window given space first.kind n above.b)) (sym at) first.first;
+        first = subst (λ sp. IsTrue (is_first_window given sp first.kind (range_of q).first above.b)) (sym same_space) (subst (λ n. IsTrue (is_first_window given space first.kind n above.b)) (sym at) first.first);
       }
 
-      pub as_window : AreOne s → IsRegionIn s v → (left : Bool) → IsLeftIf given roots s (value_of space w) left → IsLeftIf given roots s v left
-      as_window unique of true left = left_below unique of left
-      as_window unique of false (windows, way) = (value_of space w ∷ windows, (first.is, under_it, way))
+      pub as_window : AreOne s → (left : Bool) → IsLeftIf given roots s (Own (value_of space w)) left → IsLeftIf given roots s q left
+      as_window unique true left = left_below unique left
+      as_window unique false (windows, way) = (value_of space w ∷ windows, (first.is, under_it, way))
 
     -- a region is left as the window that it belongs under is
-    pub as_judged : AreOne s → IsRegionIn s v → (w : Judged) → IsFirstJudged given roots s space above.b a w → IsLeftIf given roots s v w.left
-    as_judged unique of w is = as_window w.window is.first unique of w.left is.judged
+    pub as_judged : AreOne s → (w : Judged) → IsFirstJudged given roots s space above.b a w → IsLeftIf given roots s q w.left
+    as_judged unique w is = as_window w.window is.first unique w.left is.judged

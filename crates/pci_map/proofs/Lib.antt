@@ -1,5 +1,6 @@
 pub mod Indents
 pub mod Between
+pub mod BusSeating
 pub mod LineTexts
 pub mod Values
 pub mod GapRanges
@@ -26,3 +27,5 @@ pub mod Tolds
 pub mod Asciis
 pub mod AsideTexts
 pub mod MapTexts
+pub mod RangeAsides
+pub mod Parted

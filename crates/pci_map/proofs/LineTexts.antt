@@ -7,6 +7,8 @@ use Rattle.pci_spec.specs.System.{Space, Io, Memory}
 use Rattle.pci_spec.specs.Listing.{words}
 use Rattle.given_spec.specs.Given.{Given}
 use Rattle.given_spec.specs.Why.{isa_words_of}
+use Rattle.given_spec.specs.ToldRegion.{name_words}
+use Rattle.map_spec.specs.Regions.{Own}
 use Rattle.map_spec.specs.MapText.{indent, part_name, extent_line, map_region_line}
 use Rattle.pci_tree.specs.declared.region.Part.{Part}
 use Rattle.pci_tree.specs.declared.region.Part.TheVariants.{Bar, Rom, Window}
@@ -14,7 +16,7 @@ use Rattle.pci_tree.specs.declared.region.Region.{Region}
 use Rattle.pci_tree.specs.Regions.{is_of_window}
 use Rattle.pci_claims.specs.Found.{bounds_range}
 use Rattle.pci_claims.specs.Isa.{cuts, is_cut_region}
-use Rattle.pci_map.specs.Lines.{isa_word, isa_ending, region_line_by}
+use Rattle.pci_map.specs.Lines.{isa_word, isa_ending, name_ending, region_line_by}
 use Rattle.pci_map.specs.Values.{part_at, part_of, value_of}
 use Rattle.pci_listing.proofs.Texts.{three_words}
 use Rattle.pci_map.proofs.Indents.{deep_pushed}
@@ -41,7 +43,7 @@ isa_said given Memory slot Window reg = refl
 
 -- the line by what is given is that by whether the region is cut
 pub line_by_cut : (given : Given) (depth : ℕ) (space : Space) (q : Region) (old new : List ℕ) (cut : Bool) → cut ≡ is_cut_region given space q → new ≡ old ++ region_line_by depth (value_of space q) cut
-    → new ≡ old ++ map_region_line given depth (value_of space q)
+    → new ≡ old ++ map_region_line given depth (Own (value_of space q))
 line_by_cut given depth space q old new cut is text =
     text ∙ ap (λ ws. old ++ extent_line depth space (bounds_range q) (part_name (part_of q) q.prefetch ∷ slot_text q.slot ∷ hex_byte q.reg ∷ ws)) (ap isa_word is ∙ sym (isa_said given space q.slot q.part q.reg))
 
@@ -53,3 +55,18 @@ region_cells a b c d e f h k last whole part slot register cut at bt ct dt et ft
     three_words a b c d e f h last part slot register (words (isa_word cut)) bt ct dt et ft ht
     (lt ∙ ap (λ t. t ++ 10 ∷ []) kt ∙ append_assoc h (isa_ending cut) (10 ∷ []) ∙ ap (λ t. h ++ t) (word_ended cut))
     ∙ ap (λ t. t ++ words (part ∷ slot ∷ register ∷ isa_word cut)) at
+
+-- ---- told ranges
+
+name_ended : (name : List ℕ) → name_ending name ++ 10 ∷ [] ≡ words (name_words name)
+name_ended [] = refl
+name_ended (c ∷ name) = refl
+
+-- the cells of a told range's line
+pub told_cells : (a b c d e f h k last whole part slot register name : List ℕ) → a ≡ whole → b ≡ a ++ 32 ∷ [] → c ≡ b ++ part
+    → d ≡ c ++ 32 ∷ [] → e ≡ d ++ slot → f ≡ e ++ 32 ∷ [] → h ≡ f ++ register → k ≡ h ++ name_ending name → last ≡ k ++ 10 ∷ []
+    → last ≡ whole ++ words (part ∷ slot ∷ register ∷ name_words name)
+told_cells a b c d e f h k last whole part slot register name at bt ct dt et ft ht kt lt =
+    three_words a b c d e f h last part slot register (words (name_words name)) bt ct dt et ft ht
+    (lt ∙ ap (λ t. t ++ 10 ∷ []) kt ∙ append_assoc h (name_ending name) (10 ∷ []) ∙ ap (λ t. h ++ t) (name_ended name))
+    ∙ ap (λ t. t ++ words (part ∷ slot ∷ register ∷ name_words name)) at

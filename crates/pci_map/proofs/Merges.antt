@@ -7,22 +7,23 @@ use Rattle.std.proofs.lemmas.List.{map-append, take-append-drop, get_or-map, len
 use Rattle.std.proofs.lemmas.List.Elements.{Contains-get_or, All-contains, Contains-append_cases}
 use Rattle.pci_spec.specs.System.{System, Space}
 use Rattle.pci_spec.specs.Decoded as decoded
-use Rattle.pci_spec.specs.Why as why
-use Rattle.pci_spec.specs.Why.{IsRegionIn, IsRun, AreRuns}
+use Rattle.pci_spec.specs.Why.{IsRun, AreRuns}
 use Rattle.pci_spec.proofs.Members.{IsMade, in_nil, in_cons_cases, in_head, in_tail, in_map_to, in_map_from, pairs_nil, pairs_cons, pairs_head, pairs_tail, pairs_append, pairs_map}
 use Rattle.given_spec.specs.Given.{Given}
+use Rattle.given_spec.specs.ToldClaims.{Told}
+use Rattle.map_spec.specs.Regions.{MapRegion, space_of, IsIn}
 use Rattle.map_spec.specs.Lines as spec
 use Rattle.map_spec.specs.Lines.{Lines, End, Free, Sits, MapPlace, Mark, region_mark, run_mark, marks, regions_at, runs_at, StandsInPlace, IsOutOfPlace, IsFreeInPlace, AreLinesAt}
 use Rattle.pci_base.specs.declared.range.Range.{Range}
 use Rattle.pci_base.specs.Ranges.{decoded_range_of}
-use Rattle.pci_tree.specs.declared.region.Region.{Region}
-use Rattle.pci_tree.specs.Outline as tree
-use Rattle.pci_map.specs.Values.{value_of}
+use Rattle.pci_map.specs.declared.seat.Seat.{Seat}
+use Rattle.pci_map.specs.Seats.{seat_value, seat_first, SeatIsBefore, IsAmong}
+use Rattle.pci_map.proofs.Values.{first_of}
 use Rattle.pci_map.specs.Walk.{ahead, Entry, Run, At, entries, run_entries, merged}
 
 -- ---- what entries tell
 
-abbrev seats : List Entry → List why.Region
+abbrev seats : List Entry → List MapRegion
 seats [] = []
 seats (Run r ∷ es) = seats es
 seats (At q ∷ es) = q ∷ seats es
@@ -71,20 +72,20 @@ joined_parts : (n : ℕ) (rs : List Range) → map decoded_range_of (take n rs) 
 joined_parts n rs = sym (map-append decoded_range_of (take n rs) (drop n rs)) ∙ ap (map decoded_range_of) (take-append-drop n rs)
 
 module _ (space : Space) where
-  merged_seats : (qs : List Region) (rs : List Range) → seats (merged space qs rs) ≡ map (value_of space) qs
+  merged_seats : (qs : List Seat) (rs : List Range) → seats (merged space qs rs) ≡ map (seat_value space) qs
   unfolding merged
   merged_seats [] rs = seats_none (map decoded_range_of rs)
   merged_seats (q ∷ qs) rs =
-      seats_past (map decoded_range_of (take (ahead q.first rs) rs)) (At (value_of space q) ∷ merged space qs (drop (ahead q.first rs) rs))
-      ∙ ap (λ vs. value_of space q ∷ vs) (merged_seats qs (drop (ahead q.first rs) rs))
+      seats_past (map decoded_range_of (take (ahead (seat_first q) rs) rs)) (At (seat_value space q) ∷ merged space qs (drop (ahead (seat_first q) rs) rs))
+      ∙ ap (λ vs. seat_value space q ∷ vs) (merged_seats qs (drop (ahead (seat_first q) rs) rs))
 
-  merged_runs : (qs : List Region) (rs : List Range) → runs (merged space qs rs) ≡ map decoded_range_of rs
+  merged_runs : (qs : List Seat) (rs : List Range) → runs (merged space qs rs) ≡ map decoded_range_of rs
   unfolding merged
   merged_runs [] rs = runs_all (map decoded_range_of rs)
   merged_runs (q ∷ qs) rs =
-      runs_past (map decoded_range_of (take (ahead q.first rs) rs)) (At (value_of space q) ∷ merged space qs (drop (ahead q.first rs) rs))
-      ∙ ap (λ ts. map decoded_range_of (take (ahead q.first rs) rs) ++ ts) (merged_runs qs (drop (ahead q.first rs) rs))
-      ∙ joined_parts (ahead q.first rs) rs
+      runs_past (map decoded_range_of (take (ahead (seat_first q) rs) rs)) (At (seat_value space q) ∷ merged space qs (drop (ahead (seat_first q) rs) rs))
+      ∙ ap (λ ts. map decoded_range_of (take (ahead (seat_first q) rs) rs) ++ ts) (merged_runs qs (drop (ahead (seat_first q) rs) rs))
+      ∙ joined_parts (ahead (seat_first q) rs) rs
 
 -- ---- what is in parts
 
@@ -165,17 +166,17 @@ first_after n m k low before = elim before [
 ]
 
 module _ (space : Space) where
-  in_merged : (qs : List Region) (rs : List Range) (e : Entry) → Rises rs → Contains (merged space qs rs) e
-      → IsMade (λ q. At (value_of space q)) qs e ⊎ IsMade (λ r. Run (decoded_range_of r)) rs e
+  in_merged : (qs : List Seat) (rs : List Range) (e : Entry) → Rises rs → Contains (merged space qs rs) e
+      → IsMade (λ q. At (seat_value space q)) qs e ⊎ IsMade (λ r. Run (decoded_range_of r)) rs e
   unfolding merged
   in_merged [] rs e up has = inr (in_runs rs e has)
   in_merged (q ∷ qs) rs e up has =
-      let parts = split q.first rs up in
-      let before = take (ahead q.first rs) rs in
-      let behind = drop (ahead q.first rs) rs in
-      elim (Contains-append_cases (run_entries before) (At (value_of space q) ∷ merged space qs behind) e has) [
+      let parts = split (seat_first q) rs up in
+      let before = take (ahead (seat_first q) rs) rs in
+      let behind = drop (ahead (seat_first q) rs) rs in
+      elim (Contains-append_cases (run_entries before) (At (seat_value space q) ∷ merged space qs behind) e has) [
         | inl early ↦ (let made = in_runs before e early in inr (record { from = made.from; has = (parts.before_in made.from made.has).0; is = made.is }))
-        | inr late ↦ elim (in_cons_cases (At (value_of space q)) (merged space qs behind) e late) [
+        | inr late ↦ elim (in_cons_cases (At (seat_value space q)) (merged space qs behind) e late) [
           | inl here ↦ inl (record { from = q; has = in_head q qs; is = here })
           | inr later ↦ elim (in_merged qs behind e parts.behind_rises later) [
             | inl made ↦ inl (record { from = made.from; has = in_tail q qs made.from made.has; is = made.is })
@@ -184,32 +185,32 @@ module _ (space : Space) where
         ]
       ]
 
-  pub merged_rises : (qs : List Region) (rs : List Range) → AllPairs tree.IsBefore qs → Rises rs
-      → ((q : Region) (r : Range) → Contains qs q → Contains rs r → q.first ≡ r.first → ⊥) → AllPairs Before (merged space qs rs)
+  pub merged_rises : (qs : List Seat) (rs : List Range) → AllPairs (SeatIsBefore space) qs → Rises rs
+      → ((q : Seat) (r : Range) → Contains qs q → Contains rs r → seat_first q ≡ r.first → ⊥) → AllPairs Before (merged space qs rs)
   unfolding merged
   merged_rises [] rs sorted up apart = runs_rise rs up
   merged_rises (q ∷ qs) rs sorted up apart =
-      let parts = split q.first rs up in
-      let before = take (ahead q.first rs) rs in
-      let behind = drop (ahead q.first rs) rs in
-      let rest = merged_rises qs behind (pairs_tail tree.IsBefore q qs sorted) parts.behind_rises
+      let parts = split (seat_first q) rs up in
+      let before = take (ahead (seat_first q) rs) rs in
+      let behind = drop (ahead (seat_first q) rs) rs in
+      let rest = merged_rises qs behind (pairs_tail (SeatIsBefore space) q qs sorted) parts.behind_rises
       (λ p r in_qs in_rs. apart p r (in_tail q qs p in_qs) (parts.behind_in r in_rs).0) in
-      let above : (y : Entry) → Contains (merged space qs behind) y → Before (At (value_of space q)) y = λ y has. elim (in_merged qs behind y parts.behind_rises has) [
-        | inl made ↦ subst (λ e. Before (At (value_of space q)) e) made.is (pairs_head tree.IsBefore q qs made.from sorted made.has)
+      let above : (y : Entry) → Contains (merged space qs behind) y → Before (At (seat_value space q)) y = λ y has. elim (in_merged qs behind y parts.behind_rises has) [
+        | inl made ↦ subst (λ e. Before (At (seat_value space q)) e) made.is (pairs_head (SeatIsBefore space) q qs made.from sorted made.has)
         | inr made ↦ (
             let at = parts.behind_in made.from made.has in
             let low = at.1 in
-            let other : q.first ≡ made.from.first → ⊥ = apart q made.from (in_head q qs) at.0 in
-            subst (λ e. Before (At (value_of space q)) e) made.is (inl (less q.first made.from.first low other)))
+            let other : seat_first q ≡ made.from.first → ⊥ = apart q made.from (in_head q qs) at.0 in
+            subst (λ e. Before (At (seat_value space q)) e) made.is (inl (subst (λ n. n < made.from.first) (sym (first_of space q)) (less (seat_first q) made.from.first low other))))
       ] in
-      pairs_append Before (run_entries before) (At (value_of space q) ∷ merged space qs behind) (runs_rise before parts.before_rises)
-      (pairs_cons Before (At (value_of space q)) (merged space qs behind) above rest)
+      pairs_append Before (run_entries before) (At (seat_value space q) ∷ merged space qs behind) (runs_rise before parts.before_rises)
+      (pairs_cons Before (At (seat_value space q)) (merged space qs behind) above rest)
       (λ x y in_before in_rest. (
       let made = in_runs before x in_before in
       let low = (parts.before_in made.from made.has).1 in
-      subst (λ e. Before e y) made.is (elim (in_cons_cases (At (value_of space q)) (merged space qs behind) y in_rest) [
-        | inl here ↦ subst (λ e. Before (Run (decoded_range_of made.from)) e) here (inl low)
-        | inr later ↦ inl (first_after made.from.first (region_mark (value_of space q)) (mark y) low (above y later))
+      subst (λ e. Before e y) made.is (elim (in_cons_cases (At (seat_value space q)) (merged space qs behind) y in_rest) [
+        | inl here ↦ subst (λ e. Before (Run (decoded_range_of made.from)) e) here (inl (subst (λ n. made.from.first < n) (sym (first_of space q)) low))
+        | inr later ↦ inl (first_after made.from.first (region_mark (seat_value space q)) (mark y) (subst (λ n. made.from.first < n) (sym (first_of space q)) low) (above y later))
       ])))
 
 module _ (P : ℕ → Type 0) (rs : List Range) (free : AreRuns P (map decoded_range_of rs)) where
@@ -230,25 +231,27 @@ module _ (P : ℕ → Type 0) (rs : List Range) (free : AreRuns P (map decoded_r
       (free.rising i j (decoded_range_of d) lt (omega (arith, within, long)))) in
       omega (arith, some, past))
 
-pub lines_are : (given : Given) (roots : List ℕ) (s : System) (space : Space) (place : MapPlace) (lines : Lines) (qs : List Region) (rs : List Range) → entries lines ≡ merged space qs rs
-    → ((q : Region) → Contains qs q → IsRegionIn s (value_of space q)) → ((q : Region) → Contains qs q → StandsInPlace given s place (value_of space q))
-    → ((q : Region) → Contains qs q → IsOutOfPlace given roots s (value_of space q) → ⊥)
-    → ((v : why.Region) → IsRegionIn s v → v.space ≡ space → StandsInPlace given s place v → (IsOutOfPlace given roots s v → ⊥) → Contains (map (value_of space) qs) v)
-    → AreRuns (IsFreeInPlace given s space place) (map decoded_range_of rs) → AllPairs tree.IsBefore qs
-    → ((q : Region) (a : ℕ) → Contains qs q → a ≡ q.first → IsFreeInPlace given s space place a → ⊥) → AreLinesAt given roots s space place lines
-lines_are given roots s space place lines qs rs is each stand within complete free sorted apart =
-    let here : regions_at lines ≡ map (value_of space) qs = seats_of lines ∙ ap seats is ∙ merged_seats space qs rs in
+pub lines_are : (told : Told) (given : Given) (roots : List ℕ) (s : System) (space : Space) (place : MapPlace) (lines : Lines) (qs : List Seat) (rs : List Range) → entries lines ≡ merged space qs rs
+    → ((q : Seat) → Contains qs q → IsIn told s (seat_value space q)) → ((q : Seat) → Contains qs q → space_of (seat_value space q) ≡ space) → ((q : Seat) → Contains qs q → StandsInPlace given s place (seat_value space q))
+    → ((q : Seat) → Contains qs q → IsOutOfPlace told given roots s (seat_value space q) → ⊥)
+    → ((v : MapRegion) → IsIn told s v → space_of v ≡ space → StandsInPlace given s place v → (IsOutOfPlace told given roots s v → ⊥) → IsAmong space qs v)
+    → AreRuns (IsFreeInPlace told given s space place) (map decoded_range_of rs) → AllPairs (SeatIsBefore space) qs
+    → ((q : Seat) (a : ℕ) → Contains qs q → a ≡ seat_first q → IsFreeInPlace told given s space place a → ⊥) → AreLinesAt told given roots s space place lines
+lines_are told given roots s space place lines qs rs is each of stand within complete free sorted apart =
+    let here : regions_at lines ≡ map (seat_value space) qs = seats_of lines ∙ ap seats is ∙ merged_seats space qs rs in
     let runs_here : runs_at lines ≡ map decoded_range_of rs = runs_of lines ∙ ap runs is ∙ merged_runs space qs rs in
-    let from : (v : why.Region) → Contains (regions_at lines) v → IsMade (value_of space) qs v =
-    λ v has. in_map_to (value_of space) qs v (subst (λ vs. Contains vs v) here has) in
+    let from : (v : MapRegion) → Contains (regions_at lines) v → IsMade (seat_value space) qs v =
+    λ v has. in_map_to (seat_value space) qs v (subst (λ vs. Contains vs v) here has) in
     record {
-      regions = λ v has. (let made = from v has in subst (IsRegionIn s) made.is (each made.from made.has));
-      of_space = λ v has. (let made = from v has in sym (ap (λ (x : why.Region). x.space) made.is));
+      regions = λ v has. (let made = from v has in subst (IsIn told s) made.is (each made.from made.has));
+      of_space = λ v has. (let made = from v has in subst (λ x. space_of x ≡ space) made.is (of made.from made.has));
       stand = λ v has. (let made = from v has in subst (StandsInPlace given s place) made.is (stand made.from made.has));
-      within = λ v has. (let made = from v has in subst (λ (x : why.Region). IsOutOfPlace given roots s x → ⊥) made.is (within made.from made.has));
-      complete = λ v is_in same at in_place. subst (λ vs. Contains vs v) (sym here) (complete v is_in same at in_place);
-      free = subst (AreRuns (IsFreeInPlace given s space place)) (sym runs_here) free;
+      within = λ v has. (let made = from v has in subst (λ (x : MapRegion). IsOutOfPlace told given roots s x → ⊥) made.is (within made.from made.has));
+      complete = λ v is_in same at in_place. (
+          let found = complete v is_in same at in_place in
+          subst (λ vs. Contains vs v) (sym here) (subst (Contains (map (seat_value space) qs)) found.is (in_map_from (seat_value space) qs found.q found.has)));
+      free = subst (AreRuns (IsFreeInPlace told given s space place)) (sym runs_here) free;
       rising = subst (AllPairs spec.MarkIsBefore) (sym (marks_of lines ∙ ap (map mark) is))
-          (pairs_map spec.MarkIsBefore mark (merged space qs rs) (merged_rises space qs rs sorted (first_rises (IsFreeInPlace given s space place) rs free) (λ q r in_qs in_rs same.
-          apart q r.first in_qs (sym same) (first_free (IsFreeInPlace given s space place) rs free r in_rs))));
+          (pairs_map spec.MarkIsBefore mark (merged space qs rs) (merged_rises space qs rs sorted (first_rises (IsFreeInPlace told given s space place) rs free) (λ q r in_qs in_rs same.
+          apart q r.first in_qs (sym same) (first_free (IsFreeInPlace told given s space place) rs free r in_rs))));
     }

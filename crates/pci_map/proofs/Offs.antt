@@ -1,9 +1,11 @@
 -- The lines of BARs that are off, and lines below a heading.
-use Rattle.std.proofs.Common.{◌≡◌, ℕ, ◌+◌, ◌<◌, List, [], ◌∷◌, ◌++◌, map, take, length, get_or, refl, sym, ◌∙◌, ap, subst, codes, Bool, true, false, not, if◌then◌else◌, append-nil}
-use Rattle.std.specs.List.{Contains, flat_map, filter}
+use Rattle.std.proofs.Common.{◌≡◌, ℕ, zero, suc, ◌+◌, ◌<◌, ◌≤◌, drop, ◌&&◌, inl, inr, arith, List, [], ◌∷◌, ◌++◌, map, take, length, get_or, refl, sym, ◌∙◌, ap, subst, codes, Bool, true, false, not, if◌then◌else◌, append-nil}
+use Rattle.std.specs.List.{AllWithin, Contains, flat_map, filter}
+use Rattle.std.proofs.lemmas.Bool.{cases_Bool, cases_lt}
 use Rattle.std.proofs.lemmas.Grind.{flat_map-append}
-use Rattle.std.proofs.lemmas.List.{append_assoc, map_more}
-use Rattle.pci_spec.specs.Slot.{Slot}
+use Rattle.std.proofs.lemmas.List.Elements.{Contains-append_cases}
+use Rattle.std.proofs.lemmas.List.{append_assoc, map_more, drop_more, length-drop, get_or-drop, get_or_read}
+use Rattle.pci_spec.specs.Slot.{Slot, IsSlot, same_slot, slot_number}
 use Rattle.pci_spec.specs.Text.{hex_byte, slot_text}
 use Rattle.pci_spec.specs.Header.{command}
 use Rattle.pci_spec.specs.System.{System, Function, Space, Bar, is_space_on}
@@ -11,9 +13,15 @@ use Rattle.pci_spec.specs.Decoded.{Range, DecodedBar, Record, HasRecords, record
 use Rattle.pci_spec.specs.Listing.{kind_space}
 use Rattle.pci_spec.specs.Why.{off_bars}
 use Rattle.pci_spec.proofs.Members.{in_head, in_flat_map_to, in_map_to}
-use Rattle.map_spec.specs.MapText.{indent, part_name, extent_line, under_heading, map_off_line, map_off_lines_of, map_off_text}
+use Rattle.pci_spec.proofs.Regions.{slot_number-same}
+use Rattle.given_spec.specs.Told.{ToldRange, IsTold}
+use Rattle.given_spec.specs.ToldClaims.{Told, is_range_on}
+use Rattle.given_spec.specs.ToldLine.{register_text}
+use Rattle.given_spec.specs.ToldRegion.{ToldRegion, told_extent, regions_from, is_off_at, off_ranges, name_words}
+use Rattle.given_spec.proofs.Judging.{slots_same}
+use Rattle.map_spec.specs.MapText.{indent, part_name, told_part_name, extent_line, under_heading, map_told_line, map_off_line, map_off_bars_of, map_off_lines_of, map_off_text}
 use Rattle.pci_tree.proofs.Regions.{on_same}
-use Rattle.pci_map.specs.Off.{section, off_bars_text, off_record}
+use Rattle.pci_map.specs.Off.{section, off_bars_text, off_from, off_ranges_text, off_record}
 
 bar_named : (n : ℕ) (prefetch : Bool) → part_name (Bar n) prefetch ≡ part_name (Bar 0) prefetch
 bar_named n true = refl
@@ -44,12 +52,37 @@ off_of_some f (b ∷ bars) =
     ap (λ on. (if on then [] else map_off_line f.slot b) ++ off_bars_text f.slot (command f.image) bars) (sym (on_same f (kind_space b.kind)))
     ∙ one_more (is_space_on f (kind_space b.kind)) f.slot b (filter (is_off f) bars) (off_bars_text f.slot (command f.image) bars) (off_of_some f bars)
 
-off_of_all : (s : System) → flat_map off_record (map record_of s) ≡ whole (flat_map map_off_lines_of s)
-off_of_all [] = refl
-off_of_all (f ∷ s) =
-    ap (λ t. t ++ flat_map off_record (map record_of s)) (off_of_some f (decoded_bars f.image f.probe))
-    ∙ ap (λ t. whole (map_off_lines_of f) ++ t) (off_of_all s)
-    ∙ sym (flat_map-append (λ text. text) (map_off_lines_of f) (flat_map map_off_lines_of s))
+-- ---- told ranges
+
+whole_mapped : {X : Type 0} (line : X → List ℕ) (xs : List X) → whole (map line xs) ≡ flat_map line xs
+whole_mapped line [] = refl
+whole_mapped line (x ∷ xs) = ap (λ t. line x ++ t) (whole_mapped line xs)
+
+module _ (told : Told) (s : System) where
+  off_same : (slot : Slot) (first : ℕ) (ranges : List ToldRange) → off_from first ranges (map (is_range_on told s) ranges) slot ≡ filter (is_off_at told s slot) (regions_from first ranges)
+  unfolding off_from
+  off_same slot first [] = refl
+  off_same slot first (r ∷ ranges) =
+      ap (λ xs. if is_off_at told s slot (record { register = first; told = r }) then record { register = first; told = r } ∷ xs else xs) (off_same slot (first + 1) ranges)
+
+  module _ (on : List Bool) (are : on ≡ map (is_range_on told s) told.ranges) where
+    off_of_ranges : (slot : Slot) → off_ranges_text told.ranges on slot ≡ whole (map (map_told_line 1) (off_ranges told s slot))
+    off_of_ranges slot =
+        ap (λ xs. flat_map (map_told_line 1) xs) (ap (λ os. off_from 256 told.ranges os slot) are ∙ off_same slot 256 told.ranges)
+        ∙ sym (whole_mapped (map_told_line 1) (off_ranges told s slot))
+
+    off_of_one : (f : Function) → off_record told.ranges on (record_of f) ≡ whole (map_off_lines_of told s f)
+    off_of_one f =
+        ap (λ t. t ++ off_ranges_text told.ranges on f.slot) (off_of_some f (decoded_bars f.image f.probe))
+        ∙ ap (λ t. whole (map_off_bars_of f) ++ t) (off_of_ranges f.slot)
+        ∙ sym (flat_map-append (λ text. text) (map_off_bars_of f) (map (map_told_line 1) (off_ranges told s f.slot)))
+
+    off_of_all : (fs : System) → flat_map (off_record told.ranges on) (map record_of fs) ≡ whole (flat_map (map_off_lines_of told s) fs)
+    off_of_all [] = refl
+    off_of_all (f ∷ fs) =
+        ap (λ t. t ++ flat_map (off_record told.ranges on) (map record_of fs)) (off_of_one f)
+        ∙ ap (λ t. whole (map_off_lines_of told s f) ++ t) (off_of_all fs)
+        ∙ sym (flat_map-append (λ text. text) (map_off_lines_of told s f) (flat_map (map_off_lines_of told s) fs))
 
 -- ---- below a heading
 
@@ -67,18 +100,26 @@ section_of heading (line ∷ lines) each =
     let set = each line (in_head line lines) in
     subst (λ l. section heading (whole (l ∷ lines)) ≡ under_heading heading (l ∷ lines)) (sym set.1) refl
 
-off_set : (s : System) (line : List ℕ) → Contains (flat_map map_off_lines_of s) line → IsSet line
-off_set s line has =
-    let of = in_flat_map_to map_off_lines_of s line has in
-    let made = in_map_to (map_off_line of.of.slot) (off_bars of.of) line of.piece in
-    subst IsSet made.is (extent_set (kind_space made.from.kind) made.from.range (part_name (Bar 0) made.from.prefetchable ∷ slot_text of.of.slot ∷ hex_byte made.from.register ∷ []))
+off_set : (told : Told) (s fs : System) (line : List ℕ) → Contains (flat_map (map_off_lines_of told s) fs) line → IsSet line
+off_set told s fs line has =
+    let of = in_flat_map_to (map_off_lines_of told s) fs line has in
+    elim (Contains-append_cases (map_off_bars_of of.of) (map (map_told_line 1) (off_ranges told s of.of.slot)) line of.piece) [
+      | inl bar ↦ (
+          let made = in_map_to (map_off_line of.of.slot) (off_bars of.of) line bar in
+          subst IsSet made.is (extent_set (kind_space made.from.kind) made.from.range (part_name (Bar 0) made.from.prefetchable ∷ slot_text of.of.slot ∷ hex_byte made.from.register ∷ [])))
+      | inr range ↦ (
+          let made = in_map_to (map_told_line 1) (off_ranges told s of.of.slot) line range in
+          let x = made.from in
+          subst IsSet made.is (extent_set x.told.space (told_extent x.told) (told_part_name x ∷ slot_text x.told.slot ∷ register_text x.register ∷ name_words x.told.name)))
+    ]
 
 -- of a system with these records
-pub off_of_system : (s : System) (records : List Record) → HasRecords s records → section (codes "off") (flat_map off_record records) ≡ map_off_text s
-off_of_system s records has =
-    ap (λ rs. section (codes "off") (flat_map off_record rs)) (sym has.same)
-    ∙ ap (section (codes "off")) (off_of_all s)
-    ∙ section_of (codes "off") (flat_map map_off_lines_of s) (off_set s)
+pub off_of_system : (told : Told) (s : System) (on : List Bool) (records : List Record) → on ≡ map (is_range_on told s) told.ranges → HasRecords s records
+    → section (codes "off") (flat_map (off_record told.ranges on) records) ≡ map_off_text told s
+off_of_system told s on records are has =
+    ap (λ rs. section (codes "off") (flat_map (off_record told.ranges on) rs)) (sym has.same)
+    ∙ ap (section (codes "off")) (off_of_all told s on are s)
+    ∙ section_of (codes "off") (flat_map (map_off_lines_of told s) s) (off_set told s s)
 
 pub section_none : (heading below text : List ℕ) → below ≡ [] → text ≡ text ++ section heading below
 section_none heading below text none = sym (ap (λ b. text ++ section heading b) none ∙ append-nil text)
@@ -98,3 +139,99 @@ texts_more value line xs k x start now new within at before pushed =
     pushed ∙ ap (λ t. t ++ line (value x)) before ∙ append_assoc start (flat_map line early) (line (value x))
     ∙ ap (λ t. start ++ (flat_map line early ++ t)) (sym (append-nil (line (value x))))
     ∙ ap (λ t. start ++ t) (sym (ap (flat_map line) more ∙ flat_map-append line early (value x ∷ [])))
+
+-- ---- the ranges of a slot, among all of them
+
+off_nothing : (first : ℕ) (ranges : List ToldRange) (slot : Slot) → off_from first ranges [] slot ≡ []
+unfolding off_from
+off_nothing first [] slot = refl
+off_nothing first (r ∷ ranges) slot = refl
+
+other_slot : (a b : Slot) → (slot_number a ≡ slot_number b → ⊥) → same_slot a b ≡ false
+other_slot a b differ = elim (cases_Bool (same_slot a b)) [
+  | inl same ↦ absurd (differ (ap slot_number (slots_same a b same)))
+  | inr other ↦ other
+]
+
+-- those of lower slots come before
+pub off_skip : (first : ℕ) (ranges : List ToldRange) (on : List Bool) (slot : Slot) (i from : ℕ) → from ≡ first + i → i ≤ length ranges
+    → ((k : ℕ) (d : ToldRange) → k < i → slot_number (get_or ranges k d).slot < slot_number slot) → off_from first ranges on slot ≡ off_from from (drop i ranges) (drop i on) slot
+unfolding off_from
+off_skip first ranges on slot zero from is within below = ap (λ n. off_from n ranges on slot) (let e : first ≡ from = omega (arith, is) in e)
+off_skip first [] on slot (suc i) from is within below = absurd (let no : ⊥ = omega (arith, within) in no)
+off_skip first (r ∷ ranges) [] slot (suc i) from is within below = sym (off_nothing from (drop i ranges) slot)
+off_skip first (r ∷ ranges) (b ∷ on) slot (suc i) from is within below =
+    ap (λ same. if same && not b then record { register = first; told = r } ∷ off_from (first + 1) ranges on slot else off_from (first + 1) ranges on slot)
+    (other_slot r.slot slot (λ e. (let less = below 0 r (omega arith) in let no : ⊥ = omega (arith, less, e) in no)))
+    ∙ off_skip (first + 1) ranges on slot i from (omega (arith, is)) (omega (arith, within)) (λ k d less. below (suc k) d (omega (arith, less)))
+
+-- none is of the slot
+pub off_none : (first : ℕ) (ranges : List ToldRange) (on : List Bool) (slot : Slot) → ((k : ℕ) (d : ToldRange) → k < length ranges → same_slot (get_or ranges k d).slot slot ≡ false) → off_from first ranges on slot ≡ []
+unfolding off_from
+off_none first [] on slot none = refl
+off_none first (r ∷ ranges) [] slot none = refl
+off_none first (r ∷ ranges) (b ∷ on) slot none =
+    ap (λ same. if same && not b then record { register = first; told = r } ∷ off_from (first + 1) ranges on slot else off_from (first + 1) ranges on slot) (none 0 r (omega arith))
+    ∙ off_none (first + 1) ranges on slot (λ k d less. none (suc k) d (omega (arith, less)))
+
+-- one range of the slot, by whether it is on
+abbrev off_here : ℕ → ToldRange → Bool → List ToldRegion → List ToldRegion
+off_here first r b more = if not b then record { register = first; told = r } ∷ more else more
+
+module _ (ranges : List ToldRange) (on : List Bool) (slot : Slot) (size : length on ≡ length ranges) (i : ℕ) (r : ToldRange) (b : Bool) (within : i < length ranges) (at : get_or ranges i r ≡ r) (flag : get_or on i b ≡ b) where
+  split : off_from (256 + i) (drop i ranges) (drop i on) slot ≡ off_from (256 + i) (r ∷ drop (i + 1) ranges) (b ∷ drop (i + 1) on) slot
+  split =
+      ap (λ rs. off_from (256 + i) rs (drop i on) slot) (drop_more ranges i r within ∙ ap (λ x. x ∷ drop (i + 1) ranges) at)
+      ∙ ap (λ bs. off_from (256 + i) (r ∷ drop (i + 1) ranges) bs slot) (drop_more on i b (omega (arith, within, size)) ∙ ap (λ x. x ∷ drop (i + 1) on) flag)
+
+  next : off_from (256 + i + 1) (drop (i + 1) ranges) (drop (i + 1) on) slot ≡ off_from (256 + (i + 1)) (drop (i + 1) ranges) (drop (i + 1) on) slot
+  next = ap (λ n. off_from n (drop (i + 1) ranges) (drop (i + 1) on) slot) (let e : 256 + i + 1 ≡ 256 + (i + 1) = omega arith in e)
+
+  here : same_slot r.slot slot ≡ true → off_from (256 + i) (drop i ranges) (drop i on) slot ≡ off_here (256 + i) r b (off_from (256 + (i + 1)) (drop (i + 1) ranges) (drop (i + 1) on) slot)
+  unfolding off_from
+  here same =
+      split
+      ∙ ap (λ s. if s && not b then record { register = 256 + i; told = r } ∷ off_from (256 + i + 1) (drop (i + 1) ranges) (drop (i + 1) on) slot else off_from (256 + i + 1) (drop (i + 1) ranges) (drop (i + 1) on) slot) same
+      ∙ ap (off_here (256 + i) r b) next
+
+  pub range_told : (x : ToldRegion) (start now new : List ℕ) (whole_text : List ℕ) → same_slot r.slot slot ≡ true → b ≡ false → x ≡ record { register = 256 + i; told = r }
+      → now ++ flat_map (map_told_line 1) (off_from (256 + i) (drop i ranges) (drop i on) slot) ≡ whole_text → new ≡ now ++ map_told_line 1 x
+      → new ++ flat_map (map_told_line 1) (off_from (256 + (i + 1)) (drop (i + 1) ranges) (drop (i + 1) on) slot) ≡ whole_text
+  range_told x start now new whole_text same off is before pushed =
+      let more = off_from (256 + (i + 1)) (drop (i + 1) ranges) (drop (i + 1) on) slot in
+      ap (λ t. t ++ flat_map (map_told_line 1) more) (pushed ∙ ap (λ y. now ++ map_told_line 1 y) is)
+      ∙ append_assoc now (map_told_line 1 (record { register = 256 + i; told = r })) (flat_map (map_told_line 1) more)
+      ∙ ap (λ xs. now ++ flat_map (map_told_line 1) xs) (sym (here same ∙ ap (λ f. off_here (256 + i) r f more) off))
+      ∙ before
+
+  pub range_on : (now whole_text : List ℕ) → same_slot r.slot slot ≡ true → b ≡ true
+      → now ++ flat_map (map_told_line 1) (off_from (256 + i) (drop i ranges) (drop i on) slot) ≡ whole_text
+      → now ++ flat_map (map_told_line 1) (off_from (256 + (i + 1)) (drop (i + 1) ranges) (drop (i + 1) on) slot) ≡ whole_text
+  range_on now whole_text same is_on before =
+      ap (λ xs. now ++ flat_map (map_told_line 1) xs) (sym (here same ∙ ap (λ f. off_here (256 + i) r f (off_from (256 + (i + 1)) (drop (i + 1) ranges) (drop (i + 1) on) slot)) is_on)) ∙ before
+
+-- behind one of a higher slot none is of the slot
+pub none_behind : (ranges : List ToldRange) → IsTold ranges → (slot : Slot) → IsSlot slot → (i : ℕ) (r : ToldRange) → i < length ranges → get_or ranges i r ≡ r
+    → AllWithin (λ x. slot_number slot ≤ slot_number x.slot) ranges i (length ranges) → (r.slot ≡ slot → ⊥)
+    → (k : ℕ) (d : ToldRange) → i ≤ k → k < length ranges → same_slot (get_or ranges k d).slot slot ≡ false
+none_behind ranges lawful slot is_slot i r within at after other k d from inside =
+    let low : slot_number slot ≤ slot_number (get_or ranges i r).slot = after i r (omega arith) within in
+    let here : slot_number (get_or ranges i r).slot ≡ slot_number r.slot = ap (λ (x : ToldRange). slot_number x.slot) at in
+    let is_r : IsSlot r.slot = subst (λ (x : ToldRange). IsSlot x.slot) at (lawful.each i r within).line.slot in
+    let above : slot_number slot < slot_number r.slot = elim (cases_lt (slot_number slot) (slot_number r.slot)) [
+      | inl less ↦ less
+      | inr ge ↦ absurd (other (slot_number-same r.slot slot is_r is_slot (let e : slot_number r.slot ≡ slot_number slot = omega (arith, low, here, ge) in e)))
+    ] in
+    other_slot (get_or ranges k d).slot slot (λ e. (
+    let up = lawful.order i k d from inside in
+    let same : slot_number (get_or ranges i d).slot ≡ slot_number r.slot = ap (λ (x : ToldRange). slot_number x.slot) (sym (get_or_read ranges i r within (sym at) d)) in
+    let no : ⊥ = omega (arith, up, same, above, e) in no))
+
+-- none of those behind is
+pub behind_none : (ranges : List ToldRange) (on : List Bool) (slot : Slot) (i n : ℕ) (now whole_text : List ℕ) → ((k : ℕ) (d : ToldRange) → i ≤ k → k < length ranges → same_slot (get_or ranges k d).slot slot ≡ false)
+    → now ++ flat_map (map_told_line 1) (off_from n (drop i ranges) (drop i on) slot) ≡ whole_text → now ≡ whole_text
+behind_none ranges on slot i n now whole_text none before =
+    let long = length-drop i ranges in
+    let left : off_from n (drop i ranges) (drop i on) slot ≡ [] = off_none n (drop i ranges) (drop i on) slot (λ k d less.
+    subst (λ (x : ToldRange). same_slot x.slot slot ≡ false) (sym (get_or-drop i ranges k d)) (none (i + k) d (omega arith) (omega (arith, less, long)))) in
+    sym (append-nil now) ∙ ap (λ xs. now ++ flat_map (map_told_line 1) xs) (sym left) ∙ before

@@ -10,6 +10,8 @@ use Rattle.pci_spec.specs.Decoded.{record_of}
 use Rattle.pci_spec.specs.Why.{IsRegionIn}
 use Rattle.pci_spec.proofs.BusRanges.{bus_order_means}
 use Rattle.given_spec.specs.Given.{Given}
+use Rattle.given_spec.specs.Told.{IsTold}
+use Rattle.given_spec.specs.ToldClaims.{Told}
 use Rattle.pci_function.specs.declared.record.Bridge.{Bridge}
 use Rattle.pci_function.specs.declared.record.Record.{Record}
 use Rattle.pci_function.specs.Values.{record_value}
@@ -17,11 +19,13 @@ use Rattle.pci_base.specs.declared.range.Range.{Range}
 use Rattle.pci_tree.specs.declared.region.Part.TheVariants.{Window}
 use Rattle.pci_tree.specs.declared.region.Region.{Region}
 use Rattle.pci_tree.specs.Ways.{slots_of, secondary_in}
-use Rattle.pci_tree.specs.Outline.{RiseBySlot, AreSortedRegionsOf}
+use Rattle.pci_tree.specs.Outline.{RiseBySlot}
 use Rattle.pci_tree.proofs.Lifting.{Has, record_for, same_bridge, same_secondary, same_slot_of, one_by_number, one_function}
 use Rattle.pci_claims.specs.Isa.{is_cut_region}
 use Rattle.pci_claims.proofs.Founds.{none_without_record}
 use Rattle.pci_map.specs.Values.{part_of, value_of}
+use Rattle.pci_map.specs.declared.seat.Seat.{Seat}
+use Rattle.pci_map.specs.Seats.{AreSortedSeatsOf}
 use Rattle.pci_map.specs.Gaps.{AreFreeInside}
 use Rattle.pci_map.specs.Above.{AreInPlace}
 use Rattle.pci_map.specs.Inside.{is_held_first, IsEarlierWindow, AreInsideWindow}
@@ -48,11 +52,11 @@ module _ (s : System) (rs : List Record) (space : Space) (w : Region) (has : Has
     pub no_bridge : Given → r.bridge ≡ None → ⊥
     no_bridge given none = false≢true (sym (ap is_some none) ∙ same_bridge r iw.f stands_for ∙ bridge_is given)
 
-    pub opened : (given : Given) (roots : List ℕ) (b : Bridge) (o : Option Region) (cut : Bool) (qs out : List Region) (runs : List Range) → IsNested roots s → r.bridge ≡ Some b → cut ≡ is_cut_region given space w
-        → IsEarlierWindow s space w o → AreSortedRegionsOf s b.secondary space qs → AreInPlace given roots s space (filter (is_held_first w o cut) qs) out → AreFreeInside given s b.secondary space w runs
-        → AreInsideWindow record { given = given; roots = roots; system = s; space = space } w b.secondary out runs
-    opened given roots b o cut qs out runs nested is cut_is early sorted placed free =
+    pub opened : (told : Told) → IsTold told.ranges → (given : Given) (roots : List ℕ) (b : Bridge) (o : Option Region) (cut : Bool) (qs out : List Seat) (runs : List Range) → IsNested roots s → r.bridge ≡ Some b → cut ≡ is_cut_region given space w
+        → IsEarlierWindow s space w o → AreSortedSeatsOf told s b.secondary space qs → AreInPlace told given roots s space (filter (is_held_first w o cut) qs) out → AreFreeInside told given s b.secondary space w runs
+        → AreInsideWindow record { told = told; given = given; roots = roots; system = s; space = space } w b.secondary out runs
+    opened told lawful given roots b o cut qs out runs nested is cut_is early sorted placed free =
         let leads : secondary iw.f ≡ b.secondary = sym (same_secondary r iw.f stands_for (bridge_is given)) ∙ ap secondary_in is in
         let rises : iw.f.slot.bus < secondary iw.f = ((bus_order_means iw.f).0 (nested.order iw.f iw.listed (bridge_is given))).1 in
         let bus : iw.f.slot.bus ≡ w.slot.bus = ap (λ (x : Slot). x.bus) iw.slot in
-        inside_is given s space w iw window one b.secondary leads qs sorted roots o cut out runs cut_is early (omega (arith, rises, bus, leads)) placed free
+        inside_is given s space w iw window one told lawful b.secondary leads qs sorted roots o cut out runs cut_is early (omega (arith, rises, bus, leads)) placed free

@@ -11,31 +11,32 @@ use Rattle.pci_spec.specs.Bus.{is_root}
 use Rattle.pci_spec.proofs.Members.{in_nil, in_cons_cases}
 use Rattle.pci_spec.proofs.BusRanges.{root_means}
 use Rattle.given_spec.specs.Given.{Given}
+use Rattle.given_spec.specs.ToldClaims.{Told}
 use Rattle.map_spec.specs.Map.{MapRoot, IsRootOfMap}
 use Rattle.map_spec.specs.MapText.{space_lines, root_text}
 use Rattle.pci_map.specs.Walk.{IsSpaceTold}
 use Rattle.pci_map.specs.Buses.{AreRootsTold}
 
-module _ (given : Given) (roots : List ℕ) (s : System) where
-  pub told_nothing : (text : List ℕ) → AreRootsTold given roots s [] text text
-  told_nothing text = record { told = []; buses = refl; each = λ root has. absurd (in_nil root has); text = sym (append-nil text) }
+module _ (told : Told) (given : Given) (roots : List ℕ) (s : System) where
+  pub told_nothing : (text : List ℕ) → AreRootsTold told given roots s [] text text
+  told_nothing text = record { written = []; buses = refl; each = λ root has. absurd (in_nil root has); text = sym (append-nil text) }
 
-  pub told_no_root : (bus : ℕ) (text : List ℕ) → is_root roots bus ≡ false → AreRootsTold given roots s (bus ∷ []) text text
+  pub told_no_root : (bus : ℕ) (text : List ℕ) → is_root roots bus ≡ false → AreRootsTold told given roots s (bus ∷ []) text text
   told_no_root bus text not_root = record {
-    told = [];
+    written = [];
     buses = ap (λ b. cond b (bus ∷ []) []) (sym not_root);
     each = λ root has. absurd (in_nil root has);
     text = sym (append-nil text);
   }
 
-  pub told_root : (bus : ℕ) (old mid new : List ℕ) → is_root roots bus ≡ true → IsSpaceTold record { given = given; roots = roots; system = s; space = Io } bus old mid → IsSpaceTold record { given = given; roots = roots; system = s; space = Memory } bus mid new
-      → AreRootsTold given roots s (bus ∷ []) old new
+  pub told_root : (bus : ℕ) (old mid new : List ℕ) → is_root roots bus ≡ true → IsSpaceTold record { told = told; given = given; roots = roots; system = s; space = Io } bus old mid → IsSpaceTold record { told = told; given = given; roots = roots; system = s; space = Memory } bus mid new
+      → AreRootsTold told given roots s (bus ∷ []) old new
   told_root bus old mid new root io memory =
       let one : MapRoot = record { bus = bus; io = io.lines; memory = memory.lines } in record {
-        told = one ∷ [];
+        written = one ∷ [];
         buses = ap (λ b. cond b (bus ∷ []) []) (sym root);
         each = λ r has. elim (in_cons_cases one [] r has) [
-          | inl here ↦ subst (IsRootOfMap given roots s) here (record { io = io.are; memory = memory.are })
+          | inl here ↦ subst (IsRootOfMap told given roots s) here (record { io = io.are; memory = memory.are })
           | inr none ↦ absurd (in_nil r none)
         ];
         text = memory.text ∙ ap (λ t. t ++ space_lines given bus Memory memory.lines) io.text
@@ -43,20 +44,20 @@ module _ (given : Given) (roots : List ℕ) (s : System) where
             ∙ ap (λ t. old ++ t) (sym (append-nil (root_text given one)));
       }
 
-  pub told_both : (buses more : List ℕ) (old mid new : List ℕ) → AreRootsTold given roots s buses old mid → AreRootsTold given roots s more mid new → AreRootsTold given roots s (buses ++ more) old new
+  pub told_both : (buses more : List ℕ) (old mid new : List ℕ) → AreRootsTold told given roots s buses old mid → AreRootsTold told given roots s more mid new → AreRootsTold told given roots s (buses ++ more) old new
   told_both buses more old mid new first second = record {
-    told = first.told ++ second.told;
-    buses = map-append (λ root. root.bus) first.told second.told
-        ∙ ap (λ bs. bs ++ map (λ (root : MapRoot). root.bus) second.told) first.buses
+    written = first.written ++ second.written;
+    buses = map-append (λ root. root.bus) first.written second.written
+        ∙ ap (λ bs. bs ++ map (λ (root : MapRoot). root.bus) second.written) first.buses
         ∙ ap (λ bs. filter (is_root roots) buses ++ bs) second.buses
         ∙ sym (filter-append (is_root roots) buses more);
-    each = λ root has. elim (Contains-append_cases first.told second.told root has) [
+    each = λ root has. elim (Contains-append_cases first.written second.written root has) [
       | inl early ↦ first.each root early
       | inr late ↦ second.each root late
     ];
-    text = second.text ∙ ap (λ t. t ++ flat_map (root_text given) second.told) first.text
-        ∙ append_assoc old (flat_map (root_text given) first.told) (flat_map (root_text given) second.told)
-        ∙ ap (λ t. old ++ t) (sym (flat_map-append (root_text given) first.told second.told));
+    text = second.text ∙ ap (λ t. t ++ flat_map (root_text given) second.written) first.text
+        ∙ append_assoc old (flat_map (root_text given) first.written) (flat_map (root_text given) second.written)
+        ∙ ap (λ t. old ++ t) (sym (flat_map-append (root_text given) first.written second.written));
   }
 
 one_longer : (low n : ℕ) → range_with_len low (suc n) ≡ range_with_len low n ++ (low + n) ∷ []
@@ -64,12 +65,12 @@ one_longer low zero = ap (λ k. k ∷ []) (let e : low ≡ low + 0 = omega arith
 one_longer low (suc n) = ap (λ bs. low ∷ bs) (one_longer (low + 1) n ∙ ap (λ k. range_with_len (low + 1) n ++ k ∷ []) (let e : low + 1 + n ≡ low + suc n = omega arith in e))
 
 -- one more bus
-pub told_more : (given : Given) (roots : List ℕ) (s : System) (k bus : ℕ) (old mid new : List ℕ) → bus ≡ k → AreRootsTold given roots s (range_with_len 0 k) old mid → AreRootsTold given roots s (bus ∷ []) mid new
-    → AreRootsTold given roots s (range_with_len 0 (k + 1)) old new
-told_more given roots s k bus old mid new is first second =
-    subst (λ bs. AreRootsTold given roots s bs old new)
+pub told_more : (told : Told) (given : Given) (roots : List ℕ) (s : System) (k bus : ℕ) (old mid new : List ℕ) → bus ≡ k → AreRootsTold told given roots s (range_with_len 0 k) old mid → AreRootsTold told given roots s (bus ∷ []) mid new
+    → AreRootsTold told given roots s (range_with_len 0 (k + 1)) old new
+told_more told given roots s k bus old mid new is first second =
+    subst (λ bs. AreRootsTold told given roots s bs old new)
     (ap (λ b. range_with_len 0 k ++ b ∷ []) (is ∙ (let z : k ≡ 0 + k = omega arith in z)) ∙ sym (one_longer 0 k) ∙ ap (range_with_len 0) (let e : suc k ≡ k + 1 = omega arith in e))
-    (told_both given roots s (range_with_len 0 k) (bus ∷ []) old mid new first second)
+    (told_both told given roots s (range_with_len 0 k) (bus ∷ []) old mid new first second)
 
 -- ---- whether a bus is one
 

@@ -1,49 +1,49 @@
 -- What stands inside a window, and on a root bus.
 use Rattle.std.proofs.Common.{◌≡◌, ℕ, suc, ◌+◌, List, [], ◌∷◌, ◌++◌, map, take, drop, length, arith, refl, sym, ap, ◌∙◌, subst, append-nil}
-use Rattle.std.specs.List.{Contains}
 use Rattle.std.proofs.lemmas.List.{append_assoc}
-use Rattle.pci_spec.specs.Slot.{Slot}
 use Rattle.pci_spec.specs.System.{System, Space}
-use Rattle.pci_spec.specs.Why as why
 use Rattle.pci_spec.specs.Why.{AreRuns}
-use Rattle.pci_spec.proofs.Members.{in_map_from}
 use Rattle.given_spec.specs.Given.{Given}
-use Rattle.map_spec.specs.Lines.{Lines, End, Free, Sits, OnRoot, Inside, IsClaimedOn, IsOutOfPlace, IsFreeOn, AreLinesAt, AreInside}
+use Rattle.given_spec.specs.ToldClaims.{Told}
+use Rattle.map_spec.specs.Regions.{Own}
+use Rattle.map_spec.specs.Lines.{Lines, End, Free, Sits, OnRoot, Inside, IsClaimedOn, IsOutOfPlace, IsFreeOn, AreLinesAt, AreInPart, AreInside}
 use Rattle.map_spec.specs.MapText.{bus_heading, map_region_line, lines_text, space_lines}
 use Rattle.pci_base.specs.declared.range.Range.{Range}
 use Rattle.pci_base.specs.Ranges.{decoded_range_of}
 use Rattle.pci_tree.specs.declared.region.Part.{Part}
 use Rattle.pci_tree.specs.declared.region.Part.TheVariants as parts
 use Rattle.pci_tree.specs.declared.region.Region.{Region}
-use Rattle.pci_tree.specs.Regions.{IsRegionOn}
-use Rattle.pci_tree.specs.Outline.{AreSortedRegionsOf}
-use Rattle.pci_map.specs.Values.{Mapped, part_at, part_of, value_of}
+use Rattle.pci_map.specs.declared.seat.Seat.{Seat}
+use Rattle.pci_map.specs.declared.seat.Seat.TheVariants as seats
+use Rattle.pci_map.specs.Values.{Mapped, part_at, value_of}
+use Rattle.pci_map.specs.Seats.{seat_value, seat_first, IsSeatOn, AreSortedSeatsOf}
+use Rattle.pci_map.specs.Gaps.{IsClaimedBy}
 use Rattle.pci_map.specs.Inside.{AreInsideWindow}
 use Rattle.pci_map.specs.Above.{AreInPlace}
-use Rattle.pci_map.specs.Walk.{ahead, Entry, Run, At, entries, run_entries, merged, ArePlacesWritten, IsSeated, IsSpaceTold}
-use Rattle.pci_map.proofs.Cuts.{first_own}
-use Rattle.pci_map.proofs.Values.{told_region, given_region}
+use Rattle.pci_map.specs.Walk.{ahead, Entry, Run, At, entries, run_entries, merged, ArePlacesWritten, IsSeated, IsNoWindow, HasInside, IsSpaceTold}
+use Rattle.pci_map.proofs.Cuts.{cut_of_region, first_own}
+use Rattle.pci_map.proofs.Values.{among, seat_in, seat_bus, seat_space}
+use Rattle.pci_map.proofs.Covering.{seat_claims}
 use Rattle.pci_map.proofs.Merges.{lines_are}
 
-module _ (given : Given) (roots : List ℕ) (s : System) (space : Space) where
+module _ (told : Told) (given : Given) (roots : List ℕ) (s : System) (space : Space) where
   abbrev the_space : Mapped
-  the_space = record { given = given; roots = roots; system = s; space = space }
+  the_space = record { told = told; given = given; roots = roots; system = s; space = space }
 
-  -- an enabled region of the bus claims its first address
-  claims_first : (bus : ℕ) (q : Region) → IsRegionOn s bus space q → IsClaimedOn given s bus space q.first
-  claims_first bus q on = record {
-    f = on.f;
-    part = on.part;
-    listed = on.listed;
-    on_bus = on.on_bus;
-    claims = first_own given s bus space q on;
-  }
+  first_claimed : (bus : ℕ) (q : Seat) → IsSeatOn told s bus space q → IsClaimedBy given space q (seat_first q)
+  first_claimed bus (seats.Own q) on = record { held = (omega arith, on.is.some); kept = cut_of_region given space on.f on.part q on.is q.first ∙ (first_own given s bus space q on).kept }
+  first_claimed bus (seats.OfLine x) on = (omega arith, on.is.some)
 
-  pub lines_inside : (w : Region) (bus : ℕ) (qs : List Region) (rs : List Range) (lines : Lines) → AreInsideWindow the_space w bus qs rs → entries lines ≡ merged space qs rs
-      → AreLinesAt given roots s space (Inside (value_of space w)) lines
+  -- a region of the bus claims its first address
+  claims_first : (bus : ℕ) (q : Seat) → IsSeatOn told s bus space q → IsClaimedOn told given s bus space (seat_first q)
+  claims_first bus q on = seat_claims told given s space bus q on (seat_first q) (first_claimed bus q on)
+
+  pub lines_inside : (w : Region) (bus : ℕ) (qs : List Seat) (rs : List Range) (lines : Lines) → AreInsideWindow the_space w bus qs rs → entries lines ≡ merged space qs rs
+      → AreLinesAt told given roots s space (Inside (value_of space w)) lines
   lines_inside w bus qs rs lines inside is =
-      lines_are given roots s space (Inside (value_of space w)) lines qs rs is
-      (λ q has. told_region s bus space q (inside.each q has))
+      lines_are told given roots s space (Inside (value_of space w)) lines qs rs is
+      (λ q has. seat_in told s bus space q (inside.each q has))
+      (λ q has. seat_space told s bus space q (inside.each q has))
       (λ q has. inside.belong q has)
       (λ q has. inside.within q has)
       (λ v is_in same under in_place. inside.complete v is_in same under in_place)
@@ -52,57 +52,63 @@ module _ (given : Given) (roots : List ℕ) (s : System) (space : Space) where
       (λ q a has at free. (
       let under = inside.belong q has in
       let on = inside.each q has in
-      let q_bus : q.slot.bus ≡ bus = ap (λ (x : Slot). x.bus) on.is.slot ∙ on.on_bus in
       free.unclaimed under.b under.listed under.slot
-      (subst (λ n. IsClaimedOn given s n space a) (sym (under.leads ∙ q_bus)) (subst (λ n. IsClaimedOn given s bus space n) (sym at) (claims_first bus q on)))))
+      (subst (λ n. IsClaimedOn told given s n space a) (sym (under.leads ∙ seat_bus told s bus space q on)) (subst (λ n. IsClaimedOn told given s bus space n) (sym at) (claims_first bus q on)))))
 
-  module _ (bus : ℕ) (all qs : List Region) (rs : List Range) (sorted : AreSortedRegionsOf s bus space all) (placed : AreInPlace given roots s space all qs)
-      (free : AreRuns (IsFreeOn given s bus space) (map decoded_range_of rs)) where
-    pub lines_on_root : (lines : Lines) → entries lines ≡ merged space qs rs → AreLinesAt given roots s space (OnRoot bus) lines
+  module _ (bus : ℕ) (all qs : List Seat) (rs : List Range) (sorted : AreSortedSeatsOf told s bus space all) (placed : AreInPlace told given roots s space all qs)
+      (free : AreRuns (IsFreeOn told given s bus space) (map decoded_range_of rs)) where
+    pub lines_on_root : (lines : Lines) → entries lines ≡ merged space qs rs → AreLinesAt told given roots s space (OnRoot bus) lines
     lines_on_root lines is =
-        lines_are given roots s space (OnRoot bus) lines qs rs is
-        (λ q has. told_region s bus space q (sorted.each q (placed.each q has)))
-        (λ q has. (let on = sorted.each q (placed.each q has) in ap (λ (x : Slot). x.bus) on.is.slot ∙ on.on_bus))
+        lines_are told given roots s space (OnRoot bus) lines qs rs is
+        (λ q has. seat_in told s bus space q (sorted.each q (placed.each q has)))
+        (λ q has. seat_space told s bus space q (sorted.each q (placed.each q has)))
+        (λ q has. seat_bus told s bus space q (sorted.each q (placed.each q has)))
         (λ q has. placed.within q has)
         (λ v is_in same at in_place. (
-        let found = given_region s bus space all v sorted.complete is_in at same in
-        let has = placed.complete found.0 found.1 (λ out. in_place (subst (λ x. IsOutOfPlace given roots s x) found.2 out)) in
-        subst (λ x. Contains (map (value_of space) qs) x) found.2 (in_map_from (value_of space) qs found.0 has)))
+        let found = among told s bus space all v sorted is_in at same in record {
+          q = found.0;
+          has = placed.complete found.0 found.1 (λ out. in_place (subst (λ x. IsOutOfPlace told given roots s x) found.2 out));
+          is = found.2;
+        }))
         free
         (placed.sorted sorted.sorted)
-        (λ q a has at is_free. is_free.unclaimed (subst (λ n. IsClaimedOn given s bus space n) (sym at) (claims_first bus q (sorted.each q (placed.each q has)))))
+        (λ q a has at is_free. is_free.unclaimed (subst (λ n. IsClaimedOn told given s bus space n) (sym at) (claims_first bus q (sorted.each q (placed.each q has)))))
 
   -- ---- a region, and what is inside it
 
-  none_inside : (part : Part) (reg : ℕ) (v : why.Region) → (part ≡ parts.Window → ⊥) → AreInside (part_at part reg) End (AreLinesAt given roots s space (Inside v) End)
-  none_inside parts.Bar reg v not_window = refl
-  none_inside parts.Rom reg v not_window = refl
-  none_inside parts.Window reg v not_window = absurd (not_window refl)
+  none_in_part : (part : Part) (reg : ℕ) (P : Type 0) → (part ≡ parts.Window → ⊥) → AreInPart (part_at part reg) End P
+  none_in_part parts.Bar reg P not_window = refl
+  none_in_part parts.Rom reg P not_window = refl
+  none_in_part parts.Window reg P not_window = absurd (not_window refl)
 
-  pub seat_alone : (depth : ℕ) (q : Region) (old new : List ℕ) → (q.part ≡ parts.Window → ⊥) → new ≡ old ++ map_region_line given depth (value_of space q) → IsSeated the_space depth q old new
+  none_inside : (q : Seat) → IsNoWindow q → AreInside told given roots s space (seat_value space q) End
+  none_inside (seats.Own q) not_window = none_in_part q.part q.reg (AreLinesAt told given roots s space (Inside (value_of space q)) End) not_window
+  none_inside (seats.OfLine x) not_window = refl
+
+  pub seat_alone : (depth : ℕ) (q : Seat) (old new : List ℕ) → IsNoWindow q → new ≡ old ++ map_region_line given depth (seat_value space q) → IsSeated the_space depth q old new
   unfolding lines_text
   seat_alone depth q old new not_window text = record {
     inside = End;
-    is = none_inside q.part q.reg (value_of space q) not_window;
+    is = none_inside q not_window;
     deeper = tt;
-    text = text ∙ ap (λ t. old ++ t) (sym (append-nil (map_region_line given depth (value_of space q))));
+    text = text ∙ ap (λ t. old ++ t) (sym (append-nil (map_region_line given depth (seat_value space q))));
   }
 
-  window_inside : (q : Region) (bus : ℕ) (qs : List Region) (rs : List Range) (lines : Lines) → q.part ≡ parts.Window → AreInsideWindow the_space q bus qs rs → entries lines ≡ merged space qs rs
-      → AreInside (part_of q) lines (AreLinesAt given roots s space (Inside (value_of space q)) lines)
+  window_inside : (q : Region) (bus : ℕ) (qs : List Seat) (rs : List Range) (lines : Lines) → q.part ≡ parts.Window → AreInsideWindow the_space q bus qs rs → entries lines ≡ merged space qs rs
+      → AreInside told given roots s space (Own (value_of space q)) lines
   window_inside q bus qs rs lines window inside is =
-      subst (λ p. AreInside (part_at p q.reg) lines (AreLinesAt given roots s space (Inside (value_of space q)) lines)) (sym window) (lines_inside q bus qs rs lines inside is)
+      subst (λ p. AreInPart (part_at p q.reg) lines (AreLinesAt told given roots s space (Inside (value_of space q)) lines)) (sym window) (lines_inside q bus qs rs lines inside is)
 
-  pub seat_of_window : (depth deeper : ℕ) (q : Region) (bus : ℕ) (qs : List Region) (rs : List Range) (old mid new : List ℕ) → deeper ≡ depth + 1 → q.part ≡ parts.Window → AreInsideWindow the_space q bus qs rs
-      → mid ≡ old ++ map_region_line given depth (value_of space q) → ArePlacesWritten the_space deeper (merged space qs rs) mid new → IsSeated the_space depth q old new
-  seat_of_window depth deeper q bus qs rs old mid new one window inside line placed = record {
+  pub seat_of_window : (depth deeper : ℕ) (q : Seat) (bus : ℕ) (qs : List Seat) (rs : List Range) (old mid new : List ℕ) → deeper ≡ depth + 1 → HasInside the_space q bus qs rs
+      → mid ≡ old ++ map_region_line given depth (seat_value space q) → ArePlacesWritten the_space deeper (merged space qs rs) mid new → IsSeated the_space depth q old new
+  seat_of_window depth deeper q bus qs rs old mid new one has line placed = record {
     inside = placed.lines;
-    is = window_inside q bus qs rs placed.lines window inside placed.entries;
+    is = subst (λ x. AreInside told given roots s space (seat_value space x) placed.lines) (sym has.is) (window_inside has.w bus qs rs placed.lines has.window has.inside placed.entries);
     deeper = placed.inside;
     text = placed.text
         ∙ ap (λ t. t ++ lines_text given deeper space placed.lines) line
-        ∙ append_assoc old (map_region_line given depth (value_of space q)) (lines_text given deeper space placed.lines)
-        ∙ ap (λ d. old ++ (map_region_line given depth (value_of space q) ++ lines_text given d space placed.lines)) (one ∙ (let e : depth + 1 ≡ suc depth = omega arith in e));
+        ∙ append_assoc old (map_region_line given depth (seat_value space q)) (lines_text given deeper space placed.lines)
+        ∙ ap (λ d. old ++ (map_region_line given depth (seat_value space q) ++ lines_text given d space placed.lines)) (one ∙ (let e : depth + 1 ≡ suc depth = omega arith in e));
   }
 
   -- ---- a root bus
@@ -116,14 +122,14 @@ module _ (given : Given) (roots : List ℕ) (s : System) (space : Space) where
   not_nil [] e es none = let n : suc (length es) ≡ 0 = ap length none in omega (arith, n)
   not_nil (x ∷ xs) e es none = let n : suc (length (xs ++ e ∷ es)) ≡ 0 = ap length none in omega (arith, n)
 
-  some_entries : (qs : List Region) (rs : List Range) → (qs ≡ [] → rs ≡ [] → ⊥) → merged space qs rs ≡ [] → ⊥
+  some_entries : (qs : List Seat) (rs : List Range) → (qs ≡ [] → rs ≡ [] → ⊥) → merged space qs rs ≡ [] → ⊥
   unfolding merged
   some_entries [] [] some none = some refl refl
   some_entries [] (r ∷ rs) some none = not_nil [] (Run (decoded_range_of r)) (run_entries rs) none
-  some_entries (q ∷ qs) rs some none = not_nil (run_entries (take (ahead q.first rs) rs)) (At (value_of space q)) (merged space qs (drop (ahead q.first rs) rs)) none
+  some_entries (q ∷ qs) rs some none = not_nil (run_entries (take (ahead (seat_first q) rs) rs)) (At (seat_value space q)) (merged space qs (drop (ahead (seat_first q) rs) rs)) none
 
-  module _ (bus : ℕ) (all qs : List Region) (rs : List Range) (sorted : AreSortedRegionsOf s bus space all) (placed : AreInPlace given roots s space all qs)
-      (free : AreRuns (IsFreeOn given s bus space) (map decoded_range_of rs)) where
+  module _ (bus : ℕ) (all qs : List Seat) (rs : List Range) (sorted : AreSortedSeatsOf told s bus space all) (placed : AreInPlace told given roots s space all qs)
+      (free : AreRuns (IsFreeOn told given s bus space) (map decoded_range_of rs)) where
     pub told_none : (text : List ℕ) → qs ≡ [] → rs ≡ [] → IsSpaceTold the_space bus text text
     unfolding merged
     told_none text none no_runs = record {

@@ -4,31 +4,35 @@ use Rattle.std.specs.Prelude.{◌==◌, ◌*◌}
 use Rattle.std.specs.List.{All, Contains, flat_map}
 use Rattle.std.proofs.lemmas.Grind.{flat_map-append}
 use Rattle.std.proofs.lemmas.Bool.{false≢true, cases_lt}
-use Rattle.std.proofs.lemmas.List.{append_assoc, map_more, take_all}
+use Rattle.std.proofs.lemmas.List.{append_assoc}
 use Rattle.std.proofs.lemmas.List.Elements.{Contains-append_cases, Contains-append_left, Contains-append_right, Contains-get_or, All-contains}
 use Rattle.pci_spec.specs.Slot.{Slot, slot_number}
 use Rattle.pci_spec.specs.Text.{hex_byte, slot_text}
 use Rattle.pci_spec.specs.Header.{layout, rom_place}
 use Rattle.pci_spec.specs.Window.{IoWindow, MemoryWindow, PrefetchWindow}
-use Rattle.pci_spec.specs.System.{System, Function, Space, Io, Memory, register_of, has_part, space_of}
+use Rattle.pci_spec.specs.System.{System, Function, Space, Io, Memory, register_of as part_register, has_part, space_of}
 use Rattle.pci_spec.specs.System as system
 use Rattle.pci_spec.specs.Bus.{IsNested}
 use Rattle.pci_spec.specs.Decoded.{HasRecords, IsDecodable}
 use Rattle.pci_spec.specs.Decoded as decoded
 use Rattle.pci_spec.specs.Why.{Region, IsRegionIn}
-use Rattle.pci_spec.proofs.Members.{in_nil, in_head, in_cons_cases, IsMade, in_map_to, in_map_from, pairs_nil, pairs_cons, pairs_append, pairs_head, pairs_tail}
+use Rattle.pci_spec.proofs.Members.{in_nil, in_head, in_cons_cases, IsMade, in_map_to, pairs_nil, pairs_cons, pairs_append, pairs_head, pairs_tail}
 use Rattle.pci_spec.proofs.Regions.{part_same, register_of-lt}
 use Rattle.given_spec.specs.Given.{Given}
 use Rattle.given_spec.specs.Why.{isa_words_of}
-use Rattle.map_spec.specs.Lines.{IsOutOfPlace, region_rank}
+use Rattle.given_spec.specs.ToldClaims.{Told}
+use Rattle.given_spec.specs.ToldLine.{register_text}
+use Rattle.given_spec.specs.ToldRegion.{ToldRegion, told_extent, IsToldIn, name_words}
+use Rattle.map_spec.specs.Regions.{MapRegion, Own, OfLine, slot_of, register_of, IsIn, region_rank}
+use Rattle.map_spec.specs.Regions as regions
+use Rattle.map_spec.specs.Lines.{IsOutOfPlace}
 use Rattle.map_spec.specs.Map.{IsOnlyLeft, AreRegionsBySlot}
-use Rattle.map_spec.specs.MapText.{part_name, map_region_line, outside_text, under_heading}
+use Rattle.map_spec.specs.MapText.{part_name, told_part_name, map_region_line, outside_text, under_heading}
 use Rattle.pci_function.specs.declared.record.Record.{Record}
 use Rattle.pci_function.specs.Values.{record_value}
 use Rattle.pci_tree.specs.Outline.{Tree, RiseBySlot}
-use Rattle.pci_tree.specs.Ways.{slots_of}
 use Rattle.pci_tree.specs.Regions.{IsLawful, IsRegionOn, regions_of}
-use Rattle.pci_tree.proofs.Lifting.{Has, record_for, function_for, same_slot_of, one_function}
+use Rattle.pci_tree.proofs.Lifting.{Has, function_for, one_function}
 use Rattle.pci_tree.proofs.RegionParts.{regions_are}
 use Rattle.pci_tree.specs.declared.region.Region as outline
 use Rattle.pci_claims.specs.Found.{IsFoundIn, NoneClaims}
@@ -36,7 +40,7 @@ use Rattle.pci_claims.proofs.Founds.{found_in_record, none_in_record}
 use Rattle.pci_map.specs.Values.{value_of}
 use Rattle.pci_map.specs.Off.{section}
 use Rattle.pci_map.specs.Left.{IsTreeOf}
-use Rattle.pci_map.specs.Asides.{AreFoundBy, IsListedAt, IsRecordIn, IsNamedAt, IsNamedAtRegister, IsNamedBelow, IsOfSlot, IsAmongSlots, AreAsidesWritten, AreAsides, AreAsidesTold}
+use Rattle.pci_map.specs.Asides.{AreFoundBy, IsListedAt, IsRecordIn, IsNamedAt, IsNamedAtRegister, IsNamedBelow, IsOfRegisters, IsTheRange, AreAsidesWritten, AreAsides, AreAsidesTold}
 use Rattle.pci_map.proofs.Firsts.{found_region}
 use Rattle.pci_map.proofs.Lefts.{AreOne, region_same}
 use Rattle.pci_map.proofs.Offs.{IsSet, extent_set, section_of}
@@ -59,7 +63,7 @@ one_at s unique p q ip iq slot register =
     let same : ip.f ≡ iq.f = unique ip.f iq.f ip.listed iq.listed (ip.slot ∙ slot ∙ sym iq.slot) in
     let p_there = there_is s p ip in
     let q_there = there_is s q iq in
-    let registers : register_of iq.f p.part ≡ register_of iq.f q.part = ap (λ f. register_of f p.part) (sym same) ∙ ip.register ∙ register ∙ sym iq.register in
+    let registers : part_register iq.f p.part ≡ part_register iq.f q.part = ap (λ f. part_register f p.part) (sym same) ∙ ip.register ∙ register ∙ sym iq.register in
     let part : p.part ≡ q.part = part_same iq.f p.part q.part (subst (λ f. has_part f p.part ≡ true) same p_there.there) q_there.there registers in
     let space : p.space ≡ q.space = sym p_there.maps ∙ ap (λ f. space_of f p.part) same ∙ ap (space_of iq.f) part ∙ q_there.maps in
     region_same s unique p q ip iq slot part space
@@ -71,7 +75,7 @@ four_of_rom : (bridge : Bool) → (n : ℕ) × (rom_place bridge ≡ 4 * n)
 four_of_rom true = (14, refl)
 four_of_rom false = (12, refl)
 
-four_of : (f : Function) (part : system.Part) → (n : ℕ) × (register_of f part ≡ 4 * n)
+four_of : (f : Function) (part : system.Part) → (n : ℕ) × (part_register f part ≡ 4 * n)
 four_of f (system.Bar n) = (n + 4, omega arith)
 four_of f system.Rom = four_of_rom (layout f.image == 1)
 four_of f (system.Window IoWindow) = (7, refl)
@@ -101,7 +105,7 @@ found_by s r space qs same is = record {
 }
 
 -- a record stands behind those before it
-before : (rs : List Record) (k : ℕ) (r x : Record) → RiseBySlot rs → k < length rs → get_or rs k r ≡ r → Contains (take k rs) x → slot_number x.slot < slot_number r.slot
+pub before : (rs : List Record) (k : ℕ) (r x : Record) → RiseBySlot rs → k < length rs → get_or rs k r ≡ r → Contains (take k rs) x → slot_number x.slot < slot_number r.slot
 before [] k r x rise lt at has = absurd (let no : ⊥ = omega (arith, lt) in no)
 before (y ∷ rs) zero r x rise lt at has = absurd (in_nil x has)
 before (y ∷ rs) (suc k) r x rise lt at has = elim (in_cons_cases y (take k rs) x has) [
@@ -124,13 +128,21 @@ found_on s slot reg space q found bus is = record {
   is = found.is;
 }
 
-abbrev IsLess : Region → Region → Type 0
+cases_space : (space : Space) → (space ≡ Io) ⊎ (space ≡ Memory)
+cases_space Io = inl refl
+cases_space Memory = inr refl
+
+abbrev is_io : Space → Bool
+is_io Io = true
+is_io Memory = false
+
+abbrev IsLess : MapRegion → MapRegion → Type 0
 IsLess p q = region_rank p < region_rank q
 
-module _ (given : Given) (Q : Region → Type 0) (s : System) where
-  pub told_none : (P : Region → Type 0) (text : List ℕ) → ((q : Region) → IsRegionIn s q → Q q → P q → ⊥) → AreAsidesWritten given Q s P text text
+module _ (told : Told) (given : Given) (Q : MapRegion → Type 0) (s : System) where
+  pub told_none : (P : MapRegion → Type 0) (text : List ℕ) → ((q : MapRegion) → IsIn told s q → Q q → P q → ⊥) → AreAsidesWritten told given Q s P text text
   told_none P text none = record {
-    told = [];
+    written = [];
     regions = λ q has. absurd (in_nil q has);
     hold = λ q has. absurd (in_nil q has);
     among = λ q has. absurd (in_nil q has);
@@ -139,17 +151,17 @@ module _ (given : Given) (Q : Region → Type 0) (s : System) where
     text = sym (append-nil text);
   }
 
-  in_one : (P : Region → Type 0) (q p : Region) → P q → Contains (q ∷ []) p → P p
+  in_one : (P : MapRegion → Type 0) (q p : MapRegion) → P q → Contains (q ∷ []) p → P p
   in_one P q p holds has = elim (in_cons_cases q [] p has) [
     | inl here ↦ subst P here holds
     | inr none ↦ absurd (in_nil p none)
   ]
 
-  told_one : (P : Region → Type 0) (q : Region) (old new : List ℕ) → IsRegionIn s q → Q q → P q → ((p : Region) → IsRegionIn s p → P p → p ≡ q) → new ≡ old ++ map_region_line given 1 q
-      → AreAsidesWritten given Q s P old new
+  told_one : (P : MapRegion → Type 0) (q : MapRegion) (old new : List ℕ) → IsIn told s q → Q q → P q → ((p : MapRegion) → IsIn told s p → P p → p ≡ q) → new ≡ old ++ map_region_line given 1 q
+      → AreAsidesWritten told given Q s P old new
   told_one P q old new is left holds only text = record {
-    told = q ∷ [];
-    regions = λ p has. in_one (IsRegionIn s) q p is has;
+    written = q ∷ [];
+    regions = λ p has. in_one (IsIn told s) q p is has;
     hold = λ p has. in_one Q q p left has;
     among = λ p has. in_one P q p holds has;
     complete = λ p of left_p holds_p. subst (λ z. Contains (q ∷ []) z) (sym (only p of holds_p)) (in_head q []);
@@ -158,209 +170,199 @@ module _ (given : Given) (Q : Region → Type 0) (s : System) where
   }
 
   -- lines of some, and behind them those of others
-  pub told_join : (P S R : Region → Type 0) (old mid new : List ℕ) → AreAsidesWritten given Q s P old mid → AreAsidesWritten given Q s S mid new
-      → ((p q : Region) → IsRegionIn s p → IsRegionIn s q → P p → S q → region_rank p < region_rank q)
-      → ((q : Region) → P q → R q) → ((q : Region) → S q → R q) → ((q : Region) → IsRegionIn s q → R q → P q ⊎ S q) → AreAsidesWritten given Q s R old new
+  pub told_join : (P S R : MapRegion → Type 0) (old mid new : List ℕ) → AreAsidesWritten told given Q s P old mid → AreAsidesWritten told given Q s S mid new
+      → ((p q : MapRegion) → IsIn told s p → IsIn told s q → P p → S q → region_rank p < region_rank q)
+      → ((q : MapRegion) → P q → R q) → ((q : MapRegion) → S q → R q) → ((q : MapRegion) → IsIn told s q → R q → P q ⊎ S q) → AreAsidesWritten told given Q s R old new
   told_join P S R old mid new first second order from_p from_s parts = record {
-    told = first.told ++ second.told;
-    regions = λ q has. elim (Contains-append_cases first.told second.told q has) [
+    written = first.written ++ second.written;
+    regions = λ q has. elim (Contains-append_cases first.written second.written q has) [
       | inl early ↦ first.regions q early
       | inr late ↦ second.regions q late
     ];
-    hold = λ q has. elim (Contains-append_cases first.told second.told q has) [
+    hold = λ q has. elim (Contains-append_cases first.written second.written q has) [
       | inl early ↦ first.hold q early
       | inr late ↦ second.hold q late
     ];
-    among = λ q has. elim (Contains-append_cases first.told second.told q has) [
+    among = λ q has. elim (Contains-append_cases first.written second.written q has) [
       | inl early ↦ from_p q (first.among q early)
       | inr late ↦ from_s q (second.among q late)
     ];
     complete = λ q is left holds. elim (parts q is holds) [
-      | inl early ↦ Contains-append_left first.told second.told q (first.complete q is left early)
-      | inr late ↦ Contains-append_right first.told second.told q (second.complete q is left late)
+      | inl early ↦ Contains-append_left first.written second.written q (first.complete q is left early)
+      | inr late ↦ Contains-append_right first.written second.written q (second.complete q is left late)
     ];
-    rising = pairs_append IsLess first.told second.told first.rising second.rising
+    rising = pairs_append IsLess first.written second.written first.rising second.rising
         (λ p q in_p in_q. order p q (first.regions p in_p) (second.regions q in_q) (first.among p in_p) (second.among q in_q));
-    text = second.text ∙ ap (λ t. t ++ flat_map (map_region_line given 1) second.told) first.text
-        ∙ append_assoc old (flat_map (map_region_line given 1) first.told) (flat_map (map_region_line given 1) second.told)
-        ∙ ap (λ t. old ++ t) (sym (flat_map-append (map_region_line given 1) first.told second.told));
+    text = second.text ∙ ap (λ t. t ++ flat_map (map_region_line given 1) second.written) first.text
+        ∙ append_assoc old (flat_map (map_region_line given 1) first.written) (flat_map (map_region_line given 1) second.written)
+        ∙ ap (λ t. old ++ t) (sym (flat_map-append (map_region_line given 1) first.written second.written));
   }
 
-  pub told_same : (P S : Region → Type 0) (old new : List ℕ) → AreAsidesWritten given Q s P old new → ((q : Region) → IsRegionIn s q → P q → S q) → ((q : Region) → IsRegionIn s q → S q → P q)
-      → AreAsidesWritten given Q s S old new
-  told_same P S old new told to from = record {
-    told = told.told;
-    regions = told.regions;
-    hold = told.hold;
-    among = λ q has. to q (told.regions q has) (told.among q has);
-    complete = λ q is left holds. told.complete q is left (from q is holds);
-    rising = told.rising;
-    text = told.text;
+  pub told_same : (P S : MapRegion → Type 0) (old new : List ℕ) → AreAsidesWritten told given Q s P old new → ((q : MapRegion) → IsIn told s q → P q → S q) → ((q : MapRegion) → IsIn told s q → S q → P q)
+      → AreAsidesWritten told given Q s S old new
+  told_same P S old new was to from = record {
+    written = was.written;
+    regions = was.regions;
+    hold = was.hold;
+    among = λ q has. to q (was.regions q has) (was.among q has);
+    complete = λ q is left holds. was.complete q is left (from q is holds);
+    rising = was.rising;
+    text = was.text;
   }
 
   -- ---- at a slot and a register
 
-  module _ (unique : AreOne s) (slot : Slot) (reg : ℕ) where
-    pub none_found : (space : Space) (text : List ℕ) → NoneClaims s slot reg space → AreAsidesWritten given Q s (IsNamedAt slot reg space) text text
-    none_found space text none = told_none (IsNamedAt slot reg space) text
-        (λ q is left at. none is.f q.part q.range.first is.listed (is.slot ∙ at.0) (is.register ∙ at.1) (subst (λ sp. system.Claims is.f q.part sp q.range.first) at.2 (there_is s q is)))
+  -- a told range has a register behind those of its slot
+  high_line : (x : ToldRegion) → IsToldIn told s x → (n : ℕ) → n ≤ 256 → x.register < n → ⊥
+  high_line x is n few low = let line = is.named.register in omega (arith, line, few, low)
+
+  one_own : AreOne s → (p q : MapRegion) → IsIn told s p → IsIn told s q → slot_of p ≡ slot_of q → register_of p ≡ register_of q → register_of p < 256 → p ≡ q
+  one_own unique (Own p) (Own q) ip iq slot register low = ap Own (one_at s unique p q ip iq slot register)
+  one_own unique (Own p) (OfLine y) ip iq slot register low = absurd (high_line y iq 256 (omega arith) (omega (arith, register, low)))
+  one_own unique (OfLine x) q ip iq slot register low = absurd (high_line x ip 256 (omega arith) low)
+
+  module _ (unique : AreOne s) (slot : Slot) (reg : ℕ) (small : reg < 256) where
+    none_named : (space : Space) → NoneClaims s slot reg space → (q : MapRegion) → IsIn told s q → IsNamedAt slot reg space q → ⊥
+    none_named space none (Own q) is at = none is.f q.part q.range.first is.listed (is.slot ∙ at.0) (is.register ∙ at.1) (subst (λ sp. system.Claims is.f q.part sp q.range.first) at.2 (there_is s q is))
+    none_named space none (OfLine x) is at = let named = at.1 in high_line x is 256 (omega arith) (omega (arith, named, small))
+
+    pub none_found : (space : Space) (text : List ℕ) → NoneClaims s slot reg space → AreAsidesWritten told given Q s (IsNamedAt slot reg space) text text
+    none_found space text none = told_none (IsNamedAt slot reg space) text (λ q is left at. none_named space none q is at)
 
     module _ (space : Space) (q : outline.Region) (found : IsFoundIn s slot reg space q) where
-      abbrev v : Region
-      v = value_of space q
+      abbrev v : MapRegion
+      v = Own (value_of space q)
 
-      same_found : (p : Region) → IsRegionIn s p → IsNamedAt slot reg space p → p ≡ v
-      same_found p is at = one_at s unique p v is (is_region s slot reg space q found) (at.0 ∙ sym found.slot_is) (at.1 ∙ sym found.register)
+      same_found : (p : MapRegion) → IsIn told s p → IsNamedAt slot reg space p → p ≡ v
+      same_found p is at =
+          let named = at.1 in
+          one_own unique p v is (is_region s slot reg space q found) (at.0 ∙ sym found.slot_is) (at.1 ∙ sym found.register) (omega (arith, named, small))
 
-      pub found_not : (text : List ℕ) → (Q v → ⊥) → AreAsidesWritten given Q s (IsNamedAt slot reg space) text text
+      pub found_not : (text : List ℕ) → (Q v → ⊥) → AreAsidesWritten told given Q s (IsNamedAt slot reg space) text text
       found_not text not = told_none (IsNamedAt slot reg space) text (λ p is holds at. not (subst Q (same_found p is at) holds))
 
-      pub found_one : (old new : List ℕ) → Q v → new ≡ old ++ map_region_line given 1 v → AreAsidesWritten given Q s (IsNamedAt slot reg space) old new
+      pub found_one : (old new : List ℕ) → Q v → new ≡ old ++ map_region_line given 1 v → AreAsidesWritten told given Q s (IsNamedAt slot reg space) old new
       found_one old new left text = told_one (IsNamedAt slot reg space) v old new (is_region s slot reg space q found) left (found.slot_is, found.register, refl) same_found text
 
-    cases_space : (space : Space) → (space ≡ Io) ⊎ (space ≡ Memory)
-    cases_space Io = inl refl
-    cases_space Memory = inr refl
-
-    abbrev is_io : Space → Bool
-    is_io Io = true
-    is_io Memory = false
-
     -- no register has regions of both spaces
-    pub both_spaces : (old mid new : List ℕ) → AreAsidesWritten given Q s (IsNamedAt slot reg Io) old mid → AreAsidesWritten given Q s (IsNamedAt slot reg Memory) mid new → AreAsidesWritten given Q s (IsNamedAtRegister slot reg) old new
+    pub both_spaces : (old mid new : List ℕ) → AreAsidesWritten told given Q s (IsNamedAt slot reg Io) old mid → AreAsidesWritten told given Q s (IsNamedAt slot reg Memory) mid new → AreAsidesWritten told given Q s (IsNamedAtRegister slot reg) old new
     both_spaces old mid new io memory =
         told_join (IsNamedAt slot reg Io) (IsNamedAt slot reg Memory) (IsNamedAtRegister slot reg) old mid new io memory
         (λ p q ip iq at_p at_q. (
-        let same : p ≡ q = one_at s unique p q ip iq (at_p.0 ∙ sym at_q.0) (at_p.1 ∙ sym at_q.1) in
-        absurd (false≢true (sym (ap is_io (sym at_p.2 ∙ ap (λ (z : Region). z.space) same ∙ at_q.2))))))
+        let named = at_p.1 in
+        let same : p ≡ q = one_own unique p q ip iq (at_p.0 ∙ sym at_q.0) (at_p.1 ∙ sym at_q.1) (omega (arith, named, small)) in
+        absurd (false≢true (sym (ap is_io (sym at_p.2 ∙ ap (λ (z : MapRegion). regions.space_of z) same ∙ at_q.2))))))
         (λ q at. (at.0, at.1)) (λ q at. (at.0, at.1))
-        (λ q is at. elim (cases_space q.space) [
+        (λ q is at. elim (cases_space (regions.space_of q)) [
           | inl io ↦ inl (at.0, at.1, io)
           | inr memory ↦ inr (at.0, at.1, memory)
         ])
 
   -- ---- of a function
 
-  none_of_space : (unique : AreOne s) (slot : Slot) (space : Space) (qs : List outline.Region) → AreFoundBy s slot space qs → ((q : outline.Region) → Contains qs q → Q (value_of space q) → ⊥)
-      → (q : Region) → IsRegionIn s q → q.slot ≡ slot → q.space ≡ space → Q q → ⊥
+  none_of_space : (unique : AreOne s) (slot : Slot) (space : Space) (qs : List outline.Region) → AreFoundBy s slot space qs → ((q : outline.Region) → Contains qs q → Q (Own (value_of space q)) → ⊥)
+      → (q : Region) → IsRegionIn s q → q.slot ≡ slot → q.space ≡ space → Q (Own q) → ⊥
   none_of_space unique slot space qs found none q is at same holds =
+      let low = register_low s q is in
       let listed : (x : outline.Region) → IsListedAt qs q.register x → ⊥ = λ x here.
-      none x here.0 (subst Q (same_found unique slot q.register space x (found.found q.register x here) q is (at, refl, same)) holds) in
+      none x here.0 (subst Q (same_found unique slot q.register (omega (arith, low)) space x (found.found q.register x here) (Own q) is (at, refl, same)) holds) in
       found.none q.register listed is.f q.part q.range.first is.listed (is.slot ∙ at) is.register (subst (λ sp. system.Claims is.f q.part sp q.range.first) same (there_is s q is))
+
+  none_here : (unique : AreOne s) (slot : Slot) (io memory : List outline.Region) → AreFoundBy s slot Io io → AreFoundBy s slot Memory memory
+      → ((q : outline.Region) → Contains io q → Q (Own (value_of Io q)) → ⊥) → ((q : outline.Region) → Contains memory q → Q (Own (value_of Memory q)) → ⊥) → (q : MapRegion) → IsIn told s q → Q q → IsOfRegisters slot q → ⊥
+  none_here unique slot io memory found_io found_memory none_io none_memory (Own q) is holds at = elim (cases_space q.space) [
+    | inl same ↦ none_of_space unique slot Io io found_io none_io q is at.0 same holds
+    | inr same ↦ none_of_space unique slot Memory memory found_memory none_memory q is at.0 same holds
+  ]
+  none_here unique slot io memory found_io found_memory none_io none_memory (OfLine x) is holds at = high_line x is 256 (omega arith) at.1
 
   -- no region that its lists have is such a one
   pub none_of : (unique : AreOne s) (slot : Slot) (io memory : List outline.Region) (text : List ℕ) → AreFoundBy s slot Io io → AreFoundBy s slot Memory memory
-      → ((q : outline.Region) → Contains io q → Q (value_of Io q) → ⊥) → ((q : outline.Region) → Contains memory q → Q (value_of Memory q) → ⊥) → AreAsidesWritten given Q s (IsOfSlot slot) text text
+      → ((q : outline.Region) → Contains io q → Q (Own (value_of Io q)) → ⊥) → ((q : outline.Region) → Contains memory q → Q (Own (value_of Memory q)) → ⊥) → AreAsidesWritten told given Q s (IsOfRegisters slot) text text
   none_of unique slot io memory text found_io found_memory none_io none_memory =
-      told_none (IsOfSlot slot) text (λ q is holds at. elim (cases_space unique slot 0 q.space) [
-        | inl same ↦ none_of_space unique slot Io io found_io none_io q is at same holds
-        | inr same ↦ none_of_space unique slot Memory memory found_memory none_memory q is at same holds
-      ])
+      told_none (IsOfRegisters slot) text (λ q is holds at. none_here unique slot io memory found_io found_memory none_io none_memory q is holds at)
 
   -- ---- at the registers of a function
 
-  pub below_none : (slot : Slot) (text : List ℕ) → AreAsidesWritten given Q s (IsNamedBelow slot 0) text text
+  pub below_none : (slot : Slot) (text : List ℕ) → AreAsidesWritten told given Q s (IsNamedBelow slot 0) text text
   below_none slot text = told_none (IsNamedBelow slot 0) text (λ q is left at. (let low = at.1 in omega (arith, low)))
 
-  below_cases : (q : Region) (slot : Slot) (k : ℕ) → IsRegionIn s q → q.slot ≡ slot → q.register < 4 * (k + 1) → IsNamedBelow slot (4 * k) q ⊎ IsNamedAtRegister slot (4 * k) q
-  below_cases q slot k is at low =
+  below_cases : (q : MapRegion) (slot : Slot) (k : ℕ) → k < 64 → IsIn told s q → slot_of q ≡ slot → register_of q < 4 * (k + 1) → IsNamedBelow slot (4 * k) q ⊎ IsNamedAtRegister slot (4 * k) q
+  below_cases (Own q) slot k few is at low =
       let quad = register_quad s q is in
       let n = quad.0 in
       let four = quad.1 in elim (cases_lt n k) [
         | inl less ↦ inl (at, omega (arith, less, four))
         | inr not_less ↦ inr (at, omega (arith, low, not_less, four))
       ]
+  below_cases (OfLine x) slot k few is at low = absurd (high_line x is (4 * (k + 1)) (omega (arith, few)) low)
 
   -- the next register of four bytes
-  pub one_register : (slot : Slot) (k : ℕ) (old mid new : List ℕ) → AreAsidesWritten given Q s (IsNamedBelow slot (4 * k)) old mid → AreAsidesWritten given Q s (IsNamedAtRegister slot (4 * k)) mid new
-      → AreAsidesWritten given Q s (IsNamedBelow slot (4 * (k + 1))) old new
-  one_register slot k old mid new first second =
+  pub one_register : (slot : Slot) (k : ℕ) (old mid new : List ℕ) → k < 64 → AreAsidesWritten told given Q s (IsNamedBelow slot (4 * k)) old mid → AreAsidesWritten told given Q s (IsNamedAtRegister slot (4 * k)) mid new
+      → AreAsidesWritten told given Q s (IsNamedBelow slot (4 * (k + 1))) old new
+  one_register slot k old mid new few first second =
       told_join (IsNamedBelow slot (4 * k)) (IsNamedAtRegister slot (4 * k)) (IsNamedBelow slot (4 * (k + 1))) old mid new first second
       (λ p q ip iq at_p at_q. (
       let low = at_p.1 in
       let here = at_q.1 in
-      let slots : slot_number p.slot ≡ slot_number q.slot = ap slot_number (at_p.0 ∙ sym at_q.0) in omega (arith, low, here, slots)))
+      let slots : slot_number (slot_of p) ≡ slot_number (slot_of q) = ap slot_number (at_p.0 ∙ sym at_q.0) in omega (arith, low, here, slots)))
       (λ q at. (at.0, let low = at.1 in omega (arith, low))) (λ q at. (at.0, let here = at.1 in omega (arith, here)))
-      (λ q is at. below_cases q slot k is at.0 at.1)
+      (λ q is at. below_cases q slot k few is at.0 at.1)
 
-  pub all_registers : (slot : Slot) (old new : List ℕ) → AreAsidesWritten given Q s (IsNamedBelow slot 64) old new → AreAsidesWritten given Q s (IsOfSlot slot) old new
-  all_registers slot old new told = told_same (IsNamedBelow slot 64) (IsOfSlot slot) old new told (λ q is at. at.0) (λ q is at. (at, register_low s q is))
+  of_registers : (slot : Slot) (q : MapRegion) → IsIn told s q → IsOfRegisters slot q → IsNamedBelow slot 64 q
+  of_registers slot (Own q) is at = (at.0, register_low s q is)
+  of_registers slot (OfLine x) is at = absurd (high_line x is 256 (omega arith) at.1)
 
-  -- ---- of some functions
+  pub all_registers : (slot : Slot) (old new : List ℕ) → AreAsidesWritten told given Q s (IsNamedBelow slot 64) old new → AreAsidesWritten told given Q s (IsOfRegisters slot) old new
+  all_registers slot old new was =
+      told_same (IsNamedBelow slot 64) (IsOfRegisters slot) old new was (λ q is at. (at.0, let low = at.1 in omega (arith, low))) (λ q is at. of_registers slot q is at)
 
-  pub among_none : (text : List ℕ) → AreAsidesWritten given Q s (IsAmongSlots []) text text
-  among_none text = told_none (IsAmongSlots []) text (λ q is left at. in_nil q.slot at)
+  -- ---- told ranges
 
-  one_function_more : (slots : List Slot) (slot : Slot) (old mid new : List ℕ) → ((x : Slot) → Contains slots x → slot_number x < slot_number slot) → AreAsidesWritten given Q s (IsAmongSlots slots) old mid
-      → AreAsidesWritten given Q s (IsOfSlot slot) mid new → AreAsidesWritten given Q s (IsAmongSlots (slots ++ slot ∷ [])) old new
-  one_function_more slots slot old mid new above first second =
-      told_join (IsAmongSlots slots) (IsOfSlot slot) (IsAmongSlots (slots ++ slot ∷ [])) old mid new first second
-      (λ p q ip iq at_p at_q. (
-      let less = above p.slot at_p in
-      let low = register_low s p ip in
-      let same : slot_number q.slot ≡ slot_number slot = ap slot_number at_q in omega (arith, less, low, same)))
-      (λ q at. Contains-append_left slots (slot ∷ []) q.slot at)
-      (λ q at. Contains-append_right slots (slot ∷ []) q.slot (subst (λ x. Contains (slot ∷ []) x) (sym at) (in_head slot [])))
-      (λ q is at. elim (Contains-append_cases slots (slot ∷ []) q.slot at) [
-        | inl early ↦ inl early
-        | inr late ↦ inr (elim (in_cons_cases slot [] q.slot late) [
-          | inl here ↦ sym here
-          | inr none ↦ absurd (in_nil q.slot none)
-        ])
-      ])
+  pub the_range_not : (x : ToldRegion) (text : List ℕ) → (Q (OfLine x) → ⊥) → AreAsidesWritten told given Q s (IsTheRange x) text text
+  the_range_not x text not = told_none (IsTheRange x) text (λ p is holds at. not (subst Q at holds))
 
-  earlier_slots : (rs : List Record) (k : ℕ) (r : Record) (x : Slot) → RiseBySlot rs → k < length rs → get_or rs k r ≡ r → Contains (slots_of (take k rs)) x → slot_number x < slot_number r.slot
-  earlier_slots rs k r x rise lt at has =
-      let made : IsMade (λ (z : Record). z.slot) (take k rs) x = in_map_to (λ (z : Record). z.slot) (take k rs) x has in
-      subst (λ y. slot_number y < slot_number r.slot) made.is (before rs k r made.from rise lt at made.has)
-
-  pub next_function : (rs : List Record) (k : ℕ) (r : Record) (old mid new : List ℕ) → RiseBySlot rs → k < length rs → get_or rs k r ≡ r → AreAsidesWritten given Q s (IsAmongSlots (slots_of (take k rs))) old mid
-      → AreAsidesWritten given Q s (IsOfSlot r.slot) mid new → AreAsidesWritten given Q s (IsAmongSlots (slots_of (take (k + 1) rs))) old new
-  next_function rs k r old mid new rise lt at first second =
-      subst (λ xs. AreAsidesWritten given Q s (IsAmongSlots xs) old new)
-      (ap (λ (z : Record). slots_of (take k rs) ++ z.slot ∷ []) (sym at) ∙ sym (map_more (λ (z : Record). z.slot) rs k r lt))
-      (one_function_more (slots_of (take k rs)) r.slot old mid new (λ x has. earlier_slots rs k r x rise lt at has) first second)
-
-  pub all_functions : (rs : List Record) (k : ℕ) (old new : List ℕ) → Has s rs → length rs ≤ k → AreAsidesWritten given Q s (IsAmongSlots (slots_of (take k rs))) old new → AreAsidesWritten given Q s (IsRegionIn s) old new
-  all_functions rs k old new has past told =
-      told_same (IsAmongSlots (slots_of (take k rs))) (IsRegionIn s) old new told (λ q is at. is) (λ q is of. (
-      let own = record_for s rs is.f has is.listed in
-      let slot : own.0.slot ≡ q.slot = same_slot_of own.0 is.f own.1.same ∙ is.slot in
-      subst (λ (xs : List Record). Contains (slots_of xs) q.slot) (sym (take_all k rs past)) (subst (λ x. Contains (slots_of rs) x) slot (in_map_from (λ (z : Record). z.slot) rs own.0 own.1.has))))
+  pub the_range : (x : ToldRegion) (old new : List ℕ) → IsToldIn told s x → Q (OfLine x) → new ≡ old ++ map_region_line given 1 (OfLine x) → AreAsidesWritten told given Q s (IsTheRange x) old new
+  the_range x old new is left text = told_one (IsTheRange x) (OfLine x) old new is left refl (λ p ip at. at) text
 
 -- ---- below the heading
 
 abbrev whole : List (List ℕ) → List ℕ
 whole lines = flat_map (λ text. text) lines
 
-lines_of : (given : Given) (qs : List Region) → flat_map (map_region_line given 1) qs ≡ whole (map (map_region_line given 1) qs)
+lines_of : (given : Given) (qs : List MapRegion) → flat_map (map_region_line given 1) qs ≡ whole (map (map_region_line given 1) qs)
 lines_of given [] = refl
 lines_of given (q ∷ qs) = ap (λ t. map_region_line given 1 q ++ t) (lines_of given qs)
 
-line_set : (given : Given) (qs : List Region) (line : List ℕ) → Contains (map (map_region_line given 1) qs) line → IsSet line
+each_set : (given : Given) (q : MapRegion) → IsSet (map_region_line given 1 q)
+each_set given (Own q) = extent_set q.space q.range (part_name q.part q.prefetchable ∷ slot_text q.slot ∷ hex_byte q.register ∷ isa_words_of given q.part q.space q.slot)
+each_set given (OfLine x) = extent_set x.told.space (told_extent x.told) (told_part_name x ∷ slot_text x.told.slot ∷ register_text x.register ∷ name_words x.told.name)
+
+line_set : (given : Given) (qs : List MapRegion) (line : List ℕ) → Contains (map (map_region_line given 1) qs) line → IsSet line
 line_set given qs line has =
     let made : IsMade (map_region_line given 1) qs line = in_map_to (map_region_line given 1) qs line has in
-    subst IsSet made.is (extent_set made.from.space made.from.range (part_name made.from.part made.from.prefetchable ∷ slot_text made.from.slot ∷ hex_byte made.from.register ∷ isa_words_of given made.from.part made.from.space made.from.slot))
+    subst IsSet made.is (each_set given made.from)
 
-section_told : (given : Given) (heading : List ℕ) (qs : List Region) → section heading (flat_map (map_region_line given 1) qs) ≡ under_heading heading (map (map_region_line given 1) qs)
+section_told : (given : Given) (heading : List ℕ) (qs : List MapRegion) → section heading (flat_map (map_region_line given 1) qs) ≡ under_heading heading (map (map_region_line given 1) qs)
 section_told given heading qs = ap (section heading) (lines_of given qs) ∙ section_of heading (map (map_region_line given 1) qs) (line_set given qs)
 
-pub listed : (given : Given) (Q : Region → Type 0) (s : System) (old new : List ℕ) (told : AreAsidesWritten given Q s (IsRegionIn s) old new) → AreRegionsBySlot Q s told.told
-listed given Q s old new told = record { regions = told.regions; hold = told.hold; complete = λ q is holds. told.complete q is holds is; rising = told.rising }
+module _ (told : Told) (given : Given) (Q : MapRegion → Type 0) (s : System) where
+  pub listed : (old new : List ℕ) (was : AreAsidesWritten told given Q s (IsIn told s) old new) → AreRegionsBySlot Q told s was.written
+  listed old new was = record { regions = was.regions; hold = was.hold; complete = λ q is holds. was.complete q is holds is; rising = was.rising }
 
-below : (given : Given) (Q : Region → Type 0) (s : System) (empty text : List ℕ) (heading : List ℕ) (told : AreAsidesWritten given Q s (IsRegionIn s) empty text) → empty ≡ []
-    → section heading text ≡ under_heading heading (map (map_region_line given 1) told.told)
-below given Q s empty text heading told none = ap (section heading) (told.text ∙ ap (λ t. t ++ flat_map (map_region_line given 1) told.told) none) ∙ section_told given heading told.told
+  below : (empty text : List ℕ) (heading : List ℕ) (was : AreAsidesWritten told given Q s (IsIn told s) empty text) → empty ≡ []
+      → section heading text ≡ under_heading heading (map (map_region_line given 1) was.written)
+  below empty text heading was none = ap (section heading) (was.text ∙ ap (λ t. t ++ flat_map (map_region_line given 1) was.written) none) ∙ section_told given heading was.written
 
-pub asides_below : (given : Given) (roots : List ℕ) (s : System) (no_out out said no_left left left_said old mid new : List ℕ) → no_out ≡ [] → no_left ≡ [] → AreAsides given roots s (IsRegionIn s) record { outside = no_out; unreached = no_left } record { outside = out; unreached = left }
-    → said ≡ out → left_said ≡ left → mid ≡ old ++ section (codes "outside") said → new ≡ mid ++ section (codes "unreached") left_said → AreAsidesTold given roots s old new
-asides_below given roots s no_out out said no_left left left_said old mid new none nothing told is_out is_left first second = record {
-  outside = told.out.told;
-  are_outside = listed given (IsOutOfPlace given roots s) s no_out out told.out;
-  unreached = told.left.told;
-  are_left = listed given (IsOnlyLeft given roots s) s no_left left told.left;
+pub asides_below : (told : Told) (given : Given) (roots : List ℕ) (s : System) (no_out out said no_left left left_said old mid new : List ℕ) → no_out ≡ [] → no_left ≡ [] → AreAsides told given roots s (IsIn told s) record { outside = no_out; unreached = no_left } record { outside = out; unreached = left }
+    → said ≡ out → left_said ≡ left → mid ≡ old ++ section (codes "outside") said → new ≡ mid ++ section (codes "unreached") left_said → AreAsidesTold told given roots s old new
+asides_below told given roots s no_out out said no_left left left_said old mid new none nothing was is_out is_left first second = record {
+  outside = was.out.written;
+  are_outside = listed told given (IsOutOfPlace told given roots s) s no_out out was.out;
+  unreached = was.left.written;
+  are_left = listed told given (IsOnlyLeft told given roots s) s no_left left was.left;
   text = second ∙ ap (λ t. mid ++ section (codes "unreached") t) is_left ∙ ap (λ t. t ++ section (codes "unreached") left) (first ∙ ap (λ t. old ++ section (codes "outside") t) is_out)
       ∙ append_assoc old (section (codes "outside") out) (section (codes "unreached") left)
-      ∙ ap (λ t. old ++ (t ++ section (codes "unreached") left)) (below given (IsOutOfPlace given roots s) s no_out out (codes "outside") told.out none)
-      ∙ ap (λ t. old ++ (outside_text given told.out.told ++ t)) (below given (IsOnlyLeft given roots s) s no_left left (codes "unreached") told.left nothing);
+      ∙ ap (λ t. old ++ (t ++ section (codes "unreached") left)) (below told given (IsOutOfPlace told given roots s) s no_out out (codes "outside") was.out none)
+      ∙ ap (λ t. old ++ (outside_text given was.out.written ++ t)) (below told given (IsOnlyLeft told given roots s) s no_left left (codes "unreached") was.left nothing);
 }

@@ -1,15 +1,23 @@
 -- The regions of an outline, as the definitions have them.
-use Rattle.std.proofs.Common.{◌≡◌, ℕ, ◌+◌, ◌-◌, ◌*◌, ◌/◌, ◌≤◌, List, refl, sym, ap, ◌∙◌, subst, Bool, arith}
+use Rattle.std.proofs.Common.{◌≡◌, ℕ, ◌+◌, ◌-◌, ◌*◌, ◌/◌, ◌≤◌, List, refl, sym, ap, ◌∙◌, subst, Bool, arith, get_or}
 use Rattle.std.specs.List.{Contains}
 use Rattle.std.proofs.Math.Nat.{le_antisymm}
+use Rattle.std.proofs.lemmas.Option.{slice_get_within, get_or_from_slice_get}
 use Rattle.pci_spec.specs.Slot.{Slot}
 use Rattle.pci_spec.specs.Window.{WindowKind, IoWindow, MemoryWindow, PrefetchWindow, window_register}
-use Rattle.pci_spec.specs.System.{System, Function, Space, Claims}
+use Rattle.pci_spec.specs.System.{System, Function, Space, Claims, IsAddress}
 use Rattle.pci_spec.specs.System as system
 use Rattle.pci_spec.specs.Why as why
 use Rattle.pci_spec.specs.Why.{IsRegionIn}
 use Rattle.pci_tree.specs.declared.region.Region.{Region}
-use Rattle.pci_tree.specs.Regions.{IsRegionOf, IsRegionOn, HasEachRegion}
+use Rattle.pci_tree.specs.Regions.{IsRegionOf, IsRegionOn}
+use Rattle.given_spec.specs.Told.{ToldRange, IsTold}
+use Rattle.given_spec.specs.ToldClaims.{Told}
+use Rattle.map_spec.specs.Regions.{MapRegion, Own, OfLine, slot_of, IsIn}
+use Rattle.map_spec.specs.Regions as regions
+use Rattle.pci_map.specs.declared.seat.Seat.{Seat}
+use Rattle.pci_map.specs.declared.seat.Seat.TheVariants as seats
+use Rattle.pci_map.specs.Seats.{seat_value, seat_first, IsSeatOn, AreSortedSeatsOf}
 use Rattle.pci_claims.specs.Found.{region_of_found}
 use Rattle.pci_claims.proofs.Founds.{region_in}
 use Rattle.pci_map.specs.Values.{kind_at, part_at, part_of, value_of}
@@ -40,11 +48,11 @@ made slot register part space prefetchable first last =
     record { slot = slot; register = register; part = part; space = space; prefetchable = prefetchable; range = record { first = first; last = last } }
 
 -- a region of the definitions is that of a list of its bus
-pub given_region : (s : System) (bus : ℕ) (space : Space) (qs : List Region) (v : why.Region) → HasEachRegion s bus space qs → IsRegionIn s v → v.slot.bus ≡ bus → v.space ≡ space
-    → (q : Region) × Contains qs q × (value_of space q ≡ v)
-given_region s bus space qs v complete is on same =
+own_among : (told : Told) (s : System) (bus : ℕ) (space : Space) (qs : List Seat) (v : why.Region) → AreSortedSeatsOf told s bus space qs → IsRegionIn s v → v.slot.bus ≡ bus → v.space ≡ space
+    → (q : Seat) × Contains qs q × (seat_value space q ≡ Own v)
+own_among told s bus space qs v sorted is on same =
     let claims : Claims is.f v.part space v.range.first = subst (λ sp. Claims is.f v.part sp v.range.first) same ((is.claims v.range.first).0 (omega arith, is.some)) in
-    let found = complete is.f v.part v.range.first is.listed (ap (λ (x : Slot). x.bus) is.slot ∙ on) claims in
+    let found = sorted.parts is.f v.part v.range.first is.listed (ap (λ (x : Slot). x.bus) is.slot ∙ on) claims in
     let q : Region = found.q in
     let of = found.is in
     let first_in : (v.range.first ≤ q.first) × (q.first ≤ v.range.last) = (is.claims q.first).1 (subst (λ sp. Claims is.f v.part sp q.first) (sym same) ((of.claims q.first).0 (omega arith, of.some))) in
@@ -53,13 +61,47 @@ given_region s bus space qs v complete is on same =
     let last_back : (q.first ≤ v.range.last) × (v.range.last ≤ q.last) = (of.claims v.range.last).1 (subst (λ sp. Claims is.f v.part sp v.range.last) same ((is.claims v.range.last).0 (is.some, omega arith))) in
     let first : q.first ≡ v.range.first = le_antisymm first_back.0 first_in.0 in
     let last : q.last ≡ v.range.last = le_antisymm last_in.1 last_back.1 in (
-      q,
+      seats.Own q,
       found.has,
-      ap (λ x. made x q.reg (part_of q) space q.prefetch q.first q.last) (of.slot ∙ is.slot)
+      ap Own (ap (λ x. made x q.reg (part_of q) space q.prefetch q.first q.last) (of.slot ∙ is.slot)
           ∙ ap (λ x. made v.slot x (part_of q) space q.prefetch q.first q.last) (of.register ∙ is.register)
           ∙ ap (λ x. made v.slot v.register x space q.prefetch q.first q.last) (part_is is.f v.part space q of)
           ∙ ap (λ x. made v.slot v.register v.part x q.prefetch q.first q.last) (sym same)
           ∙ ap (λ x. made v.slot v.register v.part v.space x q.first q.last) (of.prefetch ∙ is.prefetchable)
           ∙ ap (λ x. made v.slot v.register v.part v.space v.prefetchable x q.last) first
-          ∙ ap (λ x. made v.slot v.register v.part v.space v.prefetchable v.range.first x) last,
+          ∙ ap (λ x. made v.slot v.register v.part v.space v.prefetchable v.range.first x) last),
     )
+
+pub among : (told : Told) (s : System) (bus : ℕ) (space : Space) (qs : List Seat) (v : MapRegion) → AreSortedSeatsOf told s bus space qs → IsIn told s v → (slot_of v).bus ≡ bus → regions.space_of v ≡ space
+    → (q : Seat) × Contains qs q × (seat_value space q ≡ v)
+among told s bus space qs (Own v) sorted is on same = own_among told s bus space qs v sorted is on same
+among told s bus space qs (OfLine x) sorted is on same =
+    let found = sorted.lines x record { is = is; on_bus = on; of_space = same } in
+    (seats.OfLine found.y, found.has, ap OfLine found.is)
+
+-- a region of a bus is one of the definitions'
+pub seat_in : (told : Told) (s : System) (bus : ℕ) (space : Space) (q : Seat) → IsSeatOn told s bus space q → IsIn told s (seat_value space q)
+seat_in told s bus space (seats.Own q) on = told_region s bus space q on
+seat_in told s bus space (seats.OfLine x) on = on.is
+
+pub seat_bus : (told : Told) (s : System) (bus : ℕ) (space : Space) (q : Seat) → IsSeatOn told s bus space q → (slot_of (seat_value space q)).bus ≡ bus
+seat_bus told s bus space (seats.Own q) on = ap (λ (x : Slot). x.bus) on.is.slot ∙ on.on_bus
+seat_bus told s bus space (seats.OfLine x) on = on.on_bus
+
+pub seat_space : (told : Told) (s : System) (bus : ℕ) (space : Space) (q : Seat) → IsSeatOn told s bus space q → regions.space_of (seat_value space q) ≡ space
+seat_space told s bus space (seats.Own q) on = refl
+seat_space told s bus space (seats.OfLine x) on = on.of_space
+
+-- where a region begins
+pub first_of : (space : Space) (q : Seat) → (regions.range_of (seat_value space q)).first ≡ seat_first q
+first_of space (seats.Own q) = refl
+first_of space (seats.OfLine x) = refl
+
+-- it begins at an address of its space
+pub seat_address : (told : Told) (s : System) (bus : ℕ) (space : Space) (q : Seat) → IsTold told.ranges → IsSeatOn told s bus space q → IsAddress space (seat_first q)
+seat_address told s bus space (seats.Own q) lawful on = ((on.is.claims q.first).0 (omega arith, on.is.some)).address
+seat_address told s bus space (seats.OfLine x) lawful on =
+    let n = on.is.named in
+    let is : get_or told.ranges n.index x.told.now ≡ x.told.now = get_or_from_slice_get told.ranges n.index x.told.now x.told.now n.at in
+    subst (λ sp. IsAddress sp x.told.now.first) on.of_space
+    (subst (λ (r : ToldRange). IsAddress r.space r.first) is (lawful.each n.index x.told.now (slice_get_within told.ranges n.index x.told.now n.at)).line.first)

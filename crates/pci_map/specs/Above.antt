@@ -3,10 +3,11 @@ use Rattle.std.specs.Prelude.{◌≡◌, ℕ, ◌<◌, ◌⊎◌, List, None, le
 use Rattle.std.specs.List.{AllPairs, Contains}
 use Rattle.pci_spec.specs.System.{System, Function, Space, Io, Memory, Leads}
 use Rattle.given_spec.specs.Given.{Given, ranges_said}
+use Rattle.given_spec.specs.ToldClaims.{Told}
 use Rattle.map_spec.specs.Lines.{IsOutOfPlace}
-use Rattle.pci_tree.specs.declared.region.Region.{Region}
-use Rattle.pci_tree.specs.Outline.{Tree, IsBefore}
-use Rattle.pci_map.specs.Values.{value_of}
+use Rattle.pci_tree.specs.Outline.{Tree}
+use Rattle.pci_map.specs.declared.seat.Seat.{Seat}
+use Rattle.pci_map.specs.Seats.{seat_value, SeatIsBefore}
 use Rattle.pci_map.specs.Left.{IsTreeOf}
 use Rattle.pci_map.specs.Sent.{SentRanges, AreSent}
 
@@ -49,11 +50,15 @@ pub record AreSentAbove (given : Given) (t : Tree) (s : System)
   pub tree : IsTreeOf t s
   pub rows : IsNothingSaid given above ⊎ AreRows given t.roots s above
 
+-- a region of a bus is out of place
+abbrev pub IsSeatOut : Told → Given → List ℕ → System → Space → Seat → Type 0
+IsSeatOut told given roots s space q = IsOutOfPlace told given roots s (seat_value space q)
+
 -- just those of some regions that aren't out of place, in their order
-pub record AreInPlace (given : Given) (roots : List ℕ) (s : System) (space : Space)
-    (qs out : List Region) : Type 0 where
-  pub each : (q : Region) → Contains out q → Contains qs q
-  pub within : (q : Region) → Contains out q → IsOutOfPlace given roots s (value_of space q) → ⊥
-  pub complete : (q : Region) → Contains qs q
-      → (IsOutOfPlace given roots s (value_of space q) → ⊥) → Contains out q
-  pub sorted : AllPairs IsBefore qs → AllPairs IsBefore out
+pub record AreInPlace (told : Told) (given : Given) (roots : List ℕ) (s : System) (space : Space)
+    (qs out : List Seat) : Type 0 where
+  pub each : (q : Seat) → Contains out q → Contains qs q
+  pub within : (q : Seat) → Contains out q → IsSeatOut told given roots s space q → ⊥
+  pub complete : (q : Seat) → Contains qs q → (IsSeatOut told given roots s space q → ⊥)
+      → Contains out q
+  pub sorted : AllPairs (SeatIsBefore space) qs → AllPairs (SeatIsBefore space) out

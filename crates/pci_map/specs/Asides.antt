@@ -1,12 +1,15 @@
 -- The lines of regions that have none at a place.
-use Rattle.std.specs.Prelude.{◌≡◌, ◌⊎◌, ℕ, ◌<◌, List, ◌++◌, map}
-use Rattle.std.specs.List.{All, AllPairs, Contains, flat_map}
-use Rattle.pci_spec.specs.Slot.{Slot}
+use Rattle.std.specs.Prelude.{◌≡◌, ◌⊎◌, ℕ, ◌<◌, ◌≤◌, List, ◌++◌, length, map, slice_index_or}
+use Rattle.std.specs.List.{All, AllPairs, AllWithin, Contains, flat_map}
+use Rattle.pci_spec.specs.Slot.{Slot, slot_number}
 use Rattle.pci_spec.specs.System.{System, Space}
 use Rattle.pci_spec.specs.Decoded.{HasRecords}
-use Rattle.pci_spec.specs.Why.{Region, IsRegionIn}
 use Rattle.given_spec.specs.Given.{Given}
-use Rattle.map_spec.specs.Lines.{IsOutOfPlace, region_rank}
+use Rattle.given_spec.specs.Told.{ToldRange}
+use Rattle.given_spec.specs.ToldClaims.{Told, told_register}
+use Rattle.given_spec.specs.ToldRegion.{ToldRegion}
+use Rattle.map_spec.specs.Regions.{MapRegion, Own, OfLine, slot_of, register_of, space_of, IsIn, region_rank}
+use Rattle.map_spec.specs.Lines.{IsOutOfPlace}
 use Rattle.map_spec.specs.Map.{IsOutsideWindows, IsOnlyLeft, AreRegionsBySlot}
 use Rattle.map_spec.specs.MapText.{map_region_line, outside_text, unreached_text}
 use Rattle.pci_function.specs.declared.record.Record.{Record}
@@ -37,45 +40,71 @@ pub record IsRecordIn (s : System) (r : Record) : Type 0 where
   pub has : Contains records r
 
 -- a region is out of place, or left
-abbrev pub IsRegionAside : Given → List ℕ → System → Region → Type 0
-IsRegionAside given roots s q = IsOutOfPlace given roots s q ⊎ IsOutsideWindows given roots s q
+abbrev pub IsRegionAside : Told → Given → List ℕ → System → MapRegion → Type 0
+IsRegionAside told given roots s q =
+    IsOutOfPlace told given roots s q ⊎ IsOutsideWindows given roots s q
 
 -- one of the regions of a space is
-abbrev pub HasAside : Given → List ℕ → System → Space → List outline.Region → Type 0
-HasAside given roots s space qs =
-    (q : outline.Region) × Contains qs q × IsRegionAside given roots s (value_of space q)
+abbrev pub HasAside : Told → Given → List ℕ → System → Space → List outline.Region → Type 0
+HasAside told given roots s space qs =
+    (q : outline.Region) × Contains qs q × IsRegionAside told given roots s (Own (value_of space q))
 
 -- none of them is
-abbrev pub HasNoAside : Given → List ℕ → System → Space → List outline.Region → Type 0
-HasNoAside given roots s space qs =
-    (q : outline.Region) → Contains qs q → IsRegionAside given roots s (value_of space q) → ⊥
+abbrev pub HasNoAside : Told → Given → List ℕ → System → Space → List outline.Region → Type 0
+HasNoAside told given roots s space qs =
+    (q : outline.Region) → Contains qs q → IsRegionAside told given roots s (Own (value_of space q))
+    → ⊥
 
 -- where a region is named
-abbrev pub IsNamedAt : Slot → ℕ → Space → Region → Type 0
-IsNamedAt slot reg space q = (q.slot ≡ slot) × (q.register ≡ reg) × (q.space ≡ space)
+abbrev pub IsNamedAt : Slot → ℕ → Space → MapRegion → Type 0
+IsNamedAt slot reg space q = (slot_of q ≡ slot) × (register_of q ≡ reg) × (space_of q ≡ space)
 
-abbrev pub IsNamedAtRegister : Slot → ℕ → Region → Type 0
-IsNamedAtRegister slot reg q = (q.slot ≡ slot) × (q.register ≡ reg)
+abbrev pub IsNamedAtRegister : Slot → ℕ → MapRegion → Type 0
+IsNamedAtRegister slot reg q = (slot_of q ≡ slot) × (register_of q ≡ reg)
 
-abbrev pub IsNamedBelow : Slot → ℕ → Region → Type 0
-IsNamedBelow slot reg q = (q.slot ≡ slot) × (q.register < reg)
+abbrev pub IsNamedBelow : Slot → ℕ → MapRegion → Type 0
+IsNamedBelow slot reg q = (slot_of q ≡ slot) × (register_of q < reg)
 
-abbrev pub IsOfSlot : Slot → Region → Type 0
-IsOfSlot slot q = q.slot ≡ slot
+-- it is one that registers of a slot show
+abbrev pub IsOfRegisters : Slot → MapRegion → Type 0
+IsOfRegisters slot q = (slot_of q ≡ slot) × (register_of q < 256)
 
-abbrev pub IsAmongSlots : List Slot → Region → Type 0
-IsAmongSlots slots q = Contains slots q.slot
+-- it is one told range
+abbrev pub IsTheRange : ToldRegion → MapRegion → Type 0
+IsTheRange x q = q ≡ OfLine x
+
+-- it is a told range of a part of their list
+abbrev pub IsRangeFrom : ℕ → ℕ → MapRegion → Type 0
+IsRangeFrom first end q =
+    (told_register first ≤ register_of q) × (register_of q < told_register end)
+
+-- it is one that registers of some slots show, or one of the first told ranges
+abbrev pub IsAmongSlots : List Slot → ℕ → MapRegion → Type 0
+IsAmongSlots slots end q =
+    (Contains slots (slot_of q) × (register_of q < 256)) ⊎ IsRangeFrom 0 end q
+
+-- the ranges before an index have lower slots than the functions from another index on
+abbrev pub AreBelow : List ToldRange → ℕ → List Record → ℕ → Type 0
+AreBelow ranges next rs from =
+    (k : ℕ) (d : Record) → from ≤ k → k < length rs
+    → AllWithin (λ r. slot_number r.slot < slot_number (slice_index_or rs k d).slot) ranges 0 next
+
+-- those from an index on have no lower slots than some functions
+abbrev pub AreBehind : List ToldRange → ℕ → List Slot → Type 0
+AreBehind ranges next slots =
+    (x : Slot) → Contains slots x
+    → AllWithin (λ r. slot_number x ≤ slot_number r.slot) ranges next (length ranges)
 
 -- a text got the lines of just those regions of which P and Q hold, by slot and register
-pub record AreAsidesWritten (given : Given) (Q : Region → Type 0) (s : System)
-    (P : Region → Type 0) (old new : List ℕ) : Type 0 where
-  pub told : List Region
-  pub regions : (q : Region) → Contains told q → IsRegionIn s q
-  pub hold : (q : Region) → Contains told q → Q q
-  pub among : (q : Region) → Contains told q → P q
-  pub complete : (q : Region) → IsRegionIn s q → Q q → P q → Contains told q
-  pub rising : AllPairs (λ p q. region_rank p < region_rank q) told
-  pub text : new ≡ old ++ flat_map (map_region_line given 1) told
+pub record AreAsidesWritten (told : Told) (given : Given) (Q : MapRegion → Type 0) (s : System)
+    (P : MapRegion → Type 0) (old new : List ℕ) : Type 0 where
+  pub written : List MapRegion
+  pub regions : (q : MapRegion) → Contains written q → IsIn told s q
+  pub hold : (q : MapRegion) → Contains written q → Q q
+  pub among : (q : MapRegion) → Contains written q → P q
+  pub complete : (q : MapRegion) → IsIn told s q → Q q → P q → Contains written q
+  pub rising : AllPairs (λ p q. region_rank p < region_rank q) written
+  pub text : new ≡ old ++ flat_map (map_region_line given 1) written
 
 -- the lines of those that are out of place, and of those that are only left
 pub record AsideTexts : Type 0 where
@@ -83,15 +112,16 @@ pub record AsideTexts : Type 0 where
   pub unreached : List ℕ
 
 -- both texts got the lines of those of which P holds
-pub record AreAsides (given : Given) (roots : List ℕ) (s : System) (P : Region → Type 0)
-    (old new : AsideTexts) : Type 0 where
-  pub out : AreAsidesWritten given (IsOutOfPlace given roots s) s P old.outside new.outside
-  pub left : AreAsidesWritten given (IsOnlyLeft given roots s) s P old.unreached new.unreached
+pub record AreAsides (told : Told) (given : Given) (roots : List ℕ) (s : System)
+    (P : MapRegion → Type 0) (old new : AsideTexts) : Type 0 where
+  pub out : AreAsidesWritten told given (IsOutOfPlace told given roots s) s P old.outside new.outside
+  pub left : AreAsidesWritten told given (IsOnlyLeft told given roots s) s P old.unreached new.unreached
 
 -- a text got the lines of all of both, each below their heading
-pub record AreAsidesTold (given : Given) (roots : List ℕ) (s : System) (old new : List ℕ) : Type 0 where
-  pub outside : List Region
-  pub are_outside : AreRegionsBySlot (IsOutOfPlace given roots s) s outside
-  pub unreached : List Region
-  pub are_left : AreRegionsBySlot (IsOnlyLeft given roots s) s unreached
+pub record AreAsidesTold (told : Told) (given : Given) (roots : List ℕ) (s : System)
+    (old new : List ℕ) : Type 0 where
+  pub outside : List MapRegion
+  pub are_outside : AreRegionsBySlot (IsOutOfPlace told given roots s) told s outside
+  pub unreached : List MapRegion
+  pub are_left : AreRegionsBySlot (IsOnlyLeft told given roots s) told s unreached
   pub text : new ≡ old ++ (outside_text given outside ++ unreached_text given unreached)

@@ -1,5 +1,5 @@
 -- Regions that no way leads to.
-use Rattle.std.specs.Prelude.{◌≡◌, ℕ, Bool, IsTrue, List, Option, MatchOption, MatchBool}
+use Rattle.std.specs.Prelude.{◌≡◌, ℕ, Bool, IsTrue, List, MatchBool}
 use Rattle.std.specs.List.{Contains}
 use Rattle.pci_spec.specs.Slot.{Slot}
 use Rattle.pci_spec.specs.Window.{WindowKind}
@@ -10,10 +10,13 @@ use Rattle.pci_spec.specs.Decoded.{HasRecords}
 use Rattle.pci_spec.specs.Why.{Region, IsRegionIn}
 use Rattle.given_spec.specs.Given.{Given}
 use Rattle.given_spec.specs.Claims.{OwnClaims}
+use Rattle.map_spec.specs.Regions.{MapRegion}
 use Rattle.map_spec.specs.Lines.{is_first_window}
 use Rattle.map_spec.specs.Map.{HasWay, IsOutsideWindows}
 use Rattle.pci_tree.specs.declared.region.Region as outline
 use Rattle.pci_tree.specs.Outline.{Tree}
+use Rattle.pci_map.specs.declared.ways.Above.{Above}
+use Rattle.pci_map.specs.declared.ways.Above.TheVariants as above
 use Rattle.pci_map.specs.Values.{part_of, value_of}
 
 -- a system with an outline's records: its bridges nest, and no two of its functions have one slot
@@ -30,11 +33,16 @@ pub record IsSlotAbove (roots : List ℕ) (s : System) (bus : ℕ) (slot : Slot)
   pub named : b.slot ≡ slot
   pub only : (c : Function) → LeadsTo s c bus → c.slot ≡ slot
 
--- that bridge, where a bus has functions and isn't a root
-abbrev pub HasAbove : List ℕ → System → ℕ → Option Slot → Type 0
-HasAbove roots s bus o =
-    (f : Function) → Contains s f → f.slot.bus ≡ bus
-    → MatchOption o (Contains roots bus) (λ b. IsSlotAbove roots s bus b)
+-- no bridge leads to a bus, which is no root
+pub record IsUnled (roots : List ℕ) (s : System) (bus : ℕ) : Type 0 where
+  pub off_root : Contains roots bus → ⊥
+  pub none : (b : Function) → LeadsTo s b bus → ⊥
+
+-- what leads to a bus: the host to a root, else a bridge or nothing
+abbrev pub HasAbove : List ℕ → System → ℕ → Above → Type 0
+HasAbove roots s bus above.Host = Contains roots bus
+HasAbove roots s bus (above.Bridge slot) = IsSlotAbove roots s bus slot
+HasAbove roots s bus above.Nothing = IsUnled roots s bus
 
 -- no part that this register names claims the address
 abbrev pub NoneHas : Given → System → Slot → ℕ → Space → ℕ → Type 0
@@ -52,7 +60,7 @@ pub record IsFirstHoldingWindow (given : Given) (s : System) (space : Space) (b 
   pub first : IsTrue (is_first_window given space kind a b)
 
 -- the region is left, or windows lead to it
-abbrev pub IsLeftIf : Given → List ℕ → System → Region → Bool → Type 0
+abbrev pub IsLeftIf : Given → List ℕ → System → MapRegion → Bool → Type 0
 IsLeftIf given roots s q left =
     MatchBool left (IsOutsideWindows given roots s q)
     ((windows : List Region) × HasWay given roots s q windows)

@@ -1,4 +1,6 @@
 pub mod Values
+pub mod Seats
+pub mod BusSeats
 pub mod Lines
 pub mod Gaps
 pub mod Inside
@@ -9,4 +11,5 @@ pub mod Left
 pub mod Ways
 pub mod Sent
 pub mod Above
+pub mod Mapped
 pub mod Asides

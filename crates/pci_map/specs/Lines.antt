@@ -1,4 +1,4 @@
--- The line of a region, by whether ISA Enable cuts it.
+-- The lines of regions, by whether ISA Enable cuts them, and of told ranges.
 use Rattle.std.specs.Prelude.{ℕ, Bool, if◌then◌else◌, List, [], ◌∷◌, codes}
 use Rattle.pci_spec.specs.Text.{hex_byte, slot_text}
 use Rattle.pci_spec.specs.Why.{Region}
@@ -16,3 +16,8 @@ abbrev pub region_line_by : ℕ → Region → Bool → List ℕ
 region_line_by depth q cut =
     extent_line depth q.space q.range
     (part_name q.part q.prefetchable ∷ slot_text q.slot ∷ hex_byte q.register ∷ isa_word cut)
+
+-- a name behind a space, where there is one
+abbrev pub name_ending : List ℕ → List ℕ
+name_ending [] = []
+name_ending (c ∷ name) = 32 ∷ c ∷ name

@@ -6,22 +6,24 @@ use Rattle.pci_spec.specs.System.{System, Space}
 use Rattle.pci_spec.specs.System as system
 use Rattle.pci_spec.specs.Why as why
 use Rattle.given_spec.specs.Given.{Given}
+use Rattle.given_spec.specs.ToldClaims.{Told}
 use Rattle.pci_tree.specs.declared.region.Part.{Part}
 use Rattle.pci_tree.specs.declared.region.Part.TheVariants.{Bar, Rom, Window}
 use Rattle.pci_tree.specs.declared.region.Region.{Region}
 use Rattle.pci_tree.specs.Outline.{Tree}
 use Rattle.pci_claims.specs.Found.{region_of_found}
 
--- what is mapped: a space of a system, with what is given
+-- what is mapped: a space of a system, with what is given and told
 pub record Mapped : Type 0 where
+  pub told : Told
   pub given : Given
   pub roots : List ℕ
   pub system : System
   pub space : Space
 
 -- of the root buses of an outline
-abbrev pub mapped_of : Given → Tree → System → Space → Mapped
-mapped_of given t s space = record { given = given; roots = t.roots; system = s; space = space }
+abbrev pub mapped_of : Told → Given → Tree → System → Space → Mapped
+mapped_of told given t s space = record { told = told; given = given; roots = t.roots; system = s; space = space }
 
 -- the window whose register this is
 abbrev pub kind_at : ℕ → WindowKind

@@ -1,17 +1,18 @@
 -- The windows above each bus, with whether they are left.
-use Rattle.std.specs.Prelude.{ℕ, ◌<◌, ◌≡◌, IsTrue, IsFalse, List, length, slice_index_or, Option, None, MatchOption}
+use Rattle.std.specs.Prelude.{ℕ, ◌<◌, ◌≡◌, ◌⊎◌, IsTrue, IsFalse, List, length, slice_index_or, Option, None, MatchOption}
 use Rattle.std.specs.List.{Contains}
 use Rattle.pci_spec.specs.Registers.{IO_BASE, MEMORY_BASE, PREFETCHABLE_BASE}
 use Rattle.pci_spec.specs.Slot.{Slot}
 use Rattle.pci_spec.specs.Window.{WindowKind}
 use Rattle.pci_spec.specs.System.{System, Function, Space, Io, Memory}
 use Rattle.given_spec.specs.Given.{Given}
+use Rattle.map_spec.specs.Regions.{Own}
 use Rattle.map_spec.specs.Lines.{is_first_window}
 use Rattle.pci_claims.specs.Found.{IsFoundIn, NoneClaims}
 use Rattle.pci_claims.specs.Isa.{is_cut_region}
 use Rattle.pci_map.specs.Values.{value_of}
 use Rattle.pci_map.specs.Inside.{region_has, is_taken}
-use Rattle.pci_map.specs.Left.{IsSlotAbove, NoneHas, IsFirstHoldingWindow, IsLeftIf}
+use Rattle.pci_map.specs.Left.{IsSlotAbove, IsUnled, NoneHas, IsFirstHoldingWindow, IsLeftIf}
 use Rattle.pci_map.specs.declared.left.Judged.{Judged}
 use Rattle.pci_map.specs.declared.left.Windows.{Windows}
 
@@ -35,7 +36,7 @@ pub record IsJudged (given : Given) (roots : List ℕ) (s : System) (spot : Spot
     (w : Judged) : Type 0 where
   pub found : IsFoundIn s spot.slot spot.register spot.space w.window
   pub cut : w.cut ≡ is_cut_region given spot.space w.window
-  pub judged : IsLeftIf given roots s (value_of spot.space w.window) w.left
+  pub judged : IsLeftIf given roots s (Own (value_of spot.space w.window)) w.left
 
 -- that window, where one there claims an address
 abbrev pub IsJudgedAt : Given → List ℕ → System → Spot → Option Judged → Type 0
@@ -60,7 +61,7 @@ IsHoldingAt given roots s spot a o =
 pub record IsFirstJudged (given : Given) (roots : List ℕ) (s : System) (space : Space)
     (b : Function) (a : ℕ) (w : Judged) : Type 0 where
   pub first : IsFirstHoldingWindow given s space b a w.window
-  pub judged : IsLeftIf given roots s (value_of space w.window) w.left
+  pub judged : IsLeftIf given roots s (Own (value_of space w.window)) w.left
 
 -- that window, where one claims the address
 abbrev pub IsFirstAt : Given → List ℕ → System → Space → Function → ℕ → Option Judged → Type 0
@@ -80,11 +81,18 @@ pub record AreAbove (given : Given) (roots : List ℕ) (s : System) (bus : ℕ) 
   pub bridge : IsSlotAbove roots s bus slot
   pub windows : AreWindowsOf given roots s slot ws
 
--- those windows, where the bus has functions and isn't a root
+-- no window leads to a bus
+pub record HasNoWindow (roots : List ℕ) (s : System) (bus : ℕ) (ws : Windows) : Type 0 where
+  pub unled : IsUnled roots s bus
+  pub io : ws.io ≡ None
+  pub memory : ws.memory ≡ None
+  pub prefetchable : ws.prefetchable ≡ None
+
+-- those windows, where the bus isn't a root
 abbrev pub IsWayTo : Given → List ℕ → System → ℕ → Option Windows → Type 0
 IsWayTo given roots s bus o =
-    (f : Function) → Contains s f → f.slot.bus ≡ bus
-    → MatchOption o (Contains roots bus) (λ ws. AreAbove given roots s bus ws)
+    MatchOption o (Contains roots bus)
+    (λ ws. AreAbove given roots s bus ws ⊎ HasNoWindow roots s bus ws)
 
 -- those above each bus before an end
 abbrev pub AreWays : Given → List ℕ → System → List (Option Windows) → Type 0

@@ -4,6 +4,9 @@ ghost use Rattle.std.specs.List.{Contains};
 ghost use Rattle.pci_spec.specs.System.{System, Function};
 ghost use Rattle.pci_spec.specs.Decoded.{HasRecords};
 ghost use Rattle.given_spec.specs.Given.{Given as GivenValue};
+ghost use Rattle.given_spec.specs.ToldClaims.{Told as ToldValue};
+ghost use Rattle.given_spec.specs.ToldRegion.{IsToldIn};
+ghost use Rattle.map_spec.specs.Regions.{Own, OfLine};
 ghost use Rattle.map_spec.specs.Lines.{IsOutOfPlace};
 ghost use Rattle.pci_base.specs.Space.{space_of};
 ghost use Rattle.pci_function.specs.Values.{record_value};
@@ -11,9 +14,10 @@ ghost use Rattle.pci_tree.specs.Outline.{Tree};
 ghost use Rattle.pci_tree.specs.Regions.{IsRegionOn};
 ghost use Rattle.pci_claims.specs.Values.{given_value};
 ghost use Rattle.pci_map.specs.Values.{value_of};
-ghost use Rattle.pci_map.specs.Walk.{AreRegionsOnBus};
-ghost use Rattle.pci_map.specs.Above.{IsOnlyRootAbove, AreRootsAbove, AreSentAbove, AreInPlace};
+ghost use Rattle.pci_map.specs.Seats.{told_of, IsToldOf, IsSeatOn, AreSeatsOn};
+ghost use Rattle.pci_map.specs.Above.{IsOnlyRootAbove, AreRootsAbove, AreSentAbove, IsSeatOut, AreInPlace};
 
+use super::seat::{Seat, ToldRegion, add_seat};
 use super::sent::Sent;
 use pci_base::memory::OutOfMemory;
 use pci_base::range::Range;
@@ -84,10 +88,10 @@ pub fn is_out_of_place<A: Allocator>(
     bus: u8,
     region: &Region,
 ) -> bool
-    ensures { (given : GivenValue) (t : Tree) (s : System) → AreSentAbove given t s above.now
-        → IsRegionOn s bus (space_of space) region.now
-        → MatchBool result (IsOutOfPlace given t.roots s (value_of (space_of space) region.now))
-        (IsOutOfPlace given t.roots s (value_of (space_of space) region.now) → ⊥) }
+    ensures { (told : ToldValue) (given : GivenValue) (t : Tree) (s : System)
+        → AreSentAbove given t s above.now → IsRegionOn s bus (space_of space) region.now
+        → MatchBool result (IsOutOfPlace told given t.roots s (Own (value_of (space_of space) region.now)))
+        (IsOutOfPlace told given t.roots s (Own (value_of (space_of space) region.now)) → ⊥) }
 {
     // no list is said
     if above.len() <= bus as usize {
@@ -103,27 +107,60 @@ pub fn is_out_of_place<A: Allocator>(
     !above[bus as usize].has_all(space, range)
 }
 
+/// Whether a told range isn't held, and has an address to which no access of the host starts on the root above its bus.
+pub fn is_line_outside<A: Allocator>(above: &[Sent<A>], line: &ToldRegion<'_>) -> bool
+    ensures { (told : ToldValue) (given : GivenValue) (t : Tree) (s : System)
+        → AreSentAbove given t s above.now → IsToldOf told s → IsToldIn told s (told_of line.now)
+        → MatchBool result (IsOutOfPlace told given t.roots s (OfLine (told_of line.now)))
+        (IsOutOfPlace told given t.roots s (OfLine (told_of line.now)) → ⊥) }
+{
+    let bus = line.slot().bus() as usize;
+    // no list is said
+    if above.len() <= bus {
+        return false;
+    }
+    if line.is_held() {
+        return false;
+    }
+    !above[bus].has_all(line.space(), line.range())
+}
+
+/// Whether a region of a bus is out of place.
+fn is_seat_outside<A: Allocator>(above: &[Sent<A>], space: Space, bus: u8, seat: &Seat<'_>) -> bool
+    ensures { (told : ToldValue) (given : GivenValue) (t : Tree) (s : System)
+        → AreSentAbove given t s above.now → IsToldOf told s
+        → IsSeatOn told s bus (space_of space) seat.now
+        → MatchBool result (IsSeatOut told given t.roots s (space_of space) seat.now)
+        (IsSeatOut told given t.roots s (space_of space) seat.now → ⊥) }
+{
+    match seat {
+        Seat::Own(region) => is_out_of_place(above, space, bus, region),
+        Seat::OfLine(line) => is_line_outside(above, line),
+    }
+}
+
 /// The regions of a bus that aren't out of place, in their order.
-pub fn in_place<A: Allocator, B: Allocator>(
+pub fn in_place<'g, A: Allocator, B: Allocator>(
     alloc: A,
     above: &[Sent<B>],
     space: Space,
     bus: u8,
-    regions: Vec<Region, A>,
-) -> Result<Vec<Region, A>, OutOfMemory>
-    ensures { IfOk result (λ v. (given : GivenValue) (t : Tree) (s : System)
-        → AreSentAbove given t s above.now → AreRegionsOnBus s bus (space_of space) regions.items
-        → AreInPlace given t.roots s (space_of space) regions.items v.items) }
+    seats: Vec<Seat<'g>, A>,
+) -> Result<Vec<Seat<'g>, A>, OutOfMemory>
+    ensures { IfOk result (λ v. (told : ToldValue) (given : GivenValue) (t : Tree) (s : System)
+        → AreSentAbove given t s above.now → IsToldOf told s
+        → AreSeatsOn told s bus (space_of space) seats.entry.items
+        → AreInPlace told given t.roots s (space_of space) seats.entry.items v.items) }
 {
     if above.is_empty() {
-        return Ok(regions);
+        return Ok(seats);
     }
-    let Ok(mut out) = Vec::with_capacity(alloc, regions.len()) else {
+    let Ok(mut out) = Vec::with_capacity(alloc, seats.len()) else {
         return Err(OutOfMemory);
     };
-    for region in regions.as_slice() {
-        if !is_out_of_place(above, space, bus, region) {
-            out.push(*region)?;
+    for seat in seats.as_slice() {
+        if !is_seat_outside(above, space, bus, seat) {
+            add_seat(&mut out, seat)?;
         }
     }
     Ok(out)

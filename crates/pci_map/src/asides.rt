@@ -1,23 +1,29 @@
 //! The regions that have no line at a place: those out of place, and those that are left, each below a heading.
-ghost use Rattle.std.specs.Prelude.{◌≡◌, length, MatchBool, MatchOption, OnOk};
+ghost use Rattle.std.specs.Prelude.{◌≡◌, ◌≤◌, length, MatchBool, MatchOption, OnOk};
 ghost use Rattle.std.specs.String.{string_bytes};
 ghost use Rattle.pci_spec.specs.System.{System, Io, Memory};
-ghost use Rattle.pci_spec.specs.Why.{IsRegionIn};
 ghost use Rattle.given_spec.specs.Given.{Given as GivenValue};
+ghost use Rattle.given_spec.specs.ToldClaims.{Told as ToldValue};
+ghost use Rattle.given_spec.specs.ToldRegion.{IsToldIn};
+ghost use Rattle.map_spec.specs.Regions.{Own, IsIn};
 ghost use Rattle.pci_base.specs.Space.{space_of};
 ghost use Rattle.pci_tree.specs.Outline.{Tree};
 ghost use Rattle.pci_tree.specs.declared.region.Region.{Region as RegionValue};
 ghost use Rattle.pci_claims.specs.Found.{IsFoundIn};
-ghost use Rattle.pci_claims.specs.Values.{given_value};
+ghost use Rattle.pci_claims.specs.Values.{given_value, told_value};
 ghost use Rattle.pci_map.specs.Values.{value_of};
+ghost use Rattle.pci_map.specs.Seats.{told_of};
+ghost use Rattle.pci_map.specs.Mapped.{AreToldOn, IsSystemOf};
 ghost use Rattle.pci_map.specs.Above.{AreSentAbove};
 ghost use Rattle.pci_map.specs.Ways.{AreWays};
-ghost use Rattle.pci_map.specs.Asides.{IsListedAt, AreFoundBy, IsRecordIn, IsRegionAside, HasAside, HasNoAside, IsNamedAt, IsNamedAtRegister, IsOfSlot, AreAsides, AreAsidesTold};
+ghost use Rattle.pci_map.specs.Asides.{IsListedAt, AreFoundBy, IsRecordIn, IsRegionAside, HasAside, HasNoAside, IsNamedAt, IsNamedAtRegister, IsOfRegisters, IsTheRange, IsRangeFrom, AreAsides, AreAsidesTold};
 
-use super::above::is_out_of_place;
+use super::above::{is_line_outside, is_out_of_place};
 use super::left::{Windows, is_left};
-use super::line::push_region;
-use super::off::push_section;
+use super::line::{push_region, push_told_line};
+use super::mapped::Mapped;
+use super::off::{first_of_slot, push_section};
+use super::seat::ToldRegion;
 use super::sent::Sent;
 use super::ways::{Spot, find_ways};
 use pci_base::memory::OutOfMemory;
@@ -25,7 +31,6 @@ use pci_base::slot::Slot;
 use pci_base::space::Space;
 use pci_claims::given::Given;
 use pci_function::record::Record;
-use pci_tree::outline::Outline;
 use pci_tree::region::{Region, add_regions};
 use std::alloc::{Allocator, Global};
 use std::marker::Model;
@@ -96,15 +101,15 @@ fn find_both<A: Allocator>(
     find_regions(memory, function, Space::Mem)
 }
 
-/// Whether a region is out of place or left.
+/// Whether a BAR, a ROM or a window is out of place or left.
 fn is_aside<A: Allocator>(routes: &Routes<'_, A>, space: Space, slot: Slot, region: &Region) -> bool
     // bus numbers index it
     requires { length routes.now.ways.now ≡ 256 }
-    ensures { (given : GivenValue) (t : Tree) (s : System)
+    ensures { (told : ToldValue) (given : GivenValue) (t : Tree) (s : System)
         → AreSentAbove given t s routes.now.above.now → AreWays given t.roots s routes.now.ways.now
         → IsFoundIn s slot region.now.reg (space_of space) region.now
-        → MatchBool result (IsRegionAside given t.roots s (value_of (space_of space) region.now))
-        (IsRegionAside given t.roots s (value_of (space_of space) region.now) → ⊥) }
+        → MatchBool result (IsRegionAside told given t.roots s (Own (value_of (space_of space) region.now)))
+        (IsRegionAside told given t.roots s (Own (value_of (space_of space) region.now)) → ⊥) }
 {
     if is_out_of_place(routes.above, space, slot.bus(), region) {
         return true;
@@ -120,11 +125,11 @@ fn has_aside<A: Allocator>(
     slot: Slot,
 ) -> bool
     requires { length routes.now.ways.now ≡ 256 }
-    ensures { (given : GivenValue) (t : Tree) (s : System)
+    ensures { (told : ToldValue) (given : GivenValue) (t : Tree) (s : System)
         → AreSentAbove given t s routes.now.above.now → AreWays given t.roots s routes.now.ways.now
         → AreFoundBy s slot (space_of space) regions.now
-        → MatchBool result (HasAside given t.roots s (space_of space) regions.now)
-        (HasNoAside given t.roots s (space_of space) regions.now) }
+        → MatchBool result (HasAside told given t.roots s (space_of space) regions.now)
+        (HasNoAside told given t.roots s (space_of space) regions.now) }
 {
     for region in regions {
         if is_aside(routes, space, slot, region) {
@@ -155,10 +160,10 @@ fn push_aside_in<A: Allocator, B: Allocator>(
     spot: Spot,
 ) -> Result<(), OutOfMemory>
     requires { length routes.now.ways.now ≡ 256 }
-    ensures { OnOk result ((t : Tree) (s : System)
+    ensures { OnOk result ((told : ToldValue) (t : Tree) (s : System)
         → AreSentAbove (given_value routes.now.given) t s routes.now.above.now → AreWays (given_value routes.now.given) t.roots s routes.now.ways.now
         → AreFoundBy s spot.slot (space_of spot.space) regions.now
-        → AreAsides (given_value routes.now.given) t.roots s (IsNamedAt spot.slot spot.register (space_of spot.space)) asides.old asides.new) }
+        → AreAsides told (given_value routes.now.given) t.roots s (IsNamedAt spot.slot spot.register (space_of spot.space)) asides.old asides.new) }
 {
     let Some(region) = at_register(regions, spot.register) else {
         return Ok(());
@@ -183,11 +188,11 @@ fn push_aside_at<A: Allocator, B: Allocator>(
     register: u8,
 ) -> Result<(), OutOfMemory>
     requires { length routes.now.ways.now ≡ 256 }
-    ensures { OnOk result ((t : Tree) (s : System)
+    ensures { OnOk result ((told : ToldValue) (t : Tree) (s : System)
         → AreSentAbove (given_value routes.now.given) t s routes.now.above.now → AreWays (given_value routes.now.given) t.roots s routes.now.ways.now
         → AreFoundBy s function.now.slot Io function.now.io.now
         → AreFoundBy s function.now.slot Memory function.now.memory.now
-        → AreAsides (given_value routes.now.given) t.roots s (IsNamedAtRegister function.now.slot register) asides.old asides.new) }
+        → AreAsides told (given_value routes.now.given) t.roots s (IsNamedAtRegister function.now.slot register) asides.old asides.new) }
 {
     let slot = function.slot;
     let io_spot = Spot {
@@ -211,11 +216,11 @@ fn push_by_register<A: Allocator, B: Allocator>(
     function: &FunctionRegions<'_>,
 ) -> Result<(), OutOfMemory>
     requires { length routes.now.ways.now ≡ 256 }
-    ensures { OnOk result ((t : Tree) (s : System)
+    ensures { OnOk result ((told : ToldValue) (t : Tree) (s : System)
         → AreSentAbove (given_value routes.now.given) t s routes.now.above.now → AreWays (given_value routes.now.given) t.roots s routes.now.ways.now
         → AreFoundBy s function.now.slot Io function.now.io.now
         → AreFoundBy s function.now.slot Memory function.now.memory.now
-        → AreAsides (given_value routes.now.given) t.roots s (IsOfSlot function.now.slot) asides.old asides.new) }
+        → AreAsides told (given_value routes.now.given) t.roots s (IsOfRegisters function.now.slot) asides.old asides.new) }
 {
     for register in 0..REGISTERS {
         push_aside_at(asides, routes, function, 4 * register)?;
@@ -230,11 +235,11 @@ fn push_asides_of<A: Allocator, B: Allocator>(
     function: &FunctionRegions<'_>,
 ) -> Result<(), OutOfMemory>
     requires { length routes.now.ways.now ≡ 256 }
-    ensures { OnOk result ((t : Tree) (s : System)
+    ensures { OnOk result ((told : ToldValue) (t : Tree) (s : System)
         → AreSentAbove (given_value routes.now.given) t s routes.now.above.now → AreWays (given_value routes.now.given) t.roots s routes.now.ways.now
         → AreFoundBy s function.now.slot Io function.now.io.now
         → AreFoundBy s function.now.slot Memory function.now.memory.now
-        → AreAsides (given_value routes.now.given) t.roots s (IsOfSlot function.now.slot) asides.old asides.new) }
+        → AreAsides told (given_value routes.now.given) t.roots s (IsOfRegisters function.now.slot) asides.old asides.new) }
 {
     if has_aside(routes, function.io, Space::Io, function.slot)
         || has_aside(routes, function.memory, Space::Mem, function.slot)
@@ -244,36 +249,101 @@ fn push_asides_of<A: Allocator, B: Allocator>(
     Ok(())
 }
 
+/// Appends the line of a told range, if it is out of place or left.
+fn push_told_aside<A: Allocator, B: Allocator>(
+    asides: &mut Asides<B>,
+    routes: &Routes<'_, A>,
+    line: &ToldRegion<'_>,
+) -> Result<(), OutOfMemory>
+    requires { length routes.now.ways.now ≡ 256 }
+    ensures { OnOk result ((told : ToldValue) (t : Tree) (s : System)
+        → IsSystemOf told (given_value routes.now.given) t routes.now.above.now s
+        → AreWays (given_value routes.now.given) t.roots s routes.now.ways.now
+        → IsToldIn told s (told_of line.now)
+        → AreAsides told (given_value routes.now.given) t.roots s (IsTheRange (told_of line.now)) asides.old asides.new) }
+{
+    if is_line_outside(routes.above, line) {
+        push_told_line(&mut asides.outside, 1, line)?;
+        return Ok(());
+    }
+    if !is_left(
+        routes.ways,
+        line.slot().bus(),
+        line.space(),
+        line.range().first,
+    ) {
+        return Ok(());
+    }
+    push_told_line(&mut asides.unreached, 1, line)?;
+    Ok(())
+}
+
+/// Appends the lines of told ranges from one index to before another that are out of place or left.
+fn push_told_asides<A: Allocator, B: Allocator>(
+    asides: &mut Asides<B>,
+    routes: &Routes<'_, A>,
+    mapped: &Mapped<'_, '_, A>,
+    first: usize,
+    end: usize,
+) -> Result<(), OutOfMemory>
+    requires ways { length routes.now.ways.now ≡ 256 }
+    requires told { AreToldOn (told_value mapped.now.told) mapped.now.outline.now mapped.now.on.now }
+    requires low { first ≤ end }
+    requires high { end ≤ length mapped.now.told.ranges.now }
+    ensures { OnOk result ((s : System)
+        → IsSystemOf (told_value mapped.now.told) (given_value routes.now.given) mapped.now.outline.now routes.now.above.now s
+        → AreWays (given_value routes.now.given) mapped.now.outline.now.roots s routes.now.ways.now
+        → AreAsides (told_value mapped.now.told) (given_value routes.now.given) mapped.now.outline.now.roots s
+        (IsRangeFrom first end) asides.old asides.new) }
+{
+    for i in first..end {
+        if mapped.on[i] {
+            let line = ToldRegion {
+                register: 256 + i as u16,
+                told: &mapped.told.ranges[i],
+            };
+            push_told_aside(asides, routes, &line)?;
+        }
+    }
+    Ok(())
+}
+
 /// Appends the lines of all regions that are out of place or left, by slot and register.
 fn push_all<A: Allocator + Copy, B: Allocator>(
     alloc: A,
     asides: &mut Asides<B>,
-    given: &Given<'_>,
-    outline: &Outline<A>,
-    above: &[Sent<A>],
+    mapped: &Mapped<'_, '_, A>,
 ) -> Result<(), OutOfMemory>
+    requires { AreToldOn (told_value mapped.now.told) mapped.now.outline.now mapped.now.on.now }
     ensures { OnOk result ((s : System)
-        → AreSentAbove (given_value given.now) outline.now s above.now
-        → AreAsides (given_value given.now) outline.now.roots s (IsRegionIn s) asides.old asides.new) }
+        → IsSystemOf (told_value mapped.now.told) (given_value mapped.now.given) mapped.now.outline.now mapped.now.above.now s
+        → AreAsides (told_value mapped.now.told) (given_value mapped.now.given) mapped.now.outline.now.roots s
+        (IsIn (told_value mapped.now.told) s) asides.old asides.new) }
 {
-    let ways = find_ways(alloc, given, outline)?;
+    let ways = find_ways(alloc, &mapped.given, mapped.outline)?;
     let routes = Routes {
-        given: *given,
+        given: mapped.given,
         ways: ways.as_slice(),
-        above,
+        above: mapped.above,
     };
     // These two lists serve all functions.
     let mut io_list = Vec::new(alloc);
     let mut memory_list = Vec::new(alloc);
-    let records = outline.records();
+    let ranges = mapped.told.ranges;
+    let mut next = 0;
+    let records = mapped.outline.records();
     for function in records {
+        let slot = function.slot;
+        // a told range stands behind the registers of its slot
+        let end = first_of_slot(ranges, slot);
+        push_told_asides(asides, &routes, mapped, next, end)?;
+        next = end;
         find_both(&mut io_list, &mut memory_list, function)?;
         let io = io_list.as_slice();
         let memory = memory_list.as_slice();
-        let slot = function.slot;
         push_asides_of(asides, &routes, &FunctionRegions { slot, io, memory })?;
     }
-    Ok(())
+    push_told_asides(asides, &routes, mapped, next, ranges.len())
 }
 
 /// Appends a line for each region that has none at a place, by slot and register: below the heading `outside` those that
@@ -281,19 +351,19 @@ fn push_all<A: Allocator + Copy, B: Allocator>(
 pub fn push_asides<A: Allocator + Copy, B: Allocator>(
     alloc: A,
     text: &mut String<B>,
-    given: &Given<'_>,
-    outline: &Outline<A>,
-    above: &[Sent<A>],
+    mapped: &Mapped<'_, '_, A>,
 ) -> Result<(), OutOfMemory>
+    requires { AreToldOn (told_value mapped.now.told) mapped.now.outline.now mapped.now.on.now }
     ensures { OnOk result ((s : System)
-        → AreSentAbove (given_value given.now) outline.now s above.now
-        → AreAsidesTold (given_value given.now) outline.now.roots s (string_bytes text.old) (string_bytes text.new)) }
+        → IsSystemOf (told_value mapped.now.told) (given_value mapped.now.given) mapped.now.outline.now mapped.now.above.now s
+        → AreAsidesTold (told_value mapped.now.told) (given_value mapped.now.given) mapped.now.outline.now.roots s
+        (string_bytes text.old) (string_bytes text.new)) }
 {
     let mut asides = Asides {
         outside: String::new(alloc),
         unreached: String::new(alloc),
     };
-    push_all(alloc, &mut asides, given, outline, above)?;
+    push_all(alloc, &mut asides, mapped)?;
     push_section(text, "outside", asides.outside.as_str())?;
     push_section(text, "unreached", asides.unreached.as_str())?;
     Ok(())

@@ -3,11 +3,12 @@ ghost use Rattle.std.specs.Prelude.{◌∷◌, [], ◌<◌, OnOk};
 ghost use Rattle.std.specs.String.{string_bytes};
 ghost use Rattle.std.specs.List.{range_with_len};
 ghost use Rattle.pci_spec.specs.System.{System};
-ghost use Rattle.pci_claims.specs.Values.{given_value};
-ghost use Rattle.pci_map.specs.Above.{AreSentAbove};
+ghost use Rattle.pci_claims.specs.Values.{given_value, told_value};
+ghost use Rattle.pci_map.specs.Mapped.{AreToldOn, IsSystemOf};
 ghost use Rattle.pci_map.specs.Buses.{AreRootsTold};
 
-use super::walk::{Mapped, push_space};
+use super::mapped::Mapped;
+use super::walk::push_space;
 use pci_base::memory::OutOfMemory;
 use pci_base::slot::BUSES;
 use pci_base::space::Space;
@@ -20,10 +21,10 @@ fn push_bus<A: Allocator + Copy, B: Allocator>(
     mapped: &Mapped<'_, '_, A>,
     bus: u8,
 ) -> Result<(), OutOfMemory>
+    requires { AreToldOn (told_value mapped.now.told) mapped.now.outline.now mapped.now.on.now }
     ensures { OnOk result ((s : System)
-        → AreSentAbove (given_value mapped.now.given) mapped.now.outline.now s
-        mapped.now.above.now
-        → AreRootsTold (given_value mapped.now.given) mapped.now.outline.now.roots s (bus ∷ [])
+        → IsSystemOf (told_value mapped.now.told) (given_value mapped.now.given) mapped.now.outline.now mapped.now.above.now s
+        → AreRootsTold (told_value mapped.now.told) (given_value mapped.now.given) mapped.now.outline.now.roots s (bus ∷ [])
         (string_bytes text.old) (string_bytes text.new)) }
 {
     if !mapped.outline.roots().has(bus) {
@@ -39,10 +40,10 @@ pub fn push_roots<A: Allocator + Copy, B: Allocator>(
     text: &mut String<B>,
     mapped: &Mapped<'_, '_, A>,
 ) -> Result<(), OutOfMemory>
+    requires { AreToldOn (told_value mapped.now.told) mapped.now.outline.now mapped.now.on.now }
     ensures { OnOk result ((s : System)
-        → AreSentAbove (given_value mapped.now.given) mapped.now.outline.now s
-        mapped.now.above.now
-        → AreRootsTold (given_value mapped.now.given) mapped.now.outline.now.roots s
+        → IsSystemOf (told_value mapped.now.told) (given_value mapped.now.given) mapped.now.outline.now mapped.now.above.now s
+        → AreRootsTold (told_value mapped.now.told) (given_value mapped.now.given) mapped.now.outline.now.roots s
         (range_with_len 0 256)
         (string_bytes text.old) (string_bytes text.new)) }
 {

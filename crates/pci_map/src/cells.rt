@@ -10,8 +10,9 @@ use pci_base::digit::digit_of;
 use pci_base::slot::Slot;
 use std::alloc::{AllocError, Allocator};
 
-/// The most characters of a line: 62 of an indent, 33 of two addresses, 39 and a letter of an amount, and 29 others.
-pub const CELLS_MAX: usize = 164;
+/// The most characters of a line: 62 of an indent, 33 of two addresses, 39 and a letter of an amount, 32 of the name of a
+/// told range, and 30 others.
+pub const CELLS_MAX: usize = 197;
 
 /// Room for the characters of a line.
 pub type Cells = ArrayVec<u8, CELLS_MAX>;

@@ -5,15 +5,15 @@ ghost use Rattle.std.specs.Option.{is_some};
 ghost use Rattle.pci_spec.specs.System.{System};
 ghost use Rattle.pci_spec.specs.Why.{AreRuns};
 ghost use Rattle.given_spec.specs.Given.{ranges_said};
+ghost use Rattle.given_spec.specs.ToldClaims.{Told};
 ghost use Rattle.map_spec.specs.Lines.{IsFreeOn};
 ghost use Rattle.pci_base.specs.Ranges.{decoded_range_of};
 ghost use Rattle.pci_base.specs.Space.{space_of};
-ghost use Rattle.pci_tree.specs.Outline.{AreSortedRegionsOf};
 ghost use Rattle.pci_claims.specs.Values.{given_value};
-ghost use Rattle.pci_map.specs.Gaps.{between, gaps, AreClaimedBy, AreClaimed, AreFreeInside};
-ghost use Rattle.pci_claims.specs.Found.{range_at};
-ghost use Rattle.pci_claims.specs.Isa.{is_cut_region};
+ghost use Rattle.pci_map.specs.Gaps.{between, gaps, is_cut_seat, AreClaimedBy, AreClaimsOf, AreClaimed, AreFreeInside};
+ghost use Rattle.pci_map.specs.Seats.{seat_range, AreSortedSeatsOf};
 
+use super::seat::Seat;
 use pci_base::memory::OutOfMemory;
 use pci_base::range::Range;
 use pci_base::space::Space;
@@ -63,13 +63,23 @@ fn free_runs<A: Allocator>(
     Ok(out)
 }
 
-/// Whether ISA Enable takes addresses of a space from one of some regions.
-fn any_cut(given: &Given<'_>, space: Space, regions: &[Region]) -> bool
-    ensures { IsFalse result
-        → All (λ q. IsFalse (is_cut_region (given_value given.now) (space_of space) q)) regions.now }
+/// Whether ISA Enable takes addresses of a space from a region of a bus.
+fn is_seat_cut(given: &Given<'_>, space: Space, seat: &Seat<'_>) -> bool
+    ensures { result ≡ is_cut_seat (given_value given.now) (space_of space) seat.now }
 {
-    for region in regions {
-        if is_cut(given, space, region) {
+    match seat {
+        Seat::Own(region) => is_cut(given, space, region),
+        Seat::OfLine(_) => false,
+    }
+}
+
+/// Whether ISA Enable takes addresses of a space from one of some regions.
+fn any_cut(given: &Given<'_>, space: Space, seats: &[Seat<'_>]) -> bool
+    ensures { IsFalse result
+        → All (λ q. IsFalse (is_cut_seat (given_value given.now) (space_of space) q)) seats.now }
+{
+    for seat in seats {
+        if is_seat_cut(given, space, seat) {
             return true;
         }
     }
@@ -77,19 +87,36 @@ fn any_cut(given: &Given<'_>, space: Space, regions: &[Region]) -> bool
 }
 
 /// The addresses of regions, in their order.
-fn ranges_of<A: Allocator>(alloc: A, regions: &[Region]) -> Result<Vec<Range, A>, OutOfMemory>
-    ensures { IfOk result (λ v. v.items ≡ map range_at regions.now) }
+fn ranges_of<A: Allocator>(alloc: A, seats: &[Seat<'_>]) -> Result<Vec<Range, A>, OutOfMemory>
+    ensures { IfOk result (λ v. v.items ≡ map seat_range seats.now) }
 {
-    let Ok(mut out) = Vec::with_capacity(alloc, regions.len()) else {
+    let Ok(mut out) = Vec::with_capacity(alloc, seats.len()) else {
         return Err(OutOfMemory);
     };
-    for region in regions {
-        out.push(Range {
-            first: region.first,
-            last: region.last,
-        })?;
+    for seat in seats {
+        out.push(seat.range())?;
     }
     Ok(out)
+}
+
+/// What a region of a bus claims of a space.
+fn claims_of_one<A: Allocator + Copy>(
+    alloc: A,
+    given: &Given<'_>,
+    space: Space,
+    seat: &Seat<'_>,
+) -> Result<Vec<Range, A>, OutOfMemory>
+    ensures { IfOk result
+        (λ v. AreClaimsOf (given_value given.now) (space_of space) seat.now v.items) }
+{
+    match seat {
+        Seat::Own(region) => own(alloc, given, region, space),
+        Seat::OfLine(line) => {
+            let mut out = Vec::new(alloc);
+            out.push(line.range())?;
+            Ok(out)
+        }
+    }
 }
 
 /// What regions claim of a space, region by region.
@@ -97,14 +124,14 @@ fn claims_of<A: Allocator + Copy>(
     alloc: A,
     given: &Given<'_>,
     space: Space,
-    regions: &[Region],
+    seats: &[Seat<'_>],
 ) -> Result<Vec<Range, A>, OutOfMemory>
     ensures { IfOk result
-        (λ v. AreClaimedBy (given_value given.now) (space_of space) regions.now v.items) }
+        (λ v. AreClaimedBy (given_value given.now) (space_of space) seats.now v.items) }
 {
     let mut out = Vec::new(alloc);
-    for region in regions {
-        let more = own(alloc, given, region, space)?;
+    for seat in seats {
+        let more = claims_of_one(alloc, given, space, seat)?;
         out.extend_from_slice(&more)?;
     }
     Ok(out)
@@ -115,16 +142,16 @@ fn claimed<A: Allocator + Copy>(
     alloc: A,
     given: &Given<'_>,
     space: Space,
-    regions: &[Region],
+    seats: &[Seat<'_>],
 ) -> Result<Vec<Range, A>, OutOfMemory>
-    ensures { IfOk result (λ v. (s : System) (bus : ℕ)
-        → AreSortedRegionsOf s bus (space_of space) regions.now
-        → AreClaimed (given_value given.now) s bus (space_of space) v.items) }
+    ensures { IfOk result (λ v. (told : Told) (s : System) (bus : ℕ)
+        → AreSortedSeatsOf told s bus (space_of space) seats.now
+        → AreClaimed told (given_value given.now) s bus (space_of space) v.items) }
 {
-    if any_cut(given, space, regions) {
-        gathered(claims_of(alloc, given, space, regions)?)
+    if any_cut(given, space, seats) {
+        gathered(claims_of(alloc, given, space, seats)?)
     } else {
-        ranges_of(alloc, regions)
+        ranges_of(alloc, seats)
     }
 }
 
@@ -134,17 +161,17 @@ pub fn free_inside<A: Allocator + Copy>(
     given: &Given<'_>,
     space: Space,
     window: &Region,
-    regions: &[Region],
+    seats: &[Seat<'_>],
 ) -> Result<Vec<Range, A>, OutOfMemory>
-    ensures { IfOk result (λ v. (s : System) (bus : ℕ)
-        → AreSortedRegionsOf s bus (space_of space) regions.now
-        → AreFreeInside (given_value given.now) s bus (space_of space) window.now v.items) }
+    ensures { IfOk result (λ v. (told : Told) (s : System) (bus : ℕ)
+        → AreSortedSeatsOf told s bus (space_of space) seats.now
+        → AreFreeInside told (given_value given.now) s bus (space_of space) window.now v.items) }
 {
     let range = Range {
         first: window.first,
         last: window.last,
     };
-    let claimed = claimed(alloc, given, space, regions)?;
+    let claimed = claimed(alloc, given, space, seats)?;
     let runs = free_runs(alloc, range, &claimed)?;
     if is_cut(given, space, window) {
         let joined = gathered(runs)?;
@@ -170,16 +197,17 @@ pub fn free_on_root<A: Allocator + Copy>(
     given: &Given<'_>,
     space: Space,
     root: u8,
-    regions: &[Region],
+    seats: &[Seat<'_>],
 ) -> Result<Vec<Range, A>, OutOfMemory>
-    ensures { IfOk result (λ v. (s : System) → AreSortedRegionsOf s root (space_of space) regions.now
-        → AreRuns (IsFreeOn (given_value given.now) s root (space_of space)) (map decoded_range_of v.items)) }
+    ensures { IfOk result (λ v. (told : Told) (s : System)
+        → AreSortedSeatsOf told s root (space_of space) seats.now
+        → AreRuns (IsFreeOn told (given_value given.now) s root (space_of space)) (map decoded_range_of v.items)) }
 {
     if !is_said(given, space) {
         return Ok(Vec::new(alloc));
     }
     let sent = sent_to(alloc, given, space, root)?;
-    let claimed = claimed(alloc, given, space, regions)?;
+    let claimed = claimed(alloc, given, space, seats)?;
     let unclaimed = gathered(free_runs(alloc, space.whole(), &claimed)?)?;
     common(alloc, &sent, &unclaimed)
 }

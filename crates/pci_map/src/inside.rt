@@ -3,23 +3,24 @@ ghost use Rattle.std.specs.Prelude.{◌≡◌, IfOk, MatchOption};
 ghost use Rattle.std.specs.List.{filter};
 ghost use Rattle.pci_spec.specs.System.{System};
 ghost use Rattle.pci_spec.specs.Decoded.{HasRecords};
-ghost use Rattle.pci_claims.specs.Values.{given_value};
+ghost use Rattle.pci_claims.specs.Values.{given_value, told_value};
 ghost use Rattle.pci_base.specs.Space.{space_of};
 ghost use Rattle.pci_spec.specs.Why.{IsRegionIn};
 ghost use Rattle.pci_tree.specs.declared.region.Part.TheVariants.{Window};
 ghost use Rattle.pci_map.specs.Values.{value_of, mapped_of};
-ghost use Rattle.pci_map.specs.Above.{AreSentAbove};
+ghost use Rattle.pci_map.specs.Mapped.{AreToldOn, IsSystemOf};
 ghost use Rattle.pci_map.specs.Inside.{region_has, is_taken, is_held_first, IsEarlierWindow, AreInsideWindow};
 
 use super::above::in_place;
+use super::bus_seats::seats_on;
 use super::gaps::free_inside;
-use super::sent::Sent;
+use super::mapped::Mapped;
+use super::seat::{Seat, add_seat};
 use pci_base::memory::OutOfMemory;
 use pci_base::offset::{MEMORY_BASE, PREFETCHABLE_BASE};
 use pci_base::range::Range;
 use pci_base::space::Space;
 use pci_claims::find::region_at;
-use pci_claims::given::Given;
 use pci_claims::isa::{is_cut, is_isa_port};
 use pci_tree::bus::record_at;
 use pci_tree::outline::Outline;
@@ -28,11 +29,11 @@ use std::alloc::{Allocator, Global};
 
 /// What stands inside a window, or on a root bus.
 #[derive(Drop)]
-pub struct Inside<A: Allocator = Global> {
+pub struct Inside<'g, A: Allocator = Global> {
     /// The bus behind its bridge, or the root bus itself.
     pub bus: u8,
     /// The regions that stand there, by first address, then by slot and register: what is out of place doesn't.
-    pub regions: Vec<Region, A>,
+    pub regions: Vec<Seat<'g>, A>,
     /// The free runs of a window, or of what the host sends to a root bus, rising.
     pub runs: Vec<Range, A>,
 }
@@ -62,10 +63,10 @@ struct Opening<'a> {
 }
 
 /// Whether a window claims the first address of a region, and the earlier window of the bridge doesn't hold it.
-fn holds(opening: &Opening<'_>, region: &Region) -> bool
-    ensures { result ≡ is_held_first opening.now.window.now opening.now.earlier opening.now.cut region.now }
+fn holds(opening: &Opening<'_>, seat: &Seat<'_>) -> bool
+    ensures { result ≡ is_held_first opening.now.window.now opening.now.earlier opening.now.cut seat.now }
 {
-    let address = region.first;
+    let address = seat.first();
     if takes(opening.cut, address) {
         return false;
     }
@@ -76,20 +77,20 @@ fn holds(opening: &Opening<'_>, region: &Region) -> bool
 }
 
 /// The regions that a window holds, in their order.
-fn held<A: Allocator>(
+fn held<'g, A: Allocator>(
     alloc: A,
     opening: &Opening<'_>,
-    regions: &[Region],
-) -> Result<Vec<Region, A>, OutOfMemory>
+    seats: &[Seat<'g>],
+) -> Result<Vec<Seat<'g>, A>, OutOfMemory>
     ensures { IfOk result (λ v. v.items
-        ≡ filter (is_held_first opening.now.window.now opening.now.earlier opening.now.cut) regions.now) }
+        ≡ filter (is_held_first opening.now.window.now opening.now.earlier opening.now.cut) seats.now) }
 {
-    let Ok(mut out) = Vec::with_capacity(alloc, regions.len()) else {
+    let Ok(mut out) = Vec::with_capacity(alloc, seats.len()) else {
         return Err(OutOfMemory);
     };
-    for region in regions {
-        if holds(opening, region) {
-            out.push(*region)?;
+    for seat in seats {
+        if holds(opening, seat) {
+            add_seat(&mut out, seat)?;
         }
     }
     Ok(out)
@@ -113,22 +114,22 @@ fn earlier<A: Allocator, B: Allocator>(
 }
 
 /// What is inside a window of an outline.
-pub fn look_inside<A: Allocator + Copy>(
+pub fn look_inside<'g, A: Allocator + Copy>(
     alloc: A,
-    given: &Given<'_>,
-    outline: &Outline<A>,
-    above: &[Sent<A>],
+    mapped: &Mapped<'_, 'g, A>,
     space: Space,
     window: &Region,
-) -> Result<Option<Inside<A>>, OutOfMemory>
+) -> Result<Option<Inside<'g, A>>, OutOfMemory>
+    requires { AreToldOn (told_value mapped.now.told) mapped.now.outline.now mapped.now.on.now }
     // an outline has no image, so this is said of every system with its records
     ensures { IfOk result (λ o. (s : System)
-        → AreSentAbove (given_value given.now) outline.now s above.now
+        → IsSystemOf (told_value mapped.now.told) (given_value mapped.now.given) mapped.now.outline.now mapped.now.above.now s
         → IsRegionIn s (value_of (space_of space) window.now) → window.now.part ≡ Window
         → MatchOption o ⊥ (λ i. AreInsideWindow
-        (mapped_of (given_value given.now) outline.now s (space_of space)) window.now
-        i.bus i.regions.items i.runs.items)) }
+        (mapped_of (told_value mapped.now.told) (given_value mapped.now.given) mapped.now.outline.now s (space_of space))
+        window.now i.bus i.regions.items i.runs.items)) }
 {
+    let outline = mapped.outline;
     let Some(function) = record_at(outline.records(), window.slot) else {
         return Ok(None);
     };
@@ -136,8 +137,9 @@ pub fn look_inside<A: Allocator + Copy>(
         return Ok(None);
     };
     let bus = bridge.secondary;
+    let given = &mapped.given;
     let earlier = earlier(alloc, outline, space, window)?;
-    let all = outline.sorted(bus, space)?;
+    let all = seats_on(alloc, mapped, bus, space)?;
     let cut = is_cut(given, space, window);
     let runs = free_inside(alloc, given, space, window, all.as_slice())?;
     let opening = Opening {
@@ -146,6 +148,6 @@ pub fn look_inside<A: Allocator + Copy>(
         cut,
     };
     let held = held(alloc, &opening, all.as_slice())?;
-    let regions = in_place(alloc, above, space, bus, held)?;
+    let regions = in_place(alloc, mapped.above, space, bus, held)?;
     Ok(Some(Inside { bus, regions, runs }))
 }

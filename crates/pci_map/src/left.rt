@@ -1,12 +1,10 @@
 //! Whether a region is left: no windows lead to it from a root bus.
-ghost use Rattle.std.specs.Prelude.{◌≡◌, ℕ, ◌<◌, length};
+ghost use Rattle.std.specs.Prelude.{◌≡◌, ℕ, ◌<◌, length, None};
 ghost use Rattle.pci_spec.specs.System.{System, IsAddress};
-ghost use Rattle.pci_spec.specs.Why.{IsRegionIn};
 ghost use Rattle.given_spec.specs.Given.{Given};
+ghost use Rattle.map_spec.specs.Regions.{MapRegion, slot_of, space_of as region_space, range_of};
 ghost use Rattle.pci_base.specs.Space.{space_of};
 ghost use Rattle.pci_tree.specs.Outline.{Tree};
-ghost use Rattle.pci_tree.specs.declared.region.Region.{Region as RegionValue};
-ghost use Rattle.pci_map.specs.Values.{value_of};
 ghost use Rattle.pci_map.specs.Left.{IsTreeOf, IsLeftIf};
 ghost use Rattle.pci_map.specs.Ways.{Spot, IsJudgedAt, IsHoldingAt, AreAbove, IsFirstAt, AreWays};
 
@@ -30,9 +28,23 @@ pub struct Windows {
     pub prefetchable: Option<Judged>,
 }
 
+impl Windows {
+    /// No windows.
+    pub fn none() -> Windows
+        ensures { result ≡ record { io = None; memory = None; prefetchable = None } }
+    {
+        Windows {
+            io: None,
+            memory: None,
+            prefetchable: None,
+        }
+    }
+}
+
 /// A window, where it claims an address.
 fn holding(judged: Option<Judged>, address: u64) -> Option<Judged>
-    ensures { (given : Given) (t : Tree) (s : System) (spot : Spot) → IsTreeOf t s
+    ensures none { judged ≡ None → result ≡ None }
+    ensures first { (given : Given) (t : Tree) (s : System) (spot : Spot) → IsTreeOf t s
         → IsJudgedAt given t.roots s spot judged → IsHoldingAt given t.roots s spot address result }
 {
     let Some(judged) = judged else {
@@ -49,7 +61,9 @@ fn holding(judged: Option<Judged>, address: u64) -> Option<Judged>
 
 /// The first window of a bridge, by register, that claims an address.
 fn first_window(windows: &Windows, space: Space, address: u64) -> Option<Judged>
-    ensures { (given : Given) (t : Tree) (s : System) (bus : ℕ) → IsTreeOf t s
+    ensures none { windows.now.io ≡ None → windows.now.memory ≡ None → windows.now.prefetchable ≡ None
+        → result ≡ None }
+    ensures first { (given : Given) (t : Tree) (s : System) (bus : ℕ) → IsTreeOf t s
         → (above : AreAbove given t.roots s bus windows.now) → IsAddress (space_of space) address
         → IsFirstAt given t.roots s (space_of space) above.bridge.b address result }
 {
@@ -70,10 +84,10 @@ fn first_window(windows: &Windows, space: Space, address: u64) -> Option<Judged>
 pub fn is_left(ways: &[Option<Windows>], bus: u8, space: Space, address: u64) -> bool
     // bus numbers index it
     requires { bus < length ways.now }
-    ensures { (given : Given) (t : Tree) (s : System) (q : RegionValue) → IsTreeOf t s
+    ensures { (given : Given) (t : Tree) (s : System) (q : MapRegion) → IsTreeOf t s
         → AreWays given t.roots s ways.now
-        → IsRegionIn s (value_of (space_of space) q) → q.slot.bus ≡ bus → q.first ≡ address
-        → IsLeftIf given t.roots s (value_of (space_of space) q) result }
+        → (slot_of q).bus ≡ bus → region_space q ≡ space_of space → (range_of q).first ≡ address
+        → IsAddress (space_of space) address → IsLeftIf given t.roots s q result }
 {
     let way = &ways[bus as usize];
     match way {

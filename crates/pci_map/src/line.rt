@@ -5,15 +5,19 @@ ghost use Rattle.std.specs.List.{flat_map};
 ghost use Rattle.std.specs.Prelude.{map};
 ghost use Rattle.pci_spec.specs.Listing.{range_text};
 ghost use Rattle.pci_spec.specs.Why.{amount_text, address_count};
-ghost use Rattle.map_spec.specs.MapText.{indent, part_name, map_region_line, free_line, bus_heading};
+ghost use Rattle.given_spec.specs.ToldLine.{register_text};
+ghost use Rattle.map_spec.specs.Regions.{Own};
+ghost use Rattle.map_spec.specs.MapText.{indent, part_name, told_part_name, map_told_line, map_region_line, free_line, bus_heading};
 ghost use Rattle.pci_claims.specs.Values.{given_value};
 ghost use Rattle.arrayvec.specs.ArrayVec.{array_vec_len};
 ghost use Rattle.pci_base.specs.Ranges.{decoded_range_of};
 ghost use Rattle.pci_base.specs.Space.{space_of};
 ghost use Rattle.pci_map.specs.Values.{part_of, value_of};
-ghost use Rattle.pci_map.specs.Lines.{isa_ending, region_line_by};
+ghost use Rattle.pci_map.specs.Seats.{told_of, seat_value};
+ghost use Rattle.pci_map.specs.Lines.{isa_ending, name_ending, region_line_by};
 
 use super::cells::{CELLS_MAX, Cells, push_cells, put, put_byte, put_bytes, put_slot};
+use super::seat::{Seat, ToldRegion};
 use pci_base::range::Range;
 use pci_base::space::Space;
 use pci_claims::given::Given;
@@ -64,6 +68,51 @@ fn put_name(cells: &mut Cells, region: &Region)
         (Part::Rom, _) => put(cells, b"rom"),
         (Part::Window, _) => put(cells, b"window"),
     }
+}
+
+/// Puts whether a told range is held there, and whether it is prefetchable.
+#[inline(always)]
+fn put_told_name(cells: &mut Cells, line: &ToldRegion<'_>)
+    requires { array_vec_len cells.old + 9 ≤ CELLS_MAX }
+    ensures text { cells.new.items ≡ cells.old.items ++ told_part_name (told_of line.now) }
+    ensures len { array_vec_len cells.new ≤ array_vec_len cells.old + 9 }
+{
+    let told = line.told;
+    match (line.is_held(), told.prefetchable) {
+        (false, false) => put(cells, b"told"),
+        (false, true) => put(cells, b"told pref"),
+        (true, false) => put(cells, b"held"),
+        (true, true) => put(cells, b"held pref"),
+    }
+}
+
+/// Puts the number of a told range's line there, as `+1`.
+#[inline(always)]
+fn put_number(cells: &mut Cells, line: &ToldRegion<'_>)
+    requires { array_vec_len cells.old + 6 ≤ CELLS_MAX }
+    ensures text { cells.new.items ≡ cells.old.items ++ register_text line.now.register }
+    ensures len { array_vec_len cells.new ≤ array_vec_len cells.old + 6 }
+    // so the text that the cells become is UTF-8
+    ensures ascii { IsAscii (register_text line.now.register) }
+{
+    let mut digits = itoa::Buffer::new();
+    cells.push(b'+');
+    put(cells, digits.format(line.register - 255).as_bytes());
+}
+
+/// Puts the name of a told range there, behind a space, where it has one.
+#[inline(always)]
+fn put_range_name(cells: &mut Cells, line: &ToldRegion<'_>)
+    requires { array_vec_len cells.old + 33 ≤ CELLS_MAX }
+    ensures text { cells.new.items ≡ cells.old.items ++ name_ending line.now.told.now.name }
+    ensures len { array_vec_len cells.new ≤ array_vec_len cells.old + 33 }
+{
+    let told = line.told;
+    if told.name.is_empty() {
+        return;
+    }
+    cells.push(b' ');
+    put(cells, told.name.as_slice());
 }
 
 /// Puts what the line of a window that ISA Enable cuts ends with there.
@@ -170,9 +219,49 @@ pub fn push_region<A: Allocator>(
     region: &Region,
 ) -> Result<(), AllocError>
     ensures { OnOk result (string_bytes text.new ≡ string_bytes text.old
-        ++ map_region_line (given_value given.now) depth (value_of (space_of space) region.now)) }
+        ++ map_region_line (given_value given.now) depth (Own (value_of (space_of space) region.now))) }
 {
     push_region_line(text, depth, space, region, is_cut(given, space, region))
+}
+
+/// Appends the line of a told range.
+pub fn push_told_line<A: Allocator>(
+    text: &mut String<A>,
+    depth: u32,
+    line: &ToldRegion<'_>,
+) -> Result<(), AllocError>
+    ensures { OnOk result
+        (string_bytes text.new ≡ string_bytes text.old ++ map_told_line depth (told_of line.now)) }
+{
+    let mut cells = Cells::new();
+    put_extent(&mut cells, depth % STEPS, line.space(), line.range());
+    cells.push(b' ');
+    put_told_name(&mut cells, line);
+    cells.push(b' ');
+    put_slot(&mut cells, line.slot());
+    cells.push(b' ');
+    put_number(&mut cells, line);
+    put_range_name(&mut cells, line);
+    cells.push(b'\n');
+    push_steps(text, depth / STEPS)?;
+    push_cells(text, &cells)
+}
+
+/// Appends the line of a region of a bus, with what is given.
+pub fn push_line<A: Allocator>(
+    text: &mut String<A>,
+    given: &Given<'_>,
+    depth: u32,
+    space: Space,
+    seat: &Seat<'_>,
+) -> Result<(), AllocError>
+    ensures { OnOk result (string_bytes text.new ≡ string_bytes text.old
+        ++ map_region_line (given_value given.now) depth (seat_value (space_of space) seat.now)) }
+{
+    match seat {
+        Seat::Own(region) => push_region(text, given, depth, space, region),
+        Seat::OfLine(line) => push_told_line(text, depth, line),
+    }
 }
 
 /// Appends the line of a free run.

@@ -1,20 +1,27 @@
-//! The BARs that are off: implemented, of a space that their function's Command doesn't enable.
-ghost use Rattle.std.specs.Prelude.{◌≡◌, ◌++◌, map, OnOk};
-ghost use Rattle.std.specs.List.{flat_map};
+//! What is off: BARs that are implemented, of a space that their function's Command doesn't enable, and told ranges that
+//! aren't on.
+ghost use Rattle.std.specs.Prelude.{◌≡◌, ◌<◌, ◌≤◌, ◌++◌, length, map, OnOk};
+ghost use Rattle.std.specs.List.{AllWithin, flat_map};
 ghost use Rattle.std.specs.String.{string_bytes};
 ghost use Rattle.pci_spec.specs.System.{System};
-ghost use Rattle.pci_spec.specs.Decoded.{HasRecords};
+ghost use Rattle.pci_spec.specs.Slot.{IsSlot, slot_number};
+ghost use Rattle.pci_tree.specs.Trees.{HasTree};
+ghost use Rattle.given_spec.specs.Told.{IsTold};
 ghost use Rattle.map_spec.specs.MapText.{map_off_line, map_off_text};
 ghost use Rattle.pci_image.specs.Bars.{decoded_bar_of};
 ghost use Rattle.pci_function.specs.Values.{record_value};
-ghost use Rattle.pci_map.specs.Off.{section, off_bar, off_bars_text, off_record};
+ghost use Rattle.pci_claims.specs.Values.{told_value};
+ghost use Rattle.pci_map.specs.Off.{section, off_bar, off_bars_text, off_ranges_text, off_record};
+ghost use Rattle.pci_map.specs.Mapped.{AreToldOn};
 
-use super::line::push_region_line;
+use super::line::{push_region_line, push_told_line};
+use super::mapped::Mapped;
+use super::seat::ToldRegion;
 use pci_base::memory::OutOfMemory;
 use pci_base::slot::Slot;
 use pci_function::record::Record;
 use pci_image::bar::Bar;
-use pci_tree::outline::Outline;
+use pci_told::told_range::ToldRange;
 use pci_tree::region::{Part, Region};
 use std::alloc::{AllocError, Allocator};
 
@@ -66,18 +73,61 @@ fn push_bars<A: Allocator>(
     Ok(())
 }
 
-/// Appends the lines of some functions.
-fn push_records<A: Allocator>(text: &mut String<A>, records: &[Record]) -> Result<(), AllocError>
+/// The index of the first told range of this slot or a higher one.
+pub fn first_of_slot(ranges: &[ToldRange], slot: Slot) -> usize
+    // they stand by slot, so it is found by halving
+    requires { IsTold ranges.now }
+    ensures bound { result ≤ length ranges.now }
+    ensures before { AllWithin (λ r. slot_number r.slot < slot_number slot) ranges.now 0 result }
+    ensures after { AllWithin (λ r. slot_number slot ≤ slot_number r.slot) ranges.now result (length ranges.now) }
+    // so that slots with one number are one
+    ensures lawful { IsSlot slot }
+{
+    let number = slot.number();
+    ranges.partition_point(|range| range.slot.number() < number)
+}
+
+/// Appends the lines of the told ranges of a function that aren't on.
+fn push_ranges<A: Allocator>(
+    text: &mut String<A>,
+    ranges: &[ToldRange],
+    on: &[bool],
+    slot: Slot,
+) -> Result<(), AllocError>
+    requires told { IsTold ranges.now }
+    requires on { length on.now ≡ length ranges.now }
     ensures { OnOk result (string_bytes text.new
-        ≡ string_bytes text.old ++ flat_map off_record (map record_value records.now)) }
+        ≡ string_bytes text.old ++ off_ranges_text ranges.now on.now slot) }
+{
+    for i in first_of_slot(ranges, slot)..ranges.len() {
+        let told = &ranges[i];
+        if told.slot != slot {
+            return Ok(());
+        }
+        if !on[i] {
+            let register = 256 + i as u16;
+            push_told_line(text, 1, &ToldRegion { register, told })?;
+        }
+    }
+    Ok(())
+}
+
+/// Appends the lines of some functions.
+fn push_records<A: Allocator>(
+    text: &mut String<A>,
+    records: &[Record],
+    ranges: &[ToldRange],
+    on: &[bool],
+) -> Result<(), AllocError>
+    requires told { IsTold ranges.now }
+    requires on { length on.now ≡ length ranges.now }
+    ensures { OnOk result (string_bytes text.new
+        ≡ string_bytes text.old ++ flat_map (off_record ranges.now on.now) (map record_value records.now)) }
 {
     for function in records {
-        push_bars(
-            text,
-            function.slot,
-            function.command,
-            function.bars.as_slice(),
-        )?;
+        let slot = function.slot;
+        push_bars(text, slot, function.command, function.bars.as_slice())?;
+        push_ranges(text, ranges, on, slot)?;
     }
     Ok(())
 }
@@ -99,18 +149,24 @@ pub fn push_section<A: Allocator>(
     text.push_str(below)
 }
 
-/// Appends a line for each implemented BAR of an outline whose space its function's Command doesn't enable, by slot and
-/// register, below the heading `off`.
+/// Appends a line for each implemented BAR of an outline whose space its function's Command doesn't enable, and for each
+/// told range of a function that isn't on, by slot and register, below the heading `off`.
 pub fn push_off<A: Allocator + Copy, B: Allocator>(
     alloc: A,
     text: &mut String<B>,
-    outline: &Outline<A>,
+    mapped: &Mapped<'_, '_, A>,
 ) -> Result<(), OutOfMemory>
-    ensures { OnOk result ((s : System) → HasRecords s outline.now.records
-        → string_bytes text.new ≡ string_bytes text.old ++ map_off_text s) }
+    requires { AreToldOn (told_value mapped.now.told) mapped.now.outline.now mapped.now.on.now }
+    ensures { OnOk result ((s : System) → HasTree mapped.now.outline.now s
+        → string_bytes text.new ≡ string_bytes text.old ++ map_off_text (told_value mapped.now.told) s) }
 {
     let mut below = String::new(alloc);
-    push_records(&mut below, outline.records())?;
+    push_records(
+        &mut below,
+        mapped.outline.records(),
+        mapped.told.ranges,
+        mapped.on,
+    )?;
     push_section(text, "off", below.as_str())?;
     Ok(())
 }

@@ -6,44 +6,30 @@ ghost use Rattle.pci_spec.specs.System.{System};
 ghost use Rattle.map_spec.specs.MapText.{free_line};
 ghost use Rattle.pci_base.specs.Ranges.{decoded_range_of};
 ghost use Rattle.pci_base.specs.Space.{space_of};
-ghost use Rattle.pci_tree.specs.declared.region.Part.TheVariants.{Window};
-ghost use Rattle.pci_tree.specs.Regions.{IsRegionOn};
-ghost use Rattle.pci_claims.specs.Values.{given_value};
+ghost use Rattle.pci_claims.specs.Values.{given_value, told_value};
 ghost use Rattle.pci_map.specs.Values.{mapped_of};
-ghost use Rattle.pci_map.specs.Above.{AreSentAbove};
-ghost use Rattle.pci_map.specs.Inside.{AreInsideWindow};
-ghost use Rattle.pci_map.specs.Walk.{ahead, merged, ArePlacesWritten, IsSeated, AreRegionsOnBus, IsSpaceTold};
+ghost use Rattle.pci_map.specs.Seats.{IsSeatOn, AreSeatsOn};
+ghost use Rattle.pci_map.specs.Mapped.{AreToldOn, IsSystemOf};
+ghost use Rattle.pci_map.specs.Walk.{ahead, merged, ArePlacesWritten, IsSeated, IsNoWindow, HasInside, IsSpaceTold};
 
 use super::above::in_place;
+use super::bus_seats::seats_on;
 use super::gaps::free_on_root;
 use super::inside::{Inside, look_inside};
-use super::line::{push_heading, push_region, push_runs};
-use super::sent::Sent;
+use super::line::{push_heading, push_line, push_runs};
+use super::mapped::Mapped;
+use super::seat::Seat;
 use pci_base::memory::OutOfMemory;
 use pci_base::range::Range;
 use pci_base::space::Space;
-use pci_claims::given::Given;
-use pci_tree::outline::Outline;
-use pci_tree::region::{Part, Region};
+use pci_tree::region::Part;
 use std::alloc::{AllocError, Allocator};
-
-/// What is mapped: an outline, with what is given.
-#[derive(Drop)]
-pub struct Mapped<'a, 'g, A: Allocator> {
-    pub outline: &'a Outline<A>,
-    pub given: Given<'g>,
-    /// At each bus what is sent to the root above it.
-    pub above: &'a [Sent<A>],
-}
 
 /// A walk through a space of an outline.
 #[derive(Drop)]
-struct Walk<'a, A: Allocator> {
+struct Walk<'m, 'a, 'g, A: Allocator> {
     alloc: A,
-    given: Given<'a>,
-    outline: &'a Outline<A>,
-    /// At each bus what is sent to the root above it.
-    above: &'a [Sent<A>],
+    mapped: &'m Mapped<'a, 'g, A>,
     space: Space,
 }
 
@@ -81,32 +67,28 @@ fn push_before<'a, A: Allocator>(
 }
 
 /// What is inside a region of a bus, if it is a window.
-fn inside_of<A: Allocator + Copy>(
-    walk: &Walk<'_, A>,
+fn inside_of<'g, A: Allocator + Copy>(
+    walk: &Walk<'_, '_, 'g, A>,
     bus: u8,
-    region: &Region,
-) -> Result<Option<Inside<A>>, OutOfMemory>
+    seat: &Seat<'_>,
+) -> Result<Option<Inside<'g, A>>, OutOfMemory>
+    requires told { AreToldOn (told_value walk.now.mapped.now.told) walk.now.mapped.now.outline.now walk.now.mapped.now.on.now }
     // so the walk ends
     ensures deeper { IfOk result (λ o. IfSome o (λ i. bus < i.bus)) }
     ensures inside { IfOk result (λ o. (s : System)
-        → AreSentAbove (given_value walk.now.given) walk.now.outline.now s walk.now.above.now
-        → IsRegionOn s bus (space_of walk.now.space) region.now
-        → MatchOption o (region.now.part ≡ Window → ⊥)
-        (λ i. AreInsideWindow (mapped_of (given_value walk.now.given) walk.now.outline.now s (space_of walk.now.space))
-        region.now i.bus i.regions.items i.runs.items × (region.now.part ≡ Window))) }
+        → IsSystemOf (told_value walk.now.mapped.now.told) (given_value walk.now.mapped.now.given) walk.now.mapped.now.outline.now walk.now.mapped.now.above.now s
+        → IsSeatOn (told_value walk.now.mapped.now.told) s bus (space_of walk.now.space) seat.now
+        → MatchOption o (IsNoWindow seat.now)
+        (λ i. HasInside (mapped_of (told_value walk.now.mapped.now.told) (given_value walk.now.mapped.now.given) walk.now.mapped.now.outline.now s (space_of walk.now.space))
+        seat.now i.bus i.regions.items i.runs.items)) }
 {
+    let Seat::Own(region) = seat else {
+        return Ok(None);
+    };
     if region.part != Part::Window {
         return Ok(None);
     }
-    let found = look_inside(
-        walk.alloc,
-        &walk.given,
-        walk.outline,
-        walk.above,
-        walk.space,
-        region,
-    )?;
-    let Some(inside) = found else {
+    let Some(inside) = look_inside(walk.alloc, walk.mapped, walk.space, region)? else {
         return Ok(None);
     };
     // a bridge leads to a higher bus than its own
@@ -119,22 +101,23 @@ fn inside_of<A: Allocator + Copy>(
 /// Appends the line of a region of a bus, and below a window's what is inside.
 #[cycle(place)]
 fn push_seat<A: Allocator + Copy, B: Allocator>(
-    walk: &Walk<'_, A>,
+    walk: &Walk<'_, '_, '_, A>,
     text: &mut String<B>,
     bus: u8,
     depth: u32,
-    region: &Region,
+    seat: &Seat<'_>,
 ) -> Result<(), OutOfMemory>
+    requires told { AreToldOn (told_value walk.now.mapped.now.told) walk.now.mapped.now.outline.now walk.now.mapped.now.on.now }
     // each window leads to a higher bus, so the depth can be counted
-    requires { depth ≤ bus + 1 }
+    requires deep { depth ≤ bus + 1 }
     ensures { OnOk result ((s : System)
-        → AreSentAbove (given_value walk.now.given) walk.now.outline.now s walk.now.above.now
-        → IsRegionOn s bus (space_of walk.now.space) region.now
-        → IsSeated (mapped_of (given_value walk.now.given) walk.now.outline.now s (space_of walk.now.space)) depth region.now
+        → IsSystemOf (told_value walk.now.mapped.now.told) (given_value walk.now.mapped.now.given) walk.now.mapped.now.outline.now walk.now.mapped.now.above.now s
+        → IsSeatOn (told_value walk.now.mapped.now.told) s bus (space_of walk.now.space) seat.now
+        → IsSeated (mapped_of (told_value walk.now.mapped.now.told) (given_value walk.now.mapped.now.given) walk.now.mapped.now.outline.now s (space_of walk.now.space)) depth seat.now
         (string_bytes text.old) (string_bytes text.new)) }
 {
-    push_region(text, &walk.given, depth, walk.space, region)?;
-    let Some(inside) = inside_of(walk, bus, region)? else {
+    push_line(text, &walk.mapped.given, depth, walk.space, seat)?;
+    let Some(inside) = inside_of(walk, bus, seat)? else {
         return Ok(());
     };
     push_place(walk, text, depth + 1, &inside)
@@ -143,24 +126,25 @@ fn push_seat<A: Allocator + Copy, B: Allocator>(
 /// Appends the lines of what stands in a place, with what is inside each window below its line.
 #[cycle(place)]
 fn push_place<A: Allocator + Copy, B: Allocator>(
-    walk: &Walk<'_, A>,
+    walk: &Walk<'_, '_, '_, A>,
     text: &mut String<B>,
     depth: u32,
-    place: &Inside<A>,
+    place: &Inside<'_, A>,
 ) -> Result<(), OutOfMemory>
-    requires { depth ≤ place.now.bus + 1 }
+    requires told { AreToldOn (told_value walk.now.mapped.now.told) walk.now.mapped.now.outline.now walk.now.mapped.now.on.now }
+    requires deep { depth ≤ place.now.bus + 1 }
     ensures { OnOk result ((s : System)
-        → AreSentAbove (given_value walk.now.given) walk.now.outline.now s walk.now.above.now
-        → AreRegionsOnBus s place.now.bus (space_of walk.now.space) place.now.regions.items
-        → ArePlacesWritten (mapped_of (given_value walk.now.given) walk.now.outline.now s (space_of walk.now.space)) depth
+        → IsSystemOf (told_value walk.now.mapped.now.told) (given_value walk.now.mapped.now.given) walk.now.mapped.now.outline.now walk.now.mapped.now.above.now s
+        → AreSeatsOn (told_value walk.now.mapped.now.told) s place.now.bus (space_of walk.now.space) place.now.regions.items
+        → ArePlacesWritten (mapped_of (told_value walk.now.mapped.now.told) (given_value walk.now.mapped.now.given) walk.now.mapped.now.outline.now s (space_of walk.now.space)) depth
         (merged (space_of walk.now.space) place.now.regions.items place.now.runs.items)
         (string_bytes text.old) (string_bytes text.new)) }
 {
     let space = walk.space;
     let mut left = place.runs.as_slice();
-    for region in place.regions.as_slice() {
-        left = push_before(text, depth, space, left, region.first)?;
-        push_seat(walk, text, place.bus, depth, region)?;
+    for seat in place.regions.as_slice() {
+        left = push_before(text, depth, space, left, seat.first())?;
+        push_seat(walk, text, place.bus, depth, seat)?;
     }
     push_runs(text, depth, space, left)?;
     Ok(())
@@ -174,26 +158,22 @@ pub fn push_space<A: Allocator + Copy, B: Allocator>(
     bus: u8,
     space: Space,
 ) -> Result<(), OutOfMemory>
+    requires { AreToldOn (told_value mapped.now.told) mapped.now.outline.now mapped.now.on.now }
     ensures { OnOk result ((s : System)
-        → AreSentAbove (given_value mapped.now.given) mapped.now.outline.now s
-        mapped.now.above.now
-        → IsSpaceTold (mapped_of (given_value mapped.now.given) mapped.now.outline.now s
+        → IsSystemOf (told_value mapped.now.told) (given_value mapped.now.given) mapped.now.outline.now mapped.now.above.now s
+        → IsSpaceTold (mapped_of (told_value mapped.now.told) (given_value mapped.now.given) mapped.now.outline.now s
         (space_of space)) bus (string_bytes text.old) (string_bytes text.new)) }
 {
-    let outline = mapped.outline;
-    let above = mapped.above;
-    let all = outline.sorted(bus, space)?;
+    let all = seats_on(alloc, mapped, bus, space)?;
     let runs = free_on_root(alloc, &mapped.given, space, bus, all.as_slice())?;
-    let regions = in_place(alloc, above, space, bus, all)?;
+    let regions = in_place(alloc, mapped.above, space, bus, all)?;
     if regions.is_empty() && runs.is_empty() {
         return Ok(());
     }
     let place = Inside { bus, regions, runs };
     let walk = Walk {
         alloc,
-        given: mapped.given,
-        outline,
-        above,
+        mapped,
         space,
     };
     push_heading(text, bus, space)?;

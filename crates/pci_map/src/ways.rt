@@ -33,23 +33,32 @@ pub struct Spot {
     pub space: Space,
 }
 
-/// The bridge that leads to a bus, or None where that is a root.
-fn bridge_above(
+/// What leads to a bus.
+#[derive(Clone, Copy)]
+pub enum Above {
+    /// The host, as the bus is a root.
+    Host,
+    Bridge(Slot),
+    Nothing,
+}
+
+/// What leads to a bus.
+fn find_above(
     records: &[Record],
     bridge_to_bus: &[Option<usize>; BUSES],
     roots: &Roots,
     bus: u8,
-) -> Option<Slot>
+) -> Above
     requires { IsBridgeToBus records.now bridge_to_bus.now }
     ensures { (s : System) → HasRecords s (map record_value records.now)
         → IsNested (buses_of roots.now) s → HasAbove (buses_of roots.now) s bus result }
 {
     if roots.has(bus) {
-        return None;
+        return Above::Host;
     }
     match bridge_to_bus[bus as usize] {
-        None => None,
-        Some(index) => Some(records[index].slot),
+        None => Above::Nothing,
+        Some(index) => Above::Bridge(records[index].slot),
     }
 }
 
@@ -123,25 +132,28 @@ fn next_way<A: Allocator + Copy>(
     given: &Given<'_>,
     outline: &Outline<A>,
     ways: &[Option<Windows>],
-    above: Option<Slot>,
+    above: Above,
 ) -> Result<Option<Windows>, OutOfMemory>
     ensures { IfOk result (λ o. (s : System) → IsTreeOf outline.now s
         → AreWays (given_value given.now) outline.now.roots s ways.now
         → HasAbove outline.now.roots s (length ways.now) above
         → IsWayTo (given_value given.now) outline.now.roots s (length ways.now) o) }
 {
-    let Some(bridge) = above else {
-        return Ok(None);
-    };
-    // a bridge leads to a higher bus than its own
-    if ways.len() <= bridge.bus() as usize {
-        return Ok(None);
+    match above {
+        Above::Host => Ok(None),
+        Above::Nothing => Ok(Some(Windows::none())),
+        Above::Bridge(bridge) => {
+            // a bridge leads to a higher bus than its own
+            if ways.len() <= bridge.bus() as usize {
+                return Ok(None);
+            }
+            let windows = windows_of(alloc, given, outline, ways, bridge)?;
+            Ok(Some(windows))
+        }
     }
-    let windows = windows_of(alloc, given, outline, ways, bridge)?;
-    Ok(Some(windows))
 }
 
-/// At each bus that is no root the windows of the bridge that leads there.
+/// At each bus that is no root the windows of the bridge that leads there; none where no bridge does.
 pub fn find_ways<A: Allocator + Copy>(
     alloc: A,
     given: &Given<'_>,
@@ -159,7 +171,7 @@ pub fn find_ways<A: Allocator + Copy>(
         return Err(OutOfMemory);
     };
     for bus in 0..BUSES {
-        let above = bridge_above(records, &bridge_to_bus, &roots, bus as u8);
+        let above = find_above(records, &bridge_to_bus, &roots, bus as u8);
         let way = next_way(alloc, given, outline, ways.as_slice(), above)?;
         ways.push(way)?;
     }

@@ -6,15 +6,15 @@ use Rattle.pci_map.specs.Gaps.{AreClaimedBy}
 use Rattle.pci_map.proofs.Covering.{none_claimed, one_claimed, all_claimed}
 use Rattle.pci_map.proofs.gaps.claims_of.Goals as goal
 
-pub loop-region-init : goal.loop-region-init
-loop-region-init g c =
-    subst (λ (xs : List Range). AreClaimedBy (given_value c.args.given.now) (space_of c.args.space) (take 0 c.args.regions.now) xs) (sym c.new-out.ensures.items)
-    (none_claimed (given_value c.args.given.now) (space_of c.args.space) c.args.regions.now)
+pub loop-seat-init : goal.loop-seat-init
+loop-seat-init g c =
+    subst (λ (xs : List Range). AreClaimedBy (given_value c.args.given.now) (space_of c.args.space) (take 0 c.args.seats.now) xs) (sym c.new-out.ensures.items)
+    (none_claimed (given_value c.args.given.now) (space_of c.args.space) c.args.seats.now)
 
-pub loop-region-preserved : goal.loop-region-preserved
-loop-region-preserved g c =
-    one_claimed (given_value c.args.given.now) (space_of c.args.space) c.args.regions.now c.loop-region.region-index c.region-item.result c.loop-region.out.items c.in_ok-more.more.items _
-    c.loop-region-test.true c.region-item.is c.loop-region.invariant c.in_ok-more.ensures (c.in_ok-extend_from_slice.ensures.items ∙ ap (λ (xs : List Range). c.loop-region.out.items ++ xs) c.deref.ensures.value)
+pub loop-seat-preserved : goal.loop-seat-preserved
+loop-seat-preserved g c =
+    one_claimed (given_value c.args.given.now) (space_of c.args.space) c.args.seats.now c.loop-seat.seat-index c.seat-item.result c.loop-seat.out.items c.in_ok-more.more.items _
+    c.loop-seat-test.true c.seat-item.is c.loop-seat.invariant c.in_ok-more.ensures (c.in_ok-extend_from_slice.ensures.items ∙ ap (λ (xs : List Range). c.loop-seat.out.items ++ xs) c.deref.ensures.value)
 
 pub returns : goal.returns
-returns g c = all_claimed (given_value c.args.given.now) (space_of c.args.space) c.args.regions.now c.loop-region.region-index c.loop-region.out.items c.loop-region-test.false c.loop-region.invariant
+returns g c = all_claimed (given_value c.args.given.now) (space_of c.args.space) c.args.seats.now c.loop-seat.seat-index c.loop-seat.out.items c.loop-seat-test.false c.loop-seat.invariant

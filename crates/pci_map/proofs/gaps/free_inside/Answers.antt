@@ -21,18 +21,18 @@ kept-requires g c = subst IsCanonical (sym c.deref-then-is_cut.ensures.value) c.
 pub returns-then-is_cut : goal.returns-then-is_cut
 returns-then-is_cut g c =
     IfOk-weaker c.kept.result _ _
-    (λ v is s bus sorted. (
+    (λ v is told s bus sorted. (
     let w = c.args.window.now in
     let claimed : List Range = c.in_ok-claimed.claimed.items in
     let runs : c.in_ok-runs.runs.items ≡ gaps (range_at w) 0 claimed = c.in_ok-runs.ensures ∙ ap (gaps (range_at w) 0) c.deref.ensures.value in
-    free_of_cut (given_value c.args.given.now) s bus (space_of c.args.space) w claimed (c.in_ok-claimed.ensures s bus sorted) c.in_ok-joined.joined.items v.items (sym c.is_cut.ensures ∙ c.if-is_cut.true)
+    free_of_cut told (given_value c.args.given.now) s bus (space_of c.args.space) w claimed (c.in_ok-claimed.ensures told s bus sorted) c.in_ok-joined.joined.items v.items (sym c.is_cut.ensures ∙ c.if-is_cut.true)
     (subst (λ (xs : List Range). IsGathered xs c.in_ok-joined.joined.items) runs c.in_ok-joined.ensures)
     (subst (λ (xs : List Range). AreKept xs v.items) c.deref-then-is_cut.ensures.value is)))
     c.kept.ensures
 
 pub returns : goal.returns
-returns g c = λ s bus sorted.
+returns g c = λ told s bus sorted.
     let w = c.args.window.now in
     let claimed : List Range = c.in_ok-claimed.claimed.items in
-    free_of_whole (given_value c.args.given.now) s bus (space_of c.args.space) w claimed (c.in_ok-claimed.ensures s bus sorted) c.in_ok-runs.runs.items (sym c.is_cut.ensures ∙ c.if-is_cut.false)
+    free_of_whole told (given_value c.args.given.now) s bus (space_of c.args.space) w claimed (c.in_ok-claimed.ensures told s bus sorted) c.in_ok-runs.runs.items (sym c.is_cut.ensures ∙ c.if-is_cut.false)
     (c.in_ok-runs.ensures ∙ ap (gaps (range_at w) 0) c.deref.ensures.value)

@@ -15,12 +15,12 @@ gathered-requires g c = subst (λ (xs : List Range). All (λ r. r.first ≤ r.la
 pub returns : goal.returns
 returns g c =
     IfOk-weaker c.common.result _ _
-    (λ v is s sorted. (
+    (λ v is told s sorted. (
     let claimed : List Range = c.in_ok-claimed.claimed.items in
     let unclaimed : List Range = c.in_ok-unclaimed.unclaimed.items in
     let sent : List Range = c.in_ok-sent.sent.items in
     let runs : c.in_ok-free_runs.field-0.items ≡ gaps c.whole.result 0 claimed = c.in_ok-free_runs.ensures ∙ ap (gaps c.whole.result 0) c.deref.ensures.value in
-    free_on (given_value c.args.given.now) s c.args.root (space_of c.args.space) claimed (c.in_ok-claimed.ensures s c.args.root sorted) c.whole.result sent unclaimed v.items c.whole.ensures.exact
+    free_on told (given_value c.args.given.now) s c.args.root (space_of c.args.space) claimed (c.in_ok-claimed.ensures told s c.args.root sorted) c.whole.result sent unclaimed v.items c.whole.ensures.exact
     (sym c.is_said.ensures ∙ c.if-not-is_said.false) c.in_ok-sent.ensures
     (subst (λ (xs : List Range). IsGathered xs unclaimed) runs c.in_ok-unclaimed.ensures)
     (subst (λ (xs : List Range). IsCommon xs unclaimed v.items) c.deref-2.ensures.value (subst (λ (xs : List Range). IsCommon c.deref-2.result.now xs v.items) c.deref-3.ensures.value is))))

@@ -4,18 +4,18 @@ use Rattle.pci_map.specs.Ways.{io_spot, memory_spot, prefetchable_spot}
 use Rattle.pci_map.proofs.Firsts.{io_any, memory_any, prefetch_any}
 use Rattle.pci_map.proofs.left.first_window.Goals as goal
 
-pub returns-in-Io : goal.returns-in-Io
-returns-in-Io c = λ given t s bus tree above address.
+pub returns-in-Io-clause-first : goal.returns-in-Io-clause-first
+returns-in-Io-clause-first c = λ given t s bus tree above address.
     io_any given s tree.one above.bridge.b above.bridge.leads.0 above.bridge.leads.1 above.slot above.bridge.named c.args.address t.roots (space_of c.args.space) c.holding.result (ap space_of c.in-Io.is) address
-    (c.holding.ensures given t s (io_spot above.slot) tree above.windows.io)
+    (c.holding.ensures.first given t s (io_spot above.slot) tree above.windows.io)
 
-pub returns-then-is_some : goal.returns-then-is_some
-returns-then-is_some c = λ given t s bus tree above address.
+pub returns-then-is_some-clause-first : goal.returns-then-is_some-clause-first
+returns-then-is_some-clause-first c = λ given t s bus tree above address.
     memory_any given s tree.one above.bridge.b above.bridge.leads.0 above.bridge.leads.1 above.slot above.bridge.named c.args.address t.roots (space_of c.args.space) c.holding-memory.result (ap space_of c.in-Mem.is)
-    (sym c.is_some.ensures ∙ c.if-is_some.true) (c.holding-memory.ensures given t s (memory_spot above.slot) tree above.windows.memory)
+    (sym c.is_some.ensures ∙ c.if-is_some.true) (c.holding-memory.ensures.first given t s (memory_spot above.slot) tree above.windows.memory)
 
-pub returns-else-is_some : goal.returns-else-is_some
-returns-else-is_some c = λ given t s bus tree above address.
+pub returns-else-is_some-clause-first : goal.returns-else-is_some-clause-first
+returns-else-is_some-clause-first c = λ given t s bus tree above address.
     prefetch_any given s tree.one above.bridge.b above.bridge.leads.0 above.bridge.leads.1 above.slot above.bridge.named c.args.address t.roots (space_of c.args.space) c.holding-memory.result c.holding-in-Mem.result
-    (ap space_of c.in-Mem.is) (sym c.is_some.ensures ∙ c.if-is_some.false) address (c.holding-memory.ensures given t s (memory_spot above.slot) tree above.windows.memory)
-    (c.holding-in-Mem.ensures given t s (prefetchable_spot above.slot) tree above.windows.prefetchable)
+    (ap space_of c.in-Mem.is) (sym c.is_some.ensures ∙ c.if-is_some.false) address (c.holding-memory.ensures.first given t s (memory_spot above.slot) tree above.windows.memory)
+    (c.holding-in-Mem.ensures.first given t s (prefetchable_spot above.slot) tree above.windows.prefetchable)

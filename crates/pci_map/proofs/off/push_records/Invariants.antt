@@ -6,4 +6,4 @@ use Rattle.pci_map.specs.Off.{off_record}
 use Rattle.pci_map.proofs.off.push_records.Given as goal
 
 abbrev pub invariant-loop-function : goal.invariant-loop-function
-invariant-loop-function g l = string_bytes l.text ≡ string_bytes l.initial.text ++ flat_map off_record (map record_value (take l.function-index l.records))
+invariant-loop-function g l = string_bytes l.text ≡ string_bytes l.initial.text ++ flat_map (off_record l.ranges l.on) (map record_value (take l.function-index l.records))

@@ -15,12 +15,12 @@ loop-bus-preserved g c = record {
   ways = λ s tree. (
       let roots = c.args.outline.now.roots in
       let records = subst (λ (rs : List decoded.Record). HasRecords s rs) (sym c.records-records.ensures.value) tree.records in
-      let above = subst (λ (bs : List ℕ). HasAbove bs s c.loop-bus.bus c.bridge_above-above.result) c.roots-roots.ensures
-      (c.bridge_above-above.ensures s records (subst (λ (bs : List ℕ). IsNested bs s) (sym c.roots-roots.ensures) tree.nested)) in
+      let above = subst (λ (bs : List ℕ). HasAbove bs s c.loop-bus.bus c.find_above-above.result) c.roots-roots.ensures
+      (c.find_above-above.ensures s records (subst (λ (bs : List ℕ). IsNested bs s) (sym c.roots-roots.ensures) tree.nested)) in
       let before = c.loop-bus.invariant.ways s tree in
       let size = c.loop-bus.invariant.size in
       let here = c.in_ok-way.ensures s tree (subst (AreWays (given_value c.args.given.now) roots s) (sym c.as_slice.ensures.value) before)
-      (subst (λ n. HasAbove roots s n c.bridge_above-above.result) (sym (ap length c.as_slice.ensures.value ∙ size)) above) in
+      (subst (λ n. HasAbove roots s n c.find_above-above.result) (sym (ap length c.as_slice.ensures.value ∙ size)) above) in
       one_way_more (given_value c.args.given.now) roots s c.loop-bus.ways.items c.push.new.self.items c.in_ok-way.way c.in_ok-push.ensures.items before
       (subst (λ n. IsWayTo (given_value c.args.given.now) roots s n c.in_ok-way.way) (ap length c.as_slice.ensures.value) here));
 }
