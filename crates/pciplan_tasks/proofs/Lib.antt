@@ -2,6 +2,8 @@ mod Sizes
 mod PlainWrites
 mod Tasks
 pub mod Faults
+mod Maps
+mod NoMap
 mod WithNothing
 mod ShownSlots
 mod SettlingTold

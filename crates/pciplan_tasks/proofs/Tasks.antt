@@ -4,7 +4,7 @@ use Rattle.std.specs.Result.{IfOk, MatchResult}
 use Rattle.pci_spec.specs.Text.{Block, IsTextOf}
 use Rattle.pci_check.specs.Audits.{IsDumpOf}
 use Rattle.pciplan_tasks.specs.Answers.{Answer}
-use Rattle.pciplan_tasks.specs.Tasks.{IsAnswerTo, IsAnswerOf, IsOfWholePair, IsPairAnswer}
+use Rattle.pciplan_tasks.specs.Tasks.{IsAnswerTo, IsTextsAnswer, IsOfWholePair, IsPairAnswer}
 use Rattle.pciplan_tasks.specs.declared.task.Task.{Task}
 use Rattle.pciplan_tasks.specs.declared.task.Task.TheVariants as task
 
@@ -26,7 +26,7 @@ dump_read left (Err e) (Err d) same text only = tt
 
 -- a task that takes a whole pair answers it
 pub pair_answered : (t : Task) → IsOfWholePair t → (dump_left second_left : Option (List ℕ)) (answer : Answer)
-    → IsAnswerTo IsDumpOf (IsPairAnswer t) dump_left second_left answer → IsAnswerOf t dump_left second_left answer
+    → IsAnswerTo IsDumpOf (IsPairAnswer t) dump_left second_left answer → IsTextsAnswer t dump_left second_left answer
 pair_answered task.Show whole dump_left second_left answer is = is
 pair_answered (task.Check roots) whole dump_left second_left answer is = absurd whole
 pair_answered (task.Faults beside why) whole dump_left second_left answer is = is

@@ -1,5 +1,6 @@
--- Laws of `faults` where nothing is given beside the two texts.
+-- Laws of `faults` and `map` where nothing is given or told beside the two texts.
 use Rattle.std.specs.Prelude.{◌≡◌, ◌↔◌, ℕ, Bool, false, List, [], ◌∷◌, None}
+use Rattle.pci_spec.specs.Slot.{Slot}
 use Rattle.pci_spec.specs.Text.{Block, IsDump}
 use Rattle.pci_spec.specs.System.{system_of}
 use Rattle.pci_spec.specs.Fault.{Fault}
@@ -8,9 +9,14 @@ use Rattle.pci_spec.specs.FaultsText.{IsFaultsText}
 use Rattle.pci_spec.specs.Order.{IsFirstThere}
 use Rattle.pci_spec.specs.Mark.{all_named}
 use Rattle.pci_check.specs.Audits.{AreSound}
-use Rattle.given_spec.specs.Given.{nothing_given}
+use Rattle.given_spec.specs.Given.{Given, nothing_given}
+use Rattle.given_spec.specs.ToldClaims.{Told, nothing_told}
 use Rattle.pciplan_tasks.specs.Answers.{Answer}
 use Rattle.pciplan_tasks.specs.FaultsAnswers.{AreTold, given_of, isa_of, list_answer, vga_of}
+use Rattle.pciplan_tasks.specs.MapAnswers.{IsNoMap}
+use Rattle.pciplan_tasks.specs.PlanAnswers.{IsRefusedText}
+use Rattle.pciplan_tasks.specs.ToldAnswers.{IsToldBeside}
+use Rattle.pciplan_tasks.specs.declared.task.Also.TheVariants as also
 use Rattle.pciplan_tasks.specs.declared.task.Beside.{Beside}
 
 -- where there is a line, the first one is of the fault that is looked for first of those that are there
@@ -18,7 +24,7 @@ abbrev pub FirstLineIsVerdict : List ℕ → List Block → List Block → List 
 FirstLineIsVerdict roots dump probe [] = Unit {0}
 FirstLineIsVerdict roots dump probe (fault ∷ rest) = IsFirstThere roots dump probe fault
 
--- All faults without what is given, of which the first is the one that `check` names; none exactly where it says yes.
+-- All faults without what is given and told, of which the first is the one that `check` names; none exactly where it says yes.
 pub record ArePlainTold (roots : List ℕ) (why : Bool) (dump probe : List Block)
     (answer : Answer) : Type 0 where
   pub faults : List Fault
@@ -29,11 +35,12 @@ pub record ArePlainTold (roots : List ℕ) (why : Bool) (dump probe : List Block
   pub is : IsFaultsText (all_named probe) roots (system_of dump probe) why faults text
   pub line : answer ≡ list_answer faults text
 
--- With nothing given that is what `faults` tells.
+-- With nothing given and told that is what `faults` tells, whoever is asleep.
 abbrev pub PlainWithNothingGiven : Type 0
 PlainWithNothingGiven =
-    (roots : List ℕ) (why : Bool) (dump probe : List Block) (answer : Answer) → IsDump dump
-    → IsDump probe → AreTold nothing_given roots why dump probe answer
+    (asleep : List Slot) (roots : List ℕ) (why : Bool) (dump probe : List Block) (answer : Answer)
+    → IsDump dump → IsDump probe
+    → AreTold (nothing_told asleep) nothing_given roots why dump probe answer
     → ArePlainTold roots why dump probe answer
 
 -- Nothing is given where no list is said of what the host sends, and no word takes VGA Enable or ISA
@@ -42,3 +49,17 @@ abbrev pub NothingSaidGivesNothing : Type 0
 NothingSaidGivesNothing =
     (beside : Beside) (dump : List Block) → beside.host.io ≡ None → beside.host.mem ≡ None
     → vga_of beside.words ≡ None → isa_of beside.words ≡ false → given_of beside.host beside.words dump ≡ nothing_given
+
+-- Nothing is told where there is no third text, or an empty one.
+abbrev pub NothingSaidTellsNothing : Type 0
+NothingSaidTellsNothing =
+    (beside : Beside) (dump probe : List Block) (told : Told) → beside.also ≡ also.Told []
+    → IsToldBeside beside dump probe told → told ≡ nothing_told []
+
+-- With nothing told the line in the place of a map is of the fault that is looked for first of those that are there, before
+-- judging.
+abbrev pub NoMapNamesTheFirst : Type 0
+NoMapNamesTheFirst =
+    (asleep : List Slot) (given : Given) (roots : List ℕ) (dump probe : List Block) (answer : Answer)
+    → IsDump dump → IsDump probe → IsNoMap (nothing_told asleep) given roots dump probe answer
+    → IsRefusedText roots dump probe answer

@@ -1,11 +1,13 @@
 pub mod Statuses
+pub mod Also
 pub mod Answers
 pub mod ProbeAnswers
 pub mod PlanAnswers
 pub mod Slots
 pub mod SettleAnswers
-pub mod MapAnswers
 pub mod TakenAnswers
+pub mod ToldAnswers
+pub mod MapAnswers
 pub mod FaultsAnswers
 pub mod FaultsLaws
 pub mod Tasks

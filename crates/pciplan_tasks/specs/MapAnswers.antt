@@ -1,17 +1,22 @@
 -- What the program answers where a map of two texts is asked for.
-use Rattle.std.specs.Prelude.{◌≡◌, ◌⊎◌, ℕ, List, [], map, Option, option_map}
+use Rattle.std.specs.Prelude.{◌≡◌, ◌⊎◌, ℕ, List, [], ◌∷◌, map, Option, option_map}
+use Rattle.pci_spec.specs.Slot.{Slot}
 use Rattle.pci_spec.specs.Text.{Block}
 use Rattle.pci_spec.specs.System.{system_of}
 use Rattle.given_spec.specs.Given.{Given}
+use Rattle.given_spec.specs.ToldClaims.{Told}
+use Rattle.given_spec.specs.ToldFault.{Fault, IsHeldOrphan}
+use Rattle.given_spec.specs.ToldFaultLines.{AreListed}
+use Rattle.given_spec.specs.ToldLine.{fault_text}
 use Rattle.map_spec.specs.MapText.{IsMapText}
 use Rattle.pci_claims.specs.Values.{host_value}
+use Rattle.pci_given.specs.Every.{AreBefore}
 use Rattle.pci_tree.specs.Admission.{IsAdmitted}
-use Rattle.pciplan_tasks.specs.Answers.{Answer, done}
+use Rattle.pciplan_tasks.specs.Answers.{Answer, done, fault_answer_line, refused}
 use Rattle.pci_model.specs.declared.words.Words.{Words}
 use Rattle.pciplan_tasks.specs.FaultsAnswers.{isa_by, isa_of}
-use Rattle.pciplan_tasks.specs.PlanAnswers.{IsRefusedText}
 use Rattle.pci_tree.specs.Roots.{buses_of}
-use Rattle.pciplan_tasks.specs.TakenAnswers.{IsAnswerBy}
+use Rattle.pciplan_tasks.specs.ToldAnswers.{IsAnswerWithTold}
 use Rattle.pciplan_tasks.specs.declared.task.Beside.{Beside}
 use Rattle.pciplan_tasks.specs.declared.task.HostLists.{HostLists}
 
@@ -24,22 +29,36 @@ mapped_by host words dump = record {
   isa = isa_by (isa_of words) (system_of dump dump);
 }
 
--- the map of the two, which are admitted
-pub record IsMapAnswer (given : Given) (roots : List ℕ) (dump probe : List Block)
+-- the map of the two, which are admitted with what is told: no 34 is there, and no 58 of a held range
+pub record IsMapAnswer (told : Told) (given : Given) (roots : List ℕ) (dump probe : List Block)
     (answer : Answer) : Type 0 where
   pub admitted : IsAdmitted record { roots = roots; dump = dump; probe = probe }
+  pub listed : AreListed told dump probe
+  pub led_to : (slot : Slot) → IsHeldOrphan told roots (system_of dump probe) slot → ⊥
   pub text : List ℕ
-  pub is : IsMapText given roots (system_of dump probe) text
+  pub is : IsMapText told given roots (system_of dump probe) text
   pub line : answer ≡ done text
 
--- `map`: the map, or the line of the first fault, which is one that is looked for before judging
-abbrev pub IsMapped : Given → List ℕ → List Block → List Block → Answer → Type 0
-IsMapped given roots dump probe answer =
-    IsMapAnswer given roots dump probe answer ⊎ IsRefusedText roots dump probe answer
+-- the line of the first of some faults
+abbrev pub IsFirstLine : List Fault → Answer → Type 0
+IsFirstLine [] answer = ⊥
+IsFirstLine (fault ∷ rest) answer = answer ≡ refused (fault_answer_line (fault_text fault))
 
--- of the two as words take them, beside what the dump as it is gives
+-- that of all faults that are looked for before judging
+pub record IsNoMap (told : Told) (given : Given) (roots : List ℕ) (dump probe : List Block)
+    (answer : Answer) : Type 0 where
+  pub faults : List Fault
+  pub before : AreBefore told given roots dump probe faults
+  pub line : IsFirstLine faults answer
+
+-- `map`: the map, or the line of that fault
+abbrev pub IsMapped : Told → Given → List ℕ → List Block → List Block → Answer → Type 0
+IsMapped told given roots dump probe answer =
+    IsMapAnswer told given roots dump probe answer ⊎ IsNoMap told given roots dump probe answer
+
+-- of the two as words take them, beside what the dump as it is gives and what is told
 abbrev pub IsMapAnswerBy : Beside → List Block → List Block → Answer → Type 0
 IsMapAnswerBy beside dump probe answer =
-    IsAnswerBy beside.words
-    (IsMapped (mapped_by beside.host beside.words dump) (buses_of beside.roots))
+    IsAnswerWithTold beside
+    (λ told. IsMapped told (mapped_by beside.host beside.words dump) (buses_of beside.roots))
     dump probe answer

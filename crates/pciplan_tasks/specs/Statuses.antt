@@ -3,7 +3,7 @@ use Rattle.std.specs.Prelude.{ℕ}
 use Rattle.pci_dump.specs.declared.read_fault.ReadFault.{ReadFault}
 use Rattle.pci_dump.specs.declared.read_fault.ReadFault.TheVariants as faults
 use Rattle.pciplan_tasks.specs.declared.failure.Failure.{Failure}
-use Rattle.pciplan_tasks.specs.declared.failure.Failure.TheVariants.{Usage, Root, Model, Host, Pool, Fixed, Spare, Slots, Dump, Probe, Sizes, Memory, Io}
+use Rattle.pciplan_tasks.specs.declared.failure.Failure.TheVariants.{Usage, Root, Model, Host, Pool, Fixed, Spare, Slots, Dump, Probe, Sizes, Also, Memory, Io}
 
 -- of a text that isn't read
 abbrev pub text_status : ReadFault → ℕ
@@ -24,5 +24,6 @@ status_of Slots = 2
 status_of (Dump fault) = text_status fault
 status_of (Probe fault) = text_status fault
 status_of (Sizes fault) = text_status fault
+status_of (Also fault) = text_status fault
 status_of Memory = 3
 status_of Io = 4

@@ -11,6 +11,7 @@ use Rattle.pci_probe.specs.SizesFault.{IsSizesTextFault}
 use Rattle.pci_tree.specs.Roots.{buses_of}
 use Rattle.pci_place.specs.Pools.{pools_value}
 use Rattle.pci_check.specs.Audits.{IsDumpOf}
+use Rattle.pciplan_tasks.specs.Also.{also_of, IsAlsoFault, IsTold}
 use Rattle.pciplan_tasks.specs.Answers.{Answer, IsShowAnswer, IsChecked, IsSizeAnswer}
 use Rattle.pciplan_tasks.specs.FaultsAnswers.{IsFaultsAnswer}
 use Rattle.pciplan_tasks.specs.MapAnswers.{IsMapAnswerBy}
@@ -21,7 +22,7 @@ use Rattle.pciplan_tasks.specs.Statuses.{status_of}
 use Rattle.pciplan_tasks.specs.declared.task.Task.{Task}
 use Rattle.pciplan_tasks.specs.declared.task.Task.TheVariants as task
 use Rattle.pciplan_tasks.specs.declared.failure.Failure.{Failure}
-use Rattle.pciplan_tasks.specs.declared.failure.Failure.TheVariants.{Dump, Probe, Sizes, Memory}
+use Rattle.pciplan_tasks.specs.declared.failure.Failure.TheVariants.{Dump, Probe, Sizes, Also, Memory}
 
 -- the sizes whose text was left, where the bytes are told
 abbrev pub AreSizesOf : Option (List ℕ) → List SizesBlock → Type 0
@@ -61,12 +62,17 @@ IsOfWholePair (task.Check roots) = ⊥
 IsOfWholePair (task.Probe assuming) = ⊥
 IsOfWholePair _ = Unit {0}
 
--- what each task answers
-abbrev pub IsAnswerOf : Task → Option (List ℕ) → Option (List ℕ) → Answer → Type 0
-IsAnswerOf (task.Probe assuming) =
+-- what each task answers to its two texts
+abbrev pub IsTextsAnswer : Task → Option (List ℕ) → Option (List ℕ) → Answer → Type 0
+IsTextsAnswer (task.Probe assuming) =
     IsAnswerTo AreSizesOf
     (λ dump sizes answer. answer ≡ probe_answer (assuming_of assuming) dump sizes)
-IsAnswerOf t = IsAnswerTo IsDumpOf (IsPairAnswer t)
+IsTextsAnswer t = IsAnswerTo IsDumpOf (IsPairAnswer t)
+
+-- the same where a third text is read or there is none
+abbrev pub IsAnswerOf : Task → Option (List ℕ) → Option (List ℕ) → Answer → Type 0
+IsAnswerOf t dump_left second_left answer =
+    IsTold (also_of t) × IsTextsAnswer t dump_left second_left answer
 
 -- an answer of the task, whose text is written and whose remarks are told
 pub record IsAnswered (task : Task) (dump_left second_left : Option (List ℕ)) (status : ℕ)
@@ -98,17 +104,20 @@ IsFaultOfLeft IsFault left fault =
 abbrev pub HasDump : Option (List ℕ) → Type 0
 HasDump left = (dump : List Block) × ((bytes : List ℕ) → left ≡ Some bytes → IsTextOf bytes dump)
 
--- why the two texts aren't read: the second one's fault is told only where the dump's text is one
+-- why the texts aren't read: the second one's fault is told only where the dump's text is one, and a third one's only where
+-- both are
 abbrev pub IsFailureOf : Task → Option (List ℕ) → Option (List ℕ) → Failure → Type 0
 IsFailureOf task dump_left second_left (Dump fault) = IsFaultOfLeft IsTextFault dump_left fault
 IsFailureOf task dump_left second_left (Probe fault) =
     (takes_sizes task ≡ false) × HasDump dump_left × IsFaultOfLeft IsTextFault second_left fault
 IsFailureOf task dump_left second_left (Sizes fault) =
     (takes_sizes task ≡ true) × HasDump dump_left × IsFaultOfLeft IsSizesTextFault second_left fault
+IsFailureOf task dump_left second_left (Also fault) =
+    IsAlsoFault task fault × HasDump dump_left × HasDump second_left
 IsFailureOf task dump_left second_left Memory = Unit {0}
 IsFailureOf task dump_left second_left _ = ⊥
 
--- one of the two isn't read, by a fault of its text
+-- a text isn't read, by a fault of it
 abbrev pub IsTaskRefused : Task → Option (List ℕ) → Option (List ℕ) → Type 0
 IsTaskRefused task dump_left second_left =
     (failure : Failure) × (status_of failure ≡ 2) × IsFailureOf task dump_left second_left failure

@@ -44,6 +44,8 @@ pub enum Failure {
     Probe(ReadFault),
     /// The text of the sizes has a fault, or can't be read.
     Sizes(ReadFault),
+    /// The text of told ranges has a fault, or can't be read.
+    Also(ReadFault),
     /// 2: a growth was refused.
     Memory,
     /// 10: standard output failed.
@@ -68,10 +70,12 @@ impl fmt::Display for Failure {
             Failure::Dump(ReadFault::Memory)
             | Failure::Probe(ReadFault::Memory)
             | Failure::Sizes(ReadFault::Memory)
+            | Failure::Also(ReadFault::Memory)
             | Failure::Memory => write!(f, "2 Memory"),
             Failure::Dump(fault) => write!(f, "dump: {fault}"),
             Failure::Probe(fault) => write!(f, "probe: {fault}"),
             Failure::Sizes(fault) => write!(f, "sizes: {fault}"),
+            Failure::Also(fault) => write!(f, "also: {fault}"),
             Failure::Io => write!(f, "10 Io"),
         }
     }
@@ -87,7 +91,10 @@ impl Failure {
             Failure::Usage | Failure::Root | Failure::Model => 2,
             Failure::Host(_) | Failure::Pool(_) | Failure::Fixed => 2,
             Failure::Spare | Failure::Slots => 2,
-            Failure::Dump(fault) | Failure::Probe(fault) | Failure::Sizes(fault) => match fault {
+            Failure::Dump(fault)
+            | Failure::Probe(fault)
+            | Failure::Sizes(fault)
+            | Failure::Also(fault) => match fault {
                 ReadFault::Io => 4,
                 ReadFault::Memory => 3,
                 _ => 2,

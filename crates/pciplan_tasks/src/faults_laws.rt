@@ -1,9 +1,13 @@
-//! Laws of `faults` where nothing is given beside the two texts. This function does nothing: its contract is the laws.
-ghost use Rattle.pciplan_tasks.specs.FaultsLaws.{PlainWithNothingGiven, NothingSaidGivesNothing};
+//! Laws of `faults` and `map` where nothing is given or told beside the two texts. This function does nothing: its contract
+//! is the laws.
+ghost use Rattle.pciplan_tasks.specs.FaultsLaws.{NoMapNamesTheFirst, NothingSaidGivesNothing, NothingSaidTellsNothing, PlainWithNothingGiven};
 
-/// With nothing given `faults` tells the list without it, whose first fault is the one that `check` names. Nothing is given
-/// where nothing is said of what the host sends and no word takes VGA Enable.
+/// With nothing given and told `faults` tells the list without it, whose first fault is the one that `check` names. Nothing
+/// is given where nothing is said of what the host sends and no word takes VGA Enable. Nothing is told where there is no
+/// third text, or an empty one. Where `map` prints no map it then names the fault that `check` names.
 pub fn nothing_given_tells_the_plain_list()
     ensures plain { PlainWithNothingGiven }
     ensures nothing { NothingSaidGivesNothing }
+    ensures told { NothingSaidTellsNothing }
+    ensures map { NoMapNamesTheFirst }
 {}

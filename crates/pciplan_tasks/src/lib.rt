@@ -16,6 +16,7 @@ pub mod planning;
 pub mod probing;
 pub mod reply;
 pub mod run;
+pub mod said;
 pub mod settling;
 pub mod shortage_line;
 pub mod sizing;

@@ -1,43 +1,63 @@
 //! Prints the map of a dump and its probe.
-ghost use Rattle.std.specs.Prelude.{IfOk};
+ghost use Rattle.std.specs.Prelude.{◌≡◌, [], map, IfOk};
+ghost use Rattle.given_spec.specs.Told.{IsTold};
 ghost use Rattle.pci_tree.specs.Roots.{buses_of};
-ghost use Rattle.pci_claims.specs.Values.{given_value};
+ghost use Rattle.pci_claims.specs.Values.{given_value, told_value};
+ghost use Rattle.pci_given.specs.AllLines.{fault_of};
 ghost use Rattle.pciplan_tasks.specs.Answers.{answer_of};
-ghost use Rattle.pciplan_tasks.specs.MapAnswers.{IsMapped, IsMapAnswerBy};
+ghost use Rattle.pciplan_tasks.specs.MapAnswers.{IsFirstLine, IsMapped, IsMapAnswerBy};
 
-use crate::faulting::{isa_by, ranges_of};
 use crate::reply::{Reply, Text, done, refused};
+use crate::said::{Said, asleep_for, isa_by, ranges_of};
 use crate::taking::taken;
 use crate::task::Beside;
-use pci_base::memory::{OutOfMemory, Refused};
+use pci_base::memory::OutOfMemory;
 use pci_claims::given::Given;
+use pci_claims::told::Told;
 use pci_dump::dump::Dump;
+use pci_given::any_fault::AnyFault;
+use pci_given::every::{BeforeJudging, before_judging};
 use pci_map::text::map_text;
-use pci_tree::admit::outline_of;
-use pci_tree::roots::Roots;
 use std::alloc::Allocator;
 
-/// The map of a dump and its probe with these root buses, with what is given, if they are admitted. What clashes isn't
-/// looked for.
+/// The line of the first of some faults.
+fn first_line<A: Allocator + Copy>(alloc: A, faults: &[AnyFault]) -> Result<Reply<A>, OutOfMemory>
+    requires { map fault_of faults.now ≡ [] → ⊥ }
+    ensures { IfOk result
+        (λ reply. IsFirstLine (map fault_of faults.now) (answer_of reply)) }
+{
+    match faults.first() {
+        Some(fault) => refused(alloc, fault),
+        None => unreachable!(),
+    }
+}
+
+/// The map of a dump and its probe with what is said beside them, if no fault is found before judging; else the first of
+/// those. What clashes isn't looked for.
 fn map_pair<A: Allocator + Copy>(
     alloc: A,
     dump: &Dump<A>,
     probe: &Dump<A>,
-    roots: Roots,
-    given: &Given<'_>,
+    said: &Said<'_>,
 ) -> Result<Reply<A>, OutOfMemory>
-    ensures { IfOk result (λ reply. IsMapped (given_value given.now) (buses_of roots) dump.now
-        probe.now (answer_of reply)) }
+    // they are read of a text
+    requires { IsTold said.now.told.ranges.now }
+    ensures { IfOk result (λ reply. IsMapped (told_value said.now.told)
+        (given_value said.now.given) (buses_of said.now.roots) dump.now probe.now
+        (answer_of reply)) }
 {
-    match outline_of(alloc, dump, probe, roots) {
-        Ok(outline) => Ok(done(alloc, Text::Lines(map_text(alloc, &outline, given)?))),
-        Err(Refused::Fault(fault)) => refused(alloc, &fault),
-        Err(Refused::Memory) => Err(OutOfMemory),
+    let found = before_judging(alloc, dump, probe, said.roots, &said.told)?;
+    match found {
+        BeforeJudging::Refused(faults) => first_line(alloc, faults.as_slice()),
+        BeforeJudging::Admitted(outline) => {
+            let text = map_text(alloc, &outline, &said.given, &said.told)?;
+            Ok(done(alloc, Text::Lines(text)))
+        }
     }
 }
 
 /// The map of a dump and its probe with what is said beside them: as words take them, where there are words, with what the
-/// host sends to the root buses, and the bridges with ISA Enable.
+/// host sends to the root buses, the bridges with ISA Enable, and the ranges that a third text tells.
 pub fn map_by<A: Allocator + Copy>(
     alloc: A,
     dump: &Dump<A>,
@@ -47,14 +67,23 @@ pub fn map_by<A: Allocator + Copy>(
     ensures { IfOk result (λ reply. IsMapAnswerBy beside.now dump.now probe.now (answer_of reply)) }
 {
     let isa = isa_by(alloc, dump, beside.words)?;
-    let given = Given {
-        io: ranges_of(&beside.host.io),
-        memory: ranges_of(&beside.host.mem),
-        legacy: &[],
-        isa: &isa,
+    let ranges = beside.also.ranges();
+    let asleep = asleep_for(alloc, ranges, dump, probe, beside.words)?;
+    let said = Said {
+        roots: beside.roots,
+        given: Given {
+            io: ranges_of(&beside.host.io),
+            memory: ranges_of(&beside.host.mem),
+            legacy: &[],
+            isa: &isa,
+        },
+        told: Told {
+            ranges,
+            asleep: &asleep,
+        },
     };
     match taken(alloc, dump, probe, beside.words)? {
-        None => map_pair(alloc, dump, probe, beside.roots, &given),
-        Some(taken) => map_pair(alloc, &taken.dump, &taken.probe, beside.roots, &given),
+        None => map_pair(alloc, dump, probe, &said),
+        Some(taken) => map_pair(alloc, &taken.dump, &taken.probe, &said),
     }
 }

@@ -1,6 +1,7 @@
 //! Carries out a task on two texts.
-ghost use Rattle.std.specs.Prelude.{◌≡◌, ◌⊎◌, ◌<◌, ◌≤◌, ◌+◌, IfOk, IfErr};
+ghost use Rattle.std.specs.Prelude.{◌≡◌, ◌⊎◌, ◌<◌, ◌≤◌, ◌+◌, IfOk, IfErr, MatchOption};
 ghost use Rattle.std.specs.Io.KnownBytes.{Appends};
+ghost use Rattle.pciplan_tasks.specs.Also.{IsAlsoFault, IsAlsoUnread, IsTold, also_of};
 ghost use Rattle.pciplan_tasks.specs.Answers.{AreRemarked, IsShowAnswer, IsSizeAnswer, answer_of, outcome_answer};
 ghost use Rattle.pciplan_tasks.specs.Statuses.{status_of};
 ghost use Rattle.pciplan_tasks.specs.Tasks.{HasFailed, IsAnswerOf, IsAnswered, IsBegun, IsFailureOf, IsOfWholePair, IsPairAnswer, IsTaskRefused};
@@ -19,6 +20,7 @@ use pci_check::audit::judge_texts;
 use pci_check::line::line_of;
 use pci_check::outcome::{AuditFault, Outcome};
 use pci_dump::dump::Dump;
+use pci_dump::read_fault::ReadFault;
 use pci_dump::reader::read_dump;
 use pci_dump::streams::{Failed, Sink, Source};
 use pci_listing::show::show;
@@ -137,7 +139,17 @@ pub fn pair_reply<A: Allocator + Copy>(
     }
 }
 
-/// What such a task answers to two texts.
+/// The fault of the third text of a task, where it has one or can't be read.
+fn also_fault(task: &Task) -> Option<ReadFault>
+    ensures { MatchOption result (IsTold (also_of task.now)) (IsAlsoFault task.now) }
+{
+    match task {
+        Task::Faults { beside, .. } | Task::Map { beside } => beside.also.fault(),
+        _ => None,
+    }
+}
+
+/// What such a task answers to two texts. Their faults go before that of the third one.
 fn pair_texts<A: Allocator + Copy, D: Source, P: Source>(
     alloc: A,
     task: &Task,
@@ -150,14 +162,18 @@ fn pair_texts<A: Allocator + Copy, D: Source, P: Source>(
     ensures failure { IfErr result (IsFailureOf task.now (D.left dump.old) (P.left probe.old)) }
     ensures failed { IfErr result (λ failure. status_of failure ≡ 4
         → (D.failures dump.new ≡ D.failures dump.old + 1)
-        ⊎ (P.failures probe.new ≡ P.failures probe.old + 1)) }
+        ⊎ (P.failures probe.new ≡ P.failures probe.old + 1) ⊎ IsAlsoUnread task.now) }
 {
     let dump = read_dump(alloc, dump).map_err(Failure::Dump)?;
     let probe = read_dump(alloc, probe).map_err(Failure::Probe)?;
-    Ok(pair_reply(alloc, task, dump, probe)?)
+    match also_fault(task) {
+        Some(fault) => Err(Failure::Also(fault)),
+        None => Ok(pair_reply(alloc, task, dump, probe)?),
+    }
 }
 
-/// What a task answers to two texts. A fault of the dump's text goes before one of the second.
+/// What a task answers to two texts. A fault of the dump's text goes before one of the second, and that before one of a
+/// third text, which was read into the task.
 pub fn reply_to<A: Allocator + Copy, D: Source, S: Source>(
     alloc: A,
     task: &Task,
@@ -169,7 +185,7 @@ pub fn reply_to<A: Allocator + Copy, D: Source, S: Source>(
     ensures failure { IfErr result (IsFailureOf task.now (D.left dump.old) (S.left second.old)) }
     ensures failed { IfErr result (λ failure. status_of failure ≡ 4
         → (D.failures dump.new ≡ D.failures dump.old + 1)
-        ⊎ (S.failures second.new ≡ S.failures second.old + 1)) }
+        ⊎ (S.failures second.new ≡ S.failures second.old + 1) ⊎ IsAlsoUnread task.now) }
 {
     match task {
         Task::Check { roots } => check_texts(alloc, *roots, dump, second),
@@ -206,7 +222,8 @@ pub fn run<A: Allocator + Copy, D: Source, P: Source, O: Sink, E: Sink>(
     ensures refused { result ≡ 2
         → IsTaskRefused task.now (D.left dump.old) (P.left probe.old) }
     ensures failed { result ≡ 4 → HasFailed (D.failures dump.old) (D.failures dump.new)
-        (P.failures probe.old) (P.failures probe.new) (O.failures out.old) (O.failures out.new) }
+        (P.failures probe.old) (P.failures probe.new) (O.failures out.old) (O.failures out.new)
+        ⊎ IsAlsoUnread task.now }
     // a script that calls the program has no other case
     ensures known { result ≤ 4 }
 {

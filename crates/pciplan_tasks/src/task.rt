@@ -1,13 +1,21 @@
 //! The tasks.
+ghost use Rattle.std.specs.Prelude.{◌≡◌, [], MatchOption};
+ghost use Rattle.given_spec.specs.Told.{IsTold as AreRanges};
+ghost use Rattle.pciplan_tasks.specs.Also.{IsTold, ranges_told};
+ghost use Rattle.pciplan_tasks.specs.declared.task.Also.{Also};
 
 use pci_base::range::RootRange;
 use pci_base::slot::Slot;
 use pci_base::window_kind::ByKind;
+use pci_dump::read_fault::ReadFault;
 use pci_model::words::Words;
 use pci_place::pools::Pools;
 use pci_probe::assuming::Assuming;
 use pci_script::form::Form;
+use pci_told::told_list::ToldList;
+use pci_told::told_range::ToldRange;
 use pci_tree::roots::Roots;
+use std::alloc::Global;
 
 /// The ranges that the host sends to its root buses, of I/O and of memory; None of a space of which nothing is said: it
 /// sends all of it to each.
@@ -15,6 +23,46 @@ use pci_tree::roots::Roots;
 pub struct HostLists {
     pub io: Option<Vec<RootRange>>,
     pub mem: Option<Vec<RootRange>>,
+}
+
+/// What a third text tells of ranges that no BAR shows.
+#[derive(Drop)]
+pub enum Also {
+    /// These ranges; none where there is no such text.
+    Told(ToldList),
+    /// The text has a fault, or can't be read.
+    Refused(ReadFault),
+}
+
+impl Also {
+    /// Nothing is told.
+    pub fn nothing(alloc: Global) -> Also
+        ensures { result ≡ Also.Told [] }
+    {
+        Also::Told(ToldList::empty(alloc))
+    }
+
+    /// The fault of the text, where it has one or can't be read.
+    pub fn fault(&self) -> Option<ReadFault>
+        ensures { MatchOption result (IsTold self.now) (λ fault. self.now ≡ Also.Refused fault) }
+    {
+        match self {
+            Also::Told(_) => None,
+            Also::Refused(fault) => Some(*fault),
+        }
+    }
+
+    /// The ranges that the text tells; none where it isn't read.
+    pub fn ranges(&self) -> &[ToldRange]
+        ensures value { result.now ≡ ranges_told self.now }
+        // judging finds those of a slot by halving
+        ensures lawful { AreRanges result.now }
+    {
+        match self {
+            Also::Told(list) => list.as_slice(),
+            Also::Refused(_) => &[],
+        }
+    }
 }
 
 /// What is said beside the two texts.
@@ -25,6 +73,8 @@ pub struct Beside {
     pub words: Option<Words>,
     /// What the host sends to its root buses.
     pub host: HostLists,
+    /// What a third text tells.
+    pub also: Also,
 }
 
 /// The ranges that may be settled in, of I/O, of memory and of prefetchable memory.

@@ -1,0 +1,34 @@
+use Rattle.std.proofs.Common.{ap, map, sym, ◌∙◌, subst, List}
+use Rattle.std.proofs.lemmas.Result.{IfOk-weaker}
+use Rattle.std.specs.Prelude.{IfOk}
+use Rattle.std.specs.String.{string_bytes}
+use Rattle.pci_tree.specs.Roots.{buses_of}
+use Rattle.pci_claims.specs.Values.{given_value, told_value}
+use Rattle.given_spec.specs.Given.{nothing_given}
+use Rattle.pci_given.specs.AllLines.{fault_of}
+use Rattle.pci_given.specs.declared.any_fault.AnyFault.{AnyFault}
+use Rattle.pciplan_tasks.specs.MapAnswers.{IsFirstLine, IsMapped}
+use Rattle.pciplan_tasks.specs.Answers.{answer_of}
+use Rattle.pciplan_tasks.proofs.Maps.{mapped, not_mapped}
+use Rattle.pciplan_tasks.proofs.mapping.map_pair.Goals as goal
+
+pub first_line-requires : goal.first_line-requires
+first_line-requires g c =
+    let found = rw c.in-Refused.is at c.in_ok-found.ensures in
+    λ none. (found nothing_given).some (ap (map fault_of) (sym c.as_slice.ensures.value) ∙ none)
+
+pub returns-in-Refused : goal.returns-in-Refused
+returns-in-Refused g c =
+    let said = c.args.said.now in
+    let given = given_value said.given in
+    let found = (rw c.in-Refused.is at c.in_ok-found.ensures) given in
+    IfOk-weaker c.first_line.result (λ reply. IsFirstLine (map fault_of c.in-Refused.faults.items) (answer_of reply))
+    (λ reply. IsMapped (told_value said.told) given (buses_of said.roots) c.args.dump.now c.args.probe.now (answer_of reply))
+    (λ reply line. not_mapped (told_value said.told) given (buses_of said.roots) c.args.dump.now c.args.probe.now (map fault_of c.in-Refused.faults.items) (answer_of reply) found line)
+    (subst (λ (items : List AnyFault). IfOk c.first_line.result (λ reply. IsFirstLine (map fault_of items) (answer_of reply))) c.as_slice.ensures.value c.first_line.ensures)
+
+pub returns-in_ok-text-in-Admitted : goal.returns-in_ok-text-in-Admitted
+returns-in_ok-text-in-Admitted g c =
+    let said = c.args.said.now in
+    let ready = rw c.in-Admitted.is at c.in_ok-found.ensures in
+    mapped (told_value said.told) (given_value said.given) (buses_of said.roots) c.args.dump.now c.args.probe.now c.in-Admitted.outline (string_bytes c.in_ok-text-in-Admitted.text) _ ready.0 ready.1 c.in_ok-text-in-Admitted.ensures c.done.ensures
