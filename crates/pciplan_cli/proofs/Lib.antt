@@ -1,3 +1,5 @@
 mod RootWords
 mod Invocations
+mod AlsoTasks
 mod SettlingWords
+mod AlsoTexts

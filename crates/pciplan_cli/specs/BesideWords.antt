@@ -1,5 +1,5 @@
 -- The words of what is said beside the two texts: what they say, and which of them is the first that says nothing.
-use Rattle.std.specs.Prelude.{◌⊎◌, ℕ, List, Option}
+use Rattle.std.specs.Prelude.{◌≡◌, ◌⊎◌, ℕ, List, [], Option}
 use Rattle.std.specs.Borrow.{Bor}
 use Rattle.std.specs.Global.{Vec}
 use Rattle.pci_base.specs.declared.range.RootRange.{RootRange}
@@ -8,6 +8,7 @@ use Rattle.pci_model.specs.declared.words.Words.{Words}
 use Rattle.pci_tree.specs.Roots.{buses_of}
 use Rattle.pci_tree.specs.declared.roots.Roots.{Roots}
 use Rattle.pciplan_cli.specs.OptionWords.{AreRootsOf, AreWordsOf, AreRangesOf, HasNoRoots, HasNoWords, HasNoRanges, SpellsRanges}
+use Rattle.pciplan_tasks.specs.declared.task.Also.TheVariants.{Told}
 use Rattle.pciplan_tasks.specs.declared.task.Beside.{Beside}
 use Rattle.pciplan_tasks.specs.declared.failure.Failure.{Failure}
 use Rattle.pciplan_tasks.specs.declared.failure.Failure.TheVariants.{Root, Model, Host, Memory}
@@ -23,12 +24,13 @@ abbrev pub beside_words : (root model host_io host_mem : Option (Bor (List ℕ))
 beside_words root model host_io host_mem =
     record { root = root; model = model; host_io = host_io; host_mem = host_mem }
 
--- what they say
+-- what they say; a third text isn't read yet
 pub record IsSaidBeside (asked : BesideWords) (said : Beside) : Type 0 where
   pub are_roots : AreRootsOf asked.root said.roots
   pub are_words : AreWordsOf asked.model said.words
   pub io : AreRangesOf asked.host_io (buses_of said.roots) said.host.io
   pub mem : AreRangesOf asked.host_mem (buses_of said.roots) said.host.mem
+  pub also : said.also ≡ Told []
 
 pub record IsNoModel (asked : BesideWords) : Type 0 where
   pub roots : Roots

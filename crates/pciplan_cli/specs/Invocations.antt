@@ -4,17 +4,26 @@ use Rattle.std.specs.String.{string_bytes}
 use Rattle.pciplan_words.specs.CommandLines.{IsGiven, HasNoLine}
 use Rattle.pciplan_words.specs.Forms.{form_in, plain_words}
 use Rattle.pciplan_words.specs.declared.asked.Asked.{Asked}
+use Rattle.pciplan_cli.specs.AlsoTexts.{IsAlsoAt, also_path, with_also}
 use Rattle.pciplan_cli.specs.Asked.{IsTaskWith, IsRefusedWith}
+use Rattle.pciplan_cli.specs.CarriedOut.{TextsByPath}
 use Rattle.pciplan_tasks.specs.Statuses.{status_of}
+use Rattle.pciplan_tasks.specs.declared.task.Also.{Also}
+use Rattle.pciplan_tasks.specs.declared.task.Task.{Task}
 use Rattle.pciplan_tasks.specs.declared.failure.Failure.{Failure}
 use Rattle.pciplan_tasks.specs.declared.failure.Failure.TheVariants.{Usage, Memory}
 use Rattle.pciplan_cli.specs.declared.invocation.Invocation.{Invocation}
 
--- the command line of the words, of which those that name a form of the writes are read first
-pub record IsInvocationOf (words : List (List ℕ)) (line : Invocation) : Type 0 where
+-- the command line of the words, of which those that name a form of the writes are read first, with what the third text
+-- at its path tells
+pub record IsInvocationOf (words : List (List ℕ)) (third : TextsByPath) (line : Invocation) : Type 0 where
   pub asked : Asked
   pub given : IsGiven (plain_words words) asked (string_bytes line.dump) (string_bytes line.probe)
-  pub task : IsTaskWith (form_in words) asked line.task
+  pub untold : Task
+  pub of_words : IsTaskWith (form_in words) asked untold
+  pub also : Also
+  pub told : IsAlsoAt third (also_path asked) also
+  pub task : line.task ≡ with_also untold also
 
 -- what the words say is refused
 abbrev pub IsRefusedLine : List (List ℕ) → Failure → Type 0

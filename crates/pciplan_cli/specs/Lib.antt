@@ -8,3 +8,4 @@ pub mod Asked
 pub mod Invocations
 pub mod Opened
 pub mod CarriedOut
+pub mod AlsoTexts

@@ -5,10 +5,10 @@ ghost use Rattle.pciplan_cli.specs.BesideWords.{beside_words, IsSaidBeside, IsRe
 use crate::option_words::{ranges_of, roots_of, words_of};
 use pci_base::space::Space;
 use pciplan_tasks::failure::Failure;
-use pciplan_tasks::task::{Beside, HostLists};
+use pciplan_tasks::task::{Also, Beside, HostLists};
 use std::alloc::Global;
 
-/// What the words of `--root`, `--model`, `--host-io` and `--host-mem` say.
+/// What the words of `--root`, `--model`, `--host-io` and `--host-mem` say. What a third text tells isn't read yet.
 pub fn beside_of(
     alloc: Global,
     root: Option<&str>,
@@ -26,5 +26,10 @@ pub fn beside_of(
         io: ranges_of(alloc, &roots, host_io, Space::Io)?,
         mem: ranges_of(alloc, &roots, host_mem, Space::Mem)?,
     };
-    Ok(Beside { roots, words, host })
+    Ok(Beside {
+        roots,
+        words,
+        host,
+        also: Also::nothing(alloc),
+    })
 }

@@ -5,11 +5,12 @@
 //!
 //! ```text
 //! let words = program::words_of(&rt); // as in `check DUMP PROBE`
-//! let status = program::program(rt.alloc(), words, &mut dump, &mut probe, &mut output, &mut errors);
+//! let status = program::program(rt.alloc(), words, &mut dump, &mut probe, &mut told, &mut output, &mut errors);
 //! // 0 done or yes, 1 no, 2 refused, 3 out of memory, 4 an opening, a read or a write failed
 //! ```
 #![tactic(auto)]
 
+mod also;
 pub mod asked;
 mod beside;
 pub mod faults_asked;

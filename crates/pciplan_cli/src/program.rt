@@ -5,6 +5,7 @@ ghost use Rattle.std.specs.Io.KnownBytes.{Appends};
 ghost use Rattle.pciplan_cli.specs.Invocations.{IsInvocationOf, HasBadWords};
 ghost use Rattle.pci_dump.specs.declared.read_fault.ReadFault.{ReadFault};
 ghost use Rattle.pciplan_cli.specs.CarriedOut.{IsCarriedOut, IsCarriedOutBegun, IsSecondUnopened, second_unread, texts};
+ghost use Rattle.pciplan_tasks.specs.Also.{IsAlsoUnread};
 ghost use Rattle.pciplan_tasks.specs.Answers.{AreRemarked};
 ghost use Rattle.pciplan_tasks.specs.Statuses.{status_of};
 ghost use Rattle.pciplan_tasks.specs.Tasks.{HasFailed, IsTaskRefused};
@@ -47,19 +48,23 @@ fn lent<'a>(alloc: Global, words: &'a [String]) -> Result<Vec<&'a str>, AllocErr
     Ok(lent)
 }
 
-/// The line that the words make. Where they make none, or there are none, it writes the message to
-/// `err` and answers the status.
-fn line_of<E: Sink>(
+/// The line that the words make, with what its third text tells. Where they make none, or there are none, it writes the
+/// message to `err` and answers the status.
+fn line_of<T: Opening, E: Sink>(
     alloc: Global,
     words: io::Result<Vec<String>>,
+    third: &mut T,
     err: &mut E,
 ) -> Result<Invocation, u8>
     ensures line { IfOk result (λ line. MatchResult words
-        (λ words. IsInvocationOf (map string_bytes words.items) line) (λ _. ⊥)) }
+        (λ words. IsInvocationOf (map string_bytes words.items)
+        (texts (T.stands third.old) (T.bytes_at third.old)) line) (λ _. ⊥)) }
     ensures refused { result ≡ Err 2
         → IfOk words (λ words. HasBadWords (map string_bytes words.items)) }
     ensures status { IfErr result (λ status. (status ≡ 2) ⊎ (status ≡ 3)) }
     ensures silent { IfOk result (λ _. err.new ≡ err.old) }
+    ensures failed { IfOk result
+        (λ line. IsAlsoUnread line.task → T.failures third.new ≡ T.failures third.old + 1) }
     ensures memory { IfErr words
         (λ error. error_kind error ≡ ErrorKind.OutOfMemory → result ≡ Err 3) }
     ensures unread { IfErr words
@@ -67,7 +72,7 @@ fn line_of<E: Sink>(
 {
     match words {
         Ok(words) => match lent(alloc, words.as_slice()) {
-            Ok(lent) => start(alloc, lent.as_slice(), err),
+            Ok(lent) => start(alloc, lent.as_slice(), third, err),
             Err(_) => Err(report(err, Failure::Memory)),
         },
         Err(error) if error.kind() == ErrorKind::OutOfMemory => Err(report(err, Failure::Memory)),
@@ -141,7 +146,7 @@ pub fn open_texts<A: Allocator, D: Opening, P: Opening>(
 
 /// Opens the two texts of a line, the dump first, and carries out its task. A text that can't be opened is one
 /// that can't be read: there is no answer then, and the message names it, unless it is the second and the dump
-/// has a failure of its own.
+/// has a failure of its own. A third text is read already, and its failure is told where these two have none.
 pub fn carry_out<A: Allocator + Copy, D: Opening, P: Opening, O: Sink, E: Sink>(
     alloc: A,
     line: &Invocation,
@@ -165,7 +170,8 @@ pub fn carry_out<A: Allocator + Copy, D: Opening, P: Opening, O: Sink, E: Sink>(
         → IsTaskRefused line.now.task (D.bytes_at dump.old (string_bytes line.now.dump))
         (P.bytes_at probe.old (string_bytes line.now.probe)) }
     ensures failed { result ≡ 4 → HasFailed (D.failures dump.old) (D.failures dump.new)
-        (P.failures probe.old) (P.failures probe.new) (O.failures out.old) (O.failures out.new) }
+        (P.failures probe.old) (P.failures probe.new) (O.failures out.old) (O.failures out.new)
+        ⊎ IsAlsoUnread line.now.task }
     ensures unopened { D.lacks dump.old (string_bytes line.now.dump) → result ≡ 4 }
     // where the dump isn't read its own failure is told
     ensures second { P.lacks probe.old (string_bytes line.now.probe) → (failure : Failure)
@@ -184,11 +190,12 @@ pub fn carry_out<A: Allocator + Copy, D: Opening, P: Opening, O: Sink, E: Sink>(
 /// where the answer was written, and the remarks on a derived probe to `err`; 2 where the words or a text are refused;
 /// 3 at want of memory; 4 where a text couldn't be opened, or a read or a write failed. At 2 and 3 nothing was written
 /// to `out`, at 4 a beginning of the answer at most.
-pub fn program<D: Opening, P: Opening, O: Sink, E: Sink>(
+pub fn program<D: Opening, P: Opening, T: Opening, O: Sink, E: Sink>(
     alloc: Global,
     words: io::Result<Vec<String>>,
     dump: &mut D,
     probe: &mut P,
+    third: &mut T,
     out: &mut O,
     err: &mut E,
 ) -> u8
@@ -198,7 +205,8 @@ pub fn program<D: Opening, P: Opening, O: Sink, E: Sink>(
     ensures unread { IfErr words (λ error. error_kind error ≢ ErrorKind.OutOfMemory → result ≡ 2) }
     ensures done { result < 2
         → MatchResult words
-        (λ words. (line : Invocation) × IsInvocationOf (map string_bytes words.items) line
+        (λ words. (line : Invocation) × IsInvocationOf (map string_bytes words.items)
+        (texts (T.stands third.old) (T.bytes_at third.old)) line
         × IsCarriedOut line (texts (D.stands dump.old) (D.bytes_at dump.old))
         (texts (P.stands probe.old) (P.bytes_at probe.old)) result
         (Appends (O.taken out.old) (O.taken out.new))
@@ -210,19 +218,22 @@ pub fn program<D: Opening, P: Opening, O: Sink, E: Sink>(
     ensures begun { result ≡ 4
         → (out.new ≡ out.old)
         ⊎ MatchResult words
-        (λ words. (line : Invocation) × IsInvocationOf (map string_bytes words.items) line
+        (λ words. (line : Invocation) × IsInvocationOf (map string_bytes words.items)
+        (texts (T.stands third.old) (T.bytes_at third.old)) line
         × IsCarriedOutBegun line (D.bytes_at dump.old) (P.bytes_at probe.old)
         (O.taken out.old) (O.taken out.new))
         (λ _. ⊥) }
     ensures refused { result ≡ 2 → IfOk words (λ words. HasBadWords (map string_bytes words.items)
-        ⊎ ((line : Invocation) × IsInvocationOf (map string_bytes words.items) line
+        ⊎ ((line : Invocation) × IsInvocationOf (map string_bytes words.items)
+        (texts (T.stands third.old) (T.bytes_at third.old)) line
         × IsTaskRefused line.task (D.bytes_at dump.old (string_bytes line.dump))
         (P.bytes_at probe.old (string_bytes line.probe)))) }
     ensures failed { result ≡ 4 → HasFailed (D.failures dump.old) (D.failures dump.new)
-        (P.failures probe.old) (P.failures probe.new) (O.failures out.old) (O.failures out.new) }
+        (P.failures probe.old) (P.failures probe.new) (O.failures out.old) (O.failures out.new)
+        ⊎ (T.failures third.new ≡ T.failures third.old + 1) }
     ensures known { result ≤ 4 }
 {
-    match line_of(alloc, words, err) {
+    match line_of(alloc, words, third, err) {
         Ok(line) => carry_out(alloc, &line, dump, probe, out, err),
         Err(status) => status,
     }

@@ -9,4 +9,5 @@ returns c = record {
   are_words = c.in_ok-words.ensures;
   io = c.in_ok-ranges_of.ensures;
   mem = c.in_ok-ranges_of-2.ensures;
+  also = c.nothing.ensures;
 }
