@@ -51,7 +51,18 @@ chmod 755 pciplan
 : >answers
 : >documents
 : >differ
-for cases in "$here"/cases/*.txt; do
+# told ranges whose names are words of other lines, or have what a JSON string escapes
+cat >names.txt <<'EOF'
+00:01.0 bridge 00 01 01 04=0002 20=e000e000
+01:00.0 04=0002
+! printf '%s\n' '01:00.0 pref 00000000e0000000-00000000e0001fff always isa' '01:00.0 mem 00000000e0001000-00000000e0002fff always free' '01:00.0 mem 00000000e0200000-00000000e02fffff held "\' >told
+! printf '%s\n' '01:00.0 mem 00000000e0001000-00000000e0001fff command pref' '01:00.0 io 00001000-00001fff command vga' >told_off
+$ faults dump probe --also told --why
+$ map dump probe --also told
+$ faults dump probe --also told_off --why
+$ map dump probe --also told_off
+EOF
+for cases in "$here"/cases/*.txt names.txt; do
     # `plan` and `settle` without --writes print a dump, which has no document
     awk -f "$here/cases.awk" "$cases" >/dev/null 2>&1
 done

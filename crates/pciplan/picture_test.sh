@@ -32,12 +32,13 @@ same() {
     name=$1
     shift
     "$made" map "$@" >"$room/map" 2>/dev/null || return 0
-    # the two texts may stand behind options
-    dump='' probe=''
+    # the two texts may stand behind options, one of which names a file too
+    dump='' probe='' before=''
     for word; do
-        if [ -f "$word" ]; then
+        if [ "$before" != --also ] && [ -f "$word" ]; then
             dump=${dump:-$word} probe=$word
         fi
+        before=$word
     done
     "$made" faults --why "$@" >"$room/faults" 2>/dev/null
     "$made" show "$dump" "$probe" >"$room/show" 2>/dev/null
@@ -91,6 +92,19 @@ done
 same roots "$machines/roots.dump" "$machines/roots.probe" --root 00,40
 refused "$machines/roots.dump" "$machines/roots.probe"
 
+# ranges that are told of the first function, of another one, and of one that isn't listed
+"$made" show "$here/data/two.txt" "$here/data/two_probe.txt" | awk '
+    / type / { slot[n++] = $1 }
+    END {
+        print slot[0] " io 0000f000-0000f03f always"
+        print slot[n - 1] " mem 00000000e0000000-00000000e0003fff always vf0"
+        print slot[n - 1] " pref 00000000e0000000-00000000e0000fff always <b>"
+        print slot[n - 1] " mem 00000000e0800000-00000000e0800fff command ea0"
+        print "fe:1f.7 mem 00000000fd000000-00000000fdffffff held p2sb"
+        print "ff:1f.7 mem 00000000fe000000-00000000fe000fff held"
+    }' >"$room/told.also"
+same told "$here/data/two.txt" "$here/data/two_probe.txt" --also "$room/told.also"
+
 # titles that hold markup, quotes, bytes above 7Fh, and what ends an element
 python3 - "$here/data/two.txt" "$room/titles.txt" <<'END'
 import sys
@@ -116,9 +130,12 @@ check | faults | map)
         [ "$word" = --why ] || words="$words $word"
     done
     board=$ROOM/board$(wc -l <"$ROOM/list")
-    if ! { cat dump probe && echo "$words"; } 2>/dev/null | cksum | grep -qxFf - "$ROOM/seen"; then
-        { cat dump probe && echo "$words"; } 2>/dev/null | cksum >>"$ROOM/seen"
-        mkdir "$board" && cp dump probe "$board" 2>/dev/null
+    texts='dump probe'
+    case $words in *' --also told'*) texts="$texts told" ;; esac
+    # shellcheck disable=SC2086
+    if ! { cat $texts && echo "$words"; } 2>/dev/null | cksum | grep -qxFf - "$ROOM/seen"; then
+        { cat $texts && echo "$words"; } 2>/dev/null | cksum >>"$ROOM/seen"
+        mkdir "$board" && cp $texts "$board" 2>/dev/null
         echo "$words" >>"$ROOM/list"
     fi
     set -- "$task" "$@"

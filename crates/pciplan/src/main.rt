@@ -14,6 +14,7 @@ fn main(rt: HostRuntime) -> ExitCode {
     let mut outside = Outside {
         dump: FileText::closed(&rt),
         second: FileText::closed(&rt),
+        third: FileText::closed(&rt),
         machine: FolderMachine::own(&rt),
         out: Outgoing::new(rt.stdout()),
         err: Outgoing::new(rt.stderr()),

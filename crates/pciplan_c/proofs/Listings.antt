@@ -1,5 +1,5 @@
 -- The list of faults, or the message of why there is none, as it is put.
-use Rattle.std.proofs.Common.{◌≡◌, ℕ, ◌<◌, ◌≤◌, Bool, true, false, List, [], ◌∷◌, length, refl, ap, sym, subst, ◌∙◌, inl, inr, if◌then◌else◌}
+use Rattle.std.proofs.Common.{Result, Ok, Err, IfOk, ◌≡◌, ℕ, ◌<◌, ◌≤◌, Bool, true, false, List, [], ◌∷◌, length, refl, ap, sym, subst, ◌∙◌, inl, inr, if◌then◌else◌}
 use Rattle.pci_spec.specs.Text.{Block, IsTextOf}
 use Rattle.pci_base.specs.declared.memory.Refused.TheVariants as refusals
 use Rattle.pci_dump.specs.ReadFault.{IsTextFault}
@@ -97,7 +97,7 @@ list_is : {A : Type 0} (roots dump probe : List ℕ) (words : FaultsWords) (repl
     → AreListed roots dump probe words (answer_of reply)
     → IsListing roots dump probe words (listing_of reply.refused) (answer_of reply).text
 list_is roots dump probe words reply is =
-    let told = is.is.means in
+    let told = is.is.is.means in
     by_status roots dump probe words reply.refused (text_bytes reply.text)
     (subst (λ remarks. AreListed roots dump probe words (record { status = if reply.refused then 1 else 0; text = text_bytes reply.text; remarks = remarks }))
     (no_remarks told.faults told.text (answer_of reply) told.line) is)
@@ -112,6 +112,14 @@ list_put roots dump probe words reply old new listed is put told = record {
   put = put;
   count = told.1;
 }
+
+-- where it is put at all
+pub list_put_if : {A : Type 0} (roots dump probe : List ℕ) (words : FaultsWords) (reply : Reply A) (old new : List ℕ) (r : Result Listed Withheld)
+    → AreListed roots dump probe words (answer_of reply) → IfOk r (λ _. IsPutInto old new (answer_of reply).text)
+    → IfOk r (λ listed. (listed.listing ≡ listing_of reply.refused) × (listed.used ≡ length (answer_of reply).text))
+    → IfOk r (λ listed. IsTextPut (IsListing roots dump probe words listed.listing) old new listed.used)
+list_put_if roots dump probe words reply old new (Ok listed) is put told = list_put roots dump probe words reply old new listed is put told
+list_put_if roots dump probe words reply old new (Err held) is put told = tt
 
 abbrev room_of : Withheld → ℕ
 room_of Memory = 0

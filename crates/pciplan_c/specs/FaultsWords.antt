@@ -11,6 +11,7 @@ use Rattle.pci_tree.specs.Roots.{buses_of}
 use Rattle.pciplan_lists.specs.HostLists.{IsGoodHostList}
 use Rattle.pciplan_lists.specs.ListWords.{HasRanges, IsListWord}
 use Rattle.pciplan_lists.specs.ModelWords.{IsModelWord}
+use Rattle.pciplan_tasks.specs.declared.task.Also.TheVariants.{Told}
 use Rattle.pciplan_tasks.specs.declared.task.Beside.{Beside}
 use Rattle.pciplan_c.specs.declared.faults_words.FaultsWord.{FaultsWord}
 use Rattle.pciplan_c.specs.declared.faults_words.FaultsWord.TheVariants.{Model, HostIo, HostMem}
@@ -37,12 +38,13 @@ AreRangesBy (byte ∷ more) roots None = ⊥
 AreRangesBy (byte ∷ more) roots (Some list) =
     IsListWord (byte ∷ more) list.items × IsGoodHostList roots list.items
 
--- below these roots the words say this
+-- below these roots the words say this; no third text is read
 pub record IsSaidBy (roots : List ℕ) (words : FaultsWords) (said : Beside) : Type 0 where
   pub are_roots : buses_of said.roots ≡ roots
   pub are_words : AreWordsBy words.model.now said.words
   pub io : AreRangesBy words.host_io.now roots said.host.io
   pub mem : AreRangesBy words.host_mem.now roots said.host.mem
+  pub also : said.also ≡ Told []
 
 -- ---- the first word that has no meaning
 

@@ -10,7 +10,7 @@ use pci_tree::roots::Roots;
 use pciplan_lists::host_list::is_good_host_list;
 use pciplan_lists::list_word::list_of_word;
 use pciplan_lists::model_words::words_of_list;
-use pciplan_tasks::task::{Beside, HostLists};
+use pciplan_tasks::task::{Also, Beside, HostLists};
 use std::alloc::Global;
 use std::fmt;
 
@@ -131,5 +131,6 @@ pub fn beside_of(
         roots,
         words: taken,
         host: HostLists { io, mem },
+        also: Also::nothing(alloc),
     })
 }

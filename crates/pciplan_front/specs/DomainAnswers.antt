@@ -1,5 +1,5 @@
 -- What `here` answers of a domain.
-use Rattle.std.specs.Prelude.{◌≡◌, List, Option, None, Some, true}
+use Rattle.std.specs.Prelude.{◌≡◌, List, [], Option, None, Some, true}
 use Rattle.pci_spec.specs.Text.{Block, text_of}
 use Rattle.pci_spec.specs.NoProbe.{Any}
 use Rattle.pci_spec.specs.ProbeOf.{ProbeFault, probe_fault, probe_fault_text, probe_of}
@@ -12,13 +12,14 @@ use Rattle.pciplan_tasks.specs.Answers.{Answer, done, fault_answer_line, refused
 use Rattle.pciplan_tasks.specs.FaultsAnswers.{IsFaultsAnswer}
 use Rattle.pciplan_tasks.specs.MapAnswers.{IsMapAnswerBy}
 use Rattle.pciplan_tasks.specs.ProbeAnswers.{probe_answer}
+use Rattle.pciplan_tasks.specs.declared.task.Also.TheVariants.{Told}
 use Rattle.pciplan_tasks.specs.declared.task.Beside.{Beside}
 use Rattle.pciplan_front.specs.declared.domain_reply.Judging.{Judging}
 use Rattle.pciplan_front.specs.declared.domain_reply.Judging.TheVariants as judging
 use Rattle.pciplan_front.specs.declared.here_asked.What.{What}
 use Rattle.pciplan_front.specs.declared.here_asked.What.TheVariants.{Faults, Map, Dump, Probe, Words}
 
--- what is said beside a domain's two texts: its host buses, all words, and what the host sends
+-- what is said beside a domain's two texts: its host buses, all words, and what the host sends; no third text
 pub record IsBesideOf (d : Domain) (beside : Beside) : Type 0 where
   pub roots : beside.roots ≡ d.roots
   pub words : model.Words
@@ -26,6 +27,7 @@ pub record IsBesideOf (d : Domain) (beside : Beside) : Type 0 where
   pub all : words_value words ≡ all_words
   pub io : beside.host.io ≡ d.io
   pub mem : beside.host.mem ≡ d.mem
+  pub also : beside.also ≡ Told []
 
 -- what `faults` with reasons, or `map`, answers to a dump and its probe with what is said beside them
 abbrev pub IsJudgedBy : Judging → Beside → List Block → List Block → Answer → Type 0

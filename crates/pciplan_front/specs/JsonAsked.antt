@@ -72,23 +72,23 @@ pub record IsLineDone (line : Invocation) (dump second : TextsByPath) (status : 
       (λ text. IsWritten (document_line command status text)) AreTold
 
 -- the words are refused, their command has no document, or a text at their paths is refused
-abbrev pub IsJsonRefused : List (List ℕ) → TextsByPath → TextsByPath → Type 0
-IsJsonRefused words dump second =
+abbrev pub IsJsonRefused : List (List ℕ) → TextsByPath → TextsByPath → TextsByPath → Type 0
+IsJsonRefused words dump second third =
     HasBadWords words
-    ⊎ ((line : Invocation) × IsInvocationOf words line × IsReplyRefused line dump second)
+    ⊎ ((line : Invocation) × IsInvocationOf words third line × IsReplyRefused line dump second)
 
 -- what `json` did
-pub record IsJson (words : List (List ℕ)) (dump second : TextsByPath) (status : ℕ) (out err : Went)
-    (HasFailed : Type 0) : Type 0 where
+pub record IsJson (words : List (List ℕ)) (dump second third : TextsByPath) (status : ℕ)
+    (out err : Went) (HasFailed : Type 0) : Type 0 where
   pub done : status < 2
-      → (line : Invocation) × IsInvocationOf words line
+      → (line : Invocation) × IsInvocationOf words third line
       × IsLineDone line dump second status (Appends out.before out.after)
       (AreRemarked err.before err.after err.failed err.same)
-  pub refused : status ≡ 2 → IsJsonRefused words dump second
+  pub refused : status ≡ 2 → IsJsonRefused words dump second third
   pub quiet : (status ≡ 2) ⊎ (status ≡ 3) → out.same
   pub begun : status ≡ 4
       → out.same
-      ⊎ ((line : Invocation) × IsInvocationOf words line
+      ⊎ ((line : Invocation) × IsInvocationOf words third line
       × IsLineBegun line dump second (AppendsBeginning out.before out.after))
   pub failed : status ≡ 4 → HasFailed
   pub known : status ≤ 4

@@ -9,6 +9,7 @@ use Rattle.pci_picture.specs.Whole.{IsPictureText}
 use Rattle.pciplan_cli.specs.CarriedOut.{TextsByPath}
 use Rattle.pciplan_cli.specs.Invocations.{IsInvocationOf, HasBadWords}
 use Rattle.pciplan_cli.specs.declared.invocation.Invocation.{Invocation}
+use Rattle.pciplan_tasks.specs.Also.{IsTold}
 use Rattle.pciplan_tasks.specs.Answers.{Answer, AreRemarked, done_with}
 use Rattle.pciplan_tasks.specs.Tasks.{IsAnswerTo, IsPairAnswer, IsTaskRefused}
 use Rattle.pciplan_tasks.specs.declared.task.Beside.{Beside}
@@ -47,6 +48,7 @@ IsDrawnOrNot beside dump probe answer = IsDrawn beside dump probe answer ⊎ IsN
 pub record IsPictureReply (line : Invocation) (dump second : TextsByPath) (reply : Answer) : Type 0 where
   pub beside : Beside
   pub asked : line.task ≡ task.Map beside
+  pub told : IsTold beside.also
   pub dump_stands : dump.stands (string_bytes line.dump)
   pub second_stands : second.stands (string_bytes line.probe)
   pub is : IsAnswerTo IsDumpOf (IsDrawnOrNot beside) (dump.bytes_at (string_bytes line.dump))
@@ -76,19 +78,19 @@ IsPictureRefused line dump second =
     (second.bytes_at (string_bytes line.probe))
 
 -- what `picture` did, by the words behind it
-pub record IsPicture (words : List (List ℕ)) (dump second : TextsByPath) (status : ℕ) (out err : Went)
-    (HasFailed : Type 0) : Type 0 where
+pub record IsPicture (words : List (List ℕ)) (dump second third : TextsByPath) (status : ℕ)
+    (out err : Went) (HasFailed : Type 0) : Type 0 where
   pub done : status < 2
-      → (line : Invocation) × IsInvocationOf (map_words words) line
+      → (line : Invocation) × IsInvocationOf (map_words words) third line
       × IsPictureDone line dump second status (Appends out.before out.after)
       (AreRemarked err.before err.after err.failed err.same)
   pub refused : status ≡ 2
       → HasBadWords (map_words words)
-      ⊎ ((line : Invocation) × IsInvocationOf (map_words words) line × IsPictureRefused line dump second)
+      ⊎ ((line : Invocation) × IsInvocationOf (map_words words) third line × IsPictureRefused line dump second)
   pub quiet : (status ≡ 2) ⊎ (status ≡ 3) → out.same
   pub begun : status ≡ 4
       → out.same
-      ⊎ ((line : Invocation) × IsInvocationOf (map_words words) line
+      ⊎ ((line : Invocation) × IsInvocationOf (map_words words) third line
       × IsPictureBegun line dump second (AppendsBeginning out.before out.after))
   pub failed : status ≡ 4 → HasFailed
   pub known : status ≤ 4

@@ -4,6 +4,7 @@ ghost use Rattle.std.specs.Io.KnownBytes.{Appends};
 ghost use Rattle.pci_dump.specs.Begun.{AppendsBeginning};
 ghost use Rattle.pci_json.specs.declared.document.Command.{Command};
 ghost use Rattle.pciplan_cli.specs.CarriedOut.{texts};
+ghost use Rattle.pciplan_tasks.specs.Also.{IsAlsoUnread};
 ghost use Rattle.pciplan_tasks.specs.Answers.{AreRemarked, answer_of};
 ghost use Rattle.pciplan_tasks.specs.Statuses.{status_of};
 ghost use Rattle.pciplan_tasks.specs.Tasks.{HasFailed, IsAnswerOf};
@@ -80,7 +81,7 @@ fn line_reply<D: Opening, P: Opening>(
         (texts (P.stands second.old) (P.bytes_at second.old))) }
     ensures failed { IfErr result (λ failure. status_of failure ≡ 4
         → (D.failures dump.new ≡ D.failures dump.old + 1)
-        ⊎ (P.failures second.new ≡ P.failures second.old + 1)) }
+        ⊎ (P.failures second.new ≡ P.failures second.old + 1) ⊎ IsAlsoUnread line.now.task) }
 {
     match open_texts(alloc, line, dump, second) {
         Ok(()) => reply_to(alloc, &line.task, dump, second),
@@ -103,7 +104,7 @@ fn reply_of<D: Opening, P: Opening>(
         (texts (P.stands second.old) (P.bytes_at second.old))) }
     ensures failed { IfErr result (λ failure. status_of failure ≡ 4
         → (D.failures dump.new ≡ D.failures dump.old + 1)
-        ⊎ (P.failures second.new ≡ P.failures second.old + 1)) }
+        ⊎ (P.failures second.new ≡ P.failures second.old + 1) ⊎ IsAlsoUnread line.now.task) }
 {
     let Some(command) = command_of(&line.task) else {
         return Err(Failure::Usage);
@@ -139,7 +140,9 @@ fn carry_out<D: Opening, P: Opening, M, O: Sink, E: Sink>(
         (texts (P.stands outside.old.second) (P.bytes_at outside.old.second)) }
     ensures failed { result ≡ 4 → HasFailed (D.failures outside.old.dump) (D.failures outside.new.dump)
         (P.failures outside.old.second) (P.failures outside.new.second)
-        (O.failures outside.old.out) (O.failures outside.new.out) }
+        (O.failures outside.old.out) (O.failures outside.new.out)
+        ⊎ IsAlsoUnread line.now.task }
+    ensures third { outside.new.third ≡ outside.old.third }
     ensures known { result ≤ 4 }
 {
     match reply_of(alloc, line, &mut outside.dump, &mut outside.second) {
@@ -160,17 +163,19 @@ pub fn json<D: Opening, P: Opening, M, O: Sink, E: Sink>(
 ) -> u8
     ensures done { IsJson (map (λ w. w.now) words.now)
         (texts (D.stands outside.old.dump) (D.bytes_at outside.old.dump))
-        (texts (P.stands outside.old.second) (P.bytes_at outside.old.second)) result
+        (texts (P.stands outside.old.second) (P.bytes_at outside.old.second))
+        (texts (P.stands outside.old.third) (P.bytes_at outside.old.third)) result
         (went (O.taken outside.old.out) (O.taken outside.new.out) (outside.new.out ≡ outside.old.out)
         (O.failures outside.new.out ≡ O.failures outside.old.out + 1))
         (went (E.taken outside.old.err) (E.taken outside.new.err) (outside.new.err ≡ outside.old.err)
         (E.failures outside.new.err ≡ E.failures outside.old.err + 1))
         (HasFailed (D.failures outside.old.dump) (D.failures outside.new.dump)
         (P.failures outside.old.second) (P.failures outside.new.second)
-        (O.failures outside.old.out) (O.failures outside.new.out)) }
+        (O.failures outside.old.out) (O.failures outside.new.out)
+        ⊎ (P.failures outside.new.third ≡ P.failures outside.old.third + 1)) }
     ensures known { result ≤ 4 }
 {
-    match start(alloc, words, &mut outside.err) {
+    match start(alloc, words, &mut outside.third, &mut outside.err) {
         Ok(line) => carry_out(alloc, &line, outside),
         Err(status) => status,
     }

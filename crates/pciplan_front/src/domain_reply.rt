@@ -17,7 +17,7 @@ use pciplan_tasks::faulting::faults_by;
 use pciplan_tasks::mapping::map_by;
 use pciplan_tasks::probing::{derive, remarks_named};
 use pciplan_tasks::reply::{Reply, Text, done, refused};
-use pciplan_tasks::task::{Beside, HostLists};
+use pciplan_tasks::task::{Also, Beside, HostLists};
 use std::alloc::{AllocError, Global};
 use std::fmt::Write;
 
@@ -46,7 +46,7 @@ enum Judging {
 }
 
 /// What is said beside a domain's dump and its probe.
-fn beside_of(domain: Domain) -> (Dump, Beside)
+fn beside_of(alloc: Global, domain: Domain) -> (Dump, Beside)
     ensures dump { result.0 ≡ domain.dump }
     ensures beside { IsBesideOf domain result.1 }
 {
@@ -62,6 +62,7 @@ fn beside_of(domain: Domain) -> (Dump, Beside)
         roots,
         words: Some(all_words()),
         host: HostLists { io, mem },
+        also: Also::nothing(alloc),
     };
     (dump, beside)
 }
@@ -94,7 +95,7 @@ fn judged(alloc: Global, domain: Domain, judging: Judging) -> Result<Reply<Globa
     };
     let probe = derivation.probe;
     let remarks = remarks_named(alloc, probe.blocks())?;
-    let (dump, beside) = beside_of(domain);
+    let (dump, beside) = beside_of(alloc, domain);
     let reply = judged_by(alloc, judging, &dump, &probe, &beside)?;
     Ok(Reply { remarks, ..reply })
 }

@@ -4,6 +4,7 @@ ghost use Rattle.std.specs.Io.KnownBytes.{Appends};
 ghost use Rattle.pci_dump.specs.Begun.{AppendsBeginning};
 ghost use Rattle.pci_check.specs.Audits.{IsDumpOf};
 ghost use Rattle.pciplan_cli.specs.CarriedOut.{texts};
+ghost use Rattle.pciplan_tasks.specs.Also.{IsAlsoUnread, IsTold};
 ghost use Rattle.pciplan_tasks.specs.Answers.{AreRemarked, answer_of, text_bytes};
 ghost use Rattle.pciplan_tasks.specs.Statuses.{status_of};
 ghost use Rattle.pciplan_tasks.specs.Tasks.{HasFailed, IsAnswerTo, IsFailureOf};
@@ -92,21 +93,26 @@ fn drawn_texts<D: Source, P: Source>(
     dump: &mut D,
     probe: &mut P,
 ) -> Result<Reply<Global>, Failure>
-    ensures reply { IfOk result (λ reply. IsAnswerTo IsDumpOf (IsDrawnOrNot beside.now)
-        (D.left dump.old) (P.left probe.old) (answer_of reply)) }
+    ensures reply { IfOk result (λ reply. IsTold beside.now.also
+        × IsAnswerTo IsDumpOf (IsDrawnOrNot beside.now) (D.left dump.old) (P.left probe.old)
+        (answer_of reply)) }
     ensures failure { IfErr result
         (IsFailureOf (Task.Map beside.now) (D.left dump.old) (P.left probe.old)) }
     ensures failed { IfErr result (λ failure. status_of failure ≡ 4
         → (D.failures dump.new ≡ D.failures dump.old + 1)
-        ⊎ (P.failures probe.new ≡ P.failures probe.old + 1)) }
+        ⊎ (P.failures probe.new ≡ P.failures probe.old + 1) ⊎ IsAlsoUnread (Task.Map beside.now)) }
 {
     let dump = match read_dump(alloc, dump) {
         Ok(dump) => dump,
         Err(fault) => return Err(Failure::Dump(fault)),
     };
-    match read_dump(alloc, probe) {
-        Ok(probe) => Ok(drawn(alloc, beside, dump, probe)?),
-        Err(fault) => Err(Failure::Probe(fault)),
+    let probe = match read_dump(alloc, probe) {
+        Ok(probe) => probe,
+        Err(fault) => return Err(Failure::Probe(fault)),
+    };
+    match beside.also.fault() {
+        Some(fault) => Err(Failure::Also(fault)),
+        None => Ok(drawn(alloc, beside, dump, probe)?),
     }
 }
 
@@ -127,7 +133,7 @@ fn line_drawn<D: Opening, P: Opening>(
         (texts (P.stands second.old) (P.bytes_at second.old))) }
     ensures failed { IfErr result (λ failure. status_of failure ≡ 4
         → (D.failures dump.new ≡ D.failures dump.old + 1)
-        ⊎ (P.failures second.new ≡ P.failures second.old + 1)) }
+        ⊎ (P.failures second.new ≡ P.failures second.old + 1) ⊎ IsAlsoUnread line.now.task) }
 {
     match open_texts(alloc, line, dump, second) {
         Ok(()) => drawn_texts(alloc, beside, dump, second),
@@ -150,7 +156,7 @@ fn picture_reply<D: Opening, P: Opening>(
         (texts (P.stands second.old) (P.bytes_at second.old))) }
     ensures failed { IfErr result (λ failure. status_of failure ≡ 4
         → (D.failures dump.new ≡ D.failures dump.old + 1)
-        ⊎ (P.failures second.new ≡ P.failures second.old + 1)) }
+        ⊎ (P.failures second.new ≡ P.failures second.old + 1) ⊎ IsAlsoUnread line.now.task) }
 {
     match &line.task {
         Task::Map { beside } => line_drawn(alloc, line, beside, dump, second),
@@ -183,7 +189,9 @@ fn draw<D: Opening, P: Opening, M, O: Sink, E: Sink>(
         (texts (P.stands outside.old.second) (P.bytes_at outside.old.second)) }
     ensures failed { result ≡ 4 → HasFailed (D.failures outside.old.dump) (D.failures outside.new.dump)
         (P.failures outside.old.second) (P.failures outside.new.second)
-        (O.failures outside.old.out) (O.failures outside.new.out) }
+        (O.failures outside.old.out) (O.failures outside.new.out)
+        ⊎ IsAlsoUnread line.now.task }
+    ensures third { outside.new.third ≡ outside.old.third }
     ensures known { result ≤ 4 }
 {
     match picture_reply(alloc, line, &mut outside.dump, &mut outside.second) {
@@ -215,20 +223,27 @@ pub fn picture<D: Opening, P: Opening, M, O: Sink, E: Sink>(
 ) -> u8
     ensures done { IsPicture (map (λ w. w.now) words.now)
         (texts (D.stands outside.old.dump) (D.bytes_at outside.old.dump))
-        (texts (P.stands outside.old.second) (P.bytes_at outside.old.second)) result
+        (texts (P.stands outside.old.second) (P.bytes_at outside.old.second))
+        (texts (P.stands outside.old.third) (P.bytes_at outside.old.third)) result
         (went (O.taken outside.old.out) (O.taken outside.new.out) (outside.new.out ≡ outside.old.out)
         (O.failures outside.new.out ≡ O.failures outside.old.out + 1))
         (went (E.taken outside.old.err) (E.taken outside.new.err) (outside.new.err ≡ outside.old.err)
         (E.failures outside.new.err ≡ E.failures outside.old.err + 1))
         (HasFailed (D.failures outside.old.dump) (D.failures outside.new.dump)
         (P.failures outside.old.second) (P.failures outside.new.second)
-        (O.failures outside.old.out) (O.failures outside.new.out)) }
+        (O.failures outside.old.out) (O.failures outside.new.out)
+        ⊎ (P.failures outside.new.third ≡ P.failures outside.old.third + 1)) }
     ensures known { result ≤ 4 }
 {
     let Ok(words) = with_map(alloc, words) else {
         return report(&mut outside.err, Failure::Memory);
     };
-    match start(alloc, words.as_slice(), &mut outside.err) {
+    match start(
+        alloc,
+        words.as_slice(),
+        &mut outside.third,
+        &mut outside.err,
+    ) {
         Ok(line) => draw(alloc, &line, outside),
         Err(status) => status,
     }

@@ -64,6 +64,7 @@ fn beside<D: Opening, P: Opening, M: Foldered, O: Sink, E: Sink>(
     ensures json { first ≡ First.Json → IsJson (behind (map string_bytes words.now))
         (texts (D.stands outside.old.dump) (D.bytes_at outside.old.dump))
         (texts (P.stands outside.old.second) (P.bytes_at outside.old.second))
+        (texts (P.stands outside.old.third) (P.bytes_at outside.old.third))
         result
         (went (O.taken outside.old.out) (O.taken outside.new.out) (outside.new.out ≡ outside.old.out)
         (O.failures outside.new.out ≡ O.failures outside.old.out + 1))
@@ -71,10 +72,12 @@ fn beside<D: Opening, P: Opening, M: Foldered, O: Sink, E: Sink>(
         (E.failures outside.new.err ≡ E.failures outside.old.err + 1))
         (HasFailed (D.failures outside.old.dump) (D.failures outside.new.dump)
         (P.failures outside.old.second) (P.failures outside.new.second)
-        (O.failures outside.old.out) (O.failures outside.new.out)) }
+        (O.failures outside.old.out) (O.failures outside.new.out)
+        ⊎ (P.failures outside.new.third ≡ P.failures outside.old.third + 1)) }
     ensures picture { first ≡ First.Picture → IsPicture (behind (map string_bytes words.now))
         (texts (D.stands outside.old.dump) (D.bytes_at outside.old.dump))
         (texts (P.stands outside.old.second) (P.bytes_at outside.old.second))
+        (texts (P.stands outside.old.third) (P.bytes_at outside.old.third))
         result
         (went (O.taken outside.old.out) (O.taken outside.new.out) (outside.new.out ≡ outside.old.out)
         (O.failures outside.new.out ≡ O.failures outside.old.out + 1))
@@ -82,7 +85,8 @@ fn beside<D: Opening, P: Opening, M: Foldered, O: Sink, E: Sink>(
         (E.failures outside.new.err ≡ E.failures outside.old.err + 1))
         (HasFailed (D.failures outside.old.dump) (D.failures outside.new.dump)
         (P.failures outside.old.second) (P.failures outside.new.second)
-        (O.failures outside.old.out) (O.failures outside.new.out)) }
+        (O.failures outside.old.out) (O.failures outside.new.out)
+        ⊎ (P.failures outside.new.third ≡ P.failures outside.old.third + 1)) }
     ensures here { first ≡ First.Here → IsHere (map string_bytes words.now)
         (files (M.shown_in outside.old.machine) (M.text_at outside.old.machine)) result
         (went (O.taken outside.old.out) (O.taken outside.new.out) (outside.new.out ≡ outside.old.out)
@@ -118,7 +122,8 @@ pub fn front<D: Opening, P: Opening, M: Foldered, O: Sink, E: Sink>(
     ensures done { result < 2
         → MatchResult words
         (λ words. AreOfTexts (map string_bytes words.items)
-        → (line : Invocation) × IsInvocationOf (map string_bytes words.items) line
+        → (line : Invocation) × IsInvocationOf (map string_bytes words.items)
+        (texts (P.stands outside.old.third) (P.bytes_at outside.old.third)) line
         × IsCarriedOut line (texts (D.stands outside.old.dump) (D.bytes_at outside.old.dump))
         (texts (P.stands outside.old.second) (P.bytes_at outside.old.second))
         result (Appends (O.taken outside.old.out) (O.taken outside.new.out))
@@ -133,19 +138,22 @@ pub fn front<D: Opening, P: Opening, M: Foldered, O: Sink, E: Sink>(
         → MatchResult words
         (λ words. AreOfTexts (map string_bytes words.items)
         → (outside.new.out ≡ outside.old.out)
-        ⊎ ((line : Invocation) × IsInvocationOf (map string_bytes words.items) line
+        ⊎ ((line : Invocation) × IsInvocationOf (map string_bytes words.items)
+        (texts (P.stands outside.old.third) (P.bytes_at outside.old.third)) line
         × IsCarriedOutBegun line (D.bytes_at outside.old.dump) (P.bytes_at outside.old.second)
         (O.taken outside.old.out) (O.taken outside.new.out)))
         (λ _. ⊥) }
     ensures refused { result ≡ 2 → IfOk words (λ words. AreOfTexts (map string_bytes words.items)
         → HasBadWords (map string_bytes words.items)
-        ⊎ ((line : Invocation) × IsInvocationOf (map string_bytes words.items) line
+        ⊎ ((line : Invocation) × IsInvocationOf (map string_bytes words.items)
+        (texts (P.stands outside.old.third) (P.bytes_at outside.old.third)) line
         × IsTaskRefused line.task (D.bytes_at outside.old.dump (string_bytes line.dump))
         (P.bytes_at outside.old.second (string_bytes line.probe)))) }
     ensures failed { result ≡ 4 → IfOk words (λ words. AreOfTexts (map string_bytes words.items)
         → HasFailed (D.failures outside.old.dump) (D.failures outside.new.dump)
         (P.failures outside.old.second) (P.failures outside.new.second)
-        (O.failures outside.old.out) (O.failures outside.new.out)) }
+        (O.failures outside.old.out) (O.failures outside.new.out)
+        ⊎ (P.failures outside.new.third ≡ P.failures outside.old.third + 1)) }
     // `explain` and `version`
     ensures text { IfOk words (λ words. BeginsWith (map string_bytes words.items) (codes "explain")
         ⊎ BeginsWith (map string_bytes words.items) (codes "version")
@@ -157,6 +165,7 @@ pub fn front<D: Opening, P: Opening, M: Foldered, O: Sink, E: Sink>(
         → IsJson (behind (map string_bytes words.items))
         (texts (D.stands outside.old.dump) (D.bytes_at outside.old.dump))
         (texts (P.stands outside.old.second) (P.bytes_at outside.old.second))
+        (texts (P.stands outside.old.third) (P.bytes_at outside.old.third))
         result
         (went (O.taken outside.old.out) (O.taken outside.new.out) (outside.new.out ≡ outside.old.out)
         (O.failures outside.new.out ≡ O.failures outside.old.out + 1))
@@ -164,12 +173,14 @@ pub fn front<D: Opening, P: Opening, M: Foldered, O: Sink, E: Sink>(
         (E.failures outside.new.err ≡ E.failures outside.old.err + 1))
         (HasFailed (D.failures outside.old.dump) (D.failures outside.new.dump)
         (P.failures outside.old.second) (P.failures outside.new.second)
-        (O.failures outside.old.out) (O.failures outside.new.out))) }
+        (O.failures outside.old.out) (O.failures outside.new.out)
+        ⊎ (P.failures outside.new.third ≡ P.failures outside.old.third + 1))) }
     // `picture` and the words of a map
     ensures picture { IfOk words (λ words. BeginsWith (map string_bytes words.items) (codes "picture")
         → IsPicture (behind (map string_bytes words.items))
         (texts (D.stands outside.old.dump) (D.bytes_at outside.old.dump))
         (texts (P.stands outside.old.second) (P.bytes_at outside.old.second))
+        (texts (P.stands outside.old.third) (P.bytes_at outside.old.third))
         result
         (went (O.taken outside.old.out) (O.taken outside.new.out) (outside.new.out ≡ outside.old.out)
         (O.failures outside.new.out ≡ O.failures outside.old.out + 1))
@@ -177,7 +188,8 @@ pub fn front<D: Opening, P: Opening, M: Foldered, O: Sink, E: Sink>(
         (E.failures outside.new.err ≡ E.failures outside.old.err + 1))
         (HasFailed (D.failures outside.old.dump) (D.failures outside.new.dump)
         (P.failures outside.old.second) (P.failures outside.new.second)
-        (O.failures outside.old.out) (O.failures outside.new.out))) }
+        (O.failures outside.old.out) (O.failures outside.new.out)
+        ⊎ (P.failures outside.new.third ≡ P.failures outside.old.third + 1))) }
     ensures here { IfOk words (λ words. BeginsWith (map string_bytes words.items) (codes "here")
         → IsHere (map string_bytes words.items)
         (files (M.shown_in outside.old.machine) (M.text_at outside.old.machine)) result
@@ -192,6 +204,7 @@ pub fn front<D: Opening, P: Opening, M: Foldered, O: Sink, E: Sink>(
                 Ok(words),
                 &mut outside.dump,
                 &mut outside.second,
+                &mut outside.third,
                 &mut outside.out,
                 &mut outside.err,
             ),
@@ -202,6 +215,7 @@ pub fn front<D: Opening, P: Opening, M: Foldered, O: Sink, E: Sink>(
             Err(error),
             &mut outside.dump,
             &mut outside.second,
+            &mut outside.third,
             &mut outside.out,
             &mut outside.err,
         ),

@@ -10,6 +10,9 @@ returns-in-Ok-clause-done g c = record {
     | inl same ↦ inl same
     | inr begun ↦ inr (c.in-Ok.line, c.in-Ok.ensures.line, begun)
   ];
-  failed = c.carry_out.ensures.failed;
+  failed = λ four. elim (c.carry_out.ensures.failed four) [
+    | inl failed ↦ inl failed
+    | inr unread ↦ inr (rw c.carry_out.ensures.third (c.in-Ok.ensures.failed unread))
+  ];
   known = c.carry_out.ensures.known;
 }

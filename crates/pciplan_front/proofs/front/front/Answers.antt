@@ -1,4 +1,4 @@
-use Rattle.std.proofs.Common.{◌≡◌, ◌+◌, ℕ, map, subst, inl, inr}
+use Rattle.std.proofs.Common.{◌≡◌, ◌⊎◌, ◌+◌, ℕ, map, subst, inl, inr}
 use Rattle.std.specs.String.{string_bytes}
 use Rattle.pciplan_cli.specs.CarriedOut.{texts}
 use Rattle.pciplan_tasks.specs.Tasks.{HasFailed}
@@ -40,6 +40,7 @@ returns-in_default g c =
           (λ v. IsJson (behind (map string_bytes v))
           (texts (g.D.Opening.stands c.args.outside.now.dump) (g.D.Opening.bytes_at c.args.outside.now.dump))
           (texts (g.P.Opening.stands c.args.outside.now.second) (g.P.Opening.bytes_at c.args.outside.now.second))
+          (texts (g.P.Opening.stands c.args.outside.now.third) (g.P.Opening.bytes_at c.args.outside.now.third))
           c.beside.result
           (went (g.O.Sink.taken c.args.outside.now.out) (g.O.Sink.taken c.beside.new.outside.out) (c.beside.new.outside.out ≡ c.args.outside.now.out)
           (g.O.Sink.failures c.beside.new.outside.out ≡ g.O.Sink.failures c.args.outside.now.out + 1))
@@ -47,12 +48,14 @@ returns-in_default g c =
           (g.E.Sink.failures c.beside.new.outside.err ≡ g.E.Sink.failures c.args.outside.now.err + 1))
           (HasFailed (g.D.Source.failures c.args.outside.now.dump) (g.D.Source.failures c.beside.new.outside.dump)
           (g.P.Source.failures c.args.outside.now.second) (g.P.Source.failures c.beside.new.outside.second)
-          (g.O.Sink.failures c.args.outside.now.out) (g.O.Sink.failures c.beside.new.outside.out)))
+          (g.O.Sink.failures c.args.outside.now.out) (g.O.Sink.failures c.beside.new.outside.out)
+          ⊎ (g.P.Source.failures c.beside.new.outside.third ≡ g.P.Source.failures c.args.outside.now.third + 1)))
           again (c.beside.ensures.json (of_json (map string_bytes c.in-Ok.words.items) c.first_of.result is begins));
       picture = λ begins. subst
           (λ v. IsPicture (behind (map string_bytes v))
           (texts (g.D.Opening.stands c.args.outside.now.dump) (g.D.Opening.bytes_at c.args.outside.now.dump))
           (texts (g.P.Opening.stands c.args.outside.now.second) (g.P.Opening.bytes_at c.args.outside.now.second))
+          (texts (g.P.Opening.stands c.args.outside.now.third) (g.P.Opening.bytes_at c.args.outside.now.third))
           c.beside.result
           (went (g.O.Sink.taken c.args.outside.now.out) (g.O.Sink.taken c.beside.new.outside.out) (c.beside.new.outside.out ≡ c.args.outside.now.out)
           (g.O.Sink.failures c.beside.new.outside.out ≡ g.O.Sink.failures c.args.outside.now.out + 1))
@@ -60,7 +63,8 @@ returns-in_default g c =
           (g.E.Sink.failures c.beside.new.outside.err ≡ g.E.Sink.failures c.args.outside.now.err + 1))
           (HasFailed (g.D.Source.failures c.args.outside.now.dump) (g.D.Source.failures c.beside.new.outside.dump)
           (g.P.Source.failures c.args.outside.now.second) (g.P.Source.failures c.beside.new.outside.second)
-          (g.O.Sink.failures c.args.outside.now.out) (g.O.Sink.failures c.beside.new.outside.out)))
+          (g.O.Sink.failures c.args.outside.now.out) (g.O.Sink.failures c.beside.new.outside.out)
+          ⊎ (g.P.Source.failures c.beside.new.outside.third ≡ g.P.Source.failures c.args.outside.now.third + 1)))
           again (c.beside.ensures.picture (of_picture (map string_bytes c.in-Ok.words.items) c.first_of.result is begins));
       here = λ begins. subst
           (λ v. IsHere (map string_bytes v) (files (g.M.Foldered.shown_in c.args.outside.now.machine) (g.M.Foldered.text_at c.args.outside.now.machine)) c.beside.result

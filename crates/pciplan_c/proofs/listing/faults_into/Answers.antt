@@ -1,0 +1,7 @@
+use Rattle.pciplan_c.proofs.Listings.{list_put_if}
+use Rattle.pciplan_c.proofs.listing.faults_into.Goals as goal
+
+pub returns-in-Ok-clause-told : goal.returns-in-Ok-clause-told
+returns-in-Ok-clause-told c =
+    list_put_if c.args.roots.now c.args.dump.now c.args.probe.now c.args.words.now c.in-Ok.reply c.args.text.now c.put_list.new.text c.put_list.result
+    c.in-Ok.ensures.list c.put_list.ensures.put c.put_list.ensures.told
