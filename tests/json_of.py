@@ -11,10 +11,16 @@ import re
 import sys
 
 SPAN = r'(?P<span>[0-9a-f]+-[0-9a-f]+)'
-PLACE = r'(?P<slot>\S+) (?P<register>\S\S)'
+PLACE = r'(?P<slot>\S+) (?P<register>[0-9a-f]{2})'
 ADDRESS = r'(?P<space>io|mem) (?P<address>[0-9a-f]+)'
-PAIR = r'(?P<slot1>\S+) (?P<register1>\S\S) (?P<slot2>\S+) (?P<register2>\S\S)'
-REGION = PLACE + r' (?P<part>bar|rom|window) (?P<space>io|mem)(?P<pref> pref)? ' + SPAN + r' \w+(?P<isa> isa)?'
+# a register, or the line of a told range
+NUMBER = r'[0-9a-f]{2}|\+[1-9][0-9]*'
+OF_REGION = r'(?P<slot>\S+) (?P<register>' + NUMBER + ')'
+PAIR = r'(?P<slot1>\S+) (?P<register1>' + NUMBER + r') (?P<slot2>\S+) (?P<register2>' + NUMBER + ')'
+OF_RANGE = r'(?P<slot>\S+) (?P<register>\+[1-9][0-9]*)'
+SPACE = r' (?P<space>io|mem)(?P<pref> pref)? '
+REGION = PLACE + r' (?P<part>bar|rom|window)' + SPACE + SPAN + r' \w+(?P<isa> isa)?'
+TOLD = OF_RANGE + r' (?P<part>told|held)' + SPACE + SPAN + r' \w+( (?P<name>\S+))?'
 LEGACY = PLACE + r' (?P<part>vga|vga16) (?P<space>io|mem) (?P<spans>[0-9a-f,-]+)(?P<each> of each 1K)?( \w+)?'
 
 
@@ -31,7 +37,9 @@ def whole(pattern, line):
 
 
 def place(found, number=''):
-    return {'slot': found['slot' + number], 'register': '0x' + found['register' + number]}
+    register = found['register' + number]
+    named = {'line': int(register[1:])} if register.startswith('+') else {'register': '0x' + register}
+    return {'slot': found['slot' + number], **named}
 
 
 def address(found):
@@ -45,7 +53,7 @@ def pair(found):
 def named(number, rest):
     """What the line of a fault names, behind its number and its name."""
     if number == 60:
-        found = whole(PLACE + ' ' + ADDRESS + r' bridge (?P<bridge>\S+)', rest)
+        found = whole(OF_REGION + ' ' + ADDRESS + r' bridge (?P<bridge>\S+)', rest)
         return {**place(found), **address(found), 'bridge': found['bridge']}
     if number == 61:
         found = whole(r'bus (?P<bus>\S\S) ' + ADDRESS + ' ' + PAIR, rest)
@@ -54,7 +62,7 @@ def named(number, rest):
         found = whole(ADDRESS + ' ' + PAIR, rest)
         return {**address(found), **pair(found)}
     if number == 63:
-        found = whole(PLACE + ' ' + ADDRESS, rest)
+        found = whole(OF_REGION + ' ' + ADDRESS, rest)
         return {**place(found), **address(found)}
     if number == 70:
         whole('', rest)
@@ -67,7 +75,7 @@ def named(number, rest):
         if found['size']:
             made.update(size=int(found['size'], 16), align=int(found['align'], 16))
         return made
-    found = whole(r'(?P<slot>\S+)( (?P<register>\S\S))?', rest)
+    found = whole(r'(?P<slot>\S+)( (?P<register>[0-9a-f]{2}))?', rest)
     return place(found) if found['register'] else {'slot': found['slot']}
 
 
@@ -77,10 +85,17 @@ def fault(line):
     return {'number': number, 'name': found['name'], 'text': line, **named(number, found['rest'])}
 
 
+def end(found):
+    """The name of a told range, or that ISA Enable cuts a window."""
+    if found.get('name'):
+        return {'name': found['name']}
+    return {'isa': True} if found.get('isa') else {}
+
+
 def region(text):
-    found = whole(REGION, text)
+    found = whole(TOLD if text.split()[1].startswith('+') else REGION, text)
     return {**place(found), 'part': found['part'], 'space': found['space'], 'prefetchable': bool(found['pref']),
-            **span(found['span']), **({'isa': True} if found['isa'] else {})}
+            **span(found['span']), **end(found)}
 
 
 def claim(text):
@@ -152,16 +167,20 @@ def faults(lines):
     return {'faults': made, **({'off': off} if off else {})}
 
 
+SITS = SPAN + r' \w+ (?P<part>bar|rom|window)(?P<pref> pref)? ' + PLACE + '(?P<isa> isa)?'
+SITS_TOLD = SPAN + r' \w+ (?P<part>told|held)(?P<pref> pref)? ' + OF_RANGE + r'( (?P<name>\S+))?'
+FREE = SPAN + r' \w+ (?P<part>free)'
+FORMS = {'told': SITS_TOLD, 'held': SITS_TOLD, 'free': FREE}
+
+
 def places(lines):
     made = []
     for line, inner in groups(lines):
-        found = whole(SPAN + r' \w+ (?P<part>bar|rom|window|free)(?P<pref> pref)?( ' + PLACE + '(?P<isa> isa)?)?', line)
-        at = {'part': found['part'], **({'prefetchable': True} if found['pref'] else {})}
+        found = whole(FORMS.get(line.split()[2], SITS), line)
+        at = {'part': found['part'], **({'prefetchable': True} if found.get('pref') else {})}
         if found['part'] != 'free':
             at.update(place(found))
-        at.update(span(found['span']))
-        if found['isa']:
-            at['isa'] = True
+        at.update({**span(found['span']), **end(found)})
         if found['part'] == 'window':
             at['inside'] = places(inner)
         elif inner:

@@ -35,13 +35,13 @@ right_of : (a b : Bool) → a && b ≡ true → b ≡ true
 right_of true b is = is
 right_of false b is = absurd (false≢true is)
 
-one_line : (w rest : List ℕ) → lacks 10 w ≡ true → lines_of (w ++ 10 ∷ rest) ≡ w ∷ lines_of rest
+pub one_line : (w rest : List ℕ) → lacks 10 w ≡ true → lines_of (w ++ 10 ∷ rest) ≡ w ∷ lines_of rest
 unfolding parts_of
 one_line [] rest ok = refl
 one_line (b ∷ w) rest ok =
     put_more (b == 10) b w rest (left_of (not (b == 10)) (lacks 10 w) ok) (one_line w rest (right_of (not (b == 10)) (lacks 10 w) ok))
 
-slot : (s : Slot) → lacks 10 (slot_text s) ≡ true
+pub slot : (s : Slot) → lacks 10 (slot_text s) ≡ true
 slot s = slot_lacks 10 s (omega arith)
 
 region : (s : Slot) (r : ℕ) → lacks 10 (slot_text s ++ field (hex_byte r)) ≡ true
@@ -56,7 +56,7 @@ address_more space a more ok = append_lacks 10 (address_text space a) more (addr
 two : (s : Slot) (r : ℕ) (t : Slot) (q : ℕ) → lacks 10 (field ((slot_text s ++ field (hex_byte r)) ++ field (slot_text t ++ field (hex_byte q)))) ≡ true
 two s r t q = region_more s r (field (slot_text t ++ field (hex_byte q))) (region t q)
 
-known : (f : Fault) → lacks 10 (fault_text f) ≡ true
+pub known : (f : Fault) → lacks 10 (fault_text f) ≡ true
 known (NoVendor s) = slot s
 known (HeaderKind s) = slot s
 known (SlotsDiffer s) = slot s
@@ -92,12 +92,12 @@ one_each (given.Outside s r Memory a) = region_more s r (field (codes "mem" ++ f
 
 -- ---- it is a fault's line, and is not indented
 
-record IsOfFault (line : List ℕ) : Type 0 where
+pub record IsOfFault (line : List ℕ) : Type 0 where
   pub is : is_fault line ≡ true
   pub content : content_of line ≡ line
   pub outer : is_inner line ≡ false
 
-of_known : (f : Fault) → IsOfFault (fault_text f)
+pub of_known : (f : Fault) → IsOfFault (fault_text f)
 unfolding behind
 of_known (NoVendor s) = record { is = refl; content = refl; outer = refl }
 of_known (HeaderKind s) = record { is = refl; content = refl; outer = refl }

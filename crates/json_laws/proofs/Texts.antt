@@ -4,8 +4,8 @@ use Rattle.std.specs.List.{filter}
 use Rattle.json.specs.Json.{Json, string}
 use Rattle.pci_json.specs.declared.group.Kind.TheVariants.{Capability}
 use Rattle.pci_json.specs.Lines.{lines_of, content_of, word, is_word, behind, value_of}
-use Rattle.pci_json.specs.Members.{members_of, object_of, slot_and_register, hex, count}
-use Rattle.pci_json.specs.Faults.{unreached_members, clash_members, split_members, outside_members, no_room_members, slot_members, named_members, fault_members, fault_number}
+use Rattle.pci_json.specs.Members.{members_of, object_of, slot_and_register, register_or_line, is_line, line_number, hex, count}
+use Rattle.pci_json.specs.Faults.{space_and_address, unreached_members, clash_members, split_members, outside_members, no_room_members, slot_members, named_members, fault_members, fault_number}
 use Rattle.pci_json.specs.Reasons.{region_members}
 use Rattle.pci_json.specs.Listings.{capability_members}
 use Rattle.pci_json.specs.Groups.{inner_of, why_member, fault_object, listed}
@@ -19,6 +19,14 @@ texts_in ms = values_in (codes "text") (members_of ms)
 
 -- ---- what a fault names has no `text`
 
+behind_if : (told : Bool) (w : List ℕ) (more : List (List ℕ × Json))
+    → texts_in ((if told then (codes "line", count (line_number w)) ∷ [] else (codes "register", hex w) ∷ []) ++ more) ≡ texts_in more
+behind_if true w more = refl
+behind_if false w more = refl
+
+behind_register : (w : List ℕ) (more : List (List ℕ × Json)) → texts_in (register_or_line w ++ more) ≡ texts_in more
+behind_register w more = behind_if (is_line w) w more
+
 amounts : (none : Bool) (line : List ℕ)
     → texts_in (if none then [] else (codes "size", count (value_of 16 (word 5 line))) ∷ (codes "align", count (value_of 16 (word 6 line))) ∷ []) ≡ []
 amounts true line = refl
@@ -27,7 +35,9 @@ amounts false line = refl
 part : (none short : Bool) (line : List ℕ)
     → texts_in (if none then [] else slot_and_register 3 line ++ (if short then [] else (codes "size", count (value_of 16 (word 5 line))) ∷ (codes "align", count (value_of 16 (word 6 line))) ∷ [])) ≡ []
 part true short line = refl
-part false short line = amounts short line
+part false short line =
+    behind_register (word 4 line) (if short then [] else (codes "size", count (value_of 16 (word 5 line))) ∷ (codes "align", count (value_of 16 (word 6 line))) ∷ [])
+    ∙ amounts short line
 
 register : (none : Bool) (line : List ℕ) → texts_in (if none then [] else (codes "register", hex (word 3 line)) ∷ []) ≡ []
 register true line = refl
@@ -41,10 +51,10 @@ named_by : (a b c d e f : Bool) (line : List ℕ)
     else (if e then []
     else (if f then no_room_members line
     else slot_members line)))))) ≡ []
-named_by true b c d e f line = refl
+named_by true b c d e f line = behind_register (word 3 line) (space_and_address 4 line ++ (codes "bridge", string (word 7 line)) ∷ [])
 named_by false true c d e f line = refl
 named_by false false true d e f line = refl
-named_by false false false true e f line = refl
+named_by false false false true e f line = behind_register (word 3 line) (space_and_address 4 line)
 named_by false false false false true f line = refl
 named_by false false false false false true line = part (is_word 3 [] line) (is_word 5 [] line) line
 named_by false false false false false false line = register (is_word 3 [] line) line

@@ -1,7 +1,10 @@
 -- The words of a line that is made of words.
-use Rattle.std.proofs.Common.{arith, ◌≡◌, ◌==◌, ◌<◌, ◌+◌, ◌/◌, ◌%◌, nat_lt, ℕ, zero, suc, List, [], ◌∷◌, ◌++◌, length, take, drop, get_or, Bool, true, false, not, cond, ◌&&◌, refl, ap, ◌∙◌, if◌then◌else◌, append-nil}
+use Rattle.std.proofs.Common.{arith, ◌≡◌, ◌==◌, ◌<◌, ◌+◌, ◌-◌, ◌*◌, ◌/◌, ◌%◌, ◌^◌, ◌≤◌, nat_lt, nat_le, ℕ, zero, suc, List, [], ◌∷◌, ◌++◌, length, take, drop, get_or, Bool, true, false, not, cond, ◌&&◌, refl, ap, ap₂, ◌∙◌, if◌then◌else◌, append-nil}
 use Rattle.std.specs.Prelude.{⊤}
-use Rattle.std.proofs.lemmas.Bool.{false≢true, ne_eqb}
+use Rattle.std.proofs.lemmas.Bool.{false≢true, ne_eqb, le-leb}
+use Rattle.std.proofs.lemmas.Fmt.{decimal_by_steps}
+use Rattle.std.proofs.lemmas.Grind.{fold-append}
+use Rattle.std.specs.Fmt.{decimal}
 use Rattle.std.proofs.Math.Seq.{take-append_seam, drop-append-add, take-length}
 use Rattle.std.proofs.lemmas.List.{drop_all}
 use Rattle.std.specs.List.{before_first, after_first, position_or_len, flat_map}
@@ -9,7 +12,9 @@ use Rattle.pci_spec.specs.Slot.{Slot}
 use Rattle.pci_spec.specs.Text.{hex_digit, hex_byte, slot_text}
 use Rattle.pci_spec.specs.System.{Space, Io, Memory}
 use Rattle.pci_spec.specs.Line.{field, hex_number, space_text, address_text}
-use Rattle.pci_json.specs.Lines.{is_blank, behind, word}
+use Rattle.given_spec.specs.ToldLine.{register_text}
+use Rattle.pci_json.specs.Lines.{is_blank, behind, word, digit_value, next_value, value_of}
+use Rattle.pci_json.specs.Members.{is_line}
 
 -- the text doesn't have this byte
 abbrev pub lacks : ℕ → List ℕ → Bool
@@ -134,3 +139,48 @@ space_ok Memory = refl
 
 pub address_ok : (space : Space) (n : ℕ) → no_blank (address_text space n) ≡ true
 address_ok space n = address_lacks 32 space n (omega arith)
+
+-- ---- a register is two digits, and the line of a told range stands behind a plus
+
+no_plus_if : (small : Bool) (d : ℕ) → ((if small then 48 + d else 87 + d) == 43) ≡ false
+no_plus_if true d = ne_eqb (48 + d) 43 (λ e. let no : ⊥ = omega (arith, e) in no)
+no_plus_if false d = ne_eqb (87 + d) 43 (λ e. let no : ⊥ = omega (arith, e) in no)
+
+pub no_plus : (r : ℕ) → is_line (hex_byte r) ≡ false
+no_plus r = no_plus_if (nat_lt (r / 16) 10) (r / 16)
+
+digit_there : (d : ℕ) → d < 10 → digit_value (48 + d) ≡ d
+digit_there d small =
+    let low : nat_le 48 (48 + d) ≡ true = le-leb 48 (48 + d) (omega arith) in
+    let high : nat_le (48 + d) 57 ≡ true = le-leb (48 + d) 57 (omega (arith, small)) in
+    let same : 48 + d - 48 ≡ d = omega arith in
+    ap₂ (λ (a b : Bool). if a && b then 48 + d - 48 else (if nat_le 97 (48 + d) && nat_le (48 + d) 102 then 48 + d - 87 else 0)) low high ∙ same
+
+next_there : (n v d : ℕ) → n < 2 ^ 64 → v ≡ n / 10 → d ≡ n % 10 → (v * 10 + d) % 2 ^ 64 ≡ n
+next_there n v d small front end = omega (arith, small, front, end)
+
+-- the number of the digits of a number
+pub decimal_value : (n : ℕ) → n < 2 ^ 64 → value_of 10 (decimal n) ≡ n
+decimal_value n small =
+    decimal_by_steps (λ m ds. m < 2 ^ 64 → value_of 10 ds ≡ m)
+    (λ m digit below. next_there m 0 (digit_value (48 + m)) below (omega (arith, digit)) (digit_there m digit ∙ (let alone : m ≡ m % 10 = omega (arith, digit) in alone)))
+    (λ m ds more front below.
+    fold-append (next_value 10) 0 ds ((48 + m % 10) ∷ [])
+    ∙ next_there m (value_of 10 ds) (digit_value (48 + m % 10)) below (front (omega (arith, below))) (digit_there (m % 10) (omega arith)))
+    n small small
+
+decimal_lacks : (c n : ℕ) → c < 40 → n < 2 ^ 64 → lacks c (decimal n) ≡ true
+decimal_lacks c n below small =
+    decimal_by_steps (λ m ds. lacks c ds ≡ true)
+    (λ m digit. both (not ((48 + m) == c)) true (other c (48 + m) below (omega arith)) refl)
+    (λ m ds more front.
+    append_lacks c ds ((48 + m % 10) ∷ []) front (both (not ((48 + m % 10) == c)) true (other c (48 + m % 10) below (omega arith)) refl))
+    n small
+
+register_lacks_if : (small : Bool) (c r : ℕ) → c < 40 → r ≤ 255 + 4096 → lacks c (if small then hex_byte r else 43 ∷ decimal (r - 255)) ≡ true
+register_lacks_if true c r below ok = byte_lacks c r below
+register_lacks_if false c r below ok =
+    both (not (43 == c)) (lacks c (decimal (r - 255))) (other c 43 below (omega arith)) (decimal_lacks c (r - 255) below (omega (arith, ok)))
+
+pub register_lacks : (c r : ℕ) → c < 40 → r ≤ 255 + 4096 → lacks c (register_text r) ≡ true
+register_lacks c r below ok = register_lacks_if (nat_lt r 256) c r below ok

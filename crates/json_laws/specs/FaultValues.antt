@@ -1,5 +1,5 @@
 -- What a fault names, as members of its object: each value is that of the fault, in the digits of its line.
-use Rattle.std.specs.Prelude.{ℕ, List, [], ◌∷◌, ◌++◌, codes}
+use Rattle.std.specs.Prelude.{ℕ, ◌-◌, nat_lt, if◌then◌else◌, List, [], ◌∷◌, ◌++◌, codes}
 use Rattle.json.specs.Json.{Json, string}
 use Rattle.pci_spec.specs.Slot.{Slot}
 use Rattle.pci_spec.specs.Text.{hex_byte, slot_text}
@@ -8,6 +8,8 @@ use Rattle.pci_spec.specs.Line.{space_text, address_text, fault_name, fault_text
 use Rattle.pci_spec.specs.Fault.{Fault, fault_number, NoVendor, HeaderKind, BarType, BarMask, BarPair, RomMask, WindowMask, CapRange, CapLoop, CapCut, SlotsDiffer, StrayProbe, LoneFunction, PaletteSnoop, VgaEnable, IsaEnable, Subtractive, InReset, PowerState, BusRange, Orphan, Unreached, Clash, Split}
 use Rattle.given_spec.specs.Fault as given
 use Rattle.given_spec.specs.Line as given_line
+use Rattle.given_spec.specs.ToldFault as told
+use Rattle.given_spec.specs.ToldLine as told_line
 use Rattle.pci_json.specs.Members.{hex, count, object_of, array_of}
 
 abbrev pub slot_value : List ℕ → Slot → List (List ℕ × Json)
@@ -67,3 +69,38 @@ abbrev pub all_given_values : given.Fault → List (List ℕ × Json)
 all_given_values fault =
     (codes "number", count (given.fault_number fault)) ∷ (codes "name", string (given_line.fault_name fault)) ∷ (codes "text", string (given_line.fault_text fault))
     ∷ given_values fault
+
+-- ---- with what is told: the line of a told range stands in the place of a register
+
+abbrev pub register_or_line_value : ℕ → List (List ℕ × Json)
+register_or_line_value register =
+    if nat_lt register 256 then (codes "register", hex (hex_byte register)) ∷ [] else (codes "line", count (register - 255)) ∷ []
+
+abbrev pub told_region_values : Slot → ℕ → List (List ℕ × Json)
+told_region_values slot register = (codes "slot", string (slot_text slot)) ∷ register_or_line_value register
+
+abbrev pub two_told_region_values : Slot → ℕ → Slot → ℕ → List (List ℕ × Json)
+two_told_region_values first first_register second second_register =
+    (codes "regions", array_of (object_of (told_region_values first first_register) ∷ object_of (told_region_values second second_register) ∷ [])) ∷ []
+
+abbrev pub plain_told_values : Fault → List (List ℕ × Json)
+plain_told_values (Unreached slot register space address bridge) =
+    told_region_values slot register ++ (address_values space address ++ slot_value (codes "bridge") bridge)
+plain_told_values (Clash bus space address first first_register second second_register) =
+    (codes "bus", string (hex_byte bus)) ∷ (address_values space address ++ two_told_region_values first first_register second second_register)
+plain_told_values (Split space address first first_register second second_register) =
+    address_values space address ++ two_told_region_values first first_register second second_register
+plain_told_values fault = fault_values fault
+
+abbrev pub known_told_values : given.Fault → List (List ℕ × Json)
+known_told_values (given.Known fault) = plain_told_values fault
+known_told_values (given.Outside slot register space address) = told_region_values slot register ++ address_values space address
+
+abbrev pub told_values : told.Fault → List (List ℕ × Json)
+told_values (told.Known fault) = known_told_values fault
+told_values (told.NotListed slot) = slot_value (codes "slot") slot
+
+abbrev pub all_told_values : told.Fault → List (List ℕ × Json)
+all_told_values fault =
+    (codes "number", count (told.fault_number fault)) ∷ (codes "name", string (told_line.fault_name fault)) ∷ (codes "text", string (told_line.fault_text fault))
+    ∷ told_values fault

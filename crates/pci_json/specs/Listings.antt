@@ -3,7 +3,7 @@ use Rattle.std.specs.Prelude.{ℕ, ◌==◌, Bool, true, List, [], ◌∷◌, �
 use Rattle.std.specs.List.{before_first, after_first}
 use Rattle.json.specs.Json.{Json, string, boolean}
 use Rattle.pci_json.specs.Lines.{word, is_word, behind, value_of}
-use Rattle.pci_json.specs.Members.{array_of, hex, count, slot_and_register, isa_member, last_of, range_members}
+use Rattle.pci_json.specs.Members.{array_of, hex, count, slot_and_register, end_member, last_of, range_members}
 
 -- ---- a listing
 
@@ -52,7 +52,7 @@ abbrev pub capability_members : List ℕ → List (List ℕ × Json)
 capability_members line =
     (codes "at", hex (word 1 line)) ∷ (codes "kind", string (word 2 line)) ∷ (codes "text", string (behind 3 line)) ∷ []
 
--- ---- a map: F-L N free, F-L N PART S r, or F-L N PART pref S r; and isa behind a window
+-- ---- a map: F-L N free, F-L N PART S r, or F-L N PART pref S r; and isa behind a window, a name behind a told range
 
 -- what stands behind PART
 abbrev pub kind_members : List ℕ → List (List ℕ × Json)
@@ -63,11 +63,15 @@ kind_members rest =
 abbrev pub free_members : List ℕ → List (List ℕ × Json)
 free_members line = (codes "part", string (codes "free")) ∷ range_members (word 0 line)
 
+-- where the end of the line stands, of what stands there from PART on
+abbrev pub end_place : List ℕ → ℕ
+end_place part = if is_word 1 (codes "pref") part then 4 else 3
+
 -- the line, and what stands there from PART on
 abbrev pub sits_members : List ℕ → List ℕ → List (List ℕ × Json)
 sits_members line part =
     (codes "part", string (word 0 part))
-    ∷ (kind_members (behind 1 part) ++ (range_members (word 0 line) ++ isa_member 5 line))
+    ∷ (kind_members (behind 1 part) ++ (range_members (word 0 line) ++ end_member 0 (end_place part) part))
 
 abbrev pub outer_members : List ℕ → List (List ℕ × Json)
 outer_members line =

@@ -1,5 +1,5 @@
 -- The members of objects, and those that several kinds of lines share.
-use Rattle.std.specs.Prelude.{ℕ, ◌+◌, ◌-◌, ◌==◌, Bool, true, List, [], ◌∷◌, ◌++◌, codes, decimal, fold, map, length, if◌then◌else◌}
+use Rattle.std.specs.Prelude.{ℕ, ◌+◌, ◌-◌, ◌==◌, ◌||◌, Bool, true, List, [], ◌∷◌, ◌++◌, codes, decimal, fold, map, length, get_or, if◌then◌else◌}
 use Rattle.std.specs.List.{before_first, after_first}
 use Rattle.json.specs.Json.{Json, string, number, boolean, array, object, Items, no_items, item, Members, no_members, member}
 use Rattle.json.specs.Token.{Token}
@@ -51,12 +51,40 @@ hex digits = string (48 ∷ 120 ∷ digits)
 abbrev pub count : ℕ → Json
 count n = number (decimal n)
 
+abbrev pub is_plus : ℕ → Bool
+is_plus b = b == 43
+
+-- what names a region of a function: a register, or `+` and the number of a line of the text behind --also
+abbrev pub is_line : List ℕ → Bool
+is_line name = is_plus (get_or name 0 0)
+
+abbrev pub line_number : List ℕ → ℕ
+line_number name = value_of 10 (after_first is_plus name)
+
+abbrev pub register_or_line : List ℕ → List (List ℕ × Json)
+register_or_line name =
+    if is_line name then (codes "line", count (line_number name)) ∷ [] else (codes "register", hex name) ∷ []
+
 abbrev pub slot_and_register : ℕ → List ℕ → List (List ℕ × Json)
-slot_and_register n content = (codes "slot", string (word n content)) ∷ (codes "register", hex (word (n + 1) content)) ∷ []
+slot_and_register n content = (codes "slot", string (word n content)) ∷ register_or_line (word (n + 1) content)
+
+-- ---- what stands at the end of a region's line
 
 -- where a line has `isa` behind so many words
 abbrev pub isa_member : ℕ → List ℕ → List (List ℕ × Json)
 isa_member n line = if is_word n (codes "isa") line then (codes "isa", boolean true) ∷ [] else []
+
+-- where a line has a word behind so many words
+abbrev pub name_member : ℕ → List ℕ → List (List ℕ × Json)
+name_member n line = if is_word n [] line then [] else (codes "name", string (word n line)) ∷ []
+
+-- the part behind so many words is that of a told range
+abbrev pub is_told : ℕ → List ℕ → Bool
+is_told n line = is_word n (codes "told") line || is_word n (codes "held") line
+
+-- the name of a told range, or `isa` of another region, whose part stands behind the first number of words
+abbrev pub end_member : ℕ → ℕ → List ℕ → List (List ℕ × Json)
+end_member part n line = if is_told part line then name_member n line else isa_member n line
 
 -- ---- a range F-L: its first and last address, and how many they are
 

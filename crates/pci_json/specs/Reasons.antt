@@ -2,9 +2,10 @@
 use Rattle.std.specs.Prelude.{ℕ, ◌+◌, ◌||◌, List, [], ◌∷◌, ◌++◌, codes, if◌then◌else◌}
 use Rattle.json.specs.Json.{Json, string, boolean, null}
 use Rattle.pci_json.specs.Lines.{word, is_word, behind}
-use Rattle.pci_json.specs.Members.{object_of, array_of, count, slot_and_register, isa_member, range_members, opening, ranges_of}
+use Rattle.pci_json.specs.Members.{object_of, array_of, count, slot_and_register, isa_member, end_member, range_members, opening, ranges_of}
 
--- S r PART F-L N behind so many words; PART is two words, and may be followed by `pref`, and N by `isa`
+-- S r PART F-L N behind so many words; PART is two words, and may be followed by `pref`, and N by `isa`. Of a told range
+-- r is `+n`, and N may be followed by its name
 abbrev pub range_place : ℕ → List ℕ → ℕ
 range_place n line = if is_word (n + 4) (codes "pref") line then n + 5 else n + 4
 
@@ -16,7 +17,7 @@ part_members n line =
 abbrev pub region_members : ℕ → List ℕ → List (List ℕ × Json)
 region_members n line =
     part_members n line ++ (codes "prefetchable", boolean (is_word (n + 4) (codes "pref") line))
-    ∷ (range_members (word (range_place n line) line) ++ isa_member (range_place n line + 2) line)
+    ∷ (range_members (word (range_place n line) line) ++ end_member (n + 2) (range_place n line + 2) line)
 
 -- S 3e vga SPACE F-L,F-L of each 1K: the last three words where each KB has these ports
 abbrev pub each_members : List ℕ → List (List ℕ × Json)

@@ -2,12 +2,12 @@
 ghost use Rattle.std.specs.Prelude.{◌≡◌, ◌<◌, ◌≤◌, ◌+◌, ◌^◌, ℕ, length, OnOk, IfOk};
 ghost use Rattle.pci_json.specs.Lines.{lines_of};
 ghost use Rattle.pci_json.specs.Members.{with_members, with_items};
-ghost use Rattle.pci_json.specs.Listings.{free_members, sits_members, outer_members, inside_members, root_members};
+ghost use Rattle.pci_json.specs.Listings.{free_members, end_place, sits_members, outer_members, inside_members, root_members};
 ghost use Rattle.pci_json.specs.Documents.{place_of, places_of, root_of, buses_of, behind_heading, aside_of, is_heading};
 
 use crate::lines::{behind, content, cut, depth_of, is_inner, is_word, split_word, word};
 use crate::listing::push_kind;
-use crate::members::{push_isa, push_range};
+use crate::members::{push_end, push_range};
 use crate::output::Output;
 use std::alloc::{AllocError, Allocator};
 
@@ -19,6 +19,14 @@ fn push_free<A: Allocator>(out: &mut Output<A>, line: &str) -> Result<(), AllocE
     push_range(out, word(line, 0))
 }
 
+/// Where the end of a region's line stands, of what stands there from the part on.
+fn end_place(part: &str) -> usize
+    ensures value { result ≡ end_place part.now }
+    ensures small { result < 5 }
+{
+    if is_word(part, 1, "pref") { 4 } else { 3 }
+}
+
 /// The members of a region, but what is inside it, of its line and what stands there from the part on.
 fn push_sits<A: Allocator>(out: &mut Output<A>, line: &str, part: &str) -> Result<(), AllocError>
     ensures { OnOk result (out.new ≡ with_members out.old (sits_members line.now part.now)) }
@@ -27,7 +35,7 @@ fn push_sits<A: Allocator>(out: &mut Output<A>, line: &str, part: &str) -> Resul
     out.text("part", name)?;
     push_kind(out, rest)?;
     push_range(out, word(line, 0))?;
-    push_isa(out, line, 5)
+    push_end(out, part, 0, end_place(part))
 }
 
 /// The members of a line of a map, but what is inside it.

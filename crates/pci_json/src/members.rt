@@ -1,13 +1,37 @@
 //! Members that several kinds of lines have.
 ghost use Rattle.std.specs.Prelude.{◌≡◌, ◌<◌, ◌++◌, OnOk};
 ghost use Rattle.json.specs.Tree.{json_tokens};
-ghost use Rattle.pci_json.specs.Members.{with_members, with_items, first_of, last_of, slot_and_register, isa_member, range_members, range_object, opening, ranges_of};
+ghost use Rattle.pci_json.specs.Members.{with_members, with_items, first_of, last_of, is_line, line_number, register_or_line, slot_and_register, isa_member, name_member, is_told, end_member, range_members, range_object, opening, ranges_of};
 
 use crate::lines::{behind, cut, is_word, split_at_first, split_word, value, word};
 use crate::output::Output;
 use std::alloc::{AllocError, Allocator};
 
-/// The slot that is this word, and the register behind it.
+/// Whether a region's name is the number of a line, behind a plus.
+fn is_line(name: &str) -> bool
+    ensures { result ≡ is_line name.now }
+{
+    !name.is_empty() && name.as_bytes()[0] == b'+'
+}
+
+/// The number of a line that stands behind a plus.
+fn line_number(name: &str) -> u64
+    ensures { result ≡ line_number name.now }
+{
+    value(split_at_first(name, b'+').1, 10)
+}
+
+/// The register of a region, or the line of a told range.
+fn push_register_or_line<A: Allocator>(out: &mut Output<A>, name: &str) -> Result<(), AllocError>
+    ensures { OnOk result (out.new ≡ with_members out.old (register_or_line name.now)) }
+{
+    if is_line(name) {
+        return out.number("line", line_number(name));
+    }
+    out.hex("register", name)
+}
+
+/// The slot that is this word, and the register or the line behind it.
 pub fn push_slot_and_register<A: Allocator>(
     out: &mut Output<A>,
     line: &str,
@@ -18,7 +42,7 @@ pub fn push_slot_and_register<A: Allocator>(
 {
     let (slot, rest) = split_word(behind(line, n));
     out.text("slot", slot)?;
-    out.hex("register", word(rest, 0))
+    push_register_or_line(out, word(rest, 0))
 }
 
 /// That ISA Enable cuts a window, where this word of its line says so.
@@ -30,6 +54,41 @@ pub fn push_isa<A: Allocator>(out: &mut Output<A>, line: &str, n: usize) -> Resu
         return out.boolean("isa", true);
     }
     Ok(())
+}
+
+/// The name of a told range, where its line has this word.
+fn push_name<A: Allocator>(out: &mut Output<A>, line: &str, n: usize) -> Result<(), AllocError>
+    requires { n < 1000 }
+    ensures { OnOk result (out.new ≡ with_members out.old (name_member n line.now)) }
+{
+    if is_word(line, n, "") {
+        return Ok(());
+    }
+    out.text("name", word(line, n))
+}
+
+/// Whether this word is the part of a told range.
+fn is_told(line: &str, n: usize) -> bool
+    ensures { result ≡ is_told n line.now }
+{
+    is_word(line, n, "told") || is_word(line, n, "held")
+}
+
+/// What stands at the end of a region's line, of the places of its part and of its end.
+pub fn push_end<A: Allocator>(
+    out: &mut Output<A>,
+    line: &str,
+    part: usize,
+    n: usize,
+) -> Result<(), AllocError>
+    requires { n < 1000 }
+    ensures { OnOk result (out.new ≡ with_members out.old (end_member part n line.now)) }
+{
+    if is_told(line, part) {
+        push_name(out, line, n)
+    } else {
+        push_isa(out, line, n)
+    }
 }
 
 /// What stands before and behind the dash of a range.

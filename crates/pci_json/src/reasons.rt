@@ -6,7 +6,9 @@ ghost use Rattle.pci_json.specs.Members.{with_members, with_items, object_of, ar
 ghost use Rattle.pci_json.specs.Reasons.{range_place, part_members, region_members, each_members, legacy_members, claim_members, prefetchable_window, legacy_place, legacy_word, way_members, bridge_members, host_ranges, fits_value};
 
 use crate::lines::{behind, is_word, word};
-use crate::members::{push_isa, push_opening, push_range, push_ranges, push_slot_and_register};
+use crate::members::{
+    push_end, push_isa, push_opening, push_range, push_ranges, push_slot_and_register,
+};
 use crate::output::Output;
 use std::alloc::{AllocError, Allocator};
 
@@ -46,7 +48,7 @@ pub fn push_region<A: Allocator>(
     out.boolean("prefetchable", is_word(line, n + 4, "pref"))?;
     let place = range_place(line, n);
     push_range(out, word(line, place))?;
-    push_isa(out, line, place + 2)
+    push_end(out, line, n + 2, place + 2)
 }
 
 /// That each KB has these ports.

@@ -7,7 +7,7 @@ use Rattle.pci_json.proofs.members.push_slot_and_register.Goals as goal
 pub returns : goal.returns
 returns g c =
     let line = c.args.line.now in
-    on_ok_weaker c.hex.result
+    on_ok_weaker c.push_register_or_line.result
     (λ e. cc (
       e,
       c.behind.ensures,
@@ -19,4 +19,4 @@ returns g c =
       c.in_ok-text.ensures,
       c.word.ensures,
     ))
-    c.hex.ensures
+    c.push_register_or_line.ensures
