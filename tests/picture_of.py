@@ -30,6 +30,7 @@ stroke-dasharray:4 2}.good{fill:#2e7d32}.tick{stroke:#999}.gap{stroke:#bbb;strok
 '''
 HATCH = ('<defs><pattern id="hatch" width="6" height="6" patternUnits="userSpaceOnUse" patternTransform="rotate(45)">'
          '<path d="M0 0V6" stroke="#b00020" stroke-width="2" stroke-opacity="0.45"/></pattern></defs>')
+COLOURS = '<style>.told:not(.lost){fill:#f4e9a8}.held:not(.lost){fill:#d8cfc4}</style>\n'
 SLOT = r'[0-9a-f]{2}:[0-9a-f]{2}\.[0-9a-f]'
 
 
@@ -37,10 +38,15 @@ class Region:
     """A line of a map."""
     def __init__(self, text):
         self.text = text.strip()
-        m = re.fullmatch(r'([0-9a-f]+)-([0-9a-f]+) (\S+) (.*?)(?: (..:..\..) (..)(?: isa)?)?', self.text)
+        m = re.fullmatch(r'([0-9a-f]+)-([0-9a-f]+) (\S+) (.*?)(?: (..:..\..) ([0-9a-f]{2}|\+\d+)(?: (\S+))?)?', self.text)
         self.digits, self.first, self.last, self.size, self.part = len(m[1]), int(m[1], 16), int(m[2], 16), m[3], m[4]
         self.slot, self.register, self.inside = m[5], m[6], []
         self.key = (m[5], m[6])
+        self.css = {'bar pref': 'pref', 'told pref': 'told'}.get(self.part, self.part)
+        self.is_told = self.css in ('told', 'held')
+        self.name = m[7] if self.is_told else None
+        # the told ranges of a function come behind its registers
+        self.place = (self.is_told, int(m[6][1:]) if self.is_told else int(m[6] or 'ff', 16))
 
 
 class Function:
@@ -152,7 +158,7 @@ class Heights:
 def lanes(regions):
     """Regions with their lane and how many lanes their group has."""
     group, until, out = [], -1, []
-    for r in sorted(regions, key=lambda r: (r.first, r.slot or '~', r.register or '~')):
+    for r in sorted(regions, key=lambda r: (r.first, r.slot or '~', r.place)):
         if r.first > until:
             out += [(s, lane, max(l for _, l in group) + 1) for s, lane in group]
             group = []
@@ -213,6 +219,12 @@ class Picture:
     def name(self, slot):
         return self.functions[slot].name() if slot in self.functions else ''
 
+    def called(self, r):
+        """What a box says of a region behind its size."""
+        if r.name:
+            return ', ' + r.name
+        return '' if r.part == 'held' and r.slot not in self.functions else ', ' + self.name(r.slot)
+
     def buses(self, slot):
         return self.functions[slot].buses() if slot in self.functions else 'no bus'
 
@@ -234,7 +246,7 @@ class Picture:
             a, b = left + (right - left) * lane // of, left + (right - left) * (lane + 1) // of
             y, past = heights.top[r.first], heights.top[r.last + 1]
             numbers = self.numbers(r)
-            css = 'pref' if r.part == 'bar pref' else r.part
+            css = r.css
             css += ' clash' if {'61', '62'} & set(numbers) else ''
             css += ' lost' if is_lost or {'60', '63'} & set(numbers) else ''
             self.box(a, y, max(1, b - a - 2), past - y - 1, css, self.title(r),
@@ -250,7 +262,7 @@ class Picture:
                     self.text(a + 5, y + 23, 'to ' + self.buses(r.slot), 'quiet', room)
             else:
                 marks = ' '.join(numbers) + ': ' if numbers else ''
-                self.text(a + 5, y + 11, f'{marks}{r.slot} {r.register}, {size_of(r.size)}, {self.name(r.slot)}',
+                self.text(a + 5, y + 11, f'{marks}{r.slot} {r.register}, {size_of(r.size)}{self.called(r)}',
                           'alarm' if numbers else '', room)
             self.places.setdefault(r.key, []).append((a, max(0, b - 2)))
             if r.inside:
@@ -347,13 +359,18 @@ class Picture:
         faults = f'{len(self.faults)} fault{"s" * (len(self.faults) > 1)}' if self.faults else 'no fault'
         return f'{len(self.functions)} functions, {regions} regions; {faults}. Heights grow with the logarithm of sizes.'
 
+    def has_told(self):
+        parts = [s[2] for s in self.sections] + list(self.lists.values())
+        return any(r.is_told for part in parts for r in each(part))
+
     def legend(self, y):
         x = 16
         for css, title, words in (
                 ('window', 'window', 'window'), ('bar', 'BAR', 'BAR'), ('pref', 'prefetchable', 'prefetchable'),
                 ('rom', 'ROM', 'ROM'), ('free', 'free', 'free'), ('bar clash', 'clash', 'clash'),
                 ('bar lost', 'not reached', 'not reached'), ('off', 'off', 'off'),
-                ('shared', 'shared', 'shared addresses'), ('fits', 'fits', 'where it would fit')):
+                ('shared', 'shared', 'shared addresses'), ('fits', 'fits', 'where it would fit'),
+                *((('told', 'told', 'told'), ('held', 'held', 'held')) if self.has_told() else ())):
             self.box(x, y - 9, 16, 11, css, title)
             self.text(x + 21, y, words)
             last, x = x, x + 34 + 7 * len(words)
@@ -379,7 +396,7 @@ class Picture:
         y += 22
         for r in self.lists['off']:
             self.box(x + AXIS, y, width, LINE - 1, 'off', self.title(r))
-            words = f'{r.slot} {r.register}, {size_of(r.size)}, {r.text.split()[0]}, {self.name(r.slot)}'
+            words = f'{r.slot} {r.register}, {size_of(r.size)}, {r.text.split()[0]}{self.called(r)}'
             self.text(x + AXIS + 5, y + 11, words, 'quiet', width)
             y += LINE
         return y
@@ -406,7 +423,8 @@ class Picture:
         wide, high = max(x + AXIS + width + 16, legend + 140), max(tree_end, y) + 16
         head = (f'<svg xmlns="http://www.w3.org/2000/svg" width="{wide}" height="{high}" viewBox="0 0 {wide} {high}">\n'
                 f'<style>{STYLE}</style>\n{HATCH}\n'
-                f'<rect width="{wide}" height="{high}" style="fill:#fff;stroke:none"/>\n')
+                f'<rect width="{wide}" height="{high}" style="fill:#fff;stroke:none"/>\n'
+                + (COLOURS if self.has_told() else ''))
         return head + '\n'.join(self.boxes + self.words) + '\n</svg>\n'
 
 

@@ -1,5 +1,5 @@
 -- What is added to a canvas, one element behind the other.
-use Rattle.std.proofs.Common.{◌≡◌, ℕ, List, [], ◌∷◌, ◌++◌, refl, sym, ap, subst, ◌∙◌, Result, Ok, Err, IfOk}
+use Rattle.std.proofs.Common.{◌≡◌, ℕ, Bool, List, [], ◌∷◌, ◌++◌, refl, sym, ap, subst, ◌∙◌, Result, Ok, Err, IfOk}
 use Rattle.std.proofs.lemmas.List.{append_assoc, append-nil}
 use Rattle.std.proofs.lemmas.List.Concat.{flat_map-append}
 use Rattle.std.specs.List.{flat_map}
@@ -147,11 +147,12 @@ pub none_titles : (text : List ℕ) → text ≡ [] → HasTitles [] text
 none_titles text none = subst (HasTitles []) (sym none) no_element
 
 -- the picture of what is drawn
-pub drawn_of : {T E : Type 0} (result : Result T E) (bytes : T → List ℕ) (boxes words : List ℕ) (width height : ℕ)
+pub drawn_of : {T E : Type 0} (result : Result T E) (bytes : T → List ℕ) (is_told : Bool) (boxes words : List ℕ) (width height : ℕ)
     (lines : List (List ℕ)) → AreDrawn lines boxes words
-    → IfOk result (λ t. bytes t ≡ picture_text boxes words width height) → IfOk result (λ t. IsDrawnOf lines (bytes t))
-drawn_of (Err e) bytes boxes words width height lines drawn is = tt
-drawn_of (Ok t) bytes boxes words width height lines drawn is = record {
+    → IfOk result (λ t. bytes t ≡ picture_text is_told boxes words width height) → IfOk result (λ t. IsDrawnOf lines (bytes t))
+drawn_of (Err e) bytes is_told boxes words width height lines drawn is = tt
+drawn_of (Ok t) bytes is_told boxes words width height lines drawn is = record {
+  is_told = is_told;
   boxes = boxes;
   words = words;
   width = width;

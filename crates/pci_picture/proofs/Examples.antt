@@ -1,6 +1,6 @@
 -- Lines of maps, and titles.
 use Rattle.std.proofs.Common.{◌≡◌, [], ◌∷◌, ◌++◌, codes, refl}
-use Rattle.pci_picture.specs.Lines.{region_lines, is_region_line, is_range, is_part, is_slot, is_register, words_of}
+use Rattle.pci_picture.specs.Lines.{region_lines, is_region_line, is_range, is_part, is_slot, is_register, is_told_number, words_of}
 use Rattle.pci_picture.specs.Boxes.{titled_line}
 
 -- a map of a heading and a line
@@ -14,6 +14,20 @@ inner_regions : region_lines (codes "    fe800000-fe8fffff 1M bar pref 43:00.0 2
     ≡ codes "fe800000-fe8fffff 1M bar pref 43:00.0 20" ∷ codes "fe900000-fe9fffff 1M free" ∷ []
 unfolding is_region_line is_range is_part is_slot is_register words_of
 inner_regions = refl
+
+-- ranges that are told, with a name and without one
+told_regions : region_lines (codes "    e0000000-e001ffff 128K told 01:00.0 +2 vf0" ++ 10 ∷ (codes "    e0020000-e002ffff 64K told pref 01:00.0 +4096"
+    ++ 10 ∷ codes "  fd000000-fdffffff 16M held 00:1f.1 +10 p2sb"))
+    ≡ codes "e0000000-e001ffff 128K told 01:00.0 +2 vf0" ∷ codes "e0020000-e002ffff 64K told pref 01:00.0 +4096"
+    ∷ codes "fd000000-fdffffff 16M held 00:1f.1 +10 p2sb" ∷ []
+unfolding is_region_line is_range is_part is_slot is_register is_told_number words_of
+told_regions = refl
+
+-- no number, 0, a zero before it, one too many, a register, and a held range that is prefetchable
+untold_regions : region_lines (codes "  d040-d05f 32 told 00:1f.2 +" ++ 10 ∷ (codes "  d040-d05f 32 told 00:1f.2 +0" ++ 10 ∷ (codes "  d040-d05f 32 told 00:1f.2 +01"
+    ++ 10 ∷ (codes "  d040-d05f 32 told 00:1f.2 +4097" ++ 10 ∷ (codes "  d040-d05f 32 told 00:1f.2 20" ++ 10 ∷ codes "  d040-d05f 32 held pref 00:1f.2 +1"))))) ≡ []
+unfolding is_region_line is_range is_part is_slot is_register is_told_number words_of
+untold_regions = refl
 
 -- one blank, a range whose ends fall, a word that is no part, and a slot of other digits
 no_region : region_lines (codes " d040-d05f 32 free" ++ 10 ∷ (codes "  d05f-d040 32 free" ++ 10 ∷ (codes "  d040-d05f 32 used"

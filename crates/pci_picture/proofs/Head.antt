@@ -1,11 +1,11 @@
 -- A picture is one element that is closed.
-use Rattle.std.proofs.Common.{◌≡◌, ℕ, Bool, IsTrue, List, [], ◌∷◌, ◌++◌, ◌<◌, ◌^◌, refl, subst, sym, codes}
+use Rattle.std.proofs.Common.{◌≡◌, ℕ, Bool, true, false, IsTrue, List, [], ◌∷◌, ◌++◌, ◌<◌, ◌^◌, refl, subst, sym, codes}
 use Rattle.std.proofs.lemmas.Bool.{and_parts}
 use Rattle.std.specs.Fmt.{decimal}
 use Rattle.std.specs.List.{list_all}
-use Rattle.pci_picture.specs.Xml.{is_plain, is_unquoted, IsName, AreCharacters, no_character, character, AreAttributes, no_attribute, attribute, IsContent, IsDocument}
-use Rattle.pci_picture.specs.Whole.{hatch_text, pair_text, view_value, view_box, svg_attributes, ground_text, style_text, line_text, head_text, picture_text}
-use Rattle.pci_picture.specs.declared.style.TheConstants.{STYLE, HATCH}
+use Rattle.pci_picture.specs.Xml.{is_plain, is_unquoted, IsName, AreCharacters, no_character, character, AreAttributes, no_attribute, attribute, IsContent, nothing, IsDocument, element}
+use Rattle.pci_picture.specs.Whole.{hatch_text, pair_text, view_value, view_box, svg_attributes, ground_text, style_text, line_text, head_text, colours_text, picture_text}
+use Rattle.pci_picture.specs.declared.style.TheConstants.{STYLE, HATCH, COLOURS}
 use Rattle.pci_picture.proofs.Contents.{characters_append, attributes_append, content_append, content_of, element_content, attribute_lawful}
 use Rattle.pci_picture.proofs.Escapes.{decimal_characters}
 use Rattle.pci_picture.proofs.Drawn.{number_lawful, empty_content, feed}
@@ -75,20 +75,35 @@ style_content =
     (element_content (codes "style") [] STYLE.now refl no_attribute (content_of STYLE.now (all_characters is_plain STYLE.now refl)))
     feed)
 
+-- the style sheet of told ranges
+abbrev colours_sheet : List ℕ
+colours_sheet = codes ".told:not(.lost){fill:#f4e9a8}.held:not(.lost){fill:#d8cfc4}"
+
+colours_are : COLOURS.now ≡ element (codes "style") [] colours_sheet ++ 10 ∷ []
+colours_are = refl
+
+colours_content : (is_told : Bool) → IsContent (colours_text is_told)
+colours_content true =
+    subst IsContent (sym colours_are)
+    (content_append _ _
+    (element_content (codes "style") [] colours_sheet refl no_attribute (content_of colours_sheet (all_characters is_plain colours_sheet refl)))
+    feed)
+colours_content false = nothing
+
 head_content : (width height : ℕ) → width < 2 ^ 64 → height < 2 ^ 64 → IsContent (head_text STYLE.now HATCH.now width height)
 unfolding head_text
 head_content width height sw sh =
     content_append _ _ style_content
     (content_append _ _ hatch_line (content_append _ _ (ground_content width height sw sh) feed))
 
-pub picture_document : (boxes words : List ℕ) (width height : ℕ) → width < 2 ^ 64 → height < 2 ^ 64 → IsContent boxes → IsContent words
-    → IsDocument (picture_text boxes words width height)
-picture_document boxes words width height sw sh b w = record {
+pub picture_document : (is_told : Bool) (boxes words : List ℕ) (width height : ℕ) → width < 2 ^ 64 → height < 2 ^ 64 → IsContent boxes → IsContent words
+    → IsDocument (picture_text is_told boxes words width height)
+picture_document is_told boxes words width height sw sh b w = record {
   name = codes "svg";
   attributes = svg_attributes width height;
-  content = head_text STYLE.now HATCH.now width height ++ (boxes ++ words);
+  content = head_text STYLE.now HATCH.now width height ++ (colours_text is_told ++ (boxes ++ words));
   named = refl;
   lawful = svg_lawful width height sw sh;
-  closed = content_append _ _ (head_content width height sw sh) (content_append boxes words b w);
+  closed = content_append _ _ (head_content width height sw sh) (content_append _ _ (colours_content is_told) (content_append boxes words b w));
   says = refl;
 }

@@ -26,10 +26,10 @@ made old new e drawn empty is =
     subst Q (sym is) (subst (λ (t : List ℕ). Q (t ++ e)) (sym empty) ∣ drawn ∣₁)
 
 -- the whole
-pub finished : {T E : Type 0} (result : Result T E) (bytes : T → List ℕ) (boxes words : List ℕ) (width height : ℕ)
+pub finished : {T E : Type 0} (result : Result T E) (bytes : T → List ℕ) (is_told : Bool) (boxes words : List ℕ) (width height : ℕ)
     → width < 2 ^ 64 → height < 2 ^ 64 → ∥ IsContent boxes ∥₁ → ∥ IsContent words ∥₁
-    → IfOk result (λ t. bytes t ≡ picture_text boxes words width height) → IfOk result (λ t. IsPictureText (bytes t))
-finished (Err e) bytes boxes words width height sw sh b w is = tt
-finished (Ok t) bytes boxes words width height sw sh b w is =
+    → IfOk result (λ t. bytes t ≡ picture_text is_told boxes words width height) → IfOk result (λ t. IsPictureText (bytes t))
+finished (Err e) bytes is_told boxes words width height sw sh b w is = tt
+finished (Ok t) bytes is_told boxes words width height sw sh b w is =
     let Q : List ℕ → Type 0 = λ v. ∥ IsDocument v ∥₁ in
-    subst Q (sym is) (∥∥₁_elim b ∥∥₁_prop (λ hb. ∥∥₁_map w (λ hw. picture_document boxes words width height sw sh hb hw)))
+    subst Q (sym is) (∥∥₁_elim b ∥∥₁_prop (λ hb. ∥∥₁_map w (λ hw. picture_document is_told boxes words width height sw sh hb hw)))

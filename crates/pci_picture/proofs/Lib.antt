@@ -11,5 +11,6 @@ pub mod Titles
 pub mod Taken
 pub mod Sections
 pub mod HexDigits
+pub mod DecimalDigits
 pub mod Ranges
 pub mod Examples

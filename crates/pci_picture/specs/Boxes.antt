@@ -1,5 +1,5 @@
 -- Which boxes a picture has, by their titles.
-use Rattle.std.specs.Prelude.{◌≡◌, ℕ, List, [], ◌∷◌, ◌++◌, if◌then◌else◌}
+use Rattle.std.specs.Prelude.{◌≡◌, ℕ, Bool, List, [], ◌∷◌, ◌++◌, if◌then◌else◌}
 use Rattle.std.specs.List.{flat_map}
 use Rattle.std.specs.List.Sorted.{IsPermutation}
 use Rattle.pci_picture.specs.Elements.{box_text, words_text, axis_text, tick_text, gap_text}
@@ -42,12 +42,13 @@ pub record AreDrawn (lines : List (List ℕ)) (boxes words : List ℕ) : Type 0 
 
 -- a picture with these lines
 pub record IsDrawnOf (lines : List (List ℕ)) (text : List ℕ) : Type 0 where
+  pub is_told : Bool
   pub boxes : List ℕ
   pub words : List ℕ
   pub width : ℕ
   pub height : ℕ
   pub drawn : HasLines lines (boxes ++ words)
-  pub says : text ≡ picture_text boxes words width height
+  pub says : text ≡ picture_text is_told boxes words width height
 
 -- a picture of a map: each line that is a region is the first line of the title of exactly one box, as often as it stands
 -- in the map, and no other title begins with such a line

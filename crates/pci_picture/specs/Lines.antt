@@ -83,16 +83,51 @@ is_slot word =
 abbrev pub names_register : List (List ℕ) → ℕ → Bool
 names_register words at = is_slot (nth_word words at) && is_register (nth_word words (at + 1))
 
--- the part that words name from the third one on: `bar S r`, `bar pref S r`, `rom S r`, `window S r` or `free`
+-- ---- ranges that are told beside registers
+
+-- 0 to 9
+abbrev pub is_decimal : ℕ → Bool
+is_decimal b = nat_le 48 b && nat_le b 57
+
+abbrev pub decimal_digit_value : ℕ → ℕ
+decimal_digit_value b = b - 48
+
+abbrev pub decimal_digit_of : ℕ → Option ℕ
+decimal_digit_of b = if is_decimal b then Some (decimal_digit_value b) else None
+
+abbrev pub next_decimal : ℕ → ℕ → ℕ
+next_decimal n b = n * 10 + decimal_digit_value b
+
+abbrev pub decimal_value : List ℕ → ℕ
+decimal_value digits = fold next_decimal 0 digits
+
+abbrev pub decimal_number : List ℕ → Option ℕ
+decimal_number digits = if list_all is_decimal digits then Some (decimal_value digits) else None
+
+-- `+n`, where n is a decimal number from 1 to 4096 with no zero before it
+unfoldable pub is_told_number : List ℕ → Bool
+is_told_number word =
+    nat_le 2 (length word) && nat_le (length word) 5 && (slice_index word 0 == 43) && not (slice_index word 1 == 48)
+    && list_all is_decimal (drop 1 word) && nat_le (decimal_value (drop 1 word)) 4096
+
+abbrev pub names_told : List (List ℕ) → ℕ → Bool
+names_told words at = is_slot (nth_word words at) && is_told_number (nth_word words (at + 1))
+
+-- the part that words name from the third one on: `bar S r`, `bar pref S r`, `rom S r`, `window S r`, `told S +n`,
+-- `told pref S +n`, `held S +n` or `free`
 unfoldable pub is_part : List (List ℕ) → Bool
 is_part words =
     if says (nth_word words 2) (codes "bar")
     then names_register words (if says (nth_word words 3) (codes "pref") then 4 else 3)
     else (if says (nth_word words 2) (codes "rom") || says (nth_word words 2) (codes "window")
     then names_register words 3
-    else says (nth_word words 2) (codes "free"))
+    else (if says (nth_word words 2) (codes "told")
+    then names_told words (if says (nth_word words 3) (codes "pref") then 4 else 3)
+    else (if says (nth_word words 2) (codes "held")
+    then names_told words 3
+    else says (nth_word words 2) (codes "free"))))
 
--- a line `F-L N PART S r` or `F-L N free`, without the blanks before it
+-- a line `F-L N PART S r`, `F-L N PART S +n` or `F-L N free`, without the blanks before it
 unfoldable pub is_region_line : List ℕ → Bool
 is_region_line line = is_range (nth_word (words_of line) 0) && is_part (words_of line)
 

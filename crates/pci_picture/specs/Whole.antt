@@ -1,9 +1,9 @@
 -- The whole text of a picture.
-use Rattle.std.specs.Prelude.{ℕ, List, [], ◌∷◌, ◌++◌, codes}
+use Rattle.std.specs.Prelude.{ℕ, Bool, List, [], ◌∷◌, ◌++◌, codes, if◌then◌else◌}
 use Rattle.std.specs.Fmt.{decimal}
 use Rattle.pci_picture.specs.Xml.{attribute, element, empty_element, IsDocument}
 use Rattle.pci_picture.specs.Elements.{number_attribute}
-use Rattle.pci_picture.specs.declared.style.TheConstants.{STYLE, HATCH}
+use Rattle.pci_picture.specs.declared.style.TheConstants.{STYLE, HATCH, COLOURS}
 
 -- the hatching of shared addresses
 unfoldable pub hatch_text : List ℕ
@@ -56,10 +56,15 @@ line_text text = text ++ 10 ∷ []
 unfoldable pub head_text : List ℕ → List ℕ → ℕ → ℕ → List ℕ
 head_text style hatch width height = style_text style ++ (line_text hatch ++ (ground_text width height ++ 10 ∷ []))
 
--- the picture of some boxes and words
-abbrev pub picture_text : List ℕ → List ℕ → ℕ → ℕ → List ℕ
-picture_text boxes words width height =
-    element (codes "svg") (svg_attributes width height) (head_text STYLE.now HATCH.now width height ++ (boxes ++ words))
+-- the colours of told ranges, where there are any
+abbrev pub colours_text : Bool → List ℕ
+colours_text is_told = if is_told then COLOURS.now else []
+
+-- the picture of some boxes and words, which has told ranges or none
+abbrev pub picture_text : Bool → List ℕ → List ℕ → ℕ → ℕ → List ℕ
+picture_text is_told boxes words width height =
+    element (codes "svg") (svg_attributes width height)
+    (head_text STYLE.now HATCH.now width height ++ (colours_text is_told ++ (boxes ++ words)))
     ++ 10 ∷ []
 
 -- a picture is one element, with every text in it escaped and every element in it closed

@@ -9,7 +9,7 @@ use super::faults::{Fault, Faults};
 use super::function::{Buses, Function, find, give_titles, read_functions};
 use super::map::Map;
 use super::memory::OutOfMemory;
-use super::reading::bus_of;
+use super::reading::{bus_of, slot_of};
 use super::region::{Part, Region};
 use super::words::Words;
 use std::alloc::Allocator;
@@ -57,7 +57,7 @@ impl<'a, A: Allocator + Copy> Board<'a, A> {
         if region.part == Part::Free {
             return None;
         }
-        find(self.functions.as_slice(), region.key >> 8)
+        find(self.functions.as_slice(), slot_of(region.key))
     }
 
     /// The buses behind a window.
@@ -65,6 +65,21 @@ impl<'a, A: Allocator + Copy> Board<'a, A> {
         match self.function(region) {
             Some(function) => function.buses,
             None => None,
+        }
+    }
+
+    /// Appends a comma and what a region is called: the name that is told of it, else that of its function.
+    pub fn put_called(&self, words: &mut Words<A>, region: &Region<'_>) -> Result<(), OutOfMemory> {
+        let function = self.function(region);
+        // somebody may hold a range of a function that isn't listed
+        if region.part == Part::Held && region.name.is_empty() && function.is_none() {
+            return Ok(());
+        }
+        words.put(b", ")?;
+        if region.name.is_empty() {
+            words.put_name(function)
+        } else {
+            words.put(region.name)
         }
     }
 

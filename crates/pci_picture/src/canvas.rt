@@ -7,7 +7,7 @@ ghost use Rattle.pci_picture.specs.Boxes.{titled_line, IsDrawnOf};
 
 use super::elements::{Frame, push_axis, push_box, push_gap, push_tick, push_words};
 use super::memory::OutOfMemory;
-use super::style::{HATCH, STYLE, push_head, push_start};
+use super::style::{HATCH, STYLE, colours_of, push_head, push_start};
 use super::words::Words;
 use std::alloc::Allocator;
 
@@ -159,13 +159,20 @@ impl<A: Allocator + Copy> Canvas<A> {
     }
 
     /// The text of what was drawn.
-    fn text(&self, alloc: A, width: u64, height: u64) -> Result<String<A>, OutOfMemory>
+    fn text(
+        &self,
+        alloc: A,
+        is_told: bool,
+        width: u64,
+        height: u64,
+    ) -> Result<String<A>, OutOfMemory>
         ensures { IfOk result (λ text. string_bytes text
-            ≡ picture_text (string_bytes self.now.boxes) (string_bytes self.now.words) width height) }
+            ≡ picture_text is_told (string_bytes self.now.boxes) (string_bytes self.now.words) width height) }
     {
         let mut text = String::new(alloc);
         push_start(&mut text, width, height)?;
         push_head(&mut text, STYLE, HATCH, width, height)?;
+        text.push_str(colours_of(is_told))?;
         text.push_str(self.boxes.as_str())?;
         text.push_str(self.words.as_str())?;
         text.push_str("</svg>\n")?;
@@ -173,11 +180,17 @@ impl<A: Allocator + Copy> Canvas<A> {
     }
 
     /// The picture of what was drawn: one element of SVG, with every text in it escaped and every element in it closed.
-    pub fn finish(&self, alloc: A, width: u64, height: u64) -> Result<String<A>, OutOfMemory>
+    pub fn finish(
+        &self,
+        alloc: A,
+        is_told: bool,
+        width: u64,
+        height: u64,
+    ) -> Result<String<A>, OutOfMemory>
         ensures closed { IfOk result (λ text. IsPictureText (string_bytes text)) }
         ensures drawn { (lines : List (List ℕ)) → HasDrawn lines self.now
             → IfOk result (λ text. IsDrawnOf lines (string_bytes text)) }
     {
-        self.text(alloc, width, height)
+        self.text(alloc, is_told, width, height)
     }
 }

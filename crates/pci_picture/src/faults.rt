@@ -1,20 +1,20 @@
 //! The text of `faults --why`.
 
 use super::memory::OutOfMemory;
-use super::reading::{key_at, slot_number, stripped, word, word_count};
+use super::reading::{key_at, slot_number, slot_of, stripped, word, word_count};
 use std::alloc::Allocator;
 
 /// The regions that a fault is about.
 #[derive(Clone, Copy)]
 pub enum Keys {
     None,
-    One(u32),
-    Two(u32, u32),
+    One(u64),
+    Two(u64, u64),
 }
 
 impl Keys {
     /// The first of them.
-    pub fn first(self) -> Option<u32> {
+    pub fn first(self) -> Option<u64> {
         match self {
             Keys::None => None,
             Keys::One(key) | Keys::Two(key, _) => Some(key),
@@ -22,7 +22,7 @@ impl Keys {
     }
 
     /// The last of them, which a line `fits` is about.
-    pub fn last(self) -> Option<u32> {
+    pub fn last(self) -> Option<u64> {
         match self {
             Keys::None => None,
             Keys::One(key) | Keys::Two(_, key) => Some(key),
@@ -51,7 +51,7 @@ impl Fault {
 /// A region that a fault is about, and the index of the fault.
 #[derive(Clone, Copy)]
 pub struct Naming {
-    pub key: u32,
+    pub key: u64,
     pub fault: usize,
 }
 
@@ -154,10 +154,10 @@ impl<'a, A: Allocator + Copy> Faults<'a, A> {
             }
         }
         match keys {
-            Keys::One(key) => self.badge(key >> 8, number, false),
+            Keys::One(key) => self.badge(slot_of(key), number, false),
             Keys::Two(one, other) => {
-                self.badge(one >> 8, number, false)?;
-                self.badge(other >> 8, number, false)
+                self.badge(slot_of(one), number, false)?;
+                self.badge(slot_of(other), number, false)
             }
             Keys::None => match first_slot(line) {
                 Some(slot) => self.badge(slot, number, false),
@@ -219,7 +219,7 @@ impl<'a, A: Allocator + Copy> Faults<'a, A> {
     }
 
     /// The faults that are about a region.
-    pub fn of(&self, key: u32) -> &[Naming] {
+    pub fn of(&self, key: u64) -> &[Naming] {
         let begin = self.namings.partition_point(|naming| naming.key < key);
         let end = self.namings.partition_point(|naming| naming.key <= key);
         self.namings.as_slice().get(begin..end).unwrap_or(&[])
@@ -233,7 +233,7 @@ impl<'a, A: Allocator + Copy> Faults<'a, A> {
     }
 
     /// Whether a fault about a region has one of two numbers.
-    pub fn has(&self, key: u32, one: u8, other: u8) -> bool {
+    pub fn has(&self, key: u64, one: u8, other: u8) -> bool {
         self.of(key)
             .iter()
             .filter_map(|naming| self.faults.get(naming.fault))

@@ -22,9 +22,12 @@ enum Mark {
     Off,
     Shared,
     Fits,
+    Told,
+    Held,
 }
 
-static LEGEND: [Mark; 10] = [
+/// The last two are for told ranges.
+static LEGEND: [Mark; 12] = [
     Mark::Window,
     Mark::Bar,
     Mark::Prefetchable,
@@ -35,6 +38,8 @@ static LEGEND: [Mark; 10] = [
     Mark::Off,
     Mark::Shared,
     Mark::Fits,
+    Mark::Told,
+    Mark::Held,
 ];
 
 impl Mark {
@@ -51,6 +56,8 @@ impl Mark {
             Mark::Off => "off",
             Mark::Shared => "shared",
             Mark::Fits => "fits",
+            Mark::Told => "told",
+            Mark::Held => "held",
         }
     }
 
@@ -71,6 +78,8 @@ impl Mark {
             Mark::Off => "off",
             Mark::Shared => "shared",
             Mark::Fits => "fits",
+            Mark::Told => "told",
+            Mark::Held => "held",
         }
     }
 
@@ -87,6 +96,8 @@ impl Mark {
             Mark::Off => "off",
             Mark::Shared => "shared addresses",
             Mark::Fits => "where it would fit",
+            Mark::Told => "told",
+            Mark::Held => "held",
         }
     }
 }
@@ -122,13 +133,19 @@ fn draw_entry<A: Allocator + Copy>(
     canvas.add_words(label, mark.words().as_bytes())
 }
 
-/// Draws the legend. Its answer is where its last entry begins from the left.
-pub fn draw_legend<A: Allocator + Copy>(canvas: &mut Canvas<A>, y: u64) -> Result<u64, OutOfMemory>
+/// Draws the legend, where told ranges have entries only if there are any. Its answer is where its last entry begins
+/// from the left.
+pub fn draw_legend<A: Allocator + Copy>(
+    canvas: &mut Canvas<A>,
+    is_told: bool,
+    y: u64,
+) -> Result<u64, OutOfMemory>
     ensures { IfOk result (λ _. Adds [] canvas.old canvas.new) }
 {
     let mut x = LEFT;
     let mut last = LEFT;
-    for mark in &LEGEND {
+    let marks = if is_told { &LEGEND[..] } else { &LEGEND[..10] };
+    for mark in marks {
         draw_entry(canvas, *mark, x, y)?;
         last = x;
         let room = (mark.words().len() as u64).saturating_mul(7);

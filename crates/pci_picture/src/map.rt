@@ -150,6 +150,13 @@ impl<'a, A: Allocator + Copy> Map<'a, A> {
             .count()
     }
 
+    /// Whether a line is of a told range.
+    pub fn has_told(&self) -> bool {
+        let mut regions = self.lines.iter().map(|line| &line.region);
+        regions.any(|region| region.is_told_range())
+            || self.off.iter().any(|region| region.is_told_range())
+    }
+
     /// Whether a line is out of place or not reached.
     pub fn has_lost(&self) -> bool {
         self.lines.iter().any(|line| line.section.is_none())

@@ -16,7 +16,7 @@ use super::legend::draw_legend;
 use super::map::section_number;
 use super::memory::OutOfMemory;
 use super::plan::{AXIS, LOST, Member, Site};
-use super::reading::{bus_of, word};
+use super::reading::{bus_of, slot_of, word};
 use super::region::Region;
 use super::section::draw_section;
 use super::tree::{LEFT, TREE, draw_tree};
@@ -143,7 +143,7 @@ fn members<'a, A: Allocator + Copy>(
     let mut members = Vec::new(alloc);
     for line in &board.map.lines {
         let region = line.region;
-        let root = roots[bus_of(region.key >> 8) as usize];
+        let root = roots[bus_of(slot_of(region.key)) as usize];
         let section = line
             .section
             .unwrap_or(section_number(root, region.digits == 8));
@@ -256,8 +256,7 @@ fn draw_off_row<A: Allocator + Copy>(
     words.put_region(region)?;
     words.put(b", ")?;
     words.put(word(region.line, 0))?;
-    words.put(b", ")?;
-    words.put_name(board.function(region))?;
+    board.put_called(&mut words, region)?;
     let label = Label {
         x: x.saturating_add(5),
         y: site.y.saturating_add(11),
@@ -289,7 +288,8 @@ pub fn picture_of<A: Allocator + Copy>(
     let width = column.saturating_mul(behind).saturating_add(LEAF + lost);
     let mut canvas = Canvas::new(alloc);
     write_counts(alloc, &mut canvas, &board)?;
-    let legend = draw_legend(&mut canvas, 66)?;
+    let is_told = board.map.has_told();
+    let legend = draw_legend(&mut canvas, is_told, 66)?;
     let top = write_faults(alloc, &mut canvas, &board, 72)?.saturating_add(22);
     let tree_end = draw_tree(alloc, &mut canvas, &board, top)?;
     let x = LEFT + TREE + 20;
@@ -305,5 +305,6 @@ pub fn picture_of<A: Allocator + Copy>(
     let right = (x + AXIS + MARGIN)
         .saturating_add(width)
         .max(legend.saturating_add(140));
-    canvas.finish(alloc, right, end.max(tree_end).saturating_add(MARGIN))
+    let bottom = end.max(tree_end).saturating_add(MARGIN);
+    canvas.finish(alloc, is_told, right, bottom)
 }

@@ -56,7 +56,7 @@ pub struct Member<'a> {
 impl Member<'_> {
     /// The sort key of a region in its section. Those below the heading stay in the order of the map. Those that are
     /// lost are sorted by address and key.
-    pub fn rank(&self) -> (u64, u32) {
+    pub fn rank(&self) -> (u64, u64) {
         if self.is_lost {
             (self.region.first, self.region.key)
         } else {
@@ -92,7 +92,7 @@ pub struct Placed<'a> {
 /// A key and the index of the region that has it.
 #[derive(Clone, Copy)]
 pub struct Index {
-    pub key: u32,
+    pub key: u64,
     pub index: usize,
 }
 
@@ -134,7 +134,7 @@ fn keys_of<A: Allocator + Copy>(
 }
 
 /// The indexes of the regions with a key.
-pub fn with_key(keys: &[Index], key: u32) -> &[Index] {
+pub fn with_key(keys: &[Index], key: u64) -> &[Index] {
     let begin = keys.partition_point(|one| one.key < key);
     let end = keys.partition_point(|one| one.key <= key);
     keys.get(begin..end).unwrap_or(&[])

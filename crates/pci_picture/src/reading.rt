@@ -1,6 +1,6 @@
 //! Words, numbers and slots of a line.
 ghost use Rattle.std.specs.Prelude.{◌≡◌, ◌≤◌, ◌<◌, length, is_some, IfSome};
-ghost use Rattle.pci_picture.specs.Lines.{indent_of, content_of, words_of, nth_word, digit_of, number_of, is_register, is_slot, is_range};
+ghost use Rattle.pci_picture.specs.Lines.{indent_of, content_of, words_of, nth_word, digit_of, number_of, decimal_digit_of, decimal_number, is_register, is_slot, is_range, is_told_number};
 
 /// The word of a line at an index, or nothing where it has fewer.
 #[tactic(auto, unfolding(crate::specs::Lines::words_of))]
@@ -96,16 +96,80 @@ pub fn bus_of(slot: u32) -> u8 {
     ((slot >> 12) % 256) as u8
 }
 
-/// The key of a region: the number of its slot, and its register.
-pub fn region_key(slot: u32, register: u8) -> u32 {
-    (slot << 8) | u32::from(register)
+/// The value of a decimal digit.
+fn decimal_digit(digit: u8) -> Option<u8>
+    ensures exact { result ≡ decimal_digit_of digit }
+    ensures small { IfSome result (λ value. value < 10) }
+{
+    match digit {
+        b'0'..=b'9' => Some(digit - b'0'),
+        _ => None,
+    }
 }
 
-/// The key of the region that two words of a line name: a slot and a register.
-pub fn key_at(line: &[u8], index: usize) -> Option<u32> {
+/// The number of decimal digits, at most four.
+fn decimal(digits: &[u8]) -> Option<u16>
+    requires { length digits.now ≤ 4 }
+    ensures { result ≡ decimal_number digits.now }
+{
+    let mut number = 0u16;
+    for digit in digits {
+        let value = decimal_digit(*digit)?;
+        number = number * 10 + u16::from(value);
+    }
+    Some(number)
+}
+
+/// The number of a told range `+n`, from 1 to 4096.
+#[tactic(auto, unfolding(crate::specs::Lines::is_told_number))]
+pub fn told_number(text: &[u8]) -> Option<u16>
+    ensures { is_some result ≡ is_told_number text.now }
+{
+    if text.len() < 2 || 5 < text.len() || text[0] != b'+' || text[1] == b'0' {
+        return None;
+    }
+    let number = decimal(&text[1..])?;
+    if 4096 < number {
+        return None;
+    }
+    Some(number)
+}
+
+/// What names a region of a slot: a register, or the number of a told range.
+#[derive(Clone, Copy)]
+pub enum Place {
+    Register(u8),
+    Told(u16),
+}
+
+/// The key of a region: the number of its slot, and a number that says which one of the slot. Told ranges come behind
+/// all registers.
+pub fn region_key(slot: u32, place: Place) -> u64 {
+    let number = match place {
+        Place::Register(register) => u16::from(register),
+        Place::Told(number) => number.saturating_add(256),
+    };
+    (u64::from(slot) << 16) | u64::from(number)
+}
+
+/// The number of a key's slot.
+pub fn slot_of(key: u64) -> u32 {
+    ((key >> 16) % (1 << 32)) as u32
+}
+
+/// What names a region of a slot, of a word `r` or `+n`.
+fn place_of(text: &[u8]) -> Option<Place> {
+    match hex_byte(text) {
+        Some(register) => Some(Place::Register(register)),
+        None => Some(Place::Told(told_number(text)?)),
+    }
+}
+
+/// The key of the region that two words of a line name: a slot, and a register or a told range.
+pub fn key_at(line: &[u8], index: usize) -> Option<u64> {
     let slot = slot_number(word(line, index))?;
-    let register = hex_byte(word(line, index.saturating_add(1)))?;
-    Some(region_key(slot, register))
+    let place = place_of(word(line, index.saturating_add(1)))?;
+    Some(region_key(slot, place))
 }
 
 /// First and last address, both inclusive, and how many digits each has.

@@ -1,8 +1,8 @@
 //! Lines of a map.
 ghost use Rattle.std.specs.Prelude.{◌≡◌, ◌&&◌, [], ◌∷◌, IsTrue, MatchOption, is_some};
-ghost use Rattle.pci_picture.specs.Lines.{is_one_line, is_part, is_region_line, is_register, is_slot, region_line, words_of};
+ghost use Rattle.pci_picture.specs.Lines.{is_one_line, is_part, is_region_line, is_register, is_slot, is_told_number, region_line, words_of};
 
-use super::reading::{extent_of, hex_byte, region_key, slot_number, word};
+use super::reading::{Place, extent_of, hex_byte, region_key, slot_number, told_number, word};
 
 /// What a line of a map is about.
 #[derive(Clone, Copy, PartialEq, Eq)]
@@ -11,6 +11,10 @@ pub enum Part {
     Prefetchable,
     Rom,
     Window,
+    /// A range that is told of a function, prefetchable or not.
+    Told,
+    /// A range that somebody is told to answer.
+    Held,
     Free,
 }
 
@@ -25,15 +29,24 @@ pub struct Region<'a> {
     pub digits: usize,
     pub size: &'a [u8],
     pub part: Part,
-    /// Its slot and its register, nothing where it is free.
+    /// Its slot, and its register `r` or its number `+n`; nothing where it is free.
     pub slot: &'a [u8],
     pub register: &'a [u8],
+    /// What is told to be its name, or nothing.
+    pub name: &'a [u8],
     /// Its key, 0 where it is free.
-    pub key: u32,
+    pub key: u64,
     /// How deep it stands, from 1 on.
     pub depth: usize,
     ghost is_one_line: { IsTrue (is_one_line line.now) },
     ghost is_told: { IsTrue (is_region_line line.now) },
+}
+
+impl Region<'_> {
+    /// Whether it is told beside the registers.
+    pub fn is_told_range(&self) -> bool {
+        self.part == Part::Told || self.part == Part::Held
+    }
 }
 
 /// What a line is about: its part, and the words and the number that name it.
@@ -42,7 +55,8 @@ struct Named<'a> {
     part: Part,
     slot: &'a [u8],
     register: &'a [u8],
-    key: u32,
+    name: &'a [u8],
+    key: u64,
 }
 
 /// The part that a slot and a register name.
@@ -55,7 +69,23 @@ fn named_by<'a>(part: Part, slot: &'a [u8], register: &'a [u8]) -> Option<Named<
         part,
         slot,
         register,
-        key: region_key(number, offset),
+        name: &[],
+        key: region_key(number, Place::Register(offset)),
+    })
+}
+
+/// The told range that a slot and a number name, and the word that follows.
+fn told_by<'a>(part: Part, slot: &'a [u8], register: &'a [u8], name: &'a [u8]) -> Option<Named<'a>>
+    ensures { is_some result ≡ (is_slot slot.now && is_told_number register.now) }
+{
+    let number = slot_number(slot)?;
+    let told = told_number(register)?;
+    Some(Named {
+        part,
+        slot,
+        register,
+        name,
+        key: region_key(number, Place::Told(told)),
     })
 }
 
@@ -76,11 +106,21 @@ fn named_of(line: &[u8]) -> Option<Named<'_>>
         named_by(Part::Rom, word(line, 3), word(line, 4))
     } else if part == b"window".as_slice() {
         named_by(Part::Window, word(line, 3), word(line, 4))
+    } else if part == b"told".as_slice() {
+        let next = word(line, 3);
+        if next == b"pref".as_slice() {
+            told_by(Part::Told, word(line, 4), word(line, 5), word(line, 6))
+        } else {
+            told_by(Part::Told, next, word(line, 4), word(line, 5))
+        }
+    } else if part == b"held".as_slice() {
+        told_by(Part::Held, word(line, 3), word(line, 4), word(line, 5))
     } else if part == b"free".as_slice() {
         Some(Named {
             part: Part::Free,
             slot: &[],
             register: &[],
+            name: &[],
             key: 0,
         })
     } else {
@@ -88,7 +128,7 @@ fn named_of(line: &[u8]) -> Option<Named<'_>>
     }
 }
 
-/// The region of a line `F-L N PART S r`, or of a line `F-L N free`, without the blanks before it.
+/// The region of a line `F-L N PART S r`, `F-L N PART S +n` or `F-L N free`, without the blanks before it.
 #[tactic(auto, unfolding(crate::specs::Lines::is_region_line))]
 pub fn region_of(line: &[u8], depth: usize) -> Option<Region<'_>>
     requires { IsTrue (is_one_line line.now) }
@@ -106,6 +146,7 @@ pub fn region_of(line: &[u8], depth: usize) -> Option<Region<'_>>
         part: named.part,
         slot: named.slot,
         register: named.register,
+        name: named.name,
         key: named.key,
         depth,
     })

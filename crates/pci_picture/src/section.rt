@@ -120,6 +120,8 @@ fn class_of<A: Allocator + Copy>(
         Part::Prefetchable => ["pref", "pref clash", "pref lost", "pref clash lost"],
         Part::Rom => ["rom", "rom clash", "rom lost", "rom clash lost"],
         Part::Window => ["window", "window clash", "window lost", "window clash lost"],
+        Part::Told => ["told", "told clash", "told lost", "told clash lost"],
+        Part::Held => ["held", "held clash", "held lost", "held clash lost"],
         Part::Free => ["free", "free clash", "free lost", "free clash lost"],
     };
     let is_lost = is_lost || faults.has(region.key, 60, 63);
@@ -201,8 +203,7 @@ fn put_words<A: Allocator + Copy>(
         _ => {
             let is_marked = put_marks(words, &board.faults, region)?;
             words.put_region(region)?;
-            words.put(b", ")?;
-            words.put_name(board.function(region))?;
+            board.put_called(words, region)?;
             Ok(if is_marked { "alarm" } else { "" })
         }
     }

@@ -2,7 +2,7 @@
 
 ghost use Rattle.std.specs.Prelude.{◌≡◌, ◌++◌, ◌∷◌, [], codes, OnOk};
 ghost use Rattle.std.specs.String.{string_bytes};
-ghost use Rattle.pci_picture.specs.Whole.{svg_attributes, pair_text, view_value, view_box, ground_text, style_text, line_text, head_text};
+ghost use Rattle.pci_picture.specs.Whole.{svg_attributes, pair_text, view_value, view_box, ground_text, style_text, line_text, head_text, colours_text};
 
 use super::elements::{push_decimal, push_number};
 use std::alloc::{AllocError, Allocator};
@@ -17,6 +17,17 @@ rect{stroke:#8a93a0;stroke-width:1}.window{fill:#dfe8f5}.bar{fill:#bfe3c0}.pref{
 .clash{stroke:#b00020;stroke-width:2}.lost{fill:#ffe2b8;stroke:#c05a00;stroke-width:2;stroke-dasharray:5 3}\n\
 .shared{fill:url(#hatch);stroke:#b00020}.alarm.bold{font-weight:bold}.fits{fill:#f2fbf2;stroke:#2e7d32;stroke-dasharray:4 2}.good{fill:#2e7d32}.tick{stroke:#999}.gap{stroke:#bbb;stroke-dasharray:1 4}\n\
 ";
+
+/// The colours of told ranges, in a style sheet of their own. One that is lost keeps the colour of what is lost.
+pub const COLOURS: &str =
+    "<style>.told:not(.lost){fill:#f4e9a8}.held:not(.lost){fill:#d8cfc4}</style>\n";
+
+/// What stands before the boxes where a picture has told ranges, else nothing.
+pub fn colours_of(is_told: bool) -> &'static str
+    ensures { result.now ≡ colours_text is_told }
+{
+    if is_told { COLOURS } else { "" }
+}
 
 /// The hatching of shared addresses.
 pub const HATCH: &str =

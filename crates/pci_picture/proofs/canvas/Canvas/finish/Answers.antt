@@ -6,8 +6,8 @@ use Rattle.pci_picture.proofs.canvas.Canvas.finish.Goals as goal
 
 pub returns : goal.returns
 returns g c = record {
-  closed = finished c.text.result (λ text. string_bytes text) (string_bytes c.args.self.now.boxes) (string_bytes c.args.self.now.words) c.args.width c.args.height
+  closed = finished c.text.result (λ text. string_bytes text) c.args.is_told (string_bytes c.args.self.now.boxes) (string_bytes c.args.self.now.words) c.args.width c.args.height
       (omega arith) (omega arith) c.args.self.now.boxes_closed c.args.self.now.words_closed c.text.ensures;
-  drawn = λ lines drawn. drawn_of c.text.result (λ text. string_bytes text) (string_bytes c.args.self.now.boxes) (string_bytes c.args.self.now.words) c.args.width c.args.height
+  drawn = λ lines drawn. drawn_of c.text.result (λ text. string_bytes text) c.args.is_told (string_bytes c.args.self.now.boxes) (string_bytes c.args.self.now.words) c.args.width c.args.height
       lines drawn c.text.ensures;
 }
