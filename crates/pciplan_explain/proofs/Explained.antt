@@ -3,11 +3,12 @@ use Rattle.std.proofs.Common.{refl}
 use Rattle.pci_spec.specs.ProbeOf as probes
 use Rattle.pci_spec.specs.Fault as plain
 use Rattle.given_spec.specs.Fault.{Known, Outside}
+use Rattle.given_spec.specs.ToldFault as told
 use Rattle.plan_spec.specs.Plan as plans
 use Rattle.pciplan_explain.specs.declared.fault.Fault.TheVariants as faults
 use Rattle.pciplan_explain.specs.declared.command.Command.TheVariants as commands
 use Rattle.pciplan_explain.specs.Explained.{named_fault, names_fault, named_command}
-use Rattle.pciplan_explain.specs.Laws.{NumbersName, NamesName, FaultsHaveHeadings, ProbeFaultsHaveHeadings, PlanFaultsHaveHeadings}
+use Rattle.pciplan_explain.specs.Laws.{NumbersName, NamesName, FaultsHaveHeadings, ToldFaultsHaveHeadings, ProbeFaultsHaveHeadings, PlanFaultsHaveHeadings}
 
 pub numbers_name : NumbersName
 unfolding named_fault names_fault
@@ -35,6 +36,7 @@ numbers_name faults.SlotsDiffer = refl
 numbers_name faults.StrayProbe = refl
 numbers_name faults.NoSize = refl
 numbers_name faults.OtherSize = refl
+numbers_name faults.NotListed = refl
 numbers_name faults.LoneFunction = refl
 numbers_name faults.PaletteSnoop = refl
 numbers_name faults.VgaEnable = refl
@@ -100,6 +102,34 @@ faults_have_headings (Known (plain.Unreached slot register space address bridge)
 faults_have_headings (Known (plain.Clash bus space address first first_register second second_register)) = record { fault = faults.Clash; begins = refl }
 faults_have_headings (Known (plain.Split space address first first_register second second_register)) = record { fault = faults.Split; begins = refl }
 faults_have_headings (Outside slot register space address) = record { fault = faults.Outside; begins = refl }
+
+pub told_faults_have_headings : ToldFaultsHaveHeadings
+told_faults_have_headings (told.Known (Known (plain.NoVendor slot))) = record { fault = faults.NoVendor; begins = refl }
+told_faults_have_headings (told.Known (Known (plain.HeaderKind slot))) = record { fault = faults.HeaderKind; begins = refl }
+told_faults_have_headings (told.Known (Known (plain.BarType slot register))) = record { fault = faults.BarType; begins = refl }
+told_faults_have_headings (told.Known (Known (plain.BarMask slot register))) = record { fault = faults.BarMask; begins = refl }
+told_faults_have_headings (told.Known (Known (plain.BarPair slot register))) = record { fault = faults.BarPair; begins = refl }
+told_faults_have_headings (told.Known (Known (plain.RomMask slot register))) = record { fault = faults.RomMask; begins = refl }
+told_faults_have_headings (told.Known (Known (plain.WindowMask slot register))) = record { fault = faults.WindowMask; begins = refl }
+told_faults_have_headings (told.Known (Known (plain.CapRange slot place))) = record { fault = faults.CapRange; begins = refl }
+told_faults_have_headings (told.Known (Known (plain.CapLoop slot place))) = record { fault = faults.CapLoop; begins = refl }
+told_faults_have_headings (told.Known (Known (plain.CapCut slot place))) = record { fault = faults.CapCut; begins = refl }
+told_faults_have_headings (told.Known (Known (plain.SlotsDiffer slot))) = record { fault = faults.SlotsDiffer; begins = refl }
+told_faults_have_headings (told.Known (Known (plain.StrayProbe slot offset))) = record { fault = faults.StrayProbe; begins = refl }
+told_faults_have_headings (told.Known (Known (plain.LoneFunction slot))) = record { fault = faults.LoneFunction; begins = refl }
+told_faults_have_headings (told.Known (Known (plain.PaletteSnoop slot))) = record { fault = faults.PaletteSnoop; begins = refl }
+told_faults_have_headings (told.Known (Known (plain.VgaEnable slot))) = record { fault = faults.VgaEnable; begins = refl }
+told_faults_have_headings (told.Known (Known (plain.IsaEnable slot))) = record { fault = faults.IsaEnable; begins = refl }
+told_faults_have_headings (told.Known (Known (plain.Subtractive slot))) = record { fault = faults.Subtractive; begins = refl }
+told_faults_have_headings (told.Known (Known (plain.InReset slot))) = record { fault = faults.InReset; begins = refl }
+told_faults_have_headings (told.Known (Known (plain.PowerState slot))) = record { fault = faults.PowerState; begins = refl }
+told_faults_have_headings (told.Known (Known (plain.BusRange slot))) = record { fault = faults.BusRange; begins = refl }
+told_faults_have_headings (told.Known (Known (plain.Orphan slot))) = record { fault = faults.Orphan; begins = refl }
+told_faults_have_headings (told.Known (Known (plain.Unreached slot register space address bridge))) = record { fault = faults.Unreached; begins = refl }
+told_faults_have_headings (told.Known (Known (plain.Clash bus space address first first_register second second_register))) = record { fault = faults.Clash; begins = refl }
+told_faults_have_headings (told.Known (Known (plain.Split space address first first_register second second_register))) = record { fault = faults.Split; begins = refl }
+told_faults_have_headings (told.Known (Outside slot register space address)) = record { fault = faults.Outside; begins = refl }
+told_faults_have_headings (told.NotListed slot) = record { fault = faults.NotListed; begins = refl }
 
 pub probe_faults_have_headings : ProbeFaultsHaveHeadings
 probe_faults_have_headings (probes.SlotsDiffer slot) = record { fault = faults.SlotsDiffer; begins = refl }

@@ -1,8 +1,8 @@
 -- The faults that are explained: their numbers and names.
 use Rattle.std.specs.Prelude.{ℕ, List, ◌∷◌, ◌++◌, codes}
 use Rattle.pciplan_explain.specs.declared.fault.Fault.{Fault}
-use Rattle.pciplan_explain.specs.declared.fault.Fault.TheVariants.{ReadIo, Memory, BadSlot, BadTitle, BadLine, NoBlank, Order, TooMany, Ended, WriteIo, NoVendor, HeaderKind, BarType, BarMask, BarPair, RomMask, WindowMask, CapRange, CapLoop, CapCut, SlotsDiffer, StrayProbe, NoSize, OtherSize, LoneFunction, PaletteSnoop, VgaEnable, IsaEnable, Subtractive, InReset, PowerState, BusRange, Orphan, Unreached, Clash, Split, Outside, BadPools, NoWindow, NoRoom, NotAccepted, Fixed, Assumed, Changed, Port, Stuck}
-use Rattle.pciplan_explain.specs.declared.fault_texts.TheConstants.{READ_IO, MEMORY, BAD_SLOT, BAD_TITLE, BAD_LINE, NO_BLANK, ORDER, TOO_MANY, ENDED, WRITE_IO, NO_VENDOR, HEADER_KIND, BAR_TYPE, BAR_MASK, BAR_PAIR, ROM_MASK, WINDOW_MASK, CAP_RANGE, CAP_LOOP, CAP_CUT, SLOTS_DIFFER, STRAY_PROBE, NO_SIZE, OTHER_SIZE, LONE_FUNCTION, PALETTE_SNOOP, VGA_ENABLE, ISA_ENABLE, SUBTRACTIVE, IN_RESET, POWER_STATE, BUS_RANGE, ORPHAN, UNREACHED, CLASH, SPLIT, OUTSIDE, BAD_POOLS, NO_WINDOW, NO_ROOM, NOT_ACCEPTED, FIXED, ASSUMED, CHANGED, PORT, STUCK}
+use Rattle.pciplan_explain.specs.declared.fault.Fault.TheVariants.{ReadIo, Memory, BadSlot, BadTitle, BadLine, NoBlank, Order, TooMany, Ended, WriteIo, NoVendor, HeaderKind, BarType, BarMask, BarPair, RomMask, WindowMask, CapRange, CapLoop, CapCut, SlotsDiffer, StrayProbe, NoSize, OtherSize, NotListed, LoneFunction, PaletteSnoop, VgaEnable, IsaEnable, Subtractive, InReset, PowerState, BusRange, Orphan, Unreached, Clash, Split, Outside, BadPools, NoWindow, NoRoom, NotAccepted, Fixed, Assumed, Changed, Port, Stuck}
+use Rattle.pciplan_explain.specs.declared.fault_texts.TheConstants.{READ_IO, MEMORY, BAD_SLOT, BAD_TITLE, BAD_LINE, NO_BLANK, ORDER, TOO_MANY, ENDED, WRITE_IO, NO_VENDOR, HEADER_KIND, BAR_TYPE, BAR_MASK, BAR_PAIR, ROM_MASK, WINDOW_MASK, CAP_RANGE, CAP_LOOP, CAP_CUT, SLOTS_DIFFER, STRAY_PROBE, NO_SIZE, OTHER_SIZE, NOT_LISTED, LONE_FUNCTION, PALETTE_SNOOP, VGA_ENABLE, ISA_ENABLE, SUBTRACTIVE, IN_RESET, POWER_STATE, BUS_RANGE, ORPHAN, UNREACHED, CLASH, SPLIT, OUTSIDE, BAD_POOLS, NO_WINDOW, NO_ROOM, NOT_ACCEPTED, FIXED, ASSUMED, CHANGED, PORT, STUCK}
 
 -- a fault's number in decimal digits
 abbrev pub fault_number : Fault → List ℕ
@@ -30,6 +30,7 @@ fault_number SlotsDiffer = codes "30"
 fault_number StrayProbe = codes "31"
 fault_number NoSize = codes "32"
 fault_number OtherSize = codes "33"
+fault_number NotListed = codes "34"
 fault_number LoneFunction = codes "50"
 fault_number PaletteSnoop = codes "51"
 fault_number VgaEnable = codes "52"
@@ -78,6 +79,7 @@ fault_name SlotsDiffer = codes "SlotsDiffer"
 fault_name StrayProbe = codes "StrayProbe"
 fault_name NoSize = codes "NoSize"
 fault_name OtherSize = codes "OtherSize"
+fault_name NotListed = codes "NotListed"
 fault_name LoneFunction = codes "LoneFunction"
 fault_name PaletteSnoop = codes "PaletteSnoop"
 fault_name VgaEnable = codes "VgaEnable"
@@ -131,6 +133,7 @@ fault_text SlotsDiffer = SLOTS_DIFFER.now
 fault_text StrayProbe = STRAY_PROBE.now
 fault_text NoSize = NO_SIZE.now
 fault_text OtherSize = OTHER_SIZE.now
+fault_text NotListed = NOT_LISTED.now
 fault_text LoneFunction = LONE_FUNCTION.now
 fault_text PaletteSnoop = PALETTE_SNOOP.now
 fault_text VgaEnable = VGA_ENABLE.now

@@ -3,6 +3,8 @@ use Rattle.std.specs.Prelude.{◌≡◌, List, ℕ, Some}
 use Rattle.pci_spec.specs.ProbeOf.{ProbeFault, probe_fault_text}
 use Rattle.given_spec.specs.Fault as given
 use Rattle.given_spec.specs.Line as given_line
+use Rattle.given_spec.specs.ToldFault as told
+use Rattle.given_spec.specs.ToldLine as told_line
 use Rattle.plan_spec.specs.Plan.{PlanFault}
 use Rattle.plan_spec.specs.PlanLine.{plan_fault_text}
 use Rattle.pciplan_explain.specs.declared.fault.Fault.{Fault}
@@ -26,6 +28,10 @@ pub record HasHeading (text : List ℕ) : Type 0 where
 -- That holds of the faults of a dump with its probe, 20 to 31 and 50 to 63,
 abbrev pub FaultsHaveHeadings : Type 0
 FaultsHaveHeadings = (fault : given.Fault) → HasHeading (given_line.fault_text fault)
+
+-- of those with what is told beside them, 34 too,
+abbrev pub ToldFaultsHaveHeadings : Type 0
+ToldFaultsHaveHeadings = (fault : told.Fault) → HasHeading (told_line.fault_text fault)
 
 -- of those of a derived probe, 20, 21, 30, 32 and 33,
 abbrev pub ProbeFaultsHaveHeadings : Type 0

@@ -44,7 +44,7 @@ pciplan check DUMP PROBE [--root LIST]
 
 pub const FAULTS: &str = "\
 pciplan faults DUMP PROBE [--root LIST] [--model WORDS] [--host-io LIST]
-    [--host-mem LIST] [--why]
+    [--host-mem LIST] [--also FILE] [--why]
   Prints yes, or a line for each fault of the earliest phase that has any,
   without the no, in the order in which check looks; the first line is the fault
   that check names. LIST OF FAULTS says which lines there are.
@@ -78,6 +78,13 @@ pciplan faults DUMP PROBE [--root LIST] [--model WORDS] [--host-io LIST]
     commas between them, each A-B for all root buses or bb:A-B for the root bus
     bb alone, from address A to address B, each of 1 to 16 lower-case hex
     digits. Of a space without a list all is sent to each.
+  --also FILE
+    faults judges, and map shows, what functions answer that no BAR shows: of
+    virtual functions, of Enhanced Allocation, or of a chipset. A line of the
+    file is S SPACE A-B MARK, and a name where one is wanted. SPACE is io, mem
+    or pref. MARK is command (while Command of the function enables the space),
+    always, or held (somebody there answers it). A range is named by its slot
+    and line, as in 01:00.0 +1.
   --why
     faults tells with what ranges each fault 60 to 63 is there, and which BARs
     are off. Behind a fault 72 plan prints a second line: how many addresses the
@@ -86,7 +93,7 @@ pciplan faults DUMP PROBE [--root LIST] [--model WORDS] [--host-io LIST]
 
 pub const MAP: &str = "\
 pciplan map DUMP PROBE [--root LIST] [--model WORDS] [--host-io LIST]
-    [--host-mem LIST]
+    [--host-mem LIST] [--also FILE]
   Prints which enabled BAR, ROM or window sits where, what is inside each
   window, and what of it is free; ADDRESS MAP says which lines there are.
   Faults: 20 to 31 and 50 to 58; what would be 60 to 62 is shown as it is.
@@ -120,6 +127,13 @@ pciplan map DUMP PROBE [--root LIST] [--model WORDS] [--host-io LIST]
     commas between them, each A-B for all root buses or bb:A-B for the root bus
     bb alone, from address A to address B, each of 1 to 16 lower-case hex
     digits. Of a space without a list all is sent to each.
+  --also FILE
+    faults judges, and map shows, what functions answer that no BAR shows: of
+    virtual functions, of Enhanced Allocation, or of a chipset. A line of the
+    file is S SPACE A-B MARK, and a name where one is wanted. SPACE is io, mem
+    or pref. MARK is command (while Command of the function enables the space),
+    always, or held (somebody there answers it). A range is named by its slot
+    and line, as in 01:00.0 +1.
 ";
 
 pub const SIZE: &str = "\

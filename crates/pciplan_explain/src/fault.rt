@@ -34,6 +34,7 @@ pub enum Fault {
     StrayProbe,
     NoSize,
     OtherSize,
+    NotListed,
     LoneFunction,
     PaletteSnoop,
     VgaEnable,
@@ -59,7 +60,7 @@ pub enum Fault {
 }
 
 /// All faults by rising number.
-pub const FAULTS: [Fault; 46] = [
+pub const FAULTS: [Fault; 47] = [
     Fault::ReadIo,
     Fault::Memory,
     Fault::BadSlot,
@@ -84,6 +85,7 @@ pub const FAULTS: [Fault; 46] = [
     Fault::StrayProbe,
     Fault::NoSize,
     Fault::OtherSize,
+    Fault::NotListed,
     Fault::LoneFunction,
     Fault::PaletteSnoop,
     Fault::VgaEnable,
@@ -138,6 +140,7 @@ impl Fault {
             Fault::StrayProbe => "31",
             Fault::NoSize => "32",
             Fault::OtherSize => "33",
+            Fault::NotListed => "34",
             Fault::LoneFunction => "50",
             Fault::PaletteSnoop => "51",
             Fault::VgaEnable => "52",
@@ -192,6 +195,7 @@ impl Fault {
             Fault::StrayProbe => "StrayProbe",
             Fault::NoSize => "NoSize",
             Fault::OtherSize => "OtherSize",
+            Fault::NotListed => "NotListed",
             Fault::LoneFunction => "LoneFunction",
             Fault::PaletteSnoop => "PaletteSnoop",
             Fault::VgaEnable => "VgaEnable",
@@ -247,6 +251,7 @@ impl Fault {
             Fault::StrayProbe => texts::STRAY_PROBE,
             Fault::NoSize => texts::NO_SIZE,
             Fault::OtherSize => texts::OTHER_SIZE,
+            Fault::NotListed => texts::NOT_LISTED,
             Fault::LoneFunction => texts::LONE_FUNCTION,
             Fault::PaletteSnoop => texts::PALETTE_SNOOP,
             Fault::VgaEnable => texts::VGA_ENABLE,

@@ -54,14 +54,15 @@ pub const NO_BLANK: &str = "\
 
 pub const ORDER: &str = "\
 7 Order n
-  The slot isn't above the one before.
+  The slot isn't above the one before. In a text of --also it is below, or a
+  range is backward.
   Mostly: There are lines of lspci -v, or the text was edited; n is the line.
   Do: Take machines/convert.sh.
 ";
 
 pub const TOO_MANY: &str = "\
 8 TooMany n
-  There are more than 4,096 functions.
+  There are more than 4,096 functions, or lines of --also.
   Mostly: There are lines of lspci -v, or the text was edited; n is the line.
   Do: Take machines/convert.sh.
 ";
@@ -195,6 +196,16 @@ pub const OTHER_SIZE: &str = "\
   Mostly: The register shows 0, and what Linux tells is of another kind: I/O, 64
     bits or prefetchable.
   Do: Capture both texts at once. Else take a probe by sizing.
+";
+
+pub const NOT_LISTED: &str = "\
+34 NotListed S
+  A command or always line of --also names a function that the dump doesn't
+  list.
+  Mostly: The text of --also tells of a function that the dump doesn't list: it
+    is of another time or another machine, or the function is hidden.
+  Do: Capture all three texts at once. Where the function is hidden, mark its
+    lines held.
 ";
 
 pub const LONE_FUNCTION: &str = "\

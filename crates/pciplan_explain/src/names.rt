@@ -9,7 +9,7 @@ pub const NAMES: &str = "\
 5 BadLine: A line of bytes, or of sizes, isn't in form.
 6 NoBlank: A block doesn't end in an empty line.
 7 Order: The slot isn't above the one before.
-8 TooMany: There are more than 4,096 functions.
+8 TooMany: There are more than 4,096 functions, or lines of --also.
 9 Ended: The text ends within a block.
 10 Io: The output couldn't be written.
 20 NoVendor: The Vendor ID reads FFFFh.
@@ -26,6 +26,7 @@ pub const NAMES: &str = "\
 31 StrayProbe: The probe has a byte outside the address registers.
 32 NoSize: A BAR that shows something, or an enabled ROM, has no size told.
 33 OtherSize: The register shows 0, and what is told isn't of it.
+34 NotListed: A command or always line of --also names a function that the dump doesn't list.
 50 LoneFunction: The device's function 0 isn't listed.
 51 PaletteSnoop: Command bit 5 is set.
 52 VgaEnable: Bridge Control bit 3 is set.
