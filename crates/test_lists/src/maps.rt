@@ -1,6 +1,7 @@
 //! The text of a map.
 use crate::boards::admitted;
 use pci_claims::given::Given;
+use pci_claims::told::Told;
 use pci_map::text::map_text;
 use pci_tree::admitted::Admitted;
 use std::alloc::Global;
@@ -8,7 +9,8 @@ use std::test::Fail;
 use test_support::row::Row;
 use test_support::row::Row::{Bridge, Device};
 
-/// Whether the lines of a board, with nothing given, are these.
+/// Whether the lines of a board, with nothing given or told, are these.
+#[tactic(auto, using(crate::proofs::Nothing::nothing_told))]
 fn are_lines(alloc: Global, board: &Admitted, wanted: &str) -> bool {
     let given = Given {
         io: None,
@@ -16,7 +18,11 @@ fn are_lines(alloc: Global, board: &Admitted, wanted: &str) -> bool {
         legacy: &[],
         isa: &[],
     };
-    match map_text(alloc, board.outline(), &given) {
+    let told = Told {
+        ranges: &[],
+        asleep: &[],
+    };
+    match map_text(alloc, board.outline(), &given, &told) {
         Ok(lines) => lines.as_str() == wanted,
         Err(_) => false,
     }

@@ -15,14 +15,14 @@ use test_support::example::{DUMP, LISTING, PROBE};
 
 /// Texts by their paths, of which one is opened. While none is, it reads as if it were empty.
 #[derive(Drop)]
-struct Shelf<'a> {
+pub struct Shelf<'a> {
     texts: &'a [(&'a str, &'a str)],
     rest: &'a [u8],
     failed: Failures,
 }
 
 impl<'a> Shelf<'a> {
-    fn closed(texts: &'a [(&'a str, &'a str)]) -> Shelf<'a> {
+    pub fn closed(texts: &'a [(&'a str, &'a str)]) -> Shelf<'a> {
         Shelf {
             texts,
             rest: &[],
@@ -76,6 +76,7 @@ fn answer(rt: &impl AllocGlobal, words: io::Result<Vec<String>>, texts: &[(&str,
     let status = program(
         rt.alloc(),
         words,
+        &mut Shelf::closed(texts),
         &mut Shelf::closed(texts),
         &mut Shelf::closed(texts),
         &mut Outgoing::new(&mut out),
@@ -141,5 +142,50 @@ fn words_that_cant_be_had_are_refused(rt: HostRuntime) -> Result<(), Fail> {
     }
     let got = answer(&rt, Ok(words_of(&rt, &["check", "d"])?), &texts);
     assert!(rt; is_left(&got, "", "pciplan: usage\n", 2));
+    Ok(())
+}
+
+/// Whether a command with a third text is refused so where these texts can be opened.
+fn is_refused_with(
+    rt: &impl AllocGlobal,
+    command: &str,
+    texts: &[(&str, &str)],
+    err: &str,
+    status: u8,
+) -> Result<bool, AllocError> {
+    let words = words_of(rt, &[command, "d", "p", "--also", "t"])?;
+    Ok(is_left(&answer(rt, Ok(words), texts), "", err, status))
+}
+
+#[test]
+fn a_third_text_is_refused_behind_the_other_two(rt: HostRuntime) -> Result<(), Fail> {
+    let also = "pciplan: also: 1 Io\n";
+    let cut = "pciplan: also: 9 Ended 1\n";
+    let probe = "pciplan: probe: 9 Ended 1\n";
+    for command in ["faults", "map"] {
+        let texts = [("d", DUMP), ("p", PROBE)];
+        assert!(rt; is_refused_with(&rt, command, &texts, also, 4)?);
+        let texts = [("d", DUMP), ("p", PROBE), ("t", "00:01.0")];
+        assert!(rt; is_refused_with(&rt, command, &texts, cut, 2)?);
+        // where the probe has a fault too, that one is told
+        let texts = [("d", DUMP), ("p", "00:01.0"), ("t", "00:01.0")];
+        assert!(rt; is_refused_with(&rt, command, &texts, probe, 2)?);
+        let texts = [("d", DUMP), ("p", "00:01.0")];
+        assert!(rt; is_refused_with(&rt, command, &texts, probe, 2)?);
+    }
+    Ok(())
+}
+
+#[test]
+fn a_third_text_is_opened_by_its_path(rt: HostRuntime) -> Result<(), Fail> {
+    let texts = [
+        ("t", "00:01.0 io 00000000-0000000f held\n"),
+        ("p", PROBE),
+        ("d", DUMP),
+    ];
+    let words = words_of(&rt, &["map", "d", "p", "--also", "t"])?;
+    let got = answer(&rt, Ok(words), &texts);
+    assert!(rt; got.status == 0);
+    assert!(rt; got.err.is_empty());
     Ok(())
 }

@@ -1,4 +1,5 @@
 //! The program, run on texts that are held in memory.
+use crate::opening::Shelf;
 use pci_dump::std_streams::{Incoming, Outgoing};
 use pciplan_cli::invocation::start;
 use pciplan_tasks::run::run;
@@ -40,13 +41,13 @@ pub fn run_task(alloc: Global, task: &Task, dump: &str, probe: &str) -> Answer {
     run_by(alloc, alloc, task, dump, probe)
 }
 
-/// What a line of words answers to two texts.
+/// What a line of words answers to two texts. It names no third one.
 fn run_words(alloc: Global, words: &[&str], dump: &str, probe: &str) -> Answer {
     let mut out = Vec::new(alloc);
     let mut err = Vec::new(alloc);
     let status = {
         let mut errors = Outgoing::new(&mut err);
-        match start(alloc, words, &mut errors) {
+        match start(alloc, words, &mut Shelf::closed(&[]), &mut errors) {
             Err(status) => status,
             Ok(line) => run(
                 alloc,

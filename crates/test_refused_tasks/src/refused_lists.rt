@@ -3,7 +3,7 @@ use crate::on_boards::{Made, is_cut_off, is_refused, is_unread};
 use pci_base::range::{Range, RootRange};
 use pci_model::words::{VgaWord, Words};
 use pci_tree::roots::Roots;
-use pciplan_tasks::task::{Beside, HostLists, Task};
+use pciplan_tasks::task::{Also, Beside, HostLists, Task};
 use std::alloc::Global;
 use std::test::Fail;
 use test_support::board::Register;
@@ -11,12 +11,12 @@ use test_support::row::Row;
 use test_support::row::Row::{Bridge, Device};
 
 /// A list with reasons.
-fn task() -> Made {
-    task_by(None)
+fn task(alloc: Global) -> Made {
+    task_by(alloc, None)
 }
 
 /// The same of functions that are taken by words.
-fn task_by(words: Option<Words>) -> Made {
+fn task_by(alloc: Global, words: Option<Words>) -> Made {
     Ok(Task::Faults {
         beside: Beside {
             roots: Roots::host(),
@@ -25,6 +25,7 @@ fn task_by(words: Option<Words>) -> Made {
                 io: None,
                 mem: None,
             },
+            also: Also::nothing(alloc),
         },
         why: true,
     })
@@ -51,6 +52,7 @@ fn task_given(alloc: Global, why: bool) -> Made {
                 io: None,
                 mem: Some(sent),
             },
+            also: Also::nothing(alloc),
         },
         why,
     })
@@ -83,27 +85,27 @@ const MISPLACED: &[Row] = &[Device("01:00.0", 0, &[]), Device("02:00.0", 0, &[])
 
 #[test]
 fn a_list_that_is_refused_a_growth_says_just_that(rt: HostRuntime) -> Result<(), Fail> {
-    is_refused(rt.alloc(), task(), JUDGED)
+    is_refused(rt.alloc(), task(rt.alloc()), JUDGED)
 }
 
 #[test]
 fn so_does_one_of_an_earlier_phase(rt: HostRuntime) -> Result<(), Fail> {
-    is_refused(rt.alloc(), task(), MISPLACED)
+    is_refused(rt.alloc(), task(rt.alloc()), MISPLACED)
 }
 
 #[test]
 fn so_does_one_by_words(rt: HostRuntime) -> Result<(), Fail> {
-    is_refused(rt.alloc(), task_by(Some(ALL_WORDS)), JUDGED)
+    is_refused(rt.alloc(), task_by(rt.alloc(), Some(ALL_WORDS)), JUDGED)
 }
 
 #[test]
 fn a_writer_that_fails_holds_a_beginning_of_the_list(rt: HostRuntime) -> Result<(), Fail> {
-    is_cut_off(rt.alloc(), task(), JUDGED, 7, &[0, 1, 100, 300])
+    is_cut_off(rt.alloc(), task(rt.alloc()), JUDGED, 7, &[0, 1, 100, 300])
 }
 
 #[test]
 fn a_read_that_fails_leaves_no_list(rt: HostRuntime) -> Result<(), Fail> {
-    is_unread(rt.alloc(), task(), JUDGED, 1)
+    is_unread(rt.alloc(), task(rt.alloc()), JUDGED, 1)
 }
 
 /// A window that is closed, and VGA Enable.

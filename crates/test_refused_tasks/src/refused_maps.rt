@@ -3,14 +3,14 @@ use crate::on_boards::{Made, is_cut_off, is_printed, is_refused, is_unread};
 use pci_base::range::{Range, RootRange};
 use pci_model::words::{VgaWord, Words};
 use pci_tree::roots::Roots;
-use pciplan_tasks::task::{Beside, HostLists, Task};
+use pciplan_tasks::task::{Also, Beside, HostLists, Task};
 use std::alloc::Global;
 use std::test::Fail;
 use test_support::row::Row;
 use test_support::row::Row::{Bridge, Device};
 
 /// A map of functions that are taken as they are, or by words.
-fn task_by(words: Option<Words>) -> Made {
+fn task_by(alloc: Global, words: Option<Words>) -> Made {
     Ok(Task::Map {
         beside: Beside {
             roots: Roots::host(),
@@ -19,13 +19,14 @@ fn task_by(words: Option<Words>) -> Made {
                 io: None,
                 mem: None,
             },
+            also: Also::nothing(alloc),
         },
     })
 }
 
 /// A map of functions that are taken as they are.
-fn task() -> Made {
-    task_by(None)
+fn task(alloc: Global) -> Made {
+    task_by(alloc, None)
 }
 
 /// A map with what the host sends of memory.
@@ -46,6 +47,7 @@ fn task_sent(alloc: Global) -> Made {
                 io: None,
                 mem: Some(sent),
             },
+            also: Also::nothing(alloc),
         },
     })
 }
@@ -106,12 +108,12 @@ fn a_map_is_printed(rt: HostRuntime) -> Result<(), Fail> {
 
 #[test]
 fn a_map_that_is_refused_a_growth_says_just_that(rt: HostRuntime) -> Result<(), Fail> {
-    is_refused(rt.alloc(), task(), MAPPED)
+    is_refused(rt.alloc(), task(rt.alloc()), MAPPED)
 }
 
 #[test]
 fn so_does_one_by_words(rt: HostRuntime) -> Result<(), Fail> {
-    is_refused(rt.alloc(), task_by(Some(WORDS)), MAPPED)
+    is_refused(rt.alloc(), task_by(rt.alloc(), Some(WORDS)), MAPPED)
 }
 
 #[test]
@@ -121,15 +123,15 @@ fn so_does_one_of_what_the_host_sends(rt: HostRuntime) -> Result<(), Fail> {
 
 #[test]
 fn so_does_one_of_what_is_not_admitted(rt: HostRuntime) -> Result<(), Fail> {
-    is_refused(rt.alloc(), task(), &[Device("01:00.0", 0, &[])])
+    is_refused(rt.alloc(), task(rt.alloc()), &[Device("01:00.0", 0, &[])])
 }
 
 #[test]
 fn a_writer_that_fails_holds_a_beginning_of_the_map(rt: HostRuntime) -> Result<(), Fail> {
-    is_cut_off(rt.alloc(), task(), MAPPED, 7, &[0, 1, 100, 300])
+    is_cut_off(rt.alloc(), task(rt.alloc()), MAPPED, 7, &[0, 1, 100, 300])
 }
 
 #[test]
 fn a_read_that_fails_leaves_no_map(rt: HostRuntime) -> Result<(), Fail> {
-    is_unread(rt.alloc(), task(), MAPPED, 0)
+    is_unread(rt.alloc(), task(rt.alloc()), MAPPED, 0)
 }
