@@ -1,8 +1,11 @@
 //! Where a region would fit, beside the ranges that the host sends and bridges with legacy parts.
+ghost use Rattle.given_spec.specs.Told.{IsTold};
+
 use pci_base::range::{Range, RootRange};
 use pci_base::slot::Slot;
 use pci_base::space::Space;
 use pci_claims::given::{Given, LegacyBridge};
+use pci_claims::told::{Told, ranges_on};
 use pci_dump::reader::read_dump;
 use pci_dump::std_streams::Incoming;
 use pci_tree::admit::outline_of;
@@ -65,11 +68,22 @@ fn beside(legacy: &[LegacyBridge]) -> Given<'_> {
     }
 }
 
+/// Nothing is told.
+#[tactic(auto, using(crate::proofs::Nothing::nothing_told))]
+fn nothing_told() -> Told<'static>
+    ensures { IsTold result.ranges.now }
+{
+    Told {
+        ranges: &[],
+        asleep: &[],
+    }
+}
+
 /// The first BAR of a device, of memory.
 fn memory_bar(bus: u8, device: u8) -> Result<RegionName, Fail> {
     Ok(RegionName {
         slot: slot(bus, device)?,
-        reg: 0x10,
+        register: 0x10,
         space: Space::Mem,
     })
 }
@@ -91,12 +105,15 @@ fn fits(
     };
     let outline = outline_of(alloc, &dump, &probe, roots)?;
     let mut text = String::new(alloc);
+    let told = nothing_told();
     let judged = Judged {
         given,
+        told: &told,
         outline: &outline,
         probe: probe.blocks(),
     };
-    let mut rooms = no_rooms();
+    let on = ranges_on(alloc, &told, &outline)?;
+    let mut rooms = no_rooms(&on);
     push_fits(alloc, &mut text, &mut rooms, &judged, name)?;
     if text.as_str() == wanted {
         Ok(())
@@ -205,7 +222,7 @@ fn a_legacy_part_is_in_the_way_and_has_no_place_of_its_own(rt: HostRuntime) -> R
     fits(&rt, &board, &given, memory_bar(0, 2)?, line)?;
     let part = RegionName {
         slot: slot(0, 1)?,
-        reg: 0x3e,
+        register: 0x3e,
         space: Space::Mem,
     };
     fits(&rt, &board, &given, part, "")
@@ -225,7 +242,7 @@ fn of_a_window_nothing_is_told(rt: HostRuntime) -> Result<(), Fail> {
     };
     let outer = RegionName {
         slot: slot(0, 1)?,
-        reg: 0x20,
+        register: 0x20,
         space: Space::Mem,
     };
     fits(&rt, &board, &given, outer, "")?;
@@ -258,7 +275,7 @@ fn ports_of_each_1k_are_in_the_way_where_10_bits_are_decoded(rt: HostRuntime) ->
     };
     let ports = RegionName {
         slot: slot(0, 2)?,
-        reg: 0x10,
+        register: 0x10,
         space: Space::Io,
     };
     let line = "  fits 000007e0-000007ef 16\n";

@@ -5,8 +5,8 @@ use pci_base::space::Space;
 use pci_claims::given::Given;
 use pci_claims::told::{Told, ranges_on};
 use pci_dump::dump::Dump;
-use pci_given::any_fault::AnyFault;
-use pci_given::named::{self, Name};
+use pci_function::fault::Fault;
+use pci_given::any_fault::without_told;
 use pci_tree::admit::outline_of;
 use pci_tree::outline::Outline;
 use pci_tree::roots::Roots;
@@ -22,47 +22,39 @@ use test_support::row::{Row, dumps_of_rows};
 /// A fault by the devices that it names.
 enum Named {
     /// A BAR or ROM of memory of a device on bus 01 that the bridge 00:01.0 doesn't pass: its register and the address.
-    Unreached(u8, u16, u64),
+    Unreached(u8, u8, u64),
     /// The first BARs of two devices of one bus: the bus, the address and the devices.
     Clash(u8, u64, u8, u8),
 }
 
 use Named::{Clash, Unreached};
 
-fn unreached(device: u8, register: u16, address: u64) -> Option<AnyFault> {
-    Some(AnyFault::Unreached(named::Unreached {
-        region: Name {
-            slot: Slot::new(1, device, 0)?,
-            register,
-        },
+fn unreached(device: u8, reg: u8, address: u64) -> Option<Fault> {
+    Some(Fault::Unreached {
+        slot: Slot::new(1, device, 0)?,
+        reg,
         space: Space::Mem,
         address,
         bridge: Slot::new(0, 1, 0)?,
-    }))
-}
-
-/// The first BAR of a device.
-fn first_bar(bus: u8, device: u8) -> Option<Name> {
-    Some(Name {
-        slot: Slot::new(bus, device, 0)?,
-        register: 0x10,
     })
 }
 
-fn clash(bus: u8, address: u64, first: u8, second: u8) -> Option<AnyFault> {
-    Some(AnyFault::Clash(named::Clash {
+fn clash(bus: u8, address: u64, first: u8, second: u8) -> Option<Fault> {
+    Some(Fault::Clash {
         bus,
         space: Space::Mem,
         address,
-        first: first_bar(bus, first)?,
-        second: first_bar(bus, second)?,
-    }))
+        first: Slot::new(bus, first, 0)?,
+        first_reg: 0x10,
+        second: Slot::new(bus, second, 0)?,
+        second_reg: 0x10,
+    })
 }
 
 /// The fault itself.
-fn fault_of(named: &Named) -> Option<AnyFault> {
+fn fault_of(named: &Named) -> Option<Fault> {
     match named {
-        Unreached(device, register, address) => unreached(*device, *register, *address),
+        Unreached(device, reg, address) => unreached(*device, *reg, *address),
         Clash(bus, address, first, second) => clash(*bus, *address, *first, *second),
     }
 }
@@ -86,11 +78,13 @@ fn told(alloc: Global, outline: &Outline, probe: &Dump, faults: &[Named]) -> Opt
         outline,
         probe: probe.blocks(),
     };
-    let on = ranges_on(alloc, &untold, outline).ok()?;
+    let Ok(on) = ranges_on(alloc, &untold, outline) else {
+        return None;
+    };
     let mut rooms = no_rooms(&on);
     let mut text = String::new(alloc);
     for named in faults {
-        let fault = fault_of(named)?;
+        let fault = without_told(&fault_of(named)?);
         push_why(alloc, &mut text, &mut rooms, &judged, &fault).ok()?;
     }
     push_off(&mut text, outline, &untold, &on).ok()?;
