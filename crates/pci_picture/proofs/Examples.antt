@@ -17,15 +17,15 @@ inner_regions = refl
 
 -- ranges that are told, with a name and without one
 told_regions : region_lines (codes "    e0000000-e001ffff 128K told 01:00.0 +2 vf0" ++ 10 ∷ (codes "    e0020000-e002ffff 64K told pref 01:00.0 +4096"
-    ++ 10 ∷ codes "  fd000000-fdffffff 16M held 00:1f.1 +10 p2sb"))
+    ++ 10 ∷ (codes "  fd000000-fdffffff 16M held 00:1f.1 +10 p2sb" ++ 10 ∷ codes "  f0000000-f0000fff 4K held pref 01:1f.0 +1 x")))
     ≡ codes "e0000000-e001ffff 128K told 01:00.0 +2 vf0" ∷ codes "e0020000-e002ffff 64K told pref 01:00.0 +4096"
-    ∷ codes "fd000000-fdffffff 16M held 00:1f.1 +10 p2sb" ∷ []
+    ∷ codes "fd000000-fdffffff 16M held 00:1f.1 +10 p2sb" ∷ codes "f0000000-f0000fff 4K held pref 01:1f.0 +1 x" ∷ []
 unfolding is_region_line is_range is_part is_slot is_register is_told_number words_of
 told_regions = refl
 
--- no number, 0, a zero before it, one too many, a register, and a held range that is prefetchable
+-- no number, 0, a zero before it, one too many, a register, and the word `pref` twice
 untold_regions : region_lines (codes "  d040-d05f 32 told 00:1f.2 +" ++ 10 ∷ (codes "  d040-d05f 32 told 00:1f.2 +0" ++ 10 ∷ (codes "  d040-d05f 32 told 00:1f.2 +01"
-    ++ 10 ∷ (codes "  d040-d05f 32 told 00:1f.2 +4097" ++ 10 ∷ (codes "  d040-d05f 32 told 00:1f.2 20" ++ 10 ∷ codes "  d040-d05f 32 held pref 00:1f.2 +1"))))) ≡ []
+    ++ 10 ∷ (codes "  d040-d05f 32 told 00:1f.2 +4097" ++ 10 ∷ (codes "  d040-d05f 32 told 00:1f.2 20" ++ 10 ∷ codes "  d040-d05f 32 held pref pref 00:1f.2 +1"))))) ≡ []
 unfolding is_region_line is_range is_part is_slot is_register is_told_number words_of
 untold_regions = refl
 

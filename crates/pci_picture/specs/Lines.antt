@@ -114,18 +114,16 @@ abbrev pub names_told : List (List ℕ) → ℕ → Bool
 names_told words at = is_slot (nth_word words at) && is_told_number (nth_word words (at + 1))
 
 -- the part that words name from the third one on: `bar S r`, `bar pref S r`, `rom S r`, `window S r`, `told S +n`,
--- `told pref S +n`, `held S +n` or `free`
+-- `told pref S +n`, `held S +n`, `held pref S +n` or `free`
 unfoldable pub is_part : List (List ℕ) → Bool
 is_part words =
     if says (nth_word words 2) (codes "bar")
     then names_register words (if says (nth_word words 3) (codes "pref") then 4 else 3)
     else (if says (nth_word words 2) (codes "rom") || says (nth_word words 2) (codes "window")
     then names_register words 3
-    else (if says (nth_word words 2) (codes "told")
+    else (if says (nth_word words 2) (codes "told") || says (nth_word words 2) (codes "held")
     then names_told words (if says (nth_word words 3) (codes "pref") then 4 else 3)
-    else (if says (nth_word words 2) (codes "held")
-    then names_told words 3
-    else says (nth_word words 2) (codes "free"))))
+    else says (nth_word words 2) (codes "free")))
 
 -- a line `F-L N PART S r`, `F-L N PART S +n` or `F-L N free`, without the blanks before it
 unfoldable pub is_region_line : List ℕ → Bool

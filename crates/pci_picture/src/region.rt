@@ -1,6 +1,6 @@
 //! Lines of a map.
-ghost use Rattle.std.specs.Prelude.{◌≡◌, ◌&&◌, [], ◌∷◌, IsTrue, MatchOption, is_some};
-ghost use Rattle.pci_picture.specs.Lines.{is_one_line, is_part, is_region_line, is_register, is_slot, is_told_number, region_line, words_of};
+ghost use Rattle.std.specs.Prelude.{◌≡◌, ◌&&◌, [], ◌∷◌, IsTrue, MatchOption, is_some, codes, if◌then◌else◌};
+ghost use Rattle.pci_picture.specs.Lines.{is_one_line, is_part, is_region_line, is_register, is_slot, is_told_number, names_told, nth_word, region_line, says, words_of};
 
 use super::reading::{Place, extent_of, hex_byte, region_key, slot_number, told_number, word};
 
@@ -13,7 +13,7 @@ pub enum Part {
     Window,
     /// A range that is told of a function, prefetchable or not.
     Told,
-    /// A range that somebody is told to answer.
+    /// A range that somebody is told to answer, prefetchable or not.
     Held,
     Free,
 }
@@ -89,6 +89,19 @@ fn told_by<'a>(part: Part, slot: &'a [u8], register: &'a [u8], name: &'a [u8]) -
     })
 }
 
+/// The told range that a line names behind its part, prefetchable or not.
+fn told_behind(part: Part, line: &[u8]) -> Option<Named<'_>>
+    ensures { is_some result ≡ names_told (words_of line.now)
+        (if says (nth_word (words_of line.now) 3) (codes "pref") then 4 else 3) }
+{
+    let next = word(line, 3);
+    if next == b"pref".as_slice() {
+        told_by(part, word(line, 4), word(line, 5), word(line, 6))
+    } else {
+        told_by(part, next, word(line, 4), word(line, 5))
+    }
+}
+
 /// The part that stands at the third word of a line, and what names it.
 #[tactic(auto, unfolding(crate::specs::Lines::is_part))]
 fn named_of(line: &[u8]) -> Option<Named<'_>>
@@ -107,14 +120,9 @@ fn named_of(line: &[u8]) -> Option<Named<'_>>
     } else if part == b"window".as_slice() {
         named_by(Part::Window, word(line, 3), word(line, 4))
     } else if part == b"told".as_slice() {
-        let next = word(line, 3);
-        if next == b"pref".as_slice() {
-            told_by(Part::Told, word(line, 4), word(line, 5), word(line, 6))
-        } else {
-            told_by(Part::Told, next, word(line, 4), word(line, 5))
-        }
+        told_behind(Part::Told, line)
     } else if part == b"held".as_slice() {
-        told_by(Part::Held, word(line, 3), word(line, 4), word(line, 5))
+        told_behind(Part::Held, line)
     } else if part == b"free".as_slice() {
         Some(Named {
             part: Part::Free,
