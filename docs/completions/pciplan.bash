@@ -32,8 +32,7 @@ _pciplan() {
     show | size) options='' ;;
     check) options='--root' ;;
     faults) options='--also --host-io --host-mem --model --root --why' ;;
-    map) options='--also --host-io --host-mem --model --root' ;;
-    picture) options='--host-io --host-mem --model --root' ;;
+    map | picture) options='--also --host-io --host-mem --model --root' ;;
     plan) options='--io --mem --pref --root --why --writes' ;;
     settle) options='--anew --fixed --io --mem --pref --root --slots --spare --writes' ;;
     probe) options='--exact --least' ;;

@@ -79,12 +79,12 @@ pciplan faults DUMP PROBE [--root LIST] [--model WORDS] [--host-io LIST]
     bb alone, from address A to address B, each of 1 to 16 lower-case hex
     digits. Of a space without a list all is sent to each.
   --also FILE
-    faults judges, and map shows, what functions answer that no BAR shows: of
-    virtual functions, of Enhanced Allocation, or of a chipset. A line of the
-    file is S SPACE A-B MARK, and a name where one is wanted. SPACE is io, mem
-    or pref. MARK is command (while Command of the function enables the space),
-    always, or held (somebody there answers it). A range is named by its slot
-    and line, as in 01:00.0 +1.
+    faults judges, and map and picture show, what functions answer that no BAR
+    shows: of virtual functions, of Enhanced Allocation, or of a chipset. A line
+    of the file is S SPACE A-B MARK, and a name where one is wanted. SPACE is
+    io, mem or pref. MARK is command (while Command of the function enables the
+    space), always, or held (somebody there answers it). A range is named by its
+    slot and line, as in 01:00.0 +1.
   --why
     faults tells with what ranges each fault 60 to 63 is there, and which BARs
     are off. Behind a fault 72 plan prints a second line: how many addresses the
@@ -128,12 +128,12 @@ pciplan map DUMP PROBE [--root LIST] [--model WORDS] [--host-io LIST]
     bb alone, from address A to address B, each of 1 to 16 lower-case hex
     digits. Of a space without a list all is sent to each.
   --also FILE
-    faults judges, and map shows, what functions answer that no BAR shows: of
-    virtual functions, of Enhanced Allocation, or of a chipset. A line of the
-    file is S SPACE A-B MARK, and a name where one is wanted. SPACE is io, mem
-    or pref. MARK is command (while Command of the function enables the space),
-    always, or held (somebody there answers it). A range is named by its slot
-    and line, as in 01:00.0 +1.
+    faults judges, and map and picture show, what functions answer that no BAR
+    shows: of virtual functions, of Enhanced Allocation, or of a chipset. A line
+    of the file is S SPACE A-B MARK, and a name where one is wanted. SPACE is
+    io, mem or pref. MARK is command (while Command of the function enables the
+    space), always, or held (somebody there answers it). A range is named by its
+    slot and line, as in 01:00.0 +1.
 ";
 
 pub const SIZE: &str = "\
@@ -259,7 +259,7 @@ pciplan json COMMAND WORDS
 
 pub const PICTURE: &str = "\
 pciplan picture DUMP PROBE [--root LIST] [--model WORDS] [--host-io LIST]
-    [--host-mem LIST]
+    [--host-mem LIST] [--also FILE]
   Prints the map as a picture (SVG), with the tree of buses and the faults with
   their reasons. Each section of the map is drawn as nested boxes on an axis of
   addresses. A box has its line of map and its faults as its title, which a
@@ -295,6 +295,13 @@ pciplan picture DUMP PROBE [--root LIST] [--model WORDS] [--host-io LIST]
     commas between them, each A-B for all root buses or bb:A-B for the root bus
     bb alone, from address A to address B, each of 1 to 16 lower-case hex
     digits. Of a space without a list all is sent to each.
+  --also FILE
+    faults judges, and map and picture show, what functions answer that no BAR
+    shows: of virtual functions, of Enhanced Allocation, or of a chipset. A line
+    of the file is S SPACE A-B MARK, and a name where one is wanted. SPACE is
+    io, mem or pref. MARK is command (while Command of the function enables the
+    space), always, or held (somebody there answers it). A range is named by its
+    slot and line, as in 01:00.0 +1.
 ";
 
 pub const EXPLAIN: &str = "\
