@@ -91,7 +91,8 @@ def adding_fault(case, bare):
     if gone:
         return 'what is told takes away %s' % sorted(map(str, gone))[0]
     kept = set(map_of(case))
-    lost = [line for line in map_of(bare) if line not in kept and not line.endswith(' free')]
+    may_go = lambda line: line.startswith('bus ') or line.endswith(' free')
+    lost = [line for line in map_of(bare) if line not in kept and not may_go(line)]
     return 'the map has no line %s' % lost[0] if lost else None
 
 
