@@ -42,7 +42,7 @@ class Region:
         self.digits, self.first, self.last, self.size, self.part = len(m[1]), int(m[1], 16), int(m[2], 16), m[3], m[4]
         self.slot, self.register, self.inside = m[5], m[6], []
         self.key = (m[5], m[6])
-        self.css = {'bar pref': 'pref', 'told pref': 'told'}.get(self.part, self.part)
+        self.css = {'bar pref': 'pref', 'told pref': 'told', 'held pref': 'held'}.get(self.part, self.part)
         self.is_told = self.css in ('told', 'held')
         self.name = m[7] if self.is_told else None
         # the told ranges of a function come behind its registers
@@ -223,7 +223,7 @@ class Picture:
         """What a box says of a region behind its size."""
         if r.name:
             return ', ' + r.name
-        return '' if r.part == 'held' and r.slot not in self.functions else ', ' + self.name(r.slot)
+        return '' if r.css == 'held' and r.slot not in self.functions else ', ' + self.name(r.slot)
 
     def buses(self, slot):
         return self.functions[slot].buses() if slot in self.functions else 'no bus'
