@@ -20,8 +20,8 @@ use Rattle.given_spec.specs.Fault.{Known, Outside}
 use Rattle.given_spec.specs.DeterminedLaws.{WhyIsDetermined, KnownWhyIsDetermined, PlainWhyIsDetermined}
 use Rattle.given_spec.specs.ToldClaims.{Told, nothing_told, IsRangeAt}
 use Rattle.given_spec.specs.ToldRegion.{ToldRegion, told_name, IsToldIn}
-use Rattle.given_spec.specs.Why.{AnyRegion, Own, Legacy, OfLine, space_of, is_prefetchable, bus_of, to_move, Holds, IsRegionIn, IsNamed, region_line, ranges_for, host_line, bridge_line, Misses, IsBehindOutside, IsBehindUnreached, IsBehindTwo, AreNamedTwo, IsKnownEvidence, IsPlaceFor, IsLeastPlace, IsFit, is_said, IsFitBehind, IsAdviceFor, IsKnownAdvice, IsWhy}
-use Rattle.given_spec.proofs.Nothing.{not_at_control}
+use Rattle.given_spec.specs.Why.{AnyRegion, Own, Legacy, Palette, OfLine, space_of, is_prefetchable, bus_of, to_move, Holds, IsRegionIn, IsNamed, region_line, ranges_for, host_line, bridge_line, Misses, IsBehindOutside, IsBehindUnreached, IsBehindTwo, AreNamedTwo, IsKnownEvidence, IsPlaceFor, IsLeastPlace, IsFit, is_said, IsFitBehind, IsAdviceFor, IsKnownAdvice, IsWhy}
+use Rattle.given_spec.proofs.Nothing.{not_at_command, not_at_control}
 use Rattle.given_spec.proofs.Reasons.{same_why, low_register}
 use Rattle.given_spec.proofs.ToldNames.{one_range}
 use Rattle.given_spec.proofs.OneList.{range_from, same_range, same_runs}
@@ -79,6 +79,10 @@ module _ (s : System) (is_system : IsSystem s) where
   own_not_legacy : (q : plain.Region) (register : ℕ) → plain.IsRegionIn s q → q.register ≡ register → 0x3e ≡ register → ⊥
   own_not_legacy q register is at control = not_at_control is.f q.part (is.register ∙ at ∙ sym control)
 
+  -- nor as a palette part
+  own_not_palette : (q : plain.Region) (register : ℕ) → plain.IsRegionIn s q → q.register ≡ register → 0x04 ≡ register → ⊥
+  own_not_palette q register is at command = not_at_command is.f q.part (is.register ∙ at ∙ sym command)
+
   -- ---- told ranges
 
   -- a register names one range
@@ -88,25 +92,38 @@ module _ (s : System) (is_system : IsSystem s) where
       let range : x.told ≡ y.told = one_range told (told_name y) x.told y.told here also.named in
       λ i. record { register = register i; told = range i }
 
-  -- no region of address registers is named as a told range, and no legacy part is
+  -- no region of address registers is named as a told range, and neither a legacy part nor a palette part is
   own_not_told : (told : Told) (q : plain.Region) (x : ToldRegion) → plain.IsRegionIn s q → IsToldIn told s x → q.register ≡ x.register → ⊥
   own_not_told told q x is also same = let low = low_register s q is in let line = also.named.register in omega (arith, low, line, same)
 
   control_not_told : (told : Told) (x : ToldRegion) → IsToldIn told s x → 0x3e ≡ x.register → ⊥
   control_not_told told x is control = let line = is.named.register in omega (arith, line, control)
 
+  command_not_told : (told : Told) (x : ToldRegion) → IsToldIn told s x → 0x04 ≡ x.register → ⊥
+  command_not_told told x is command = let line = is.named.register in omega (arith, line, command)
+
+  control_not_command : (register : ℕ) → 0x3e ≡ register → 0x04 ≡ register → ⊥
+  control_not_command register control command = omega (arith, control, command)
+
   module _ (told : Told) (given : Given) where
     named_one : (p q : AnyRegion) (slot : Slot) (register : ℕ) (space : Space) → IsNamed p slot register space → IsNamed q slot register space
         → IsRegionIn told given s p → IsRegionIn told given s q → p ≡ q
     named_one (Own p) (Own q) slot register space named other is also = ap Own (named_own p q slot register space named other is also)
     named_one (Own p) (Legacy c sp) slot register space named other is also = absurd (own_not_legacy p register is named.1 other.1)
+    named_one (Own p) (Palette c) slot register space named other is also = absurd (own_not_palette p register is named.1 other.1)
     named_one (Own p) (OfLine y) slot register space named other is also = absurd (own_not_told told p y is also (named.1 ∙ sym other.1))
     named_one (Legacy b sp) (Own q) slot register space named other is also = absurd (own_not_legacy q register also other.1 named.1)
     named_one (Legacy b sp) (Legacy c sq) slot register space named other is also =
         ap (λ (f : Function). Legacy f sp) (at_slot b c slot is.0 also.0 named.0 other.0) ∙ ap (λ sp. Legacy c sp) (named.2 ∙ sym other.2)
+    named_one (Legacy b sp) (Palette c) slot register space named other is also = absurd (control_not_command register named.1 other.1)
     named_one (Legacy b sp) (OfLine y) slot register space named other is also = absurd (control_not_told told y also (named.1 ∙ sym other.1))
+    named_one (Palette b) (Own q) slot register space named other is also = absurd (own_not_palette q register also other.1 named.1)
+    named_one (Palette b) (Legacy c sq) slot register space named other is also = absurd (control_not_command register other.1 named.1)
+    named_one (Palette b) (Palette c) slot register space named other is also = ap Palette (at_slot b c slot is.0 also.0 named.0 other.0)
+    named_one (Palette b) (OfLine y) slot register space named other is also = absurd (command_not_told told y also (named.1 ∙ sym other.1))
     named_one (OfLine x) (Own q) slot register space named other is also = absurd (own_not_told told q x also is (other.1 ∙ sym named.1))
     named_one (OfLine x) (Legacy c sq) slot register space named other is also = absurd (control_not_told told x is (other.1 ∙ sym named.1))
+    named_one (OfLine x) (Palette c) slot register space named other is also = absurd (command_not_told told x is (other.1 ∙ sym named.1))
     named_one (OfLine x) (OfLine y) slot register space named other is also = ap OfLine (same_told told x y slot is also named.0 other.0 (named.1 ∙ sym other.1))
 
     -- ---- what tells that a fault is there
@@ -184,6 +201,7 @@ module _ (s : System) (is_system : IsSystem s) where
       module _ (assumed : List AssumedRegister) where
         one_fit_behind : (q : AnyRegion) (lines others : List ℕ) → IsFitBehind assumed told given roots s q lines → IsFitBehind assumed told given roots s q others → lines ≡ others
         one_fit_behind (Legacy b space) lines others h k = h ∙ sym k
+        one_fit_behind (Palette b) lines others h k = h ∙ sym k
         one_fit_behind (OfLine x) lines others h k = h ∙ sym k
         one_fit_behind (Own q) lines others h k =
             one_of_match _ (lines ≡ []) _ (others ≡ []) _ (lines ≡ others) (λ x y. x ∙ sym y)

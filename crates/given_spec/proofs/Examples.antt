@@ -19,3 +19,5 @@ pub mod ToldClaims
 pub mod ToldJudging
 pub mod ToldSlots
 pub mod ToldOrder
+pub mod Snoop
+pub mod Unclaimed

@@ -5,8 +5,8 @@ use Rattle.std.proofs.lemmas.Bool.{and_from, and_parts, leb-true, le-leb, ltb-tr
 use Rattle.pci_spec.specs.Slot.{Slot}
 use Rattle.pci_spec.specs.System.{Space, Io, Memory, is_window}
 use Rattle.pci_spec.specs.System as system
-use Rattle.given_spec.specs.Given.{Given, has_isa, is_isa_port, is_cut, legacy_claims}
-use Rattle.given_spec.specs.Claims.{Own, Legacy}
+use Rattle.given_spec.specs.Given.{Given, has_isa, is_isa_port, is_cut}
+use Rattle.given_spec.specs.Claims.{Own, Legacy, Palette, forwards_else, passes_else}
 use Rattle.given_spec.specs.IsaLaws.{IsaLeavesClaims, IsaLeavesForwards, IsaLeavesPasses, IsaTakesWhole, nobody_has_isa}
 
 pub not_cut : (given : Given) (slot : Slot) → has_isa given slot ≡ false → (space : Space) (a : ℕ) → is_cut given space a slot ≡ false
@@ -25,12 +25,16 @@ isa_leaves_claims given f Legacy space a none = (
   λ h. record { address = h.address; claims = h.claims },
   λ h. record { address = h.address; claims = h.claims },
 )
+isa_leaves_claims given f Palette space a none = (
+  λ h. record { address = h.address; claims = h.claims },
+  λ h. record { address = h.address; claims = h.claims },
+)
 
 pub isa_leaves_forwards : IsaLeavesForwards
-isa_leaves_forwards given space a b none = ap (λ cut. (system.forwards space a b && not cut) || legacy_claims given space a b) (same_cut given b.slot none space a)
+isa_leaves_forwards given space a b none = ap (λ cut. (system.forwards space a b && not cut) || forwards_else given space a b) (same_cut given b.slot none space a)
 
 pub isa_leaves_passes : IsaLeavesPasses
-isa_leaves_passes given space prefetchable a b none = ap (λ cut. (system.passes space prefetchable a b && not cut) || legacy_claims given space a b) (same_cut given b.slot none space a)
+isa_leaves_passes given space prefetchable a b none = ap (λ cut. (system.passes space prefetchable a b && not cut) || passes_else given space a b) (same_cut given b.slot none space a)
 
 -- ---- blocks of 256
 

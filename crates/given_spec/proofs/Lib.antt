@@ -16,6 +16,8 @@ pub mod PlainTexts
 pub mod Moving
 pub mod Writing
 pub mod Isa
+pub mod Unclaimed
+pub mod Snoop
 pub mod ToldLines
 pub mod ToldKept
 pub mod ToldWhole

@@ -18,8 +18,8 @@ use Rattle.pci_spec.specs.Why.{Region}
 use Rattle.pci_spec.proofs.BusRanges.{all_gives, all_from, any_gives, any_from}
 use Rattle.pci_spec.proofs.Firsts.{same_region}
 use Rattle.pci_spec.proofs.Members.{in_nil, in_cons_cases, in_head, in_tail, in_map_to, in_map_from}
-use Rattle.given_spec.specs.Given.{Given, nothing_given, legacy_claims, legacy_holds, is_cut, starts}
-use Rattle.given_spec.specs.Claims.{Part, Own, Legacy, Claims, is_cut_of, IsPassedTo, Gets, passes, forwards, register_of}
+use Rattle.given_spec.specs.Given.{Given, nothing_given, legacy_claims, legacy_holds, palette_claims, palette_holds, takes, ranges_of, is_cut, starts}
+use Rattle.given_spec.specs.Claims.{Part, Own, Legacy, Palette, Claims, is_cut_of, IsPassedTo, Gets, passes, passes_else, forwards, forwards_else, register_of}
 use Rattle.given_spec.specs.Claims as untold
 use Rattle.given_spec.specs.Fault.{Fault, Known, Outside}
 use Rattle.given_spec.specs.Fault as untold_fault
@@ -29,7 +29,7 @@ use Rattle.given_spec.specs.ToldFault.{HasToBeReached, IsOutside, IsUnreached, I
 use Rattle.given_spec.specs.FaultsText.{is_of_judging}
 use Rattle.given_spec.specs.Why.{IsTakenBeside, IsPlaceFor}
 use Rattle.given_spec.specs.Moved.{at_range, IsSameBut, IsMovedTo, NamesRegion, IsKnownFaultOf, HasItsSize, part_name, NoFaultWhereItFits, NoFaultOfOthers, NoPlainFaultWhereItFits}
-use Rattle.given_spec.proofs.Nothing.{not_at_control, same_faults, same_passed_to}
+use Rattle.given_spec.proofs.Nothing.{not_at_command, not_at_control, same_faults, same_passed_to}
 use Rattle.given_spec.proofs.Judging.{passed_is_sent, passed_by_each}
 use Rattle.given_spec.proofs.NothingTold.{same_told_faults}
 use Rattle.given_spec.proofs.Reasons.{low_register, taken_plain, no_root}
@@ -51,20 +51,37 @@ module _ (q : Region) (f g : Function) (slot : f.slot ≡ g.slot) (same : IsSame
   on_same Memory = ap (λ c. has_bit c 1) same.command
 
   module _ (given : Given) where
-    abbrev any_at : Space → ℕ → Slot → Bool
-    any_at space a x = list_any (λ entry. same_slot entry.slot x && legacy_holds entry.is_wide space a) given.legacy
+    -- what is said of the slot of a bridge that Command enables for a space
+    enabled_same : (space : Space) (said : Slot → Bool) → (is_bridge f && is_space_on f space && said f.slot) ≡ (is_bridge g && is_space_on g space && said g.slot)
+    enabled_same space said =
+        ap (λ b. b && is_space_on f space && said f.slot) bridge_same
+        ∙ ap (λ b. is_bridge g && b && said f.slot) (on_same space)
+        ∙ ap (λ x. is_bridge g && is_space_on g space && said x) slot
 
     legacy_same : (space : Space) (a : ℕ) → legacy_claims given space a f ≡ legacy_claims given space a g
-    legacy_same space a =
-        ap (λ b. b && is_space_on f space && any_at space a f.slot) bridge_same
-        ∙ ap (λ b. is_bridge g && b && any_at space a f.slot) (on_same space)
-        ∙ ap (λ x. is_bridge g && is_space_on g space && any_at space a x) slot
+    legacy_same space a = enabled_same space (λ x. list_any (λ entry. same_slot entry.slot x && legacy_holds entry.is_wide space a) given.legacy)
+
+    palette_same : (space : Space) (a : ℕ) → palette_claims given space a f ≡ palette_claims given space a g
+    palette_same space a = enabled_same space (λ x. list_any (λ entry. same_slot entry.slot x && palette_holds entry.is_wide space a) given.palette)
+
+    takes_same : (space : Space) (a : ℕ) → takes given space a f ≡ takes given space a g
+    takes_same space a =
+        enabled_same space
+        (λ x. list_any (λ entry. same_slot entry.slot x && list_any (λ r. nat_le r.first a && nat_le a r.last) (ranges_of entry space)) given.unclaimed)
+
+    passes_else_same : (space : Space) (a : ℕ) → passes_else given space a f ≡ passes_else given space a g
+    passes_else_same space a = ap (λ b. b || takes given space a f) (legacy_same space a) ∙ ap (λ b. legacy_claims given space a g || b) (takes_same space a)
+
+    forwards_else_same : (space : Space) (a : ℕ) → forwards_else given space a f ≡ forwards_else given space a g
+    forwards_else_same space a =
+        ap (λ b. b || palette_claims given space a f) (passes_else_same space a) ∙ ap (λ b. passes_else given space a g || b) (palette_same space a)
 
     register_same : (part : Part) → register_of f part ≡ register_of g part
     register_same (Own (Bar n)) = refl
     register_same (Own Rom) = ap rom_register same.layout
     register_same (Own (Window kind)) = refl
     register_same Legacy = refl
+    register_same Palette = refl
 
     claimed : (part : Part) (space : Space) (a : ℕ) → ((f.slot ≡ q.slot) × (register_of f part ≡ q.register) → ⊥) → Claims given g part space a → Claims given f part space a
     claimed (Own part) space a other own = record {
@@ -72,6 +89,7 @@ module _ (q : Region) (f g : Function) (slot : f.slot ≡ g.slot) (same : IsSame
       kept = ap (λ x. is_cut_of given part space a x) slot ∙ own.kept;
     }
     claimed Legacy space a other claims = record { address = claims.address; claims = legacy_same space a ∙ claims.claims }
+    claimed Palette space a other claims = record { address = claims.address; claims = palette_same space a ∙ claims.claims }
 
   -- of a bridge what it passes
   module _ (bridge : IsTrue (is_bridge f)) where
@@ -93,15 +111,15 @@ module _ (q : Region) (f g : Function) (slot : f.slot ≡ g.slot) (same : IsSame
 
     forwards_same : (given : Given) (space : Space) (a : ℕ) → forwards given space a f ≡ forwards given space a g
     forwards_same given space a =
-        ap (λ b. (b && not (is_cut given space a f.slot)) || legacy_claims given space a f) (own_forwards_same space a)
-        ∙ ap (λ x. (system.forwards space a g && not (is_cut given space a x)) || legacy_claims given space a f) slot
-        ∙ ap (λ b. (system.forwards space a g && not (is_cut given space a g.slot)) || b) (legacy_same given space a)
+        ap (λ b. (b && not (is_cut given space a f.slot)) || forwards_else given space a f) (own_forwards_same space a)
+        ∙ ap (λ x. (system.forwards space a g && not (is_cut given space a x)) || forwards_else given space a f) slot
+        ∙ ap (λ b. (system.forwards space a g && not (is_cut given space a g.slot)) || b) (forwards_else_same given space a)
 
     passes_same : (given : Given) (space : Space) (pf : Bool) (a : ℕ) → passes given space pf a f ≡ passes given space pf a g
     passes_same given space pf a =
-        ap (λ b. (b && not (is_cut given space a f.slot)) || legacy_claims given space a f) (own_passes_same space pf a)
-        ∙ ap (λ x. (system.passes space pf a g && not (is_cut given space a x)) || legacy_claims given space a f) slot
-        ∙ ap (λ b. (system.passes space pf a g && not (is_cut given space a g.slot)) || b) (legacy_same given space a)
+        ap (λ b. (b && not (is_cut given space a f.slot)) || passes_else given space a f) (own_passes_same space pf a)
+        ∙ ap (λ x. (system.passes space pf a g && not (is_cut given space a x)) || passes_else given space a f) slot
+        ∙ ap (λ b. (system.passes space pf a g && not (is_cut given space a g.slot)) || b) (passes_else_same given space a)
 
 -- a told range that is on by what is enabled after was on by what was enabled before
 on_by : (mark : Mark) (awake before after : Bool) → (IsTrue after → IsTrue before) → IsTrue (is_on_by mark awake after) → IsTrue (is_on_by mark awake before)
@@ -342,6 +360,7 @@ module _ (told : Told) (given : Given) (roots : List ℕ) (s t : System) (q : Re
     claim_is : (g : Function) (part : Part) (space : Space) (a : ℕ) → Contains t g → g.slot ≡ q.slot → register_of g part ≡ q.register → Claims given g part space a → (q.space ≡ space) × InRange r a
     claim_is g (Own part) space a has slot register own = (let is = own_is g part space a has slot register own.claims in (is.0, is.1))
     claim_is g Legacy space a has slot register claims = absurd (not_at_control moved.moved.f q.part (moved.moved.register ∙ sym register))
+    claim_is g Palette space a has slot register claims = absurd (not_at_command moved.moved.f q.part (moved.moved.register ∙ sym register))
 
     -- each of its addresses is passed on all the way, as before
     reached : (a : ℕ) → InRange r a → IsPassedTo given roots s (address_in q.space a) q.prefetchable q.slot.bus

@@ -16,7 +16,7 @@ use Rattle.pci_spec.proofs.Nesting.{one_function}
 use Rattle.pci_spec.proofs.Regions.{part_same, slot_number-same, region_number-same, register_of-lt}
 use Rattle.pci_spec.proofs.Ways.{below_the_end}
 use Rattle.given_spec.specs.Given.{Given, starts}
-use Rattle.given_spec.specs.Claims.{Own, Legacy, ClaimsOnBus, may_share, are_window_and_legacy}
+use Rattle.given_spec.specs.Claims.{Own, Legacy, Palette, ClaimsOnBus, may_share, are_together}
 use Rattle.given_spec.specs.Fault.{Fault, Known, Outside, IsOutside, IsUnreached, IsClash, IsSplit}
 use Rattle.given_spec.specs.Sound.{IsSingle, IsHome}
 use Rattle.given_spec.specs.AllFaults.{IsOutsideOf, IsUnreachedOf, IsClashOf, IsSplitOf, IsNamed, AreAllOfJudging}
@@ -39,6 +39,7 @@ named_slot given s system bus space a slot register (f, part, listed, at, on, na
 pub named_register : (given : Given) (s : System) (bus : ℕ) (space : Space) (a : ℕ) (slot : Slot) (register : ℕ) → ClaimsOnBus given s bus (address_in space a) (named_region slot register) → register < 256
 named_register given s bus space a slot register (f, Own part, listed, at, on, named, own) = let less = register_of-lt f part own.claims.there in omega (arith, less, named)
 named_register given s bus space a slot register (f, Legacy, listed, at, on, named, claims) = omega (arith, named)
+named_register given s bus space a slot register (f, Palette, listed, at, on, named, claims) = omega (arith, named)
 
 abbrev Named : Type 0
 Named = Slot × ℕ
@@ -53,7 +54,7 @@ turned s t r q apart = elim (cases_Bool (may_share t q s r)) [
   | inl share ↦ absurd (both_ways _ apart (
       let slot : t ≡ s = shared_slot t s q r share in
       let parts = and_parts _ _ share in
-      let whole : IsTrue (may_share t r t q) = and_from (same_slot t t) _ (ap (λ x. same_slot t x) slot ∙ parts.0) (or_comm (are_window_and_legacy r q) (are_window_and_legacy q r) ∙ parts.1) in
+      let whole : IsTrue (may_share t r t q) = and_from (same_slot t t) _ (ap (λ x. same_slot t x) slot ∙ parts.0) (or_comm (are_together r q) (are_together q r) ∙ parts.1) in
       subst (λ x. IsTrue (may_share x r t q)) slot whole))
 ]
 

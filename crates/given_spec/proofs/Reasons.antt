@@ -20,14 +20,14 @@ use Rattle.pci_spec.specs.Why as plain
 use Rattle.pci_spec.proofs.BusRanges.{root_means}
 use Rattle.pci_spec.proofs.Regions.{register_of-lt}
 use Rattle.given_spec.specs.Given.{nothing_given}
-use Rattle.given_spec.specs.Claims.{Own as OwnPart, Legacy as LegacyPart, ClaimsOnBus}
+use Rattle.given_spec.specs.Claims.{Own as OwnPart, Legacy as LegacyPart, Palette as PalettePart, ClaimsOnBus}
 use Rattle.given_spec.specs.Fault.{Known}
 use Rattle.given_spec.specs.Laws.{SameWhy}
 use Rattle.given_spec.specs.ToldClaims.{nothing_told}
 use Rattle.given_spec.specs.ToldRegion.{ToldRegion, IsToldIn, told_name}
-use Rattle.given_spec.specs.Why.{Own, Legacy, OfLine, Holds, to_move, isa_words, isa_words_of, region_line, bridge_line, Misses, IsBehindUnreached, IsBehindTwo, AreNamedTwo, IsEvidence, IsKnownEvidence, IsBeside, IsTakenBeside, IsPlaceFor, IsLeastPlace, IsFit, IsFitBehind, IsAdviceFor, IsAdvice, IsKnownAdvice, is_said}
+use Rattle.given_spec.specs.Why.{Own, Legacy, Palette, OfLine, Holds, to_move, isa_words, isa_words_of, region_line, bridge_line, Misses, IsBehindUnreached, IsBehindTwo, AreNamedTwo, IsEvidence, IsKnownEvidence, IsBeside, IsTakenBeside, IsPlaceFor, IsLeastPlace, IsFit, IsFitBehind, IsAdviceFor, IsAdvice, IsKnownAdvice, is_said}
 use Rattle.given_spec.proofs.NothingTold.{HasLowRegisters, no_range_at, same_share, untold_claims}
-use Rattle.given_spec.proofs.Nothing.{none_cut_of, same_claims, same_passes, same_passed_to, no_legacy_claims, not_at_control, not_shared}
+use Rattle.given_spec.proofs.Nothing.{none_cut_of, same_claims, same_passes, same_passed_to, no_legacy_claims, no_palette_claims, not_at_command, not_at_control, not_shared}
 
 -- ---- runs
 
@@ -39,7 +39,7 @@ run_same P Q same r run = record {
   behind = λ q. run.behind ((same (r.last + 1)).1 q);
 }
 
-runs_same : (P Q : ℕ → Type 0) → ((a : ℕ) → P a ↔ Q a) → (rs : List Range) → AreRuns P rs → AreRuns Q rs
+pub runs_same : (P Q : ℕ → Type 0) → ((a : ℕ) → P a ↔ Q a) → (rs : List Range) → AreRuns P rs → AreRuns Q rs
 runs_same P Q same rs runs = record {
   each = λ k d within. run_same P Q same (get_or rs k d) (runs.each k d within);
   complete = λ a q. runs.complete a ((same a).1 q);
@@ -94,7 +94,7 @@ same_region_line word q =
 
 same_bridge_line : (b : Function) (space : Space) (prefetchable : Bool) → bridge_line nothing_given b space prefetchable ≡ plain.bridge_line b space prefetchable
 same_bridge_line b space prefetchable =
-    ap (λ more. inner_line (codes "bridge" ∷ slot_text b.slot ∷ on_text (system.is_space_on b space) ∷ windows_text space prefetchable (decoded_windows b.image b.probe) ∷ more ++ []))
+    ap (λ more. inner_line (codes "bridge" ∷ slot_text b.slot ∷ on_text (system.is_space_on b space) ∷ windows_text space prefetchable (decoded_windows b.image b.probe) ∷ more ++ [] ++ []))
     (no_isa_words space b.slot)
 
 -- ---- what a bridge misses
@@ -215,8 +215,10 @@ named_two_plain : (asleep : List Slot) (s : System) (space : Space) (first : Slo
     → AreNamedTwo (nothing_told asleep) nothing_given s space (named_regions first fr second sr) lines → PlainTwo s space first fr second sr lines
 named_two_plain asleep s space first fr second sr lines (Own p, Own q, np, nq, behind) = (p, q, np, nq, two_plain asleep s space p q lines nq.2 behind)
 named_two_plain asleep s space first fr second sr lines (Legacy b sp, q, np, nq, behind) = absurd (no_legacy_claims b sp behind.first.1 behind.first.2)
+named_two_plain asleep s space first fr second sr lines (Palette b, q, np, nq, behind) = absurd (no_palette_claims b Io behind.first.1 behind.first.2)
 named_two_plain asleep s space first fr second sr lines (OfLine x, q, np, nq, behind) = absurd (no_told asleep s x behind.first)
 named_two_plain asleep s space first fr second sr lines (Own p, Legacy b sp, np, nq, behind) = absurd (no_legacy_claims b sp behind.second.1 behind.second.2)
+named_two_plain asleep s space first fr second sr lines (Own p, Palette b, np, nq, behind) = absurd (no_palette_claims b Io behind.second.1 behind.second.2)
 named_two_plain asleep s space first fr second sr lines (Own p, OfLine x, np, nq, behind) = absurd (no_told asleep s x behind.second)
 
 plain_named_two : (asleep : List Slot) (s : System) (space : Space) (first : Slot) (fr : ℕ) (second : Slot) (sr : ℕ) (lines : List ℕ)
@@ -230,6 +232,7 @@ named_unreached_plain : (asleep : List Slot) (s : System) (slot : Slot) (registe
     → IsKnownEvidence (nothing_told asleep) nothing_given s (Unreached slot register space a bridge) lines → PlainUnreached s slot register space bridge lines
 named_unreached_plain asleep s slot register space a bridge lines (Own q, named, behind) = (q, named, unreached_plain asleep s q bridge lines behind)
 named_unreached_plain asleep s slot register space a bridge lines (Legacy b sp, named, behind) = absurd (no_legacy_claims b sp behind.is.1 behind.is.2)
+named_unreached_plain asleep s slot register space a bridge lines (Palette b, named, behind) = absurd (no_palette_claims b Io behind.is.1 behind.is.2)
 named_unreached_plain asleep s slot register space a bridge lines (OfLine x, named, behind) = absurd (no_told asleep s x behind.is)
 
 evidence_same : (asleep : List Slot) (roots : List ℕ) (s : System) (fault : faults.Fault) (lines : List ℕ)
@@ -282,6 +285,7 @@ taken_by asleep roots s q a below t (f, OwnPart part, listed, at, on, named, own
   claims = own.claims;
 }
 taken_by asleep roots s q a below t (f, LegacyPart, listed, at, on, named, claims) = absurd (no_legacy_claims f q.space a claims)
+taken_by asleep roots s q a below t (f, PalettePart, listed, at, on, named, claims) = absurd (no_palette_claims f q.space a claims)
 
 pub taken_plain : (asleep : List Slot) (roots : List ℕ) (s : System) (q : plain.Region) (a : ℕ) → (Contains roots q.slot.bus → ⊥) → IsTakenBeside (nothing_told asleep) nothing_given roots s q a → plain.IsTaken s q a
 taken_plain asleep roots s q a below t = taken_by asleep roots s q a below t (untold_claims asleep nothing_given s t.by.slot.bus (address_in q.space a) t.by t.claims)
@@ -290,12 +294,16 @@ taken_plain asleep roots s q a below t = taken_by asleep roots s q a below t (un
 off_control : (s : System) (q : plain.Region) → plain.IsRegionIn s q → q.register ≡ 0x3e → ⊥
 off_control s q is e = not_at_control is.f q.part (is.register ∙ e)
 
+-- nor at Command
+off_command : (s : System) (q : plain.Region) → plain.IsRegionIn s q → q.register ≡ 0x04 → ⊥
+off_command s q is e = not_at_command is.f q.part (is.register ∙ e)
+
 plain_taken : (asleep : List Slot) (roots : List ℕ) (s : System) (q : plain.Region) (a : ℕ) → plain.IsRegionIn s q → plain.IsTaken s q a → IsTakenBeside (nothing_told asleep) nothing_given roots s q a
 plain_taken asleep roots s q a is t = record {
   by = named_region t.f.slot (system.register_of t.f t.part);
   beside = inl t.on_bus;
   other = t.other;
-  apart = same_share asleep q.slot q.register t.f.slot (system.register_of t.f t.part) ∙ not_shared q.slot t.f.slot q.register (system.register_of t.f t.part) (off_control s q is) (not_at_control t.f t.part);
+  apart = same_share asleep q.slot q.register t.f.slot (system.register_of t.f t.part) ∙ not_shared q.slot t.f.slot q.register (system.register_of t.f t.part) (off_control s q is) (not_at_control t.f t.part) (off_command s q is) (not_at_command t.f t.part);
   claims = inl (t.f, OwnPart t.part, t.listed, refl, refl, refl, (same_claims t.f t.part q.space a).1 t.claims);
 }
 
@@ -375,6 +383,7 @@ PlainAdvice assumed roots s slot register space lines = (q : plain.Region) × pl
 advice_plain : (assumed : List AssumedRegister) (asleep : List Slot) (roots : List ℕ) (s : System) (slot : Slot) (register : ℕ) (space : Space) (lines : List ℕ) → IsAdviceFor assumed (nothing_told asleep) nothing_given roots s (named_region slot register) space lines → PlainAdvice assumed roots s slot register space lines
 advice_plain assumed asleep roots s slot register space lines (Own q, named, is, fit) = (q, named, is, fit_behind_plain assumed asleep roots s q lines is fit)
 advice_plain assumed asleep roots s slot register space lines (Legacy b sp, named, is, fit) = absurd (no_legacy_claims b sp is.1 is.2)
+advice_plain assumed asleep roots s slot register space lines (Palette b, named, is, fit) = absurd (no_palette_claims b Io is.1 is.2)
 advice_plain assumed asleep roots s slot register space lines (OfLine x, named, is, fit) = absurd (no_told asleep s x is)
 
 plain_advice : (assumed : List AssumedRegister) (asleep : List Slot) (roots : List ℕ) (s : System) (slot : Slot) (register : ℕ) (space : Space) (lines : List ℕ) → PlainAdvice assumed roots s slot register space lines → IsAdviceFor assumed (nothing_told asleep) nothing_given roots s (named_region slot register) space lines

@@ -1,4 +1,4 @@
--- Functions without VGA Enable, and without ISA Enable.
+-- Functions without VGA Enable, without ISA Enable and without VGA Palette Snoop, and bridges that aren't subtractive.
 use Rattle.std.proofs.Common.{◌≡◌, ℕ, zero, suc, [], ◌∷◌, ◌+◌, ◌*◌, ◌/◌, ◌%◌, List, map, set, false, refl, subst, arith}
 use Rattle.std.specs.Int.{bit_at}
 use Rattle.std.specs.List.{Contains}
@@ -7,12 +7,12 @@ use Rattle.std.proofs.Math.Bool.{and-false}
 use Rattle.std.proofs.lemmas.List.{get_or-set_same}
 use Rattle.std.proofs.lemmas.List.Elements.{All-contains}
 use Rattle.pci_spec.specs.Number.{byte_at, has_bit, IsImage}
-use Rattle.pci_spec.specs.Registers.{BRIDGE_CONTROL, ISA_ENABLE, VGA_ENABLE}
-use Rattle.pci_spec.specs.Header.{bridge_control}
+use Rattle.pci_spec.specs.Registers.{BRIDGE_CONTROL, COMMAND, INTERFACE, ISA_ENABLE, PALETTE_SNOOP, VGA_ENABLE}
+use Rattle.pci_spec.specs.Header.{bridge_control, class_code, command}
 use Rattle.pci_spec.specs.System.{System, Function, IsFunction}
-use Rattle.pci_spec.specs.Fault.{controls_bridge}
-use Rattle.given_spec.specs.Words.{without_isa, without_vga, isa_aside, vga_aside}
-use Rattle.given_spec.specs.Laws.{NoIsaEnable, NoVgaEnable}
+use Rattle.pci_spec.specs.Fault.{controls_bridge, is_subtractive_bridge}
+use Rattle.given_spec.specs.Words.{without_isa, without_snoop, without_vga, isa_aside, snoop_aside, vga_aside}
+use Rattle.given_spec.specs.Laws.{AloneIsNotSubtractive, NoIsaEnable, NoPaletteSnoop, NoVgaEnable}
 
 -- the image has no VGA Enable
 cleared : (image : List ℕ) → IsImage image → controls_bridge (set image BRIDGE_CONTROL (byte_at image BRIDGE_CONTROL / 16 * 16 + byte_at image BRIDGE_CONTROL % 8)) VGA_ENABLE ≡ false
@@ -61,3 +61,29 @@ no_isa_enable roots s slot system (f, listed, at, isa) =
     let found = from_mapped isa_aside s f listed in
     let image = (All-contains IsFunction s found.0 system.each found.1).image in
     both_ways _ (subst (λ (g : Function). controls_bridge g.image ISA_ENABLE ≡ false) found.2 (without_isa_is found.0.image image)) isa
+
+-- ---- VGA Palette Snoop
+
+snoop_cleared : (image : List ℕ) → IsImage image → has_bit (command (without_snoop image)) PALETTE_SNOOP ≡ false
+snoop_cleared image is =
+    let full = is.full in
+    let low : byte_at (without_snoop image) COMMAND ≡ byte_at image COMMAND / 64 * 64 + byte_at image COMMAND % 32 = get_or-set_same image COMMAND _ 0 (omega (arith, full)) in
+    ne_eqb (bit_at (command (without_snoop image)) 5) 1 (λ one. omega (arith, one, low))
+
+pub no_palette_snoop : NoPaletteSnoop
+no_palette_snoop roots s slot system (f, listed, at, snoop) =
+    let found = from_mapped snoop_aside s f listed in
+    let image = (All-contains IsFunction s found.0 system.each found.1).image in
+    both_ways _ (subst (λ (g : Function). has_bit (command g.image) PALETTE_SNOOP ≡ false) found.2 (snoop_cleared found.0.image image)) snoop
+
+-- ---- subtractive decoding
+
+made_positive : (image : List ℕ) → IsImage image → is_subtractive_bridge (set image INTERFACE 0) ≡ false
+made_positive image is =
+    let full = is.full in
+    let low : byte_at (set image INTERFACE 0) INTERFACE ≡ 0 = get_or-set_same image INTERFACE 0 0 (omega (arith, full)) in
+    let other = ne_eqb (class_code (set image INTERFACE 0)) 0x060401 (λ same. omega (arith, same, low)) in
+    rw other (and-false _)
+
+pub alone_is_not_subtractive : AloneIsNotSubtractive
+alone_is_not_subtractive s f is alone = rw alone (made_positive f.image is)

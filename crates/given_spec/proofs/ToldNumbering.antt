@@ -46,7 +46,7 @@ regions_are_numbered told x = (
 
 -- ---- those that are off
 
-slot_itself : (slot : Slot) → same_slot slot slot ≡ true
+pub slot_itself : (slot : Slot) → same_slot slot slot ≡ true
 slot_itself slot = and_from _ _ (and_from _ _ (eq-eqb slot.bus slot.bus refl) (eq-eqb slot.device slot.device refl)) (eq-eqb slot.function slot.function refl)
 
 pub off_ranges_are_exact : OffRangesAreExact

@@ -1,9 +1,10 @@
 -- What is given beside a system: which addresses the host sends to which root bus, which bridges answer for a VGA adapter
--- behind them, and which have ISA Enable.
+-- behind them or listen to its palette, which have ISA Enable, and which take what no region of their bus claims.
 use Rattle.std.specs.Prelude.{ℕ, ◌%◌, ◌^◌, ◌==◌, nat_lt, nat_le, Bool, true, false, ◌&&◌, ◌||◌, if◌then◌else◌, List, [], Option, None, Some}
 use Rattle.std.specs.List.{list_any}
 use Rattle.pci_spec.specs.Slot.{Slot, same_slot}
 use Rattle.pci_spec.specs.System.{Space, Io, Memory, Function, is_bridge, is_space_on}
+use Rattle.pci_spec.specs.Decoded.{Range}
 
 -- addresses from first to last, both of them too, that the host sends to one root bus, or to each
 pub record HostRange : Type 0 where
@@ -11,10 +12,17 @@ pub record HostRange : Type 0 where
   pub first : ℕ
   pub last : ℕ
 
--- a bridge with legacy parts, and whether it decodes 16 bits of their I/O addresses, or 10 of them
+-- a bridge with legacy parts or a palette part, and whether it decodes 16 bits of their I/O addresses, or 10 of them
 pub record LegacyBridge : Type 0 where
   pub slot : Slot
   pub is_wide : Bool
+
+-- A bridge that takes what no region of its bus claims, and the ranges of addresses that none claims. What they are is told
+-- in `Unclaimed`.
+pub record TakingBridge : Type 0 where
+  pub slot : Slot
+  pub io : List Range
+  pub memory : List Range
 
 -- where no ranges are said of a space, the host sends all of it to each root bus
 pub record Given : Type 0 where
@@ -23,9 +31,14 @@ pub record Given : Type 0 where
   pub legacy : List LegacyBridge
   -- the bridges with ISA Enable
   pub isa : List Slot
+  -- the bridges with palette parts
+  pub palette : List LegacyBridge
+  -- the bridges that take what no region of their bus claims
+  pub unclaimed : List TakingBridge
 
 abbrev pub nothing_given : Given
-nothing_given = record { io = None; memory = None; legacy = []; isa = [] }
+nothing_given =
+    record { io = None; memory = None; legacy = []; isa = []; palette = []; unclaimed = [] }
 
 -- ---- where accesses start
 
@@ -73,6 +86,43 @@ is_legacy_at b space a entry = same_slot entry.slot b.slot && legacy_holds entry
 abbrev pub legacy_claims : Given → Space → ℕ → Function → Bool
 legacy_claims given space a b =
     is_bridge b && is_space_on b space && list_any (is_legacy_at b space a) given.legacy
+
+-- ---- palette parts (PCI 3.0, 6.2.2: VGA Palette Snoop; Bridge 1.2, 3.2.5.18: VGA 16-bit Decode)
+
+-- whether a port is one of the palette of a VGA adapter
+abbrev pub is_palette_port : ℕ → Bool
+is_palette_port port = port == 0x3c6 || (nat_le 0x3c8 port && nat_le port 0x3c9)
+
+-- whether a palette part has an address: ports where all bits above bit 15 are 0
+abbrev pub palette_holds : Bool → Space → ℕ → Bool
+palette_holds is_wide Io a = nat_lt a (2 ^ 16) && is_palette_port (decoded_port is_wide a)
+palette_holds is_wide Memory a = false
+
+-- whether an entry is the bridge's, and its part has the address
+abbrev pub is_palette_at : Function → Space → ℕ → LegacyBridge → Bool
+is_palette_at b space a entry = same_slot entry.slot b.slot && palette_holds entry.is_wide space a
+
+-- whether a palette part of a bridge claims an address: Command enables it as a window of I/O space
+abbrev pub palette_claims : Given → Space → ℕ → Function → Bool
+palette_claims given space a b =
+    is_bridge b && is_space_on b space && list_any (is_palette_at b space a) given.palette
+
+-- ---- what bridges take as nobody claims it (PCI 3.0, 3.6.1: subtractive decoding)
+
+abbrev pub ranges_of : TakingBridge → Space → List Range
+ranges_of entry Io = entry.io
+ranges_of entry Memory = entry.memory
+
+-- whether an entry is the bridge's, and one of its ranges has the address
+abbrev pub is_taken_at : Function → Space → ℕ → TakingBridge → Bool
+is_taken_at b space a entry =
+    same_slot entry.slot b.slot
+    && list_any (λ r. nat_le r.first a && nat_le a r.last) (ranges_of entry space)
+
+-- whether a bridge takes an address of a space, which Command enables: it claims nothing by that
+abbrev pub takes : Given → Space → ℕ → Function → Bool
+takes given space a b =
+    is_bridge b && is_space_on b space && list_any (is_taken_at b space a) given.unclaimed
 
 -- ---- what ISA Enable takes from windows (Bridge 1.2, 3.2.5.18)
 

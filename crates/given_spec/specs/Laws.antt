@@ -1,7 +1,8 @@
 -- Laws of what is given.
-use Rattle.std.specs.Prelude.{◌≡◌, ℕ, ◌↔◌, Bool, false, IsTrue, List, [], map}
+use Rattle.std.specs.Prelude.{◌≡◌, ℕ, ◌↔◌, Bool, false, IsTrue, IsFalse, List, [], map}
 use Rattle.std.specs.List.{Contains}
 use Rattle.pci_spec.specs.Slot.{Slot}
+use Rattle.pci_spec.specs.Number.{IsImage}
 use Rattle.pci_spec.specs.System.{System, Function, Space, IsSystem, Leads, has_part, is_window}
 use Rattle.pci_spec.specs.System as system
 use Rattle.pci_spec.specs.Bus.{IsNested}
@@ -12,11 +13,11 @@ use Rattle.pci_spec.specs.Why as why
 use Rattle.pci_spec.specs.FaultsText as faults_text
 use Rattle.pci_spec.specs.Fault.{address_in, named_region}
 use Rattle.given_spec.specs.Given.{Given, nothing_given, starts}
-use Rattle.given_spec.specs.Claims.{Own, Legacy, Claims, forwards, passes, Gets, IsPassedTo}
+use Rattle.given_spec.specs.Claims.{Own, Legacy, Palette, Claims, forwards, passes, Gets, IsPassedTo}
 use Rattle.given_spec.specs.Fault.{Fault, Known, IsIn, IsOutside}
 use Rattle.given_spec.specs.Sound.{IsSingle, IsHome, IsSound}
 use Rattle.given_spec.specs.AllFaults.{IsOutsideOf, AreAllOfJudging}
-use Rattle.given_spec.specs.Words.{taken_by_vga, taken_by_isa}
+use Rattle.given_spec.specs.Words.{taken_by_vga, taken_by_isa, taken_by_snoop, unclaimed_aside, is_alone}
 use Rattle.given_spec.specs.Why.{IsWhy}
 use Rattle.given_spec.specs.FaultsText.{IsReasonedText}
 use Rattle.given_spec.specs.ToldClaims.{nothing_told}
@@ -35,6 +36,10 @@ SameClaims =
 abbrev pub NoLegacyClaims : Type 0
 NoLegacyClaims =
     (f : Function) (space : Space) (a : ℕ) → Claims nothing_given f Legacy space a → ⊥
+
+abbrev pub NoPaletteClaims : Type 0
+NoPaletteClaims =
+    (f : Function) (space : Space) (a : ℕ) → Claims nothing_given f Palette space a → ⊥
 
 abbrev pub SameForwards : Type 0
 SameForwards =
@@ -62,7 +67,7 @@ NoneOutside =
     (roots : List ℕ) (s : System) (slot : Slot) (register : ℕ) (space : Space) (a : ℕ)
     → IsOutside nothing_given roots s (named_region slot register) (address_in space a) → ⊥
 
--- the exception needs a legacy part, as no other register is named 3Eh
+-- the exception needs a legacy part or a palette part, as no other register is named 3Eh or 04h
 abbrev pub SameFaults : Type 0
 SameFaults =
     (roots : List ℕ) (s : System) (fault : plain.Fault)
@@ -142,3 +147,15 @@ abbrev pub NoIsaEnable : Type 0
 NoIsaEnable =
     (roots : List ℕ) (s : System) (slot : Slot) → IsSystem s
     → plain.IsIn roots (taken_by_isa s) (plain.IsaEnable slot) → ⊥
+
+-- Those taken by a third have no 51,
+abbrev pub NoPaletteSnoop : Type 0
+NoPaletteSnoop =
+    (roots : List ℕ) (s : System) (slot : Slot) → IsSystem s
+    → plain.IsIn roots (taken_by_snoop s) (plain.PaletteSnoop slot) → ⊥
+
+-- and a bridge that is alone of its class on its bus has no 54 by a fourth.
+abbrev pub AloneIsNotSubtractive : Type 0
+AloneIsNotSubtractive =
+    (s : System) (f : Function) → IsImage f.image → IsTrue (is_alone s f)
+    → IsFalse (plain.is_subtractive_bridge (unclaimed_aside s f).image)

@@ -14,6 +14,7 @@ pub mod Laws
 pub mod DeterminedLaws
 pub mod ListLaws
 pub mod IsaLaws
+pub mod SnoopLaws
 pub mod Told
 pub mod ToldText
 pub mod ToldStops
@@ -29,3 +30,5 @@ pub mod ToldLine
 pub mod ToldJudgingLaws
 pub mod ToldRegion
 pub mod ToldRegionLaws
+pub mod Unclaimed
+pub mod UnclaimedLaws

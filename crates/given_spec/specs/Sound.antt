@@ -9,13 +9,13 @@ use Rattle.pci_spec.specs.Fault.{address_in}
 use Rattle.given_spec.specs.Given.{Given, starts}
 use Rattle.given_spec.specs.Claims.{Part, Claims, Gets, IsPassedTo, register_of, may_share}
 
--- two parts are one region, or a window and the legacy part of one bridge
+-- two parts are one region, or two of a window, the legacy part and the palette part of one bridge
 abbrev pub MayBoth : Function → Part → Function → Part → Type 0
 MayBoth f p g q =
     ((f.slot ≡ g.slot) × (register_of f p ≡ register_of g q))
     ⊎ IsTrue (may_share f.slot (register_of f p) g.slot (register_of g q))
 
--- At most one region claims an access, but for windows beside a legacy part.
+-- At most one region claims an access, but for the parts of a bridge that may share one.
 pub record IsSingle (given : Given) (roots : List ℕ) (s : System) : Type 0 where
   -- on each bus that it gets to
   pub on_a_bus : (space : Space) (a bus : ℕ) → Gets given roots s space a bus →

@@ -1,10 +1,11 @@
 -- What stands behind a fault of judging, with what is given and told: the lines that pci_spec defines, where a bridge passes
--- what its legacy part claims, too, where accesses start as the host sends them, and where told ranges claim addresses.
+-- what its legacy part claims and what it takes, too, where accesses start as the host sends them, and where palette parts
+-- and told ranges claim addresses.
 use Rattle.std.specs.Prelude.{◌≡◌, ◌⊎◌, ℕ, ◌+◌, ◌<◌, ◌≤◌, ◌%◌, nat_lt, Bool, false, ◌&&◌, ◌||◌, not, IsTrue, IsFalse, if◌then◌else◌, List, [], ◌∷◌, ◌++◌, map, codes, Option, Some, MatchOption, MatchBool}
 use Rattle.std.specs.Option.{is_some}
 use Rattle.std.specs.List.{Contains, filter, flat_map, list_any}
 use Rattle.pci_spec.specs.Slot.{Slot, same_slot}
-use Rattle.pci_spec.specs.Registers.{BRIDGE_CONTROL}
+use Rattle.pci_spec.specs.Registers.{BRIDGE_CONTROL, COMMAND}
 use Rattle.pci_spec.specs.Text.{hex_byte, slot_text}
 use Rattle.pci_spec.specs.System.{System, Function, Space, Io, Memory, Leads, is_space_on, is_window}
 use Rattle.pci_spec.specs.System as system
@@ -17,18 +18,22 @@ use Rattle.pci_spec.specs.Listing.{words, inner_line, range_text, on_text}
 use Rattle.pci_spec.specs.Mark.{AssumedRegister, is_size_assumed}
 use Rattle.pci_spec.specs.Why.{AreRuns, place_words, part_text, range_line, windows_text, fits_line, unknown_line, address_count, place_end, is_wide_part, off_lines_of}
 use Rattle.pci_spec.specs.Why as plain
-use Rattle.given_spec.specs.Given.{Given, HostRange, ranges_said, is_for, starts, has_isa}
-use Rattle.given_spec.specs.Claims.{LegacyClaims, is_cut_of, passes, IsPassedTo}
+use Rattle.given_spec.specs.Given.{Given, HostRange, LegacyBridge, ranges_said, is_for, starts, has_isa}
+use Rattle.given_spec.specs.Claims.{LegacyClaims, PaletteClaims, is_cut_of, passes, IsPassedTo}
 use Rattle.given_spec.specs.Fault.{Fault, Known, Outside}
 use Rattle.given_spec.specs.ToldClaims.{Told, ClaimsOnBus, may_share}
 use Rattle.given_spec.specs.ToldRegion.{ToldRegion, told_extent, IsToldIn, off_ranges, told_words}
 
--- ---- legacy parts
+-- ---- legacy parts and palette parts
 
--- whether the legacy part of a bridge decodes 10 bits of I/O addresses
+-- whether an entry of some bridges is of a slot, and decodes 10 bits of I/O addresses
+abbrev pub is_narrow_among : List LegacyBridge → Slot → Bool
+is_narrow_among bridges slot =
+    list_any (λ entry. same_slot entry.slot slot && not entry.is_wide) bridges
+
+-- whether the legacy part of a bridge does
 abbrev pub is_narrow : Given → Slot → Bool
-is_narrow given slot =
-    list_any (λ entry. same_slot entry.slot slot && not entry.is_wide) given.legacy
+is_narrow given slot = is_narrow_among given.legacy slot
 
 abbrev pub has_legacy_part : Given → Slot → Bool
 has_legacy_part given slot = list_any (λ entry. same_slot entry.slot slot) given.legacy
@@ -46,6 +51,20 @@ legacy_text is_narrow Io =
     if is_narrow then codes "vga io 000003b0-000003bb,000003c0-000003df of each 1K"
     else codes "vga16 io 000003b0-000003bb,000003c0-000003df"
 
+-- which addresses a palette part has, by 10 bits or by 16
+abbrev pub palette_text : Bool → List ℕ
+palette_text is_narrow =
+    if is_narrow then codes "snoop io 000003c6,000003c8-000003c9 of each 1K"
+    else codes "snoop16 io 000003c6,000003c8-000003c9"
+
+-- ---- what is unclaimed
+
+-- what the line of a bridge tells of it, where it takes what no region of its bus claims
+abbrev pub unclaimed_words : Given → Slot → List (List ℕ)
+unclaimed_words given slot =
+    if list_any (λ entry. same_slot entry.slot slot) given.unclaimed then codes "unclaimed" ∷ []
+    else []
+
 -- ---- ISA Enable
 
 -- what the line of a window of a space tells of it
@@ -59,37 +78,44 @@ isa_words_of given part space slot = if is_window part then isa_words given spac
 
 -- ---- regions
 
--- a region as a line tells it: one that address registers show, the legacy part of a bridge in a space, or a told range
+-- a region as a line tells it: one that address registers show, the legacy part of a bridge in a space, the palette part of
+-- one, or a told range
 pub data AnyRegion : Type 0 where
   Own : plain.Region → AnyRegion
   Legacy : Function → Space → AnyRegion
+  Palette : Function → AnyRegion
   OfLine : ToldRegion → AnyRegion
 
 abbrev pub space_of : AnyRegion → Space
 space_of (Own q) = q.space
 space_of (Legacy b space) = space
+space_of (Palette b) = Io
 space_of (OfLine x) = x.told.space
 
 abbrev pub is_prefetchable : AnyRegion → Bool
 is_prefetchable (Own q) = q.prefetchable
 is_prefetchable (Legacy b space) = false
+is_prefetchable (Palette b) = false
 is_prefetchable (OfLine x) = x.told.prefetchable
 
 abbrev pub bus_of : AnyRegion → ℕ
 bus_of (Own q) = q.slot.bus
 bus_of (Legacy b space) = b.slot.bus
+bus_of (Palette b) = b.slot.bus
 bus_of (OfLine x) = x.told.slot.bus
 
 -- it claims the address
 abbrev pub Holds : Given → AnyRegion → ℕ → Type 0
 Holds given (Own q) a = InRange q.range a × IsFalse (is_cut_of given q.part q.space a q.slot)
 Holds given (Legacy b space) a = LegacyClaims given b space a
+Holds given (Palette b) a = PaletteClaims given b Io a
 Holds given (OfLine x) a = InRange (told_extent x.told) a
 
 -- it is one of the system's or of what is told, and claims an address
 abbrev pub IsRegionIn : Told → Given → System → AnyRegion → Type 0
 IsRegionIn told given s (Own q) = plain.IsRegionIn s q
 IsRegionIn told given s (Legacy b space) = Contains s b × (a : ℕ) × LegacyClaims given b space a
+IsRegionIn told given s (Palette b) = Contains s b × (a : ℕ) × PaletteClaims given b Io a
 IsRegionIn told given s (OfLine x) = IsToldIn told s x
 
 -- the region that a slot and a register name, in a space
@@ -97,6 +123,7 @@ abbrev pub IsNamed : AnyRegion → Slot → ℕ → Space → Type 0
 IsNamed (Own q) slot register space = plain.IsNamed q slot register space
 IsNamed (Legacy b of_space) slot register space =
     (b.slot ≡ slot) × (BRIDGE_CONTROL ≡ register) × (of_space ≡ space)
+IsNamed (Palette b) slot register space = (b.slot ≡ slot) × (COMMAND ≡ register) × (Io ≡ space)
 IsNamed (OfLine x) slot register space =
     (x.told.slot ≡ slot) × (x.register ≡ register) × (x.told.space ≡ space)
 
@@ -107,6 +134,9 @@ region_line given word (Own q) =
 region_line given word (Legacy b space) =
     inner_line (word ∷ slot_text b.slot ∷ hex_byte BRIDGE_CONTROL
     ∷ legacy_text (is_narrow given b.slot) space ∷ [])
+region_line given word (Palette b) =
+    inner_line (word ∷ slot_text b.slot ∷ hex_byte COMMAND
+    ∷ palette_text (is_narrow_among given.palette b.slot) ∷ [])
 region_line given word (OfLine x) = inner_line (word ∷ told_words x)
 
 -- ---- what the host sends
@@ -140,12 +170,12 @@ pub record IsBehindOutside (told : Told) (given : Given) (roots : List ℕ) (s :
 
 -- ---- what a bridge misses
 
--- whether its Command enables the space, its windows, ISA Enable, and its legacy part
+-- whether its Command enables the space, its windows, ISA Enable, whether it takes what is unclaimed, and its legacy part
 abbrev pub bridge_line : Given → Function → Space → Bool → List ℕ
 bridge_line given b space prefetchable =
     inner_line (codes "bridge" ∷ slot_text b.slot ∷ on_text (is_space_on b space)
     ∷ windows_text space prefetchable (decoded_windows b.image b.probe)
-    ∷ isa_words given space b.slot ++ legacy_words given b.slot)
+    ∷ isa_words given space b.slot ++ unclaimed_words given b.slot ++ legacy_words given b.slot)
 
 -- an address of the region doesn't pass the bridge
 abbrev pub Misses : Given → AnyRegion → Function → ℕ → Type 0
@@ -258,7 +288,7 @@ abbrev pub is_said : Given → Space → Bool
 is_said given space = is_some (ranges_said given space)
 
 -- A window has no such line: what is behind its bridge would have to move with it. Neither has a region on a root bus to
--- which all of the space is sent, nor a legacy part or a told range, which can't be moved. Where the read back of the
+-- which all of the space is sent, nor a legacy part, a palette part or a told range, which can't be moved. Where the read back of the
 -- region's register is assumed, its size isn't known.
 abbrev pub IsFitBehind :
     List AssumedRegister → Told → Given → List ℕ → System → AnyRegion → List ℕ → Type 0
@@ -267,6 +297,7 @@ IsFitBehind assumed told given roots s (Own q) lines =
     (MatchBool (is_size_assumed assumed q.slot q.register) (lines ≡ unknown_line)
     (IsFit told given roots s q lines))
 IsFitBehind assumed told given roots s (Legacy b space) lines = lines ≡ []
+IsFitBehind assumed told given roots s (Palette b) lines = lines ≡ []
 IsFitBehind assumed told given roots s (OfLine x) lines = lines ≡ []
 
 abbrev pub IsAdviceFor :

@@ -1,6 +1,6 @@
 //! Laws of what is given. These functions do nothing: each contract is a law.
 
-ghost use Rattle.given_spec.specs.Laws.{StartsAnywhere, SameClaims, NoLegacyClaims, SameForwards, SamePasses, SameGets, SamePassedTo, NoneOutside, SameFaults, SameSound, SameWhy, SameText, SoundWithoutFaults, EmptyWhereNoneFails, LineWhereOutside, NoIsaEnable, NoVgaEnable};
+ghost use Rattle.given_spec.specs.Laws.{StartsAnywhere, SameClaims, NoLegacyClaims, NoPaletteClaims, SameForwards, SamePasses, SameGets, SamePassedTo, NoneOutside, SameFaults, SameSound, SameWhy, SameText, SoundWithoutFaults, EmptyWhereNoneFails, LineWhereOutside, NoIsaEnable, NoVgaEnable, NoPaletteSnoop, AloneIsNotSubtractive};
 ghost use Rattle.given_spec.specs.IsaLaws.{IsaLeavesClaims, IsaLeavesForwards, IsaLeavesPasses, IsaTakesWhole};
 
 /// With nothing given each word is the one without it.
@@ -8,6 +8,7 @@ pub fn nothing_given_changes_nothing()
     ensures starts { StartsAnywhere }
     ensures claims { SameClaims }
     ensures legacy { NoLegacyClaims }
+    ensures palette { NoPaletteClaims }
     ensures forwards { SameForwards }
     ensures passes { SamePasses }
     ensures gets { SameGets }
@@ -38,6 +39,16 @@ pub fn taken_functions_have_no_vga_enable()
 /// Functions that are taken by the other word have no ISA Enable.
 pub fn taken_functions_have_no_isa_enable()
     ensures none { NoIsaEnable }
+{}
+
+/// Functions that are taken by a third word have no VGA Palette Snoop.
+pub fn taken_functions_have_no_palette_snoop()
+    ensures none { NoPaletteSnoop }
+{}
+
+/// A bridge that is the only one of its class on its bus isn't subtractive any more where a fourth word takes it.
+pub fn bridges_alone_are_not_subtractive()
+    ensures { AloneIsNotSubtractive }
 {}
 
 /// A function without ISA Enable claims, forwards and passes what it does where nobody has it. What ISA Enable takes it

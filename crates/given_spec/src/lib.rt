@@ -1,5 +1,6 @@
 //! What is given beside a system: the addresses that the host sends to its root buses, the bridges that answer for a VGA
-//! adapter behind them, and a text that tells what functions answer beside their BARs. Judging with all of it. Definitions
+//! adapter behind them, that listen to its palette or that take what nobody claims, and a text that tells what functions
+//! answer beside their BARs. Judging with all of it. Definitions
 //! that contracts cite, and their laws; what they stand on is in `pci_spec`.
 //!
 //! In their comments "PCI 3.0" is the PCI Local Bus Specification 3.0, "Bridge 1.2" the PCI-to-PCI Bridge Architecture
@@ -10,6 +11,8 @@ pub mod determined_laws;
 pub mod given_laws;
 pub mod list_laws;
 pub mod moved_laws;
+pub mod snoop_laws;
 pub mod told_judging_laws;
 pub mod told_laws;
 pub mod told_region_laws;
+pub mod unclaimed_laws;

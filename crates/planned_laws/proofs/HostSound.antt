@@ -14,13 +14,13 @@ use Rattle.pci_spec.specs.Sound as plain
 use Rattle.pci_spec.proofs.BusRanges.{all_from, all_gives, root_means}
 use Rattle.plan_spec.proofs.PlanningLaws.{profile_decodes}
 use Rattle.plan_spec.proofs.Planning.Kept.{images_of}
-use Rattle.given_spec.specs.Given.{is_cut, legacy_claims, starts}
-use Rattle.given_spec.specs.Claims.{Legacy, Own, may_share}
+use Rattle.given_spec.specs.Given.{is_cut, legacy_claims, palette_claims, starts, takes}
+use Rattle.given_spec.specs.Claims.{Legacy, Own, Palette, forwards_else, may_share, passes_else}
 use Rattle.given_spec.specs.Claims as host
 use Rattle.given_spec.specs.Sound as given
 use Rattle.given_spec.proofs.Isa.{not_cut}
 use Rattle.given_spec.proofs.Judging.{home_without}
-use Rattle.given_spec.proofs.Nothing.{not_at_control, not_shared}
+use Rattle.given_spec.proofs.Nothing.{not_at_command, not_at_control, not_shared}
 use Rattle.settle_spec.specs.Lists.{Request}
 use Rattle.settle_spec.specs.Parts.{FunctionPart, system_parts, addresses}
 use Rattle.settle_spec.specs.Stands.{is_part_on, part_space}
@@ -38,9 +38,21 @@ forwards_passes : (space : Space) (a : ℕ) (b : Function) → forwards space a 
 forwards_passes Io a b = refl
 forwards_passes Memory a b = refl
 
--- no bridge has a legacy part
+-- no bridge has a legacy part or a palette part, and none takes what nobody claims
 no_legacy : (q : Request) (space : Space) (a : ℕ) (b : Function) → legacy_claims (host_by q) space a b ≡ false
 no_legacy q space a b = and-false (is_bridge b && is_space_on b space)
+
+no_palette : (q : Request) (space : Space) (a : ℕ) (b : Function) → palette_claims (host_by q) space a b ≡ false
+no_palette q space a b = and-false (is_bridge b && is_space_on b space)
+
+takes_nothing : (q : Request) (space : Space) (a : ℕ) (b : Function) → takes (host_by q) space a b ≡ false
+takes_nothing q space a b = and-false (is_bridge b && is_space_on b space)
+
+passes_nothing_else : (q : Request) (space : Space) (a : ℕ) (b : Function) → passes_else (host_by q) space a b ≡ false
+passes_nothing_else q space a b = ap (λ x. x || takes (host_by q) space a b) (no_legacy q space a b) ∙ takes_nothing q space a b
+
+forwards_nothing_else : (q : Request) (space : Space) (a : ℕ) (b : Function) → forwards_else (host_by q) space a b ≡ false
+forwards_nothing_else q space a b = ap (λ x. x || palette_claims (host_by q) space a b) (passes_nothing_else q space a b) ∙ no_palette q space a b
 
 -- and none has ISA Enable
 none_taken : (q : Request) (b : Bool) (space : Space) (a : ℕ) (slot : Slot) → (b && not (is_cut (host_by q) space a slot)) ≡ b
@@ -50,16 +62,17 @@ own_claims : (q : Request) (f : Function) (p : Part) (space : Space) (a : ℕ) �
 own_claims q f p space a claims = record { claims = claims; kept = ap (λ x. is_window p && x) (not_cut (host_by q) f.slot refl space a) ∙ and-false (is_window p) }
 
 passes_same : (q : Request) (space : Space) (prefetchable : Bool) (a : ℕ) (b : Function) → host.passes (host_by q) space prefetchable a b ≡ passes space prefetchable a b
-passes_same q space prefetchable a b = ap (λ x. (passes space prefetchable a b && not (is_cut (host_by q) space a b.slot)) || x) (no_legacy q space a b) ∙ or-false _ ∙ none_taken q (passes space prefetchable a b) space a b.slot
+passes_same q space prefetchable a b = ap (λ x. (passes space prefetchable a b && not (is_cut (host_by q) space a b.slot)) || x) (passes_nothing_else q space a b) ∙ or-false _ ∙ none_taken q (passes space prefetchable a b) space a b.slot
 
 forwards_same : (q : Request) (space : Space) (a : ℕ) (b : Function) → host.forwards (host_by q) space a b ≡ forwards space a b
-forwards_same q space a b = ap (λ x. (forwards space a b && not (is_cut (host_by q) space a b.slot)) || x) (no_legacy q space a b) ∙ or-false _ ∙ none_taken q (forwards space a b) space a b.slot
+forwards_same q space a b = ap (λ x. (forwards space a b && not (is_cut (host_by q) space a b.slot)) || x) (forwards_nothing_else q space a b) ∙ or-false _ ∙ none_taken q (forwards space a b) space a b.slot
 
--- no region is that of a legacy part
+-- no region is that of a legacy part or a palette part
 one_region : (f g : Function) (p r : Part) → given.MayBoth f (Own p) g (Own r) → IsSameRegion f p g r
 one_region f g p r (inl same) = same
 one_region f g p r (inr share) =
-    absurd (both_ways (may_share f.slot (register_of f p) g.slot (register_of g r)) (not_shared f.slot g.slot (register_of f p) (register_of g r) (not_at_control f p) (not_at_control g r)) share)
+    absurd (both_ways (may_share f.slot (register_of f p) g.slot (register_of g r))
+    (not_shared f.slot g.slot (register_of f p) (register_of g r) (not_at_control f p) (not_at_control g r) (not_at_command f p) (not_at_command g r)) share)
 
 -- what is passed is forwarded
 passed_forwards : (space : Space) (prefetchable : Bool) (a : ℕ) (b : Function) → passes space prefetchable a b ≡ true → forwards space a b ≡ true
@@ -153,7 +166,9 @@ module _ (q : Request) (s : System) (system : IsSystem s) (place : LieInPlace q 
         → ((x y : Part) → Claims f x space a → Claims g y space a → IsSameRegion f x g y) → given.MayBoth f p g r
     same_part space a f g (Own p) (Own r) claim_f claim_g one = inl (one p r claim_f.claims claim_g.claims)
     same_part space a f g Legacy r claim_f claim_g one = absurd (both_ways (legacy_claims (host_by q) space a f) (no_legacy q space a f) claim_f.claims)
+    same_part space a f g Palette r claim_f claim_g one = absurd (both_ways (palette_claims (host_by q) space a f) (no_palette q space a f) claim_f.claims)
     same_part space a f g (Own p) Legacy claim_f claim_g one = absurd (both_ways (legacy_claims (host_by q) space a g) (no_legacy q space a g) claim_g.claims)
+    same_part space a f g (Own p) Palette claim_f claim_g one = absurd (both_ways (palette_claims (host_by q) space a g) (no_palette q space a g) claim_g.claims)
 
     single_with : given.IsSingle (host_by q) q.roots s
     single_with = record {

@@ -27,13 +27,16 @@ abbrev pub list_in : Request → Space → List RootRange
 list_in q Io = q.lists.io
 list_in q Memory = q.lists.memory ++ q.lists.prefetch
 
--- the host sends just what they have, and no bridge answers for a VGA adapter
+-- The host sends just what they have. No bridge answers for a VGA adapter or listens to its palette, has ISA Enable or takes
+-- what no region of its bus claims.
 abbrev pub host_by : Request → Given
 host_by q = record {
   io = Some (map host_range (list_in q Io));
   memory = Some (map host_range (list_in q Memory));
   legacy = [];
   isa = [];
+  palette = [];
+  unclaimed = [];
 }
 
 -- Two ranges of a space that one root has are the same, or an address lies between them that neither has.

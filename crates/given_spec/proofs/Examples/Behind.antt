@@ -19,7 +19,7 @@ use Rattle.pci_spec.proofs.Ranges.{window_range-holds}
 use Rattle.pci_spec.proofs.Examples.Samples.{slot, device, bridge, range, host}
 use Rattle.pci_spec.proofs.Examples.Sized.{answered}
 use Rattle.given_spec.specs.Given.{nothing_given}
-use Rattle.given_spec.specs.Claims.{Part, Own, Legacy, Claims, register_of, IsPassedTo, passes}
+use Rattle.given_spec.specs.Claims.{Part, Own, Legacy, Palette, Claims, register_of, IsPassedTo, passes}
 
 pub no : {A : Type 0} → false ≡ true → A
 no h = absurd (let contradiction : ⊥ = both_ways false refl h in contradiction)
@@ -123,6 +123,7 @@ large_is_a_region d s listed = record {
 pub not_by_itself : (d a : ℕ) (part : Part) → (((large d).slot ≡ slot 1 d 0) × (register_of (large d) part ≡ 0x10) → ⊥) → Claims nothing_given (large d) part Memory a → ⊥
 not_by_itself d a (Own part) other own = other (refl, ap (λ p. system.register_of (large d) p) (large_parts d part a own.claims))
 not_by_itself d a Legacy other c = no c.claims
+not_by_itself d a Palette other c = no c.claims
 
 -- ---- a function without regions
 
@@ -143,3 +144,4 @@ empty_parts d command (Window kind) a c = no c.there
 pub empty_claims : (d command a : ℕ) (part : Part) → Claims nothing_given (empty d command) part Memory a → ⊥
 empty_claims d command a (Own part) own = empty_parts d command part a own.claims
 empty_claims d command a Legacy c = no c.claims
+empty_claims d command a Palette c = no c.claims

@@ -15,7 +15,7 @@ use Rattle.given_spec.specs.Fault.{Known, IsIn}
 use Rattle.given_spec.specs.Words.{Vga, Vga16, legacy_bridges}
 use Rattle.given_spec.proofs.Examples.Legacy.{legacy_at}
 
-other_device : (a b : ℕ) → (a ≡ b → ⊥) → slot 0 a 0 ≡ slot 0 b 0 → ⊥
+pub other_device : (a b : ℕ) → (a ≡ b → ⊥) → slot 0 a 0 ≡ slot 0 b 0 → ⊥
 other_device a b differ same = differ (ap (λ (s : Slot). s.device) same)
 
 -- a bridge with VGA Enable, by Command, bus numbers and Bridge Control

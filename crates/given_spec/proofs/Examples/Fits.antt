@@ -18,7 +18,7 @@ use Rattle.pci_spec.proofs.Members.{in_nil, in_cons_cases}
 use Rattle.pci_spec.proofs.Examples.Samples.{slot, device, range, host}
 use Rattle.pci_spec.proofs.Examples.Sized.{answered}
 use Rattle.given_spec.specs.Given.{nothing_given}
-use Rattle.given_spec.specs.Claims.{Own, Legacy}
+use Rattle.given_spec.specs.Claims.{Own, Legacy, Palette}
 use Rattle.given_spec.specs.Fault.{Known}
 use Rattle.given_spec.specs.ToldClaims.{nothing_told}
 use Rattle.given_spec.specs.Why.{IsTakenBeside, IsPlaceFor, IsFit, IsAdvice}
@@ -87,6 +87,7 @@ not_beside a (inr roots) = elim (in_cons_cases 0 [] 1 roots.0) [
 taken_by_small : (a : ℕ) (part : claims.Part) → claims.Claims nothing_given small part Memory a → a ≤ 0xe0000fff
 taken_by_small a (Own part) own = small_parts part a own.claims
 taken_by_small a Legacy c = no c.claims
+taken_by_small a Palette c = no c.claims
 
 -- by a part of a function, as nothing is told
 taken_by_part : (a : ℕ) (t : Taken a) → claims.ClaimsOnBus nothing_given s t.by.slot.bus (address_in Memory a) t.by → a ≤ 0xe0000fff

@@ -33,7 +33,7 @@ no_device : isa_bridges (device (slot 0 1 0) 3 ((0x3c, 0x00040000) ∷ []) [] �
 no_device = refl
 
 abbrev pub isa_at : List Slot → Given
-isa_at slots = record { io = None; memory = None; legacy = []; isa = slots }
+isa_at slots = record { io = None; memory = None; legacy = []; isa = slots; palette = []; unclaimed = [] }
 
 abbrev enabled : Given
 enabled = isa_at (slot 0 1 0 ∷ [])

@@ -197,6 +197,7 @@ not_beside a (inr roots) = elim (in_cons_cases 0 [] 1 roots.0) [
 not_by_itself : (a : ℕ) (part : claims.Part) → ((needs.slot ≡ slot 1 0 0) × (claims.register_of needs part ≡ 0x10) → ⊥) → claims.Claims (enabled 1) needs part Io a → ⊥
 not_by_itself a (claims.Own part) other own = other (refl, ap (λ p. system.register_of needs p) (needs_parts part a own.claims))
 not_by_itself a claims.Legacy other c = no c.claims
+not_by_itself a claims.Palette other c = no c.claims
 
 not_by_part : (a : ℕ) (t : Taken a) → claims.ClaimsOnBus (enabled 1) s t.by.slot.bus (address_in Io a) t.by → ⊥
 not_by_part a t (f, part, listed, at, on, named, c) = elim (in_pair (cut_bridge 1) needs f listed) [

@@ -42,7 +42,7 @@ no_device = refl
 -- ---- what they claim: by Command, as windows do
 
 abbrev pub legacy_at : List LegacyBridge → Given
-legacy_at entries = record { io = None; memory = None; legacy = entries; isa = [] }
+legacy_at entries = record { io = None; memory = None; legacy = entries; isa = []; palette = []; unclaimed = [] }
 
 abbrev with_command : ℕ → Function
 with_command command = bridge (slot 0 1 0) command 0x010100 ((0x20, 0x0000fff0) ∷ []) []

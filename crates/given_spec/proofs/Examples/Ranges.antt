@@ -17,7 +17,7 @@ abbrev pub to_root : ℕ → ℕ → ℕ → HostRange
 to_root root first last = record { root = Some root; first = first; last = last }
 
 abbrev pub sent_memory : List HostRange → Given
-sent_memory ranges = record { io = None; memory = Some ranges; legacy = []; isa = [] }
+sent_memory ranges = record { io = None; memory = Some ranges; legacy = []; isa = []; palette = []; unclaimed = [] }
 
 -- ---- where accesses start: both ends of a range are sent, by the space and by the root
 

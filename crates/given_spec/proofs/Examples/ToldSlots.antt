@@ -188,7 +188,7 @@ abbrev vga_bridge : Function
 vga_bridge = bridge (slot 0 1 0) 1 0x010100 ((0x3c, 0x000c0000) ∷ []) []
 
 abbrev vga_and_isa : Given
-vga_and_isa = record { io = None; memory = None; legacy = record { slot = slot 0 1 0; is_wide = false } ∷ []; isa = slot 0 1 0 ∷ [] }
+vga_and_isa = record { io = None; memory = None; legacy = record { slot = slot 0 1 0; is_wide = false } ∷ []; isa = slot 0 1 0 ∷ []; palette = []; unclaimed = [] }
 
 display_is_passed : map (λ a. passes vga_and_isa Io false a vga_bridge) (0x3bf ∷ 0x3c0 ∷ 0x3df ∷ 0x3e0 ∷ []) ≡ false ∷ true ∷ true ∷ false ∷ []
 display_is_passed = refl

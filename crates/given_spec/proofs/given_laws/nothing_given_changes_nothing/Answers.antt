@@ -1,4 +1,4 @@
-use Rattle.given_spec.proofs.Nothing.{starts_anywhere, same_claims, no_legacy_claims, same_forwards, same_passes, same_gets, same_passed_to, none_outside, same_faults}
+use Rattle.given_spec.proofs.Nothing.{starts_anywhere, same_claims, no_legacy_claims, no_palette_claims, same_forwards, same_passes, same_gets, same_passed_to, none_outside, same_faults}
 use Rattle.given_spec.proofs.Judging.{same_sound}
 use Rattle.given_spec.proofs.given_laws.nothing_given_changes_nothing.Goals as goal
 
@@ -7,6 +7,7 @@ returns c = record {
   starts = starts_anywhere;
   claims = same_claims;
   legacy = no_legacy_claims;
+  palette = no_palette_claims;
   forwards = same_forwards;
   passes = same_passes;
   gets = same_gets;
