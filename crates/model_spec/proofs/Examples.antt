@@ -6,3 +6,4 @@ pub mod Power
 pub mod Asleep
 pub mod Windows
 pub mod WordLists
+pub mod Snoop

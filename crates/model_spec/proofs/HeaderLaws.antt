@@ -1,25 +1,26 @@
 -- What `cardbus` and `windows` leave alone, and what other words leave alone of a CardBus bridge.
-use Rattle.std.proofs.Common.{◌≡◌, ℕ, suc, ◌+◌, ◌*◌, ◌/◌, ◌%◌, ◌==◌, List, [], ◌∷◌, set, Bool, true, false, ◌&&◌, ◌||◌, not, inl, inr, refl, sym, ◌∙◌, ap, subst, arith, lit<, is_some}
+use Rattle.std.proofs.Common.{◌≡◌, ℕ, suc, ◌+◌, ◌*◌, ◌/◌, ◌%◌, ◌==◌, List, [], ◌∷◌, map, set, Bool, true, false, ◌&&◌, ◌||◌, not, inl, inr, refl, sym, ◌∙◌, ap, subst, arith, lit<, is_some, zero, ◌<◌, ◌^◌}
 use Rattle.std.specs.Prelude.{◌↔◌}
 use Rattle.std.specs.Bool.{IsTrue, IsFalse, if◌then◌else◌}
 use Rattle.std.specs.Int.{bit_at}
-use Rattle.std.specs.List.{Contains}
+use Rattle.std.specs.List.{Contains, AllZip}
 use Rattle.std.proofs.lemmas.Bool.{and_left, and_parts, and_right, cases_Bool, cond_both, eqb-true, ne_eqb}
 use Rattle.std.proofs.lemmas.List.{get_or-set_same, get_or-set_other}
-use Rattle.pci_spec.specs.Registers.{HEADER_TYPE, BRIDGE_CONTROL, ISA_ENABLE, SECONDARY_BUS_RESET, VGA_ENABLE}
+use Rattle.pci_spec.specs.Registers.{HEADER_TYPE, BRIDGE_CONTROL, ISA_ENABLE, SECONDARY_BUS_RESET, VGA_ENABLE, COMMAND, INTERFACE, IO_BASE, IO_LIMIT, IO_BASE_UPPER, IO_LIMIT_UPPER, MEMORY_BASE, MEMORY_LIMIT, PREFETCHABLE_BASE, PREFETCHABLE_LIMIT, PREFETCHABLE_BASE_UPPER, PREFETCHABLE_LIMIT_UPPER}
 use Rattle.pci_spec.specs.Header.{bridge_control, layout}
-use Rattle.pci_spec.specs.Number.{byte_at, has_bit, IsImage}
+use Rattle.pci_spec.specs.Number.{byte_at, has_bit, IsImage, number_at}
 use Rattle.pci_spec.specs.Slot.{Slot}
 use Rattle.pci_spec.specs.System.{Function, System, is_bridge}
-use Rattle.pci_spec.specs.Window.{WindowKind, IoWindow, MemoryWindow, PrefetchWindow, breaks_window_rule}
+use Rattle.pci_spec.specs.Window.{WindowKind, IoWindow, MemoryWindow, PrefetchWindow, breaks_window_rule, Bounds, bounds_at, shows_window, is_optional, is_zero}
 use Rattle.pci_spec.specs.Fault.{HeaderKind, IsIn, controls_bridge, is_subtractive_bridge}
 use Rattle.pci_spec.specs.Order.{Place}
-use Rattle.given_spec.specs.Words.{isa_aside, vga_aside, without_vga}
+use Rattle.given_spec.specs.Words.{isa_aside, vga_aside, without_vga, snoop_aside, is_alone, taken_by_unclaimed, unclaimed_aside}
+use Rattle.pci_spec.proofs.Members.{in_map_to, in_tail}
 use Rattle.model_spec.specs.Words.{Words}
 use Rattle.model_spec.specs.Bytes.{switched_off}
 use Rattle.model_spec.specs.Windows.{window_as_shown, windows_as_shown}
-use Rattle.model_spec.specs.Taken.{AreFunctionsTakenAs, HasNoOwnFaultBefore, IsAsleep, IsTakenAs, IsWhere, bridge_aside, cardbus_aside, compatible_bars, first_aside, function_with_image, has_legacy_by, is_anyone_behind, is_cardbus, is_ide, is_unnumbered, isa_aside_by, may_have_parts_by, parts_aside, vga_aside_by, windows_aside, without_socket}
-use Rattle.model_spec.specs.WordsLaws.{BothLeaveOthers, CardbusLeavesOthers, IsaLeavesOthers, OthersLeaveCardbus, WindowsLeaveOthers, has_bad_window}
+use Rattle.model_spec.specs.Taken.{HasNoOwnFaultBefore, IsAsleep, IsTakenAs, IsWhere, bridge_aside, cardbus_aside, compatible_bars, first_aside, function_with_image, fixed_parts_by, is_anyone_behind, is_cardbus, is_ide, is_unnumbered, isa_aside_by, may_have_parts_by, parts_aside, vga_aside_by, windows_aside, without_socket, FixedParts, snoop_aside_by, unclaimed_aside_by}
+use Rattle.model_spec.specs.WordsLaws.{BothLeaveOthers, CardbusLeavesOthers, IsaLeavesOthers, OthersLeaveCardbus, WindowsLeaveOthers, has_bad_window, UnclaimedLeavesOthers}
 use Rattle.model_spec.proofs.Changes.{device_is_device}
 use Rattle.model_spec.proofs.NoEnables.{bars_stay, is_controller, where_either}
 use Rattle.model_spec.proofs.Others.{before_alike, layout_same}
@@ -28,14 +29,14 @@ use Rattle.model_spec.proofs.WindowBytes.{aside_differs}
 -- ---- cardbus
 
 -- what is left aside of a function makes it no CardBus bridge
-parts_are_none : (w : Words) (legacy : Bool) (f : Function) → is_cardbus f ≡ false → is_cardbus (parts_aside w legacy f) ≡ false
-parts_are_none w legacy f none = elim (cases_Bool (w.ide && is_ide f.image)) [
+parts_are_none : (w : Words) (fixed : FixedParts) (f : Function) → is_cardbus f ≡ false → is_cardbus (parts_aside w fixed f) ≡ false
+parts_are_none w fixed f none = elim (cases_Bool (w.ide && is_ide f.image)) [
   | inl channels ↦ (
       let controller = is_controller f (and_parts w.ide (is_ide f.image) channels).1 in
       let device = bars_stay (compatible_bars f) f.image controller in
       rw channels (ap (λ n. n == 2) device)
       )
-  | inr other ↦ elim (cases_Bool (w.unnumbered && is_unnumbered legacy f)) [
+  | inr other ↦ elim (cases_Bool (w.unnumbered && is_unnumbered fixed f)) [
     | inl bare ↦ rw (other, bare) (ap (λ n. n == 2) (device_is_device f.image))
     | inr numbered ↦ rw (other, numbered) none
   ]
@@ -45,7 +46,7 @@ none_before : (w : Words) (slots : List Slot) (f h : Function) (t : IsTakenAs w 
 none_before w slots f h t none =
     let b = bridge_aside w slots t.g in
     let b_none : is_cardbus b ≡ false = ap (λ n. n == 2) (layout_same f.image b.image (before_alike w slots f h t)) ∙ none in
-    where_either (λ x. is_cardbus x ≡ false) _ b _ t.k t.parts (parts_are_none w (has_legacy_by w f) b b_none) b_none
+    where_either (λ x. is_cardbus x ≡ false) _ b _ t.k t.parts (parts_are_none w (fixed_parts_by w f) b b_none) b_none
 
 same_header : (w : Words) (f : Function) → is_cardbus f ≡ false → cardbus_aside w f ≡ f
 same_header w f none = ap (λ b. if b then without_socket f else f) (and_right w.cardbus (is_cardbus f) none)
@@ -77,8 +78,8 @@ PowerFrom w g x = IsWhere (IsTrue w.power × IsAsleep x) x (function_with_image 
 pub windows_leave_others : WindowsLeaveOthers
 windows_leave_others w slots f h none =
     let same = windows_same w f none in (
-      λ t. record { g = t.g; k = t.k; power = subst (λ (x : Function). PowerFrom w t.g (isa_aside_by w (vga_aside_by w x))) same t.power; parts = t.parts; header = t.header },
-      λ t. record { g = t.g; k = t.k; power = subst (λ (x : Function). PowerFrom w t.g (isa_aside_by w (vga_aside_by w x))) (sym same) t.power; parts = t.parts; header = t.header },
+      λ t. record { g = t.g; k = t.k; power = subst (λ (x : Function). PowerFrom w t.g (snoop_aside_by w (isa_aside_by w (vga_aside_by w x)))) same t.power; parts = t.parts; header = t.header },
+      λ t. record { g = t.g; k = t.k; power = subst (λ (x : Function). PowerFrom w t.g (snoop_aside_by w (isa_aside_by w (vga_aside_by w x)))) (sym same) t.power; parts = t.parts; header = t.header },
     )
 
 -- ---- isa
@@ -116,9 +117,10 @@ module _ (w : Words) (f : Function) (is : IsImage f.image) where
   both_leave_it =
       cond_both (is_some w.vga) (vga_aside first) first (λ x. controls_bridge x.image ISA_ENABLE ≡ controls_bridge first.image ISA_ENABLE) (λ counts. vga_leaves) (λ other. refl) ∙ windows_leave
 
-  isa_same : controls_bridge f.image ISA_ENABLE ≡ false → first_aside w f ≡ vga_aside_by w first
+  isa_same : controls_bridge f.image ISA_ENABLE ≡ false → first_aside w f ≡ snoop_aside_by w (vga_aside_by w first)
   isa_same none =
-      cond_both w.isa (isa_aside (vga_aside_by w first)) (vga_aside_by w first) (λ g. g ≡ vga_aside_by w first) (λ counts. rw (both_leave_it ∙ none) refl) (λ other. refl)
+      ap (snoop_aside_by w)
+      (cond_both w.isa (isa_aside (vga_aside_by w first)) (vga_aside_by w first) (λ g. g ≡ vga_aside_by w first) (λ counts. rw (both_leave_it ∙ none) refl) (λ other. refl))
 
 pub isa_leaves_others : IsaLeavesOthers
 isa_leaves_others w slots f h is none =
@@ -144,7 +146,7 @@ one_of_both w slots f h header windows =
 rest_are : (f : Function) (s : System) → AreOthers (f ∷ s) → AreOthers s
 rest_are f s others g (k, less, is) = others g (suc k, omega (arith, less), is)
 
-both_leave : (w : Words) (slots : List Slot) (s t : System) → AreOthers s → AreFunctionsTakenAs w slots s t → AreFunctionsTakenAs (neither w) slots s t
+both_leave : (w : Words) (slots : List Slot) (s t : System) → AreOthers s → AllZip (IsTakenAs w slots) s t → AllZip (IsTakenAs (neither w) slots) s t
 both_leave w slots [] [] others taken = tt
 both_leave w slots [] (h ∷ t) others taken = absurd taken
 both_leave w slots (f ∷ s) [] others taken = absurd taken
@@ -152,7 +154,7 @@ both_leave w slots (f ∷ s) (h ∷ t) others taken =
     let own = others f (0, omega arith, refl) in
     ((one_of_both w slots f h own.0 own.1).0 taken.0, both_leave w slots s t (rest_are f s others) taken.1)
 
-both_bring : (w : Words) (slots : List Slot) (s t : System) → AreOthers s → AreFunctionsTakenAs (neither w) slots s t → AreFunctionsTakenAs w slots s t
+both_bring : (w : Words) (slots : List Slot) (s t : System) → AreOthers s → AllZip (IsTakenAs (neither w) slots) s t → AllZip (IsTakenAs w slots) s t
 both_bring w slots [] [] others taken = tt
 both_bring w slots [] (h ∷ t) others taken = absurd taken
 both_bring w slots (f ∷ s) [] others taken = absurd taken
@@ -160,8 +162,91 @@ both_bring w slots (f ∷ s) (h ∷ t) others taken =
     let own = others f (0, omega arith, refl) in
     ((one_of_both w slots f h own.0 own.1).1 taken.0, both_bring w slots s t (rest_are f s others) taken.1)
 
+-- a bridge that is made positive keeps its header and its windows
+module _ (f : Function) where
+  abbrev made_positive : Function
+  made_positive = record { slot = f.slot; image = set f.image INTERFACE 0; probe = f.probe }
+
+  kept_byte : (k : ℕ) → (k ≡ INTERFACE → ⊥) → byte_at made_positive.image k ≡ byte_at f.image k
+  kept_byte k other = get_or-set_other f.image INTERFACE k 0 0 other
+
+  kept_number : (width offset : ℕ) → INTERFACE < offset → number_at made_positive.image offset width ≡ number_at f.image offset width
+  kept_number zero offset behind = refl
+  kept_number (suc width) offset behind = λ i. kept_number width offset behind i + kept_byte (offset + width) (λ e. omega (arith, behind, e)) i * 256 ^ width
+
+  kept_bounds : (kind : WindowKind) → bounds_at kind made_positive.image ≡ bounds_at kind f.image
+  kept_bounds IoWindow = λ i. record {
+    base = kept_byte IO_BASE (λ e. cc e) i;
+    limit = kept_byte IO_LIMIT (λ e. cc e) i;
+    base_upper = kept_number 2 IO_BASE_UPPER (lit< tt) i;
+    limit_upper = kept_number 2 IO_LIMIT_UPPER (lit< tt) i;
+  }
+  kept_bounds MemoryWindow = λ i. record { base = kept_number 2 MEMORY_BASE (lit< tt) i; limit = kept_number 2 MEMORY_LIMIT (lit< tt) i; base_upper = 0; limit_upper = 0 }
+  kept_bounds PrefetchWindow = λ i. record {
+    base = kept_number 2 PREFETCHABLE_BASE (lit< tt) i;
+    limit = kept_number 2 PREFETCHABLE_LIMIT (lit< tt) i;
+    base_upper = kept_number 4 PREFETCHABLE_BASE_UPPER (lit< tt) i;
+    limit_upper = kept_number 4 PREFETCHABLE_LIMIT_UPPER (lit< tt) i;
+  }
+
+  abbrev breaks_by : WindowKind → Bounds → Bounds → Bool
+  breaks_by kind shown reads = not (shows_window kind shown reads || (is_optional kind && is_zero shown && is_zero reads))
+
+  positive_is_other : IsFalse (is_cardbus f) → ((kind : WindowKind) → IsFalse (has_bad_window f kind)) → IsFalse (is_cardbus made_positive) × ((kind : WindowKind) → IsFalse (has_bad_window made_positive kind))
+  positive_is_other header windows =
+      let kind_same : layout made_positive.image ≡ layout f.image = ap (λ n. n % 128) (kept_byte HEADER_TYPE (λ e. cc e)) in (
+        ap (λ n. n == 2) kind_same ∙ header,
+        λ kind.
+            ap (λ n. n == 1 && breaks_window_rule kind made_positive.image f.probe) kind_same
+            ∙ ap (λ shown. is_bridge f && breaks_by kind shown (bounds_at kind f.probe)) (kept_bounds kind) ∙ windows kind,
+      )
+
+others_positive : (s : System) → AreOthers s → AreOthers (taken_by_unclaimed s)
+others_positive s others g has =
+    let made = in_map_to (unclaimed_aside s) s g has in
+    let own = others made.from made.has in
+    subst (λ (x : Function). IsFalse (is_cardbus x) × ((kind : WindowKind) → IsFalse (has_bad_window x kind))) made.is
+    (cond_both (is_alone s made.from) (made_positive made.from) made.from (λ x. IsFalse (is_cardbus x) × ((kind : WindowKind) → IsFalse (has_bad_window x kind)))
+    (λ alone. positive_is_other made.from own.0 own.1) (λ other. own))
+
+others_before : (w : Words) (s : System) → AreOthers s → AreOthers (unclaimed_aside_by w s)
+others_before w s others = cond_both w.unclaimed (taken_by_unclaimed s) s AreOthers (λ counts. others_positive s others) (λ other. others)
+
 pub both_leave_others : BothLeaveOthers
-both_leave_others w slots s t others = (both_leave w slots s t others, both_bring w slots s t others)
+both_leave_others w slots s t others =
+    let before = others_before w s others in
+    (both_leave w slots (unclaimed_aside_by w s) t before, both_bring w slots (unclaimed_aside_by w s) t before)
+
+-- ---- unclaimed
+
+alone_same : (all s : System) → ((f : Function) → Contains s f → is_alone all f ≡ false) → map (unclaimed_aside all) s ≡ s
+alone_same all [] none = refl
+alone_same all (f ∷ s) none =
+    let own : unclaimed_aside all f ≡ f = ap (λ b. if b then made_positive f else f) (none f (0, omega arith, refl)) in
+    let rest = alone_same all s (λ g in_s. none g (in_tail f s g in_s)) in
+    λ i. own i ∷ rest i
+
+pub unclaimed_leaves_others : UnclaimedLeavesOthers
+unclaimed_leaves_others w slots s t none =
+    let same : unclaimed_aside_by w s ≡ s = cond_both w.unclaimed (taken_by_unclaimed s) s (λ u. u ≡ s) (λ counts. alone_same s s none) (λ other. refl) in (
+      λ taken. each_without w slots s t (subst (λ (u : System). AllZip (IsTakenAs w slots) u t) same taken),
+      λ taken. subst (λ (u : System). AllZip (IsTakenAs w slots) u t) (sym same) (each_with w slots s t taken),
+    )
+  where
+    -- of one function the word says nothing
+    each_without : (w : Words) (slots : List Slot) (s t : System) → AllZip (IsTakenAs w slots) s t → AllZip (IsTakenAs (record w { unclaimed = false }) slots) s t
+    each_without w slots [] [] taken = tt
+    each_without w slots [] (h ∷ t) taken = absurd taken
+    each_without w slots (f ∷ s) [] taken = absurd taken
+    each_without w slots (f ∷ s) (h ∷ t) taken =
+        (record { g = taken.0.g; k = taken.0.k; power = taken.0.power; parts = taken.0.parts; header = taken.0.header }, each_without w slots s t taken.1)
+
+    each_with : (w : Words) (slots : List Slot) (s t : System) → AllZip (IsTakenAs (record w { unclaimed = false }) slots) s t → AllZip (IsTakenAs w slots) s t
+    each_with w slots [] [] taken = tt
+    each_with w slots [] (h ∷ t) taken = absurd taken
+    each_with w slots (f ∷ s) [] taken = absurd taken
+    each_with w slots (f ∷ s) (h ∷ t) taken =
+        (record { g = taken.0.g; k = taken.0.k; power = taken.0.power; parts = taken.0.parts; header = taken.0.header }, each_with w slots s t taken.1)
 
 -- ---- what other words leave alone of a CardBus bridge
 
@@ -182,8 +267,11 @@ module _ (w : Words) (slots : List Slot) (f : Function) (socket : is_cardbus f �
   controls_nothing : (i : ℕ) → controls_bridge f.image i ≡ false
   controls_nothing i = and_left _ _ no_bridge
 
-  first_same : first_aside w f ≡ f
-  first_same = ap (λ x. isa_aside_by w (vga_aside_by w x)) (ap (λ b. if b then windows_as_shown f else f) (and_right w.windows (is_bridge f) no_bridge)) ∙ ap (isa_aside_by w) vga_same ∙ isa_same
+  -- of what is left aside first VGA Palette Snoop alone
+  first_same : first_aside w f ≡ snoop_aside_by w f
+  first_same =
+      ap (snoop_aside_by w)
+      (ap (λ x. isa_aside_by w (vga_aside_by w x)) (ap (λ b. if b then windows_as_shown f else f) (and_right w.windows (is_bridge f) no_bridge)) ∙ ap (isa_aside_by w) vga_same ∙ isa_same)
     where
       isa_same : isa_aside_by w f ≡ f
       isa_same = cond_both w.isa (isa_aside f) f (λ g. g ≡ f) (λ counts. rw (controls_nothing ISA_ENABLE) refl) (λ other. refl)
@@ -200,13 +288,22 @@ module _ (w : Words) (slots : List Slot) (f : Function) (socket : is_cardbus f �
       subtractive_off : (w.subtractive && is_subtractive_bridge f.image && not (is_anyone_behind slots f)) ≡ false
       subtractive_off = and_left _ _ (and_right w.subtractive (is_subtractive_bridge f.image) (and_left _ _ no_bridge))
 
-  left_alone : (h : Function) → IsTakenAs w slots f h → h ≡ cardbus_aside w f
-  left_alone h t =
-      let g_is : t.g ≡ f = where_never _ f _ t.g (subst (λ (x : Function). PowerFrom w t.g x) first_same t.power) (λ asleep. asleep.1.0 (HeaderKind f.slot) (lit< tt) own_fault) in
-      let b_is : bridge_aside w slots t.g ≡ f = ap (bridge_aside w slots) g_is ∙ bridge_same in
-      let parts = subst (λ (x : Function). IsWhere (IsTrue (may_have_parts_by w x) × HasNoOwnFaultBefore Place x) x (parts_aside w (has_legacy_by w f) x) t.k) b_is t.parts in
-      let k_is : t.k ≡ f = where_never _ f _ t.k parts (λ may. may.1 (HeaderKind f.slot) (lit< tt) own_fault) in
-      t.header ∙ ap (cardbus_aside w) k_is
+-- a CardBus bridge whose VGA Palette Snoop is left aside is one
+still_socket : (w : Words) (f : Function) → is_cardbus f ≡ true → is_cardbus (snoop_aside_by w f) ≡ true
+still_socket w f socket =
+    cond_both w.snoop (snoop_aside f) f (λ x. is_cardbus x ≡ true)
+    (λ counts. ap (λ n. n % 128 == 2) (get_or-set_other f.image COMMAND HEADER_TYPE _ 0 (λ e. cc e)) ∙ socket) (λ other. socket)
+
+left_alone : (w : Words) (slots : List Slot) (f h : Function) → is_cardbus f ≡ true → IsTakenAs w slots f h → h ≡ cardbus_aside w (snoop_aside_by w f)
+left_alone w slots f h socket t =
+    let x = snoop_aside_by w f in
+    let still = still_socket w f socket in
+    let fault = own_fault w slots x still in
+    let g_is : t.g ≡ x = where_never _ x _ t.g (subst (λ (x : Function). PowerFrom w t.g x) (first_same w slots f socket) t.power) (λ asleep. asleep.1.0 (HeaderKind x.slot) (lit< tt) fault) in
+    let b_is : bridge_aside w slots t.g ≡ x = ap (bridge_aside w slots) g_is ∙ bridge_same w slots x still in
+    let parts = subst (λ (x : Function). IsWhere (IsTrue (may_have_parts_by w x) × HasNoOwnFaultBefore Place x) x (parts_aside w (fixed_parts_by w f) x) t.k) b_is t.parts in
+    let k_is : t.k ≡ x = where_never _ x _ t.k parts (λ may. may.1 (HeaderKind x.slot) (lit< tt) fault) in
+    t.header ∙ ap (cardbus_aside w) k_is
 
 pub others_leave_cardbus : OthersLeaveCardbus
-others_leave_cardbus w slots f h socket t = left_alone w slots f socket h t
+others_leave_cardbus w slots f h socket t = left_alone w slots f h socket t

@@ -4,6 +4,8 @@ pub mod Kept
 pub mod NoEnables
 mod HeaderLaws
 mod Asleep
+mod Commands
+mod Snoop
 mod Others
 mod ShownWindows
 mod Sockets

@@ -1,5 +1,5 @@
 -- What is taken with a word for legacy parts has no VGA Enable, and with `isa` no ISA Enable.
-use Rattle.std.proofs.Common.{◌≡◌, ℕ, zero, suc, ◌+◌, ◌*◌, ◌/◌, ◌%◌, ◌==◌, List, [], ◌∷◌, length, set, Bool, true, false, ◌&&◌, not, is_some, refl, sym, ◌∙◌, ap, subst, inl, inr, arith}
+use Rattle.std.proofs.Common.{◌≡◌, ℕ, zero, suc, ◌+◌, ◌*◌, ◌/◌, ◌%◌, ◌==◌, List, [], ◌∷◌, length, set, true, false, ◌&&◌, not, is_some, refl, sym, ◌∙◌, ap, subst, inl, inr, arith}
 use Rattle.std.specs.Prelude.{◌⊎◌}
 use Rattle.std.specs.Int.{bit_at}
 use Rattle.std.proofs.lemmas.Bool.{and_left, both_ways, cases_Bool, cases_eq, cases_lt, cond_both, ne_eqb, true_from_ne_false}
@@ -12,10 +12,10 @@ use Rattle.pci_spec.specs.Slot.{Slot}
 use Rattle.pci_spec.specs.System.{Function}
 use Rattle.pci_spec.specs.Decoded.{DecodedBar}
 use Rattle.pci_spec.specs.Fault.{controls_bridge, is_subtractive_bridge}
-use Rattle.given_spec.specs.Words.{isa_aside, vga_aside, without_isa, without_vga}
+use Rattle.given_spec.specs.Words.{isa_aside, snoop_aside, vga_aside, without_isa, without_snoop, without_vga}
 use Rattle.model_spec.specs.Words.{Words}
 use Rattle.model_spec.specs.Bytes.{as_bare_device, cleared, out_of_reset, positive, switched_off, width_of, without_bars}
-use Rattle.model_spec.specs.Taken.{IsTakenAs, IsWhere, bridge_aside, cardbus_aside, compatible_bars, first_aside, has_legacy_by, is_anyone_behind, is_cardbus, is_ide, is_unnumbered, parts_aside, reset_aside, vga_aside_by, windows_aside, function_with_image, without_channels, without_socket}
+use Rattle.model_spec.specs.Taken.{IsTakenAs, IsWhere, bridge_aside, cardbus_aside, compatible_bars, first_aside, fixed_parts_by, is_anyone_behind, is_cardbus, is_ide, is_unnumbered, isa_aside_by, parts_aside, reset_aside, snoop_aside_by, vga_aside_by, windows_aside, function_with_image, without_channels, without_socket, FixedParts}
 use Rattle.model_spec.specs.WordsLaws.{TakenHasNoIsaEnable, TakenHasNoVgaEnable}
 use Rattle.model_spec.proofs.Changes.{bare_is_device, device_is_none}
 use Rattle.model_spec.proofs.WindowBytes.{aside_differs}
@@ -95,6 +95,24 @@ switched_stays_off bit image is =
       off = still_off bit image (switched_off image) (off_at image HEADER_TYPE (λ e. cc e) (λ e. cc e)) (ap (λ n. has_bit n bit) control) is.off;
     }
 
+snoop_leaves : (image : List ℕ) (k : ℕ) → (k ≡ COMMAND → ⊥) → byte_at (without_snoop image) k ≡ byte_at image k
+snoop_leaves image k other = get_or-set_other image COMMAND k _ 0 other
+
+snoop_stays_off : (bit : ℕ) (image : List ℕ) → IsOff bit image → IsOff bit (without_snoop image)
+snoop_stays_off bit image is =
+    let changed = without_snoop image in
+    let low = snoop_leaves image BRIDGE_CONTROL (λ e. cc e) in
+    let high = snoop_leaves image (BRIDGE_CONTROL + 1) (λ e. cc e) in
+    let control : bridge_control changed ≡ bridge_control image = omega (arith, low, high) in
+    record {
+      full = length-set image COMMAND _ ∙ is.full;
+      off = still_off bit image changed (snoop_leaves image HEADER_TYPE (λ e. cc e)) (ap (λ n. has_bit n bit) control) is.off;
+    }
+
+-- VGA Palette Snoop left aside
+snoop_by_stays_off : (bit : ℕ) (w : Words) (f : Function) → IsOff bit f.image → IsOff bit (snoop_aside_by w f).image
+snoop_by_stays_off bit w f is = cond_both w.snoop (snoop_aside f) f (λ x. IsOff bit x.image) (λ counts. snoop_stays_off bit f.image is) (λ other. is)
+
 -- bits below the one of reset
 kept_by_reset : (bit : ℕ) → IsEnable bit → (control high : ℕ) → bit_at (control / 128 * 128 + control % 64 + 256 * high) bit ≡ bit_at (control + 256 * high) bit
 kept_by_reset bit (inl isa) control high =
@@ -155,14 +173,14 @@ is_controller f ide = elim (cases_eq (layout f.image) 0) [
   | inr other ↦ absurd (both_ways (is_ide f.image) (and_left _ _ (ne_eqb (layout f.image) 0 other)) ide)
 ]
 
-parts_stay_off : (bit : ℕ) (w : Words) (legacy : Bool) (f : Function) → IsOff bit f.image → controls_bridge (parts_aside w legacy f).image bit ≡ false
-parts_stay_off bit w legacy f is = elim (cases_Bool (w.ide && is_ide f.image)) [
+parts_stay_off : (bit : ℕ) (w : Words) (fixed : FixedParts) (f : Function) → IsOff bit f.image → controls_bridge (parts_aside w fixed f).image bit ≡ false
+parts_stay_off bit w fixed f is = elim (cases_Bool (w.ide && is_ide f.image)) [
   | inl channels ↦ (
       let ide : is_ide f.image ≡ true = true_from_ne_false _ (λ no. both_ways (w.ide && is_ide f.image) (ap (λ b. w.ide && b) no ∙ and-false w.ide) channels) in
       let device = bars_stay (compatible_bars f) f.image (is_controller f ide) in
       rw channels (and_left _ _ (zero_is_no_bridge (layout (without_channels f).image) device))
       )
-  | inr other ↦ elim (cases_Bool (w.unnumbered && is_unnumbered legacy f)) [
+  | inr other ↦ elim (cases_Bool (w.unnumbered && is_unnumbered fixed f)) [
     | inl bare ↦ rw (other, bare) (and_left _ _ (device_is_none f.image))
     | inr numbered ↦ rw (other, numbered) is.off
   ]
@@ -187,30 +205,37 @@ taken_has_none bit which w slots f h start_is taken =
     let g_is : IsOff bit taken.g.image = where_either (λ x. IsOff bit x.image) _ start _ taken.g taken.power (switched_stays_off bit start.image start_is) start_is in
     let b = bridge_aside w slots taken.g in
     let b_is : IsOff bit b.image = bridge_stays_off bit which w slots taken.g g_is in
-    let k_is = where_either (λ x. controls_bridge x.image bit ≡ false) _ b _ taken.k taken.parts (parts_stay_off bit w (has_legacy_by w f) b b_is) b_is.off in
+    let k_is = where_either (λ x. controls_bridge x.image bit ≡ false) _ b _ taken.k taken.parts (parts_stay_off bit w (fixed_parts_by w f) b b_is) b_is.off in
     subst (λ (x : Function). controls_bridge x.image bit ≡ false) (sym taken.header) (cardbus_stays_off bit w taken.k k_is)
 
 vga_full : (w : Words) (f : Function) → length f.image ≡ 256 → length (vga_aside_by w f).image ≡ 256
 vga_full w f full = cond_both (is_some w.vga) (vga_aside f) f (λ x. length x.image ≡ 256) (λ counts. (vga_off f.image full).full) (λ other. full)
 
-pub first_full : (w : Words) (f : Function) → length f.image ≡ 256 → length (first_aside w f).image ≡ 256
-first_full w f full =
+-- before VGA Palette Snoop is left aside
+pub second_full : (w : Words) (f : Function) → length f.image ≡ 256 → length (isa_aside_by w (vga_aside_by w (windows_aside w f))).image ≡ 256
+second_full w f full =
     let shown = aside_differs w f in
     let first = vga_aside_by w (windows_aside w f) in
     let first_is = vga_full w (windows_aside w f) (shown.full ∙ full) in
     cond_both w.isa (isa_aside first) first (λ x. length x.image ≡ 256) (λ counts. (isa_off first.image first_is).full) (λ other. first_is)
+
+pub first_full : (w : Words) (f : Function) → length f.image ≡ 256 → length (first_aside w f).image ≡ 256
+first_full w f full =
+    let second = isa_aside_by w (vga_aside_by w (windows_aside w f)) in
+    let second_is = second_full w f full in
+    cond_both w.snoop (snoop_aside second) second (λ x. length x.image ≡ 256) (λ counts. length-set second.image COMMAND _ ∙ second_is) (λ other. second_is)
 
 pub taken_has_no_vga_enable : TakenHasNoVgaEnable
 taken_has_no_vga_enable w slots f h is counts taken =
     let shown = aside_differs w f in
     let first = vga_aside_by w (windows_aside w f) in
     let first_is : IsOff VGA_ENABLE first.image = rw counts (vga_off (windows_aside w f).image (shown.full ∙ is.full)) in
-    let start_is : IsOff VGA_ENABLE (first_aside w f).image = cond_both w.isa (isa_aside first) first (λ x. IsOff VGA_ENABLE x.image) (λ on. isa_leaves_vga first.image first_is) (λ off. first_is) in
-    taken_has_none VGA_ENABLE (inr refl) w slots f h start_is taken
+    let second_is : IsOff VGA_ENABLE (isa_aside_by w first).image = cond_both w.isa (isa_aside first) first (λ x. IsOff VGA_ENABLE x.image) (λ on. isa_leaves_vga first.image first_is) (λ off. first_is) in
+    taken_has_none VGA_ENABLE (inr refl) w slots f h (snoop_by_stays_off VGA_ENABLE w (isa_aside_by w first) second_is) taken
 
 pub taken_has_no_isa_enable : TakenHasNoIsaEnable
 taken_has_no_isa_enable w slots f h is counts taken =
     let shown = aside_differs w f in
     let first = vga_aside_by w (windows_aside w f) in
-    let start_is : IsOff ISA_ENABLE (first_aside w f).image = rw counts (isa_off first.image (vga_full w (windows_aside w f) (shown.full ∙ is.full))) in
-    taken_has_none ISA_ENABLE (inl refl) w slots f h start_is taken
+    let second_is : IsOff ISA_ENABLE (isa_aside_by w first).image = rw counts (isa_off first.image (vga_full w (windows_aside w f) (shown.full ∙ is.full))) in
+    taken_has_none ISA_ENABLE (inl refl) w slots f h (snoop_by_stays_off ISA_ENABLE w (isa_aside_by w first) second_is) taken

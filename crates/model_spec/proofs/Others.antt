@@ -11,10 +11,10 @@ use Rattle.pci_spec.specs.System.{Function, is_bridge}
 use Rattle.pci_spec.specs.Decoded.{bridge_of, record_of}
 use Rattle.pci_spec.specs.Fault.{controls_bridge, is_subtractive_bridge}
 use Rattle.pci_spec.specs.Order.{Place}
-use Rattle.given_spec.specs.Words.{without_isa, without_vga, isa_aside, vga_aside}
+use Rattle.given_spec.specs.Words.{without_isa, without_snoop, without_vga, isa_aside, snoop_aside, vga_aside}
 use Rattle.model_spec.specs.Words.{Words, no_words}
 use Rattle.model_spec.specs.Bytes.{out_of_reset, positive, switched_off}
-use Rattle.model_spec.specs.Taken.{HasNoOwnFaultBefore, IsTakenAs, IsWhere, bridge_aside, cardbus_aside, first_aside, has_legacy_by, is_cardbus, has_numbers, is_anyone_behind, is_ide, is_unnumbered, is_unnumbered_bridge, may_have_parts_by, parts_aside, reset_aside, vga_aside_by, windows_aside, function_with_image, without_buses, without_channels, without_socket}
+use Rattle.model_spec.specs.Taken.{HasNoOwnFaultBefore, IsTakenAs, IsWhere, bridge_aside, cardbus_aside, first_aside, fixed_parts_by, is_cardbus, has_numbers, is_anyone_behind, is_ide, is_unnumbered, is_unnumbered_bridge, isa_aside_by, may_have_parts_by, parts_aside, reset_aside, vga_aside_by, windows_aside, function_with_image, without_buses, without_channels, without_socket, FixedParts, no_fixed_parts}
 use Rattle.model_spec.specs.WordsLaws.{IdeLeavesOthers, UnnumberedLeavesOthers, UnnumberedLeavesNumbers, IdeAloneLeavesOthers, UnnumberedAloneLeavesOthers}
 use Rattle.model_spec.proofs.Kept.{taken_same, unnumbered_is_bridge}
 use Rattle.model_spec.proofs.WindowBytes.{IsOutside, aside_differs}
@@ -51,6 +51,12 @@ vga_alike image = cond_both (controls_bridge image VGA_ENABLE) _ image (λ x. Is
 
 isa_alike : (image : List ℕ) → IsAlike image (without_isa image)
 isa_alike image = cond_both (controls_bridge image ISA_ENABLE) _ image (λ x. IsAlike image x) (λ on. control_alike image _) (λ off. alike_itself image)
+
+snoop_alike : (image : List ℕ) → IsAlike image (without_snoop image)
+snoop_alike image = record {
+  same = λ k aside. get_or-set_other image COMMAND k _ 0 aside.command;
+  small = λ is. (let same : byte_at (without_snoop image) INTERFACE ≡ byte_at image INTERFACE = get_or-set_other image COMMAND INTERFACE _ 0 (λ e. cc e) in omega (arith, same, is));
+}
 
 off_alike : (image : List ℕ) → IsAlike image (switched_off image)
 off_alike image = record {
@@ -89,8 +95,11 @@ start_alike w f =
     let g = windows_aside w f in
     let k = vga_aside_by w g in
     let second : IsAlike g.image k.image = cond_both (is_some w.vga) (vga_aside g) g (λ x. IsAlike g.image x.image) (λ on. vga_alike g.image) (λ off. alike_itself g.image) in
-    let third : IsAlike k.image (first_aside w f).image = cond_both w.isa (isa_aside k) k (λ x. IsAlike k.image x.image) (λ on. isa_alike k.image) (λ off. alike_itself k.image) in
-    alike_through f.image k.image (first_aside w f).image (alike_through f.image g.image k.image (windows_alike w f) second) third
+    let m = isa_aside_by w k in
+    let third : IsAlike k.image m.image = cond_both w.isa (isa_aside k) k (λ x. IsAlike k.image x.image) (λ on. isa_alike k.image) (λ off. alike_itself k.image) in
+    let fourth : IsAlike m.image (first_aside w f).image = cond_both w.snoop (snoop_aside m) m (λ x. IsAlike m.image x.image) (λ on. snoop_alike m.image) (λ off. alike_itself m.image) in
+    alike_through f.image m.image (first_aside w f).image
+    (alike_through f.image k.image m.image (alike_through f.image g.image k.image (windows_alike w f) second) third) fourth
 
 -- a function before its parts are looked at
 pub before_alike : (w : Words) (slots : List Slot) (f h : Function) (t : IsTakenAs w slots f h) → IsAlike f.image (bridge_aside w slots t.g).image
@@ -123,8 +132,8 @@ module _ (w : Words) (slots : List Slot) (f h g : Function) where
   abbrev b : Function
   b = bridge_aside w slots g
 
-  abbrev legacy : Bool
-  legacy = has_legacy_by w f
+  abbrev fixed : FixedParts
+  fixed = fixed_parts_by w f
 
   abbrev no_ide : Words
   no_ide = record w { ide = false }
@@ -133,11 +142,11 @@ module _ (w : Words) (slots : List Slot) (f h g : Function) where
     may_same : may_have_parts_by w b ≡ may_have_parts_by no_ide b
     may_same = ap (λ x. x || (w.unnumbered && is_bridge b)) (and_right w.ide (is_ide b.image) other)
 
-    aside_same : parts_aside w legacy b ≡ parts_aside no_ide legacy b
-    aside_same = ap (λ x. if x then without_channels b else if w.unnumbered && is_unnumbered legacy b then without_buses b else b) (and_right w.ide (is_ide b.image) other)
+    aside_same : parts_aside w fixed b ≡ parts_aside no_ide fixed b
+    aside_same = ap (λ x. if x then without_channels b else if w.unnumbered && is_unnumbered fixed b then without_buses b else b) (and_right w.ide (is_ide b.image) other)
 
-    parts_same : IsWhere (IsTrue (may_have_parts_by w b) × HasNoOwnFaultBefore Place b) b (parts_aside w legacy b) h
-        ≡ IsWhere (IsTrue (may_have_parts_by no_ide b) × HasNoOwnFaultBefore Place b) b (parts_aside no_ide legacy b) h
+    parts_same : IsWhere (IsTrue (may_have_parts_by w b) × HasNoOwnFaultBefore Place b) b (parts_aside w fixed b) h
+        ≡ IsWhere (IsTrue (may_have_parts_by no_ide b) × HasNoOwnFaultBefore Place b) b (parts_aside no_ide fixed b) h
     parts_same = λ i. IsWhere (IsTrue (may_same i) × HasNoOwnFaultBefore Place b) b (aside_same i) h
 
 pub ide_leaves_others : IdeLeavesOthers
@@ -153,30 +162,30 @@ module _ (w : Words) (slots : List Slot) (f h : Function) where
   no_unnumbered = record w { unnumbered = false }
 
   -- what is taken with the word, and is no unnumbered bridge before its parts are looked at
-  leaves : (t : IsTakenAs w slots f h) → ((w.ide && is_ide (bridge_aside w slots t.g).image) ≡ false → is_unnumbered (has_legacy_by w f) (bridge_aside w slots t.g) ≡ false) → IsTakenAs no_unnumbered slots f h
+  leaves : (t : IsTakenAs w slots f h) → ((w.ide && is_ide (bridge_aside w slots t.g).image) ≡ false → is_unnumbered (fixed_parts_by w f) (bridge_aside w slots t.g) ≡ false) → IsTakenAs no_unnumbered slots f h
   leaves t none = record { g = t.g; k = t.k; power = t.power; parts = by t.parts; header = t.header }
     where
       b : Function
       b = bridge_aside w slots t.g
 
-      legacy : Bool
-      legacy = has_legacy_by w f
+      fixed : FixedParts
+      fixed = fixed_parts_by w f
 
       fewer : may_have_parts_by no_unnumbered b ≡ true → (w.ide && is_ide b.image) ≡ true
       fewer may = elim (or_cases (w.ide && is_ide b.image) (false && is_bridge b) may) [ inl ide ↦ ide | inr none ↦ absurd (both_ways false refl none) ]
 
-      by : IsWhere (IsTrue (may_have_parts_by w b) × HasNoOwnFaultBefore Place b) b (parts_aside w legacy b) t.k → IsWhere (IsTrue (may_have_parts_by no_unnumbered b) × HasNoOwnFaultBefore Place b) b (parts_aside no_unnumbered legacy b) t.k
+      by : IsWhere (IsTrue (may_have_parts_by w b) × HasNoOwnFaultBefore Place b) b (parts_aside w fixed b) t.k → IsWhere (IsTrue (may_have_parts_by no_unnumbered b) × HasNoOwnFaultBefore Place b) b (parts_aside no_unnumbered fixed b) t.k
       by (inr (fails, is)) = inr (λ holds. fails (or_left (w.ide && is_ide b.image) (w.unnumbered && is_bridge b) (fewer holds.0), holds.1), is)
       by (inl (holds, is)) = elim (cases_Bool (w.ide && is_ide b.image)) [
         | inl ide ↦ inl (
           (or_left (w.ide && is_ide b.image) (false && is_bridge b) ide, holds.1),
-          is ∙ ap (λ x. if x then without_channels b else if w.unnumbered && is_unnumbered legacy b then without_buses b else b) ide
-              ∙ sym (ap (λ x. if x then without_channels b else if false && is_unnumbered legacy b then without_buses b else b) ide),
+          is ∙ ap (λ x. if x then without_channels b else if w.unnumbered && is_unnumbered fixed b then without_buses b else b) ide
+              ∙ sym (ap (λ x. if x then without_channels b else if false && is_unnumbered fixed b then without_buses b else b) ide),
         )
         | inr other ↦ inr (
           λ may. both_ways (w.ide && is_ide b.image) other (fewer may.0),
-          is ∙ ap (λ x. if x then without_channels b else if w.unnumbered && is_unnumbered legacy b then without_buses b else b) other
-              ∙ ap (λ x. if x then without_buses b else b) (and_right w.unnumbered (is_unnumbered legacy b) (none other)),
+          is ∙ ap (λ x. if x then without_channels b else if w.unnumbered && is_unnumbered fixed b then without_buses b else b) other
+              ∙ ap (λ x. if x then without_buses b else b) (and_right w.unnumbered (is_unnumbered fixed b) (none other)),
         )
       ]
 
@@ -197,10 +206,10 @@ module _ (w : Words) (slots : List Slot) (f h : Function) where
   }
 
 -- a CardBus bridge is no unnumbered bridge, so it makes no difference whether it is one no more
-numbered_as_device : (w : Words) (legacy : Bool) (f : Function) → is_unnumbered legacy (cardbus_aside w f) ≡ false → is_unnumbered legacy f ≡ false
-numbered_as_device w legacy f =
-    cond_both (w.cardbus && is_cardbus f) (without_socket f) f (λ g. is_unnumbered legacy g ≡ false → is_unnumbered legacy f ≡ false)
-    (λ counts none. unnumbered_is_bridge legacy f (ne_eqb (layout f.image) 1 (λ one. let two = eqb-true (layout f.image) 2 (and_second w.cardbus (is_cardbus f) counts) in omega (arith, one, two))))
+numbered_as_device : (w : Words) (fixed : FixedParts) (f : Function) → is_unnumbered fixed (cardbus_aside w f) ≡ false → is_unnumbered fixed f ≡ false
+numbered_as_device w fixed f =
+    cond_both (w.cardbus && is_cardbus f) (without_socket f) f (λ g. is_unnumbered fixed g ≡ false → is_unnumbered fixed f ≡ false)
+    (λ counts none. unnumbered_is_bridge fixed f (ne_eqb (layout f.image) 1 (λ one. let two = eqb-true (layout f.image) 2 (and_second w.cardbus (is_cardbus f) counts) in omega (arith, one, two))))
     (λ other none. none)
   where
     and_second : (x y : Bool) → (x && y) ≡ true → y ≡ true
@@ -208,12 +217,12 @@ numbered_as_device w legacy f =
 
 pub unnumbered_leaves_others : UnnumberedLeavesOthers
 unnumbered_leaves_others w slots f h t none = leaves w slots f h t (λ other.
-    numbered_as_device w (has_legacy_by w f) (bridge_aside w slots t.g) (none (cardbus_aside w (bridge_aside w slots t.g)) (taken_before w slots f h t other)))
+    numbered_as_device w (fixed_parts_by w f) (bridge_aside w slots t.g) (none (cardbus_aside w (bridge_aside w slots t.g)) (taken_before w slots f h t other)))
 
 -- a bridge without bus numbers has none before
-numbered_before : (legacy : Bool) (f b : Function) → IsAlike f.image b.image → (is_bridge f && not (has_numbers (bridge_of f.image f.probe))) ≡ false → is_unnumbered legacy b ≡ false
-numbered_before legacy f b alike numbered = elim (cases_Bool (is_bridge b)) [
-  | inr device ↦ ap (λ x. is_unnumbered_bridge legacy (record_of b) (if x then Some (bridge_of b.image b.probe) else None)) device
+numbered_before : (fixed : FixedParts) (f b : Function) → IsAlike f.image b.image → (is_bridge f && not (has_numbers (bridge_of f.image f.probe))) ≡ false → is_unnumbered fixed b ≡ false
+numbered_before fixed f b alike numbered = elim (cases_Bool (is_bridge b)) [
+  | inr device ↦ ap (λ x. is_unnumbered_bridge fixed (record_of b) (if x then Some (bridge_of b.image b.probe) else None)) device
   | inl bridge ↦
       let kind : is_bridge b ≡ is_bridge f = ap (λ n. n == 1) (layout_same f.image b.image alike) in
       let number = λ (k : ℕ) (is : IsAside k). alike.same k is in
@@ -222,7 +231,7 @@ numbered_before legacy f b alike numbered = elim (cases_Bool (is_bridge b)) [
       let subordinate = number SUBORDINATE_BUS (aside SUBORDINATE_BUS (λ e. cc e) (λ e. cc e) (λ e. cc e) (λ e. cc e) (inl (omega arith))) in
       let same : has_numbers (bridge_of b.image b.probe) ≡ has_numbers (bridge_of f.image f.probe) = λ i. not (primary i == 0 && secondary i == 0 && subordinate i == 0) in
       let none : not (has_numbers (bridge_of b.image b.probe)) ≡ false = ap not same ∙ and_second_false (is_bridge f) (not (has_numbers (bridge_of f.image f.probe))) (sym kind ∙ bridge) numbered in
-      ap (λ x. is_unnumbered_bridge legacy (record_of b) (if x then Some (bridge_of b.image b.probe) else None)) bridge
+      ap (λ x. is_unnumbered_bridge fixed (record_of b) (if x then Some (bridge_of b.image b.probe) else None)) bridge
       ∙ and_left _ _ (and_left _ _ (and_left _ _ none))
 ]
   where
@@ -230,7 +239,7 @@ numbered_before legacy f b alike numbered = elim (cases_Bool (is_bridge b)) [
     and_second_false x y is none = sym (ap (λ z. z && y) is) ∙ none
 
 pub unnumbered_leaves_numbers : UnnumberedLeavesNumbers
-unnumbered_leaves_numbers w slots f h t numbered = leaves w slots f h t (λ other. numbered_before (has_legacy_by w f) f (bridge_aside w slots t.g) (before_alike w slots f h t) numbered)
+unnumbered_leaves_numbers w slots f h t numbered = leaves w slots f h t (λ other. numbered_before (fixed_parts_by w f) f (bridge_aside w slots t.g) (before_alike w slots f h t) numbered)
 
 -- ---- one word alone
 
@@ -239,4 +248,4 @@ ide_alone slots f h is other t = taken_same slots f h ((ide_leaves_others (recor
 
 pub unnumbered_alone : UnnumberedAloneLeavesOthers
 unnumbered_alone slots f h numbered t =
-    taken_same slots f h (unnumbered_leaves_others (record no_words { unnumbered = true }) slots f h t (λ k taken. ap (is_unnumbered false) (taken_same slots f k taken) ∙ numbered))
+    taken_same slots f h (unnumbered_leaves_others (record no_words { unnumbered = true }) slots f h t (λ k taken. ap (is_unnumbered no_fixed_parts) (taken_same slots f k taken) ∙ numbered))

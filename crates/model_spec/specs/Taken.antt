@@ -1,6 +1,6 @@
 -- How a function is taken by a user's words: as one with another image, so that all that is said of systems is said of
 -- what was taken.
-use Rattle.std.specs.Prelude.{◌≡◌, ◌⊎◌, ℕ, ◌<◌, ◌/◌, ◌==◌, nat_lt, nat_le, Bool, false, ◌&&◌, ◌||◌, not, if◌then◌else◌, IsTrue, List, [], ◌∷◌, Option, None, Some, is_some}
+use Rattle.std.specs.Prelude.{◌≡◌, ◌⊎◌, ℕ, ◌<◌, ◌/◌, ◌==◌, nat_lt, nat_le, Bool, false, ◌&&◌, ◌||◌, not, if◌then◌else◌, IsTrue, List, [], ◌∷◌, map, Option, None, Some, is_some}
 use Rattle.std.specs.List.{AllZip, list_any, filter}
 use Rattle.pci_spec.specs.Number.{byte_at, has_bit}
 use Rattle.pci_spec.specs.Slot.{Slot}
@@ -11,7 +11,7 @@ use Rattle.pci_spec.specs.Bus.{is_behind}
 use Rattle.pci_spec.specs.Decoded.{Bridge, DecodedBar, DecodedRom, DecodedWindow, DecodedWindows, Record, record_of}
 use Rattle.pci_spec.specs.Fault.{Fault, IsIn, IsNotInD0, controls_bridge, is_subtractive_bridge}
 use Rattle.pci_spec.specs.Order.{Phase, Profile, Place, phase_key, phase_of}
-use Rattle.given_spec.specs.Words.{has_legacy, isa_aside, vga_aside}
+use Rattle.given_spec.specs.Words.{has_legacy, has_palette, is_alone, isa_aside, snoop_aside, taken_by_unclaimed, vga_aside}
 use Rattle.model_spec.specs.Words.{Words}
 use Rattle.model_spec.specs.Bytes.{as_bare_device, as_device, device_read_backs, out_of_reset, positive, switched_off, without_bars, without_registers}
 use Rattle.model_spec.specs.Windows.{windows_as_shown}
@@ -35,7 +35,7 @@ function_with_image f image = record { slot = f.slot; image = image; probe = f.p
 abbrev pub windows_aside : Words → Function → Function
 windows_aside w f = if w.windows && is_bridge f then windows_as_shown f else f
 
--- ---- vga, isa
+-- ---- vga, isa, snoop
 
 -- a bridge without VGA Enable, where its legacy part is given beside the system (Bridge 1.2, 3.2.5.18)
 abbrev pub vga_aside_by : Words → Function → Function
@@ -45,13 +45,27 @@ vga_aside_by w f = if is_some w.vga then vga_aside f else f
 abbrev pub isa_aside_by : Words → Function → Function
 isa_aside_by w f = if w.isa then isa_aside f else f
 
--- what is left aside before anything is asked of a function: the read backs of windows, VGA Enable and ISA Enable
-abbrev pub first_aside : Words → Function → Function
-first_aside w f = isa_aside_by w (vga_aside_by w (windows_aside w f))
+-- a function without VGA Palette Snoop, where the bridges that have it are given beside the system (PCI 3.0, 6.2.2)
+abbrev pub snoop_aside_by : Words → Function → Function
+snoop_aside_by w f = if w.snoop then snoop_aside f else f
 
--- whether a function has a legacy part that is given
-abbrev pub has_legacy_by : Words → Function → Bool
-has_legacy_by w f = is_some w.vga && has_legacy f
+-- what is left aside before anything is asked of a function: the read backs of windows, VGA Enable, ISA Enable and VGA
+-- Palette Snoop
+abbrev pub first_aside : Words → Function → Function
+first_aside w f = snoop_aside_by w (isa_aside_by w (vga_aside_by w (windows_aside w f)))
+
+-- which parts with fixed addresses a function has
+pub record FixedParts : Type 0 where
+  pub legacy : Bool
+  pub palette : Bool
+
+abbrev pub no_fixed_parts : FixedParts
+no_fixed_parts = record { legacy = false; palette = false }
+
+-- those that are given
+abbrev pub fixed_parts_by : Words → Function → FixedParts
+fixed_parts_by w f =
+    record { legacy = is_some w.vga && has_legacy f; palette = w.snoop && has_palette f }
 
 -- ---- power
 
@@ -117,9 +131,10 @@ has_open_window command w =
     (has_bit command 0 && is_open_window w.io)
     || (has_bit command 1 && (is_some w.memory.range || is_open_window w.prefetch))
 
--- whether a legacy part claims addresses, by Command
-abbrev pub has_open_legacy : Bool → ℕ → Bool
-has_open_legacy legacy command = legacy && (has_bit command 0 || has_bit command 1)
+-- whether a part with fixed addresses claims some, by Command: a palette part has ports alone
+abbrev pub has_open_part : FixedParts → ℕ → Bool
+has_open_part fixed command =
+    (fixed.legacy && (has_bit command 0 || has_bit command 1)) || (fixed.palette && has_bit command 0)
 
 abbrev pub has_numbers : Bridge → Bool
 has_numbers b = not (b.primary == 0 && b.secondary == 0 && b.subordinate == 0)
@@ -128,16 +143,16 @@ abbrev pub is_decoded_rom_on : Option DecodedRom → Bool
 is_decoded_rom_on None = false
 is_decoded_rom_on (Some rom) = rom.on
 
--- whether a record is of a bridge that nobody gave bus numbers: they are 0, neither one of its windows nor its legacy
--- part, where it has one, claims an address, and its ROM is off
-abbrev pub is_unnumbered_bridge : Bool → Record → Option Bridge → Bool
-is_unnumbered_bridge legacy r None = false
-is_unnumbered_bridge legacy r (Some b) =
+-- whether a record is of a bridge that nobody gave bus numbers: they are 0, neither one of its windows nor a part with
+-- fixed addresses that it has claims an address, and its ROM is off
+abbrev pub is_unnumbered_bridge : FixedParts → Record → Option Bridge → Bool
+is_unnumbered_bridge fixed r None = false
+is_unnumbered_bridge fixed r (Some b) =
     not (has_numbers b) && not (has_open_window r.command b.windows)
-    && not (has_open_legacy legacy r.command) && not (is_decoded_rom_on r.rom)
+    && not (has_open_part fixed r.command) && not (is_decoded_rom_on r.rom)
 
-abbrev pub is_unnumbered : Bool → Function → Bool
-is_unnumbered legacy f = is_unnumbered_bridge legacy (record_of f) (record_of f).bridge
+abbrev pub is_unnumbered : FixedParts → Function → Bool
+is_unnumbered fixed f = is_unnumbered_bridge fixed (record_of f) (record_of f).bridge
 
 -- a bridge as a device with its BARs: it leads to no bus
 abbrev pub without_buses : Function → Function
@@ -166,11 +181,11 @@ cardbus_aside w f = if w.cardbus && is_cardbus f then without_socket f else f
 abbrev pub may_have_parts_by : Words → Function → Bool
 may_have_parts_by w f = (w.ide && is_ide f.image) || (w.unnumbered && is_bridge f)
 
--- of a function that has a legacy part, or has none
-abbrev pub parts_aside : Words → Bool → Function → Function
-parts_aside w legacy f =
+-- of a function with some parts with fixed addresses
+abbrev pub parts_aside : Words → FixedParts → Function → Function
+parts_aside w fixed f =
     if w.ide && is_ide f.image then without_channels f
-    else if w.unnumbered && is_unnumbered legacy f then without_buses f else f
+    else if w.unnumbered && is_unnumbered fixed f then without_buses f else f
 
 -- a function is another one where a condition holds, and else itself
 abbrev pub IsWhere : Type 0 → Function → Function → Function → Type 0
@@ -178,8 +193,8 @@ IsWhere Condition f changed g = (Condition × (g ≡ changed)) ⊎ ((Condition �
 
 -- The function h is how f is taken. What is wrong with it by itself is told before all else: `power` leaves a function be
 -- whose registers or list don't decode, `ide` and `unnumbered` one that has any fault by itself. Read backs of windows,
--- VGA Enable and ISA Enable are left aside first, so that they are no such faults where words for them count. A CardBus
--- bridge is left as it is by all other words, as its header is such a fault.
+-- VGA Enable, ISA Enable and VGA Palette Snoop are left aside first, so that they are no such faults where words for them
+-- count. A CardBus bridge is left as it is by all other words but `snoop`, as its header is such a fault.
 pub record IsTakenAs (w : Words) (slots : List Slot) (f h : Function) : Type 0 where
   pub g : Function
   pub k : Function
@@ -188,9 +203,26 @@ pub record IsTakenAs (w : Words) (slots : List Slot) (f h : Function) : Type 0 w
   pub parts : IsWhere
       (IsTrue (may_have_parts_by w (bridge_aside w slots g))
       × HasNoOwnFaultBefore Place (bridge_aside w slots g))
-      (bridge_aside w slots g) (parts_aside w (has_legacy_by w f) (bridge_aside w slots g)) k
+      (bridge_aside w slots g) (parts_aside w (fixed_parts_by w f) (bridge_aside w slots g)) k
   pub header : h ≡ cardbus_aside w k
 
--- the same of each function of a system
+-- ---- a system
+
+-- with the bridges positive that are alone of the class of subtractive decoding on their bus, where what they take is given
+-- beside it (PCI 3.0, appendix D)
+abbrev pub unclaimed_aside_by : Words → System → System
+unclaimed_aside_by w s = if w.unclaimed then taken_by_unclaimed s else s
+
+-- then each of its functions is taken
 abbrev pub AreFunctionsTakenAs : Words → List Slot → System → System → Type 0
-AreFunctionsTakenAs w slots s t = AllZip (IsTakenAs w slots) s t
+AreFunctionsTakenAs w slots s t = AllZip (IsTakenAs w slots) (unclaimed_aside_by w s) t
+
+-- Whether a bridge takes what nobody claims. One of which `subtractive` takes that it does so, as nothing is listed behind
+-- it, doesn't.
+abbrev pub takes_by : Words → System → Function → Bool
+takes_by w s b =
+    w.unclaimed && is_alone s b && not (w.subtractive && not (is_anyone_behind (map (λ f. f.slot) s) b))
+
+-- the bridges that do, by slot
+abbrev pub taking_by : Words → System → List Slot
+taking_by w s = map (λ f. f.slot) (filter (takes_by w s) s)

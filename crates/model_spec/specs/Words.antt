@@ -15,8 +15,12 @@ pub record Words : Type 0 where
   pub power : Bool
   -- a bridge may hold its secondary bus in reset where nothing is listed behind it
   pub reset : Bool
+  -- a function may listen to writes of the palette: which bridges do is given beside the system
+  pub snoop : Bool
   -- a bridge may decode subtractively where nothing is listed behind it
   pub subtractive : Bool
+  -- a bridge may do so where it is alone on its bus: what it takes is given beside the system
+  pub unclaimed : Bool
   -- a bridge without bus numbers leads nowhere
   pub unnumbered : Bool
   -- a bridge may have VGA Enable set: its legacy part is given beside the system
@@ -32,12 +36,15 @@ no_words =
       isa = false;
       power = false;
       reset = false;
+      snoop = false;
       subtractive = false;
+      unclaimed = false;
       unnumbered = false;
       vga = None;
       windows = false;
     }
 
+-- all but `vga16`
 abbrev pub all_words : Words
 all_words =
     record {
@@ -46,7 +53,9 @@ all_words =
       isa = true;
       power = true;
       reset = true;
+      snoop = true;
       subtractive = true;
+      unclaimed = true;
       unnumbered = true;
       vga = Some Vga;
       windows = true;
@@ -59,7 +68,9 @@ pub data Name : Type 0 where
   Isa : Name
   Power : Name
   Reset : Name
+  Snoop : Name
   Subtractive : Name
+  Unclaimed : Name
   Unnumbered : Name
   Legacy : (vga : VgaWord) → Name
   Windows : Name
@@ -70,7 +81,9 @@ name_text Ide = codes "ide"
 name_text Isa = codes "isa"
 name_text Power = codes "power"
 name_text Reset = codes "reset"
+name_text Snoop = codes "snoop"
 name_text Subtractive = codes "subtractive"
+name_text Unclaimed = codes "unclaimed"
 name_text Unnumbered = codes "unnumbered"
 name_text (Legacy Vga) = codes "vga"
 name_text (Legacy Vga16) = codes "vga16"
@@ -83,7 +96,9 @@ IsCounted w Ide = IsTrue w.ide
 IsCounted w Isa = IsTrue w.isa
 IsCounted w Power = IsTrue w.power
 IsCounted w Reset = IsTrue w.reset
+IsCounted w Snoop = IsTrue w.snoop
 IsCounted w Subtractive = IsTrue w.subtractive
+IsCounted w Unclaimed = IsTrue w.unclaimed
 IsCounted w Unnumbered = IsTrue w.unnumbered
 IsCounted w (Legacy vga) = w.vga ≡ Some vga
 IsCounted w Windows = IsTrue w.windows

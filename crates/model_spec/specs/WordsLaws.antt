@@ -2,16 +2,18 @@
 use Rattle.std.specs.Prelude.{◌≡◌, ◌↔◌, ℕ, Bool, true, false, ◌&&◌, not, IsTrue, IsFalse, List, [], map, None, is_some}
 use Rattle.std.specs.List.{Contains}
 use Rattle.pci_spec.specs.Slot.{Slot}
-use Rattle.pci_spec.specs.Number.{IsImage}
-use Rattle.pci_spec.specs.Registers.{ISA_ENABLE, SECONDARY_BUS_RESET, VGA_ENABLE}
+use Rattle.pci_spec.specs.Number.{IsImage, has_bit}
+use Rattle.pci_spec.specs.Registers.{ISA_ENABLE, PALETTE_SNOOP, SECONDARY_BUS_RESET, VGA_ENABLE}
+use Rattle.pci_spec.specs.Header.{command}
 use Rattle.pci_spec.specs.System.{System, Function, Space, Part, Claims, is_bridge}
 use Rattle.pci_spec.specs.Window.{WindowKind, bounds_at, breaks_window_rule, is_zero}
 use Rattle.pci_spec.specs.Decoded.{IsDecodable, bridge_of, record_of}
 use Rattle.pci_spec.specs.Fault.{IsNotInD0, controls_bridge, has_no_vendor, is_subtractive_bridge}
+use Rattle.given_spec.specs.Words.{is_alone}
 use Rattle.model_spec.specs.Words.{Words, no_words}
 use Rattle.model_spec.specs.Bytes.{out_of_reset, positive, switched_off}
 use Rattle.model_spec.specs.Windows.{shown_nibble, window_as_shown}
-use Rattle.model_spec.specs.Taken.{AreFunctionsTakenAs, IsTakenAs, cardbus_aside, has_legacy_by, has_numbers, is_cardbus, is_ide, is_unnumbered, may_have_parts_by, parts_aside, function_with_image, without_buses, without_socket}
+use Rattle.model_spec.specs.Taken.{AreFunctionsTakenAs, IsTakenAs, FixedParts, cardbus_aside, fixed_parts_by, no_fixed_parts, has_numbers, is_cardbus, is_ide, is_unnumbered, may_have_parts_by, parts_aside, snoop_aside_by, function_with_image, without_buses, without_socket}
 
 -- Without words a system is taken as it is.
 abbrev pub NoWordsChangeNothing : Type 0
@@ -62,11 +64,17 @@ TakenHasNoIsaEnable =
     (w : Words) (slots : List Slot) (f h : Function) → IsImage f.image → IsTrue w.isa
     → IsTakenAs w slots f h → IsFalse (controls_bridge h.image ISA_ENABLE)
 
+-- What is taken with `snoop` has no VGA Palette Snoop.
+abbrev pub TakenHasNoPaletteSnoop : Type 0
+TakenHasNoPaletteSnoop =
+    (w : Words) (slots : List Slot) (f h : Function) → IsImage f.image → IsTrue w.snoop
+    → IsTakenAs w slots f h → IsFalse (has_bit (command h.image) PALETTE_SNOOP)
+
 -- A function that can have no part for which a word counts is left as it is.
 abbrev pub NoPartsChangeNothing : Type 0
 NoPartsChangeNothing =
-    (w : Words) (legacy : Bool) (f : Function) → IsFalse (may_have_parts_by w f)
-    → parts_aside w legacy f ≡ f
+    (w : Words) (fixed : FixedParts) (f : Function) → IsFalse (may_have_parts_by w f)
+    → parts_aside w fixed f ≡ f
 
 -- A CardBus bridge that is taken as a device decodes, where it answers at all: to no BAR, to no ROM, and to no bridge.
 pub record IsBare (f : Function) : Type 0 where
@@ -114,12 +122,21 @@ IsaLeavesOthers =
     → IsFalse (controls_bridge f.image ISA_ENABLE)
     → IsTakenAs w slots f h ↔ IsTakenAs (record w { isa = false }) slots f h
 
+-- A system without bridges that are alone of the class of subtractive decoding on their bus is taken with `unclaimed` as
+-- without it.
+abbrev pub UnclaimedLeavesOthers : Type 0
+UnclaimedLeavesOthers =
+    (w : Words) (slots : List Slot) (s t : System)
+    → ((f : Function) → Contains s f → IsFalse (is_alone s f))
+    → AreFunctionsTakenAs w slots s t
+    ↔ AreFunctionsTakenAs (record w { unclaimed = false }) slots s t
+
 -- What is taken with `unnumbered` is taken so without it, unless it is an unnumbered bridge as the other words take it.
 abbrev pub UnnumberedLeavesOthers : Type 0
 UnnumberedLeavesOthers =
     (w : Words) (slots : List Slot) (f h : Function) → IsTakenAs w slots f h
     → ((k : Function) → IsTakenAs (record w { unnumbered = false }) slots f k
-    → IsFalse (is_unnumbered (has_legacy_by w f) k))
+    → IsFalse (is_unnumbered (fixed_parts_by w f) k))
     → IsTakenAs (record w { unnumbered = false }) slots f h
 
 -- So it is with what is no bridge, and with each bridge that has a bus number.
@@ -135,11 +152,11 @@ CardbusLeavesOthers =
     (w : Words) (slots : List Slot) (f h : Function) → IsFalse (is_cardbus f)
     → IsTakenAs w slots f h ↔ IsTakenAs (record w { cardbus = false }) slots f h
 
--- and a CardBus bridge by `cardbus` alone.
+-- and a CardBus bridge by `cardbus` and `snoop` alone.
 abbrev pub OthersLeaveCardbus : Type 0
 OthersLeaveCardbus =
     (w : Words) (slots : List Slot) (f h : Function) → IsTrue (is_cardbus f)
-    → IsTakenAs w slots f h → h ≡ cardbus_aside w f
+    → IsTakenAs w slots f h → h ≡ cardbus_aside w (snoop_aside_by w f)
 
 -- whether a window of a function has a 26
 abbrev pub has_bad_window : Function → WindowKind → Bool
@@ -170,5 +187,5 @@ IdeAloneLeavesOthers =
 -- and by `unnumbered` alone what is no unnumbered bridge.
 abbrev pub UnnumberedAloneLeavesOthers : Type 0
 UnnumberedAloneLeavesOthers =
-    (slots : List Slot) (f h : Function) → IsFalse (is_unnumbered false f)
+    (slots : List Slot) (f h : Function) → IsFalse (is_unnumbered no_fixed_parts f)
     → IsTakenAs (record no_words { unnumbered = true }) slots f h → h ≡ f

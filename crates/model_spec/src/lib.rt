@@ -1,5 +1,5 @@
 //! How functions are taken by a user's words: definitions that the contracts of taking them cite, and their laws. What
-//! they stand on is in `pci_spec`, and of legacy parts in `given_spec`.
+//! they stand on is in `pci_spec`, and of legacy and palette parts in `given_spec`.
 //!
 //! In their comments "PCI 3.0" is the PCI Local Bus Specification 3.0, "Bridge 1.2" the PCI-to-PCI Bridge Architecture
 //! Specification 1.2, "Power Management 1.2" the PCI Bus Power Management Interface Specification 1.2, and "PCI IDE

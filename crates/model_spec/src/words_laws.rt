@@ -1,6 +1,6 @@
 //! Laws of words. These functions do nothing: each contract is a law.
 
-ghost use Rattle.model_spec.specs.WordsLaws.{NoWordsChangeNothing, SlotsAreKept, OffByWordsClaimsNothing, OffShowsNoState, OutOfResetIs, PositiveIs, DeviceLeadsNowhere, SocketIsBare, SocketShowsNoState, ShownWindowsAreLawful, ShownWindowsKeepPages, TakenHasNoIsaEnable, TakenHasNoVgaEnable, NoPartsChangeNothing, IdeLeavesOthers, UnnumberedLeavesOthers, UnnumberedLeavesNumbers, CardbusLeavesOthers, OthersLeaveCardbus, IsaLeavesOthers, WindowsLeaveOthers, BothLeaveOthers, IdeAloneLeavesOthers, UnnumberedAloneLeavesOthers};
+ghost use Rattle.model_spec.specs.WordsLaws.{NoWordsChangeNothing, SlotsAreKept, OffByWordsClaimsNothing, OffShowsNoState, OutOfResetIs, PositiveIs, DeviceLeadsNowhere, SocketIsBare, SocketShowsNoState, ShownWindowsAreLawful, ShownWindowsKeepPages, TakenHasNoIsaEnable, TakenHasNoPaletteSnoop, TakenHasNoVgaEnable, UnclaimedLeavesOthers, NoPartsChangeNothing, IdeLeavesOthers, UnnumberedLeavesOthers, UnnumberedLeavesNumbers, CardbusLeavesOthers, OthersLeaveCardbus, IsaLeavesOthers, WindowsLeaveOthers, BothLeaveOthers, IdeAloneLeavesOthers, UnnumberedAloneLeavesOthers};
 ghost use Rattle.model_spec.specs.AsleepLaws.{AsleepAreDetermined, AsleepAreListed, NoneIsAsleepWithoutPower, AsleepEnableNothing};
 
 /// Without words a system is taken as it is.
@@ -45,6 +45,17 @@ pub fn taken_functions_have_no_isa_enable()
     ensures none { TakenHasNoIsaEnable }
 {}
 
+/// What is taken with `snoop` has no VGA Palette Snoop.
+pub fn taken_functions_have_no_palette_snoop()
+    ensures none { TakenHasNoPaletteSnoop }
+{}
+
+/// A system without a bridge that is alone of the class of subtractive decoding on its bus is taken with `unclaimed` as
+/// without it.
+pub fn unclaimed_leaves_others_alone()
+    ensures { UnclaimedLeavesOthers }
+{}
+
 /// A function that can have no part for which a word counts is left as it is, whatever is wrong with it.
 pub fn functions_without_parts_are_kept()
     ensures kept { NoPartsChangeNothing }
@@ -61,7 +72,8 @@ pub fn words_leave_others_alone()
 {}
 
 /// The words `cardbus`, `isa` and `windows` leave each function alone that is no CardBus bridge, that has no ISA Enable, or
-/// that has no window with a 26, whatever other words count. All other words leave a CardBus bridge alone.
+/// that has no window with a 26, whatever other words count. All other words but `snoop` leave a CardBus bridge
+/// alone.
 pub fn words_leave_other_headers_alone()
     ensures cardbus { CardbusLeavesOthers }
     ensures isa { IsaLeavesOthers }

@@ -1,10 +1,10 @@
 -- IDE controllers, whose channels may be in compatibility mode.
-use Rattle.std.proofs.Common.{◌≡◌, ℕ, List, [], ◌∷◌, refl, true, false, map}
+use Rattle.std.proofs.Common.{◌≡◌, ℕ, List, [], ◌∷◌, refl, true, map}
 use Rattle.pci_spec.specs.System.{Function}
 use Rattle.pci_spec.specs.Decoded.{record_of}
 use Rattle.pci_spec.proofs.Examples.Samples.{device, slot}
 use Rattle.model_spec.specs.Words.{Words, no_words}
-use Rattle.model_spec.specs.Taken.{parts_aside}
+use Rattle.model_spec.specs.Taken.{parts_aside, no_fixed_parts}
 
 abbrev ide_counts : Words
 ide_counts = record no_words { ide = true }
@@ -16,7 +16,7 @@ controller class = device (slot 0 1 0) 1 ((0x08, class) ∷ (0x10, 0x1f1) ∷ (0
 
 -- the registers of the BARs that are taken
 abbrev registers : Words → Function → List ℕ
-registers w f = map (λ bar. bar.register) (record_of (parts_aside w false f)).bars
+registers w f = map (λ bar. bar.register) (record_of (parts_aside w no_fixed_parts f)).bars
 
 both_channels : registers ide_counts (controller 0x01018000) ≡ 0x20 ∷ []
 both_channels = refl

@@ -11,7 +11,7 @@ use Rattle.std.specs.List.{list_any, range_with_len}
 use Rattle.pci_spec.proofs.Examples.Samples.{bridge, device, slot, range, host}
 use Rattle.given_spec.specs.Words.{Vga}
 use Rattle.model_spec.specs.Words.{Words, no_words}
-use Rattle.model_spec.specs.Taken.{HasNoOwnFaultBefore, IsTakenAs, IsWhere, bridge_aside, first_aside, has_legacy_by, is_unnumbered, may_have_parts_by, parts_aside, without_buses}
+use Rattle.model_spec.specs.Taken.{HasNoOwnFaultBefore, IsTakenAs, IsWhere, bridge_aside, first_aside, fixed_parts_by, is_unnumbered, may_have_parts_by, parts_aside, without_buses, no_fixed_parts}
 
 abbrev unnumbered_counts : Words
 unnumbered_counts = record no_words { unnumbered = true }
@@ -22,13 +22,13 @@ closed = (0x20, 0x0000fff0) ∷ []
 
 -- numbers that are 0, Command on: one with its memory window closed, one whose window is open at 0, which claims nothing
 -- where Command is off; and one whose ROM is on
-those_that_count : map (is_unnumbered false) (bridge (slot 0 1 0) 7 0 closed [] ∷ bridge (slot 0 1 0) 7 0 [] [] ∷ bridge (slot 0 1 0) 0 0 [] []
+those_that_count : map (is_unnumbered no_fixed_parts) (bridge (slot 0 1 0) 7 0 closed [] ∷ bridge (slot 0 1 0) 7 0 [] [] ∷ bridge (slot 0 1 0) 0 0 [] []
     ∷ bridge (slot 0 1 0) 7 0 ((0x38, 0xfd000001) ∷ closed) ((0x38, 0xffff0000) ∷ []) ∷ bridge (slot 0 1 0) 7 0 ((0x38, 0xfd000000) ∷ closed) ((0x38, 0xffff0000) ∷ []) ∷ [])
     ≡ true ∷ false ∷ true ∷ false ∷ true ∷ []
 those_that_count = refl
 
 -- one number is enough to have numbers
-numbered : map (is_unnumbered false) (bridge (slot 0 1 0) 7 0x000001 closed [] ∷ bridge (slot 0 1 0) 7 0x000100 closed [] ∷ bridge (slot 0 1 0) 7 0x010000 closed [] ∷ device (slot 0 1 0) 7 [] [] ∷ [])
+numbered : map (is_unnumbered no_fixed_parts) (bridge (slot 0 1 0) 7 0x000001 closed [] ∷ bridge (slot 0 1 0) 7 0x000100 closed [] ∷ bridge (slot 0 1 0) 7 0x010000 closed [] ∷ device (slot 0 1 0) 7 [] [] ∷ [])
     ≡ false ∷ false ∷ false ∷ false ∷ []
 numbered = refl
 
@@ -36,7 +36,7 @@ numbered = refl
 abbrev with_a_bar : Function
 with_a_bar = bridge (slot 0 1 0) 7 0 ((0x10, 0xfe000000) ∷ (0x1c, 0x228000f0) ∷ closed) ((0x10, 0xfffff000) ∷ (0x1c, 0xf0f0) ∷ [])
 
-taken : record_of (parts_aside unnumbered_counts false with_a_bar)
+taken : record_of (parts_aside unnumbered_counts no_fixed_parts with_a_bar)
     ≡ record {
       slot = slot 0 1 0;
       command = 7;
@@ -49,7 +49,7 @@ taken = refl
 no_stray_probe : list_any (is_stray (without_buses with_a_bar).image (without_buses with_a_bar).probe) (range_with_len 0 256) ≡ false
 no_stray_probe = refl
 
-without_the_word : is_bridge (parts_aside no_words false with_a_bar) ≡ true
+without_the_word : is_bridge (parts_aside no_words no_fixed_parts with_a_bar) ≡ true
 without_the_word = refl
 
 -- ---- with a legacy part
@@ -67,7 +67,7 @@ none_behind command = bridge (slot 0 1 0) command 0 closed []
 
 -- as a function is taken that isn't switched off and has no fault by itself
 abbrev taken_by : Words → Function → Function
-taken_by w f = parts_aside w (has_legacy_by w f) (bridge_aside w [] (first_aside w f))
+taken_by w f = parts_aside w (fixed_parts_by w f) (bridge_aside w [] (first_aside w f))
 
 -- it stays a bridge where its legacy part answers in one space or both
 stays_a_bridge : map (λ command. is_bridge (taken_by with_vga (adapter_behind command))) (0x0003 ∷ 0x0001 ∷ 0x0002 ∷ []) ≡ true ∷ true ∷ true ∷ []
@@ -89,7 +89,7 @@ has_no_vga_enable = refl
 abbrev with_isa_enable : Function
 with_isa_enable = bridge (slot 0 1 0) 7 0 ((0x3c, 0x00040000) ∷ closed) []
 
-looks_unnumbered : is_unnumbered false with_isa_enable ≡ true
+looks_unnumbered : is_unnumbered no_fixed_parts with_isa_enable ≡ true
 looks_unnumbered = refl
 
 left_where : (Condition : Type 0) (f changed g : Function) → IsWhere Condition f changed g → (Condition → changed ≡ f) → g ≡ f
@@ -104,7 +104,7 @@ unnumbered_leaves_it : (h : Function) → IsTakenAs unnumbered_counts [] with_is
 unnumbered_leaves_it h taken =
     let same : taken.g ≡ with_isa_enable = left_where _ with_isa_enable _ taken.g taken.power (λ holds. cc holds.0) in
     taken.header ∙ left_where _ with_isa_enable _ taken.k
-    (subst (λ g. IsWhere (IsTrue (may_have_parts_by unnumbered_counts (bridge_aside unnumbered_counts [] g)) × HasNoOwnFaultBefore Place (bridge_aside unnumbered_counts [] g)) (bridge_aside unnumbered_counts [] g) (parts_aside unnumbered_counts (has_legacy_by unnumbered_counts with_isa_enable) (bridge_aside unnumbered_counts [] g)) taken.k) same taken.parts)
+    (subst (λ g. IsWhere (IsTrue (may_have_parts_by unnumbered_counts (bridge_aside unnumbered_counts [] g)) × HasNoOwnFaultBefore Place (bridge_aside unnumbered_counts [] g)) (bridge_aside unnumbered_counts [] g) (parts_aside unnumbered_counts (fixed_parts_by unnumbered_counts with_isa_enable) (bridge_aside unnumbered_counts [] g)) taken.k) same taken.parts)
     (λ holds. absurd (holds.1 (IsaEnable (slot 0 1 0)) (lit< tt) has_isa_enable))
 
 number_of_isa_enable : fault_number (IsaEnable (slot 0 1 0)) ≡ 53
