@@ -1,6 +1,7 @@
 -- A system has at most one map, with what is given and told.
 use Rattle.std.proofs.Common.{◌≡◌, ℕ, ◌<◌, List, [], ◌∷◌, map, drop, refl, sym, ◌∙◌, ap, subst, inl, inr, arith}
 use Rattle.std.specs.List.{Contains, AllPairs}
+use Rattle.pci_spec.specs.Slot.{Slot, slot_number}
 use Rattle.pci_spec.specs.System.{System, Space, Io, Memory, Part, Bar, Rom, Window}
 use Rattle.pci_spec.specs.Decoded.{Range}
 use Rattle.pci_spec.proofs.Members.{in_nil, in_cons_cases, in_head, in_tail, pairs_nil, pairs_cons, pairs_head, pairs_tail}
@@ -8,9 +9,10 @@ use Rattle.given_spec.specs.Given.{Given}
 use Rattle.given_spec.specs.ToldClaims.{Told}
 use Rattle.given_spec.proofs.OneList.{same_list, same_runs}
 use Rattle.map_spec.specs.Regions.{MapRegion, Own, OfLine, region_rank}
-use Rattle.map_spec.specs.Lines.{MapPlace, OnRoot, Inside, Lines, End, Free, Sits, regions_at, runs_at, marks, Mark, run_mark, region_mark, MarkIsBefore, IsFreeInPlace, IsOutOfPlace, AreLinesAt, AreInPart, AreInside, AreAllInside, AreLinesOfPlace}
-use Rattle.map_spec.specs.Map.{MapRoot, Map, IsRootOfMap, IsOnlyLeft, AreRegionsBySlot, IsMap}
+use Rattle.map_spec.specs.Lines.{MapPlace, OnRoot, Inside, Lines, End, Free, Sits, regions_at, runs_at, marks, Mark, run_mark, region_mark, MarkIsBefore, IsFreeInPlace, IsOutOfPlace, AreLinesAt, AreInPart, AreInside, AreAllInside, AreLinesOfPlace, TakenBy}
+use Rattle.map_spec.specs.Map.{MapTaking, MapSpace, MapRoot, Map, AreTakings, IsSpaceOfMap, IsRootOfMap, IsOnlyLeft, AreRegionsBySlot, IsMap}
 use Rattle.map_spec.specs.MapText.{map_text_of}
+use Rattle.map_spec.proofs.Having.{taking_stands}
 use Rattle.map_spec.specs.DeterminedLaws.{LinesAreDetermined, MapIsDetermined, MapTextIsDetermined}
 
 -- ---- the lines of a place as a list
@@ -170,14 +172,41 @@ module _ (told : Told) (given : Given) (roots : List ℕ) (s : System) where
 
   -- ---- the map
 
+  taking_from : (t u : MapTaking) → t.slot ≡ u.slot → t.lines ≡ u.lines → t ≡ u
+  taking_from t u slot lines = λ i. record { slot = slot i; lines = lines i }
+
+  -- what a bridge takes is in each list of all
+  taking_in_other : (space : Space) (root : ℕ) (ts us : List MapTaking) → AreTakings told given roots s space root ts → AreTakings told given roots s space root us → (t : MapTaking) → Contains ts t → Contains us t
+  taking_in_other space root ts us are also t has =
+      let it = are.each t has in
+      let some = taking_stands told given roots s space root ts t are has in
+      let q : MapRegion = some.0 in
+      let at = it.lines.0 in
+      let found = also.complete t.slot q it.below (at.regions q some.1) (at.of_space q some.1) (at.stand q some.1) (at.within q some.1) in
+      let u : MapTaking = found.0 in
+      let its : AreLinesOfPlace told given roots s space (TakenBy t.slot) u.lines =
+      subst (λ (x : Slot). AreLinesOfPlace told given roots s space (TakenBy x) u.lines) found.2 (also.each u found.1).lines in
+      let lines : u.lines ≡ t.lines = all_lines space (TakenBy t.slot) u.lines t.lines its it.lines in
+      subst (λ (x : MapTaking). Contains us x) (taking_from u t found.2 lines) found.1
+
+  same_takings : (space : Space) (root : ℕ) (ts us : List MapTaking) → AreTakings told given roots s space root ts → AreTakings told given roots s space root us → ts ≡ us
+  same_takings space root ts us are also =
+      same_list (λ (t u : MapTaking). slot_number t.slot < slot_number u.slot) (λ t u low high. omega (arith, low, high)) ts us are.rising also.rising
+      (taking_in_other space root ts us are also) (taking_in_other space root us ts also are)
+
+  space_from : (x y : MapSpace) → x.lines ≡ y.lines → x.taken ≡ y.taken → x ≡ y
+  space_from x y lines taken = λ i. record { lines = lines i; taken = taken i }
+
+  same_space : (space : Space) (root other : ℕ) (x y : MapSpace) → root ≡ other → IsSpaceOfMap told given roots s space root x → IsSpaceOfMap told given roots s space other y → x ≡ y
+  same_space space root other x y bus is also =
+      let here : IsSpaceOfMap told given roots s space other x = subst (λ n. IsSpaceOfMap told given roots s space n x) bus is in
+      space_from x y (all_lines space (OnRoot other) x.lines y.lines here.lines also.lines) (same_takings space other x.taken y.taken here.taken also.taken)
+
   root_from : (r t : MapRoot) → r.bus ≡ t.bus → r.io ≡ t.io → r.memory ≡ t.memory → r ≡ t
   root_from r t bus io memory = λ i. record { bus = bus i; io = io i; memory = memory i }
 
   same_root : (r t : MapRoot) → r.bus ≡ t.bus → IsRootOfMap told given roots s r → IsRootOfMap told given roots s t → r ≡ t
-  same_root r t bus is also =
-      root_from r t bus
-      (all_lines Io (OnRoot t.bus) r.io t.io (subst (λ bus. AreLinesOfPlace told given roots s Io (OnRoot bus) r.io) bus is.io) also.io)
-      (all_lines Memory (OnRoot t.bus) r.memory t.memory (subst (λ bus. AreLinesOfPlace told given roots s Memory (OnRoot bus) r.memory) bus is.memory) also.memory)
+  same_root r t bus is also = root_from r t bus (same_space Io r.bus t.bus r.io t.io bus is.io also.io) (same_space Memory r.bus t.bus r.memory t.memory bus is.memory also.memory)
 
   same_roots : (rs ts : List MapRoot) → map (λ r. r.bus) rs ≡ map (λ r. r.bus) ts → ((r : MapRoot) → Contains rs r → IsRootOfMap told given roots s r)
       → ((t : MapRoot) → Contains ts t → IsRootOfMap told given roots s t) → rs ≡ ts

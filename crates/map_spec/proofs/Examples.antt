@@ -7,3 +7,4 @@ pub mod FirstWindows
 pub mod Places
 pub mod ToldPlaces
 pub mod InsideWindows
+pub mod Taken

@@ -29,7 +29,7 @@ none_free : (told : Told) (s : System) (bus : ℕ) (space : Space) (a : ℕ) →
 none_free told s bus Io a free = false≢true free.said
 none_free told s bus Memory a free = false≢true free.said
 
-no_run : (P : ℕ → Type 0) (rs : List Range) → ((a : ℕ) → P a → ⊥) → AreRuns P rs → rs ≡ []
+pub no_run : (P : ℕ → Type 0) (rs : List Range) → ((a : ℕ) → P a → ⊥) → AreRuns P rs → rs ≡ []
 no_run P [] none are = refl
 no_run P (r ∷ rs) none are =
     let first = are.each 0 r (omega arith) in absurd (none r.first (first.each r.first (omega arith, first.some)))

@@ -6,7 +6,7 @@ use Rattle.std.proofs.lemmas.Bool.{and_parts, false≢true}
 use Rattle.std.proofs.lemmas.List.Elements.{Contains-append_cases, Contains-append_left, Contains-append_right}
 use Rattle.pci_spec.specs.Slot.{Slot, slot_number}
 use Rattle.pci_spec.specs.Window.{WindowKind, IoWindow, MemoryWindow, PrefetchWindow, holds}
-use Rattle.pci_spec.specs.System.{System, Space, Io, Memory, Part, Bar, Rom, Window, IsSystem, IsAddress, Function, Claims, Decodes, window_claims, window_space, is_space_on, is_window}
+use Rattle.pci_spec.specs.System.{System, Space, Io, Memory, Part, Bar, Rom, Window, IsSystem, IsAddress, Function, Claims, Leads, Decodes, window_claims, window_space, is_space_on, is_window}
 use Rattle.pci_spec.specs.System as system
 use Rattle.pci_spec.specs.Bus.{is_root}
 use Rattle.pci_spec.specs.Fault.{Address, address_in, named_region}
@@ -22,13 +22,17 @@ use Rattle.given_spec.specs.Told.{ToldRange, IsTold}
 use Rattle.given_spec.specs.ToldClaims.{Told, is_marked_held}
 use Rattle.given_spec.specs.ToldFault.{IsOutside}
 use Rattle.given_spec.specs.ToldRegion.{ToldRegion, told_name, IsToldIn}
+use Rattle.given_spec.specs.Unclaimed.{IsUnclaimedOn}
 use Rattle.given_spec.proofs.Reasons.{low_register}
+use Rattle.given_spec.proofs.Snoop.{takes_none}
+use Rattle.given_spec.proofs.Unclaimed.{takes_what_is_unclaimed}
 use Rattle.given_spec.proofs.ToldAdds.{told_claim_addresses}
 use Rattle.given_spec.proofs.ToldNames.{one_range, told_slot}
 use Rattle.map_spec.specs.Regions.{MapRegion, Own, OfLine, slot_of, space_of, range_of, IsIn}
-use Rattle.map_spec.specs.Lines.{is_first_window, BelongsUnder, IsOutOfPlace, MapPlace, OnRoot, Inside, Lines, End, Free, Sits, regions_at, all_regions, AreLinesAt, AreInPart, AreInside, AreAllInside, AreLinesOfPlace}
-use Rattle.map_spec.specs.Map.{MapRoot, Map, HasWay, IsMap, regions_on, regions_in}
-use Rattle.map_spec.specs.MapLaws.{WindowsAreInPlace}
+use Rattle.map_spec.specs.Lines.{is_first_window, BelongsUnder, IsOutOfPlace, MapPlace, OnRoot, Inside, Lines, End, Free, Sits, regions_at, runs_at, all_regions, AreLinesAt, AreInPart, AreInside, AreAllInside, AreLinesOfPlace, StandsBehind, TakenBy}
+use Rattle.map_spec.specs.Map.{MapTaking, MapSpace, MapRoot, Map, IsBelow, HasTaker, HasWay, AreTakings, IsSpaceOfMap, IsMap, taken_regions, regions_of, regions_on, regions_in}
+use Rattle.map_spec.proofs.Freeing.{no_run}
+use Rattle.map_spec.specs.MapLaws.{WindowsAreInPlace, NothingIsTaken, TakenIsUnclaimed}
 
 -- ---- each line is of a region
 
@@ -171,15 +175,55 @@ module _ (told : Told) (given : Given) (roots : List ℕ) (s : System) where
       let here = line_in_place told given roots s space place lines (Own w) are has in
       below_window told given roots s space lines w q under.kind under.window are.1 has (of, sym (window_has_space given s w q is under) ∙ here.1, in_place) under
 
+  -- a space of a root bus
+  module _ (space : Space) (root : ℕ) (x : MapSpace) (is : IsSpaceOfMap told given roots s space root x) where
+    -- what has a line there
+    in_space : (q : MapRegion) → Contains (regions_of x) q → IsIn told s q × IsInPlace q
+    in_space q has = elim (Contains-append_cases (all_regions x.lines) (flat_map taken_regions x.taken) q has) [
+      | inl on ↦ (let of = line_in_place told given roots s space (OnRoot root) x.lines q is.lines on in (of.0, of.2))
+      | inr taken ↦ (
+          let piece : IsInPiece taken_regions x.taken q = in_flat_map_to taken_regions x.taken q taken in
+          let it = is.taken.each piece.of piece.has in
+          let of = line_in_place told given roots s space (TakenBy piece.of.slot) piece.of.lines q it.lines piece.piece in
+          (of.0, of.2))
+    ]
+
+    -- what stands on the bus has a line there
+    stands_on : (q : MapRegion) → IsIn told s q → IsInPlace q → space_of q ≡ space → (slot_of q).bus ≡ root → Contains (regions_of x) q
+    stands_on q of in_place at on =
+        Contains-append_left (all_regions x.lines) (flat_map taken_regions x.taken) q
+        (stands_there told given roots s space x.lines q (is.lines.0.complete q of at on in_place))
+
+    -- and so has what a bridge takes
+    stands_behind : (q : MapRegion) → IsIn told s q → IsInPlace q → space_of q ≡ space → (slot : Slot) → IsBelow s root slot → StandsBehind given s slot q → Contains (regions_of x) q
+    stands_behind q of in_place at slot below stands =
+        let found = is.taken.complete slot q below of at stands in_place in
+        let t : MapTaking = found.0 in
+        let here : StandsBehind given s t.slot q = subst (λ (y : Slot). StandsBehind given s y q) (sym found.2) stands in
+        let there : Contains (regions_at t.lines) q = (is.taken.each t found.1).lines.0.complete q of at here in_place in
+        Contains-append_right (all_regions x.lines) (flat_map taken_regions x.taken) q
+        (in_flat_map_from taken_regions x.taken t q found.1 (stands_there told given roots s space t.lines q there))
+
+    -- and what belongs under a window that has one
+    stands_under : (w : Region) (q : MapRegion) → IsRegionIn s w → IsIn told s q → IsInPlace q → BelongsUnder given s w q → Contains (regions_of x) (Own w) → Contains (regions_of x) q
+    stands_under w q is_in of in_place under has = elim (Contains-append_cases (all_regions x.lines) (flat_map taken_regions x.taken) (Own w) has) [
+      | inl on ↦ Contains-append_left (all_regions x.lines) (flat_map taken_regions x.taken) q (on_side space (OnRoot root) x.lines w q is.lines is_in of in_place under on)
+      | inr taken ↦ (
+          let piece : IsInPiece taken_regions x.taken (Own w) = in_flat_map_to taken_regions x.taken (Own w) taken in
+          let it = is.taken.each piece.of piece.has in
+          Contains-append_right (all_regions x.lines) (flat_map taken_regions x.taken) q
+          (in_flat_map_from taken_regions x.taken piece.of q piece.has (on_side space (TakenBy piece.of.slot) piece.of.lines w q it.lines is_in of in_place under piece.piece)))
+    ]
+
   module _ (m : Map) (is : IsMap told given roots s m) where
     -- what has a line on or below a root bus
     pub on_roots : (q : MapRegion) → Contains (flat_map regions_on m.roots) q → IsIn told s q × IsInPlace q
     on_roots q on =
         let piece : IsInPiece regions_on m.roots q = in_flat_map_to regions_on m.roots q on in
         let root = is.each piece.of piece.has in
-        elim (Contains-append_cases (all_regions piece.of.io) (all_regions piece.of.memory) q piece.piece) [
-          | inl io ↦ (let of = line_in_place told given roots s Io (OnRoot piece.of.bus) piece.of.io q root.io io in (of.0, of.2))
-          | inr memory ↦ (let of = line_in_place told given roots s Memory (OnRoot piece.of.bus) piece.of.memory q root.memory memory in (of.0, of.2))
+        elim (Contains-append_cases (regions_of piece.of.io) (regions_of piece.of.memory) q piece.piece) [
+          | inl io ↦ in_space Io piece.of.bus piece.of.io root.io q io
+          | inr memory ↦ in_space Memory piece.of.bus piece.of.memory root.memory q memory
         ]
 
     pub of_region : (q : MapRegion) → Contains (regions_in m) q → IsIn told s q
@@ -212,27 +256,45 @@ module _ (told : Told) (given : Given) (roots : List ℕ) (s : System) where
     bus_small (Own q) system lawful of = subst (λ (slot : Slot). slot.bus < 256) of.slot (slot_of_function s system of.f of.listed).0
     bus_small (OfLine x) system lawful of = (told_slot told (told_name x) x.told lawful of.named).0
 
-    on_root : (q : MapRegion) (space : Space) → IsSystem s → IsTold told.ranges → IsIn told s q → IsInPlace q → space_of q ≡ space → Contains roots (slot_of q).bus → Contains (flat_map regions_on m.roots) q
-    on_root q Io system lawful of in_place at has =
-        let made = root_at (slot_of q).bus (bus_small q system lawful of) has in
-        in_flat_map_from regions_on m.roots made.from q made.has (Contains-append_left (all_regions made.from.io) (all_regions made.from.memory) q
-        (stands_there told given roots s Io made.from.io q ((is.each made.from made.has).io.0.complete q of at (sym made.is) in_place)))
-    on_root q Memory system lawful of in_place at has =
-        let made = root_at (slot_of q).bus (bus_small q system lawful of) has in
-        in_flat_map_from regions_on m.roots made.from q made.has (Contains-append_right (all_regions made.from.io) (all_regions made.from.memory) q
-        (stands_there told given roots s Memory made.from.memory q ((is.each made.from made.has).memory.0.complete q of at (sym made.is) in_place)))
+    -- the bus from which bridges lead to a function's is one of a function
+    first_small : IsSystem s → (root : ℕ) (bridges : List Function) (b : Function) → Contains s b → Leads s root bridges b.slot.bus → root < 256
+    first_small system root [] b listed leads = subst (λ n. n < 256) (sym leads) (slot_of_function s system b listed).0
+    first_small system root (c ∷ bridges) b listed leads = subst (λ n. n < 256) leads.2 (slot_of_function s system c leads.0).0
+
+    -- what has a line in a space of a root bus
+    on_its_root : (q : MapRegion) (space : Space) (root : ℕ) → root < 256 → Contains roots root → ((x : MapSpace) → IsSpaceOfMap told given roots s space root x → Contains (regions_of x) q) → Contains (flat_map regions_on m.roots) q
+    on_its_root q Io root small has there =
+        let made = root_at root small has in
+        in_flat_map_from regions_on m.roots made.from q made.has (Contains-append_left (regions_of made.from.io) (regions_of made.from.memory) q
+        (there made.from.io (subst (λ n. IsSpaceOfMap told given roots s Io n made.from.io) made.is (is.each made.from made.has).io)))
+    on_its_root q Memory root small has there =
+        let made = root_at root small has in
+        in_flat_map_from regions_on m.roots made.from q made.has (Contains-append_right (regions_of made.from.io) (regions_of made.from.memory) q
+        (there made.from.memory (subst (λ n. IsSpaceOfMap told given roots s Memory n made.from.memory) made.is (is.each made.from made.has).memory)))
+
+    on_root : (q : MapRegion) → IsSystem s → IsTold told.ranges → IsIn told s q → IsInPlace q → Contains roots (slot_of q).bus → Contains (flat_map regions_on m.roots) q
+    on_root q system lawful of in_place has =
+        on_its_root q (space_of q) (slot_of q).bus (bus_small q system lawful of) has (λ x are. stands_on (space_of q) (slot_of q).bus x are q of in_place refl refl)
+
+    -- what a bridge takes has a line there
+    where_taken : (q : MapRegion) → IsSystem s → IsIn told s q → IsInPlace q → HasTaker given roots s q → Contains (flat_map regions_on m.roots) q
+    where_taken q system of in_place taker =
+        let leads = subst (λ (x : Slot). Leads s taker.root taker.below.bridges x.bus) (sym taker.stands.at) taker.below.leads in
+        on_its_root q (space_of q) taker.root (first_small system taker.root taker.below.bridges taker.stands.b taker.stands.listed leads) taker.is_root
+        (λ x are. stands_behind (space_of q) taker.root x are q of in_place refl taker.slot taker.below taker.stands)
 
     -- what windows lead to from a root has a line below one
     pub with_way : (windows : List Region) (q : MapRegion) → IsSystem s → IsTold told.ranges → IsIn told s q → IsInPlace q → HasWay given roots s q windows → Contains (flat_map regions_on m.roots) q
-    with_way [] q system lawful of in_place way = on_root q (space_of q) system lawful of in_place refl way
+    with_way [] q system lawful of in_place (inl way) = on_root q system lawful of in_place way
+    with_way [] q system lawful of in_place (inr taker) = where_taken q system of in_place taker
     with_way (w ∷ windows) q system lawful of in_place way =
         let window : is_window w.part ≡ true = ap is_window way.1.window in
         let above : Contains (flat_map regions_on m.roots) (Own w) = with_way windows (Own w) system lawful way.0 (windows_in_place told given roots s w system way.0 window) way.2 in
         let piece : IsInPiece regions_on m.roots (Own w) = in_flat_map_to regions_on m.roots (Own w) above in
         let root = is.each piece.of piece.has in
-        in_flat_map_from regions_on m.roots piece.of q piece.has (elim (Contains-append_cases (all_regions piece.of.io) (all_regions piece.of.memory) (Own w) piece.piece) [
-          | inl io ↦ Contains-append_left (all_regions piece.of.io) (all_regions piece.of.memory) q (on_side Io (OnRoot piece.of.bus) piece.of.io w q root.io way.0 of in_place way.1 io)
-          | inr memory ↦ Contains-append_right (all_regions piece.of.io) (all_regions piece.of.memory) q (on_side Memory (OnRoot piece.of.bus) piece.of.memory w q root.memory way.0 of in_place way.1 memory)
+        in_flat_map_from regions_on m.roots piece.of q piece.has (elim (Contains-append_cases (regions_of piece.of.io) (regions_of piece.of.memory) (Own w) piece.piece) [
+          | inl io ↦ Contains-append_left (regions_of piece.of.io) (regions_of piece.of.memory) q (stands_under Io piece.of.bus piece.of.io root.io w q way.0 of in_place way.1 io)
+          | inr memory ↦ Contains-append_right (regions_of piece.of.io) (regions_of piece.of.memory) q (stands_under Memory piece.of.bus piece.of.memory root.memory w q way.0 of in_place way.1 memory)
         ])
 
     pub not_missed : (q : MapRegion) → IsSystem s → IsTold told.ranges → IsIn told s q → (Contains (regions_in m) q → ⊥) → ⊥
@@ -243,3 +305,33 @@ module _ (told : Told) (given : Given) (roots : List ℕ) (s : System) where
           left = λ windows way. missed (Contains-append_left (flat_map regions_on m.roots) (m.outside ++ m.unreached) q (with_way windows q system lawful of in_place way));
           within = in_place;
         }))
+
+-- ---- what bridges take
+
+module _ (told : Told) (given : Given) (roots : List ℕ) (s : System) (space : Space) where
+  -- lines of what a bridge takes are of regions
+  pub some_stands : (slot : Slot) (lines : Lines) → (lines ≡ End → ⊥) → AreLinesAt told given roots s space (TakenBy slot) lines → (q : MapRegion) × Contains (regions_at lines) q
+  some_stands slot End some are = absurd (some refl)
+  some_stands slot (Free r rest) some are = let none : r ∷ runs_at rest ≡ [] = no_run (λ a. ⊥) (r ∷ runs_at rest) (λ a free. free) are.free in absurd cc
+  some_stands slot (Sits q inside rest) some are = (q, in_head q (regions_at rest))
+
+  pub taking_stands : (root : ℕ) (ts : List MapTaking) (t : MapTaking) → AreTakings told given roots s space root ts → Contains ts t → (q : MapRegion) × Contains (regions_at t.lines) q
+  taking_stands root ts t are has = let it = are.each t has in some_stands t.slot t.lines it.some it.lines.0
+
+  pub none_taken : (root : ℕ) (ts : List MapTaking) → given.unclaimed ≡ [] → AreTakings told given roots s space root ts → ts ≡ []
+  none_taken root [] nothing are = refl
+  none_taken root (t ∷ ts) nothing are =
+      let some = taking_stands root (t ∷ ts) t are (in_head t ts) in
+      let stands = (are.each t (in_head t ts)).lines.0.stand some.0 some.1 in
+      absurd (false≢true (sym (takes_none given nothing (space_of some.0) (range_of some.0).first stands.b) ∙ stands.taken))
+
+pub taken_is_unclaimed : TakenIsUnclaimed
+taken_is_unclaimed told given roots s space slots slot q lines are at has =
+    let stands = at.stand q has in
+    let taken = (takes_what_is_unclaimed told given s slots (space_of q) (range_of q).first stands.b are).0 stands.taken in
+    subst (λ (sp : Space). IsUnclaimedOn told given s slot.bus sp (range_of q).first) (at.of_space q has)
+    (subst (λ (x : Slot). IsUnclaimedOn told given s x.bus (space_of q) (range_of q).first) stands.at taken.unclaimed)
+
+pub nothing_is_taken : NothingIsTaken
+nothing_is_taken told given roots s m root nothing is has =
+    let of = is.each root has in (none_taken told given roots s Io root.bus root.io.taken nothing of.io.taken, none_taken told given roots s Memory root.bus root.memory.taken nothing of.memory.taken)

@@ -2,13 +2,14 @@
 use Rattle.std.specs.Prelude.{◌≡◌, ◌⊎◌, ℕ, ◌<◌, Bool, false, ◌&&◌, not, IsTrue, IsFalse, List, [], ◌∷◌, ◌++◌}
 use Rattle.std.specs.Option.{is_some}
 use Rattle.std.specs.List.{AllPairs, Contains}
+use Rattle.pci_spec.specs.Slot.{Slot}
 use Rattle.pci_spec.specs.Window.{WindowKind, IoWindow, MemoryWindow, PrefetchWindow}
 use Rattle.pci_spec.specs.System.{System, Function, Space, Io, Memory, Part, Bar, Rom, Window, IsAddress, is_bridge, window_claims}
 use Rattle.pci_spec.specs.Bus.{secondary}
 use Rattle.pci_spec.specs.Decoded.{Range, InRange}
 use Rattle.pci_spec.specs.Why.{Region, AreRuns}
 use Rattle.pci_spec.specs.Fault.{RegionName, address_in, named_region}
-use Rattle.given_spec.specs.Given.{Given, ranges_said, starts, is_cut}
+use Rattle.given_spec.specs.Given.{Given, ranges_said, starts, takes, is_cut}
 use Rattle.given_spec.specs.Claims.{OwnClaims, is_cut_of}
 use Rattle.given_spec.specs.ToldClaims.{Told, RangeClaimsOnBus}
 use Rattle.given_spec.specs.ToldFault.{IsOutside}
@@ -38,14 +39,28 @@ pub record BelongsUnder (given : Given) (s : System) (w : Region) (q : MapRegion
   pub window : w.part ≡ Window kind
   pub first : IsTrue (is_first_window given (space_of q) kind (range_of q).first b)
 
--- where regions stand: on a root bus, or inside a window
+-- A region stands behind the bridge at a slot without a window: this is a bridge to the region's bus, it takes the region's
+-- first address as nobody on its own bus claims it, and none of its windows claims that address.
+pub record StandsBehind (given : Given) (s : System) (slot : Slot) (q : MapRegion) : Type 0 where
+  pub b : Function
+  pub listed : Contains s b
+  pub bridge : IsTrue (is_bridge b)
+  pub at : b.slot ≡ slot
+  pub leads : secondary b ≡ (slot_of q).bus
+  pub taken : IsTrue (takes given (space_of q) (range_of q).first b)
+  pub no_window : (kind : WindowKind)
+      → IsFalse (is_first_window given (space_of q) kind (range_of q).first b)
+
+-- where regions stand: on a root bus, inside a window, or in what a bridge takes
 pub data MapPlace : Type 0 where
   OnRoot : ℕ → MapPlace
   Inside : Region → MapPlace
+  TakenBy : Slot → MapPlace
 
 abbrev pub StandsInPlace : Given → System → MapPlace → MapRegion → Type 0
 StandsInPlace given s (OnRoot bus) q = (slot_of q).bus ≡ bus
 StandsInPlace given s (Inside w) q = BelongsUnder given s w q
+StandsInPlace given s (TakenBy slot) q = StandsBehind given s slot q
 
 -- A BAR, a ROM or a told range that isn't held has an address to which no access of the host starts on the root above it:
 -- its line is at no place.
@@ -86,10 +101,11 @@ pub record IsFreeOn (told : Told) (given : Given) (s : System) (bus : ℕ) (spac
   pub sent : IsTrue (starts given space bus a)
   pub unclaimed : IsClaimedOn told given s bus space a → ⊥
 
--- what of a place is free
+-- what of a place is free: nothing of what a bridge takes
 abbrev pub IsFreeInPlace : Told → Given → System → Space → MapPlace → ℕ → Type 0
 IsFreeInPlace told given s space (OnRoot bus) a = IsFreeOn told given s bus space a
 IsFreeInPlace told given s space (Inside w) a = IsFreeIn told given s w a
+IsFreeInPlace told given s space (TakenBy slot) a = ⊥
 
 -- ---- lines
 

@@ -9,9 +9,10 @@ use Rattle.given_spec.specs.Given.{Given, nothing_given}
 use Rattle.given_spec.specs.Told.{IsTold}
 use Rattle.given_spec.specs.ToldClaims.{Told, nothing_told, is_marked_held}
 use Rattle.given_spec.specs.ToldRegion.{ToldRegion}
+use Rattle.given_spec.specs.Unclaimed.{IsUnclaimedOn, AreTaking}
 use Rattle.map_spec.specs.Regions.{MapRegion, Own, OfLine, range_of, IsIn}
-use Rattle.map_spec.specs.Lines.{OnRoot, Inside, Lines, runs_at, regions_at, AreLinesAt, IsFreeIn, IsFreeOn, IsOutOfPlace}
-use Rattle.map_spec.specs.Map.{Map, IsOutsideWindows, IsOnlyLeft, IsMap, regions_on, regions_in}
+use Rattle.map_spec.specs.Lines.{OnRoot, Inside, TakenBy, Lines, runs_at, regions_at, AreLinesAt, IsFreeIn, IsFreeOn, IsOutOfPlace}
+use Rattle.map_spec.specs.Map.{MapRoot, Map, IsOutsideWindows, IsOnlyLeft, IsMap, regions_on, regions_in}
 use Rattle.map_spec.specs.MapText.{under_heading, map_off_bars_of, map_off_text}
 
 -- A line of a region is one of an enabled region that claims an address.
@@ -71,6 +72,14 @@ FreeOnRootsIsExact =
     (lines : Lines) (a : ℕ) → AreLinesAt told given roots s space (OnRoot bus) lines
     → (Any (λ r. InRange r a) (runs_at lines) ↔ IsFreeOn told given s bus space a)
 
+-- A region in what a bridge takes is one whose first address no region of the bridge's own bus claims.
+abbrev pub TakenIsUnclaimed : Type 0
+TakenIsUnclaimed =
+    (told : Told) (given : Given) (roots : List ℕ) (s : System) (space : Space) (slots : List Slot)
+    (slot : Slot) (q : MapRegion) (lines : Lines) → AreTaking told given s slots given.unclaimed
+    → AreLinesAt told given roots s space (TakenBy slot) lines → Contains (regions_at lines) q
+    → IsUnclaimedOn told given s slot.bus space (range_of q).first
+
 -- ---- with nothing given
 
 -- Nothing is out of place, so each region has its line at its place, or is left.
@@ -94,6 +103,13 @@ abbrev pub NothingIsFreeOnRoots : Type 0
 NothingIsFreeOnRoots =
     (told : Told) (roots : List ℕ) (s : System) (space : Space) (bus : ℕ) (lines : Lines)
     → AreLinesAt told nothing_given roots s space (OnRoot bus) lines → runs_at lines ≡ []
+
+-- Where no bridge takes anything no line is of that.
+abbrev pub NothingIsTaken : Type 0
+NothingIsTaken =
+    (told : Told) (given : Given) (roots : List ℕ) (s : System) (m : Map) (root : MapRoot)
+    → given.unclaimed ≡ [] → IsMap told given roots s m → Contains m.roots root
+    → (root.io.taken ≡ []) × (root.memory.taken ≡ [])
 
 -- ---- with nothing told
 

@@ -4,7 +4,7 @@ use Rattle.std.specs.List.{flat_map}
 use Rattle.pci_spec.specs.Slot.{Slot}
 use Rattle.pci_spec.specs.Text.{hex_byte, slot_text}
 use Rattle.pci_spec.specs.System.{System, Space, Io, Memory, Part, Bar, Rom, Window, Function}
-use Rattle.pci_spec.specs.Line.{space_text, field, byte_field}
+use Rattle.pci_spec.specs.Line.{space_text, field, byte_field, slot_field}
 use Rattle.pci_spec.specs.Decoded.{Range, DecodedBar}
 use Rattle.pci_spec.specs.Listing.{words, range_text, kind_space}
 use Rattle.pci_spec.specs.Why.{amount_text, address_count, off_bars}
@@ -15,7 +15,7 @@ use Rattle.given_spec.specs.ToldRegion.{ToldRegion, told_extent, off_ranges, mar
 use Rattle.given_spec.specs.Why.{isa_words_of}
 use Rattle.map_spec.specs.Regions.{MapRegion, Own, OfLine}
 use Rattle.map_spec.specs.Lines.{Lines, End, Free, Sits}
-use Rattle.map_spec.specs.Map.{MapRoot, Map, IsMap}
+use Rattle.map_spec.specs.Map.{MapTaking, MapSpace, MapRoot, Map, IsMap}
 
 -- two spaces for each window around a line, and for the heading above
 unfoldable pub indent : ℕ → List ℕ
@@ -67,13 +67,30 @@ lines_text given depth space (Sits q inside rest) =
 abbrev pub bus_heading : ℕ → Space → List ℕ
 bus_heading bus space = codes "bus" ++ (byte_field bus ++ (field (space_text space) ++ 10 ∷ []))
 
+abbrev pub taking_heading : Slot → List ℕ
+taking_heading slot = codes "  unclaimed" ++ (slot_field slot ++ 10 ∷ [])
+
+-- what a bridge takes stands below its slot
+abbrev pub taking_text : Given → Space → MapTaking → List ℕ
+taking_text given space t = taking_heading t.slot ++ lines_text given 2 space t.lines
+
+-- the lines of a root bus, with those of what bridges take behind them
+abbrev pub lines_below : Given → Space → MapSpace → List ℕ
+lines_below given space x =
+    lines_text given 1 space x.lines ++ flat_map (taking_text given space) x.taken
+
+-- whether a space has no line
+abbrev pub is_without_lines : Lines → List MapTaking → Bool
+is_without_lines End [] = true
+is_without_lines End (t ∷ ts) = false
+is_without_lines (Free r rest) ts = false
+is_without_lines (Sits q inside rest) ts = false
+
 -- where there are lines they stand below a heading
-abbrev pub space_lines : Given → ℕ → Space → Lines → List ℕ
-space_lines given bus space End = []
-space_lines given bus space (Free r rest) =
-    bus_heading bus space ++ lines_text given 1 space (Free r rest)
-space_lines given bus space (Sits q inside rest) =
-    bus_heading bus space ++ lines_text given 1 space (Sits q inside rest)
+abbrev pub space_lines : Given → ℕ → Space → MapSpace → List ℕ
+space_lines given bus space x =
+    if is_without_lines x.lines x.taken then []
+    else bus_heading bus space ++ lines_below given space x
 
 abbrev pub root_text : Given → MapRoot → List ℕ
 root_text given root =

@@ -1,6 +1,6 @@
 //! Laws of maps. These functions do nothing: each contract is a law.
 
-ghost use Rattle.map_spec.specs.MapLaws.{LinesAreOfRegions, NoRegionIsMissed, OutsideStandsAlone, WindowsAreInPlace, HeldAreInPlace, WindowsHoldWhatIsInside, FreeLinesAreExact, FreeOnRootsIsExact, NothingIsOutOfPlace, NothingIsOutside, AllLeftAreUnreached, NothingIsFreeOnRoots, NoLineIsTold, BarsAloneAreOff};
+ghost use Rattle.map_spec.specs.MapLaws.{LinesAreOfRegions, NoRegionIsMissed, OutsideStandsAlone, WindowsAreInPlace, HeldAreInPlace, WindowsHoldWhatIsInside, FreeLinesAreExact, FreeOnRootsIsExact, NothingIsOutOfPlace, NothingIsOutside, AllLeftAreUnreached, NothingIsFreeOnRoots, NothingIsTaken, TakenIsUnclaimed, NoLineIsTold, BarsAloneAreOff};
 
 /// Enabled regions that claim an address have lines, and nothing else has.
 pub fn regions_have_lines()
@@ -32,6 +32,12 @@ pub fn nothing_given_changes_nothing()
     ensures outside { NothingIsOutside }
     ensures left { AllLeftAreUnreached }
     ensures free { NothingIsFreeOnRoots }
+{}
+
+/// What a bridge takes of a map's lines is unclaimed on its own bus. Where no bridge takes anything there are no such lines.
+pub fn taken_lines_are_unclaimed()
+    ensures unclaimed { TakenIsUnclaimed }
+    ensures none { NothingIsTaken }
 {}
 
 /// With nothing told a map has lines of functions alone.

@@ -15,11 +15,11 @@ use Rattle.map_spec.proofs.Examples.Samples.{own, untold}
 
 -- a list of memory alone, with one range
 abbrev pub memory_to : Option ℕ → ℕ → ℕ → Given
-memory_to root first last = record { io = None; memory = Some (record { root = root; first = first; last = last } ∷ []); legacy = []; isa = [] }
+memory_to root first last = record { io = None; memory = Some (record { root = root; first = first; last = last } ∷ []); legacy = []; isa = []; palette = []; unclaimed = [] }
 
 -- a list of I/O alone
 abbrev ports_to : Option ℕ → ℕ → ℕ → Given
-ports_to root first last = record { io = Some (record { root = root; first = first; last = last } ∷ []); memory = None; legacy = []; isa = [] }
+ports_to root first last = record { io = Some (record { root = root; first = first; last = last } ∷ []); memory = None; legacy = []; isa = []; palette = []; unclaimed = [] }
 
 -- 4 KB at E0001000
 abbrev memory_device : ℕ → Function

@@ -6,6 +6,8 @@ use Rattle.pci_spec.specs.Why.{Region}
 use Rattle.pci_spec.proofs.Examples.Samples.{range}
 use Rattle.given_spec.specs.ToldClaims.{Told, nothing_told}
 use Rattle.map_spec.specs.Regions.{MapRegion, Own}
+use Rattle.map_spec.specs.Lines.{Lines}
+use Rattle.map_spec.specs.Map.{MapSpace}
 
 abbrev pub line : List ℕ → List ℕ
 line text = text ++ 10 ∷ []
@@ -18,6 +20,10 @@ region slot register part space prefetchable first last =
 abbrev pub own : Slot → ℕ → Part → Space → Bool → ℕ → ℕ → MapRegion
 own slot register part space prefetchable first last =
     Own (region slot register part space prefetchable first last)
+
+-- the lines of a space where no bridge takes anything
+abbrev pub untaken : Lines → MapSpace
+untaken lines = record { lines = lines; taken = [] }
 
 abbrev pub untold : Told
 untold = nothing_told []

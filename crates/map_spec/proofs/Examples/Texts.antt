@@ -8,7 +8,7 @@ use Rattle.pci_spec.proofs.Examples.Samples.{slot, range, device}
 use Rattle.given_spec.specs.Given.{nothing_given}
 use Rattle.map_spec.specs.Lines.{Lines, End, Free, Sits}
 use Rattle.map_spec.specs.MapText.{indent, lines_text, map_region_line, root_text, map_text_of}
-use Rattle.map_spec.proofs.Examples.Samples.{line, own, untold}
+use Rattle.map_spec.proofs.Examples.Samples.{line, own, untaken, untold}
 
 -- bus 40 of a server: a bar in an I/O window, and three windows of memory, each inside the one before
 abbrev io_lines : Lines
@@ -30,7 +30,7 @@ memory_lines =
     End)
     (Sits (own (slot 0x40 0 0) 0x10 (Bar 0) Memory false 0xfe401000 0xfe401fff) End End)
 
-server : root_text nothing_given (record { bus = 0x40; io = io_lines; memory = memory_lines })
+server : root_text nothing_given (record { bus = 0x40; io = untaken io_lines; memory = untaken memory_lines })
     ≡ line (codes "bus 40 io")
     ++ line (codes "  0000c000-0000cfff 4K window 40:03.0 1c")
     ++ line (codes "    0000c000-0000c01f 32 bar 45:00.0 18")
@@ -47,7 +47,7 @@ unfolding indent lines_text scaled_text digits
 server = refl
 
 -- a space without regions has no heading
-empty_bus : root_text nothing_given (record { bus = 0; io = End; memory = End }) ≡ []
+empty_bus : root_text nothing_given (record { bus = 0; io = untaken End; memory = untaken End }) ≡ []
 empty_bus = refl
 
 -- what each part is called
@@ -65,11 +65,11 @@ rom = refl
 cut_window : root_text (record nothing_given { isa = slot 0 1 0 ∷ [] }) (record {
   bus = 0;
   io =
-      Sits (own (slot 0 1 0) 0x1c (Window IoWindow) Io false 0x1000 0x1fff)
+      untaken (Sits (own (slot 0 1 0) 0x1c (Window IoWindow) Io false 0x1000 0x1fff)
       (Sits (own (slot 1 0 0) 0x10 (Bar 0) Io false 0x1000 0x101f) End
       (Free (range 0x1020 0x10ff) (Free (range 0x1400 0x14ff) (Free (range 0x1800 0x18ff) (Free (range 0x1c00 0x1cff) End)))))
-      End;
-  memory = End;
+      End);
+  memory = untaken End;
 })
     ≡ line (codes "bus 00 io")
     ++ line (codes "  00001000-00001fff 4K window 00:01.0 1c isa")
@@ -82,7 +82,7 @@ unfolding indent lines_text scaled_text digits
 cut_window = refl
 
 -- a root bus on which nothing stands has a heading where something is free
-all_free : root_text nothing_given (record { bus = 0x40; io = Free (range 0x1000 0x1fff) End; memory = End })
+all_free : root_text nothing_given (record { bus = 0x40; io = untaken (Free (range 0x1000 0x1fff) End); memory = untaken End })
     ≡ line (codes "bus 40 io") ++ line (codes "  00001000-00001fff 4K free")
 unfolding indent lines_text scaled_text digits
 all_free = refl

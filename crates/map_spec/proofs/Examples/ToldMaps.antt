@@ -2,9 +2,9 @@
 use Rattle.std.proofs.Common.{◌≡◌, ◌⊎◌, ℕ, zero, suc, ◌+◌, ◌*◌, ◌≤◌, ◌<◌, ◌%◌, List, [], ◌∷◌, refl, false, inl, inr, arith, lit<, lit≤, subst, sym, ap, ◌∙◌}
 use Rattle.std.specs.Prelude.{nat_lt, nat_le, slice_index_or}
 use Rattle.std.specs.List.{Any, Contains}
-use Rattle.std.proofs.lemmas.Bool.{and_parts, and_from, ltb-true, lt-ltb, leb-true, le-leb, both_ways, cases_Bool, cases_lt}
+use Rattle.std.proofs.lemmas.Bool.{and_parts, and_from, ltb-true, lt-ltb, leb-true, le-leb, both_ways, cases_Bool, cases_lt, false≢true}
 use Rattle.std.proofs.lemmas.List.Elements.{All-nil, All-cons}
-use Rattle.pci_spec.specs.Slot.{Slot}
+use Rattle.pci_spec.specs.Slot.{Slot, slot_number}
 use Rattle.pci_spec.specs.Decoded.{Range, InRange}
 use Rattle.pci_spec.specs.Fault.{RegionName, address_in}
 use Rattle.pci_spec.specs.System.{Function, Space, Io, Memory, Bar, Claims}
@@ -14,10 +14,12 @@ use Rattle.pci_spec.proofs.Examples.Samples.{slot, range, host}
 use Rattle.given_spec.specs.Given.{is_isa_port}
 use Rattle.given_spec.specs.Told.{ToldRange}
 use Rattle.given_spec.specs.ToldClaims.{RangeClaimsOnBus}
-use Rattle.map_spec.specs.Regions.{MapRegion, Own, slot_of, space_of, IsIn, region_rank}
+use Rattle.given_spec.proofs.Snoop.{takes_none}
+use Rattle.map_spec.specs.Regions.{MapRegion, Own, slot_of, space_of, range_of, IsIn, region_rank}
 use Rattle.map_spec.specs.Lines.{BelongsUnder, OnRoot, Inside, IsClaimedByPart, IsClaimedOn, IsFreeIn, IsFreeOn, End, Sits, MarkIsBefore, marks, AreLinesAt}
-use Rattle.map_spec.specs.Map.{MapRoot, HasWay, IsRootOfMap, IsMap}
+use Rattle.map_spec.specs.Map.{MapRoot, HasWay, AreTakings, IsRootOfMap, IsMap}
 use Rattle.map_spec.specs.MapText.{IsMapText}
+use Rattle.map_spec.proofs.Examples.Samples.{untaken}
 use Rattle.map_spec.proofs.Examples.InsideWindows.{by_test}
 use Rattle.map_spec.proofs.Examples.ToldTexts.{of_line, p2sb, vf0, told, above, behind, disabled, s, with_isa, io_window, memory_window, ports, inside_io, inside_memory, whole, printed, text_of_the_board}
 use Rattle.map_spec.proofs.Examples.ToldBoard.{no, not_memory, io_window_is, memory_window_is, ports_claims, ports_holds, ports_is, p2sb_is, vf0_is, behind_parts, no_part, one_of_three, one_of_two, each_is_one, in_place, one_has, two_have, ports_belong, vf0_belongs, bus_below, on_root_io, on_root_memory, in_io_window, in_memory_window}
@@ -218,26 +220,33 @@ root_memory = record {
 
 -- ---- the map
 
-root_is : IsRootOfMap told with_isa host s (record { bus = 0; io = Sits (Own io_window) inside_io End; memory = Sits (Own memory_window) inside_memory (Sits (of_line 1 p2sb) End End) })
+none_taken : (space : Space) → AreTakings told with_isa host s space 0 []
+none_taken space = record {
+  each = λ t has. absurd (in_nil t has);
+  complete = λ at q below is same stands within. absurd (false≢true (sym (takes_none with_isa refl (space_of q) (range_of q).first stands.b) ∙ stands.taken));
+  rising = pairs_nil (λ t u. slot_number t.slot < slot_number u.slot);
+}
+
+root_is : IsRootOfMap told with_isa host s (record { bus = 0; io = untaken (Sits (Own io_window) inside_io End); memory = untaken (Sits (Own memory_window) inside_memory (Sits (of_line 1 p2sb) End End)) })
 root_is = record {
-  io = (root_io, (lines_in_io, (refl, tt, tt), tt));
-  memory = (root_memory, (lines_in_memory, (refl, tt, tt), (refl, tt, tt)));
+  io = record { lines = (root_io, (lines_in_io, (refl, tt, tt), tt)); taken = none_taken Io };
+  memory = record { lines = (root_memory, (lines_in_memory, (refl, tt, tt), (refl, tt, tt))); taken = none_taken Memory };
 }
 
 -- each region has a way
 has_way : (q : MapRegion) → IsIn told s q → ((windows : List Region) → HasWay with_isa host s q windows → ⊥) → ⊥
 has_way q is none = elim (each_is_one q is) [
-  | inl e ↦ none [] (subst (λ x. HasWay with_isa host s x []) e (0, lit< tt, refl))
-  | inr (inl e) ↦ none [] (subst (λ x. HasWay with_isa host s x []) e (0, lit< tt, refl))
-  | inr (inr (inl e)) ↦ none (io_window ∷ []) (subst (λ x. HasWay with_isa host s x (io_window ∷ [])) e (io_window_is, ports_belong, (0, lit< tt, refl)))
-  | inr (inr (inr (inl e))) ↦ none [] (subst (λ x. HasWay with_isa host s x []) e (0, lit< tt, refl))
-  | inr (inr (inr (inr e))) ↦ none (memory_window ∷ []) (subst (λ x. HasWay with_isa host s x (memory_window ∷ [])) e (memory_window_is, vf0_belongs, (0, lit< tt, refl)))
+  | inl e ↦ none [] (subst (λ x. HasWay with_isa host s x []) e (inl (0, lit< tt, refl)))
+  | inr (inl e) ↦ none [] (subst (λ x. HasWay with_isa host s x []) e (inl (0, lit< tt, refl)))
+  | inr (inr (inl e)) ↦ none (io_window ∷ []) (subst (λ x. HasWay with_isa host s x (io_window ∷ [])) e (io_window_is, ports_belong, inl (0, lit< tt, refl)))
+  | inr (inr (inr (inl e))) ↦ none [] (subst (λ x. HasWay with_isa host s x []) e (inl (0, lit< tt, refl)))
+  | inr (inr (inr (inr e))) ↦ none (memory_window ∷ []) (subst (λ x. HasWay with_isa host s x (memory_window ∷ [])) e (memory_window_is, vf0_belongs, inl (0, lit< tt, refl)))
 ]
 
 is_its_map : IsMap told with_isa host s whole
 is_its_map = record {
   buses = refl;
-  each = λ root has. elim (in_cons_cases (record { bus = 0; io = Sits (Own io_window) inside_io End; memory = Sits (Own memory_window) inside_memory (Sits (of_line 1 p2sb) End End) }) [] root has) [
+  each = λ root has. elim (in_cons_cases (record { bus = 0; io = untaken (Sits (Own io_window) inside_io End); memory = untaken (Sits (Own memory_window) inside_memory (Sits (of_line 1 p2sb) End End)) }) [] root has) [
     | inl here ↦ subst (λ (r : MapRoot). IsRootOfMap told with_isa host s r) here root_is
     | inr none ↦ absurd (in_nil root none)
   ];

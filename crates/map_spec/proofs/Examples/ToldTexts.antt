@@ -14,7 +14,7 @@ use Rattle.map_spec.specs.Regions.{MapRegion, Own, OfLine, slot_of, register_of,
 use Rattle.map_spec.specs.Lines.{Lines, End, Free, Sits}
 use Rattle.map_spec.specs.Map.{Map}
 use Rattle.map_spec.specs.MapText.{indent, lines_text, map_region_line, map_text_of, map_off_text, outside_text, unreached_text}
-use Rattle.map_spec.proofs.Examples.Samples.{line, region, own}
+use Rattle.map_spec.proofs.Examples.Samples.{line, region, own, untaken}
 
 abbrev pub of_line : ℕ → ToldRange → MapRegion
 of_line n r = OfLine (record { register = 255 + n; told = r })
@@ -71,7 +71,7 @@ inside_memory = Sits (of_line 2 vf0) End (Free (range 0xe0020000 0xe00fffff) End
 
 abbrev pub whole : Map
 whole = record {
-  roots = record { bus = 0; io = Sits (Own io_window) inside_io End; memory = Sits (Own memory_window) inside_memory (Sits (of_line 1 p2sb) End End) } ∷ [];
+  roots = record { bus = 0; io = untaken (Sits (Own io_window) inside_io End); memory = untaken (Sits (Own memory_window) inside_memory (Sits (of_line 1 p2sb) End End)) } ∷ [];
   outside = [];
   unreached = [];
 }
