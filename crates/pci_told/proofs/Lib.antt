@@ -1,2 +1,3 @@
 pub mod Digits
 pub mod Taken
+pub mod Parted

@@ -23,5 +23,5 @@ pub mod told_range;
 mod words;
 
 pub use reader::read_told;
-pub use told_list::ToldList;
+pub use told_list::{ToldList, first_of_slot};
 pub use told_range::{Mark, NAME_MAX, ToldRange};

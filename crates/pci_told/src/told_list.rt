@@ -1,8 +1,11 @@
 //! The ranges of a text.
-ghost use Rattle.std.specs.Prelude.{◌≡◌, []};
+ghost use Rattle.std.specs.Prelude.{◌≡◌, ◌<◌, ◌≤◌, [], length};
+ghost use Rattle.std.specs.List.{AllWithin};
+ghost use Rattle.pci_spec.specs.Slot.{IsSlot, slot_number};
 ghost use Rattle.given_spec.specs.Told.{IsTold};
 
 use super::told_range::ToldRange;
+use pci_base::slot::Slot;
 use std::alloc::{Allocator, Global};
 use std::marker::Model;
 
@@ -49,4 +52,18 @@ impl<A: Allocator> ToldList<A> {
     {
         self.ranges.as_slice()
     }
+}
+
+/// The index of the first told range of this slot or a higher one.
+pub fn first_of_slot(ranges: &[ToldRange], slot: Slot) -> usize
+    // they stand by slot, so it is found by halving
+    requires { IsTold ranges.now }
+    ensures bound { result ≤ length ranges.now }
+    ensures before { AllWithin (λ r. slot_number r.slot < slot_number slot) ranges.now 0 result }
+    ensures after { AllWithin (λ r. slot_number slot ≤ slot_number r.slot) ranges.now result (length ranges.now) }
+    // so that slots with one number are one
+    ensures lawful { IsSlot slot }
+{
+    let number = slot.number();
+    ranges.partition_point(|range| range.slot.number() < number)
 }

@@ -1,6 +1,8 @@
 //! A range of addresses that a function answers, and of which a text tells.
-ghost use Rattle.std.specs.Prelude.{◌≡◌};
+ghost use Rattle.std.specs.Prelude.{◌≡◌, ◌↔◌, IsTrue};
+ghost use Rattle.given_spec.specs.ToldClaims.{is_marked_held};
 ghost use Rattle.given_spec.specs.ToldForm.{blank};
+ghost use Rattle.pci_base.specs.Space.{space_of};
 
 use arrayvec::ArrayVec;
 use pci_base::slot::Slot;
@@ -66,6 +68,23 @@ impl ToldRange {
             last: 0,
             mark: Mark::Command,
             name: ArrayVec::new(),
+        }
+    }
+
+    /// Whether it is a held range.
+    pub fn is_held(&self) -> bool
+        ensures { result ≡ is_marked_held self.now.mark }
+    {
+        matches!(self.mark, Mark::Held)
+    }
+
+    /// Whether it is of a space.
+    pub fn is_in(&self, space: Space) -> bool
+        ensures { IsTrue result ↔ (self.now.space ≡ space_of space) }
+    {
+        match self.space {
+            Space::Io => matches!(space, Space::Io),
+            Space::Mem => matches!(space, Space::Mem),
         }
     }
 }
