@@ -30,7 +30,7 @@ numbers_rise blocks i j d dump less within =
     let second = ap slot_number (get_or-map (λ (b : Block). b.slot) blocks j d d.slot within) in
     omega (arith, up, one, two, first, second)
 
-buses_rise : (blocks : List Block) → IsDump blocks → IsNonDecreasingBy (λ b. b.slot.bus) blocks
+pub buses_rise : (blocks : List Block) → IsDump blocks → IsNonDecreasingBy (λ b. b.slot.bus) blocks
 buses_rise blocks dump i j d le within = elim (cases_order i j) [
   | inl e ↦ (let same : (get_or blocks i d).slot.bus ≡ (get_or blocks j d).slot.bus = ap (λ n. (get_or blocks n d).slot.bus) e in omega arith)
   | inr differ ↦ elim differ [

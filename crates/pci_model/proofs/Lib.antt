@@ -5,3 +5,5 @@ pub mod ShownWindows
 pub mod Takes
 pub mod Sleepers
 pub mod Parts
+pub mod Rivals
+pub mod Takings

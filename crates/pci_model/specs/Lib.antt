@@ -1,1 +1,3 @@
 pub mod WordsValue
+pub mod FixedPartsValue
+pub mod Subtractive

@@ -9,12 +9,14 @@ ghost use Rattle.pci_image.specs.Windows.{decoded_windows_of};
 ghost use Rattle.pci_function.specs.Values.{bridge_value, record_value};
 ghost use Rattle.model_spec.specs.Bytes.{cleared, width_of, without_bars};
 ghost use Rattle.model_spec.specs.Taken as taken;
+ghost use Rattle.pci_model.specs.FixedPartsValue.{fixed_value};
 ghost use Rattle.pci_model.specs.WordsValue.{words_value};
 
 use super::bytes::{
-    clear, make_device, make_device_read_backs, make_positive, set_isa_aside, set_vga_aside,
-    take_out_of_reset,
+    clear, make_device, make_device_read_backs, make_positive, set_isa_aside, set_snoop_aside,
+    set_vga_aside, take_out_of_reset,
 };
+use super::fixed_parts::{FixedParts, has_open_part};
 use super::listed_behind::is_anyone_behind;
 use super::windows::windows_aside;
 use super::words::Words;
@@ -24,9 +26,7 @@ use pci_base::slot::Slot;
 use pci_base::space::Space;
 use pci_dump::block::Block;
 use pci_function::examine::examine;
-use pci_function::profile::{
-    SECONDARY_BUS_RESET, VGA_ENABLE, controls_bridge, is_subtractive_bridge,
-};
+use pci_function::profile::{SECONDARY_BUS_RESET, controls_bridge, is_subtractive_bridge};
 use pci_function::record::{Bridge, Record};
 use pci_image::bar::{Bar, BarKind};
 use pci_image::header::class_code;
@@ -40,14 +40,6 @@ const IDE_CONTROLLER: u32 = 0x0101;
 const PRIMARY_CHANNEL_END: u8 = 0x18;
 
 const CHANNELS_END: u8 = 0x20;
-
-/// Whether a function has a legacy part that is given beside the system.
-pub fn has_legacy(image: &Image, words: Words) -> bool
-    ensures { (slot : SlotValue) (probe : List ℕ) → result ≡ taken.has_legacy_by (words_value words) record
-        { slot = slot; image = image.now.0; probe = probe } }
-{
-    words.vga.is_some() && controls_bridge(image, VGA_ENABLE)
-}
 
 /// Leaves VGA Enable aside, where a word for legacy parts counts.
 fn vga_aside(image: &mut Image, words: Words)
@@ -73,8 +65,20 @@ fn isa_aside(image: &mut Image, words: Words)
     }
 }
 
-/// Leaves aside what is left aside before anything is asked of a function: the read backs of windows, VGA Enable and ISA
-/// Enable.
+/// Leaves VGA Palette Snoop aside, where the word for it counts.
+fn snoop_aside(image: &mut Image, words: Words)
+    ensures { (slot : SlotValue) (probe : List ℕ)
+        → record { slot = slot; image = image.new.0; probe = probe }
+        ≡ taken.snoop_aside_by (words_value words) record
+        { slot = slot; image = image.old.0; probe = probe } }
+{
+    if words.snoop {
+        set_snoop_aside(image);
+    }
+}
+
+/// Leaves aside what is left aside before anything is asked of a function: the read backs of windows, VGA Enable, ISA
+/// Enable and VGA Palette Snoop.
 pub fn first_aside(image: &mut Image, probe: &mut Image, words: Words)
     ensures { (slot : SlotValue) → record { slot = slot; image = image.new.0; probe = probe.new.0 }
         ≡ taken.first_aside (words_value words) record
@@ -83,6 +87,7 @@ pub fn first_aside(image: &mut Image, probe: &mut Image, words: Words)
     windows_aside(image, probe, words);
     vga_aside(image, words);
     isa_aside(image, words);
+    snoop_aside(image, words);
 }
 
 /// Leaves a bridge's reset and its subtractive decoding aside, where these count and nothing is listed behind it.
@@ -174,13 +179,6 @@ fn has_open_window(command: u16, windows: &Windows) -> bool
         || (Space::Mem.is_on(command) && (windows.mem.range().is_some() || is_open(windows.pref)))
 }
 
-/// Whether a legacy part claims addresses, by Command.
-fn has_open_legacy(legacy: bool, command: u16) -> bool
-    ensures { result ≡ taken.has_open_legacy legacy command }
-{
-    legacy && (Space::Io.is_on(command) || Space::Mem.is_on(command))
-}
-
 /// Whether a bridge has bus numbers.
 fn has_numbers(bridge: &Bridge) -> bool
     ensures { result ≡ taken.has_numbers (bridge_value bridge.now) }
@@ -188,10 +186,10 @@ fn has_numbers(bridge: &Bridge) -> bool
     !(bridge.primary == 0 && bridge.secondary == 0 && bridge.subordinate == 0)
 }
 
-/// Whether a record is of a bridge that nobody gave bus numbers, of which neither a window nor its legacy part, where it
-/// has one, claims an address, and whose ROM is off.
-fn is_unnumbered(function: &Record, legacy: bool) -> bool
-    ensures { result ≡ taken.is_unnumbered_bridge legacy (record_value function.now)
+/// Whether a record is of a bridge that nobody gave bus numbers, of which neither a window nor a part with fixed addresses
+/// that it has claims an address, and whose ROM is off.
+fn is_unnumbered(function: &Record, fixed: FixedParts) -> bool
+    ensures { result ≡ taken.is_unnumbered_bridge (fixed_value fixed) (record_value function.now)
         (record_value function.now).bridge }
 {
     let is_rom_on = match function.rom {
@@ -202,7 +200,7 @@ fn is_unnumbered(function: &Record, legacy: bool) -> bool
         None => false,
         Some(bridge) => !has_numbers(&bridge)
             && !has_open_window(function.command, &bridge.windows)
-            && !has_open_legacy(legacy, function.command)
+            && !has_open_part(fixed, function.command)
             && !is_rom_on,
     }
 }
@@ -215,16 +213,22 @@ fn may_have_parts(image: &Image, words: Words) -> bool
     (words.ide && is_ide(image)) || (words.unnumbered && Layout::of(image) == Some(Layout::Bridge))
 }
 
-/// Leaves the channels of an IDE controller and an unnumbered bridge's buses aside, where these count, of a function that
-/// has a legacy part, or has none.
-pub fn parts_aside(slot: Slot, image: &mut Image, probe: &mut Image, legacy: bool, words: Words)
+/// Leaves the channels of an IDE controller and an unnumbered bridge's buses aside, where these count, of a function with
+/// some parts with fixed addresses.
+pub fn parts_aside(
+    slot: Slot,
+    image: &mut Image,
+    probe: &mut Image,
+    fixed: FixedParts,
+    words: Words,
+)
     ensures { taken.IsWhere
         (IsTrue (taken.may_have_parts_by (words_value words) record
         { slot = slot; image = image.old.0; probe = probe.old.0 })
         × taken.HasNoOwnFaultBefore Place record
         { slot = slot; image = image.old.0; probe = probe.old.0 })
         record { slot = slot; image = image.old.0; probe = probe.old.0 }
-        (taken.parts_aside (words_value words) legacy record
+        (taken.parts_aside (words_value words) (fixed_value fixed) record
         { slot = slot; image = image.old.0; probe = probe.old.0 })
         record { slot = slot; image = image.new.0; probe = probe.new.0 } }
 {
@@ -240,7 +244,7 @@ pub fn parts_aside(slot: Slot, image: &mut Image, probe: &mut Image, legacy: boo
         let interface = image.u8(INTERFACE);
         leave_channels_out(&decoded.bars, interface, image);
         leave_channels_out(&decoded.bars, interface, probe);
-    } else if words.unnumbered && is_unnumbered(&decoded, legacy) {
+    } else if words.unnumbered && is_unnumbered(&decoded, fixed) {
         make_device(image);
         make_device_read_backs(probe);
     }

@@ -1,6 +1,6 @@
 //! Images with some of their bytes changed.
 ghost use Rattle.std.specs.Prelude.{◌≡◌, ◌+◌, ◌≤◌};
-ghost use Rattle.given_spec.specs.Words.{without_isa, without_vga};
+ghost use Rattle.given_spec.specs.Words.{without_isa, without_snoop, without_vga};
 ghost use Rattle.model_spec.specs.Bytes as bytes;
 
 use pci_base::image::Image;
@@ -58,6 +58,14 @@ pub fn set_isa_aside(image: &mut Image)
         let control = image.u8(BRIDGE_CONTROL);
         image.0[usize::from(BRIDGE_CONTROL)] = control / 8 * 8 + control % 4;
     }
+}
+
+/// Clears VGA Palette Snoop, whatever the header is (PCI 3.0, 6.2.2).
+pub fn set_snoop_aside(image: &mut Image)
+    ensures { image.new.0 ≡ without_snoop image.old.0 }
+{
+    let command = image.u8(COMMAND);
+    image.0[usize::from(COMMAND)] = command / 64 * 64 + command % 32;
 }
 
 /// Bridge Control without Secondary Bus Reset (Bridge 1.2, 3.2.5.18).

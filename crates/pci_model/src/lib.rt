@@ -10,9 +10,12 @@
 pub mod aside;
 pub mod asleep;
 pub mod bytes;
+pub mod fixed_parts;
 pub mod listed_behind;
 pub mod power;
 pub mod socket;
+pub mod subtractive;
 pub mod take;
+pub mod taking;
 pub mod windows;
 pub mod words;

@@ -10,7 +10,7 @@ use pci_base::offset::{SECONDARY_BUS, SUBORDINATE_BUS};
 use pci_dump::block::Block;
 
 /// The index of the first block on this bus or a higher one.
-fn first_from(blocks: &[Block], bus: u8) -> usize
+pub fn first_from(blocks: &[Block], bus: u8) -> usize
     requires { IsDump blocks.now }
     ensures bound { result ≤ length blocks.now }
     ensures before { AllWithin (λ b. b.slot.bus < bus) blocks.now 0 result }

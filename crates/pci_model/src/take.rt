@@ -1,14 +1,17 @@
 //! A dump and its probe as words take them.
-ghost use Rattle.std.specs.Prelude.{◌≡◌, IfOk};
-ghost use Rattle.pci_spec.specs.System.{function_of};
-ghost use Rattle.pci_spec.specs.Text.{IsDump, slots_of};
+ghost use Rattle.std.specs.Prelude.{◌≡◌, List, IfOk};
+ghost use Rattle.pci_spec.specs.System.{function_of, system_of};
+ghost use Rattle.pci_spec.specs.Text.{Block as BlockValue, IsDump, slots_of};
 ghost use Rattle.model_spec.specs.Taken.{IsTakenAs};
 ghost use Rattle.model_spec.specs.TakenDumps.{AreTakenAs};
+ghost use Rattle.pci_model.specs.Subtractive.{unclaimed_aside_of};
 ghost use Rattle.pci_model.specs.WordsValue.{words_value};
 
-use super::aside::{bridge_aside, first_aside, has_legacy, parts_aside};
+use super::aside::{bridge_aside, first_aside, parts_aside};
+use super::fixed_parts::fixed_parts;
 use super::power::take_asleep;
 use super::socket::cardbus_aside;
+use super::subtractive::unclaimed_aside;
 use super::words::Words;
 use pci_base::image::Image;
 use pci_base::memory::OutOfMemory;
@@ -31,23 +34,28 @@ fn take(slot: Slot, image: &mut Image, probe: &mut Image, blocks: &[Block], word
         record { slot = slot; image = image.old.0; probe = probe.old.0 }
         record { slot = slot; image = image.new.0; probe = probe.new.0 } }
 {
-    let legacy = has_legacy(image, words);
+    let fixed = fixed_parts(image, words);
     first_aside(image, probe, words);
     take_asleep(slot, image, probe, words);
     bridge_aside(image, blocks, words);
-    parts_aside(slot, image, probe, legacy, words);
+    parts_aside(slot, image, probe, fixed, words);
     cardbus_aside(image, probe, words);
 }
 
-/// Takes a function of a dump, by its two blocks.
+/// Takes a function of a dump, by its two blocks. One that is alone of the class of subtractive decoding on its bus is made
+/// one that decodes its windows alone first, where what it takes is given beside the system.
 fn take_blocks(block: &mut Block, probe: &mut Block, blocks: &[Block], words: Words)
     requires { IsDump blocks.now }
-    ensures taken { IsTakenAs (words_value words) (slots_of blocks.now)
-        (function_of block.old probe.old) (function_of block.new probe.new) }
+    // whatever the functions of the dump read back
+    ensures taken { (read_backs : List BlockValue) → slots_of blocks.now ≡ slots_of read_backs
+        → IsTakenAs (words_value words) (slots_of blocks.now)
+        (unclaimed_aside_of (words_value words) (system_of blocks.now read_backs)
+        (function_of block.old probe.old)) (function_of block.new probe.new) }
     ensures slot { block.new.slot ≡ block.old.slot }
     ensures probe_slot { probe.new.slot ≡ probe.old.slot }
     ensures probe_title { probe.new.title ≡ probe.old.title }
 {
+    unclaimed_aside(block.slot, &mut block.image, blocks, words);
     take(
         block.slot,
         &mut block.image,

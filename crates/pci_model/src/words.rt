@@ -22,8 +22,12 @@ pub struct Words {
     pub power: bool,
     /// A bridge may hold its secondary bus in reset where nothing is listed behind it (Bridge 1.2, 3.2.5.18).
     pub reset: bool,
+    /// A function may listen to writes of the palette: which bridges do is given beside the system (PCI 3.0, 6.2.2).
+    pub snoop: bool,
     /// A bridge may decode subtractively where nothing is listed behind it.
     pub subtractive: bool,
+    /// A bridge may do so where it is alone on its bus: what it takes is given beside the system (PCI 3.0, appendix D).
+    pub unclaimed: bool,
     /// A bridge without bus numbers leads nowhere, where none of its windows claims an address.
     pub unnumbered: bool,
     /// A bridge may have VGA Enable set: its legacy part is given beside the system (Bridge 1.2, 3.2.5.18).

@@ -11,6 +11,7 @@ use Rattle.pci_spec.specs.Decoded.{DecodedBar}
 use Rattle.pci_image.specs.Bars.{decoded_bar_of}
 use Rattle.pci_image.specs.declared.bar.Bar.{Bar}
 use Rattle.std.specs.List.{filter}
+use Rattle.pci_model.specs.FixedPartsValue.{fixed_value}
 use Rattle.pci_model.specs.WordsValue.{words_value}
 use Rattle.pci_model.proofs.Alone.{clear_alone, there_alone}
 use Rattle.pci_function.proofs.FirstIn.{early_phase}
@@ -36,7 +37,7 @@ returns-then-is_ide c =
     let none : HasNoOwnFaultBefore Place f = λ fault low is. clear_alone 4 f fault c.in-Ok.ensures.clear low low is in
     inl (
       (sym (c.may_have_parts.ensures f.slot f.probe) ∙ c.if-not-may_have_parts.false, none),
-      channels_aside (words_value c.args.words) c.args.legacy f (record_value c.in-Ok.decoded) c.in-Ok.ensures.decoded.same c.if-words.true (sym c.is_ide.ensures ∙ c.if-is_ide.true) _ _
+      channels_aside (words_value c.args.words) (fixed_value c.args.fixed) f (record_value c.in-Ok.decoded) c.in-Ok.ensures.decoded.same c.if-words.true (sym c.is_ide.ensures ∙ c.if-is_ide.true) _ _
           (c.leave_channels_out.ensures ∙ ap (λ (bs : List Bar). without_bars (filter (λ bar. is_compatible c.u8-interface.result bar.register) (map decoded_bar_of bs)) f.image) c.deref.ensures.0
           ∙ ap (λ n. without_bars (filter (λ bar. is_compatible n bar.register) bars) f.image) c.u8-interface.ensures)
           (c.leave_channels_out-then-is_ide.ensures ∙ ap (λ (bs : List Bar). without_bars (filter (λ bar. is_compatible c.u8-interface.result bar.register) (map decoded_bar_of bs)) f.probe) c.deref-then-is_ide.ensures.0
@@ -53,7 +54,7 @@ returns-then-is_unnumbered c =
     ] in
     inl (
       (sym (c.may_have_parts.ensures f.slot f.probe) ∙ c.if-not-may_have_parts.false, none),
-      buses_aside (words_value c.args.words) c.args.legacy f (record_value c.in-Ok.decoded) c.in-Ok.ensures.decoded.same other c.if-words-2.true
+      buses_aside (words_value c.args.words) (fixed_value c.args.fixed) f (record_value c.in-Ok.decoded) c.in-Ok.ensures.decoded.same other c.if-words-2.true
           (sym c.is_unnumbered.ensures ∙ c.if-is_unnumbered.true) _ _ c.make_device.ensures c.make_device_read_backs.ensures,
     )
 
@@ -66,8 +67,8 @@ returns-else-words-2 c =
       | else-words-via-then-words+else-is_ide w ↦ (let no : is_ide f.image ≡ false = sym w.is_ide.ensures ∙ w.if-is_ide.false in rw no (and-false c.args.words.ide))
       | else-words-via-else-words w ↦ (let no : c.args.words.ide ≡ false = w.if-words.false in rw no refl)
     ] in
-    let numbered : (c.args.words.unnumbered && is_unnumbered_bridge c.args.legacy r r.bridge) ≡ false = elim c.else-words-2.branch [
-      | else-words-2-via-then-words-2+else-is_unnumbered w ↦ (let no : is_unnumbered_bridge c.args.legacy r r.bridge ≡ false = sym w.is_unnumbered.ensures ∙ w.if-is_unnumbered.false in rw no (and-false c.args.words.unnumbered))
+    let numbered : (c.args.words.unnumbered && is_unnumbered_bridge (fixed_value c.args.fixed) r r.bridge) ≡ false = elim c.else-words-2.branch [
+      | else-words-2-via-then-words-2+else-is_unnumbered w ↦ (let no : is_unnumbered_bridge (fixed_value c.args.fixed) r r.bridge ≡ false = sym w.is_unnumbered.ensures ∙ w.if-is_unnumbered.false in rw no (and-false c.args.words.unnumbered))
       | else-words-2-via-else-words-2 w ↦ (let no : c.args.words.unnumbered ≡ false = w.if-words-2.false in rw no refl)
     ] in
-    inl ((sym (c.may_have_parts.ensures f.slot f.probe) ∙ c.if-not-may_have_parts.false, none), nothing_aside (words_value c.args.words) c.args.legacy f r c.in-Ok.ensures.decoded.same other numbered)
+    inl ((sym (c.may_have_parts.ensures f.slot f.probe) ∙ c.if-not-may_have_parts.false, none), nothing_aside (words_value c.args.words) (fixed_value c.args.fixed) f r c.in-Ok.ensures.decoded.same other numbered)

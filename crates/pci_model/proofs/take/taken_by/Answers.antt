@@ -1,8 +1,9 @@
 use Rattle.std.proofs.Common.{◌≡◌, ◌<◌, ◌+◌, ◌++◌, List, [], ◌∷◌, length, arith, sym, ◌∙◌, ap, subst}
 use Rattle.pci_spec.specs.Text.{Block, IsDump, slots_of}
-use Rattle.pci_spec.specs.System.{function_of}
+use Rattle.pci_spec.specs.System.{function_of, system_of}
 use Rattle.model_spec.specs.Taken.{IsTakenAs}
 use Rattle.model_spec.specs.TakenDumps.{AreTakenAs}
+use Rattle.pci_model.specs.Subtractive.{unclaimed_aside_of}
 use Rattle.pci_model.specs.WordsValue.{words_value}
 use Rattle.pci_spec.proofs.Pairing.{same_length}
 use Rattle.pci_model.proofs.Takes.{AreTakenSoFar, next_above, next_taken, room_left, all_taken}
@@ -51,8 +52,8 @@ loop-i-preserved g c =
     let blocks = c.blocks-blocks.result.now in
     let probes = c.blocks-probes.result.now in
     let same : slots_of blocks ≡ slots_of probes = ap slots_of c.blocks-blocks.ensures.value ∙ c.requires ∙ ap slots_of (sym c.blocks-probes.ensures.value) in
-    let R : Block → Block → Type 0 = λ b p. IsTakenAs (words_value c.args.words) (slots_of blocks) (function_of b p) (function_of c.take_blocks.new.block c.take_blocks.new.probe) in
-    let taken = subst (λ b. R b c.index-probes-i.result) c.copy-block.ensures (subst (λ p. R c.copy-block.result p) c.copy-read_backs.ensures c.take_blocks.ensures.taken) in
+    let R : Block → Block → Type 0 = λ b p. IsTakenAs (words_value c.args.words) (slots_of blocks) (unclaimed_aside_of (words_value c.args.words) (system_of blocks probes) (function_of b p)) (function_of c.take_blocks.new.block c.take_blocks.new.probe) in
+    let taken = subst (λ b. R b c.index-probes-i.result) c.copy-block.ensures (subst (λ p. R c.copy-block.result p) c.copy-read_backs.ensures (c.take_blocks.ensures.taken probes same)) in
     let next = next_taken (words_value c.args.words) blocks probes c.loop-i.i c.loop-i.taken.dump c.loop-i.taken.probe c.take_blocks.new.block c.take_blocks.new.probe c.index-blocks-i.result c.index-probes-i.result same
     c.loop-i.invariant c.loop-i-test.true c.index-blocks-i.is c.index-probes-i.is
     (c.take_blocks.ensures.slot ∙ ap (λ (b : Block). b.slot) c.copy-block.ensures) (c.take_blocks.ensures.probe_slot ∙ ap (λ (b : Block). b.slot) c.copy-read_backs.ensures)
