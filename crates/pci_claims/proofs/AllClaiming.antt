@@ -14,7 +14,7 @@ use Rattle.std.proofs.lemmas.List.Sorted.{Contains-permutation, IsPermutation-sy
 use Rattle.pci_spec.specs.Slot.{Slot, IsSlot, same_slot}
 use Rattle.pci_spec.specs.System.{System, Space}
 use Rattle.pci_spec.specs.Bus.{IsNested}
-use Rattle.pci_spec.specs.Fault.{address_in, named_region}
+use Rattle.pci_spec.specs.Fault.{RegionName, address_in, named_region}
 use Rattle.pci_spec.proofs.Firsts.{slot_of}
 use Rattle.pci_spec.proofs.Members.{in_nil, pairs_append, pairs_nil}
 use Rattle.pci_base.specs.declared.range.Range.{Range}
@@ -25,7 +25,7 @@ use Rattle.given_spec.specs.Given.{Given, starts}
 use Rattle.given_spec.specs.Claims.{Gets}
 use Rattle.given_spec.specs.Claims as untold
 use Rattle.given_spec.specs.Told.{ToldRange, IsTold, IsToldRange}
-use Rattle.given_spec.specs.ToldClaims.{Told, ClaimsOnBus, is_held, is_held_from, is_marked_held, is_range_on, may_share}
+use Rattle.given_spec.specs.ToldClaims.{Told, ClaimsOnBus, RangeClaimsOnBus, is_held, is_held_from, is_marked_held, is_range_on, may_share}
 use Rattle.given_spec.proofs.Naming.{named_register}
 use Rattle.given_spec.proofs.ToldAdds.{low_not_held, told_claim_addresses}
 use Rattle.pci_claims.specs.declared.all_claims.Stretch.{Stretch}
@@ -90,10 +90,8 @@ module _ (told : Told) (t : Tree) (on : List Bool) (are_on : AreOnIn told t on) 
       ∙ get_or-map (is_range_on told s) told.ranges k r false (slice_get_within told.ranges k r at)
       ∙ ap (is_range_on told s) (get_or_from_slice_get told.ranges k r r at)
 
-  module _ (is_told : IsTold told.ranges) (given : Given) (bus : ℕ) (space : Space) (stretch : Stretch) (is_stretch : IsStretchOf told.ranges bus stretch)
-      (reach : List Range) (own more claims : List Claimed) (registers : AreRegisterClaimsOn given t.roots s bus space own)
-      (ranges : AreRangeClaims told.ranges on stretch.first stretch.end space reach more)
-      (gets : (c : Claimed) → Contains more c → IsAccessReach given t.roots s space bus reach) where
+  module _ (is_told : IsTold told.ranges) (bus : ℕ) (space : Space) (stretch : Stretch) (is_stretch : IsStretchOf told.ranges bus stretch)
+      (reach : List Range) (more : List Claimed) (ranges : AreRangeClaims told.ranges on stretch.first stretch.end space reach more) where
     -- the index of a range of the bus
     within_stretch : (k : ℕ) (r : ToldRange) → slice_get told.ranges k ≡ Some r → r.slot.bus ≡ bus → (stretch.first ≤ k) × (k < stretch.end)
     within_stretch k r at on_bus =
@@ -116,11 +114,6 @@ module _ (told : Told) (t : Tree) (on : List Bool) (are_on : AreOnIn told t on) 
     range_is : (k : ℕ) (r : ToldRange) → slice_get told.ranges k ≡ Some r → IsToldRange r
     range_is k r at = subst IsToldRange (get_or_from_slice_get told.ranges k r r at) (is_told.each k r (slice_get_within told.ranges k r at))
 
-    -- ---- registers
-
-    low_register : (c : Claimed) → Contains own c → c.register < 256
-    low_register c has = (registers.named c has).register
-
     high_register : (c : Claimed) → Contains more c → (256 ≤ c.register) × (c.register < 8192)
     high_register c has =
         let (k, r, at, of) = ranges.each c has in
@@ -128,6 +121,48 @@ module _ (told : Told) (t : Tree) (on : List Bool) (are_on : AreOnIn told t on) 
         let inside = slice_get_within told.ranges k r at.at in
         let room = is_told.room in
         (omega (arith, named), omega (arith, named, inside, room))
+
+    -- what the claim of a range has, the range claims,
+    pub range_claims_it : (c : Claimed) → Contains more c → (a : ℕ) → Covers c.pieces a → Covers reach a × RangeClaimsOnBus told s bus (address_in space a) (named_region c.slot c.register)
+    range_claims_it c has a h =
+        let (k, r, is, of) = ranges.each c has in
+        let both = (of.exact a).0 h in (
+          both.1,
+          record {
+            r = r;
+            named = record { index = k; at = is.at; slot = sym of.slot; register = sym of.register };
+            on_the_bus = ap (λ (x : Slot). x.bus) of.slot ∙ bus_of_range k r is;
+            claims = record { on = sym (on_at k r is.at) ∙ is.on; holds = (is.space, both.0.0, both.0.1) };
+          },
+        )
+
+    -- and a range that claims an address has one
+    pub claim_of_named : (a : ℕ) (region : RegionName) → RangeClaimsOnBus told s bus (address_in space a) region
+        → (c : Claimed) × Contains more c × (c.slot ≡ region.slot) × (c.register ≡ region.register) × (Covers reach a → Covers c.pieces a)
+    claim_of_named a region range =
+        let on_bus : range.r.slot.bus ≡ bus = ap (λ (x : Slot). x.bus) range.named.slot ∙ range.on_the_bus in
+        let within = within_stretch range.named.index range.r range.named.at on_bus in
+        let holds = range.claims.holds in
+        let (c, has, of) = ranges.complete range.named.index range.r record {
+          from = within.0;
+          to = within.1;
+          at = range.named.at;
+          on = on_at range.named.index range.r range.named.at ∙ range.claims.on;
+          space = holds.0;
+        } in
+        (c, has, of.slot ∙ range.named.slot, of.register ∙ range.named.register, λ (h : Covers reach a). (of.exact a).1 ((holds.1, holds.2), h))
+
+  module _ (is_told : IsTold told.ranges) (given : Given) (bus : ℕ) (space : Space) (stretch : Stretch) (is_stretch : IsStretchOf told.ranges bus stretch)
+      (reach : List Range) (own more claims : List Claimed) (registers : AreRegisterClaimsOn given t.roots s bus space own)
+      (ranges : AreRangeClaims told.ranges on stretch.first stretch.end space reach more)
+      (gets : (c : Claimed) → Contains more c → IsAccessReach given t.roots s space bus reach) where
+    -- ---- registers
+
+    low_register : (c : Claimed) → Contains own c → c.register < 256
+    low_register c has = (registers.named c has).register
+
+    high : (c : Claimed) → Contains more c → (256 ≤ c.register) × (c.register < 8192)
+    high c has = high_register is_told bus space stretch is_stretch reach more ranges c has
 
     register_claim : (c : Claimed) → Contains own c → IsClaimWith told given t.roots s bus space c
     register_claim c has a = (
@@ -142,21 +177,13 @@ module _ (told : Told) (t : Tree) (on : List Bool) (are_on : AreOnIn told t on) 
     range_claim c has a =
         let (k, r, is, of) = ranges.each c has in (
           λ (h : Covers c.pieces a). (
-              let both = (of.exact a).0 h in
-              let got = ((gets c has).exact a).0 both.1 in (
-                got.1,
-                inr record {
-                  r = r;
-                  named = record { index = k; at = is.at; slot = sym of.slot; register = sym of.register };
-                  on_the_bus = ap (λ (x : Slot). x.bus) of.slot ∙ bus_of_range k r is;
-                  claims = record { on = sym (on_at k r is.at) ∙ is.on; holds = (is.space, both.0.0, both.0.1) };
-                },
-              )),
+              let both = range_claims_it is_told bus space stretch is_stretch reach more ranges c has a h in
+              ((((gets c has).exact a).0 both.0).1, inr both.1)),
           λ (h : Gets given t.roots s space a bus × ClaimsOnBus told given s bus (address_in space a) (named_region c.slot c.register)). elim h.1 [
             | inl own_it ↦ absurd (
                 let low = named_register given s bus space a c.slot c.register own_it in
-                let high = (high_register c has).0 in
-                let no : ⊥ = omega (arith, low, high) in no)
+                let up = (high c has).0 in
+                let no : ⊥ = omega (arith, low, up) in no)
             | inr range ↦ (
                 let number = range.named.register in
                 let named = of.register in
@@ -181,7 +208,7 @@ module _ (told : Told) (t : Tree) (on : List Bool) (are_on : AreOnIn told t on) 
     range_placed : (c : Claimed) → Contains more c → IsPlacedOn bus c
     range_placed c has =
         let (k, r, is, of) = ranges.each c has in
-        record { slot = subst IsSlot (sym of.slot) (range_is k r is.at).line.slot; on_bus = ap (λ (x : Slot). x.bus) of.slot ∙ bus_of_range k r is; register = (high_register c has).1 }
+        record { slot = subst IsSlot (sym of.slot) (range_is is_told bus space stretch is_stretch reach more ranges k r is.at).line.slot; on_bus = ap (λ (x : Slot). x.bus) of.slot ∙ bus_of_range is_told bus space stretch is_stretch reach more ranges k r is; register = (high c has).1 }
 
     register_held : (c : Claimed) → Contains own c → c.held ≡ is_held told c.register
     register_held c has = registers.plain c has ∙ sym (low_not_held told c.register (low_register c has))
@@ -196,14 +223,14 @@ module _ (told : Told) (t : Tree) (on : List Bool) (are_on : AreOnIn told t on) 
         (λ i j d less within e. (let up = registers.rising i j d less within in let no : ⊥ = omega (arith, up, e) in no))
         (λ i j d less within e.
         let up = ranges.rising i j d less within in
-        let one = (high_register (get_or more i d) (Contains-get_or more i d (omega (arith, less, within)))).1 in
-        let other = (high_register (get_or more j d) (Contains-get_or more j d within)).1 in
+        let one = (high (get_or more i d) (Contains-get_or more i d (omega (arith, less, within)))).1 in
+        let other = (high (get_or more j d) (Contains-get_or more j d within)).1 in
         let no : ⊥ = omega (arith, up, e, one, other) in no)
         (λ c d in_own in_more e.
         let low = low_register c in_own in
-        let high = high_register d in_more in
-        let from = high.0 in
-        let to = high.1 in
+        let up = high d in_more in
+        let from = up.0 in
+        let to = up.1 in
         let no : ⊥ = omega (arith, e, low, from, to) in no)
 
     module _ (sent : Contains t.roots bus → (c : Claimed) → Contains claims c → (a : ℕ) → Covers c.pieces a → IsTrue (starts given space bus a)) (split : (c : Claimed) → Contains claims c → Contains own c ⊎ Contains more c) (joins_own : (c : Claimed) → Contains own c → Contains claims c)
@@ -214,16 +241,8 @@ module _ (told : Told) (t : Tree) (on : List Bool) (are_on : AreOnIn told t on) 
       complete_of : (slot : Slot) (register a : ℕ) → ClaimsOnBus told given s bus (address_in space a) (named_region slot register) → (c : Claimed) × Contains claims c × (c.slot ≡ slot) × (c.register ≡ register)
       complete_of slot register a (inl own_it) = let (c, has, at, named) = registers.complete slot register a own_it in (c, joins_own c has, at, named)
       complete_of slot register a (inr range) =
-          let on_bus : range.r.slot.bus ≡ bus = ap (λ (x : Slot). x.bus) range.named.slot ∙ range.on_the_bus in
-          let within = within_stretch range.named.index range.r range.named.at on_bus in
-          let (c, has, of) = ranges.complete range.named.index range.r record {
-            from = within.0;
-            to = within.1;
-            at = range.named.at;
-            on = on_at range.named.index range.r range.named.at ∙ range.claims.on;
-            space = range.claims.holds.0;
-          } in
-          (c, joins_more c has, of.slot ∙ range.named.slot, of.register ∙ range.named.register)
+          let (c, has, at, named, _) = claim_of_named is_told bus space stretch is_stretch reach more ranges a (named_region slot register) range in
+          (c, joins_more c has, at, named)
 
       pub all_claims : AreClaimsOn told given t.roots s bus space claims
       all_claims = record {

@@ -1,17 +1,18 @@
 -- The claims of a bus in a system.
-use Rattle.std.proofs.Common.{◌≡◌, ℕ, ◌+◌, ◌*◌, ◌<◌, ◌⊎◌, inl, inr, List, [], ◌∷◌, ◌++◌, length, get_or, map, take, true, false, sym, ◌∙◌, ap, subst, arith, append_assoc, append-nil}
-use Rattle.std.specs.Prelude.{◌==◌, ◌&&◌}
+use Rattle.std.proofs.Common.{◌≡◌, ℕ, ◌+◌, ◌*◌, ◌<◌, ◌⊎◌, inl, inr, List, [], ◌∷◌, ◌++◌, length, get_or, map, take, Bool, true, false, ◌&&◌, ◌||◌, sym, ◌∙◌, ap, subst, arith, append_assoc, append-nil}
+use Rattle.std.specs.Prelude.{◌==◌, IsTrue}
+use Rattle.std.proofs.Math.Bool.{or-true}
 use Rattle.std.specs.Option.{is_some}
 use Rattle.std.specs.List.{AllPairs, Contains, filter, list_any}
 use Rattle.std.specs.List.Sorted.{IsPermutation, IsNonDecreasingBy}
-use Rattle.std.proofs.lemmas.Bool.{eqb-true, eq-eqb, and_parts, both_ways}
+use Rattle.std.proofs.lemmas.Bool.{eqb-true, eq-eqb, and_parts, or_cases, both_ways}
 use Rattle.std.proofs.lemmas.List.Elements.{Contains-get_or, Contains-append_left, Contains-append_right, Contains-append_cases}
 use Rattle.std.proofs.lemmas.List.Sorted.{Contains-permutation, IsPermutation-sym}
-use Rattle.pci_spec.specs.Slot.{Slot, slot_number}
-use Rattle.pci_spec.specs.System.{System, Function, Space, is_bridge, is_space_on}
+use Rattle.pci_spec.specs.Slot.{Slot, slot_number, same_slot}
+use Rattle.pci_spec.specs.System.{System, Function, Space, IsAddress, is_bridge, is_space_on}
 use Rattle.pci_spec.specs.Bus.{IsNested}
 use Rattle.pci_spec.specs.Decoded.{record_of}
-use Rattle.pci_spec.specs.Fault.{address_in, named_region}
+use Rattle.pci_spec.specs.Fault.{RegionName, address_in, named_region}
 use Rattle.pci_spec.proofs.Members.{in_nil, in_filter_to, in_filter_from, in_map_to, in_map_from, pairs_append, pairs_filter, pairs_map, pairs_nil}
 use Rattle.pci_spec.proofs.Regions.{register_of-lt}
 use Rattle.pci_base.specs.declared.range.Range.{Range}
@@ -19,21 +20,31 @@ use Rattle.pci_base.specs.Space.{is_on}
 use Rattle.pci_function.specs.declared.record.Record.{Record}
 use Rattle.pci_tree.specs.declared.region.Region.{Region}
 use Rattle.pci_tree.specs.Regions.{AreRegionsOf}
+use Rattle.pci_tree.specs.Ranges.{Covers}
 use Rattle.pci_tree.specs.Ways.{slots_of}
 use Rattle.pci_tree.specs.Outline.{Tree, RiseBySlot}
 use Rattle.pci_tree.proofs.Lifting.{Has, record_for, function_for, functions_rise, same_slot_of, one_by_number}
 use Rattle.pci_tree.specs.Trees.{HasTree}
-use Rattle.given_spec.specs.Given.{Given, legacy_claims}
-use Rattle.given_spec.specs.Claims.{Own, Legacy, ClaimsOnBus}
+use Rattle.given_spec.specs.Given.{Given, LegacyBridge}
+use Rattle.given_spec.specs.Claims.{Gets, ClaimsOnBus}
+use Rattle.given_spec.specs.Claims as spec
 use Rattle.given_spec.specs.ToldAllFaults.{region_number}
-use Rattle.pci_claims.specs.Passed.{is_piece_at}
+use Rattle.pci_claims.specs.declared.legacy.FixedPart.{FixedPart}
+use Rattle.pci_claims.specs.declared.legacy.FixedPart.TheVariants.{Legacy, Palette}
+use Rattle.pci_claims.specs.Legacy.{part_holds, bridges_with, register_of_part}
+use Rattle.pci_claims.specs.Passed.{is_part_at}
 use Rattle.pci_claims.specs.Reached.{IsAccessReach}
-use Rattle.pci_claims.specs.Claim.{Claimed, IsClaimOn, IsClaimOfRegion, IsClaimOfLegacy}
-use Rattle.pci_claims.specs.BusClaims.{claim_number, number_of_region, AreRegionClaims, IsAnsweringBridge, IsLegacyClaimAt, AreLegacyClaims, AreMoreClaims, AreBridgesOf, IsNamedOn, AreRegisterClaimsOn}
-use Rattle.pci_claims.proofs.RegionClaims.{not_legacy}
-use Rattle.pci_claims.proofs.Linking.{legacy_same}
+use Rattle.pci_claims.specs.Claim.{Claimed, IsClaimOn, IsClaimAmong, IsClaimOfRegion, IsClaimOfPart}
+use Rattle.pci_claims.specs.BusClaims.{claim_number, number_of_region, AreRegionClaims, HasPart, IsAnsweringBridge, IsAnsweringPart, IsPartClaimAt, ArePartClaims, AreMoreClaims, AreBridgesOf, IsNamedOn, AreRegisterClaimsAmong, AreRegisterClaimsOn}
+use Rattle.pci_claims.proofs.RegionClaims.{not_part}
+use Rattle.pci_claims.proofs.Linking.{claims_by, part_same}
 use Rattle.pci_claims.proofs.Rooted.{sent_there}
 use Rattle.pci_claims.proofs.Making.{made_none, made_more, made_less, rise_in_order}
+
+-- a part's register is one of the first 256 bytes
+low_part : (part : FixedPart) → register_of_part part < 256
+low_part Legacy = omega arith
+low_part Palette = omega arith
 
 -- ---- claims that are made one by one
 
@@ -51,34 +62,34 @@ pub one_region_more : (given : Given) (space : Space) (reach : List Range) (regi
 one_region_more given space reach regions i r claims c within at made is =
     made_more (λ (r : Region) c. IsClaimOfRegion given space r reach c) (λ r. Unit {0}) number_of_region claim_number (region_numbered given space reach) regions i r claims within at made c is
 
-module _ (given : Given) (space : Space) (records : List Record) (reach : List Range) where
+module _ (given : Given) (part : FixedPart) (space : Space) (records : List Record) (reach : List Range) where
   abbrev IsHere : Slot → Type 0
-  IsHere slot = (r : Record) × IsAnsweringBridge records space slot r
+  IsHere slot = (r : Record) × IsAnsweringPart given part records space slot r
 
   abbrev place : Slot → ℕ
-  place slot = slot_number slot * 8192 + 0x3e
+  place slot = slot_number slot * 8192 + register_of_part part
 
-  legacy_numbered : (slot : Slot) (c : Claimed) → IsLegacyClaimAt given space records reach slot c → claim_number c ≡ place slot
-  legacy_numbered slot c (r, at, is) = number_same c.slot slot c.register 0x3e (is.slot ∙ at.1) is.register
+  part_numbered : (slot : Slot) (c : Claimed) → IsPartClaimAt given part space records reach slot c → claim_number c ≡ place slot
+  part_numbered slot c (r, at, is) = number_same c.slot slot c.register (register_of_part part) (is.slot ∙ at.0.1) is.register
 
-  pub no_legacy : (claims : List Claimed) → AreMoreClaims (AreLegacyClaims given space records reach []) claims claims
-  no_legacy claims = record { more = []; appended = sym (append-nil claims); made = made_none (IsLegacyClaimAt given space records reach) IsHere place claim_number legacy_numbered }
+  pub no_part : (claims : List Claimed) → AreMoreClaims (ArePartClaims given part space records reach []) claims claims
+  no_part claims = record { more = []; appended = sym (append-nil claims); made = made_none (IsPartClaimAt given part space records reach) IsHere place claim_number part_numbered }
 
   module _ (slots : List Slot) (i : ℕ) (slot : Slot) (before mid : List Claimed) (within : i < length slots) (at : slot ≡ get_or slots i slot)
-      (added : AreMoreClaims (AreLegacyClaims given space records reach (take i slots)) before mid) where
-    pub one_legacy_more : (r : Record) (c : Claimed) (after : List Claimed) → IsAnsweringBridge records space slot r → IsClaimOfLegacy given space r reach c → after ≡ mid ++ c ∷ []
-        → AreMoreClaims (AreLegacyClaims given space records reach (take (i + 1) slots)) before after
-    one_legacy_more r c after here is pushed = record {
+      (added : AreMoreClaims (ArePartClaims given part space records reach (take i slots)) before mid) where
+    pub one_part_more : (r : Record) (c : Claimed) (after : List Claimed) → IsAnsweringPart given part records space slot r → IsClaimOfPart given part space r reach c → after ≡ mid ++ c ∷ []
+        → AreMoreClaims (ArePartClaims given part space records reach (take (i + 1) slots)) before after
+    one_part_more r c after here is pushed = record {
       more = added.more ++ c ∷ [];
       appended = pushed ∙ ap (λ (l : List Claimed). l ++ c ∷ []) added.appended ∙ append_assoc before added.more (c ∷ []);
-      made = made_more (IsLegacyClaimAt given space records reach) IsHere place claim_number legacy_numbered slots i slot added.more within at added.made c (r, here, is);
+      made = made_more (IsPartClaimAt given part space records reach) IsHere place claim_number part_numbered slots i slot added.more within at added.made c (r, here, is);
     }
 
-    pub no_legacy_more : ((r : Record) → IsAnsweringBridge records space slot r → ⊥) → AreMoreClaims (AreLegacyClaims given space records reach (take (i + 1) slots)) before mid
-    no_legacy_more none = record {
+    pub no_part_more : ((r : Record) → IsAnsweringPart given part records space slot r → ⊥) → AreMoreClaims (ArePartClaims given part space records reach (take (i + 1) slots)) before mid
+    no_part_more none = record {
       more = added.more;
       appended = added.appended;
-      made = made_less (IsLegacyClaimAt given space records reach) IsHere place claim_number legacy_numbered slots i slot added.more within at added.made (λ (r, here). none r here);
+      made = made_less (IsPartClaimAt given part space records reach) IsHere place claim_number part_numbered slots i slot added.more within at added.made (λ (r, here). none r here);
     }
 
 -- no record has the slot
@@ -91,6 +102,15 @@ pub none_on : (records : List Record) (space : Space) (slot : Slot) (q : Record)
 none_on records space slot q rise has at off r here =
     let same : r ≡ q = one_by_number (λ (x : Record). slot_number x.slot) records r q rise here.0 has (ap slot_number (here.1 ∙ sym at)) in
     both_ways _ off (subst (λ (x : Record). (is_some x.bridge && is_on x.command space) ≡ true) same here.2)
+
+-- a bridge that claims an address by a part has it
+has_it : (test : LegacyBridge → Bool) (slot : Slot) (entries : List LegacyBridge) → IsTrue (list_any (λ entry. same_slot entry.slot slot && test entry) entries)
+    → IsTrue (list_any (λ entry. same_slot entry.slot slot) entries)
+has_it test slot [] h = h
+has_it test slot (e ∷ entries) h = elim (or_cases (same_slot e.slot slot && test e) (list_any (λ entry. same_slot entry.slot slot && test entry) entries) h) [
+  | inl here ↦ ap (λ b. b || list_any (λ (entry : LegacyBridge). same_slot entry.slot slot) entries) (and_parts (same_slot e.slot slot) (test e) here).0
+  | inr later ↦ ap (λ b. same_slot e.slot slot || b) (has_it test slot entries later) ∙ or-true _
+]
 
 -- ---- in a system
 
@@ -133,163 +153,233 @@ module _ (given : Given) (t : Tree) (s : System) (tree : HasTree t s) (bus : ℕ
   pub bus_of : (slot : Slot) → Contains (map (λ r. r.slot) regions) slot ⊎ Contains here slot → slot.bus ≡ bus
   bus_of slot has = (some_at slot has).on_bus
 
-  -- a part that claims an address is that of a region, or the legacy part of a bridge
+  -- a part that claims an address is that of a region, or the legacy part or the palette part of a bridge
   record IsRegionNamed (slot : Slot) (register : ℕ) : Type 0 where
     q : Region
     has : Contains regions q
     slot_is : q.slot ≡ slot
     register_is : q.reg ≡ register
 
-  record IsLegacyNamed (a : ℕ) (slot : Slot) (register : ℕ) : Type 0 where
+  record IsPartNamed (part : FixedPart) (a : ℕ) (slot : Slot) (register : ℕ) : Type 0 where
     f : Function
     listed : Contains s f
     has : Contains here f.slot
-    claims : legacy_claims given space a f ≡ true
+    claims : claims_by given part space a f ≡ true
     slot_is : f.slot ≡ slot
-    register_is : register ≡ 0x3e
+    register_is : register ≡ register_of_part part
 
-  claimant : (slot : Slot) (register a : ℕ) → ClaimsOnBus given s bus (address_in space a) (named_region slot register) → IsRegionNamed slot register ⊎ IsLegacyNamed a slot register
-  claimant slot register a (f, Own part, listed, at, on_bus, named, own) =
+  abbrev IsNamed : ℕ → Slot → ℕ → Type 0
+  IsNamed a slot register = IsRegionNamed slot register ⊎ (IsPartNamed Legacy a slot register ⊎ IsPartNamed Palette a slot register)
+
+  claimant : (slot : Slot) (register a : ℕ) → ClaimsOnBus given s bus (address_in space a) (named_region slot register) → IsNamed a slot register
+  claimant slot register a (f, spec.Own part, listed, at, on_bus, named, own) =
       let found = are.complete f part a listed (ap (λ (x : Slot). x.bus) at ∙ on_bus) own.claims in
       inl record { q = found.q; has = found.has; slot_is = found.is.slot ∙ at; register_is = found.is.register ∙ named }
-  claimant slot register a (f, Legacy, listed, at, on_bus, named, claims) =
+  claimant slot register a (f, spec.Legacy, listed, at, on_bus, named, claims) =
       let bridge = (and_parts (is_bridge f) (is_space_on f space) (and_parts (is_bridge f && is_space_on f space) _ claims.claims).0).0 in
-      inr record { f = f; listed = listed; has = bridge_here f listed bridge (ap (λ (x : Slot). x.bus) at ∙ on_bus); claims = claims.claims; slot_is = at; register_is = sym named }
+      inr (inl record { f = f; listed = listed; has = bridge_here f listed bridge (ap (λ (x : Slot). x.bus) at ∙ on_bus); claims = claims.claims; slot_is = at; register_is = sym named })
+  claimant slot register a (f, spec.Palette, listed, at, on_bus, named, claims) =
+      let bridge = (and_parts (is_bridge f) (is_space_on f space) (and_parts (is_bridge f && is_space_on f space) _ claims.claims).0).0 in
+      inr (inr record { f = f; listed = listed; has = bridge_here f listed bridge (ap (λ (x : Slot). x.bus) at ∙ on_bus); claims = claims.claims; slot_is = at; register_is = sym named })
 
   -- without regions and bridges nothing claims an address
   pub no_claims : regions ≡ [] → here ≡ [] → AreRegisterClaimsOn given t.roots s bus space []
-  no_claims no_regions no_bridges = record {
-    each = λ c has. absurd (in_nil c has);
-    complete = λ slot register a claims. absurd (elim (claimant slot register a claims) [
-      | inl region ↦ in_nil region.q (subst (λ l. Contains l region.q) no_regions region.has)
-      | inr legacy ↦ in_nil legacy.f.slot (subst (λ l. Contains l legacy.f.slot) no_bridges legacy.has)
-    ]);
-    rising = pairs_nil (λ c d. claim_number c < claim_number d);
-    named = λ c has. absurd (in_nil c has);
-    plain = λ c has. absurd (in_nil c has);
-    sent = λ root c has. absurd (in_nil c has);
-  }
+  no_claims no_regions no_bridges =
+      let none : (slot : Slot) → Contains here slot → ⊥ = λ slot has. in_nil slot (subst (λ l. Contains l slot) no_bridges has) in record {
+        each = λ c has. absurd (in_nil c has);
+        complete = λ slot register a claims. absurd (elim (claimant slot register a claims) [
+          | inl region ↦ in_nil region.q (subst (λ l. Contains l region.q) no_regions region.has)
+          | inr fixed ↦ elim fixed [ inl part ↦ none part.f.slot part.has | inr part ↦ none part.f.slot part.has ]
+        ]);
+        rising = pairs_nil (λ c d. claim_number c < claim_number d);
+        named = λ c has. absurd (in_nil c has);
+        plain = λ c has. absurd (in_nil c has);
+        sent = λ root c has. absurd (in_nil c has);
+      }
 
-  module _ (records : List Record) (has : Has s records) (rise : RiseBySlot records) (reach : List Range) (gets : IsAccessReach given t.roots s space bus reach)
-      (own more claims : List Claimed) (regional : AreRegionClaims given space regions reach own) (legacy : AreLegacyClaims given space records reach here more)
-      (moved : IsPermutation (own ++ more) claims) (sorted : IsNonDecreasingBy claim_number claims) (nested : IsNested t.roots s) where
-    region_claims : (c : Claimed) → Contains own c → IsClaimOn given t.roots s bus space c
-    region_claims c in_own =
-        let (r, there, of) = regional.each c in_own in
-        of.exact t.roots s bus tree.system (are.each r there) gets
+  module _ (records : List Record) (has : Has s records) (rise : RiseBySlot records) (reach : List Range) (addresses : (a : ℕ) → Covers reach a → IsAddress space a) where
+    -- ---- claims of a part
 
-    legacy_claim : (c : Claimed) → Contains more c → IsClaimOn given t.roots s bus space c
-    legacy_claim c in_more =
-        let (slot, there, (r, at, of)) = legacy.each c in_more in
-        let (f, listed, same) = function_for s records r has at.0 in
-        let on_bus : f.slot.bus ≡ bus = ap (λ (x : Slot). x.bus) (sym (same_slot_of r f same) ∙ at.1) ∙ (bridge_at slot there).on_bus in
-        subst (λ n. IsClaimOn given t.roots s n space c) on_bus
-        (of.exact t.roots s f tree.system listed same (subst (λ n. IsAccessReach given t.roots s space n reach) (sym on_bus) gets))
+    module _ (part : FixedPart) (more : List Claimed) (parts : ArePartClaims given part space records reach here more) where
+      part_claims_it : (c : Claimed) → Contains more c → IsClaimAmong given s bus space reach c
+      part_claims_it c in_more =
+          let (slot, there, (r, at, of)) = parts.each c in_more in
+          let (f, listed, same) = function_for s records r has at.0.0 in
+          let on_bus : f.slot.bus ≡ bus = ap (λ (x : Slot). x.bus) (sym (same_slot_of r f same) ∙ at.0.1) ∙ (bridge_at slot there).on_bus in
+          subst (λ n. IsClaimAmong given s n space reach c) on_bus (of.exact s f tree.system listed same addresses)
 
-    -- the claim of a region, and of a legacy part
-    region_has : (slot : Slot) (register : ℕ) → IsRegionNamed slot register → (c : Claimed) × Contains claims c × (c.slot ≡ slot) × (c.register ≡ register)
-    region_has slot register region =
-        let (c, there, of) = regional.complete region.q region.has (tt {0}) in
-        (c, Contains-permutation (own ++ more) claims c moved (Contains-append_left own more c there), of.slot ∙ region.slot_is, of.register ∙ region.register_is)
+      part_has : (slot : Slot) (register a : ℕ) → IsPartNamed part a slot register → (c : Claimed) × Contains more c × (c.slot ≡ slot) × (c.register ≡ register)
+      part_has slot register a named =
+          let (r, stands) = record_for s records named.f has named.listed in
+          let passes = sym (part_same given part space a r named.f stands.same) ∙ named.claims in
+          let both = and_parts (is_some r.bridge && is_on r.command space) (list_any (is_part_at part r.slot space a) (bridges_with given part)) passes in
+          let its = same_slot_of r named.f stands.same in
+          let (c, there, (q, at, of)) = parts.complete named.f.slot named.has
+          (r, ((stands.has, its, both.0), subst (λ (x : Slot). HasPart given part x) its (has_it (λ (entry : LegacyBridge). part_holds part entry.is_wide space a) r.slot (bridges_with given part) both.1))) in
+          (c, there, of.slot ∙ at.0.1 ∙ named.slot_is, of.register ∙ sym named.register_is)
 
-    legacy_has : (slot : Slot) (register a : ℕ) → IsLegacyNamed a slot register → (c : Claimed) × Contains claims c × (c.slot ≡ slot) × (c.register ≡ register)
-    legacy_has slot register a part =
-        let (r, stands) = record_for s records part.f has part.listed in
-        let passes = sym (legacy_same given space a r part.f stands.same) ∙ part.claims in
-        let (c, there, (q, at, of)) = legacy.complete part.f.slot part.has
-        (r, (stands.has, same_slot_of r part.f stands.same, (and_parts (is_some r.bridge && is_on r.command space) (list_any (is_piece_at r.slot space a) given.legacy) passes).0)) in
-        (c, Contains-permutation (own ++ more) claims c moved (Contains-append_right own more c there), of.slot ∙ at.1 ∙ part.slot_is, of.register ∙ sym part.register_is)
+      part_named : (c : Claimed) → Contains more c → IsNamedOn s bus c
+      part_named c in_more =
+          let (slot, there, (r, at, of)) = parts.each c in_more in
+          let place = bridge_at slot there in
+          let named = of.register in
+          let low = low_part part in
+          record {
+            f = place.f;
+            listed = place.listed;
+            slot = place.at ∙ sym (of.slot ∙ at.0.1);
+            on_bus = ap (λ (x : Slot). x.bus) (of.slot ∙ at.0.1) ∙ place.on_bus;
+            register = omega (arith, named, low);
+          }
 
-    bridges_rise : AllPairs (λ x y. slot_number x * 8192 + 0x3e < slot_number y * 8192 + 0x3e) here
-    bridges_rise =
-        let up : AllPairs (λ (x y : Slot). slot_number x < slot_number y) here = subst (AllPairs (λ (x y : Slot). slot_number x < slot_number y)) (sym on)
-        (pairs_filter (λ (x y : Slot). slot_number x < slot_number y) (λ (x : Slot). x.bus == bus) bridges
-        (subst (AllPairs (λ (x y : Slot). slot_number x < slot_number y)) (sym (all s tree.records))
-        (pairs_map (λ (x y : Slot). slot_number x < slot_number y) (λ (f : Function). f.slot) (filter is_bridge s)
-        (pairs_filter (λ (f g : Function). slot_number f.slot < slot_number g.slot) is_bridge s (functions_rise s records has rise))))) in
-        λ i j d less within. (let low = up i j d less within in omega (arith, low))
+      part_plain : (c : Claimed) → Contains more c → c.held ≡ false
+      part_plain c in_more = let (slot, there, (r, at, of)) = parts.each c in_more in of.held
 
-    region_low : (r : Region) → Contains regions r → r.reg < 256
-    region_low r there =
-        let region = are.each r there in
-        let some = region.is.some in
-        let low = register_of-lt region.f region.part ((region.is.claims r.first).0 (omega arith, some)).there in
-        let register = region.is.register in
-        omega (arith, low, register)
+      part_register : (c : Claimed) → Contains more c → c.register ≡ register_of_part part
+      part_register c in_more = let (slot, there, (r, at, of)) = parts.each c in_more in of.register
 
-    regions_rise : AllPairs (λ p q. number_of_region p < number_of_region q) regions
-    regions_rise i j d less within =
-        let up = are.rising i j d less within in
-        let one = region_low (get_or regions i d) (Contains-get_or regions i d (omega (arith, less, within))) in
-        let other = region_low (get_or regions j d) (Contains-get_or regions j d within) in
-        omega (arith, up, one, other)
+      bridges_rise : AllPairs (λ x y. slot_number x * 8192 + register_of_part part < slot_number y * 8192 + register_of_part part) here
+      bridges_rise =
+          let up : AllPairs (λ (x y : Slot). slot_number x < slot_number y) here = subst (AllPairs (λ (x y : Slot). slot_number x < slot_number y)) (sym on)
+          (pairs_filter (λ (x y : Slot). slot_number x < slot_number y) (λ (x : Slot). x.bus == bus) bridges
+          (subst (AllPairs (λ (x y : Slot). slot_number x < slot_number y)) (sym (all s tree.records))
+          (pairs_map (λ (x y : Slot). slot_number x < slot_number y) (λ (f : Function). f.slot) (filter is_bridge s)
+          (pairs_filter (λ (f g : Function). slot_number f.slot < slot_number g.slot) is_bridge s (functions_rise s records has rise))))) in
+          λ i j d less within. (let low = up i j d less within in omega (arith, low))
 
-    -- no region is named as a legacy part is
-    apart : (c d : Claimed) → Contains own c → Contains more d → claim_number c ≡ claim_number d → ⊥
-    apart c d in_own in_more same =
-        let (r, there, of) = regional.each c in_own in
-        let (slot, _, (q, at, legal)) = legacy.each d in_more in
-        let region = are.each r there in
-        let some = region.is.some in
-        let low = register_of-lt region.f region.part ((region.is.claims r.first).0 (omega arith, some)).there in
-        let register = region.is.register in
-        let named = of.register in
-        let other = legal.register in
-        not_legacy region.f region.part (let is : c.register ≡ 0x3e = omega (arith, same, low, register, named, other) in sym register ∙ sym named ∙ is)
+      parts_differ : AllPairs (λ c d. claim_number c ≡ claim_number d → ⊥) more
+      parts_differ i j d less within e = let up = parts.rising bridges_rise i j d less within in let no : ⊥ = omega (arith, up, e) in no
 
-    in_either : (c : Claimed) → Contains claims c → Contains own c ⊎ Contains more c
-    in_either c in_claims = Contains-append_cases own more c (Contains-permutation claims (own ++ more) c (IsPermutation-sym (own ++ more) claims moved) in_claims)
+    -- ---- claims of regions
 
-    each_is : (c : Claimed) → Contains claims c → IsClaimOn given t.roots s bus space c
-    each_is c in_claims = elim (in_either c in_claims) [ inl region ↦ region_claims c region | inr part ↦ legacy_claim c part ]
+    module _ (own : List Claimed) (regional : AreRegionClaims given space regions reach own) where
+      region_claims : (c : Claimed) → Contains own c → IsClaimAmong given s bus space reach c
+      region_claims c in_own =
+          let (r, there, of) = regional.each c in_own in
+          of.exact s bus tree.system (are.each r there)
 
-    region_named : (c : Claimed) → Contains own c → IsNamedOn s bus c
-    region_named c in_own =
-        let (r, there, of) = regional.each c in_own in
-        let region = are.each r there in
-        let some = region.is.some in
-        let low = register_of-lt region.f region.part ((region.is.claims r.first).0 (omega arith, some)).there in
-        let register = region.is.register in
-        let named = of.register in
-        record {
-          f = region.f;
-          listed = region.listed;
-          slot = sym (of.slot ∙ region.is.slot);
-          on_bus = ap (λ (x : Slot). x.bus) (of.slot ∙ region.is.slot) ∙ region.on_bus;
-          register = omega (arith, low, register, named);
-        }
+      region_has : (slot : Slot) (register : ℕ) → IsRegionNamed slot register → (c : Claimed) × Contains own c × (c.slot ≡ slot) × (c.register ≡ register)
+      region_has slot register region =
+          let (c, there, of) = regional.complete region.q region.has (tt {0}) in
+          (c, there, of.slot ∙ region.slot_is, of.register ∙ region.register_is)
 
-    legacy_named : (c : Claimed) → Contains more c → IsNamedOn s bus c
-    legacy_named c in_more =
-        let (slot, there, (r, at, of)) = legacy.each c in_more in
-        let place = bridge_at slot there in
-        let named = of.register in
-        record {
-          f = place.f;
-          listed = place.listed;
-          slot = place.at ∙ sym (of.slot ∙ at.1);
-          on_bus = ap (λ (x : Slot). x.bus) (of.slot ∙ at.1) ∙ place.on_bus;
-          register = omega (arith, named);
-        }
+      region_low : (r : Region) → Contains regions r → r.reg < 256
+      region_low r there =
+          let region = are.each r there in
+          let some = region.is.some in
+          let low = register_of-lt region.f region.part ((region.is.claims r.first).0 (omega arith, some)).there in
+          let register = region.is.register in
+          omega (arith, low, register)
 
-    region_plain : (c : Claimed) → Contains own c → c.held ≡ false
-    region_plain c in_own = let (r, there, of) = regional.each c in_own in of.held
+      regions_rise : AllPairs (λ p q. number_of_region p < number_of_region q) regions
+      regions_rise i j d less within =
+          let up = are.rising i j d less within in
+          let one = region_low (get_or regions i d) (Contains-get_or regions i d (omega (arith, less, within))) in
+          let other = region_low (get_or regions j d) (Contains-get_or regions j d within) in
+          omega (arith, up, one, other)
 
-    legacy_plain : (c : Claimed) → Contains more c → c.held ≡ false
-    legacy_plain c in_more = let (slot, there, (r, at, of)) = legacy.each c in_more in of.held
+      regions_differ : AllPairs (λ c d. claim_number c ≡ claim_number d → ⊥) own
+      regions_differ i j d less within e = let up = regional.rising regions_rise i j d less within in let no : ⊥ = omega (arith, up, e) in no
 
-    pub claims_are : AreRegisterClaimsOn given t.roots s bus space claims
-    claims_are = record {
-      each = each_is;
-      complete = λ slot register a claims_it. elim (claimant slot register a claims_it) [
-        | inl region ↦ region_has slot register region
-        | inr part ↦ legacy_has slot register a part
-      ];
-      rising = rise_in_order claim_number (own ++ more) claims (pairs_append (λ c d. claim_number c ≡ claim_number d → ⊥) own more
-          (λ i j d less within e. (let up = regional.rising regions_rise i j d less within in let no : ⊥ = omega (arith, up, e) in no))
-          (λ i j d less within e. (let up = legacy.rising bridges_rise i j d less within in let no : ⊥ = omega (arith, up, e) in no))
-          (λ c d in_own in_more. apart c d in_own in_more)) moved sorted;
-      plain = λ c in_claims. elim (in_either c in_claims) [ inl region ↦ region_plain c region | inr part ↦ legacy_plain c part ];
-      named = λ c in_claims. elim (in_either c in_claims) [ inl region ↦ region_named c region | inr part ↦ legacy_named c part ];
-      sent = λ root c in_claims a covers. sent_there given t.roots s nested bus root space a ((each_is c in_claims a).0 covers).0;
-    }
+      region_named : (c : Claimed) → Contains own c → IsNamedOn s bus c
+      region_named c in_own =
+          let (r, there, of) = regional.each c in_own in
+          let region = are.each r there in
+          let low = region_low r there in
+          let named = of.register in
+          record {
+            f = region.f;
+            listed = region.listed;
+            slot = sym (of.slot ∙ region.is.slot);
+            on_bus = ap (λ (x : Slot). x.bus) (of.slot ∙ region.is.slot) ∙ region.on_bus;
+            register = omega (arith, low, named);
+          }
+
+      region_plain : (c : Claimed) → Contains own c → c.held ≡ false
+      region_plain c in_own = let (r, there, of) = regional.each c in_own in of.held
+
+      -- no region is named as a part is
+      apart : (part : FixedPart) (c d : Claimed) → Contains own c → d.register ≡ register_of_part part → claim_number c ≡ claim_number d → ⊥
+      apart part c d in_own other same =
+          let (r, there, of) = regional.each c in_own in
+          let region = are.each r there in
+          let low = region_low r there in
+          let low_one = low_part part in
+          let named = of.register in
+          not_part part region.f region.part
+          (let is : c.register ≡ register_of_part part = omega (arith, same, low, named, other, low_one) in sym region.is.register ∙ sym named ∙ is)
+
+    -- ---- all of them
+
+    module _ (own legacies palettes : List Claimed) (regional : AreRegionClaims given space regions reach own) (legacy : ArePartClaims given Legacy space records reach here legacies)
+        (palette : ArePartClaims given Palette space records reach here palettes) where
+      abbrev made : List Claimed
+      made = (own ++ legacies) ++ palettes
+
+      in_each : {P : Type 0} (c : Claimed) → Contains made c → (Contains own c → P) → (Contains legacies c → P) → (Contains palettes c → P) → P
+      in_each c has region first second = elim (Contains-append_cases (own ++ legacies) palettes c has) [
+        | inl before ↦ elim (Contains-append_cases own legacies c before) [ inl one ↦ region one | inr one ↦ first one ]
+        | inr behind ↦ second behind
+      ]
+
+      from_own : (c : Claimed) → Contains own c → Contains made c
+      from_own c has_it = Contains-append_left (own ++ legacies) palettes c (Contains-append_left own legacies c has_it)
+
+      from_legacies : (c : Claimed) → Contains legacies c → Contains made c
+      from_legacies c has_it = Contains-append_left (own ++ legacies) palettes c (Contains-append_right own legacies c has_it)
+
+      no_two : (c d : Claimed) → Contains own c ⊎ Contains legacies c → Contains palettes d → claim_number c ≡ claim_number d → ⊥
+      no_two c d (inl region) port same = apart own regional Palette c d region (part_register Palette palettes palette d port) same
+      no_two c d (inr part) port same =
+          let one = part_register Legacy legacies legacy c part in
+          let other = part_register Palette palettes palette d port in
+          let no : ⊥ = omega (arith, same, one, other) in no
+
+      pub claims_made : AreRegisterClaimsAmong given s bus space reach made
+      claims_made = record {
+        each = λ c in_made. in_each c in_made (region_claims own regional c) (part_claims_it Legacy legacies legacy c) (part_claims_it Palette palettes palette c);
+        complete = λ slot register a claims_it. elim (claimant slot register a claims_it) [
+          | inl region ↦ (let (c, there, at, named) = region_has own regional slot register region in (c, from_own c there, at, named))
+          | inr fixed ↦ elim fixed [
+            | inl part ↦ (let (c, there, at, named) = part_has Legacy legacies legacy slot register a part in (c, from_legacies c there, at, named))
+            | inr part ↦ (let (c, there, at, named) = part_has Palette palettes palette slot register a part in (c, Contains-append_right (own ++ legacies) palettes c there, at, named))
+          ]
+        ];
+        differ = pairs_append (λ c d. claim_number c ≡ claim_number d → ⊥) (own ++ legacies) palettes
+            (pairs_append (λ c d. claim_number c ≡ claim_number d → ⊥) own legacies (regions_differ own regional) (parts_differ Legacy legacies legacy)
+            (λ c d in_own in_more. apart own regional Legacy c d in_own (part_register Legacy legacies legacy d in_more)))
+            (parts_differ Palette palettes palette)
+            (λ c d before port. no_two c d (Contains-append_cases own legacies c before) port);
+        named = λ c in_made. in_each c in_made (region_named own regional c) (part_named Legacy legacies legacy c) (part_named Palette palettes palette c);
+        plain = λ c in_made. in_each c in_made (region_plain own regional c) (part_plain Legacy legacies legacy c) (part_plain Palette palettes palette c);
+      }
+
+-- ---- those that get to the bus
+
+-- what claims an address claims one of the space
+pub claims_address : (given : Given) (s : System) (bus : ℕ) (space : Space) (a : ℕ) (region : RegionName) → ClaimsOnBus given s bus (address_in space a) region → IsAddress space a
+claims_address given s bus space a region (f, spec.Own part, listed, at, on_bus, named, own) = own.claims.address
+claims_address given s bus space a region (f, spec.Legacy, listed, at, on_bus, named, claims) = claims.address
+claims_address given s bus space a region (f, spec.Palette, listed, at, on_bus, named, claims) = claims.address
+
+module _ (given : Given) (roots : List ℕ) (s : System) (bus : ℕ) (space : Space) (reach : List Range) (gets : IsAccessReach given roots s space bus reach) where
+  arriving : (c : Claimed) → IsClaimAmong given s bus space reach c → IsClaimOn given roots s bus space c
+  arriving c among a = (
+    λ (h : Covers c.pieces a). (let both = (among a).0 h in (((gets.exact a).0 both.0).1, both.1)),
+    λ (h : Gets given roots s space a bus × ClaimsOnBus given s bus (address_in space a) (named_region c.slot c.register)).
+        (among a).1 ((gets.exact a).1 (claims_address given s bus space a (named_region c.slot c.register) h.1, h.0), h.1),
+  )
+
+  pub claims_are : (made claims : List Claimed) → AreRegisterClaimsAmong given s bus space reach made → IsPermutation made claims → IsNonDecreasingBy claim_number claims → IsNested roots s
+      → AreRegisterClaimsOn given roots s bus space claims
+  claims_are made claims are moved sorted nested =
+      let back : (c : Claimed) → Contains claims c → Contains made c = λ c has. Contains-permutation claims made c (IsPermutation-sym made claims moved) has in
+      let each_is : (c : Claimed) → Contains claims c → IsClaimOn given roots s bus space c = λ c has. arriving c (are.each c (back c has)) in
+      record {
+        each = each_is;
+        complete = λ slot register a claims_it. (let (c, has, at, named) = are.complete slot register a claims_it in (c, Contains-permutation made claims c moved has, at, named));
+        rising = rise_in_order claim_number made claims are.differ moved sorted;
+        named = λ c has. are.named c (back c has);
+        plain = λ c has. are.plain c (back c has);
+        sent = λ root c has a covers. sent_there given roots s nested bus root space a ((each_is c has a).0 covers).0;
+      }

@@ -34,7 +34,7 @@ pub record IsOpen (rs : List Range) (i : ℕ) (out : List Range) (open_one : Ran
   pub behind : (k : ℕ) (d : Range) → i ≤ k → k < length rs → open_one.first ≤ (get_or rs k d).first
 
 -- what the first so many ranges have, with one more
-more_covers : (rs : List Range) (i : ℕ) (r : Range) → i < length rs → r ≡ get_or rs i r → (a : ℕ) → Covers (take (i + 1) rs) a ↔ (Covers (take i rs) a ⊎ Holds r a)
+pub more_covers : (rs : List Range) (i : ℕ) (r : Range) → i < length rs → r ≡ get_or rs i r → (a : ℕ) → Covers (take (i + 1) rs) a ↔ (Covers (take i rs) a ⊎ Holds r a)
 more_covers rs i r within at a =
     subst (λ xs. Covers xs a ↔ (Covers (take i rs) a ⊎ Holds r a)) (sym (take_more rs i r within))
     (subst (λ x. Covers (take i rs ++ x ∷ []) a ↔ (Covers (take i rs) a ⊎ Holds r a)) at (covers_push (take i rs) r a))

@@ -9,7 +9,7 @@ pub mod Linking
 pub mod Walking
 pub mod Reaching
 pub mod RegionClaims
-pub mod Legacies
+pub mod PartClaims
 pub mod Making
 pub mod Rooted
 pub mod BusClaiming
@@ -20,3 +20,6 @@ pub mod Runs
 pub mod Awake
 pub mod ToBus
 pub mod AllClaiming
+pub mod Between
+pub mod GapRanges
+pub mod Unclaiming

@@ -14,7 +14,10 @@ use Rattle.pci_tree.specs.Ranges.{Covers}
 use Rattle.pci_tree.specs.Regions.{IsRegionOn, is_of_window}
 use Rattle.pci_tree.proofs.RegionParts.{window_named}
 use Rattle.given_spec.specs.Given.{Given, is_cut}
-use Rattle.given_spec.specs.Claims.{Own, Legacy, is_cut_of, Gets, ClaimsOnBus}
+use Rattle.given_spec.specs.Claims.{Own, Legacy, Palette, is_cut_of, ClaimsOnBus}
+use Rattle.pci_claims.specs.declared.legacy.FixedPart.{FixedPart}
+use Rattle.pci_claims.specs.declared.legacy.FixedPart.TheVariants as fixed
+use Rattle.pci_claims.specs.Legacy.{register_of_part}
 use Rattle.pci_claims.specs.Gathered.{IsCommon}
 use Rattle.pci_claims.specs.Claim.{AreAddressesOf, IsClaimOfRegion, is_cut_from}
 
@@ -31,6 +34,22 @@ not_legacy f Rom e = no_rom (layout f.image == 1) e
 not_legacy f (Window IoWindow) e = omega (arith, e)
 not_legacy f (Window MemoryWindow) e = omega (arith, e)
 not_legacy f (Window PrefetchWindow) e = omega (arith, e)
+
+not_rom : (is_bridge : Bool) → rom_place is_bridge ≡ 4 → ⊥
+not_rom true e = omega (arith, e)
+not_rom false e = omega (arith, e)
+
+-- nor by Command
+pub not_palette : (f : Function) (part : Part) → system.register_of f part ≡ 4 → ⊥
+not_palette f (Bar n) e = omega (arith, e)
+not_palette f Rom e = not_rom (layout f.image == 1) e
+not_palette f (Window IoWindow) e = omega (arith, e)
+not_palette f (Window MemoryWindow) e = omega (arith, e)
+not_palette f (Window PrefetchWindow) e = omega (arith, e)
+
+pub not_part : (fixed : FixedPart) (f : Function) (part : Part) → system.register_of f part ≡ register_of_part fixed → ⊥
+not_part fixed.Legacy f part e = not_legacy f part e
+not_part fixed.Palette f part e = not_palette f part e
 
 -- what ISA Enable takes from a region it takes from its part
 cut_same : (given : Given) (bus : ℕ) (s : System) (space : Space) (r : Region) (on : IsRegionOn s bus space r) (a : ℕ) → is_cut_from given space r a ≡ is_cut_of given on.part space a on.f.slot
@@ -49,6 +68,7 @@ claimed_is given s sound bus space r on a (f, Own part, listed, at, there, named
     ap (λ p. is_cut_of given p space a on.f.slot) (sym one.1) ∙ ap (λ (g : Function). is_cut_of given part space a g.slot) (sym one.0) ∙ it.kept in
     (((on.is.claims a).1 own, cut_same given bus s space r on a ∙ kept), own.address)
 claimed_is given s sound bus space r on a (f, Legacy, listed, at, there, named, claims) = absurd (not_legacy on.f on.part (sym on.is.register ∙ sym named))
+claimed_is given s sound bus space r on a (f, Palette, listed, at, there, named, claims) = absurd (not_palette on.f on.part (sym on.is.register ∙ sym named))
 
 pub region_claim : (given : Given) (space : Space) (r : Region) (reach own pieces : List Range) → AreAddressesOf given space r own → IsCommon own reach pieces
     → IsClaimOfRegion given space r reach record { slot = r.slot; register = r.reg; held = false; pieces = pieces }
@@ -56,10 +76,10 @@ region_claim given space r reach own pieces held is = record {
   slot = refl;
   register = refl;
   held = refl;
-  exact = λ roots s bus sound on gets a. (
+  exact = λ s bus sound on a. (
     λ (h : Covers pieces a). (
         let both = (is.exact a).0 h in (
-          ((gets.exact a).0 both.1).1,
+          both.1,
           (
             on.f,
             Own on.part,
@@ -72,8 +92,7 @@ region_claim given space r reach own pieces held is = record {
                 record { claims = (on.is.claims a).0 own_it.0; kept = sym (cut_same given bus s space r on a) ∙ own_it.1 }),
           ),
         )),
-    λ (h : Gets given roots s space a bus × ClaimsOnBus given s bus (address_in space a) (named_region r.slot r.reg)). (
-        let claimed = claimed_is given s sound bus space r on a h.1 in
-        (is.exact a).1 ((held.exact a).1 claimed.0, (gets.exact a).1 (claimed.1, h.0))),
+    λ (h : Covers reach a × ClaimsOnBus given s bus (address_in space a) (named_region r.slot r.reg)).
+        (is.exact a).1 ((held.exact a).1 (claimed_is given s sound bus space r on a h.1).0, h.0),
   );
 }

@@ -1,33 +1,31 @@
 -- What gets to a bus, whether or not a function stands there.
 use Rattle.std.proofs.Common.{◌≡◌, ℕ, ◌+◌, ◌<◌, ◌≤◌, ◌⊎◌, length, get_or, take, inl, inr, List, [], ◌∷◌, ◌++◌, Bool, true, refl, sym, ◌∙◌, ap, subst, arith}
-use Rattle.std.specs.Prelude.{IsTrue}
+use Rattle.std.specs.Prelude.{◌↔◌, IsTrue}
 use Rattle.std.specs.Option.{is_some}
 use Rattle.std.specs.List.{Contains, list_all}
 use Rattle.std.proofs.lemmas.Bool.{and_from, and_parts, cases_eq, false_from_ne_true}
 use Rattle.std.proofs.lemmas.List.Elements.{All-contains, Contains-push_cases}
 use Rattle.std.proofs.lemmas.List.{take_more, take_all}
 use Rattle.pci_spec.specs.Slot.{slot_number}
-use Rattle.pci_spec.specs.Window.{WindowKind}
-use Rattle.pci_spec.specs.System.{System, Function, Space, Io, Memory, Leads, IsAddress, is_bridge, window_space}
+use Rattle.pci_spec.specs.System.{System, Function, Space, Leads, IsAddress, is_bridge}
 use Rattle.pci_spec.specs.Bus.{IsNested, LeadsTo, secondary}
 use Rattle.pci_spec.specs.Decoded.{IsDecodable}
 use Rattle.pci_spec.proofs.BusRanges.{IsWithin, ordered, within_of_behind, apart_shares_none}
 use Rattle.pci_spec.proofs.Members.{in_nil}
 use Rattle.pci_spec.proofs.Ways.{leads_push}
 use Rattle.pci_base.specs.declared.range.Range.{Range}
-use Rattle.pci_base.specs.Space.{is_prefetch, kind_in}
 use Rattle.pci_function.specs.declared.record.Record.{Record}
-use Rattle.pci_tree.specs.Ranges.{Covers}
+use Rattle.pci_tree.specs.Ranges.{Covers, IsCanonical}
 use Rattle.pci_tree.specs.Ways.{IsBridgeIn, bus_behind}
 use Rattle.pci_tree.specs.Outline.{RiseBySlot}
 use Rattle.pci_tree.proofs.Lifting.{Has, record_for, function_for, functions_rise, same_bridge, same_secondary, same_slot_of, one_by_number}
 use Rattle.given_spec.specs.Given.{Given}
-use Rattle.given_spec.specs.Claims.{forwards, passes, Gets}
-use Rattle.pci_claims.specs.Passed.{passes_with, IsPassedOnWith}
+use Rattle.given_spec.specs.Claims.{forwards, Gets}
+use Rattle.pci_claims.specs.Passed.{forwards_with}
 use Rattle.pci_claims.specs.Reached.{IsAccessReach}
 use Rattle.pci_claims.specs.Sent.{IsSentTo}
 use Rattle.pci_claims.proofs.Gathering.{none_covered}
-use Rattle.pci_claims.proofs.Linking.{passes_same}
+use Rattle.pci_claims.proofs.Linking.{forwards_same}
 use Rattle.pci_claims.proofs.Rooted.{sent_there}
 
 -- ---- ways that end with a bridge
@@ -119,8 +117,8 @@ module _ (given : Given) (roots : List ℕ) (s : System) (nested : IsNested root
     }
 
     module _ (unique : (b c : Function) → Contains s b → Contains s c → slot_number b.slot ≡ slot_number c.slot → b ≡ c) (b : Function) (there : LeadsTo s b bus)
-        (kind : WindowKind) (r : Record) (same : (a : ℕ) → forwards given space a b ≡ passes_with given kind a r) where
-      above_of : (a : ℕ) → Gets given roots s space a bus → Gets given roots s space a b.slot.bus × IsTrue (passes_with given kind a r)
+        (r : Record) (same : (a : ℕ) → forwards given space a b ≡ forwards_with given space a r) where
+      above_of : (a : ℕ) → Gets given roots s space a bus → Gets given roots s space a b.slot.bus × IsTrue (forwards_with given space a r)
       above_of a gets =
           let ends = last_bridge a gets in
           let one : ends.last ≡ b = one_leader roots s nested unique ends.last b bus ends.leads_there there in (
@@ -128,25 +126,22 @@ module _ (given : Given) (roots : List ℕ) (s : System) (nested : IsNested root
             sym (same a) ∙ subst (λ (x : Function). IsTrue (forwards given space a x)) one ends.passes_last,
           )
 
-      pub bridge_reach : (above out : List Range) → IsAccessReach given roots s space b.slot.bus above → IsPassedOnWith given kind above r out → IsAccessReach given roots s space bus out
-      bridge_reach above out gets is = record {
-        canonical = is.canonical;
+      pub bridge_reach : (above out : List Range) → IsAccessReach given roots s space b.slot.bus above → IsCanonical out → ((a : ℕ) → Covers out a ↔ (Covers above a × IsTrue (forwards_with given space a r)))
+          → IsAccessReach given roots s space bus out
+      bridge_reach above out gets canonical exact = record {
+        canonical = canonical;
         exact = λ a. (
           λ (h : Covers out a). (
-              let both = (is.exact a).0 h in
+              let both = (exact a).0 h in
               let (address, (root, in_roots, sent, bridges, leads, all)) = (gets.exact a).0 both.0 in
               (address, (root, in_roots, sent, bridges ++ b ∷ [], leads_push s root bridges b bus leads there, all_push (forwards given space a) bridges b all (same a ∙ both.1)))),
           λ (h : IsAddress space a × Gets given roots s space a bus). (
               let up = above_of a h.1 in
-              (is.exact a).1 ((gets.exact a).1 (h.0, up.0), up.1)),
+              (exact a).1 ((gets.exact a).1 (h.0, up.0), up.1)),
         );
       }
 
 -- ---- by the records
-
-same_kind : (given : Given) (space : Space) (a : ℕ) (f : Function) → forwards given space a f ≡ passes given (window_space (kind_in space true)) (is_prefetch (kind_in space true)) a f
-same_kind given Io a f = refl
-same_kind given Memory a f = refl
 
 module _ (given : Given) (roots : List ℕ) (s : System) (records : List Record) (has : Has s records) (rise : RiseBySlot records) (nested : IsNested roots s) (space : Space) (bus : ℕ)
     (no_root : Contains roots bus → ⊥) where
@@ -158,15 +153,15 @@ module _ (given : Given) (roots : List ℕ) (s : System) (records : List Record)
       let (r, stands) = record_for s records b has there.0 in
       none r record { has = stands.has; is = same_bridge r b stands.same ∙ there.1 } (same_secondary r b stands.same there.1 ∙ there.2))
 
-  pub behind_reach : (r : Record) (kind : WindowKind) (above out : List Range) → IsBridgeIn records r → bus_behind r ≡ bus → kind ≡ kind_in space true
-      → IsAccessReach given roots s space r.slot.bus above → IsPassedOnWith given kind above r out → IsAccessReach given roots s space bus out
-  behind_reach r kind above out bridge at furthest gets is =
+  pub behind_reach : (r : Record) (above out : List Range) → IsBridgeIn records r → bus_behind r ≡ bus → IsAccessReach given roots s space r.slot.bus above → IsCanonical out
+      → ((a : ℕ) → Covers out a ↔ (Covers above a × IsTrue (forwards_with given space a r))) → IsAccessReach given roots s space bus out
+  behind_reach r above out bridge at gets canonical exact =
       let (f, listed, same) = function_for s records r has bridge.has in
       let is_one : is_bridge f ≡ true = sym (same_bridge r f same) ∙ bridge.is in
       let decodable : IsDecodable f = All-contains IsDecodable s f has.decodable listed in
-      bridge_reach given roots s nested space bus no_root unique_functions f (listed, is_one, sym (same_secondary r f same is_one) ∙ at) kind r
-      (λ a. same_kind given space a f ∙ passes_same given (kind_in space true) a r f decodable is_one same ∙ ap (λ (k : WindowKind). passes_with given k a r) (sym furthest))
-      above out (subst (λ n. IsAccessReach given roots s space n above) (ap (λ x. x.bus) (same_slot_of r f same)) gets) is
+      bridge_reach given roots s nested space bus no_root unique_functions f (listed, is_one, sym (same_secondary r f same is_one) ∙ at) r
+      (λ a. forwards_same given space a r f decodable is_one same)
+      above out (subst (λ n. IsAccessReach given roots s space n above) (ap (λ x. x.bus) (same_slot_of r f same)) gets) canonical exact
 
 -- ---- looking for the bridge
 

@@ -1,5 +1,5 @@
 -- The bridges of a way and the records at its slots.
-use Rattle.std.proofs.Common.{◌≡◌, ℕ, ◌+◌, ◌<◌, List, [], ◌∷◌, length, get_or, map, take, true, arith, subst, sym, ◌∙◌, ap, refl}
+use Rattle.std.proofs.Common.{◌≡◌, ℕ, ◌+◌, ◌<◌, List, [], ◌∷◌, length, get_or, map, take, Bool, true, arith, subst, sym, ◌∙◌, ap, refl}
 use Rattle.std.specs.Prelude.{◌↔◌, IsTrue}
 use Rattle.std.specs.List.{All, Contains, list_all}
 use Rattle.std.proofs.lemmas.Bool.{and_from, and_parts}
@@ -17,8 +17,10 @@ use Rattle.pci_tree.specs.Outline.{RiseBySlot}
 use Rattle.pci_tree.proofs.Lifting.{Has, StandsFor, record_for, same_slot_of, one_by_number}
 use Rattle.given_spec.specs.Given.{Given}
 use Rattle.given_spec.specs.Claims.{passes}
-use Rattle.pci_claims.specs.Reached.{PassesAt}
-use Rattle.pci_claims.proofs.Linking.{passes_same}
+use Rattle.pci_claims.specs.declared.passed.Through.{Through}
+use Rattle.pci_claims.specs.Passed.{passes_with, lets}
+use Rattle.pci_claims.specs.Reached.{PassesAt, LetsAt, lets_by}
+use Rattle.pci_claims.proofs.Linking.{passes_same, lets_same}
 
 -- ---- lists
 
@@ -42,30 +44,43 @@ record_is s rs f r is rise in_s in_rs slot =
     let same : p.0 ≡ r = one_by_number (λ (q : Record). slot_number q.slot) rs p.0 r rise p.1.has in_rs (ap slot_number (same_slot_of p.0 f p.1.same ∙ sym slot)) in
     ap record_value (sym same) ∙ p.1.same
 
-module _ (given : Given) (kind : WindowKind) (s : System) (rs : List Record) (is : Has s rs) (rise : RiseBySlot rs) where
+-- what a bridge lets through, by its record
+module _ (s : System) (rs : List Record) (is : Has s rs) (rise : RiseBySlot rs) (by : Function → Bool) (so : Record → Bool)
+    (same : (r : Record) (f : Function) → IsDecodable f → is_bridge f ≡ true → record_value r ≡ record_of f → by f ≡ so r) where
+  abbrev LetsSo : Slot → Type 0
+  LetsSo slot = (r : Record) → Contains rs r → r.slot ≡ slot → IsTrue (so r)
+
   decodable : (f : Function) → Contains s f → IsDecodable f
   decodable f listed = All-contains IsDecodable s f is.decodable listed
 
-  pub bridge_at : (f : Function) (a : ℕ) → Contains s f → is_bridge f ≡ true → PassesAt given kind rs a f.slot ↔ IsTrue (passes given (window_space kind) (is_prefetch kind) a f)
-  bridge_at f a listed bridge = (
-    λ (h : PassesAt given kind rs a f.slot). (
+  at_bridge : (f : Function) → Contains s f → is_bridge f ≡ true → LetsSo f.slot ↔ IsTrue (by f)
+  at_bridge f listed bridge = (
+    λ (h : LetsSo f.slot). (
         let p : (q : Record) × StandsFor rs f q = record_for s rs f is listed in
-        passes_same given kind a p.0 f (decodable f listed) bridge p.1.same ∙ h p.0 p.1.has (same_slot_of p.0 f p.1.same)),
-    λ (h : IsTrue (passes given (window_space kind) (is_prefetch kind) a f)) (r : Record) (has : Contains rs r) (slot : r.slot ≡ f.slot).
-        sym (passes_same given kind a r f (decodable f listed) bridge (record_is s rs f r is rise listed has slot)) ∙ h,
+        same p.0 f (decodable f listed) bridge p.1.same ∙ h p.0 p.1.has (same_slot_of p.0 f p.1.same)),
+    λ (h : IsTrue (by f)) (r : Record) (has : Contains rs r) (slot : r.slot ≡ f.slot).
+        sym (same r f (decodable f listed) bridge (record_is s rs f r is rise listed has slot)) ∙ h,
   )
 
-  -- the bridges of a way all pass the address just where those at its slots do
-  pub way_passes : (a from : ℕ) (bridges : List Function) (to : ℕ) → Leads s from bridges to
-      → All (PassesAt given kind rs a) (map (λ (f : Function). f.slot) bridges) ↔ IsTrue (list_all (passes given (window_space kind) (is_prefetch kind) a) bridges)
-  way_passes a from [] to leads = (λ all. refl, λ h k d less. absurd (omega (arith, less)))
-  way_passes a from (b ∷ bridges) to (has, bridge, on, rest) =
-      let here = bridge_at b a has bridge in
-      let later = way_passes a (secondary_bus b.image) bridges to rest in
+  -- the bridges of a way all do just where those at its slots do
+  along_way : (from : ℕ) (bridges : List Function) (to : ℕ) → Leads s from bridges to → All LetsSo (map (λ (f : Function). f.slot) bridges) ↔ IsTrue (list_all by bridges)
+  along_way from [] to leads = (λ all. refl, λ h k d less. absurd (omega (arith, less)))
+  along_way from (b ∷ bridges) to (has, bridge, on, rest) =
+      let here = at_bridge b has bridge in
+      let later = along_way (secondary_bus b.image) bridges to rest in
       let slots : List Slot = map (λ (f : Function). f.slot) bridges in (
-        λ (all : All (PassesAt given kind rs a) (b.slot ∷ slots)). and_from (passes given (window_space kind) (is_prefetch kind) a b) (list_all (passes given (window_space kind) (is_prefetch kind) a) bridges)
-            (here.0 (All-head (PassesAt given kind rs a) b.slot slots all)) (later.0 (All-tail (PassesAt given kind rs a) b.slot slots all)),
-        λ (h : IsTrue (list_all (passes given (window_space kind) (is_prefetch kind) a) (b ∷ bridges))). (
-            let both = and_parts (passes given (window_space kind) (is_prefetch kind) a b) (list_all (passes given (window_space kind) (is_prefetch kind) a) bridges) h in
-            All-cons (PassesAt given kind rs a) b.slot slots (here.1 both.0) (later.1 both.1)),
+        λ (all : All LetsSo (b.slot ∷ slots)). and_from (by b) (list_all by bridges) (here.0 (All-head LetsSo b.slot slots all)) (later.0 (All-tail LetsSo b.slot slots all)),
+        λ (h : IsTrue (list_all by (b ∷ bridges))). (
+            let both = and_parts (by b) (list_all by bridges) h in
+            All-cons LetsSo b.slot slots (here.1 both.0) (later.1 both.1)),
       )
+
+pub bridge_at : (given : Given) (kind : WindowKind) (s : System) (rs : List Record) → Has s rs → RiseBySlot rs → (f : Function) (a : ℕ) → Contains s f → is_bridge f ≡ true
+    → PassesAt given kind rs a f.slot ↔ IsTrue (passes given (window_space kind) (is_prefetch kind) a f)
+bridge_at given kind s rs is rise f a listed bridge =
+    at_bridge s rs is rise (passes given (window_space kind) (is_prefetch kind) a) (passes_with given kind a) (λ r g decodable on e. passes_same given kind a r g decodable on e) f listed bridge
+
+pub way_lets : (given : Given) (through : Through) (s : System) (rs : List Record) → Has s rs → RiseBySlot rs → (a from : ℕ) (bridges : List Function) (to : ℕ) → Leads s from bridges to
+    → All (LetsAt given through rs a) (map (λ (f : Function). f.slot) bridges) ↔ IsTrue (list_all (lets_by given through a) bridges)
+way_lets given through s rs is rise a from bridges to leads =
+    along_way s rs is rise (lets_by given through a) (lets given through a) (λ r g decodable on e. lets_same given through a r g decodable on e) from bridges to leads

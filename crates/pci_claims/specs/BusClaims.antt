@@ -1,9 +1,8 @@
 -- The claims of a bus of regions that registers show.
-use Rattle.std.specs.Prelude.{◌≡◌, ℕ, ◌<◌, ◌&&◌, ◌++◌, false, IsTrue, List, map}
+use Rattle.std.specs.Prelude.{◌≡◌, ℕ, ◌<◌, ◌==◌, ◌&&◌, ◌++◌, false, IsTrue, List, map}
 use Rattle.std.specs.Option.{is_some}
-use Rattle.std.specs.List.{AllPairs, Contains, filter}
-use Rattle.pci_spec.specs.Slot.{Slot}
-use Rattle.pci_spec.specs.Registers.{BRIDGE_CONTROL}
+use Rattle.std.specs.List.{AllPairs, Contains, filter, list_any}
+use Rattle.pci_spec.specs.Slot.{Slot, same_slot}
 use Rattle.pci_spec.specs.System.{System, Function, Space, is_bridge}
 use Rattle.pci_spec.specs.Decoded.{HasRecords}
 use Rattle.pci_spec.specs.Fault.{address_in, named_region}
@@ -12,12 +11,15 @@ use Rattle.pci_base.specs.Space.{is_on}
 use Rattle.pci_function.specs.declared.record.Record.{Record}
 use Rattle.pci_tree.specs.declared.region.Region.{Region}
 use Rattle.pci_tree.specs.Ranges.{Covers}
+use Rattle.pci_tree.specs.Regions.{AreRegionsOf}
 use Rattle.pci_tree.specs.Outline.{Tree}
 use Rattle.pci_tree.specs.Trees.{HasTree}
 use Rattle.given_spec.specs.Given.{Given, starts}
 use Rattle.given_spec.specs.Claims.{ClaimsOnBus}
 use Rattle.given_spec.specs.ToldAllFaults.{region_number}
-use Rattle.pci_claims.specs.Claim.{Claimed, IsClaimOn, IsClaimOfRegion, IsClaimOfLegacy}
+use Rattle.pci_claims.specs.declared.legacy.FixedPart.{FixedPart}
+use Rattle.pci_claims.specs.Legacy.{bridges_with, register_of_part}
+use Rattle.pci_claims.specs.Claim.{Claimed, IsClaimOn, IsClaimAmong, IsClaimOfRegion, IsClaimOfPart}
 use Rattle.pci_claims.specs.Made.{AreOneEach}
 
 -- the place of a claim in the order of slots and registers
@@ -52,6 +54,23 @@ abbrev pub AreRegisterClaimsInEach : Given → Tree → ℕ → Space → List C
 AreRegisterClaimsInEach given t bus space claims =
     (s : System) → HasTree t s → AreRegisterClaimsOn given t.roots s bus space claims
 
+-- the same of the addresses of some ranges, in any order
+pub record AreRegisterClaimsAmong (given : Given) (s : System) (bus : ℕ) (space : Space)
+    (reach : List Range) (claims : List Claimed) : Type 0 where
+  pub each : (c : Claimed) → Contains claims c → IsClaimAmong given s bus space reach c
+  pub complete : (slot : Slot) (register a : ℕ)
+      → ClaimsOnBus given s bus (address_in space a) (named_region slot register)
+      → (c : Claimed) × Contains claims c × (c.slot ≡ slot) × (c.register ≡ register)
+  pub differ : AllPairs (λ c d. claim_number c ≡ claim_number d → ⊥) claims
+  pub named : (c : Claimed) → Contains claims c → IsNamedOn s bus c
+  pub plain : (c : Claimed) → Contains claims c → c.held ≡ false
+
+-- the regions of a bus and a space that address registers show, and of some bridges those of the bus
+pub record AreOnBus (s : System) (bus : ℕ) (space : Space) (all : List Slot)
+    (found : List Region) (here : List Slot) : Type 0 where
+  pub regions : AreRegionsOf s bus space found
+  pub bridges : here ≡ filter (λ slot. slot.bus == bus) all
+
 -- ---- how they are made
 
 -- the place of a region in the order of slots and registers
@@ -69,17 +88,29 @@ abbrev pub IsAnsweringBridge : List Record → Space → Slot → Record → Typ
 IsAnsweringBridge records space slot r =
     Contains records r × (r.slot ≡ slot) × IsTrue (is_some r.bridge && is_on r.command space)
 
-abbrev pub IsLegacyClaimAt : Given → Space → List Record → List Range → Slot → Claimed → Type 0
-IsLegacyClaimAt given space records reach slot c =
-    (r : Record) × IsAnsweringBridge records space slot r × IsClaimOfLegacy given space r reach c
+-- the bridge at a slot has the part
+abbrev pub HasPart : Given → FixedPart → Slot → Type 0
+HasPart given part slot =
+    IsTrue (list_any (λ entry. same_slot entry.slot slot) (bridges_with given part))
 
--- each slot of a bridge that answers accesses of the space has one
-abbrev pub AreLegacyClaims : Given → Space → List Record → List Range → List Slot → List Claimed
+-- the record is of such a bridge with the part
+abbrev pub IsAnsweringPart : Given → FixedPart → List Record → Space → Slot → Record → Type 0
+IsAnsweringPart given part records space slot r =
+    IsAnsweringBridge records space slot r × HasPart given part slot
+
+abbrev pub IsPartClaimAt : Given → FixedPart → Space → List Record → List Range → Slot → Claimed
     → Type 0
-AreLegacyClaims given space records reach slots claims =
-    AreOneEach (IsLegacyClaimAt given space records reach)
-    (λ slot. (r : Record) × IsAnsweringBridge records space slot r)
-    (λ slot. region_number slot BRIDGE_CONTROL) claim_number slots claims
+IsPartClaimAt given part space records reach slot c =
+    (r : Record) × IsAnsweringPart given part records space slot r
+    × IsClaimOfPart given part space r reach c
+
+-- each slot of a bridge that answers accesses of the space and has the part has one
+abbrev pub ArePartClaims : Given → FixedPart → Space → List Record → List Range → List Slot
+    → List Claimed → Type 0
+ArePartClaims given part space records reach slots claims =
+    AreOneEach (IsPartClaimAt given part space records reach)
+    (λ slot. (r : Record) × IsAnsweringPart given part records space slot r)
+    (λ slot. region_number slot (register_of_part part)) claim_number slots claims
 
 -- they come behind others
 pub record AreMoreClaims (AreSo : List Claimed → Type 0)

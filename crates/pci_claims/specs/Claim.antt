@@ -2,8 +2,7 @@
 use Rattle.std.specs.Prelude.{◌≡◌, ℕ, ◌<◌, ◌≤◌, ◌↔◌, Bool, ◌&&◌, ◌||◌, false, IsTrue, IsFalse, List}
 use Rattle.std.specs.List.{Contains}
 use Rattle.pci_spec.specs.Slot.{Slot, same_slot}
-use Rattle.pci_spec.specs.Registers.{BRIDGE_CONTROL}
-use Rattle.pci_spec.specs.System.{System, Function, Space, IsSystem}
+use Rattle.pci_spec.specs.System.{System, Function, Space, IsAddress, IsSystem}
 use Rattle.pci_spec.specs.Decoded.{record_of}
 use Rattle.pci_spec.specs.Fault.{address_in, named_region}
 use Rattle.pci_base.specs.declared.range.Range.{Range}
@@ -14,8 +13,9 @@ use Rattle.pci_tree.specs.Ranges.{Covers, IsCanonical}
 use Rattle.pci_tree.specs.Regions.{IsRegionOn, is_of_window}
 use Rattle.given_spec.specs.Given.{Given, is_cut}
 use Rattle.given_spec.specs.Claims.{Gets, ClaimsOnBus, may_share}
-use Rattle.pci_claims.specs.Passed.{legacy_passes}
-use Rattle.pci_claims.specs.Reached.{IsAccessReach}
+use Rattle.pci_claims.specs.declared.legacy.FixedPart.{FixedPart}
+use Rattle.pci_claims.specs.Legacy.{register_of_part}
+use Rattle.pci_claims.specs.Passed.{legacy_passes, palette_claims_of}
 
 -- the two lists have no address in common
 abbrev pub ShareNoAddress : List Range → List Range → Type 0
@@ -40,6 +40,13 @@ abbrev pub IsClaimOn : Given → List ℕ → System → ℕ → Space → Claim
 IsClaimOn given roots s bus space c =
     (a : ℕ) → Covers c.pieces a
     ↔ (Gets given roots s space a bus × ClaimsOnBus given s bus (address_in space a)
+    (named_region c.slot c.register))
+
+-- they are just those of some ranges that it claims
+abbrev pub IsClaimAmong : Given → System → ℕ → Space → List Range → Claimed → Type 0
+IsClaimAmong given s bus space reach c =
+    (a : ℕ) → Covers c.pieces a
+    ↔ (Covers reach a × ClaimsOnBus given s bus (address_in space a)
     (named_region c.slot c.register))
 
 -- whether the first is of a held range, and the second of another one, or of a region of the same function
@@ -72,26 +79,31 @@ pub record AreAddressesOf (given : Given) (space : Space) (r : Region) (out : Li
   pub exact : (a : ℕ) → Covers out a
       ↔ (((r.first ≤ a) × (a ≤ r.last)) × IsFalse (is_cut_from given space r a))
 
--- the claim of a region on each bus to which those addresses get
+-- the claim of a region on each bus, of those ranges
 pub record IsClaimOfRegion (given : Given) (space : Space) (r : Region) (reach : List Range)
     (c : Claimed) : Type 0 where
   pub slot : c.slot ≡ r.slot
   pub register : c.register ≡ r.reg
   pub held : c.held ≡ false
-  pub exact : (roots : List ℕ) (s : System) (bus : ℕ) → IsSystem s → IsRegionOn s bus space r
-      → IsAccessReach given roots s space bus reach → IsClaimOn given roots s bus space c
+  pub exact : (s : System) (bus : ℕ) → IsSystem s → IsRegionOn s bus space r
+      → IsClaimAmong given s bus space reach c
 
 -- the addresses of a space that the legacy parts of the bridge with the record answer
 pub record IsLegacyOf (given : Given) (space : Space) (r : Record) (out : List Range) : Type 0 where
   pub canonical : IsCanonical out
   pub exact : (a : ℕ) → Covers out a ↔ IsTrue (legacy_passes given space a r)
 
--- the claim of the legacy parts on the bus of each function with the record, where those addresses get to it
-pub record IsClaimOfLegacy (given : Given) (space : Space) (r : Record) (reach : List Range)
-    (c : Claimed) : Type 0 where
+-- the addresses of I/O space that its palette part claims
+pub record IsPaletteOf (given : Given) (r : Record) (out : List Range) : Type 0 where
+  pub canonical : IsCanonical out
+  pub exact : (a : ℕ) → Covers out a ↔ IsTrue (palette_claims_of given a r)
+
+-- the claim of such a part on the bus of each function with the record, of those ranges
+pub record IsClaimOfPart (given : Given) (part : FixedPart) (space : Space) (r : Record)
+    (reach : List Range) (c : Claimed) : Type 0 where
   pub slot : c.slot ≡ r.slot
-  pub register : c.register ≡ BRIDGE_CONTROL
+  pub register : c.register ≡ register_of_part part
   pub held : c.held ≡ false
-  pub exact : (roots : List ℕ) (s : System) (f : Function) → IsSystem s → Contains s f
-      → record_value r ≡ record_of f → IsAccessReach given roots s space f.slot.bus reach
-      → IsClaimOn given roots s f.slot.bus space c
+  pub exact : (s : System) (f : Function) → IsSystem s → Contains s f
+      → record_value r ≡ record_of f → ((a : ℕ) → Covers reach a → IsAddress space a)
+      → IsClaimAmong given s f.slot.bus space reach c

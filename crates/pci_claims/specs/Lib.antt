@@ -14,3 +14,5 @@ pub mod Found
 pub mod Isa
 pub mod ToldOn
 pub mod AllClaims
+pub mod Gaps
+pub mod Taking

@@ -1,5 +1,5 @@
-//! All claims of a bus: those of its BARs, ROMs, windows and legacy parts, and those of told ranges.
-ghost use Rattle.std.specs.Prelude.{◌≡◌, ◌==◌, ◌<◌, ◌≤◌, ◌↔◌, length, IsTrue, IfOk, OnOk};
+//! All claims of a bus: those of its BARs, ROMs, windows, legacy parts and palette parts, and those of told ranges.
+ghost use Rattle.std.specs.Prelude.{◌≡◌, ◌==◌, ◌<◌, ◌≤◌, length, IfOk, OnOk};
 ghost use Rattle.std.specs.List.{AllWithin};
 ghost use Rattle.pci_base.specs.Space.{space_of};
 ghost use Rattle.pci_tree.specs.Ranges.{IsCanonical};
@@ -9,8 +9,8 @@ ghost use Rattle.pci_claims.specs.BusClaims.{AreMoreClaims};
 ghost use Rattle.pci_claims.specs.AllClaims.{AreClaimsInEach, IsBoard, IsStretchOf, AreRangeClaims};
 
 use super::board::Board;
-use super::bus_claims::{Arriving, register_claims, sort};
-use super::claim::{Claim, told_claim_of};
+use super::bus_claims::{register_claims, sort};
+use super::claim::{Arriving, Claim, told_claim_of};
 use super::reach::reach_to;
 use pci_base::memory::OutOfMemory;
 use pci_base::space::Space;
@@ -55,18 +55,8 @@ pub fn ranges_of(ranges: &[ToldRange], bus: u8) -> Stretch
     Stretch { first, end }
 }
 
-/// Whether a told range is of a space.
-fn is_of(range: &ToldRange, space: Space) -> bool
-    ensures { IsTrue result ↔ (range.now.space ≡ space_of space) }
-{
-    match range.space {
-        Space::Io => matches!(space, Space::Io),
-        Space::Mem => matches!(space, Space::Mem),
-    }
-}
-
 /// Adds what told ranges that are on answer of the addresses that get to their bus.
-fn add_range_claims<A: Allocator + Copy>(
+pub(crate) fn add_range_claims<A: Allocator + Copy>(
     alloc: A,
     claims: &mut Vec<Claim<A>, A>,
     board: &Board<'_, '_, A>,
@@ -86,7 +76,7 @@ fn add_range_claims<A: Allocator + Copy>(
     let reach = arriving.reach;
     for i in stretch.first..stretch.end {
         let range = &board.told.ranges[i];
-        if board.on[i] && is_of(range, space) {
+        if board.on[i] && range.is_in(space) {
             let claim = told_claim_of(alloc, range, 256 + i as u16, reach)?;
             claims.push(claim)?;
         }
@@ -94,9 +84,9 @@ fn add_range_claims<A: Allocator + Copy>(
     Ok(())
 }
 
-/// The claims of a bus and a space, by slot and register: of each BAR, ROM, window and legacy part of a function there that
-/// claims an address of the space, and of each told range that is on, the addresses that it answers of those that get to
-/// the bus.
+/// The claims of a bus and a space, by slot and register: of each BAR, ROM, window, legacy part and palette part of a
+/// function there that claims an address of the space, and of each told range that is on, the addresses that it answers of
+/// those that get to the bus.
 pub fn claims_among<A: Allocator + Copy>(
     alloc: A,
     board: &Board<'_, '_, A>,

@@ -1,16 +1,23 @@
-//! The claims of a bus that registers show: what its BARs, ROMs, windows and legacy parts answer.
-ghost use Rattle.std.specs.Prelude.{◌≡◌, ◌==◌, ◌⊎◌, [], map, MatchOption, IfOk, OnOk};
+//! The claims of a bus that registers show: what its BARs, ROMs, windows, legacy parts and palette parts answer.
+ghost use Rattle.std.specs.Prelude.{◌≡◌, ◌==◌, ◌⊎◌, ◌↔◌, ℕ, [], map, IsTrue, MatchOption, IfOk, OnOk};
 ghost use Rattle.std.specs.List.{Contains, filter};
 ghost use Rattle.std.specs.List.Sorted.{IsNonDecreasingBy, IsPermutation};
+ghost use Rattle.pci_spec.specs.System.{System, IsAddress};
+ghost use Rattle.pci_spec.specs.Bus.{IsNested};
+ghost use Rattle.pci_spec.specs.Slot.{same_slot};
+ghost use Rattle.pci_spec.specs.Decoded.{HasRecords};
 ghost use Rattle.pci_base.specs.Space.{space_of};
-ghost use Rattle.pci_tree.specs.Ranges.{IsCanonical};
+ghost use Rattle.pci_tree.specs.Ranges.{Covers, IsCanonical};
 ghost use Rattle.pci_tree.specs.Outline.{RiseBySlot};
+ghost use Rattle.pci_tree.specs.Trees.{HasTree};
+ghost use Rattle.pci_function.specs.declared.record.Record.{Record as RecordValue};
 ghost use Rattle.pci_claims.specs.Values.{given_value};
-ghost use Rattle.pci_claims.specs.BusClaims.{claim_number, AreRegionClaims, AreLegacyClaims, AreMoreClaims, AreBridgesOf, AreRegisterClaimsInEach};
+ghost use Rattle.pci_claims.specs.BusClaims.{claim_number, HasPart, IsAnsweringPart, AreOnBus, AreRegionClaims, ArePartClaims, AreMoreClaims, AreBridgesOf, AreRegisterClaimsAmong, AreRegisterClaimsInEach};
 
 use super::board::Board;
-use super::claim::{Claim, claim_of, legacy_claim_of};
-use super::given::Given;
+use super::claim::{Arriving, Claim, claim_of, claim_of_part};
+use super::given::{Given, LegacyBridge};
+use super::legacy::{FixedPart, bridges_with};
 use super::passed::is_bridge_on;
 use super::reach::access_reach;
 use pci_base::memory::OutOfMemory;
@@ -28,13 +35,6 @@ use std::alloc::Allocator;
 struct Bridges<'s, 'r> {
     slots: &'s [Slot],
     records: &'r [Record],
-}
-
-/// The addresses of a space that get to a bus.
-#[derive(Clone, Copy)]
-pub(crate) struct Arriving<'a> {
-    pub(crate) space: Space,
-    pub(crate) reach: &'a [Range],
 }
 
 /// What some regions answer of the addresses that get to their bus.
@@ -58,36 +58,83 @@ fn region_claims<A: Allocator + Copy>(
     Ok(claims)
 }
 
-/// Adds what the legacy parts of bridges answer of the addresses that get to their bus.
-fn add_legacy_claims<A: Allocator + Copy>(
-    alloc: A,
+/// Whether a part is of the bridge at a slot.
+fn is_at(entry: &LegacyBridge, slot: Slot) -> bool
+    ensures { result ≡ same_slot entry.now.slot slot }
+{
+    entry.slot == slot
+}
+
+/// Whether the bridge at a slot has a part.
+fn has_part(given: &Given<'_>, part: FixedPart, slot: Slot) -> bool
+    ensures { IsTrue result ↔ HasPart (given_value given.now) part slot }
+{
+    for entry in bridges_with(given, part) {
+        if is_at(entry, slot) {
+            return true;
+        }
+    }
+    false
+}
+
+/// The bridge at a slot, where it answers accesses of a space, and has a part.
+fn answering<'r>(
+    given: &Given<'_>,
+    part: FixedPart,
+    records: &'r [Record],
+    slot: Slot,
+    space: Space,
+) -> Option<&'r Record>
+    // found by halving
+    requires { RiseBySlot records.now }
+    ensures { MatchOption result ((r : RecordValue)
+        → IsAnsweringPart (given_value given.now) part records.now (space_of space) slot r → ⊥)
+        (λ r. IsAnsweringPart (given_value given.now) part records.now (space_of space) slot r.now) }
+{
+    if !has_part(given, part, slot) {
+        return None;
+    }
+    let Some(bridge) = record_at(records, slot) else {
+        return None;
+    };
+    if is_bridge_on(bridge, space) {
+        Some(bridge)
+    } else {
+        None
+    }
+}
+
+/// Adds what a part of bridges answers of the addresses that get to their bus.
+fn add_part_claims<A: Allocator + Copy>(
     claims: &mut Vec<Claim<A>, A>,
     given: &Given<'_>,
+    part: FixedPart,
     bridges: &Bridges,
     arriving: &Arriving,
 ) -> Result<(), OutOfMemory>
     // found by halving
     requires rising { RiseBySlot bridges.now.records.now }
     requires canonical { IsCanonical arriving.now.reach.now }
-    ensures { OnOk result (AreMoreClaims (AreLegacyClaims (given_value given.now)
+    ensures { OnOk result (AreMoreClaims (ArePartClaims (given_value given.now) part
         (space_of arriving.now.space) bridges.now.records.now arriving.now.reach.now
         bridges.now.slots.now) claims.old.items claims.new.items) }
 {
-    let space = arriving.space;
-    let reach = arriving.reach;
+    let alloc = *claims.allocator();
     for slot in bridges.slots {
-        if let Some(bridge) = record_at(bridges.records, *slot) {
-            if is_bridge_on(bridge, space) {
-                let claim = legacy_claim_of(alloc, given, bridge, space, reach)?;
-                claims.push(claim)?;
-            }
+        if let Some(bridge) = answering(given, part, bridges.records, *slot, arriving.space) {
+            let claim = claim_of_part(alloc, given, part, bridge, arriving)?;
+            claims.push(claim)?;
         }
     }
     Ok(())
 }
 
 /// The slots of a bus.
-fn slots_on<A: Allocator>(alloc: A, slots: &[Slot], bus: u8) -> Result<Vec<Slot, A>, OutOfMemory>
+pub(crate) fn slots_on<A: Allocator>(
+    alloc: A,
+    slots: &[Slot],
+    bus: u8,
+) -> Result<Vec<Slot, A>, OutOfMemory>
     ensures { IfOk result (λ v. v.items ≡ filter (λ slot. slot.bus == bus) slots.now) }
 {
     let mut out = Vec::new(alloc);
@@ -121,7 +168,43 @@ pub(crate) fn sort<A: Allocator>(claims: &mut Vec<Claim<A>, A>) -> Result<(), Ou
     }
 }
 
-/// The claims of a bus and a space of its BARs, ROMs, windows and legacy parts, by slot and register.
+/// What stands on a bus: the regions of a space that address registers show, and the slots of bridges.
+#[derive(Clone, Copy)]
+pub(crate) struct OnBus<'r, 'b> {
+    pub(crate) regions: &'r [Region],
+    pub(crate) bridges: &'b [Slot],
+}
+
+/// What BARs, ROMs, windows, legacy parts and palette parts of a bus answer of some addresses.
+pub(crate) fn claims_arriving<A: Allocator + Copy>(
+    alloc: A,
+    board: &Board<'_, '_, A>,
+    here: &OnBus,
+    arriving: &Arriving,
+) -> Result<Vec<Claim<A>, A>, OutOfMemory>
+    requires canonical { IsCanonical arriving.now.reach.now }
+    requires bridges { AreBridgesOf board.now.outline.now board.now.bridges.now }
+    ensures claims { IfOk result (λ v. (s : System) → HasTree board.now.outline.now s → (bus : ℕ)
+        → AreOnBus s bus (space_of arriving.now.space) board.now.bridges.now here.now.regions.now here.now.bridges.now
+        → ((a : ℕ) → Covers arriving.now.reach.now a → IsAddress (space_of arriving.now.space) a)
+        → AreRegisterClaimsAmong (given_value board.now.given) s bus (space_of arriving.now.space)
+        arriving.now.reach.now v.items) }
+    // handed on with them: no bridge leads to a root bus
+    ensures nested { (s : System) → HasRecords s board.now.outline.now.records
+        → IsNested board.now.outline.now.roots s }
+{
+    let given = &board.given;
+    let bridges = Bridges {
+        slots: here.bridges,
+        records: board.outline.records(),
+    };
+    let mut claims = region_claims(alloc, given, here.regions, arriving)?;
+    add_part_claims(&mut claims, given, FixedPart::Legacy, &bridges, arriving)?;
+    add_part_claims(&mut claims, given, FixedPart::Palette, &bridges, arriving)?;
+    Ok(claims)
+}
+
+/// The claims of a bus and a space of its BARs, ROMs, windows, legacy parts and palette parts, by slot and register.
 pub(crate) fn register_claims<A: Allocator + Copy>(
     alloc: A,
     board: &Board<'_, '_, A>,
@@ -133,27 +216,24 @@ pub(crate) fn register_claims<A: Allocator + Copy>(
     ensures { IfOk result (λ v. AreRegisterClaimsInEach (given_value board.now.given)
         board.now.outline.now bus (space_of space) v.items) }
 {
-    let given = &board.given;
     let outline = board.outline;
     let regions = outline.regions(bus, space)?;
     let bridges = slots_on(alloc, board.bridges, bus)?;
     let Some(slot) = some_slot(&regions, &bridges) else {
         return Ok(Vec::new(alloc));
     };
-    let Some(reach) = access_reach(alloc, given, outline, slot, space)? else {
+    let Some(reach) = access_reach(alloc, &board.given, outline, slot, space)? else {
         return Ok(Vec::new(alloc));
+    };
+    let here = OnBus {
+        regions: &regions,
+        bridges: &bridges,
     };
     let arriving = Arriving {
         space,
         reach: &reach,
     };
-    let mut claims = region_claims(alloc, given, &regions, &arriving)?;
-    let records = outline.records();
-    let bridges_here = Bridges {
-        slots: &bridges,
-        records,
-    };
-    add_legacy_claims(alloc, &mut claims, given, &bridges_here, &arriving)?;
+    let mut claims = claims_arriving(alloc, board, &here, &arriving)?;
     sort(&mut claims)?;
     Ok(claims)
 }

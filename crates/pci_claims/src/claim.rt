@@ -2,26 +2,25 @@
 ghost use Rattle.std.specs.Prelude.{◌≡◌, ◌≤◌, ◌↔◌, ℕ, IsTrue, MatchOption, IfOk};
 ghost use Rattle.pci_base.specs.Space.{space_of};
 ghost use Rattle.pci_tree.specs.Ranges.{Covers, IsCanonical};
-ghost use Rattle.given_spec.specs.Claims.{is_window_register, are_window_and_legacy, may_share};
+ghost use Rattle.given_spec.specs.Claims.{is_window_register, is_fixed_register, are_together, may_share};
 ghost use Rattle.given_spec.specs.ToldAllFaults.{region_number};
-ghost use Rattle.given_spec.specs.ToldClaims.{is_marked_held};
-ghost use Rattle.pci_told.specs.Marks.{mark_of};
 ghost use Rattle.pci_claims.specs.Values.{given_value};
 ghost use Rattle.pci_claims.specs.BusClaims.{claim_number};
 ghost use Rattle.pci_claims.specs.AllClaims.{IsClaimOfRange};
-ghost use Rattle.pci_claims.specs.Claim.{ShareNoAddress, AreAtOdds, IsLeastAtOdds, IsLeastCommon, AreAddressesOf, IsClaimOfRegion, IsLegacyOf, IsClaimOfLegacy, is_held_beside, may_both_claim};
+ghost use Rattle.pci_claims.specs.Claim.{ShareNoAddress, AreAtOdds, IsLeastAtOdds, IsLeastCommon, AreAddressesOf, IsClaimOfRegion, IsLegacyOf, IsPaletteOf, IsClaimOfPart, is_held_beside, may_both_claim};
 
-use super::gather::{common, gathered};
+use super::gather::common;
 use super::given::Given;
 use super::isa::{is_cut, kept};
-use super::passed::{is_bridge_on, pieces_of};
+use super::legacy::{FixedPart, register_of};
+use super::passed::claimed_by_part;
 use pci_base::memory::OutOfMemory;
-use pci_base::offset::{BRIDGE_CONTROL, IO_BASE, MEMORY_BASE, PREFETCHABLE_BASE};
+use pci_base::offset::{BRIDGE_CONTROL, COMMAND, IO_BASE, MEMORY_BASE, PREFETCHABLE_BASE};
 use pci_base::range::Range;
 use pci_base::slot::Slot;
 use pci_base::space::Space;
 use pci_function::record::Record;
-use pci_told::told_range::{Mark, ToldRange};
+use pci_told::told_range::ToldRange;
 use pci_tree::ranges::least_from;
 use pci_tree::region::Region;
 use std::alloc::{Allocator, Global};
@@ -31,7 +30,7 @@ use std::marker::Model;
 #[derive(Drop)]
 pub struct Claim<A: Allocator = Global> {
     slot: Slot,
-    /// The register that names the region: legacy parts are named by Bridge Control.
+    /// The register that names the region: legacy parts are named by Bridge Control, and palette parts by Command.
     register: u16,
     /// Whether the region is a held range, which may share its addresses with some others.
     is_held: bool,
@@ -86,6 +85,13 @@ impl<A: Allocator> Claim<A> {
     {
         number_of(self.slot, self.register)
     }
+}
+
+/// The addresses of a space that get to a bus, or others of which claims are asked.
+#[derive(Clone, Copy)]
+pub(crate) struct Arriving<'a> {
+    pub(crate) space: Space,
+    pub(crate) reach: &'a [Range],
 }
 
 /// The place of a region in the order of slots and registers, told ranges among them.
@@ -156,44 +162,41 @@ pub fn legacy_of<A: Allocator + Copy>(
 ) -> Result<Vec<Range, A>, OutOfMemory>
     ensures { IfOk result (λ v. IsLegacyOf (given_value given.now) (space_of space) function.now v.items) }
 {
-    if is_bridge_on(function, space) {
-        gathered(pieces_of(alloc, given.legacy, function.slot, space)?)
-    } else {
-        Ok(Vec::new(alloc))
-    }
+    claimed_by_part(alloc, given, FixedPart::Legacy, function, space)
 }
 
-/// What the legacy parts of a bridge answer of the addresses of a space that get to its bus.
-pub fn legacy_claim_of<A: Allocator + Copy>(
+/// The addresses of I/O space that the palette part of a function claims, which has to be a bridge for that.
+pub fn palette_of<A: Allocator + Copy>(
     alloc: A,
     given: &Given<'_>,
     function: &Record,
-    space: Space,
-    reach: &[Range],
+) -> Result<Vec<Range, A>, OutOfMemory>
+    ensures { IfOk result (λ v. IsPaletteOf (given_value given.now) function.now v.items) }
+{
+    claimed_by_part(alloc, given, FixedPart::Palette, function, Space::Io)
+}
+
+/// What a part of a bridge answers of the addresses of a space that get to its bus.
+pub(crate) fn claim_of_part<A: Allocator + Copy>(
+    alloc: A,
+    given: &Given<'_>,
+    part: FixedPart,
+    function: &Record,
+    arriving: &Arriving,
 ) -> Result<Claim<A>, OutOfMemory>
     // two rising lists have in common what one walk along both meets
-    requires { IsCanonical reach.now }
-    ensures { IfOk result (λ c. IsClaimOfLegacy (given_value given.now) (space_of space) function.now
-        reach.now c) }
+    requires { IsCanonical arriving.now.reach.now }
+    ensures { IfOk result (λ c. IsClaimOfPart (given_value given.now) part
+        (space_of arriving.now.space) function.now arriving.now.reach.now c) }
 {
-    let own = legacy_of(alloc, given, function, space)?;
-    let pieces = common(alloc, &own, reach)?;
+    let own = claimed_by_part(alloc, given, part, function, arriving.space)?;
+    let pieces = common(alloc, &own, arriving.reach)?;
     Ok(Claim {
         slot: function.slot,
-        register: u16::from(BRIDGE_CONTROL),
+        register: u16::from(register_of(part)),
         is_held: false,
         pieces,
     })
-}
-
-/// Whether a mark is that of held ranges.
-fn is_marked_held(mark: Mark) -> bool
-    ensures { result ≡ is_marked_held (mark_of mark) }
-{
-    match mark {
-        Mark::Command | Mark::Always => false,
-        Mark::Held => true,
-    }
 }
 
 /// What a told range answers of the addresses that get to its bus.
@@ -212,7 +215,7 @@ pub fn told_claim_of<A: Allocator + Copy>(
     Ok(Claim {
         slot: range.slot,
         register,
-        is_held: is_marked_held(range.mark),
+        is_held: range.is_held(),
         pieces,
     })
 }
@@ -260,21 +263,29 @@ fn is_window_register(register: u16) -> bool
         || register == u16::from(PREFETCHABLE_BASE)
 }
 
-/// Whether two registers name a window and a legacy part.
-fn are_window_and_legacy(window: u16, legacy: u16) -> bool
-    ensures { result ≡ are_window_and_legacy window legacy }
+/// Whether a register names a legacy part or a palette part.
+fn is_fixed_register(register: u16) -> bool
+    ensures { result ≡ is_fixed_register register }
 {
-    is_window_register(window) && legacy == u16::from(BRIDGE_CONTROL)
+    register == u16::from(BRIDGE_CONTROL) || register == u16::from(COMMAND)
 }
 
-/// Whether two regions may answer one address, none of them a held range: a window and the legacy part of one bridge, which
-/// lead to one bus.
+/// Whether two registers name a window and such a part, or both of these.
+fn are_together(one: u16, other: u16) -> bool
+    ensures { result ≡ are_together one other }
+{
+    (is_window_register(one) && is_fixed_register(other))
+        || (one == u16::from(BRIDGE_CONTROL) && other == u16::from(COMMAND))
+}
+
+/// Whether two regions may answer one address, none of them a held range: two of a window, the legacy part and the palette
+/// part of one bridge, which lead to one bus.
 pub fn may_share(first: Slot, first_register: u16, second: Slot, second_register: u16) -> bool
     ensures { result ≡ may_share first first_register second second_register }
 {
     first == second
-        && (are_window_and_legacy(first_register, second_register)
-            || are_window_and_legacy(second_register, first_register))
+        && (are_together(first_register, second_register)
+            || are_together(second_register, first_register))
 }
 
 /// Whether two names are of one region.

@@ -1,5 +1,5 @@
 //! What regions claim of what gets to their bus, with what is given: the addresses that the host sends to its root buses,
-//! the legacy parts of bridges, and the bridges with ISA Enable.
+//! the legacy parts and palette parts of bridges, the bridges with ISA Enable, and those that take what nobody claims.
 #![tactic(auto)]
 
 pub mod all_claims;
@@ -7,6 +7,7 @@ pub mod board;
 pub mod bus_claims;
 pub mod claim;
 pub mod find;
+pub mod gaps;
 pub mod gather;
 pub mod given;
 pub mod isa;
@@ -16,5 +17,6 @@ pub mod passed;
 pub mod reach;
 pub mod root_claims;
 pub mod sent;
+pub mod taking;
 pub mod told;
 pub mod vga;

@@ -1,4 +1,4 @@
-//! What gets to a bus: what the host sends to the root above it, and each bridge on the way from there passes.
+//! What gets to a bus: what the host sends to the root above it, and each bridge on the way from there lets through.
 ghost use Rattle.std.specs.Prelude.{◌≡◌, map, MatchOption, IfOk, IfSome};
 ghost use Rattle.std.specs.List.{All, Contains};
 ghost use Rattle.pci_spec.specs.System.{System};
@@ -12,11 +12,11 @@ ghost use Rattle.pci_tree.specs.Reaches.{HasSpans};
 ghost use Rattle.pci_tree.specs.Ways.{IsBridgeIn, bus_behind};
 ghost use Rattle.pci_function.specs.declared.record.Record.{Record as RecordValue};
 ghost use Rattle.pci_claims.specs.Values.{given_value};
-ghost use Rattle.pci_claims.specs.Reached.{IsReachAlong, IsReachInEach, IsAccessReachInEach};
+ghost use Rattle.pci_claims.specs.Reached.{IsReachAlong, IsReachThroughInEach, IsReachInEach, IsAccessReachInEach};
 
 use super::given::Given;
 use super::outside::root_above;
-use super::passed::passed_on;
+use super::passed::{Through, passed_on, space_through};
 use super::sent::sent_to;
 use pci_base::memory::OutOfMemory;
 use pci_base::range::Range;
@@ -35,31 +35,60 @@ struct Way<'a> {
     bridges: &'a [Slot],
 }
 
-/// The addresses that are sent to the root of a way and that each bridge on it passes.
+/// The addresses that are sent to the root of a way and that each bridge on it lets through.
 fn reach_along<A: Allocator + Copy>(
     alloc: A,
     given: &Given<'_>,
     records: &[Record],
     way: &Way,
-    kind: WindowKind,
+    through: Through,
 ) -> Result<Vec<Range, A>, OutOfMemory>
     // found by halving
     requires rising { RiseBySlot records.now }
     // of an empty window no address could be told
     requires spans { All HasSpans records.now }
-    ensures { IfOk result (λ v. IsReachAlong (given_value given.now) (kind_value kind) records.now way.now.root
+    ensures { IfOk result (λ v. IsReachAlong (given_value given.now) through records.now way.now.root
         way.now.bridges.now v.items) }
 {
-    let mut reach = sent_to(alloc, given, Space::of(kind), way.root)?;
+    let mut reach = sent_to(alloc, given, space_through(through), way.root)?;
     for slot in way.bridges {
         if let Some(bridge) = record_at(records, *slot) {
-            reach = passed_on(alloc, given, &reach, bridge, kind)?;
+            reach = passed_on(alloc, given, &reach, bridge, through)?;
         }
     }
     Ok(reach)
 }
 
-/// The addresses of a kind of access that get to the bus of a function from a root to which the host sends them: ranges
+/// The addresses that get to the bus of a function from a root to which the host sends them: ranges that rise, with an
+/// address between each two. None where no function has the slot.
+fn reach_through<A: Allocator + Copy>(
+    alloc: A,
+    given: &Given<'_>,
+    outline: &Outline<A>,
+    slot: Slot,
+    through: Through,
+) -> Result<Option<Vec<Range, A>>, OutOfMemory>
+    ensures canonical { IfOk result (λ o. IfSome o (λ v. IsCanonical v.items)) }
+    ensures exact { IfOk result (λ o. MatchOption o
+        (Contains (map (λ r. r.slot) outline.now.records) slot → ⊥)
+        (λ v. IsReachThroughInEach (given_value given.now) outline.now through slot.bus v.items)) }
+{
+    match outline.path(slot) {
+        None => Ok(None),
+        Some(bridges) => {
+            let path = bridges.as_slice();
+            let root = root_above(path, slot.bus());
+            let way = Way {
+                root,
+                bridges: path,
+            };
+            let reach = reach_along(alloc, given, outline.records(), &way, through)?;
+            Ok(Some(reach))
+        }
+    }
+}
+
+/// The addresses of regions of a kind that get to the bus of a function from a root to which the host sends them: ranges
 /// that rise, with an address between each two. None where no function has the slot.
 pub fn reach_of<A: Allocator + Copy>(
     alloc: A,
@@ -74,23 +103,11 @@ pub fn reach_of<A: Allocator + Copy>(
         (Contains (map (λ r. r.slot) outline.now.records) slot → ⊥)
         (λ v. IsReachInEach (given_value given.now) outline.now (kind_value kind) slot.bus v.items)) }
 {
-    match outline.path(slot) {
-        None => Ok(None),
-        Some(bridges) => {
-            let path = bridges.as_slice();
-            let root = root_above(path, slot.bus());
-            let way = Way {
-                root,
-                bridges: path,
-            };
-            let reach = reach_along(alloc, given, outline.records(), &way, kind)?;
-            Ok(Some(reach))
-        }
-    }
+    reach_through(alloc, given, outline, slot, Through::Regions(kind))
 }
 
-/// The addresses of a space at which some access of the host gets to the bus of a function, whatever window of the space
-/// passes it. None where no function has the slot.
+/// The addresses of a space at which some access of the host gets to the bus of a function, be it a write that palette
+/// parts forward. None where no function has the slot.
 pub fn access_reach<A: Allocator + Copy>(
     alloc: A,
     given: &Given<'_>,
@@ -105,7 +122,7 @@ pub fn access_reach<A: Allocator + Copy>(
         (λ v. IsAccessReachInEach (given_value given.now) outline.now (space_of space) slot.bus
         v.items)) }
 {
-    reach_of(alloc, given, outline, slot, space.furthest())
+    reach_through(alloc, given, outline, slot, Through::Accesses(space))
 }
 
 /// The bridge that leads to a bus.
@@ -125,7 +142,7 @@ fn bridge_to(records: &[Record], bus: u8) -> Option<&Record>
 }
 
 /// The addresses of a space at which some access of the host gets to a bus, whether or not a function stands there: what the
-/// host sends to a root bus, what the bridge to another bus passes, and none where no bridge leads.
+/// host sends to a root bus, what the bridge to another bus forwards, and none where no bridge leads.
 pub fn reach_to<A: Allocator + Copy>(
     alloc: A,
     given: &Given<'_>,
@@ -150,5 +167,5 @@ pub fn reach_to<A: Allocator + Copy>(
     let Some(above) = access_reach(alloc, given, outline, bridge.slot, space)? else {
         return Ok(Vec::new(alloc));
     };
-    passed_on(alloc, given, &above, bridge, space.furthest())
+    passed_on(alloc, given, &above, bridge, Through::Accesses(space))
 }

@@ -69,7 +69,7 @@ pub fn ranges_said<'a>(given: &Given<'a>, space: Space) -> Option<&'a [RootRange
 }
 
 /// All addresses of a space.
-fn all_of<A: Allocator>(alloc: A, space: Space) -> Result<Vec<Range, A>, OutOfMemory>
+pub(crate) fn all_of<A: Allocator>(alloc: A, space: Space) -> Result<Vec<Range, A>, OutOfMemory>
     ensures { IfOk result (λ v. IsWhole (space_of space) v.items) }
 {
     let mut out = Vec::new(alloc);

@@ -1,11 +1,12 @@
-//! The bridges with legacy parts, and those with ISA Enable, by Bridge Control and a user's words (Bridge 1.2, 3.2.5.18).
-ghost use Rattle.std.specs.Prelude.{◌≡◌, List, map, Some, None, if◌then◌else◌, IfOk};
+//! The bridges with legacy parts, with palette parts and with ISA Enable, by their registers and a user's words (Bridge
+//! 1.2, 3.2.5.18; PCI 3.0, 6.2.2).
+ghost use Rattle.std.specs.Prelude.{◌≡◌, List, map, Some, IfOk};
 ghost use Rattle.std.specs.Option.{option_map};
 ghost use Rattle.pci_spec.specs.Number.{has_bit};
 ghost use Rattle.pci_spec.specs.Header.{bridge_control};
 ghost use Rattle.pci_spec.specs.Text.{Block as BlockValue, slots_of};
 ghost use Rattle.pci_spec.specs.System.{system_of};
-ghost use Rattle.given_spec.specs.Words.{is_wide_by, has_isa_enable, has_legacy, isa_bridges, legacy_bridge, legacy_bridges};
+ghost use Rattle.given_spec.specs.Words.{is_wide_by, has_isa_enable, has_legacy, has_palette, isa_bridges, legacy_bridge, legacy_bridges, palette_bridges, palette_word};
 ghost use Rattle.pci_model.specs.WordsValue.{vga_value};
 ghost use Rattle.pci_claims.specs.Values.{legacy_value};
 ghost use Rattle.pci_claims.specs.Vga.{function_without_probe};
@@ -17,7 +18,8 @@ use pci_base::offset::BRIDGE_CONTROL;
 use pci_base::slot::Slot;
 use pci_dump::block::Block;
 use pci_dump::dump::Dump;
-use pci_function::profile::{ISA_ENABLE, VGA_ENABLE, controls_bridge};
+use pci_function::profile::{ISA_ENABLE, VGA_ENABLE, controls_bridge, snoops_palette};
+use pci_image::layout::Layout;
 use pci_model::words::VgaWord;
 use std::alloc::Allocator;
 
@@ -35,18 +37,21 @@ fn is_wide(bridge: &Image, word: VgaWord) -> bool
     }
 }
 
-/// The legacy part of a function, where it is a bridge with VGA Enable.
-fn legacy_part(block: &Block, word: VgaWord) -> Option<LegacyBridge>
-    ensures { option_map legacy_value result ≡ (if has_legacy (function_without_probe block.now)
-        then Some (legacy_bridge (vga_value word) (function_without_probe block.now)) else None) }
+/// The slot of a bridge, and how its legacy part or its palette part decodes.
+fn decoding(block: &Block, word: VgaWord) -> LegacyBridge
+    ensures { legacy_value result ≡ legacy_bridge (vga_value word) (function_without_probe block.now) }
 {
-    if !controls_bridge(&block.image, VGA_ENABLE) {
-        return None;
-    }
-    Some(LegacyBridge {
+    LegacyBridge {
         slot: block.slot,
         is_wide: is_wide(&block.image, word),
-    })
+    }
+}
+
+/// Whether a function is a bridge with VGA Enable.
+fn has_legacy(block: &Block) -> bool
+    ensures { result ≡ has_legacy (function_without_probe block.now) }
+{
+    controls_bridge(&block.image, VGA_ENABLE)
 }
 
 /// The bridges of a dump with legacy parts, by slot: those with VGA Enable.
@@ -61,8 +66,43 @@ pub fn legacy_bridges<A: Allocator, B: Allocator>(
 {
     let mut out = Vec::new(alloc);
     for block in dump.blocks() {
-        if let Some(bridge) = legacy_part(block, word) {
-            out.push(bridge)?;
+        if has_legacy(block) {
+            out.push(decoding(block, word))?;
+        }
+    }
+    Ok(out)
+}
+
+/// Whether a function is a bridge that listens to writes of the palette: VGA Palette Snoop of its Command is set.
+fn has_palette(block: &Block) -> bool
+    ensures { result ≡ has_palette (function_without_probe block.now) }
+{
+    Layout::of(&block.image) == Some(Layout::Bridge) && snoops_palette(&block.image)
+}
+
+/// By which word a palette part decodes: as Bridge Control says, where there is none.
+fn palette_word(word: Option<VgaWord>) -> VgaWord
+    ensures { vga_value result ≡ palette_word (option_map vga_value word) }
+{
+    word.unwrap_or(VgaWord::Vga)
+}
+
+/// The bridges of a dump with palette parts, by slot: those with VGA Palette Snoop.
+pub fn palette_bridges<A: Allocator, B: Allocator>(
+    alloc: A,
+    dump: &Dump<B>,
+    word: Option<VgaWord>,
+) -> Result<Vec<LegacyBridge, A>, OutOfMemory>
+    // of any read backs
+    ensures { IfOk result (λ v. (probe : List BlockValue) → slots_of dump.now ≡ slots_of probe
+        → map legacy_value v.items
+        ≡ palette_bridges (option_map vga_value word) (system_of dump.now probe)) }
+{
+    let word = palette_word(word);
+    let mut out = Vec::new(alloc);
+    for block in dump.blocks() {
+        if has_palette(block) {
+            out.push(decoding(block, word))?;
         }
     }
     Ok(out)

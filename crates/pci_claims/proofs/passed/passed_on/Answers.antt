@@ -1,18 +1,17 @@
 use Rattle.std.proofs.Common.{subst, sym}
 use Rattle.std.proofs.lemmas.Result.{IfOk-weaker}
 use Rattle.pci_tree.specs.Ranges.{IsCanonical}
-use Rattle.pci_base.specs.WindowKinds.{kind_value}
 use Rattle.pci_claims.specs.Values.{given_value}
 use Rattle.pci_claims.specs.Gathered.{IsCommon}
-use Rattle.pci_claims.proofs.Bridging.{passed_of}
+use Rattle.pci_claims.proofs.Bridging.{let_on}
 use Rattle.pci_claims.proofs.passed.passed_on.Goals as goal
 
 pub common-requires-clause-second : goal.common-requires-clause-second
-common-requires-clause-second g c = subst (λ xs. IsCanonical xs) (sym c.deref.ensures.value) c.in_ok-passed.ensures.record.canonical
+common-requires-clause-second g c = subst (λ xs. IsCanonical xs) (sym c.deref.ensures.value) c.in_ok-here.ensures.canonical
 
 pub returns : goal.returns
 returns g c =
     IfOk-weaker c.common.result _ _
-    (λ v is. passed_of (given_value c.args.given.now) (kind_value c.args.kind) c.args.function.now c.args.above.now c.in_ok-passed.passed.items v.items c.in_ok-passed.ensures.record
+    (λ v is. let_on (given_value c.args.given.now) c.args.through c.args.function.now c.args.above.now c.in_ok-here.here.items v.items c.in_ok-here.ensures
     (subst (λ xs. IsCommon c.args.above.now xs v.items) c.deref.ensures.value is))
     c.common.ensures

@@ -8,12 +8,12 @@ use Rattle.pci_spec.specs.Decoded as decoded
 use Rattle.pci_spec.proofs.Members.{in_map_from}
 use Rattle.pci_base.specs.declared.range.Range.{Range}
 use Rattle.pci_base.specs.Space.{space_of}
-use Rattle.pci_base.specs.WindowKinds.{kind_value}
 use Rattle.pci_function.specs.Values.{record_value}
 use Rattle.pci_tree.specs.Reaches.{HasSpans}
 use Rattle.pci_tree.proofs.Outlines.{have_spans}
 use Rattle.pci_claims.specs.Values.{given_value}
-use Rattle.pci_claims.specs.Passed.{IsPassedOnWith}
+use Rattle.pci_claims.specs.declared.passed.Through.TheVariants.{Accesses}
+use Rattle.pci_claims.specs.Passed.{IsLetOn}
 use Rattle.pci_claims.proofs.ToBus.{root_reach, unled_reach, behind_reach}
 use Rattle.pci_claims.proofs.reach.reach_to.Goals as goal
 
@@ -45,7 +45,7 @@ returns-clause-exact g c =
     (λ v is s has. behind_reach (given_value c.args.given.now) c.args.outline.now.roots s c.records-records.result.now (subst (λ (rs : List decoded.Record). HasRecords s rs) (sym c.records-records.ensures.value) has)
     c.records-records.ensures.rising (c.records-records.ensures.nested s has) (space_of c.args.space) c.args.bus
     (λ root. iff_false c.has.ensures c.if-has.false (subst (λ (roots : List ℕ). Contains roots c.args.bus) (sym c.roots.ensures) root))
-    c.in-Some.bridge.now (kind_value c.furthest.result) c.in-Some-2.above.items v.items c.in-Some.ensures.0 c.in-Some.ensures.1 c.furthest.ensures
-    ((rw c.in-Some-2.is at c.in_ok-above.ensures.exact) s has)
-    (subst (λ (xs : List Range). IsPassedOnWith (given_value c.args.given.now) (kind_value c.furthest.result) xs c.in-Some.bridge.now v.items) c.deref.ensures.value is))
+    c.in-Some.bridge.now c.in-Some-2.above.items v.items c.in-Some.ensures.0 c.in-Some.ensures.1
+    ((rw c.in-Some-2.is at c.in_ok-above.ensures.exact) s has) is.canonical
+    (subst (λ (xs : List Range). IsLetOn (given_value c.args.given.now) (Accesses c.args.space) xs c.in-Some.bridge.now v.items) c.deref.ensures.value is).exact)
     c.passed_on.ensures
