@@ -14,7 +14,7 @@ use Rattle.pci_check.proofs.Clashing.{io_is_not_memory}
 use Rattle.pci_base.specs.Space.{space_of}
 use Rattle.pci_tree.specs.Outline.{Tree}
 use Rattle.given_spec.specs.Given.{Given}
-use Rattle.given_spec.specs.Claims.{Own, Legacy}
+use Rattle.given_spec.specs.Claims.{Own, Legacy, Palette}
 use Rattle.given_spec.specs.Fault.{Known, fault_number}
 use Rattle.given_spec.specs.Told.{ToldRange, IsTold, IsToldRange}
 use Rattle.given_spec.specs.ToldClaims.{Told, ClaimsOnBus}
@@ -89,6 +89,7 @@ module _ (told : Told) (is_told : IsTold told.ranges) (given : Given) (s : Syste
   pub address_of : (bus : ℕ) (space : Space) (a : ℕ) (slot : Slot) (register : ℕ) → ClaimsOnBus told given s bus (address_in space a) (named_region slot register) → a < 2 ^ 64
   address_of bus space a slot register (inl (f, Own part, listed, at, on, named, own)) = address_small space a own.claims.address
   address_of bus space a slot register (inl (f, Legacy, listed, at, on, named, claims)) = address_small space a claims.address
+  address_of bus space a slot register (inl (f, Palette, listed, at, on, named, claims)) = address_small space a claims.address
   address_of bus space a slot register (inr range) = address_small space a (told_claim_addresses told s (named_region slot register) range.r space a is_told range.named range.claims)
 
   pub region_of : (bus : ℕ) (space : Space) (a : ℕ) (slot : Slot) (register : ℕ) → ClaimsOnBus told given s bus (address_in space a) (named_region slot register) → IsRegion slot register

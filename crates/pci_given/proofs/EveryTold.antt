@@ -1,6 +1,6 @@
 -- All faults of a dump and its probe, with what is given and told.
-use Rattle.std.proofs.Common.{◌≡◌, ℕ, ◌<◌, inl, inr, List, [], ◌∷◌, map, refl, sym, ◌∙◌, ap, subst, arith}
-use Rattle.std.specs.Prelude.{◌↔◌, IsTrue}
+use Rattle.std.proofs.Common.{◌≡◌, ℕ, ◌<◌, inl, inr, List, [], ◌∷◌, Option, map, refl, sym, ◌∙◌, ap, subst, arith}
+use Rattle.std.specs.Prelude.{◌↔◌, IsTrue, MatchOption}
 use Rattle.std.specs.List.{Contains}
 use Rattle.pci_spec.specs.Slot.{Slot}
 use Rattle.pci_spec.specs.Text.{Block, IsDump}
@@ -17,18 +17,19 @@ use Rattle.pci_tree.specs.Admission.{IsOutlineFor}
 use Rattle.pci_tree.specs.Outline.{Tree}
 use Rattle.pci_early.specs.Lists.{BeginsWith}
 use Rattle.pci_check.proofs.FirstOfAll.{none_early}
-use Rattle.given_spec.specs.Given.{Given}
+use Rattle.given_spec.specs.Given.{Given, TakingBridge}
 use Rattle.given_spec.specs.Fault as untold
 use Rattle.given_spec.specs.Told.{IsTold}
 use Rattle.given_spec.specs.ToldClaims.{Told}
 use Rattle.given_spec.specs.ToldFault.{Fault, Known, NotListed}
 use Rattle.given_spec.specs.ToldAllFaults.{AreAllOfJudging}
 use Rattle.given_spec.specs.ToldFaultLines.{IsEarlyThere, AreJudged, AreAllFaults}
+use Rattle.given_spec.specs.UnclaimedLaws.{with_taking}
 use Rattle.given_spec.proofs.ToldEmpty.{told_empty_where_none_fails}
 use Rattle.pci_given.specs.declared.any_fault.AnyFault.{AnyFault}
 use Rattle.pci_given.specs.AllLines as lines
 use Rattle.pci_given.specs.AllLines.{AreAllLines}
-use Rattle.pci_given.specs.Every.{AreEarlyWith, AreBefore, AreSound, AreFound, AreReady}
+use Rattle.pci_given.specs.Every.{AreEarlyWith, AreBefore, AreSound, AreFound, AreReady, AreTakenFor, IsJudgedOf}
 use Rattle.pci_given.proofs.ToldFirst.{all_not_listed}
 use Rattle.pci_given.proofs.ToldPlaces.{there_cases, all_places, no_place}
 use Rattle.pci_given.proofs.ToldEarly.{plain_twice, none_plain, all_listed, before_of_first, some_of_first}
@@ -60,7 +61,14 @@ module _ (told : Told) (is_told : IsTold told.ranges) (given : Given) (roots : L
     some = some_of_first told is_told given roots dump probe is_dump first is low early all begins (map lines.fault_of list) with;
     before = before_of_first told is_told given roots dump probe is_dump first is low early all begins (map lines.fault_of list) with;
     unsound = λ are. none_early roots (system_of dump probe) are.sound.nested are.sound.profile are.sound.chains first (soon first low) (in-of_there roots dump probe first are.slots is.there);
+    unready = λ ready. ready.none_earlier first (soon first low) (early_is first is.there);
   } where
+    early_is : (f : plain.Fault) → IsThere roots dump probe f → IsEarlyThere told roots dump probe f
+    early_is f = elim f as (λ f. IsThere roots dump probe f → IsEarlyThere told roots dump probe f) [
+      | Orphan slot ↦ λ there. inl there
+      | _ ↦ λ there. there
+    ]
+
     soon : (f : plain.Fault) → fault_number f < 60 → phase_of f < 5
     soon (plain.Unreached slot register space a bridge) low = absurd (let no : ⊥ = omega (arith, low) in no)
     soon (plain.Clash bus space a first fr second sr) low = absurd (let no : ⊥ = omega (arith, low) in no)
@@ -105,37 +113,42 @@ module _ (told : Told) (is_told : IsTold told.ranges) (given : Given) (roots : L
           are = h.are ∙ plain_twice h.with;
         })
 
-    -- which no sound system has
-    unsound : (faults : List Fault) → AreEarlyWith told.ranges roots dump [] faults → (faults ≡ [] → ⊥) → AreSound told given roots dump probe → ⊥
-    unsound faults (inl alone) some sound = let e = alone.phase in omega (arith, e)
-    unsound faults (inr (inl not)) some sound =
-        let all = all_not_listed told dump probe sound.slots not.slots not.all in
-        some_slot not.slots not.some (λ slot has. sound.sound.listed slot (all.each slot has))
+    -- so judging isn't begun
+    unready : (faults : List Fault) → AreEarlyWith told.ranges roots dump [] faults → (faults ≡ [] → ⊥) → AreReady told roots dump probe → ⊥
+    unready faults (inl alone) some ready = let e = alone.phase in omega (arith, e)
+    unready faults (inr (inl not)) some ready =
+        let all = all_not_listed told dump probe outline.admitted.slots not.slots not.all in
+        some_slot not.slots not.some (λ slot has. ready.listed slot (all.each slot has))
       where
         some_slot : (slots : List Slot) → (slots ≡ [] → ⊥) → ((slot : Slot) → Contains slots slot → ⊥) → ⊥
         some_slot [] some none = some refl
         some_slot (slot ∷ rest) some none = none slot (in_head slot rest)
-    unsound faults (inr (inr (inl h))) some sound = let e = h.soon in omega (arith, e)
-    unsound faults (inr (inr (inr h))) some sound =
-        let all = all_places told is_told roots dump probe is_dump sound.slots [] there complete (pairs_nil Before) h.orphans h.all h.with h.added in
+    unready faults (inr (inr (inl h))) some ready = let e = h.soon in omega (arith, e)
+    unready faults (inr (inr (inr h))) some ready =
+        let all = all_places told is_told roots dump probe is_dump outline.admitted.slots [] there complete (pairs_nil Before) h.orphans h.all h.with h.added in
         some_fault (map fault_of h.with) (λ none. some (h.are ∙ plain_twice h.with ∙ ap (map (λ f. Known (untold.Known f))) none))
-        (λ f has. (let line = all.each f has in none_held f line.early line.there))
+        (λ f has. (let line = all.each f has in ready.none_earlier f line.early line.there))
       where
         some_fault : (fs : List plain.Fault) → (fs ≡ [] → ⊥) → ((f : plain.Fault) → Contains fs f → ⊥) → ⊥
         some_fault [] some none = some refl
         some_fault (f ∷ rest) some none = none f (in_head f rest)
 
-        none_held : (f : plain.Fault) → phase_of f < 5 → IsEarlyThere told roots dump probe f → ⊥
-        none_held f early is = elim (there_cases told is_told roots dump probe is_dump sound.slots f is) [
-          | inl plain ↦ none_there f early plain
-          | inr (slot, at, held) ↦ sound.sound.led_to slot held
-        ]
+    -- which it is for each sound system
+    ready_of : AreSound told given roots dump probe → AreReady told roots dump probe
+    ready_of sound = record {
+      listed = sound.sound.listed;
+      none_earlier = λ f early is. elim (there_cases told is_told roots dump probe is_dump sound.slots f is) [
+        | inl plain ↦ none_there f early plain
+        | inr (slot, at, held) ↦ sound.sound.led_to slot held
+      ];
+    }
 
     pub every_of_told : (list : List AnyFault) → AreEarlyWith told.ranges roots dump [] (map lines.fault_of list) → (list ≡ [] → ⊥) → AreFound told given roots dump probe (map lines.fault_of list)
     every_of_told list with some = record {
       some = λ none. some (no_fault list none);
       before = before_of_told (map lines.fault_of list) with (λ none. some (no_fault list none));
-      unsound = λ sound. unsound (map lines.fault_of list) with (λ none. some (no_fault list none)) sound;
+      unsound = λ sound. unready (map lines.fault_of list) with (λ none. some (no_fault list none)) (ready_of sound);
+      unready = unready (map lines.fault_of list) with (λ none. some (no_fault list none));
     }
 
     -- none is told: judging is begun
@@ -186,4 +199,25 @@ every_of_ready told is_told given roots dump probe o outline ready list all_line
             },
         λ are. no_fault list (all_lines.are ∙ ap (map Known) (empty.1 (are.sound.single, are.sound.home))),
       );
+    }
+
+-- ---- with what bridges take
+
+-- what stands then of the faults, of what is taken, and of what was judged
+pub record IsEveryWith (told : Told) (given : Given) (roots : List ℕ) (slots : List Slot) (dump probe : List Block) (judged : Option Tree) (bridges : List TakingBridge) (list : List AnyFault) : Type 0 where
+  pub taken : AreTakenFor told given roots dump probe slots bridges
+  pub every : IsEveryJudged told (with_taking bridges given) roots dump probe list
+  pub outline : MatchOption judged (AreBefore told (with_taking bridges given) roots dump probe (map lines.fault_of list))
+      (λ o. AreJudged told (with_taking bridges given) roots dump probe (map lines.fault_of list) × IsOutlineFor record { roots = roots; dump = dump; probe = probe } o)
+
+pub every_of_judged : (told : Told) → IsTold told.ranges → (given : Given) (roots : List ℕ) (slots : List Slot) (dump probe : List Block) (o : Tree) → IsOutlineFor record { roots = roots; dump = dump; probe = probe } o → AreReady told roots dump probe
+    → (judged : Option Tree) (bridges : List TakingBridge) (list : List AnyFault) → IsJudgedOf told given slots o judged bridges list → IsEveryWith told given roots slots dump probe judged bridges list
+every_of_judged told is_told given roots slots dump probe o outline ready judged bridges list is =
+    let with = with_taking bridges given in
+    let every = every_of_ready told is_told with roots dump probe o outline ready list is.all in
+    record {
+      taken = λ _. is.taken (system_of dump probe) record { system = outline.admitted.system; records = outline.records };
+      every = every;
+      outline = subst (λ (j : Option Tree). MatchOption j (AreBefore told with roots dump probe (map lines.fault_of list))
+          (λ o. AreJudged told with roots dump probe (map lines.fault_of list) × IsOutlineFor record { roots = roots; dump = dump; probe = probe } o)) (sym is.tree) (every.judged, outline);
     }

@@ -17,8 +17,8 @@ use Rattle.pci_tree.specs.Outline.{Tree}
 use Rattle.pci_check.specs.Judgement.{AreHome}
 use Rattle.pci_tree.specs.Trees.{HasTree}
 use Rattle.pci_check.specs.Stops.{Reaches, AreReachesOf, AlwaysNested}
-use Rattle.given_spec.specs.Given.{Given, legacy_claims, is_cut}
-use Rattle.given_spec.specs.Claims.{passes}
+use Rattle.given_spec.specs.Given.{Given, is_cut}
+use Rattle.given_spec.specs.Claims.{passes, passes_else}
 use Rattle.given_spec.specs.Fault.{Known, Outside, fault_number}
 use Rattle.given_spec.specs.Fault as spec
 use Rattle.given_spec.specs.AllFaults.{judging_key}
@@ -33,7 +33,7 @@ use Rattle.pci_given.proofs.Unreaching.{unreached_from}
 -- what windows pass is passed where ISA Enable takes nothing from them
 passes_uncut : (given : Given) (space : Space) (prefetch : Bool) (a : ℕ) (b : Function) → system.passes space prefetch a b ≡ true → is_cut given space a b.slot ≡ false → passes given space prefetch a b ≡ true
 passes_uncut given space prefetch a b pass kept =
-    ap (λ x. x || legacy_claims given space a b) (and_from (system.passes space prefetch a b) (not (is_cut given space a b.slot)) pass (ap not kept))
+    ap (λ x. x || passes_else given space a b) (and_from (system.passes space prefetch a b) (not (is_cut given space a b.slot)) pass (ap not kept))
 
 never_cut : (given : Given) → NeverCut given Io → (space : Space) (a : ℕ) (slot : Slot) → is_cut given space a slot ≡ false
 never_cut given uncut Io a slot = uncut a slot

@@ -5,6 +5,7 @@ pub mod Homes
 pub mod Odds
 pub mod Owning
 pub mod Quieting
+pub mod Spanning
 pub mod Telling
 pub mod ClashNaming
 pub mod Numbering

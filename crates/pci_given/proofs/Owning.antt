@@ -15,7 +15,7 @@ use Rattle.pci_faults.specs.declared.shares.Share.{Share}
 use Rattle.pci_faults.specs.declared.owners.Found.{Found}
 use Rattle.pci_faults.specs.Owners.{OwnedRanges, Owns, IsRangeAdded}
 use Rattle.pci_faults.specs.Owners as one
-use Rattle.given_spec.specs.Claims.{is_window_register, are_window_and_legacy, may_share}
+use Rattle.given_spec.specs.Claims.{is_window_register, is_fixed_register, are_together, may_share}
 use Rattle.given_spec.proofs.Judging.{slots_same}
 use Rattle.pci_claims.specs.Claim.{Claimed, may_both_claim, is_held_beside}
 use Rattle.pci_claims.proofs.Gathering.{none_covered, covers_take}
@@ -165,7 +165,7 @@ differ false not = refl
 
 other_slots : (s t : Slot) (r q : ℕ) → slot_number s < slot_number t → may_share s r t q ≡ false
 other_slots s t r q less = differ (may_share s r t q) (λ share.
-    let slot = (and_parts (same_slot s t) (are_window_and_legacy r q || are_window_and_legacy q r) share).0 in
+    let slot = (and_parts (same_slot s t) (are_together r q || are_together q r) share).0 in
     let last = and_parts (s.bus == t.bus && s.device == t.device) (s.function == t.function) slot in
     let first = and_parts (s.bus == t.bus) (s.device == t.device) last.0 in
     let bus = eqb-true s.bus t.bus first.0 in
@@ -197,7 +197,7 @@ other_buses c d less never =
     let differ_back : same_slot d.slot c.slot ≡ true → ⊥ = λ same. (let e = ap (λ (x : Slot). x.bus) (slots_same d.slot c.slot same) in let no : ⊥ = omega (arith, less, e) in no) in
     or_from (may_share c.slot c.register d.slot d.register || is_held_beside c d) (is_held_beside d c)
     (or_from (may_share c.slot c.register d.slot d.register) (is_held_beside c d)
-    (differ (may_share c.slot c.register d.slot d.register) (λ share. differ_slots (and_parts (same_slot c.slot d.slot) (are_window_and_legacy c.register d.register || are_window_and_legacy d.register c.register) share).0))
+    (differ (may_share c.slot c.register d.slot d.register) (λ share. differ_slots (and_parts (same_slot c.slot d.slot) (are_together c.register d.register || are_together d.register c.register) share).0))
     (differ (is_held_beside c d) (λ beside.
     let parts = and_parts c.held (d.held || same_slot c.slot d.slot) beside in
     elim (or_cases d.held (same_slot c.slot d.slot) parts.1) [ inl both ↦ never parts.0 both | inr same ↦ differ_slots same ])))
@@ -224,11 +224,29 @@ no_window q high window = elim (or_cases (q == 0x1c || q == 0x20) (q == 0x24) wi
   | inr prefetch ↦ (let e = eqb-true q 0x24 prefetch in omega (arith, high, e))
 ]
 
+no_fixed : (q : ℕ) → 256 ≤ q → is_fixed_register q ≡ true → ⊥
+no_fixed q high fixed = elim (or_cases (q == 0x3e) (q == 0x04) fixed) [
+  | inl control ↦ (let e = eqb-true q 0x3e control in omega (arith, high, e))
+  | inr command ↦ (let e = eqb-true q 0x04 command in omega (arith, high, e))
+]
+
+together_low : (r q : ℕ) → 256 ≤ q → are_together r q ≡ true → ⊥
+together_low r q high both = elim (or_cases (is_window_register r && is_fixed_register q) (r == 0x3e && q == 0x04) both) [
+  | inl window ↦ no_fixed q high (and_parts (is_window_register r) (is_fixed_register q) window).1
+  | inr parts ↦ (let e = eqb-true q 0x04 (and_parts (r == 0x3e) (q == 0x04) parts).1 in omega (arith, high, e))
+]
+
+low_together : (q r : ℕ) → 256 ≤ q → are_together q r ≡ true → ⊥
+low_together q r high both = elim (or_cases (is_window_register q && is_fixed_register r) (q == 0x3e && r == 0x04) both) [
+  | inl window ↦ no_window q high (and_parts (is_window_register q) (is_fixed_register r) window).0
+  | inr parts ↦ (let e = eqb-true q 0x3e (and_parts (q == 0x3e) (r == 0x04) parts).0 in omega (arith, high, e))
+]
+
 lone_shares : (s t : Slot) (r q : ℕ) → 256 ≤ q → may_share s r t q ≡ false
 lone_shares s t r q high = differ (may_share s r t q) (λ share.
-    elim (or_cases (are_window_and_legacy r q) (are_window_and_legacy q r) (and_parts (same_slot s t) (are_window_and_legacy r q || are_window_and_legacy q r) share).1) [
-      | inl legacy ↦ (let e = eqb-true q 0x3e (and_parts (is_window_register r) (q == 0x3e) legacy).1 in omega (arith, high, e))
-      | inr window ↦ no_window q high (and_parts (is_window_register q) (r == 0x3e) window).0
+    elim (or_cases (are_together r q) (are_together q r) (and_parts (same_slot s t) (are_together r q || are_together q r) share).1) [
+      | inl first ↦ together_low r q high first
+      | inr second ↦ low_together q r high second
     ])
 
 lone_meets : (bus : ℕ) (c d : Claimed) (a : ℕ) → c.held ≡ false → IsLone d → Covers c.pieces a → Covers d.pieces a → Meet (Bus bus) c d a

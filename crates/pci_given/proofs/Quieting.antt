@@ -1,5 +1,5 @@
 -- Buses on which no two regions can clash.
-use Rattle.std.proofs.Common.{rules, ◌≡◌, ℕ, ◌+◌, ◌<◌, ◌≤◌, ◌⊎◌, inl, inr, List, [], ◌∷◌, ◌++◌, length, get_or, map, take, true, false, refl, sym, ◌∙◌, ap, subst, arith, Some}
+use Rattle.std.proofs.Common.{rules, ◌≡◌, ℕ, ◌+◌, ◌<◌, ◌≤◌, ◌⊎◌, inl, inr, List, [], ◌∷◌, ◌++◌, length, get_or, map, take, Bool, true, false, not, refl, sym, ◌∙◌, ap, subst, arith, Some}
 use Rattle.std.specs.Prelude.{◌&&◌, ◌||◌}
 use Rattle.std.specs.List.{All, AllPairs, Contains, list_any, slice_get}
 use Rattle.std.specs.List.Sorted.{IsPermutation}
@@ -10,7 +10,7 @@ use Rattle.std.proofs.lemmas.List.Elements.{All-contains, Contains-append_left, 
 use Rattle.std.proofs.lemmas.List.Sorted.{Contains-permutation}
 use Rattle.std.proofs.lemmas.List.Quantifiers.{all_pairs_push}
 use Rattle.pci_spec.specs.Slot.{Slot, same_slot}
-use Rattle.pci_spec.specs.System.{System, Space, is_bridge, is_space_on}
+use Rattle.pci_spec.specs.System.{System, Space, Io, Memory, is_bridge, is_space_on}
 use Rattle.pci_spec.specs.Fault.{Clash, Split, address_in, named_region}
 use Rattle.pci_spec.specs.Fault as plain
 use Rattle.pci_spec.proofs.Members.{in_nil, in_head, in_cons_cases, in_map_to, pairs_nil}
@@ -21,9 +21,9 @@ use Rattle.pci_tree.specs.Regions.{AreRegionsOf}
 use Rattle.pci_tree.specs.Outline.{Tree}
 use Rattle.pci_tree.specs.Trees.{HasTree}
 use Rattle.pci_check.specs.Clashes.{AreRegionsOn}
-use Rattle.given_spec.specs.Given.{Given, legacy_holds, is_legacy_at}
+use Rattle.given_spec.specs.Given.{Given, legacy_holds, is_legacy_at, palette_holds, is_palette_at}
 use Rattle.given_spec.specs.Given as spec
-use Rattle.given_spec.specs.Claims.{Own, Legacy, ClaimsOnBus, may_share, are_window_and_legacy}
+use Rattle.given_spec.specs.Claims.{Own, Legacy, Palette, ClaimsOnBus, may_share, are_together}
 use Rattle.given_spec.proofs.Judging.{slots_same}
 use Rattle.pci_claims.specs.declared.given.LegacyBridge.{LegacyBridge}
 use Rattle.pci_claims.specs.Values.{legacy_value}
@@ -37,7 +37,7 @@ use Rattle.pci_given.specs.declared.named.Clash as named
 use Rattle.pci_given.specs.declared.named.Split as named_split
 use Rattle.pci_given.specs.Clashes.{clash_value, IsClashLine, IsOnBusIn, AreClashesAdded}
 use Rattle.pci_given.specs.Splits.{split_value, IsSplitLine, IsSplitIn, AreSplitsAdded}
-use Rattle.pci_given.specs.Quiet.{IsOff, IsOffLegacy, HasThoseOn, AreQuiet, IsQuiet, IsQuietInEach, IsQuietWith}
+use Rattle.pci_given.specs.Quiet.{IsOff, IsOffLegacy, HasThoseOn, HoldNothing, AreQuiet, IsQuiet, IsQuietInEach, IsQuietWith}
 use Rattle.pci_given.proofs.Addings.{added_none}
 
 -- ---- regions that rise
@@ -63,7 +63,7 @@ more_below end new rs i r within at above wider ends before = record {
 
 -- ---- some regions, and the legacy part of one bridge
 
-either_way : {X : Type 0} (R : X → X → Type 0) (xs : List X) (p q : X) → AllPairs R xs → Contains xs p → Contains xs q → (p ≡ q) ⊎ (R p q ⊎ R q p)
+pub either_way : {X : Type 0} (R : X → X → Type 0) (xs : List X) (p q : X) → AllPairs R xs → Contains xs p → Contains xs q → (p ≡ q) ⊎ (R p q ⊎ R q p)
 either_way R xs p q pairs (i, less_i, at_i) (j, less_j, at_j) =
     let first = get_or_default xs i q p less_i ∙ at_i in
     let second = get_or_default xs j p q less_j ∙ at_j in
@@ -123,6 +123,18 @@ module _ (IsOne : ℕ → Type 0) (legacy : List LegacyBridge) (i : ℕ) (b : Le
 pub those_all : (IsOne : ℕ → Type 0) (legacy out : List LegacyBridge) (n : ℕ) → length legacy ≤ n → HasThoseOn IsOne (take n legacy) out → HasThoseOn IsOne legacy out
 those_all IsOne legacy out n end those = subst (λ l. HasThoseOn IsOne l out) (take_all n legacy end) those
 
+-- ---- palette parts
+
+pub none_hold : (palette : List LegacyBridge) → length palette ≡ 0 → HoldNothing Io palette
+none_hold palette none bridge a (i, less, at) = absurd (let no : ⊥ = omega (arith, none, less) in no)
+
+pub no_memory : (palette : List LegacyBridge) → HoldNothing Memory palette
+no_memory palette bridge a has = refl
+
+pub not_false : (b : Bool) → not b ≡ false → b ≡ true
+not_false true e = refl
+not_false false e = absurd (both_ways true e refl)
+
 -- ---- one region and the legacy part
 
 pub off_pieces : (space : Space) (bridge : LegacyBridge) (pieces : List Range) (r : Region) → ArePieces bridge.is_wide space pieces → IsOff bridge.slot pieces r → IsOffLegacy space bridge r
@@ -132,36 +144,37 @@ off_pieces space bridge pieces r are off a first last holds = off a first last (
 
 share_to : (p q : Slot) (m n : ℕ) → may_share p m q n ≡ true → may_share q n p m ≡ true
 share_to p q m n share =
-    let parts = and_parts (same_slot p q) (are_window_and_legacy m n || are_window_and_legacy n m) share in
+    let parts = and_parts (same_slot p q) (are_together m n || are_together n m) share in
     let one : p ≡ q = slots_same p q parts.0 in
-    and_from (same_slot q p) (are_window_and_legacy n m || are_window_and_legacy m n) (subst (λ (x : Slot). same_slot x p ≡ true) one (subst (λ (x : Slot). same_slot p x ≡ true) (sym one) parts.0))
-    (elim (or_cases (are_window_and_legacy m n) (are_window_and_legacy n m) parts.1) [
-      | inl x ↦ or_right (are_window_and_legacy n m) (are_window_and_legacy m n) x
-      | inr x ↦ or_left (are_window_and_legacy n m) (are_window_and_legacy m n) x
+    and_from (same_slot q p) (are_together n m || are_together m n) (subst (λ (x : Slot). same_slot x p ≡ true) one (subst (λ (x : Slot). same_slot p x ≡ true) (sym one) parts.0))
+    (elim (or_cases (are_together m n) (are_together n m) parts.1) [
+      | inl x ↦ or_right (are_together n m) (are_together m n) x
+      | inr x ↦ or_left (are_together n m) (are_together m n) x
     ])
 
 pub shared_by_one : (p q : Slot) (m n : ℕ) → (p ≡ q → ⊥) → may_share p m q n ≡ false
 shared_by_one p q m n differ = false_from_ne_true (may_share p m q n)
-    (λ share. differ (slots_same p q (and_parts (same_slot p q) (are_window_and_legacy m n || are_window_and_legacy n m) share).0))
+    (λ share. differ (slots_same p q (and_parts (same_slot p q) (are_together m n || are_together n m) share).0))
+
+pub record IsRegionAt (regions : List Region) (slot : Slot) (register a : ℕ) : Type 0 where
+  pub q : Region
+  pub has : Contains regions q
+  pub slot_is : q.slot ≡ slot
+  pub register_is : q.reg ≡ register
+  pub first : q.first ≤ a
+  pub last : a ≤ q.last
+
+pub record IsLegacyAt (space : Space) (here : List LegacyBridge) (slot : Slot) (register a : ℕ) : Type 0 where
+  pub bridge : LegacyBridge
+  pub has : Contains here bridge
+  pub slot_is : bridge.slot ≡ slot
+  pub register_is : register ≡ 0x3e
+  pub holds : legacy_holds bridge.is_wide space a ≡ true
 
 module _ (given : Given) (s : System) (IsOne : ℕ → Type 0) (space : Space) (regions : List Region) (are : AreRegionsOn s IsOne space regions)
-    (legacy here : List LegacyBridge) (said : given.legacy ≡ map legacy_value legacy) (those : HasThoseOn IsOne legacy here) (quiet : AreQuiet space regions here) where
-  record IsRegionAt (slot : Slot) (register a : ℕ) : Type 0 where
-    q : Region
-    has : Contains regions q
-    slot_is : q.slot ≡ slot
-    register_is : q.reg ≡ register
-    first : q.first ≤ a
-    last : a ≤ q.last
-
-  record IsLegacyAt (slot : Slot) (register a : ℕ) : Type 0 where
-    bridge : LegacyBridge
-    has : Contains here bridge
-    slot_is : bridge.slot ≡ slot
-    register_is : register ≡ 0x3e
-    holds : legacy_holds bridge.is_wide space a ≡ true
-
-  claimant : (b : ℕ) (slot : Slot) (register a : ℕ) → IsOne b → ClaimsOnBus given s b (address_in space a) (named_region slot register) → IsRegionAt slot register a ⊎ IsLegacyAt slot register a
+    (legacy here : List LegacyBridge) (said : given.legacy ≡ map legacy_value legacy) (those : HasThoseOn IsOne legacy here)
+    (palette snooping : List LegacyBridge) (listening : given.palette ≡ map legacy_value palette) (snoopers : HasThoseOn IsOne palette snooping) (nothing : HoldNothing space snooping) where
+  pub claimant : (b : ℕ) (slot : Slot) (register a : ℕ) → IsOne b → ClaimsOnBus given s b (address_in space a) (named_region slot register) → IsRegionAt regions slot register a ⊎ IsLegacyAt space here slot register a
   claimant b slot register a one (f, Own part, listed, at, on_bus, named, own) =
       let found = are.complete b one f part a listed (ap (λ (x : Slot). x.bus) at ∙ on_bus) own.claims in
       let held = (found.is.claims a).1 own.claims in
@@ -178,23 +191,36 @@ module _ (given : Given) (s : System) (IsOne : ℕ → Type 0) (space : Space) (
         register_is = sym named;
         holds = subst (λ (x : spec.LegacyBridge). legacy_holds x.is_wide space a ≡ true) (sym made.is) parts.1;
       }
+  claimant b slot register a one (f, Palette, listed, at, on_bus, named, claims) =
+      let (e, has, is) = any_gives (is_palette_at f space a) given.palette (and_parts (is_bridge f && is_space_on f space) (list_any (is_palette_at f space a) given.palette) claims.claims).1 in
+      let parts = and_parts (same_slot e.slot f.slot) (palette_holds e.is_wide space a) is in
+      let made = in_map_to legacy_value palette e (subst (λ (l : List spec.LegacyBridge). Contains l e) listening has) in
+      let slot_is : made.from.slot ≡ slot = ap (λ (x : spec.LegacyBridge). x.slot) made.is ∙ slots_same e.slot f.slot parts.0 ∙ at in
+      absurd (both_ways _ (nothing made.from a (snoopers made.from made.has (subst IsOne (sym (ap (λ (x : Slot). x.bus) slot_is ∙ on_bus)) one)))
+      (subst (λ (x : spec.LegacyBridge). palette_holds x.is_wide space a ≡ true) (sym made.is) parts.1))
 
-  shared : (p q : Slot) (m n a : ℕ) → IsRegionAt p m a → IsLegacyAt q n a → may_share p m q n ≡ true
+module _ (given : Given) (s : System) (IsOne : ℕ → Type 0) (space : Space) (regions : List Region) (are : AreRegionsOn s IsOne space regions)
+    (legacy here : List LegacyBridge) (said : given.legacy ≡ map legacy_value legacy) (those : HasThoseOn IsOne legacy here) (quiet : AreQuiet space regions here)
+    (palette snooping : List LegacyBridge) (listening : given.palette ≡ map legacy_value palette) (snoopers : HasThoseOn IsOne palette snooping) (nothing : HoldNothing space snooping) where
+  shared : (p q : Slot) (m n a : ℕ) → IsRegionAt regions p m a → IsLegacyAt space here q n a → may_share p m q n ≡ true
   shared p q m n a x y =
       subst (λ k. may_share p m q k ≡ true) (sym y.register_is) (subst (λ (z : Slot). may_share p m z 0x3e ≡ true) y.slot_is
       (subst (λ k. may_share p k y.bridge.slot 0x3e ≡ true) x.register_is (subst (λ (z : Slot). may_share z x.q.reg y.bridge.slot 0x3e ≡ true) x.slot_is
       (quiet.off y.bridge x.q y.has x.has a x.first x.last y.holds))))
 
+  claiming : (b : ℕ) (slot : Slot) (register a : ℕ) → IsOne b → ClaimsOnBus given s b (address_in space a) (named_region slot register) → IsRegionAt regions slot register a ⊎ IsLegacyAt space here slot register a
+  claiming = claimant given s IsOne space regions are legacy here said those palette snooping listening snoopers nothing
+
   pub is_quiet : IsQuiet given s IsOne space
-  is_quiet a b c p q m n one other first second differ apart = elim (claimant b p m a one first) [
-    | inl x ↦ elim (claimant c q n a other second) [
+  is_quiet a b c p q m n one other first second differ apart = elim (claiming b p m a one first) [
+    | inl x ↦ elim (claiming c q n a other second) [
       | inl y ↦ elim (quiet.apart x.q y.q x.has y.has) [
         | inl same ↦ differ (sym x.slot_is ∙ ap (λ (r : Region). r.slot) same ∙ y.slot_is, sym x.register_is ∙ ap (λ (r : Region). r.reg) same ∙ y.register_is)
         | inr way ↦ (let low = x.first in let high = x.last in let under = y.first in let over = y.last in elim way [ inl up ↦ omega (arith, up, high, under) | inr down ↦ omega (arith, down, over, low) ])
       ]
       | inr y ↦ both_ways _ apart (shared p q m n a x y)
     ]
-    | inr x ↦ elim (claimant c q n a other second) [
+    | inr x ↦ elim (claiming c q n a other second) [
       | inl y ↦ both_ways _ apart (share_to q p n m (shared q p n m a y x))
       | inr y ↦ differ (sym x.slot_is ∙ ap (λ (l : LegacyBridge). l.slot) (one_at_most here x.bridge y.bridge quiet.one x.has y.has) ∙ y.slot_is, x.register_is ∙ sym y.register_is)
     ]

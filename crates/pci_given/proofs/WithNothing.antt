@@ -15,7 +15,7 @@ use Rattle.given_spec.specs.ToldFault as spec
 use Rattle.given_spec.proofs.PlainLists.{plain_judging}
 use Rattle.given_spec.proofs.NothingTold.{judging_same}
 use Rattle.pci_given.specs.declared.any_fault.AnyFault.{AnyFault}
-use Rattle.pci_claims.specs.Values.{given_value, told_value, host_value, legacy_value}
+use Rattle.pci_claims.specs.Values.{given_value, told_value, host_value, legacy_value, taking_value}
 use Rattle.pci_claims.specs.declared.given.Given as claims
 use Rattle.pci_claims.specs.declared.told.Told as told
 use Rattle.pci_given.specs.AllLines.{fault_of, plain_fault, AreAllLines, is_given}
@@ -47,22 +47,42 @@ none_there : {X : Type 0} (xs : List X) → not (length xs == 0) ≡ false → x
 none_there [] e = refl
 none_there (x ∷ xs) e = absurd (let some : (length (x ∷ xs) == 0) ≡ false = search (arith) in both_ways (not (length (x ∷ xs) == 0)) e (ap not some))
 
-nothing_said : {X Y Z : Type 0} (io memory : Option X) (legacy : List Y) (isa : List Z) → (is_some io || is_some memory || not (length legacy == 0) || not (length isa == 0)) ≡ false
-    → (io ≡ None) × (memory ≡ None) × (legacy ≡ []) × (isa ≡ [])
-nothing_said (Some x) memory legacy isa e = absurd (both_ways true e refl)
-nothing_said None (Some x) legacy isa e = absurd (both_ways true e refl)
-nothing_said None None legacy isa e =
-    let parts = or_parts (not (length legacy == 0)) (not (length isa == 0)) e in
-    (refl, refl, none_there legacy parts.0, none_there isa parts.1)
+record IsNothing {W X Y Z : Type 0} (io memory : Option W) (legacy palette : List X) (isa : List Y) (unclaimed : List Z) : Type 0 where
+  no_io : io ≡ None
+  no_memory : memory ≡ None
+  no_legacy : legacy ≡ []
+  no_isa : isa ≡ []
+  no_palette : palette ≡ []
+  none_taken : unclaimed ≡ []
+
+nothing_said : {W X Y Z : Type 0} (io memory : Option W) (legacy palette : List X) (isa : List Y) (unclaimed : List Z)
+    → (is_some io || is_some memory || not (length legacy == 0) || not (length isa == 0) || not (length palette == 0) || not (length unclaimed == 0)) ≡ false
+    → IsNothing io memory legacy palette isa unclaimed
+nothing_said (Some x) memory legacy palette isa unclaimed e = absurd (both_ways true e refl)
+nothing_said None (Some x) legacy palette isa unclaimed e = absurd (both_ways true e refl)
+nothing_said None None legacy palette isa unclaimed e =
+    let taken = or_parts (not (length legacy == 0) || not (length isa == 0) || not (length palette == 0)) (not (length unclaimed == 0)) e in
+    let snooped = or_parts (not (length legacy == 0) || not (length isa == 0)) (not (length palette == 0)) taken.0 in
+    let parts = or_parts (not (length legacy == 0)) (not (length isa == 0)) snooped.0 in
+    record {
+      no_io = refl;
+      no_memory = refl;
+      no_legacy = none_there legacy parts.0;
+      no_isa = none_there isa parts.1;
+      no_palette = none_there palette snooped.1;
+      none_taken = none_there unclaimed taken.1;
+    }
 
 pub nothing_is : (given : claims.Given) → is_given given ≡ false → given_value given ≡ nothing_given
 nothing_is given none =
-    let said = nothing_said given.io given.memory given.legacy.now given.isa.now none in
+    let said = nothing_said given.io given.memory given.legacy.now given.palette.now given.isa.now given.unclaimed.now none in
     λ i. record {
-      io = option_map (λ ranges. map host_value ranges.now) (said.0 i);
-      memory = option_map (λ ranges. map host_value ranges.now) (said.1 i);
-      legacy = map legacy_value (said.2 i);
-      isa = said.3 i;
+      io = option_map (λ ranges. map host_value ranges.now) (said.no_io i);
+      memory = option_map (λ ranges. map host_value ranges.now) (said.no_memory i);
+      legacy = map legacy_value (said.no_legacy i);
+      isa = said.no_isa i;
+      palette = map legacy_value (said.no_palette i);
+      unclaimed = map taking_value (said.none_taken i);
     }
 
 pub nothing_told_is : (one : told.Told) → one.ranges.now ≡ [] → told_value one ≡ nothing_told one.asleep.now

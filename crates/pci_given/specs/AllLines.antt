@@ -42,8 +42,10 @@ pub record AreAllLines (told : Told) (given : Given) (t : Tree) (list : List Any
   pub all : (s : System) → HasTree t s → AreListedIn told s
       → AreAllOfJudging told given t.roots s judged
 
--- whether something is given: ranges of a space, or a bridge with legacy parts or ISA Enable
+-- whether something is given: ranges of a space, a bridge with legacy parts, ISA Enable or a palette part, or one that takes
+-- what nobody claims
 abbrev pub is_given : claims.Given → Bool
 is_given given =
     is_some given.io || is_some given.memory || not (length given.legacy.now == 0)
-    || not (length given.isa.now == 0)
+    || not (length given.isa.now == 0) || not (length given.palette.now == 0)
+    || not (length given.unclaimed.now == 0)

@@ -1,22 +1,27 @@
 -- All faults of a dump and its probe, with what is given and told.
-use Rattle.std.specs.Prelude.{◌≡◌, ◌≢◌, ◌⊎◌, ℕ, ◌<◌, ◌≤◌, List, [], ◌∷◌, map}
+use Rattle.std.specs.Prelude.{◌≡◌, ◌≢◌, ◌⊎◌, ℕ, ◌<◌, ◌≤◌, List, [], ◌∷◌, Option, Some, map}
 use Rattle.pci_spec.specs.Slot.{Slot}
 use Rattle.pci_spec.specs.Text.{Block, slots_of}
-use Rattle.pci_spec.specs.System.{system_of}
+use Rattle.pci_spec.specs.System.{System, system_of}
 use Rattle.pci_spec.specs.Fault as spec
 use Rattle.pci_spec.specs.Order.{Judging, phase_key, phase_of}
 use Rattle.pci_function.specs.declared.fault.Fault as code
 use Rattle.pci_function.specs.Fault as plain
-use Rattle.given_spec.specs.Given.{Given}
+use Rattle.given_spec.specs.Given.{Given, TakingBridge}
 use Rattle.given_spec.specs.Told.{ToldRange}
 use Rattle.given_spec.specs.ToldClaims.{Told}
 use Rattle.given_spec.specs.ToldFault.{Fault, NotListed}
 use Rattle.given_spec.specs.ToldFaultLines.{AreOfSlots, AreOfNotListed, AreEarlier, AreListed, IsEarlyThere}
 use Rattle.given_spec.specs.ToldSound.{IsSound}
+use Rattle.given_spec.specs.Unclaimed.{AreTaking}
+use Rattle.given_spec.specs.UnclaimedLaws.{with_taking}
+use Rattle.pci_tree.specs.Outline.{Tree}
+use Rattle.pci_tree.specs.Trees.{HasTree}
 use Rattle.pci_tree.specs.Admission.{IsOutlineFor}
 use Rattle.pci_given.specs.declared.every.BeforeJudging.{BeforeJudging}
 use Rattle.pci_given.specs.declared.every.BeforeJudging.TheVariants.{Refused, Admitted}
-use Rattle.pci_given.specs.AllLines.{fault_of, plain_fault}
+use Rattle.pci_given.specs.declared.any_fault.AnyFault.{AnyFault}
+use Rattle.pci_given.specs.AllLines.{fault_of, plain_fault, AreAllLines}
 use Rattle.pci_given.specs.Before.{AreSlotsOf, IsOfNoFunction, IsOfNoBus, AreOrphansAdded}
 
 -- ---- what is told before judging
@@ -78,18 +83,19 @@ pub record AreSound (told : Told) (given : Given) (roots : List ℕ) (dump probe
   pub slots : slots_of dump ≡ slots_of probe
   pub sound : IsSound told given roots (system_of dump probe)
 
--- some are found before judging, all of their phase, so no sound system is there
-pub record AreFound (told : Told) (given : Given) (roots : List ℕ) (dump probe : List Block)
-    (faults : List Fault) : Type 0 where
-  pub some : faults ≡ [] → ⊥
-  pub before : AreBefore told given roots dump probe faults
-  pub unsound : AreSound told given roots dump probe → ⊥
-
 -- none is there before judging
 pub record AreReady (told : Told) (roots : List ℕ) (dump probe : List Block) : Type 0 where
   pub listed : AreListed told dump probe
   pub none_earlier : (fault : spec.Fault) → phase_of fault < phase_key Judging
       → IsEarlyThere told roots dump probe fault → ⊥
+
+-- some are found before judging, all of their phase, so nothing is judged, and no sound system is there
+pub record AreFound (told : Told) (given : Given) (roots : List ℕ) (dump probe : List Block)
+    (faults : List Fault) : Type 0 where
+  pub some : faults ≡ [] → ⊥
+  pub before : AreBefore told given roots dump probe faults
+  pub unsound : AreSound told given roots dump probe → ⊥
+  pub unready : AreReady told roots dump probe → ⊥
 
 -- what is found before judging, whatever is given: faults, or what is to be judged
 abbrev pub IsBeforeJudging : {A : Type 0} → Told → List ℕ → List Block → List Block → BeforeJudging A → Type 0
@@ -98,3 +104,18 @@ IsBeforeJudging told roots dump probe (Refused faults) =
 IsBeforeJudging told roots dump probe (Admitted outline) =
     AreReady told roots dump probe
     × IsOutlineFor record { roots = roots; dump = dump; probe = probe } outline
+
+-- ---- what bridges take
+
+-- where none is there before judging, bridges at some slots take this
+abbrev pub AreTakenFor : Told → Given → List ℕ → List Block → List Block → List Slot → List TakingBridge
+    → Type 0
+AreTakenFor told given roots dump probe slots bridges =
+    AreReady told roots dump probe → AreTaking told given (system_of dump probe) slots bridges
+
+-- in each system with the tree these bridges take what no region of their bus claims, and all of judging is found with it
+pub record IsJudgedOf (told : Told) (given : Given) (slots : List Slot) (t : Tree)
+    (judged : Option Tree) (bridges : List TakingBridge) (list : List AnyFault) : Type 0 where
+  pub tree : judged ≡ Some t
+  pub taken : (s : System) → HasTree t s → AreTaking told given s slots bridges
+  pub all : AreAllLines told (with_taking bridges given) t list

@@ -1,6 +1,7 @@
 pub mod Clashes
 pub mod Owned
 pub mod Splits
+pub mod Spans
 pub mod Quiet
 pub mod Missed
 pub mod Stopped

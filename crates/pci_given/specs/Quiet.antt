@@ -1,5 +1,5 @@
 -- Buses on which no two regions claim an address that they may not share, whatever gets there.
-use Rattle.std.specs.Prelude.{◌≡◌, ℕ, ◌<◌, ◌≤◌, ◌⊎◌, true, false, IsTrue, List, length}
+use Rattle.std.specs.Prelude.{◌≡◌, ℕ, ◌<◌, ◌≤◌, ◌⊎◌, true, false, IsFalse, IsTrue, List, length}
 use Rattle.std.specs.List.{Contains}
 use Rattle.pci_spec.specs.Slot.{Slot}
 use Rattle.pci_spec.specs.Registers.{BRIDGE_CONTROL}
@@ -10,7 +10,7 @@ use Rattle.pci_tree.specs.declared.region.Region.{Region}
 use Rattle.pci_tree.specs.Ranges.{Covers}
 use Rattle.pci_tree.specs.Outline.{Tree}
 use Rattle.pci_tree.specs.Trees.{HasTree}
-use Rattle.given_spec.specs.Given.{Given, legacy_holds}
+use Rattle.given_spec.specs.Given.{Given, legacy_holds, palette_holds}
 use Rattle.given_spec.specs.Claims.{ClaimsOnBus, may_share}
 use Rattle.given_spec.specs.ToldClaims as told_claims
 use Rattle.pci_claims.specs.declared.given.LegacyBridge.{LegacyBridge}
@@ -28,8 +28,14 @@ IsOffLegacy space bridge r =
 
 -- the list has those of some bridges that are on some buses
 abbrev pub HasThoseOn : (ℕ → Type 0) → List LegacyBridge → List LegacyBridge → Type 0
-HasThoseOn IsOne legacy out =
-    (bridge : LegacyBridge) → Contains legacy bridge → IsOne bridge.slot.bus → Contains out bridge
+HasThoseOn IsOne bridges out =
+    (bridge : LegacyBridge) → Contains bridges bridge → IsOne bridge.slot.bus → Contains out bridge
+
+-- no palette part of these bridges has an address of the space
+abbrev pub HoldNothing : Space → List LegacyBridge → Type 0
+HoldNothing space palette =
+    (bridge : LegacyBridge) (a : ℕ) → Contains palette bridge
+    → IsFalse (palette_holds bridge.is_wide space a)
 
 -- the regions have no address in common, at most one bridge has a legacy part, and each region may share what it has of it
 pub record AreQuiet (space : Space) (regions : List Region) (legacy : List LegacyBridge) : Type 0 where

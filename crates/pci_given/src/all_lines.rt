@@ -123,6 +123,8 @@ fn is_given(given: &Given<'_>) -> bool
         || given.memory.is_some()
         || !given.legacy.is_empty()
         || !given.isa.is_empty()
+        || !given.palette.is_empty()
+        || !given.unclaimed.is_empty()
 }
 
 /// All faults of judging with nothing given and nothing told, whoever is asleep.

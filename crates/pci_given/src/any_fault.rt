@@ -1,10 +1,12 @@
 //! Faults, with what is given and told.
 ghost use Rattle.std.specs.Prelude.{◌≡◌, Some};
 ghost use Rattle.given_spec.specs.ToldLine.{fault_text};
+ghost use Rattle.pci_given.specs.declared.any_fault.AnyFault.TheVariants as codes;
 ghost use Rattle.pci_given.specs.AllLines.{fault_of, plain_fault, IsResolved};
 
 use super::named::{Clash, Name, Outside, Split, Unreached};
 use pci_base::slot::Slot;
+use pci_base::space::Space;
 use pci_function::fault::Fault;
 use std::fmt;
 
@@ -52,6 +54,49 @@ fn name(slot: Slot, reg: u8) -> Name
     }
 }
 
+/// A fault 60.
+fn unreached(region: Name, space: Space, address: u64, bridge: Slot) -> AnyFault
+    ensures same { result ≡ codes.Unreached
+        record { region = region; space = space; address = address; bridge = bridge } }
+    ensures resolved { IsResolved result }
+{
+    AnyFault::Unreached(Unreached {
+        region,
+        space,
+        address,
+        bridge,
+    })
+}
+
+/// A fault 61.
+fn clash(bus: u8, space: Space, address: u64, first: Name, second: Name) -> AnyFault
+    ensures same { result ≡ codes.Clash
+        record { bus = bus; space = space; address = address; first = first; second = second } }
+    ensures resolved { IsResolved result }
+{
+    AnyFault::Clash(Clash {
+        bus,
+        space,
+        address,
+        first,
+        second,
+    })
+}
+
+/// A fault 62.
+fn split(space: Space, address: u64, first: Name, second: Name) -> AnyFault
+    ensures same { result ≡ codes.Split
+        record { space = space; address = address; first = first; second = second } }
+    ensures resolved { IsResolved result }
+{
+    AnyFault::Split(Split {
+        space,
+        address,
+        first,
+        second,
+    })
+}
+
 /// A fault that names no told range.
 pub fn without_told(fault: &Fault) -> AnyFault
     ensures same { fault_of result ≡ plain_fault fault.now }
@@ -64,12 +109,7 @@ pub fn without_told(fault: &Fault) -> AnyFault
             space,
             address,
             bridge,
-        } => AnyFault::Unreached(Unreached {
-            region: name(slot, reg),
-            space,
-            address,
-            bridge,
-        }),
+        } => unreached(name(slot, reg), space, address, bridge),
         Fault::Clash {
             bus,
             space,
@@ -78,13 +118,10 @@ pub fn without_told(fault: &Fault) -> AnyFault
             first_reg,
             second,
             second_reg,
-        } => AnyFault::Clash(Clash {
-            bus,
-            space,
-            address,
-            first: name(first, first_reg),
-            second: name(second, second_reg),
-        }),
+        } => {
+            let first = name(first, first_reg);
+            clash(bus, space, address, first, name(second, second_reg))
+        }
         Fault::Split {
             space,
             address,
@@ -92,12 +129,10 @@ pub fn without_told(fault: &Fault) -> AnyFault
             first_reg,
             second,
             second_reg,
-        } => AnyFault::Split(Split {
-            space,
-            address,
-            first: name(first, first_reg),
-            second: name(second, second_reg),
-        }),
+        } => {
+            let first = name(first, first_reg);
+            split(space, address, first, name(second, second_reg))
+        }
         early => AnyFault::Early(early),
     }
 }

@@ -7,7 +7,6 @@ ghost use Rattle.pci_spec.specs.Header.{layout};
 ghost use Rattle.pci_spec.specs.Slot.{slot_number};
 ghost use Rattle.pci_spec.specs.Text.{IsDump, slots_of};
 ghost use Rattle.given_spec.specs.Told.{IsTold};
-ghost use Rattle.given_spec.specs.ToldClaims.{is_marked_held};
 ghost use Rattle.pci_tree.specs.Roots.{buses_of};
 ghost use Rattle.pci_function.specs.Fault.{fault_of};
 ghost use Rattle.pci_given.specs.Before.{IsLast, IsSlotAdded, AreSlotsOf, AreLedTo, IsOfNoBus, IsOfNoFunction, place_number, AreOrphansAdded};
@@ -18,22 +17,11 @@ use pci_base::slot::{BUSES, Slot};
 use pci_dump::block::Block;
 use pci_function::fault::Fault;
 use pci_image::layout::Layout;
-use pci_told::told_range::{Mark, ToldRange};
+use pci_told::told_range::ToldRange;
 use pci_tree::roots::Roots;
 use std::alloc::Allocator;
 
-// ---- ranges
-
-/// Whether a range is held.
-fn is_held(range: &ToldRange) -> bool
-    ensures { result ≡ is_marked_held range.now.mark }
-{
-    match range.mark {
-        Mark::Command => false,
-        Mark::Always => false,
-        Mark::Held => true,
-    }
-}
+// ---- lists of slots
 
 /// Whether a slot is the last of a list.
 fn is_last(slots: &[Slot], slot: Slot) -> bool
@@ -88,7 +76,7 @@ fn is_of_no_function(range: &ToldRange, dump: &[Block]) -> bool
     requires { IsDump dump.now }
     ensures { IsTrue result ↔ IsOfNoFunction dump.now range.now }
 {
-    !is_held(range) && !lists(dump, range.slot)
+    !range.is_held() && !lists(dump, range.slot)
 }
 
 /// The slots that a `command` or an `always` range names and a dump doesn't list, in their order: those of faults 34.
@@ -141,7 +129,7 @@ fn is_of_no_bus(range: &ToldRange, roots: &Roots, dump: &[Block], led: &[bool; B
     ensures { IsTrue result ↔ IsOfNoBus (buses_of roots.now) dump.now range.now }
 {
     let bus = range.slot.bus();
-    is_held(range) && !roots.has(bus) && !led[bus as usize] && !lists(dump, range.slot)
+    range.is_held() && !roots.has(bus) && !led[bus as usize] && !lists(dump, range.slot)
 }
 
 /// The slots of held ranges whose bus is no root and to which no bridge of a dump leads, in their order: those of faults 58.

@@ -126,9 +126,9 @@ fn add_clashes<A: Allocator + Copy>(
 
 /// All clashes of the systems with these records and root buses, with what is given and told: 61 of each region that answers
 /// an address with one before it on its bus, by slot and register, where the two may not share it; with the least such
-/// address and the first region that answers it. Two regions may share an address: a window and the legacy part of one
-/// bridge, two held ranges, and a held range and a region of its function. They stand in the order in which judging looks
-/// for them.
+/// address and the first region that answers it. Two regions may share an address: two of a window, the legacy part and the
+/// palette part of one bridge, two held ranges, and a held range and a region of its function. They stand in the order in
+/// which judging looks for them.
 pub fn all_clashes<A: Allocator + Copy>(
     alloc: A,
     given: &Given<'_>,

@@ -4,18 +4,22 @@ ghost use Rattle.pci_spec.specs.Text.{IsDump};
 ghost use Rattle.given_spec.specs.Told.{IsTold};
 ghost use Rattle.given_spec.specs.ToldFault.{NotListed};
 ghost use Rattle.given_spec.specs.ToldFaultLines.{AreJudged, AreAllFaults};
+ghost use Rattle.given_spec.specs.UnclaimedLaws.{with_taking};
 ghost use Rattle.pci_tree.specs.Admission.{IsOutlineFor};
 ghost use Rattle.pci_tree.specs.Roots.{buses_of};
 ghost use Rattle.pci_claims.specs.Values.{given_value, told_value};
-ghost use Rattle.pci_given.specs.AllLines.{fault_of, plain_fault};
-ghost use Rattle.pci_given.specs.Every.{first_phase, AreBefore, AreEarlyWith, AreSound, IsBeforeJudging};
+ghost use Rattle.pci_given.specs.AllLines.{fault_of, plain_fault, AreAllLines};
+ghost use Rattle.pci_given.specs.Every.{first_phase, AreBefore, AreEarlyWith, AreReady, AreSound, IsBeforeJudging, AreTakenFor, IsJudgedOf};
 
 use super::all_lines::{add_without_told, all_of_judging};
 use super::any_fault::AnyFault;
 use super::before::{add_orphans, slots_not_listed, slots_of_no_bus};
+use super::said::Said;
+use super::taken::taken;
 use pci_base::memory::{OutOfMemory, Refused};
 use pci_base::slot::Slot;
 use pci_claims::given::Given;
+use pci_claims::taking::{Taking, all_lent};
 use pci_claims::told::Told;
 use pci_dump::block::Block;
 use pci_dump::dump::Dump;
@@ -40,6 +44,8 @@ pub struct AllFaults<A: Allocator> {
     pub faults: Vec<AnyFault, A>,
     /// What was judged; none where faults were found before judging.
     pub judged: Option<Outline<A>>,
+    /// What bridges take as no region of their bus claims it, where something was judged; else nothing.
+    pub taking: Vec<Taking<A>, A>,
 }
 
 /// What is found of a dump and its probe before judging.
@@ -150,9 +156,50 @@ pub fn before_judging<A: Allocator + Copy, B: Allocator, C: Allocator>(
     }
 }
 
-/// All faults of the earliest phase that has any, of a dump and its probe as a system with these root buses, with what is
-/// given and told: those of [`before_judging`], else all of judging, as [`all_of_judging`] tells them. They stand in the
-/// order in which they are looked for.
+/// All faults of judging, with what bridges take as no region of their bus claims it.
+fn faults_with<A: Allocator + Copy>(
+    alloc: A,
+    said: &Said<'_>,
+    taking: &[Taking<A>],
+    outline: &Outline<A>,
+) -> Result<Vec<AnyFault, A>, OutOfMemory>
+    // they are read of a text
+    requires { IsTold said.now.told.ranges.now }
+    ensures { IfOk result (λ v. AreAllLines (told_value said.now.told)
+        (with_taking taking.now (given_value said.now.given)) outline.now v.items) }
+{
+    let lent = all_lent(alloc, taking)?;
+    let given = said.given;
+    let given = Given {
+        unclaimed: &lent,
+        ..given
+    };
+    all_of_judging(alloc, &given, &said.told, outline)
+}
+
+/// What bridges take, all faults of judging with that, and what was judged.
+fn judge<A: Allocator + Copy>(
+    alloc: A,
+    said: &Said<'_>,
+    outline: Outline<A>,
+) -> Result<AllFaults<A>, OutOfMemory>
+    // they are read of a text
+    requires { IsTold said.now.told.ranges.now }
+    ensures { IfOk result (λ found. IsJudgedOf (told_value said.now.told) (given_value said.now.given)
+        said.now.taking.now outline found.judged found.taking.items found.faults.items) }
+{
+    let taking = taken(alloc, said, &outline)?;
+    let faults = faults_with(alloc, said, &taking, &outline)?;
+    Ok(AllFaults {
+        faults,
+        judged: Some(outline),
+        taking,
+    })
+}
+
+/// All faults of the earliest phase that has any, of a dump and its probe as a system with the root buses that are said, with
+/// what is given and told: those of [`before_judging`], else all of judging, as [`all_of_judging`] tells them with what
+/// bridges take. They stand in the order in which they are looked for.
 ///
 /// # Errors
 ///
@@ -161,36 +208,44 @@ pub fn all_faults<A: Allocator + Copy, B: Allocator, C: Allocator>(
     alloc: A,
     dump: &Dump<B>,
     probe: &Dump<C>,
-    roots: Roots,
-    given: &Given<'_>,
-    told: &Told<'_>,
+    said: &Said<'_>,
 ) -> Result<AllFaults<A>, OutOfMemory>
     // they are read of a text
-    requires { IsTold told.now.ranges.now }
-    ensures all { IfOk result (λ found. AreAllFaults (told_value told.now) (given_value given.now)
-        (buses_of roots) dump.now probe.now (map fault_of found.faults.items)) }
+    requires { IsTold said.now.told.ranges.now }
+    // what is taken where no fault is of an earlier phase
+    ensures taken { IfOk result (λ found. AreTakenFor (told_value said.now.told)
+        (given_value said.now.given) (buses_of said.now.roots) dump.now probe.now
+        said.now.taking.now found.taking.items) }
+    // where nothing is judged nothing is taken
+    ensures untaken { IfOk result (λ found. (AreReady (told_value said.now.told)
+        (buses_of said.now.roots) dump.now probe.now → ⊥) → found.taking.items ≡ []) }
+    ensures all { IfOk result (λ found. AreAllFaults (told_value said.now.told)
+        (with_taking found.taking.items (given_value said.now.given)) (buses_of said.now.roots)
+        dump.now probe.now (map fault_of found.faults.items)) }
     ensures none { IfOk result (λ found. (found.faults.items ≡ [])
-        ↔ AreSound (told_value told.now) (given_value given.now) (buses_of roots) dump.now probe.now) }
+        ↔ AreSound (told_value said.now.told)
+        (with_taking found.taking.items (given_value said.now.given)) (buses_of said.now.roots)
+        dump.now probe.now) }
     // what was judged is told where no fault is of an earlier phase
     ensures judged { IfOk result (λ found. MatchOption found.judged
-        (AreBefore (told_value told.now) (given_value given.now) (buses_of roots) dump.now probe.now
-        (map fault_of found.faults.items))
-        (λ outline. AreJudged (told_value told.now) (given_value given.now) (buses_of roots)
+        (AreBefore (told_value said.now.told)
+        (with_taking found.taking.items (given_value said.now.given)) (buses_of said.now.roots)
+        dump.now probe.now (map fault_of found.faults.items))
+        (λ outline. AreJudged (told_value said.now.told)
+        (with_taking found.taking.items (given_value said.now.given)) (buses_of said.now.roots)
         dump.now probe.now (map fault_of found.faults.items) × IsOutlineFor record {
-          roots = buses_of roots;
+          roots = buses_of said.now.roots;
           dump = dump.now;
           probe = probe.now;
         } outline)) }
 {
-    let found = before_judging(alloc, dump, probe, roots, told)?;
+    let found = before_judging(alloc, dump, probe, said.roots, &said.told)?;
     match found {
         BeforeJudging::Refused(faults) => Ok(AllFaults {
             faults,
             judged: None,
+            taking: Vec::new(alloc),
         }),
-        BeforeJudging::Admitted(outline) => Ok(AllFaults {
-            faults: all_of_judging(alloc, given, told, &outline)?,
-            judged: Some(outline),
-        }),
+        BeforeJudging::Admitted(outline) => judge(alloc, said, outline),
     }
 }

@@ -1,5 +1,6 @@
 //! Judging with what is given and told beside a system: the addresses that the host sends to its root buses, the legacy
-//! parts of bridges, and ranges that functions answer though no BAR shows them.
+//! parts and palette parts of bridges, what bridges take as nobody claims it, and ranges that functions answer though no BAR
+//! shows them.
 #![tactic(auto)]
 
 pub mod all_lines;
@@ -16,7 +17,10 @@ mod order;
 pub mod outside_lines;
 mod pairs;
 mod quiet;
+pub mod said;
+mod spans;
 pub mod split_lines;
+pub mod taken;
 pub mod text;
 mod told_needed;
 pub mod unreached;

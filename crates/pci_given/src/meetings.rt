@@ -205,7 +205,7 @@ fn least_before<A: Allocator + Copy>(
         return found;
     }
     match among {
-        // a window and its legacy part may share an address
+        // a window, the legacy part and the palette part of one bridge may share an address
         Among::Bus(_) => meeting_from(claims, among, added, i, found),
         // two regions of one bus are never split
         Among::Roots => found,

@@ -7,8 +7,8 @@ use pci_base::slot::Slot;
 use pci_base::space::{Address, Space};
 use std::fmt;
 
-/// A region of a function: a BAR, a ROM, a window, a legacy part or a told range. It is shown as slot and register, a told
-/// range as slot, `+` and its line.
+/// A region of a function: a BAR, a ROM, a window, a legacy part, a palette part or a told range. It is shown as slot and
+/// register, a told range as slot, `+` and its line.
 #[derive(Clone, Copy, Debug, PartialEq, Eq)]
 pub struct Name {
     pub slot: Slot,

@@ -1,5 +1,6 @@
-//! Buses on which no two regions can clash: what they claim is apart, whatever of it gets there, and no told range is there.
-ghost use Rattle.std.specs.Prelude.{◌≡◌, ◌<◌, IfOk, IsTrue};
+//! Buses on which no two regions can clash: what they claim is apart, whatever of it gets there, and no palette part is
+//! there. Beside told ranges no legacy part is there, either.
+ghost use Rattle.std.specs.Prelude.{◌≡◌, ◌<◌, IfOk, IsFalse, IsTrue};
 ghost use Rattle.std.specs.List.{All, AllPairs, Contains};
 ghost use Rattle.std.specs.List.Sorted.{IsPermutation};
 ghost use Rattle.pci_base.specs.Space.{space_of};
@@ -7,8 +8,9 @@ ghost use Rattle.pci_tree.specs.Ranges.{IsCanonical};
 ghost use Rattle.pci_tree.specs.Roots.{buses_of};
 ghost use Rattle.given_spec.specs.Told.{IsTold};
 ghost use Rattle.pci_claims.specs.Values.{given_value, told_value};
-ghost use Rattle.pci_given.specs.Quiet.{IsOff, IsOffLegacy, HasThoseOn, AreQuiet, IsQuietInEach, IsQuietWith};
+ghost use Rattle.pci_given.specs.Quiet.{IsOff, IsOffLegacy, HasThoseOn, HoldNothing, AreQuiet, IsQuietInEach, IsQuietWith};
 
+use super::spans::{add_root_spans, add_told_spans, are_spans_apart, spans_of};
 use pci_base::memory::OutOfMemory;
 use pci_base::offset::BRIDGE_CONTROL;
 use pci_base::range::Range;
@@ -114,16 +116,16 @@ fn are_quiet<A: Allocator + Copy>(
     are_off(alloc, &regions, legacy[0], space)
 }
 
-/// The bridges of a bus among those with legacy parts.
-fn legacy_on<A: Allocator>(
+/// The bridges of a bus among those with legacy parts, or with palette parts.
+fn bridges_on<A: Allocator>(
     alloc: A,
-    legacy: &[LegacyBridge],
+    bridges: &[LegacyBridge],
     bus: u8,
 ) -> Result<Vec<LegacyBridge, A>, OutOfMemory>
-    ensures { IfOk result (λ v. HasThoseOn (λ b. b ≡ bus) legacy.now v.items) }
+    ensures { IfOk result (λ v. HasThoseOn (λ b. b ≡ bus) bridges.now v.items) }
 {
     let mut out = Vec::new(alloc);
-    for bridge in legacy {
+    for bridge in bridges {
         if bridge.slot.bus() == bus {
             out.push(*bridge)?;
         }
@@ -131,16 +133,16 @@ fn legacy_on<A: Allocator>(
     Ok(out)
 }
 
-/// The bridges of root buses among those with legacy parts.
-fn legacy_on_roots<A: Allocator>(
+/// The bridges of root buses among them.
+fn bridges_on_roots<A: Allocator>(
     alloc: A,
-    legacy: &[LegacyBridge],
+    bridges: &[LegacyBridge],
     roots: &Roots,
 ) -> Result<Vec<LegacyBridge, A>, OutOfMemory>
-    ensures { IfOk result (λ v. HasThoseOn (Contains (buses_of roots.now)) legacy.now v.items) }
+    ensures { IfOk result (λ v. HasThoseOn (Contains (buses_of roots.now)) bridges.now v.items) }
 {
     let mut out = Vec::new(alloc);
-    for bridge in legacy {
+    for bridge in bridges {
         if roots.has(bridge.slot.bus()) {
             out.push(*bridge)?;
         }
@@ -148,7 +150,18 @@ fn legacy_on_roots<A: Allocator>(
     Ok(out)
 }
 
-/// Whether the regions of a bus in a space are seen to be apart, so that none clash whatever gets there.
+/// Whether the palette parts of bridges have addresses of a space: these are ports.
+fn hold_some(palette: &[LegacyBridge], space: Space) -> bool
+    ensures { IsFalse result → HoldNothing (space_of space) palette.now }
+{
+    match space {
+        Space::Io => !palette.is_empty(),
+        Space::Mem => false,
+    }
+}
+
+/// Whether the regions of a bus in a space are seen to be apart, so that none clash whatever gets there. Where a palette part
+/// is among them they aren't.
 fn are_apart_on<A: Allocator + Copy>(
     alloc: A,
     board: &Board<'_, '_, A>,
@@ -159,13 +172,37 @@ fn are_apart_on<A: Allocator + Copy>(
         → IsQuietInEach (given_value board.now.given) board.now.outline.now (λ b. b ≡ bus)
         (space_of space)) }
 {
-    let legacy = legacy_on(alloc, board.given.legacy, bus)?;
+    let legacy = bridges_on(alloc, board.given.legacy, bus)?;
+    let palette = bridges_on(alloc, board.given.palette, bus)?;
     // whatever the regions are
-    if 1 < legacy.len() {
+    if 1 < legacy.len() || hold_some(&palette, space) {
         return Ok(false);
     }
     let regions = board.outline.regions(bus, space)?;
     are_quiet(alloc, regions, &legacy, space)
+}
+
+/// The same, of a bus with told ranges. Where a legacy part is among them they aren't.
+fn are_told_apart_on<A: Allocator + Copy>(
+    alloc: A,
+    board: &Board<'_, '_, A>,
+    bus: u8,
+    space: Space,
+) -> Result<bool, OutOfMemory>
+    requires { IsTold board.now.told.ranges.now }
+    ensures { IfOk result (λ quiet. IsTrue quiet
+        → IsQuietWith (told_value board.now.told) (given_value board.now.given)
+        board.now.outline.now (λ b. b ≡ bus) (space_of space)) }
+{
+    let legacy = bridges_on(alloc, board.given.legacy, bus)?;
+    let palette = bridges_on(alloc, board.given.palette, bus)?;
+    if !legacy.is_empty() || hold_some(&palette, space) {
+        return Ok(false);
+    }
+    let regions = board.outline.regions(bus, space)?;
+    let mut spans = spans_of(alloc, &regions)?;
+    add_told_spans(&mut spans, board.told.ranges, bus, space)?;
+    are_spans_apart(spans)
 }
 
 /// Whether the regions of a bus in a space are seen to be apart, so that none clash whatever gets there.
@@ -184,7 +221,7 @@ pub fn is_bus_quiet<A: Allocator + Copy>(
     if ranges_of(board.told.ranges, bus).is_empty() {
         are_apart_on(alloc, board, bus, space)
     } else {
-        Ok(false)
+        are_told_apart_on(alloc, board, bus, space)
     }
 }
 
@@ -201,21 +238,66 @@ fn are_roots_untold(ranges: &[ToldRange], roots: &Roots) -> bool
     true
 }
 
+/// Whether the regions of all root buses in a space are seen to be apart, where told ranges are there.
+fn are_told_roots_apart<A: Allocator + Copy>(
+    alloc: A,
+    board: &Board<'_, '_, A>,
+    roots: &Roots,
+    space: Space,
+) -> Result<bool, OutOfMemory>
+    requires told { IsTold board.now.told.ranges.now }
+    requires roots { buses_of roots.now ≡ board.now.outline.now.roots }
+    ensures { IfOk result (λ quiet. IsTrue quiet
+        → IsQuietWith (told_value board.now.told) (given_value board.now.given)
+        board.now.outline.now (Contains board.now.outline.now.roots) (space_of space)) }
+{
+    let legacy = bridges_on_roots(alloc, board.given.legacy, roots)?;
+    let palette = bridges_on_roots(alloc, board.given.palette, roots)?;
+    if !legacy.is_empty() || hold_some(&palette, space) {
+        return Ok(false);
+    }
+    let regions = of_roots(alloc, board.outline, roots, space)?;
+    let mut spans = spans_of(alloc, &regions)?;
+    add_root_spans(&mut spans, board.told.ranges, roots, space)?;
+    are_spans_apart(spans)
+}
+
+/// Whether the regions of all root buses in a space are seen to be apart, where no told range is there.
+fn are_untold_roots_apart<A: Allocator + Copy>(
+    alloc: A,
+    board: &Board<'_, '_, A>,
+    roots: &Roots,
+    space: Space,
+) -> Result<bool, OutOfMemory>
+    requires { buses_of roots.now ≡ board.now.outline.now.roots }
+    ensures { IfOk result (λ quiet. IsTrue quiet
+        → IsQuietInEach (given_value board.now.given) board.now.outline.now
+        (Contains board.now.outline.now.roots) (space_of space)) }
+{
+    let palette = bridges_on_roots(alloc, board.given.palette, roots)?;
+    if hold_some(&palette, space) {
+        return Ok(false);
+    }
+    let regions = of_roots(alloc, board.outline, roots, space)?;
+    let legacy = bridges_on_roots(alloc, board.given.legacy, roots)?;
+    are_quiet(alloc, regions, &legacy, space)
+}
+
 /// Whether the regions of all root buses in a space are seen to be apart, so that none are split whatever is sent there.
 pub fn are_roots_quiet<A: Allocator + Copy>(
     alloc: A,
     board: &Board<'_, '_, A>,
     space: Space,
 ) -> Result<bool, OutOfMemory>
+    requires { IsTold board.now.told.ranges.now }
     ensures { IfOk result (λ quiet. IsTrue quiet
         → IsQuietWith (told_value board.now.told) (given_value board.now.given)
         board.now.outline.now (Contains board.now.outline.now.roots) (space_of space)) }
 {
     let roots = board.outline.roots();
-    if !are_roots_untold(board.told.ranges, &roots) {
-        return Ok(false);
+    if are_roots_untold(board.told.ranges, &roots) {
+        are_untold_roots_apart(alloc, board, &roots, space)
+    } else {
+        are_told_roots_apart(alloc, board, &roots, space)
     }
-    let regions = of_roots(alloc, board.outline, &roots, space)?;
-    let legacy = legacy_on_roots(alloc, board.given.legacy, &roots)?;
-    are_quiet(alloc, regions, &legacy, space)
 }

@@ -12,28 +12,18 @@ use super::needed::Needed;
 use pci_base::memory::OutOfMemory;
 use pci_base::range::Range;
 use pci_claims::told::{Told, ranges_on};
-use pci_told::told_range::{Mark, ToldRange};
+use pci_told::told_range::ToldRange;
 use pci_tree::outline::Outline;
 use std::alloc::Allocator;
 
 /// The register of the told range of line 1.
 const FIRST_REGISTER: u16 = 256;
 
-/// Whether a told range is held.
-fn is_held(range: &ToldRange) -> bool
-    ensures { result ≡ is_marked_held range.now.mark }
-{
-    match range.mark {
-        Mark::Held => true,
-        Mark::Always | Mark::Command => false,
-    }
-}
-
 /// Whether a told range that is on or off has to be sent and reached.
 fn is_needed(range: &ToldRange, is_on: bool) -> bool
     ensures { result ≡ (not (is_marked_held range.now.mark) && is_on) }
 {
-    !is_held(range) && is_on
+    !range.is_held() && is_on
 }
 
 /// A told range with a register, as a region that has to be sent and reached.
