@@ -31,7 +31,7 @@ use Rattle.given_spec.specs.Given.{Given, is_cut}
 use Rattle.given_spec.specs.Claims.{passes, Own as OwnPart}
 use Rattle.given_spec.specs.ToldClaims.{Told, ClaimsOnBus}
 use Rattle.given_spec.specs.ToldFault.{IsUnreached}
-use Rattle.given_spec.specs.Why.{AnyRegion, Own, Legacy, OfLine, space_of, bus_of, is_prefetchable, Holds, IsNamed, isa_words, legacy_words, region_line, bridge_line, IsBehindUnreached, Misses}
+use Rattle.given_spec.specs.Why.{AnyRegion, Own, Legacy, Palette, OfLine, space_of, bus_of, is_prefetchable, Holds, IsNamed, isa_words, unclaimed_words, legacy_words, region_line, bridge_line, IsBehindUnreached, Misses}
 use Rattle.pci_claims.specs.Passed.{ArePassed, passes_with}
 use Rattle.pci_claims.proofs.Linking.{passes_same}
 use Rattle.pci_why.specs.declared.named.Shown.{Shown}
@@ -43,7 +43,7 @@ use Rattle.pci_why.proofs.Recorded.{stands_for, has_record}
 
 bridge_text_by : Given → Function → Space → Bool → Bool → List ℕ
 bridge_text_by given b space prefetch on =
-    inner_line (codes "bridge" ∷ slot_text b.slot ∷ on_text on ∷ windows_text space prefetch (decoded_windows b.image b.probe) ∷ isa_words given space b.slot ++ legacy_words given b.slot)
+    inner_line (codes "bridge" ∷ slot_text b.slot ∷ on_text on ∷ windows_text space prefetch (decoded_windows b.image b.probe) ∷ isa_words given space b.slot ++ unclaimed_words given b.slot ++ legacy_words given b.slot)
 
 bridge_same : (given : Given) (r : Record) (b : Function) (space : Space) (prefetch : Bool) → record_value r ≡ record_of b → is_bridge b ≡ true
     → line_of_bridge given (record_value r) space prefetch ≡ bridge_line given b space prefetch
@@ -84,11 +84,13 @@ missed_exact given region space prefetch r b addresses passed missed same is bri
 pub named_space : (region : AnyRegion) (slot : Slot) (register : ℕ) (space : Space) → IsNamed region slot register space → space_of region ≡ space
 named_space (Own q) slot register space named = named.2
 named_space (Legacy b of_space) slot register space named = named.2
+named_space (Palette b) slot register space named = named.2
 named_space (OfLine x) slot register space named = named.2
 
 pub named_bus : (region : AnyRegion) (slot : Slot) (register : ℕ) (space : Space) → IsNamed region slot register space → bus_of region ≡ slot.bus
 named_bus (Own q) slot register space named = ap (λ (x : Slot). x.bus) named.0
 named_bus (Legacy b of_space) slot register space named = ap (λ (x : Slot). x.bus) named.0
+named_bus (Palette b) slot register space named = ap (λ (x : Slot). x.bus) named.0
 named_bus (OfLine x) slot register space named = ap (λ (x : Slot). x.bus) named.0
 
 -- ---- behind the fault

@@ -5,7 +5,7 @@ use Rattle.std.specs.Option.{option_map}
 use Rattle.std.specs.List.{Contains}
 use Rattle.std.proofs.lemmas.Bool.{cases_Bool}
 use Rattle.pci_spec.specs.Slot.{Slot}
-use Rattle.pci_spec.specs.Registers.{BRIDGE_CONTROL}
+use Rattle.pci_spec.specs.Registers.{BRIDGE_CONTROL, COMMAND}
 use Rattle.pci_spec.specs.System.{System, Function, Space, Claims, is_prefetchable_part, is_window}
 use Rattle.pci_spec.specs.System as plain
 use Rattle.pci_spec.specs.Bus.{is_root, IsNested}
@@ -30,8 +30,8 @@ use Rattle.given_spec.specs.Given.{Given}
 use Rattle.given_spec.specs.ToldClaims.{Told}
 use Rattle.given_spec.specs.ToldRegion.{ToldRegion, IsToldIn}
 use Rattle.given_spec.proofs.Reasons.{low_register}
-use Rattle.given_spec.specs.Why.{Own, Legacy, OfLine, IsPlaceFor, IsLeastPlace, IsFit, IsFitBehind, is_said}
-use Rattle.pci_claims.proofs.RegionClaims.{not_legacy}
+use Rattle.given_spec.specs.Why.{Own, Legacy, Palette, OfLine, IsPlaceFor, IsLeastPlace, IsFit, IsFitBehind, is_said}
+use Rattle.pci_claims.proofs.RegionClaims.{not_legacy, not_palette}
 use Rattle.pci_claims.specs.Found.{NoneClaims, IsFoundIn, region_of_found}
 use Rattle.pci_why.specs.Lines.{Appends}
 use Rattle.pci_why.specs.Wide.{IsWideIn}
@@ -46,7 +46,7 @@ no_root roots bus none = elim (cases_Bool (is_root roots bus)) [ inl on ↦ absu
 -- ---- the region that is named
 
 module _ (s : System) (slot : Slot) (reg : ℕ) (space : Space) where
-  -- where none claims an address, there is no such region but a legacy part
+  -- where none claims an address, there is no such region but a legacy part or a palette part
   never_named : NoneClaims s slot reg space → (v : RegionValue) → why.IsNamed v slot reg space → why.IsRegionIn s v → ⊥
   never_named none v named is =
       none is.f v.part v.range.first is.listed (is.slot ∙ named.0) (is.register ∙ named.1)
@@ -56,6 +56,10 @@ module _ (s : System) (slot : Slot) (reg : ℕ) (space : Space) where
     -- a legacy part has another register than what is found
     no_legacy : BRIDGE_CONTROL ≡ reg → ⊥
     no_legacy e = not_legacy found.f found.part (sym found.is.register ∙ found.register ∙ sym e)
+
+    -- and so has a palette part
+    no_palette : COMMAND ≡ reg → ⊥
+    no_palette e = not_palette found.f found.part (sym found.is.register ∙ found.register ∙ sym e)
 
     module _ (tree : plain.IsSystem s) (v : RegionValue) (named : why.IsNamed v slot reg space) (is : why.IsRegionIn s v) where
       here : (a : ℕ) → ((v.range.first ≤ a) × (a ≤ v.range.last)) ↔ Claims is.f v.part space a
@@ -126,6 +130,7 @@ module _ (assumed : List AssumedRegister) (told : Told) (given : Given) (t : Tre
   pub told_none : ((s : System) → HasTree t s → NoneClaims s slot reg space) → IsFitTold assumed told given t (named_region slot reg) space old old
   told_none none s (Own v) tree named is = absurd (never_named s slot reg space (none s tree) v named is)
   told_none none s (Legacy b of_space) tree named is = record { lines = []; text = nothing; are = refl }
+  told_none none s (Palette b) tree named is = record { lines = []; text = nothing; are = refl }
   told_none none s (OfLine x) tree named is = record { lines = []; text = nothing; are = refl }
 
   -- whether the region's bus is a root bus to which all of the space is sent
@@ -147,6 +152,7 @@ module _ (assumed : List AssumedRegister) (told : Told) (given : Given) (t : Tre
       let is_one : is_window v.part ≡ true = ap (λ (x : RegionValue). is_window x.part) (sym same) ∙ window_part here.part (sym here.is.named ∙ window) in
       nothing_behind s v (ap (λ b. b || is_root t.roots v.slot.bus && not (is_said given v.space)) is_one)
   told_window q found window s (Legacy b of_space) tree named is = record { lines = []; text = nothing; are = refl }
+  told_window q found window s (Palette b) tree named is = record { lines = []; text = nothing; are = refl }
   told_window q found window s (OfLine x) tree named is = record { lines = []; text = nothing; are = refl }
 
   -- nor on a root bus to which all of the space is sent
@@ -155,6 +161,7 @@ module _ (assumed : List AssumedRegister) (told : Told) (given : Given) (t : Tre
       let sent : (is_root t.roots v.slot.bus && not (is_said given v.space)) ≡ true = named_bus v named true off in
       nothing_behind s v (ap (λ b. is_window v.part || b) sent ∙ or_true (is_window v.part))
   told_on_root off s (Legacy b of_space) tree named is = record { lines = []; text = nothing; are = refl }
+  told_on_root off s (Palette b) tree named is = record { lines = []; text = nothing; are = refl }
   told_on_root off s (OfLine x) tree named is = record { lines = []; text = nothing; are = refl }
 
   -- elsewhere, where its size is assumed, that its place isn't known
@@ -173,6 +180,7 @@ module _ (assumed : List AssumedRegister) (told : Told) (given : Given) (t : Tre
             (subst (λ b. MatchBool b (unknown_line ≡ unknown_line) (IsFit told given t.roots s v unknown_line)) (sym size) (refl {a = unknown_line}));
       }
   told_unknown q new found window on assumed_is text s (Legacy b of_space) tree named is = absurd (no_legacy s slot reg space q (found s tree) named.1)
+  told_unknown q new found window on assumed_is text s (Palette b) tree named is = absurd (no_palette s slot reg space q (found s tree) named.1)
   told_unknown q new found window on assumed_is text s (OfLine x) tree named is = absurd (no_range told s reg low x is named.1)
 
   -- and where it isn't, the least place
@@ -211,6 +219,7 @@ module _ (assumed : List AssumedRegister) (told : Told) (given : Given) (t : Tre
       }
   told_fit q rs r wide fit new found window records nested rise has at on known exact fits text s (Legacy b of_space) tree named is =
       absurd (no_legacy s slot reg space q (found s tree) named.1)
+  told_fit q rs r wide fit new found window records nested rise has at on known exact fits text s (Palette b) tree named is = absurd (no_palette s slot reg space q (found s tree) named.1)
   told_fit q rs r wide fit new found window records nested rise has at on known exact fits text s (OfLine x) tree named is = absurd (no_range told s reg low x is named.1)
 
 -- nothing is told of a told range
@@ -219,4 +228,6 @@ told_range assumed told given t slot register space old high s (Own v) tree name
     absurd (let less = low_register s v is in let at : v.register ≡ register = named.1 in let no : ⊥ = omega (arith, less, at, high) in no)
 told_range assumed told given t slot register space old high s (Legacy b of_space) tree named is =
     absurd (let at : BRIDGE_CONTROL ≡ register = named.1 in let no : ⊥ = omega (arith, at, high) in no)
+told_range assumed told given t slot register space old high s (Palette b) tree named is =
+    absurd (let at : COMMAND ≡ register = named.1 in let no : ⊥ = omega (arith, at, high) in no)
 told_range assumed told given t slot register space old high s (OfLine x) tree named is = record { lines = []; text = sym (append-nil old); are = refl }

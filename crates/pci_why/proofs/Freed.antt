@@ -1,6 +1,6 @@
 -- What gets to the bus of a region, and no other region claims.
 use Rattle.std.proofs.Common.{◌≡◌, ℕ, ◌+◌, ◌<◌, arith, List, [], ◌∷◌, map, Bool, true, false, ◌&&◌, ◌||◌, inl, inr, sym, ◌∙◌, ap, subst, refl}
-use Rattle.std.specs.Prelude.{◌↔◌, ◌==◌, IsTrue}
+use Rattle.std.specs.Prelude.{◌↔◌, ◌==◌, IsTrue, not}
 use Rattle.std.specs.List.{Contains, list_all}
 use Rattle.std.proofs.lemmas.Bool.{or_cases, or_from, ne_eqb, and_parts, and_from}
 use Rattle.std.proofs.Math.Bool.{or-true, or-false}
@@ -20,8 +20,8 @@ use Rattle.pci_tree.specs.Ranges.{Holds, Covers}
 use Rattle.pci_tree.specs.Trees.{HasTree}
 use Rattle.pci_tree.specs.declared.region.Region as outline
 use Rattle.pci_tree.specs.Regions.{IsRegionOf}
-use Rattle.given_spec.specs.Given.{Given, legacy_claims}
-use Rattle.given_spec.specs.Claims.{Gets, IsPassedTo, passes, forwards}
+use Rattle.given_spec.specs.Given.{Given, palette_claims, is_cut}
+use Rattle.given_spec.specs.Claims.{Gets, IsPassedTo, passes, passes_else, forwards, forwards_else}
 use Rattle.given_spec.specs.Claims as untold
 use Rattle.given_spec.specs.Told.{ToldRange}
 use Rattle.given_spec.specs.ToldClaims.{Told, is_held, is_held_from, is_marked_held, may_share}
@@ -34,18 +34,24 @@ use Rattle.pci_why.specs.Free.{may_stand_at, IsAnsweredBeside, AreOfOthers, AreC
 
 -- ---- what a bridge passes it forwards
 
+and_more : (window else_by palette : Bool) → IsTrue (window || else_by) → IsTrue (window || (else_by || palette))
+and_more window else_by palette h = elim (or_cases window else_by h) [
+  | inl on ↦ ap (λ b. b || (else_by || palette)) on
+  | inr on ↦ ap (λ b. window || (b || palette)) on ∙ or-true window
+]
+
 forwards_of : (given : Given) (space : Space) (prefetch : Bool) (a : ℕ) (b : Function) → IsTrue (passes given space prefetch a b) → IsTrue (forwards given space a b)
-forwards_of given Io prefetch a b h = h
+forwards_of given Io prefetch a b h = and_more (system.passes Io prefetch a b && not (is_cut given Io a b.slot)) (passes_else given Io a b) (palette_claims given Io a b) h
 forwards_of given Memory prefetch a b h =
     let by_memory = window_claims b MemoryWindow a in
     let by_prefetch = window_claims b PrefetchWindow a in
-    let legacy = legacy_claims given Memory a b in
-    elim (or_cases ((by_memory || (prefetch && by_prefetch)) && true) legacy h) [
+    let more = forwards_else given Memory a b in
+    elim (or_cases ((by_memory || (prefetch && by_prefetch)) && true) (passes_else given Memory a b) h) [
       | inl window ↦ elim (or_cases by_memory (prefetch && by_prefetch) (and_parts (by_memory || (prefetch && by_prefetch)) true window).0) [
-        | inl memory ↦ ap (λ x. ((x || by_prefetch) && true) || legacy) memory
-        | inr both ↦ ap (λ x. ((by_memory || x) && true) || legacy) (and_parts prefetch by_prefetch both).1 ∙ ap (λ x. (x && true) || legacy) (or-true by_memory)
+        | inl memory ↦ ap (λ x. ((x || by_prefetch) && true) || more) memory
+        | inr both ↦ ap (λ x. ((by_memory || x) && true) || more) (and_parts prefetch by_prefetch both).1 ∙ ap (λ x. (x && true) || more) (or-true by_memory)
       ]
-      | inr part ↦ ap (λ x. ((by_memory || by_prefetch) && true) || x) part ∙ or-true ((by_memory || by_prefetch) && true)
+      | inr else_by ↦ ap (λ x. ((by_memory || by_prefetch) && true) || (x || palette_claims given Memory a b)) else_by ∙ or-true ((by_memory || by_prefetch) && true)
     ]
 
 all_forward : (given : Given) (space : Space) (prefetch : Bool) (a : ℕ) (bridges : List Function) → IsTrue (list_all (passes given space prefetch a) bridges) → IsTrue (list_all (forwards given space a) bridges)

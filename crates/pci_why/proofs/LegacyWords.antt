@@ -1,4 +1,4 @@
--- Which bridges have legacy parts, entry by entry, and the words of their lines.
+-- Bridges of a list, entry by entry, and the words of their lines.
 use Rattle.std.proofs.Common.{◌≡◌, ℕ, ◌+◌, ◌<◌, List, [], ◌∷◌, ◌++◌, length, get_or, take, map, Bool, true, false, inl, inr, arith, sym, ◌∙◌, ap, refl, codes}
 use Rattle.std.specs.List.{list_any}
 use Rattle.std.proofs.Math.ListN.{get_or-map}
@@ -12,22 +12,19 @@ use Rattle.pci_spec.specs.Decoded.{DecodedWindows}
 use Rattle.pci_spec.specs.Listing.{words, on_text}
 use Rattle.pci_spec.specs.Why.{windows_text}
 use Rattle.pci_why.specs.Bridges.{bridge_start}
-use Rattle.given_spec.specs.Given as spec
-use Rattle.pci_claims.specs.declared.given.LegacyBridge.{LegacyBridge}
-use Rattle.pci_claims.specs.Values.{legacy_value}
 use Rattle.pci_claims.proofs.Parts.{any_more}
 use Rattle.pci_why.specs.Lines.{spaced}
 
 -- ---- entries
 
-module _ (test : spec.LegacyBridge → Bool) (legacy : List LegacyBridge) (i : ℕ) (e : LegacyBridge) (within : i < length legacy) (at : e ≡ get_or legacy i e) where
-  pub one_found : test (legacy_value e) ≡ true → list_any test (map legacy_value legacy) ≡ true
+module _ {X Y : Type 0} (value : X → Y) (test : Y → Bool) (xs : List X) (i : ℕ) (e : X) (within : i < length xs) (at : e ≡ get_or xs i e) where
+  pub one_found : test (value e) ≡ true → list_any test (map value xs) ≡ true
   one_found here =
-      let same : get_or (map legacy_value legacy) i (legacy_value e) ≡ legacy_value e = get_or-map legacy_value legacy i e ∙ ap legacy_value (sym at) in
-      list_any_at test (map legacy_value legacy) i (legacy_value e) (omega (arith, within, length-map legacy legacy_value)) (ap test same ∙ here)
+      let same : get_or (map value xs) i (value e) ≡ value e = get_or-map value xs i e ∙ ap value (sym at) in
+      list_any_at test (map value xs) i (value e) (omega (arith, within, length-map xs value)) (ap test same ∙ here)
 
-  pub none_more : list_any test (map legacy_value (take i legacy)) ≡ false → test (legacy_value e) ≡ false → list_any test (map legacy_value (take (i + 1) legacy)) ≡ false
-  none_more before none = false_from_ne_true _ (λ some. elim ((any_more test legacy_value legacy i e within at).0 some) [
+  pub none_more : list_any test (map value (take i xs)) ≡ false → test (value e) ≡ false → list_any test (map value (take (i + 1) xs)) ≡ false
+  none_more before none = false_from_ne_true _ (λ some. elim ((any_more test value xs i e within at).0 some) [
     | inl was ↦ both_ways _ before was
     | inr is ↦ both_ways _ none is
   ])

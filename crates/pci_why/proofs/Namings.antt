@@ -7,11 +7,13 @@ use Rattle.std.proofs.lemmas.Bool.{and_parts, both_ways, eqb-true, ltb-true, leb
 use Rattle.std.proofs.lemmas.Option.{slice_get_within, get_or_from_slice_get}
 use Rattle.std.proofs.lemmas.List.Folds.{Any-from_list_any}
 use Rattle.pci_spec.specs.Slot.{Slot, same_slot}
-use Rattle.pci_spec.specs.System.{System, Function, Space, Io, Memory, IsAddress, IsSystem}
+use Rattle.pci_spec.specs.System.{System, Function, Space, Io, Memory, IsAddress, IsSystem, is_bridge, is_space_on}
 use Rattle.pci_spec.specs.Decoded.{record_of}
 use Rattle.pci_spec.specs.Fault.{RegionName, address_in, named_region}
 use Rattle.pci_base.specs.declared.range.Range.{Range}
-use Rattle.pci_base.specs.Space.{is_on}
+use Rattle.pci_base.specs.declared.space.Space.{Space as CodeSpace}
+use Rattle.pci_base.specs.declared.space.Space.TheVariants as code
+use Rattle.pci_base.specs.Space.{is_on, space_of}
 use Rattle.pci_function.specs.declared.record.Record.{Record}
 use Rattle.pci_function.specs.Values.{record_value}
 use Rattle.pci_tree.specs.declared.region.Region.{Region}
@@ -24,24 +26,25 @@ use Rattle.pci_claims.specs.Found.{region_of_found, IsFoundIn}
 use Rattle.pci_claims.specs.Found as found
 use Rattle.pci_why.proofs.Evidences.{cut_of_part, given_line_same}
 use Rattle.pci_claims.proofs.Founds.{region_in}
-use Rattle.given_spec.specs.Given.{Given, legacy_holds}
-use Rattle.given_spec.specs.Claims.{Own as OwnPart, Legacy as LegacyPart, LegacyClaims}
+use Rattle.given_spec.specs.Given.{Given, legacy_holds, is_palette_at, palette_claims}
+use Rattle.given_spec.specs.Claims.{Own as OwnPart, Legacy as LegacyPart, Palette as PalettePart, LegacyClaims, PaletteClaims}
 use Rattle.given_spec.specs.Claims as untold
 use Rattle.given_spec.specs.Told.{ToldRange, IsTold, IsToldRange, is_name_byte}
 use Rattle.given_spec.specs.ToldClaims.{Told, ClaimsOnBus, IsRangeAt, RangeClaimsOnBus, is_range_on}
 use Rattle.given_spec.specs.ToldRegion.{ToldRegion, told_words}
-use Rattle.given_spec.specs.Why.{Own, Legacy, OfLine, is_narrow}
+use Rattle.given_spec.specs.Why.{Own, Legacy, Palette, OfLine, is_narrow, is_narrow_among}
 use Rattle.given_spec.proofs.Naming.{named_register}
+use Rattle.given_spec.proofs.Snoop.{palette_has_no_memory}
 use Rattle.given_spec.proofs.ToldNames.{one_range}
 use Rattle.pci_spec.specs.Listing.{inner_line}
 use Rattle.pci_claims.specs.Passed.{is_piece_at, legacy_passes}
-use Rattle.pci_claims.specs.Claim.{AreAddressesOf, IsLegacyOf}
+use Rattle.pci_claims.specs.Claim.{AreAddressesOf, IsLegacyOf, IsPaletteOf}
 use Rattle.pci_claims.proofs.Gathering.{none_covered}
-use Rattle.pci_claims.proofs.Linking.{legacy_same}
-use Rattle.pci_claims.proofs.RegionClaims.{claimed_is, not_legacy}
+use Rattle.pci_claims.proofs.Linking.{legacy_same, palette_same}
+use Rattle.pci_claims.proofs.RegionClaims.{claimed_is, not_legacy, not_palette}
 use Rattle.pci_why.specs.declared.named.Shown.{Shown}
 use Rattle.pci_why.specs.declared.named.Shown.TheVariants as shown
-use Rattle.pci_why.specs.Lines.{legacy_line}
+use Rattle.pci_why.specs.Lines.{legacy_line, palette_line}
 use Rattle.pci_why.specs.Named.{shown_line, is_shown_prefetchable, IsNamedIn}
 use Rattle.pci_why.proofs.Recorded.{stands_for, has_record}
 
@@ -89,6 +92,7 @@ passed_address given space a r passes =
 no_own_record : (given : Given) (s : System) (rs : List Record) (slot : Slot) (space : Space) → Has s rs → (Contains (slots_of rs) slot → ⊥) → (a bus : ℕ) → untold.ClaimsOnBus given s bus (address_in space a) (named_region slot 0x3e) → ⊥
 no_own_record given s rs slot space is none a bus (f, OwnPart part, listed, at, there, named, claims) = not_legacy f part named
 no_own_record given s rs slot space is none a bus (f, LegacyPart, listed, at, there, named, claims) = none (has_record s rs f slot is listed at)
+no_own_record given s rs slot space is none a bus (f, PalettePart, listed, at, there, named, claims) = let no : ⊥ = omega (arith, named) in no
 
 pub none_without_record : (told : Told) (given : Given) (s : System) (rs : List Record) (slot : Slot) (space : Space) → Has s rs → (Contains (slots_of rs) slot → ⊥) → IsNone told given s slot 0x3e space
 none_without_record told given s rs slot space is none a bus claims = no_own_record given s rs slot space is none a bus (own_claim told given s bus space a slot 0x3e (omega arith) claims)
@@ -100,6 +104,7 @@ module _ (told : Told) (given : Given) (s : System) (rs : List Record) (r : Reco
   own_covers_legacy a bus (f, OwnPart part, listed, at, there, named, claims) = absurd (not_legacy f part named)
   own_covers_legacy a bus (f, LegacyPart, listed, at, there, named, claims) =
       (legacy.exact a).1 (sym (legacy_same given space a r f (stands_for s rs r f is rise has listed (at_slot ∙ sym at))) ∙ claims.claims)
+  own_covers_legacy a bus (f, PalettePart, listed, at, there, named, claims) = absurd (let no : ⊥ = omega (arith, named) in no)
 
   legacy_covers : (a bus : ℕ) → ClaimsOnBus told given s bus (address_in space a) (named_region slot 0x3e) → Covers out a
   legacy_covers a bus claims = own_covers_legacy a bus (own_claim told given s bus space a slot 0x3e (omega arith) claims)
@@ -128,16 +133,88 @@ module _ (told : Told) (given : Given) (s : System) (rs : List Record) (r : Reco
         all = legacy_covers;
       }
 
+-- ---- a palette part
+
+pub space_of_memory : (space : CodeSpace) → space ≡ code.Mem → space_of space ≡ Memory
+space_of_memory space e = ap space_of e
+
+pub space_of_io : (space : CodeSpace) → (space ≡ code.Mem → ⊥) → space_of space ≡ Io
+space_of_io code.Io other = refl
+space_of_io code.Mem other = absurd (other refl)
+
+-- what a palette part has is an address
+palette_address : (given : Given) (f : Function) (a : ℕ) → palette_claims given Io a f ≡ true → IsAddress Io a
+palette_address given f a claims =
+    let some = Any-from_list_any (is_palette_at f Io a) given.palette (and_parts (is_bridge f && is_space_on f Io) _ claims).1 in
+    let low = ltb-true a (2 ^ 16) (and_parts (nat_lt a (2 ^ 16)) _ (and_parts (same_slot some.1.slot f.slot) _ some.4).1).0 in
+    omega (arith, low)
+
+module _ (told : Told) (given : Given) (s : System) (slot : Slot) where
+  -- it has none of memory
+  no_own_memory : (a bus : ℕ) → untold.ClaimsOnBus given s bus (address_in Memory a) (named_region slot 0x04) → ⊥
+  no_own_memory a bus (f, OwnPart part, listed, at, there, named, claims) = not_palette f part named
+  no_own_memory a bus (f, LegacyPart, listed, at, there, named, claims) = let no : ⊥ = omega (arith, named) in no
+  no_own_memory a bus (f, PalettePart, listed, at, there, named, claims) = palette_has_no_memory given f a claims
+
+  pub none_of_memory : IsNone told given s slot 0x04 Memory
+  none_of_memory a bus claims = no_own_memory a bus (own_claim told given s bus Memory a slot 0x04 (omega arith) claims)
+
+  no_own_palette : (rs : List Record) (space : Space) → Has s rs → (Contains (slots_of rs) slot → ⊥) → (a bus : ℕ) → untold.ClaimsOnBus given s bus (address_in space a) (named_region slot 0x04) → ⊥
+  no_own_palette rs space is none a bus (f, OwnPart part, listed, at, there, named, claims) = not_palette f part named
+  no_own_palette rs space is none a bus (f, LegacyPart, listed, at, there, named, claims) = let no : ⊥ = omega (arith, named) in no
+  no_own_palette rs space is none a bus (f, PalettePart, listed, at, there, named, claims) = none (has_record s rs f slot is listed at)
+
+  pub no_palette_record : (rs : List Record) (space : Space) → Has s rs → (Contains (slots_of rs) slot → ⊥) → IsNone told given s slot 0x04 space
+  no_palette_record rs space is none a bus claims = no_own_palette rs space is none a bus (own_claim told given s bus space a slot 0x04 (omega arith) claims)
+
+  module _ (rs : List Record) (r : Record) (out : List Range) (is : Has s rs) (rise : RiseBySlot rs) (has : Contains rs r) (at_slot : r.slot ≡ slot) (palette : IsPaletteOf given r out) where
+    -- what the palette part at the slot claims
+    own_covers_palette : (a bus : ℕ) → untold.ClaimsOnBus given s bus (address_in Io a) (named_region slot 0x04) → Covers out a
+    own_covers_palette a bus (f, OwnPart part, listed, at, there, named, claims) = absurd (not_palette f part named)
+    own_covers_palette a bus (f, LegacyPart, listed, at, there, named, claims) = absurd (let no : ⊥ = omega (arith, named) in no)
+    own_covers_palette a bus (f, PalettePart, listed, at, there, named, claims) =
+        (palette.exact a).1 (sym (palette_same given Io a r f (stands_for s rs r f is rise has listed (at_slot ∙ sym at))) ∙ claims.claims)
+
+    palette_covers : (a bus : ℕ) → ClaimsOnBus told given s bus (address_in Io a) (named_region slot 0x04) → Covers out a
+    palette_covers a bus claims = own_covers_palette a bus (own_claim told given s bus Io a slot 0x04 (omega arith) claims)
+
+    pub none_of_palette : out ≡ [] → IsNone told given s slot 0x04 Io
+    none_of_palette none a bus claims = none_covered a (subst (λ xs. Covers xs a) none (palette_covers a bus claims))
+
+    palette_exact : (f : Function) → record_value r ≡ record_of f → (a : ℕ) → Covers out a ↔ PaletteClaims given f Io a
+    palette_exact f e a = (
+      λ (h : Covers out a). (let claims = palette_same given Io a r f e ∙ (palette.exact a).0 h in record { address = palette_address given f a claims; claims = claims }),
+      λ (h : PaletteClaims given f Io a). (palette.exact a).1 (sym (palette_same given Io a r f e) ∙ h.claims),
+    )
+
+    pub palette_is_named : (narrow : Bool) → narrow ≡ is_narrow_among given.palette slot → (a : ℕ) → Covers out a → IsNamedIn told given s (named_region slot 0x04) Io (shown.Palette slot narrow) out
+    palette_is_named narrow is_narrow_is a covered =
+        let own = function_for s rs r is has in
+        let f = own.0 in
+        let at : f.slot ≡ slot = sym (same_slot_of r f own.2) ∙ at_slot in
+        record {
+          region = Palette f;
+          is = (own.1, a, (palette_exact f own.2 a).0 covered);
+          named = (at, refl, refl);
+          prefetchable = refl;
+          line = λ word. ap (λ n. palette_line word slot n) is_narrow_is ∙ ap (λ (x : Slot). palette_line word x (is_narrow_among given.palette x)) (sym at);
+          exact = palette_exact f own.2;
+          all = palette_covers;
+        }
+
 -- ---- a BAR, a ROM or a window
 
-none_claims : (given : Given) (s : System) (slot : Slot) (reg : ℕ) (space : Space) → (reg ≡ 0x3e → ⊥) → found.NoneClaims s slot reg space → (a bus : ℕ) → untold.ClaimsOnBus given s bus (address_in space a) (named_region slot reg) → ⊥
-none_claims given s slot reg space other none a bus (f, OwnPart part, listed, at, there, named, own) = none f part a listed at named own.claims
-none_claims given s slot reg space other none a bus (f, LegacyPart, listed, at, there, named, claims) = other (sym named)
+none_claims : (given : Given) (s : System) (slot : Slot) (reg : ℕ) (space : Space) → (reg ≡ 0x3e → ⊥) → (reg ≡ 0x04 → ⊥) → found.NoneClaims s slot reg space → (a bus : ℕ) → untold.ClaimsOnBus given s bus (address_in space a) (named_region slot reg)
+    → ⊥
+none_claims given s slot reg space no_control no_command none a bus (f, OwnPart part, listed, at, there, named, own) = none f part a listed at named own.claims
+none_claims given s slot reg space no_control no_command none a bus (f, LegacyPart, listed, at, there, named, claims) = no_control (sym named)
+none_claims given s slot reg space no_control no_command none a bus (f, PalettePart, listed, at, there, named, claims) = no_command (sym named)
 
-pub none_of_own : (told : Told) (given : Given) (s : System) (slot : Slot) (reg : ℕ) (space : Space) → reg < 256 → (reg ≡ 0x3e → ⊥) → found.NoneClaims s slot reg space → IsNone told given s slot reg space
-none_of_own told given s slot reg space low other none a bus claims = none_claims given s slot reg space other none a bus (own_claim told given s bus space a slot reg low claims)
+pub none_of_own : (told : Told) (given : Given) (s : System) (slot : Slot) (reg : ℕ) (space : Space) → reg < 256 → (reg ≡ 0x3e → ⊥) → (reg ≡ 0x04 → ⊥) → found.NoneClaims s slot reg space → IsNone told given s slot reg space
+none_of_own told given s slot reg space low no_control no_command none a bus claims =
+    none_claims given s slot reg space no_control no_command none a bus (own_claim told given s bus space a slot reg low claims)
 
-module _ (told : Told) (given : Given) (s : System) (slot : Slot) (reg : ℕ) (space : Space) (q : Region) (out : List Range) (low : reg < 256) (other : reg ≡ 0x3e → ⊥) (is : IsFoundIn s slot reg space q)
+module _ (told : Told) (given : Given) (s : System) (slot : Slot) (reg : ℕ) (space : Space) (q : Region) (out : List Range) (low : reg < 256) (is : IsFoundIn s slot reg space q)
     (sound : IsSystem s) (own : AreAddressesOf given space q out) where
   own_covers : (a bus : ℕ) → ClaimsOnBus told given s bus (address_in space a) (named_region slot reg) → Covers out a
   own_covers a bus told_so =

@@ -1,12 +1,10 @@
 -- The lines of told ranges that are off, range by range.
-use Rattle.std.proofs.Common.{◌≡◌, ℕ, zero, suc, ◌+◌, ◌<◌, ◌≤◌, List, [], ◌∷◌, ◌++◌, length, get_or, take, refl, sym, ◌∙◌, ap, subst, arith, Bool, true, false, ◌&&◌, not, if◌then◌else◌, ltb, append-nil, ◌-◌, inl, inr}
+use Rattle.std.proofs.Common.{◌≡◌, ℕ, zero, suc, ◌+◌, ◌<◌, ◌≤◌, List, [], ◌∷◌, ◌++◌, length, get_or, take, refl, sym, ◌∙◌, ap, subst, arith, Bool, true, false, ◌&&◌, not, if◌then◌else◌, append-nil, ◌-◌}
 use Rattle.std.specs.Prelude.{◌==◌}
 use Rattle.std.specs.List.{AllWithin, flat_map, filter}
-use Rattle.std.specs.List.Sorted.{IsPartitionedBy}
-use Rattle.std.proofs.lemmas.Bool.{cases_lt, and_parts, and_from, eq-eqb, eqb-true, false_from_ne_true}
-use Rattle.std.proofs.lemmas.List.{take_more, take_all, get_or-map, append_assoc}
+use Rattle.std.proofs.lemmas.Bool.{and_parts, and_from, eq-eqb, false_from_ne_true}
+use Rattle.std.proofs.lemmas.List.{take_more, take_all, get_or-map, get_or_read, append_assoc}
 use Rattle.std.proofs.lemmas.List.Elements.{filter-append}
-use Rattle.std.proofs.lemmas.List.Sorted.{IsPartitionedBy-ltb}
 use Rattle.std.proofs.lemmas.Grind.{flat_map-append}
 use Rattle.pci_spec.specs.Slot.{Slot, IsSlot, same_slot, slot_number}
 use Rattle.pci_spec.specs.System.{System}
@@ -17,21 +15,13 @@ use Rattle.given_spec.specs.ToldClaims.{Told, is_range_on}
 use Rattle.given_spec.specs.ToldRegion.{ToldRegion, regions_from, told_regions, is_off_at, off_ranges}
 use Rattle.given_spec.specs.Why.{range_off_line}
 use Rattle.given_spec.proofs.Judging.{slots_same}
-use Rattle.pci_why.specs.Off.{AreFlagged, IsStretchAt, AreRangesOffTold}
-use Rattle.pci_claims.specs.declared.all_claims.Stretch.{Stretch}
+use Rattle.pci_why.specs.Off.{range_off_text, AreFlagged, AreRangesOffTold}
 
 -- ---- told ranges by slot
-
-pub parted_ranges : (ranges : List ToldRange) (number : ℕ) → IsTold ranges → IsPartitionedBy (λ r. ltb (slot_number r.slot) number) ranges
-parted_ranges ranges number told = IsPartitionedBy-ltb (λ (r : ToldRange). slot_number r.slot) ranges number told.order
 
 slot_itself : (slot : Slot) → same_slot slot slot ≡ true
 slot_itself slot = and_from (slot.bus == slot.bus && slot.device == slot.device) (slot.function == slot.function)
     (and_from (slot.bus == slot.bus) (slot.device == slot.device) (eq-eqb slot.bus slot.bus refl) (eq-eqb slot.device slot.device refl)) (eq-eqb slot.function slot.function refl)
-
-pub no_ranges : (ranges : List ToldRange) → (length ranges == 0) ≡ true → ranges ≡ []
-no_ranges [] e = refl
-no_ranges (r ∷ ranges) e = absurd (let same : length (r ∷ ranges) ≡ 0 = eqb-true _ _ e in let no : ⊥ = omega (arith, same) in no)
 
 -- ---- regions by index
 
@@ -112,21 +102,15 @@ module _ (ranges : List ToldRange) (on : List Bool) (slot : Slot) where
   flag_at : (told : Told) (s : System) → AreFlagged told s ranges on → (k : ℕ) (d : ToldRange) → k < length ranges → get_or on k false ≡ is_range_on told s (get_or ranges k d)
   flag_at told s flagged k d within = ap (λ l. get_or l k false) flagged.1 ∙ get_or-map (is_range_on told s) ranges k d false within
 
-  pub off_none : ranges ≡ [] → (old : List ℕ) → AreRangesOffTold ranges on slot old old
-  off_none empty old told s flagged =
-      sym (append-nil old) ∙ ap (λ rs. old ++ flat_map range_off_line (filter (is_off_at told s slot) (regions_from 256 rs))) (sym (flagged.0 ∙ empty))
-
-  pub off_start : (stretch : Stretch) (old : List ℕ) → IsStretchAt ranges slot stretch → AreOffUpTo ranges on slot stretch.first old old
-  off_start stretch old is told s flagged =
+  pub off_start : (first : ℕ) (old : List ℕ) → first ≤ length ranges → AllWithin (λ r. slot_number r.slot < slot_number slot) ranges 0 first → AreOffUpTo ranges on slot first old old
+  off_start first old high before told s flagged =
       let same : told.ranges ≡ ranges = flagged.0 in
-      let low = is.low in
-      let high = is.high in
       sym (append-nil old)
-      ∙ ap (λ xs. old ++ flat_map range_off_line xs) (sym (none_below told s slot stretch.first (subst (λ rs. stretch.first ≤ length rs) (sym same) (omega (arith, low, high)))
-      (subst (λ rs. (j : ℕ) → j < stretch.first → slot_number (get_or rs j blank).slot ≡ slot_number slot → ⊥) (sym same)
-      (λ j less e. let below = is.before j blank (omega arith) less in omega (arith, below, e)))))
+      ∙ ap (λ xs. old ++ flat_map range_off_line xs) (sym (none_below told s slot first (subst (λ rs. first ≤ length rs) (sym same) high)
+      (subst (λ rs. (j : ℕ) → j < first → slot_number (get_or rs j blank).slot ≡ slot_number slot → ⊥) (sym same)
+      (λ j less e. let below = before j blank (omega arith) less in omega (arith, below, e)))))
 
-  pub off_added : (k : ℕ) (d : ToldRange) (old now new : List ℕ) → k < length ranges → (get_or ranges k d).slot ≡ slot → get_or on k false ≡ false → AreOffUpTo ranges on slot k old now
+  off_added : (k : ℕ) (d : ToldRange) (old now new : List ℕ) → k < length ranges → (get_or ranges k d).slot ≡ slot → get_or on k false ≡ false → AreOffUpTo ranges on slot k old now
       → new ≡ now ++ range_off_line (one_region (256 + k) (get_or ranges k d)) → AreOffUpTo ranges on slot (k + 1) old new
   off_added k d old now new within at off so pushed told s flagged =
       let line = range_off_line (one_region (256 + k) (get_or ranges k d)) in
@@ -140,43 +124,36 @@ module _ (ranges : List ToldRange) (on : List Bool) (slot : Slot) where
       ∙ ap (λ rs. old ++ flat_map range_off_line (up_to told s slot k ++ one_region (256 + k) (get_or rs k d) ∷ [])) (sym same)
       ∙ ap (λ xs. old ++ flat_map range_off_line xs) (sym added)
 
-  pub off_kept : (k : ℕ) (d : ToldRange) (old now : List ℕ) → k < length ranges → (get_or ranges k d).slot ≡ slot → get_or on k false ≡ true → AreOffUpTo ranges on slot k old now → AreOffUpTo ranges on slot (k + 1) old now
+  off_kept : (k : ℕ) (d : ToldRange) (old now : List ℕ) → k < length ranges → (get_or ranges k d).slot ≡ slot → get_or on k false ≡ true → AreOffUpTo ranges on slot k old now → AreOffUpTo ranges on slot (k + 1) old now
   off_kept k d old now within at is_on so told s flagged =
       let same : told.ranges ≡ ranges = flagged.0 in
       so told s flagged
       ∙ ap (λ xs. old ++ flat_map range_off_line xs) (sym (added_on told s slot k d (subst (λ rs. k < length rs) (sym same) within) (subst (λ rs. (get_or rs k d).slot ≡ slot) (sym same) at)
       (subst (λ rs. is_range_on told s (get_or rs k d) ≡ true) (sym same) (sym (flag_at told s flagged k d within) ∙ is_on))))
 
-  pub off_end : (stretch : Stretch) (k : ℕ) (old new : List ℕ) → IsStretchAt ranges slot stretch → stretch.end ≤ k → k ≤ length ranges → AreOffUpTo ranges on slot k old new → AreRangesOffTold ranges on slot old new
-  off_end stretch k old new is end within so told s flagged =
+  -- either
+  pub off_more : (k : ℕ) (d : ToldRange) (b : Bool) (old now new : List ℕ) → k < length ranges → (get_or ranges k d).slot ≡ slot → get_or on k false ≡ b → AreOffUpTo ranges on slot k old now
+      → new ≡ now ++ range_off_text (one_region (256 + k) (get_or ranges k d)) b → AreOffUpTo ranges on slot (k + 1) old new
+  off_more k d true old now new within at is_on so pushed = subst (λ t. AreOffUpTo ranges on slot (k + 1) old t) (sym (pushed ∙ append-nil now)) (off_kept k d old now within at is_on so)
+  off_more k d false old now new within at off so pushed = off_added k d old now new within at off so pushed
+
+  -- none is of the slot from an index on
+  abbrev HasNoneFrom : ℕ → Type 0
+  HasNoneFrom k = (j : ℕ) → k ≤ j → j < length ranges → slot_number (get_or ranges j blank).slot ≡ slot_number slot → ⊥
+
+  -- behind one of a higher slot none is
+  pub none_behind : (i : ℕ) (r : ToldRange) → IsTold ranges → IsSlot slot → i < length ranges → r ≡ get_or ranges i r → AllWithin (λ x. slot_number slot ≤ slot_number x.slot) ranges i (length ranges) → (r.slot ≡ slot → ⊥) → HasNoneFrom i
+  none_behind i r told is_slot within at after other j from inside e =
+      let low : slot_number slot ≤ slot_number r.slot = subst (λ (x : ToldRange). slot_number slot ≤ slot_number x.slot) (sym at) (after i r (omega arith) within) in
+      let up : slot_number (get_or ranges i blank).slot ≤ slot_number (get_or ranges j blank).slot = told.order i j blank from inside in
+      let here : slot_number r.slot ≡ slot_number (get_or ranges i blank).slot = ap (λ (x : ToldRange). slot_number x.slot) (get_or_read ranges i r within at blank) in
+      other (slot_number-same r.slot slot (subst (λ (x : ToldRange). IsSlot x.slot) (sym at) (told.each i r within).line.slot) is_slot (let same : slot_number r.slot ≡ slot_number slot = omega (arith, low, up, here, e) in same))
+
+  pub off_end : (k : ℕ) (old new : List ℕ) → k ≤ length ranges → HasNoneFrom k → AreOffUpTo ranges on slot k old new → AreRangesOffTold ranges on slot old new
+  off_end k old new within none so told s flagged =
       let same : told.ranges ≡ ranges = flagged.0 in
       so told s flagged
       ∙ ap (λ xs. old ++ flat_map range_off_line xs) (sym (none_above told s slot (length told.ranges - k) k
       (let inside : k ≤ length told.ranges = subst (λ rs. k ≤ length rs) (sym same) within in omega (arith, inside))
-      (subst (λ rs. (j : ℕ) → k ≤ j → j < length rs → slot_number (get_or rs j blank).slot ≡ slot_number slot → ⊥) (sym same)
-      (λ j from inside e. let above = is.after j blank (omega (arith, from, end)) inside in omega (arith, above, e))))
+      (subst (λ rs. (j : ℕ) → k ≤ j → j < length rs → slot_number (get_or rs j blank).slot ≡ slot_number slot → ⊥) (sym same) none))
       ∙ all_of_them told s slot)
-
--- ---- the stretch of a slot
-
-pub stretch_at : (ranges : List ToldRange) (slot : Slot) (stretch : Stretch) (number next : ℕ) → IsTold ranges → IsSlot slot → number ≡ slot_number slot → next ≡ slot_number slot + 1 → stretch.first ≤ length ranges → stretch.end ≤ length ranges
-    → AllWithin (λ r. slot_number r.slot < number) ranges 0 stretch.first → AllWithin (λ r. number ≤ slot_number r.slot) ranges stretch.first (length ranges)
-    → AllWithin (λ r. slot_number r.slot < next) ranges 0 stretch.end → AllWithin (λ r. next ≤ slot_number r.slot) ranges stretch.end (length ranges) → IsStretchAt ranges slot stretch
-stretch_at ranges slot stretch number next told is_slot is_number is_next first_within end_within before from before_next from_next = record {
-  low = elim (cases_lt stretch.end stretch.first) [
-    | inr le ↦ le
-    | inl less ↦ absurd (
-        let inside : stretch.end < length ranges = omega (arith, less, first_within) in
-        let low = before stretch.end blank (omega arith) less in
-        let high = from_next stretch.end blank (omega arith) inside in
-        let no : ⊥ = omega (arith, low, high, is_number, is_next) in no)
-  ];
-  high = end_within;
-  before = λ k d low less. (let below = before k d low less in omega (arith, below, is_number));
-  at = λ k d low less. (
-      let inside : k < length ranges = omega (arith, less, end_within) in
-      let above = from k d low inside in
-      let below = before_next k d (omega arith) less in
-      slot_number-same (get_or ranges k d).slot slot (told.each k d inside).line.slot is_slot (let same : slot_number (get_or ranges k d).slot ≡ slot_number slot = omega (arith, above, below, is_number, is_next) in same));
-  after = λ k d low less. (let above = from_next k d low less in omega (arith, above, is_next));
-}

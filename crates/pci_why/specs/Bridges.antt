@@ -18,7 +18,7 @@ use Rattle.pci_why.specs.Lines.{Appends}
 use Rattle.given_spec.specs.Given.{Given}
 use Rattle.given_spec.specs.ToldClaims.{Told}
 use Rattle.given_spec.specs.ToldFault.{IsUnreached}
-use Rattle.given_spec.specs.Why.{AnyRegion, IsNamed, isa_words, legacy_words, IsBehindUnreached}
+use Rattle.given_spec.specs.Why.{AnyRegion, IsNamed, isa_words, unclaimed_words, legacy_words, IsBehindUnreached}
 use Rattle.pci_claims.specs.Passed.{ArePassed}
 
 -- what the line of a bridge tells before its end
@@ -32,7 +32,7 @@ bridge_text given r space prefetch None = []
 bridge_text given r space prefetch (Some b) =
     inner_line (codes "bridge" ∷ slot_text r.slot ∷ on_text (is_on r.command space)
     ∷ windows_text space prefetch b.windows
-    ∷ isa_words given space r.slot ++ legacy_words given r.slot)
+    ∷ isa_words given space r.slot ++ unclaimed_words given r.slot ++ legacy_words given r.slot)
 
 -- the line of a bridge
 abbrev pub line_of_bridge : Given → decoded.Record → Space → Bool → List ℕ

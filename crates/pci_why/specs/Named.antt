@@ -14,26 +14,29 @@ use Rattle.given_spec.specs.ToldClaims.{Told, ClaimsOnBus}
 use Rattle.given_spec.specs.ToldRegion.{told_words}
 use Rattle.given_spec.specs.Why.{AnyRegion, Holds, IsRegionIn, IsNamed, is_prefetchable, region_line}
 use Rattle.pci_spec.specs.Listing.{inner_line}
-use Rattle.pci_why.specs.Lines.{legacy_line}
+use Rattle.pci_why.specs.Lines.{legacy_line, palette_line}
 use Rattle.pci_why.specs.declared.named.Shown.{Shown}
-use Rattle.pci_why.specs.declared.named.Shown.TheVariants.{Own, Legacy, OfLine}
+use Rattle.pci_why.specs.declared.named.Shown.TheVariants.{Own, Legacy, Palette, OfLine}
 
 -- the line of a region
 abbrev pub shown_line : Given → List ℕ → Space → Shown → List ℕ
 shown_line given word space (Own q) = given_line_of given word space q
 shown_line given word space (Legacy slot is_narrow) = legacy_line word slot is_narrow space
+shown_line given word space (Palette slot is_narrow) = palette_line word slot is_narrow
 shown_line given word space (OfLine register range) =
     inner_line (word ∷ told_words record { register = register; told = range.now })
 
 abbrev pub is_shown_prefetchable : Shown → Bool
 is_shown_prefetchable (Own q) = q.prefetch
 is_shown_prefetchable (Legacy slot is_narrow) = false
+is_shown_prefetchable (Palette slot is_narrow) = false
 is_shown_prefetchable (OfLine register range) = range.now.prefetchable
 
 -- its line can be told: its addresses are some, and a told range is as a text tells it
 abbrev pub HasOwnAddress : Shown → Type 0
 HasOwnAddress (Own q) = q.first ≤ q.last
 HasOwnAddress (Legacy slot is_narrow) = Unit {0}
+HasOwnAddress (Palette slot is_narrow) = Unit {0}
 HasOwnAddress (OfLine register range) = IsToldRange range.now
 
 -- it is that of a system, with just the addresses that this claims

@@ -1,17 +1,16 @@
 -- The lines of BARs and told ranges that are off, by records.
-use Rattle.std.specs.Prelude.{◌≡◌, ℕ, ◌<◌, ◌≤◌, Bool, ◌++◌, if◌then◌else◌, List, [], length, map}
-use Rattle.std.specs.List.{AllWithin, flat_map}
-use Rattle.pci_spec.specs.Slot.{Slot, slot_number}
+use Rattle.std.specs.Prelude.{◌≡◌, ℕ, Bool, ◌++◌, if◌then◌else◌, List, [], map}
+use Rattle.std.specs.List.{flat_map}
+use Rattle.pci_spec.specs.Slot.{Slot}
 use Rattle.pci_spec.specs.System.{System}
 use Rattle.pci_spec.specs.Decoded.{DecodedBar, Record}
 use Rattle.pci_spec.specs.Listing.{kind_space}
 use Rattle.pci_spec.specs.Why.{off_line}
 use Rattle.given_spec.specs.Told.{ToldRange}
 use Rattle.given_spec.specs.ToldClaims.{Told, is_range_on}
-use Rattle.given_spec.specs.ToldRegion.{off_ranges}
+use Rattle.given_spec.specs.ToldRegion.{ToldRegion, off_ranges}
 use Rattle.given_spec.specs.Why.{range_off_line}
 use Rattle.pci_base.specs.Space.{is_on}
-use Rattle.pci_claims.specs.declared.all_claims.Stretch.{Stretch}
 
 -- the line of a BAR, where it is off
 abbrev pub off_text : Slot → ℕ → DecodedBar → List ℕ
@@ -27,17 +26,13 @@ off_of_record r = off_of_bars r.slot r.command r.bars
 abbrev pub off_with : Told → System → Record → List ℕ
 off_with told s r = off_of_record r ++ flat_map range_off_line (off_ranges told s r.slot)
 
+-- the line of a told range, where it isn't on
+abbrev pub range_off_text : ToldRegion → Bool → List ℕ
+range_off_text x on = if on then [] else range_off_line x
+
 -- what is told has these ranges, and of each it is known whether it is on
 abbrev pub AreFlagged : Told → System → List ToldRange → List Bool → Type 0
 AreFlagged told s ranges on = (told.ranges ≡ ranges) × (on ≡ map (is_range_on told s) ranges)
-
--- the ranges from one index to before another are those of the slot
-pub record IsStretchAt (ranges : List ToldRange) (slot : Slot) (stretch : Stretch) : Type 0 where
-  pub low : stretch.first ≤ stretch.end
-  pub high : stretch.end ≤ length ranges
-  pub before : AllWithin (λ r. slot_number r.slot < slot_number slot) ranges 0 stretch.first
-  pub at : AllWithin (λ r. r.slot ≡ slot) ranges stretch.first stretch.end
-  pub after : AllWithin (λ r. slot_number slot < slot_number r.slot) ranges stretch.end (length ranges)
 
 -- the lines of the told ranges of a slot that are off were appended
 abbrev pub AreRangesOffTold : List ToldRange → List Bool → Slot → List ℕ → List ℕ → Type 0

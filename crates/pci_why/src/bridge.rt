@@ -17,6 +17,7 @@ use super::judged::{Judged, RegionName};
 use super::legacy::push_legacy_word;
 use super::missed::without;
 use super::named::{push_shown, region_named};
+use super::unclaimed::push_unclaimed_word;
 use pci_base::memory::OutOfMemory;
 use pci_base::range::Range;
 use pci_base::slot::Slot;
@@ -29,8 +30,8 @@ use pci_listing::hex_text::end_line;
 use pci_tree::bus::record_at;
 use std::alloc::{AllocError, Allocator};
 
-/// Appends the line of a bridge, as `bridge 00:01.0 on mem 00000000e0000000-00000000e00fffff vga`. Of another function
-/// nothing.
+/// Appends the line of a bridge, as `bridge 00:01.0 on mem 00000000e0000000-00000000e00fffff unclaimed vga`. Of another
+/// function nothing.
 fn push_bridge_line<A: Allocator>(
     text: &mut String<A>,
     given: &Given<'_>,
@@ -47,11 +48,12 @@ fn push_bridge_line<A: Allocator>(
     };
     push_bridge(text, function, &bridge.windows, space, prefetch)?;
     push_isa_word(text, given, space, function.slot)?;
+    push_unclaimed_word(text, given, function.slot)?;
     push_legacy_word(text, given, function.slot)?;
     end_line(text)
 }
 
-/// The runs of the addresses of a region that a bridge passes neither by a window nor by its legacy part.
+/// The runs of the addresses of a region that a bridge doesn't pass.
 fn missed_by<A: Allocator + Copy>(
     alloc: A,
     given: &Given<'_>,

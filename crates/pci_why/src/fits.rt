@@ -209,8 +209,8 @@ fn push_own_fits<A: Allocator + Copy, B: Allocator>(
 /// that, below 4 GB where it is no BAR of 64 bits (of I/O below 64 KB), to which accesses start on the root bus above,
 /// that each bridge on the way passes, and that no other region claims which can clash with it. Where the read back of
 /// the register is assumed, as the titles of the probe's blocks tell it, that isn't known: `fits unknown`. There is no
-/// such line of a window, since what is behind its bridge would have to move with it, nor of a legacy part or a told range,
-/// which can't be moved, and none on a root bus to which all of the space is sent.
+/// such line of a window, since what is behind its bridge would have to move with it, nor of a legacy part, a palette part
+/// or a told range, which can't be moved, and none on a root bus to which all of the space is sent.
 pub fn push_fits<A: Allocator + Copy, B: Allocator>(
     alloc: A,
     text: &mut String<B>,

@@ -1,20 +1,20 @@
-//! How lines tell of the legacy part of a bridge.
-ghost use Rattle.std.specs.Prelude.{◌≡◌, ◌&&◌, ◌++◌, not, OnOk};
+//! How lines tell of the legacy part and of the palette part of a bridge.
+ghost use Rattle.std.specs.Prelude.{◌≡◌, ◌&&◌, ◌++◌, map, not, OnOk};
 ghost use Rattle.std.specs.String.{string_bytes};
 ghost use Rattle.pci_spec.specs.Slot.{same_slot};
 ghost use Rattle.pci_base.specs.Space.{space_of};
-ghost use Rattle.given_spec.specs.Why.{is_narrow, has_legacy_part, legacy_words, legacy_text};
-ghost use Rattle.pci_claims.specs.Values.{given_value};
-ghost use Rattle.pci_why.specs.Lines.{spaced, legacy_line};
+ghost use Rattle.given_spec.specs.Why.{is_narrow_among, has_legacy_part, legacy_words, legacy_text, palette_text};
+ghost use Rattle.pci_claims.specs.Values.{given_value, legacy_value};
+ghost use Rattle.pci_why.specs.Lines.{spaced, fixed_line, legacy_line, palette_line};
 
-use pci_base::offset::BRIDGE_CONTROL;
+use pci_base::offset::{BRIDGE_CONTROL, COMMAND};
 use pci_base::slot::Slot;
 use pci_base::space::Space;
 use pci_claims::given::{Given, LegacyBridge};
 use pci_listing::hex_text::{end_line, push_byte, push_slot};
 use std::alloc::{AllocError, Allocator};
 
-/// Whether a legacy part is of the bridge at a slot.
+/// Whether a legacy part or a palette part is of the bridge at a slot.
 fn is_at(entry: &LegacyBridge, slot: Slot) -> bool
     ensures { result ≡ same_slot entry.now.slot slot }
 {
@@ -28,11 +28,11 @@ fn is_narrow_at(entry: &LegacyBridge, slot: Slot) -> bool
     is_at(entry, slot) && !entry.is_wide
 }
 
-/// Whether the legacy part of the bridge at a slot decodes 10 bits of I/O addresses.
-pub fn is_narrow(given: &Given<'_>, slot: Slot) -> bool
-    ensures { result ≡ is_narrow (given_value given.now) slot }
+/// Whether a part of the bridge at a slot decodes 10 bits of I/O addresses, by the list of such parts.
+pub fn is_narrow(bridges: &[LegacyBridge], slot: Slot) -> bool
+    ensures { result ≡ is_narrow_among (map legacy_value bridges.now) slot }
 {
-    for entry in given.legacy {
+    for entry in bridges {
         if is_narrow_at(entry, slot) {
             return true;
         }
@@ -56,7 +56,7 @@ fn has_legacy_part(given: &Given<'_>, slot: Slot) -> bool
 fn legacy_word(given: &Given<'_>, slot: Slot) -> &'static str
     ensures { result.now ≡ spaced (legacy_words (given_value given.now) slot) }
 {
-    if is_narrow(given, slot) {
+    if is_narrow(given.legacy, slot) {
         " vga"
     } else if has_legacy_part(given, slot) {
         " vga16"
@@ -88,6 +88,39 @@ fn legacy_name(is_narrow: bool, space: Space) -> &'static str
     }
 }
 
+/// What a palette part has of I/O space.
+fn palette_name(is_narrow: bool) -> &'static str
+    ensures { result.now ≡ palette_text is_narrow }
+{
+    if is_narrow {
+        "snoop io 000003c6,000003c8-000003c9 of each 1K"
+    } else {
+        "snoop16 io 000003c6,000003c8-000003c9"
+    }
+}
+
+/// Appends the line of a part of a bridge that a register names, and that has always the same addresses.
+fn push_fixed_line<A: Allocator>(
+    text: &mut String<A>,
+    word: &'static str,
+    slot: Slot,
+    reg: u8,
+    name: &'static str,
+) -> Result<(), AllocError>
+    ensures { OnOk result
+        (string_bytes text.new ≡ string_bytes text.old ++ fixed_line word.now slot reg name.now) }
+{
+    text.push_str("  ")?;
+    text.push_str(word)?;
+    text.push_str(" ")?;
+    push_slot(text, slot)?;
+    text.push_str(" ")?;
+    push_byte(text, reg)?;
+    text.push_str(" ")?;
+    text.push_str(name)?;
+    end_line(text)
+}
+
 /// Appends the line of a legacy part, as `second 00:01.0 3e vga mem 00000000000a0000-00000000000bffff 128K`.
 pub fn push_legacy_line<A: Allocator>(
     text: &mut String<A>,
@@ -99,13 +132,20 @@ pub fn push_legacy_line<A: Allocator>(
     ensures { OnOk result (string_bytes text.new ≡ string_bytes text.old
         ++ legacy_line word.now slot is_narrow (space_of space)) }
 {
-    text.push_str("  ")?;
-    text.push_str(word)?;
-    text.push_str(" ")?;
-    push_slot(text, slot)?;
-    text.push_str(" ")?;
-    push_byte(text, BRIDGE_CONTROL)?;
-    text.push_str(" ")?;
-    text.push_str(legacy_name(is_narrow, space))?;
-    end_line(text)
+    let name = legacy_name(is_narrow, space);
+    push_fixed_line(text, word, slot, BRIDGE_CONTROL, name)
+}
+
+/// Appends the line of a palette part, as `first 00:01.0 04 snoop io 000003c6,000003c8-000003c9 of each 1K`.
+pub fn push_palette_line<A: Allocator>(
+    text: &mut String<A>,
+    word: &'static str,
+    slot: Slot,
+    is_narrow: bool,
+) -> Result<(), AllocError>
+    ensures { OnOk result
+        (string_bytes text.new ≡ string_bytes text.old ++ palette_line word.now slot is_narrow) }
+{
+    let name = palette_name(is_narrow);
+    push_fixed_line(text, word, slot, COMMAND, name)
 }

@@ -26,5 +26,6 @@ pub mod room;
 mod told_at;
 mod told_line;
 pub mod two;
+pub mod unclaimed;
 pub mod why;
 pub mod wide;

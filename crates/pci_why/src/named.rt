@@ -9,16 +9,16 @@ ghost use Rattle.pci_claims.specs.Values.{given_value, told_value};
 ghost use Rattle.pci_why.specs.Named.{shown_line, is_shown_prefetchable, HasOwnAddress, IsNamedInEach, NoneNamed};
 
 use super::judged::{Judged, RegionName, TOLD_FROM};
-use super::legacy::{is_narrow, push_legacy_line};
+use super::legacy::{is_narrow, push_legacy_line, push_palette_line};
 use super::region_line::push_given_line;
 use super::told_at::told_at;
 use super::told_line::push_told_line;
 use pci_base::memory::OutOfMemory;
-use pci_base::offset::BRIDGE_CONTROL;
+use pci_base::offset::{BRIDGE_CONTROL, COMMAND};
 use pci_base::range::Range;
 use pci_base::slot::Slot;
 use pci_base::space::Space;
-use pci_claims::claim::{legacy_of, own};
+use pci_claims::claim::{legacy_of, own, palette_of};
 use pci_claims::find::region_at;
 use pci_claims::given::Given;
 use pci_told::told_range::ToldRange;
@@ -33,6 +33,12 @@ pub enum Shown<'a> {
     Own(Region),
     /// The legacy part of a bridge.
     Legacy {
+        slot: Slot,
+        /// Whether it decodes 10 bits of I/O addresses.
+        is_narrow: bool,
+    },
+    /// The palette part of a bridge.
+    Palette {
         slot: Slot,
         /// Whether it decodes 10 bits of I/O addresses.
         is_narrow: bool,
@@ -52,7 +58,7 @@ impl Shown<'_> {
     {
         match self {
             Shown::Own(region) => region.prefetch,
-            Shown::Legacy { .. } => false,
+            Shown::Legacy { .. } | Shown::Palette { .. } => false,
             Shown::OfLine { range, .. } => range.prefetchable,
         }
     }
@@ -89,9 +95,42 @@ fn legacy_named<'a, A: Allocator + Copy>(
     if addresses.is_empty() {
         return Ok(None);
     }
-    let is_narrow = is_narrow(judged.given, slot);
+    let is_narrow = is_narrow(judged.given.legacy, slot);
     Ok(Some(Named {
         shown: Shown::Legacy { slot, is_narrow },
+        addresses,
+    }))
+}
+
+/// The palette part of the bridge at a slot, where it claims an address. It claims none in memory space.
+fn palette_named<'a, A: Allocator + Copy>(
+    alloc: A,
+    judged: &Judged<'a, A>,
+    slot: Slot,
+    space: Space,
+) -> Result<Option<Named<'a, A>>, OutOfMemory>
+    ensures canonical { IfOk result (λ o. IfSome o (λ n. IsCanonical n.addresses.items)) }
+    ensures some { IfOk result (λ o. IfSome o (λ n. HasOwnAddress n.shown)) }
+    ensures exact { IfOk result (λ o. MatchOption o
+        (NoneNamed (told_value judged.now.told.now) (given_value judged.now.given.now)
+        judged.now.outline.now slot COMMAND (space_of space))
+        (λ n. IsNamedInEach (told_value judged.now.told.now) (given_value judged.now.given.now)
+        judged.now.outline.now (named_region slot COMMAND) (space_of space) n.shown
+        n.addresses.items)) }
+{
+    if space == Space::Mem {
+        return Ok(None);
+    }
+    let Some(function) = record_at(judged.outline.records(), slot) else {
+        return Ok(None);
+    };
+    let addresses = palette_of(alloc, judged.given, function)?;
+    if addresses.is_empty() {
+        return Ok(None);
+    }
+    let is_narrow = is_narrow(judged.given.palette, slot);
+    Ok(Some(Named {
+        shown: Shown::Palette { slot, is_narrow },
         addresses,
     }))
 }
@@ -105,7 +144,9 @@ fn own_named<'a, A: Allocator + Copy>(
     space: Space,
 ) -> Result<Option<Named<'a, A>>, OutOfMemory>
     // which names a legacy part
-    requires other { reg ≢ BRIDGE_CONTROL }
+    requires no_control { reg ≢ BRIDGE_CONTROL }
+    // which names a palette part
+    requires no_command { reg ≢ COMMAND }
     // those from here on name told ranges
     requires low { reg < 256 }
     ensures canonical { IfOk result (λ o. IfSome o (λ n. IsCanonical n.addresses.items)) }
@@ -158,7 +199,7 @@ fn told_named<'a, A: Allocator + Copy>(
 }
 
 /// The region of a space that a slot and a register name, where there is one that claims an address: Bridge Control names
-/// the legacy part of a bridge, and registers from 256 on name told ranges.
+/// the legacy part of a bridge, Command its palette part, and registers from 256 on name told ranges.
 pub fn region_named<'a, A: Allocator + Copy>(
     alloc: A,
     judged: &Judged<'a, A>,
@@ -183,6 +224,8 @@ pub fn region_named<'a, A: Allocator + Copy>(
     let reg = name.register as u8;
     if reg == BRIDGE_CONTROL {
         legacy_named(alloc, judged, name.slot, name.space)
+    } else if reg == COMMAND {
+        palette_named(alloc, judged, name.slot, name.space)
     } else {
         own_named(alloc, judged, name.slot, reg, name.space)
     }
@@ -205,6 +248,7 @@ pub fn push_shown<A: Allocator>(
     match shown {
         Shown::Own(region) => push_given_line(text, given, word, space, region),
         Shown::Legacy { slot, is_narrow } => push_legacy_line(text, word, *slot, *is_narrow, space),
+        Shown::Palette { slot, is_narrow } => push_palette_line(text, word, *slot, *is_narrow),
         Shown::OfLine { register, range } => push_told_line(text, word, *register, range),
     }
 }

@@ -1,9 +1,8 @@
 //! The BARs and told ranges that are off: implemented BARs of a space that their function's Command doesn't enable, and told
 //! ranges that their mark, Command or power leaves off.
-ghost use Rattle.std.specs.Prelude.{◌≡◌, ◌<◌, ◌≤◌, ◌++◌, length, map, OnOk};
-ghost use Rattle.std.specs.List.{All, AllWithin};
+ghost use Rattle.std.specs.Prelude.{◌≡◌, ◌≤◌, ◌++◌, length, map, OnOk};
+ghost use Rattle.std.specs.List.{All};
 ghost use Rattle.std.specs.String.{string_bytes};
-ghost use Rattle.pci_spec.specs.Slot.{Slot as SlotValue, slot_number};
 ghost use Rattle.pci_spec.specs.System.{System};
 ghost use Rattle.pci_spec.specs.Why.{off_line};
 ghost use Rattle.given_spec.specs.Told.{IsTold, IsToldRange};
@@ -14,17 +13,17 @@ ghost use Rattle.pci_tree.specs.Regions.{IsLawful};
 ghost use Rattle.pci_tree.specs.Trees.{HasTree};
 ghost use Rattle.pci_claims.specs.Values.{told_value};
 ghost use Rattle.pci_claims.specs.ToldOn.{AreOnIn};
-ghost use Rattle.pci_why.specs.Off.{off_text, off_of_bars, IsStretchAt, AreRangesOffTold, AreOffTold};
+ghost use Rattle.pci_why.specs.Off.{off_text, off_of_bars, range_off_text, AreRangesOffTold, AreOffTold};
 
 use super::region_line::{RegionPlace, bar_name, push_place};
 use super::told_line::push_told;
 use pci_base::memory::OutOfMemory;
 use pci_base::range::Range;
 use pci_base::slot::Slot;
-use pci_claims::all_claims::Stretch;
 use pci_claims::told::Told;
 use pci_function::record::Record;
 use pci_image::bar::Bar;
+use pci_told::told_list::first_of_slot;
 use pci_told::told_range::ToldRange;
 use pci_tree::outline::Outline;
 use std::alloc::{AllocError, Allocator};
@@ -83,20 +82,9 @@ fn push_bars<A: Allocator>(
     Ok(())
 }
 
-/// The index of the first told range of a slot with this number or a higher one.
-fn first_from(ranges: &[ToldRange], number: u32) -> usize
-    // they stand by slot, so it is found by halving
-    requires { IsTold ranges.now }
-    ensures bound { result ≤ length ranges.now }
-    ensures before { AllWithin (λ r. slot_number r.slot < number) ranges.now 0 result }
-    ensures after { AllWithin (λ r. number ≤ slot_number r.slot) ranges.now result (length ranges.now) }
-{
-    ranges.partition_point(|range| u32::from(range.slot.number()) < number)
-}
-
 /// Appends the line of a told range that is off, as
 /// `off 01:02.0 +2 told mem 00000000e0080000-00000000e0080fff 4K ea0`.
-fn push_range<A: Allocator>(
+fn push_told_line<A: Allocator>(
     text: &mut String<A>,
     register: u16,
     range: &ToldRange,
@@ -109,56 +97,44 @@ fn push_range<A: Allocator>(
     push_told(text, register, range)
 }
 
-/// The told ranges of the function at a slot.
-fn ranges_at(ranges: &[ToldRange], slot: Slot) -> Stretch
-    // they stand by slot, so those of one stand in a row
-    requires { IsTold ranges.now }
-    ensures { IsStretchAt ranges.now slot result }
-{
-    let number = u32::from(slot.number());
-    let first = first_from(ranges, number);
-    let end = first_from(ranges, number + 1);
-    Stretch { first, end }
-}
-
-/// Appends the lines of the told ranges of a function that are off.
-fn push_stretch<A: Allocator>(
+/// Appends the line of a told range, where it isn't on.
+fn push_range<A: Allocator>(
     text: &mut String<A>,
-    ranges: &[ToldRange],
-    on: &[bool],
-    stretch: Stretch,
+    register: u16,
+    range: &ToldRange,
+    on: bool,
 ) -> Result<(), AllocError>
-    requires told { IsTold ranges.now }
-    requires on { length on.now ≡ length ranges.now }
-    requires low { stretch.first ≤ stretch.end }
-    requires high { stretch.end ≤ length ranges.now }
-    ensures { OnOk result ((slot : SlotValue) → IsStretchAt ranges.now slot stretch
-        → AreRangesOffTold ranges.now on.now slot (string_bytes text.old) (string_bytes text.new)) }
+    requires { IsToldRange range.now }
+    ensures { OnOk result (string_bytes text.new ≡ string_bytes text.old
+        ++ range_off_text record { register = register; told = range.now } on) }
 {
-    for i in stretch.first..stretch.end {
-        if !on[i] {
-            push_range(text, 256 + i as u16, &ranges[i])?;
-        }
+    if on {
+        return Ok(());
     }
-    Ok(())
+    push_told_line(text, register, range)
 }
 
-/// The same of the function at a slot.
+/// Appends the lines of the told ranges of the function at a slot that are off.
 fn push_ranges<A: Allocator>(
     text: &mut String<A>,
     ranges: &[ToldRange],
     on: &[bool],
     slot: Slot,
 ) -> Result<(), AllocError>
+    // they stand by slot, so those of one stand in a row
     requires told { IsTold ranges.now }
     requires on { length on.now ≡ length ranges.now }
     ensures { OnOk result (AreRangesOffTold ranges.now on.now slot
         (string_bytes text.old) (string_bytes text.new)) }
 {
-    if ranges.is_empty() {
-        return Ok(());
+    for i in first_of_slot(ranges, slot)..ranges.len() {
+        let range = &ranges[i];
+        if range.slot != slot {
+            return Ok(());
+        }
+        push_range(text, 256 + i as u16, range, on[i])?;
     }
-    push_stretch(text, ranges, on, ranges_at(ranges, slot))
+    Ok(())
 }
 
 /// Appends the lines of some functions.

@@ -8,7 +8,6 @@ ghost use Rattle.pci_claims.specs.Values.{told_value};
 
 use super::judged::{RegionName, TOLD_FROM};
 use pci_base::slot::Slot;
-use pci_base::space::Space;
 use pci_claims::told::Told;
 use pci_told::told_range::ToldRange;
 
@@ -17,16 +16,6 @@ fn is_at(range: &ToldRange, slot: Slot) -> bool
     ensures { IsTrue result ↔ (range.now.slot ≡ slot) }
 {
     range.slot == slot
-}
-
-/// Whether a told range is of a space.
-fn is_of(range: &ToldRange, space: Space) -> bool
-    ensures { IsTrue result ↔ (range.now.space ≡ space_of space) }
-{
-    match range.space {
-        Space::Io => matches!(space, Space::Io),
-        Space::Mem => matches!(space, Space::Mem),
-    }
 }
 
 /// The told range of a space that a slot and a register name.
@@ -46,7 +35,7 @@ pub fn told_at<'a>(told: &Told<'a>, name: RegionName) -> Option<&'a ToldRange>
         return None;
     }
     let range = &ranges[index];
-    if is_at(range, name.slot) && is_of(range, name.space) {
+    if is_at(range, name.slot) && range.is_in(name.space) {
         Some(range)
     } else {
         None

@@ -6,7 +6,7 @@ use Rattle.pci_base.specs.Space.{space_of, is_on}
 use Rattle.pci_image.specs.Windows.{decoded_windows_of}
 use Rattle.pci_function.specs.declared.record.Bridge.{Bridge}
 use Rattle.pci_function.specs.Values.{record_value, bridge_value}
-use Rattle.given_spec.specs.Why.{isa_words, legacy_words}
+use Rattle.given_spec.specs.Why.{isa_words, unclaimed_words, legacy_words}
 use Rattle.pci_claims.specs.Values.{given_value}
 use Rattle.pci_why.specs.Bridges.{bridge_text}
 use Rattle.pci_why.proofs.LegacyWords.{line_ended, two_words}
@@ -19,7 +19,8 @@ returns g c =
     let space = space_of c.args.space in
     let slot = c.args.function.now.slot in
     on_ok_weaker c.end_line.result
-    (λ last. line_ended start _ _ (string_bytes c.end_line.new.text) slot (is_on c.args.function.now.command space) space c.args.prefetch (decoded_windows_of c.in-Some.bridge.windows) (isa_words given space slot ++ legacy_words given slot)
-    c.in_ok-push_bridge.ensures (two_words _ _ _ (isa_words given space slot) (legacy_words given slot) c.in_ok-push_isa_word.ensures c.in_ok-push_legacy_word.ensures) last
+    (λ last. line_ended start _ _ (string_bytes c.end_line.new.text) slot (is_on c.args.function.now.command space) space c.args.prefetch (decoded_windows_of c.in-Some.bridge.windows) (isa_words given space slot ++ unclaimed_words given slot ++ legacy_words given slot)
+    c.in_ok-push_bridge.ensures (two_words _ _ _ (isa_words given space slot ++ unclaimed_words given slot) (legacy_words given slot)
+    (two_words _ _ _ (isa_words given space slot) (unclaimed_words given slot) c.in_ok-push_isa_word.ensures c.in_ok-push_unclaimed_word.ensures) c.in_ok-push_legacy_word.ensures) last
     ∙ ap (λ (o : Option Bridge). start ++ bridge_text given (record_value c.args.function.now) space c.args.prefetch (option_map bridge_value o)) (sym c.in-Some.is))
     c.end_line.ensures

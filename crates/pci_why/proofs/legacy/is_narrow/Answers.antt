@@ -1,8 +1,9 @@
 use Rattle.std.proofs.Common.{◌&&◌, not, sym, ◌∙◌}
 use Rattle.pci_spec.specs.Slot.{same_slot}
+use Rattle.pci_claims.specs.Values.{legacy_value}
 use Rattle.pci_why.proofs.LegacyWords.{one_found}
 use Rattle.pci_why.proofs.legacy.is_narrow.Goals as goal
 
 pub returns-then-is_narrow_at : goal.returns-then-is_narrow_at
-returns-then-is_narrow_at c = sym (one_found (λ e. same_slot e.slot c.args.slot && not e.is_wide) c.args.given.now.legacy.now c.loop-entry.entry-index c.entry-item.result c.loop-entry-test.true c.entry-item.is
+returns-then-is_narrow_at c = sym (one_found legacy_value (λ e. same_slot e.slot c.args.slot && not e.is_wide) c.args.bridges.now c.loop-entry.entry-index c.entry-item.result c.loop-entry-test.true c.entry-item.is
     (sym c.is_narrow_at.ensures ∙ c.if-is_narrow_at.true))

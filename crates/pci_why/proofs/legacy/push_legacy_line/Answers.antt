@@ -1,19 +1,11 @@
-use Rattle.std.proofs.Common.{◌∙◌}
-use Rattle.std.proofs.lemmas.List.{append_assoc}
+use Rattle.std.proofs.Common.{◌++◌, ◌∙◌, ap}
+use Rattle.std.specs.String.{string_bytes}
 use Rattle.std.proofs.lemmas.Result.{on_ok_weaker}
+use Rattle.pci_spec.specs.Registers.{BRIDGE_CONTROL}
+use Rattle.pci_why.specs.Lines.{fixed_line}
 use Rattle.pci_why.proofs.legacy.push_legacy_line.Goals as goal
 
 pub returns : goal.returns
-returns g c = on_ok_weaker c.end_line.result
-    (λ last. last ∙ rw (
-      c.in_ok-push_str-6.ensures.bytes,
-      c.in_ok-push_str-5.ensures.bytes,
-      c.in_ok-push_byte.ensures,
-      c.in_ok-push_str-4.ensures.bytes,
-      c.in_ok-push_slot.ensures,
-      c.in_ok-push_str-3.ensures.bytes,
-      c.in_ok-push_str-2.ensures.bytes,
-      c.in_ok-push_str.ensures.bytes,
-      c.legacy_name.ensures,
-    ) (simp append_assoc))
-    c.end_line.ensures
+returns g c = on_ok_weaker c.push_fixed_line.result
+    (λ last. last ∙ ap (λ name. string_bytes c.args.text.now ++ fixed_line c.args.word.now c.args.slot BRIDGE_CONTROL name) c.legacy_name-name.ensures)
+    c.push_fixed_line.ensures

@@ -11,3 +11,9 @@ returns-then-reg-eq-BRIDGE_CONTROL-clause-exact g c =
     subst (λ reg. IfOk c.legacy_named.result (λ o. MatchOption o (NoneNamed (told_value c.args.judged.now.told.now) (given_value c.args.judged.now.given.now) c.args.judged.now.outline.now c.args.name.slot reg (space_of c.args.name.space))
     (λ n. IsNamedInEach (told_value c.args.judged.now.told.now) (given_value c.args.judged.now.given.now) c.args.judged.now.outline.now (named_region c.args.name.slot reg) (space_of c.args.name.space) n.shown n.addresses.items)))
     (sym c.if-reg-eq-BRIDGE_CONTROL.true) c.legacy_named.ensures.exact
+
+pub returns-then-reg-eq-COMMAND-clause-exact : goal.returns-then-reg-eq-COMMAND-clause-exact
+returns-then-reg-eq-COMMAND-clause-exact g c =
+    subst (λ reg. IfOk c.palette_named.result (λ o. MatchOption o (NoneNamed (told_value c.args.judged.now.told.now) (given_value c.args.judged.now.given.now) c.args.judged.now.outline.now c.args.name.slot reg (space_of c.args.name.space))
+    (λ n. IsNamedInEach (told_value c.args.judged.now.told.now) (given_value c.args.judged.now.given.now) c.args.judged.now.outline.now (named_region c.args.name.slot reg) (space_of c.args.name.space) n.shown n.addresses.items)))
+    (sym c.if-reg-eq-COMMAND.true) c.palette_named.ensures.exact
