@@ -21,7 +21,7 @@ use Rattle.pci_map.specs.declared.seat.Seat.{Seat}
 use Rattle.pci_map.specs.declared.seat.Seat.TheVariants as seats
 use Rattle.pci_map.specs.Seats.{told_of, seat_value, seat_range, IsSeatOn, HasLine, AreSortedSeatsOf}
 use Rattle.pci_map.proofs.Cuts.{own_of, kept_of}
-use Rattle.pci_map.proofs.GapRanges.{covers_has, covers_from, covers_nil, covers_append, covers_left, covers_right}
+use Rattle.pci_claims.proofs.GapRanges.{covers_has, covers_from, covers_nil, covers_append, covers_left, covers_right}
 
 -- ---- region by region
 

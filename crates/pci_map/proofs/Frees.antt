@@ -22,8 +22,9 @@ use Rattle.pci_claims.specs.Found.{range_at}
 use Rattle.pci_claims.proofs.Runs.{runs_of}
 use Rattle.pci_claims.specs.Isa.{is_cut_region, AreKept}
 use Rattle.pci_claims.proofs.Cutting.{cut_from_where, never_cut_from}
-use Rattle.pci_map.specs.Gaps.{piece, between, gaps, AreClaimed, AreFreeInside}
-use Rattle.pci_map.proofs.GapRanges.{gaps_to, gaps_from, gaps_canonical}
+use Rattle.pci_claims.specs.Gaps.{piece, between, gaps}
+use Rattle.pci_map.specs.Gaps.{AreClaimed, AreFreeInside}
+use Rattle.pci_claims.proofs.GapRanges.{gaps_to, gaps_from, gaps_canonical}
 
 -- ---- no gap is empty
 

@@ -223,7 +223,7 @@ module _ (given : Given) (s : System) (space : Space) (w : Region) (iw : IsRegio
       rises = rises;
       each = λ q has. sorted.each q (in_filter_to (is_held_first w o cut) qs q (placed.each q has)).0;
       belong = λ q has. (let kept = in_filter_to (is_held_first w o cut) qs q (placed.each q has) in belongs told bus o cut is leads early q (sorted.each q kept.0) kept.1);
-      within = placed.within;
+      within = placed.hold;
       complete = λ v is_in same under in_place. (
           let on : (slot_of v).bus ≡ bus = sym under.leads ∙ ap secondary (unique under.b b under.listed iw.listed (under.slot ∙ sym iw.slot)) ∙ leads in
           let found = among told s bus space qs v sorted is_in on same in

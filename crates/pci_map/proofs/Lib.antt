@@ -1,9 +1,7 @@
 pub mod Indents
-pub mod Between
 pub mod BusSeating
 pub mod LineTexts
 pub mod Values
-pub mod GapRanges
 pub mod HexBytes
 pub mod Cuts
 pub mod Covering
@@ -18,9 +16,14 @@ pub mod Counts
 pub mod Ups
 pub mod Firsts
 pub mod Lefts
+pub mod TakenRanges
+pub mod TakerLists
+pub mod TakingLines
+pub mod SpaceTexts
 pub mod Sents
 pub mod RootsAbove
 pub mod Rows
+pub mod Keeping
 pub mod Places
 pub mod Frees
 pub mod Tolds
@@ -28,4 +31,3 @@ pub mod Asciis
 pub mod AsideTexts
 pub mod MapTexts
 pub mod RangeAsides
-pub mod Parted

@@ -1,16 +1,15 @@
 -- Which regions are out of place.
-use Rattle.std.proofs.Common.{◌≡◌, ℕ, ◌+◌, ◌<◌, ◌≤◌, map, List, [], ◌∷◌, ◌++◌, take, length, get_or, sym, ap, ◌∙◌, subst, inl, inr, arith, ◌&&◌, ◌==◌, not, Bool, true, false, refl, None}
+use Rattle.std.proofs.Common.{◌≡◌, ℕ, ◌≤◌, map, [], ◌∷◌, get_or, sym, ap, ◌∙◌, subst, inl, inr, arith, ◌&&◌, ◌==◌, not, Bool, true, false, refl, None}
 use Rattle.std.specs.Prelude.{MatchBool}
-use Rattle.std.specs.List.{AllPairs, Contains}
+use Rattle.std.specs.List.{Contains}
 use Rattle.std.proofs.lemmas.Bool.{and_from, eq-eqb, cases_Bool, both_ways, false≢true, false_from_ne_true}
-use Rattle.std.proofs.lemmas.List.{take_more}
 use Rattle.std.proofs.lemmas.Option.{slice_get_within, get_or_from_slice_get}
-use Rattle.std.proofs.lemmas.List.Elements.{Contains-get_or, Contains-append_cases, Contains-append_left, Contains-append_right}
+use Rattle.std.proofs.lemmas.List.Elements.{Contains-get_or}
 use Rattle.pci_spec.specs.Slot.{Slot, same_slot}
 use Rattle.pci_spec.specs.System.{System, Function, Space, Io, Memory, Claims, Leads, IsAddress, is_window, register_of as part_register}
 use Rattle.pci_spec.specs.System as system
 use Rattle.pci_spec.specs.Fault.{RegionName, address_in, named_region}
-use Rattle.pci_spec.proofs.Members.{in_nil, in_cons_cases, in_head, in_tail, pairs_nil, pairs_cons, pairs_head, pairs_tail, pairs_append}
+use Rattle.pci_spec.proofs.Members.{in_nil, in_cons_cases, in_head, in_tail}
 use Rattle.pci_spec.proofs.Regions.{part_same, register_of-lt}
 use Rattle.given_spec.specs.Given.{Given, starts, starts_in, ranges_said}
 use Rattle.given_spec.specs.Fault as untold
@@ -32,11 +31,10 @@ use Rattle.pci_tree.specs.Regions.{IsRegionOn, name_of}
 use Rattle.pci_claims.specs.Sent.{IsSentTo}
 use Rattle.pci_claims.specs.Found.{range_at}
 use Rattle.pci_map.specs.Values.{value_of}
-use Rattle.pci_map.specs.Sent.{SentRanges, ranges_in, AreSent, HasUnsent}
+use Rattle.pci_map.specs.Addresses.{SpaceRanges, ranges_in, AreSent, HasUnsent}
 use Rattle.pci_base.specs.declared.range.Range.{Range}
-use Rattle.pci_map.specs.declared.seat.Seat.{Seat}
-use Rattle.pci_map.specs.Seats.{IsToldOf, SeatIsBefore}
-use Rattle.pci_map.specs.Above.{IsSentAbove, IsSeatOut, AreInPlace}
+use Rattle.pci_map.specs.Seats.{IsToldOf}
+use Rattle.pci_map.specs.Above.{IsSentAbove}
 use Rattle.pci_map.proofs.Values.{told_region}
 use Rattle.pci_map.proofs.Lefts.{AreOne}
 
@@ -59,7 +57,7 @@ not_window parts.Window not = absurd (not refl)
 
 -- ---- one region
 
-sent_to : (given : Given) (root : ℕ) (space : Space) (sent : SentRanges) → AreSent given root sent → IsSentTo given space root (ranges_in space sent)
+sent_to : (given : Given) (root : ℕ) (space : Space) (sent : SpaceRanges) → AreSent given root sent → IsSentTo given space root (ranges_in space sent)
 sent_to given root Io sent are = are.io
 sent_to given root Memory sent are = are.memory
 
@@ -145,7 +143,7 @@ module _ (told : Told) (given : Given) (t : Tree) (s : System) where
         let o = own_one out.address out.outside in
         false≢true (sym o.no_window ∙ ap is_window (part_is out.address o) ∙ window_named on.part ∙ ap is_named_window (sym on.is.named ∙ window))
 
-    module _ (sent : SentRanges) (above : IsSentAbove given t.roots s on.f.slot.bus sent) where
+    module _ (sent : SpaceRanges) (above : IsSentAbove given t.roots s on.f.slot.bus sent) where
       exact : IsSentTo given space above.root (ranges_in space sent)
       exact = sent_to given above.root space sent above.are
 
@@ -208,7 +206,7 @@ module _ (told : Told) (given : Given) (t : Tree) (s : System) where
         let o = range_one out.address out.outside in
         both_ways (is_marked_held x.told.mark) (subst (λ (r : ToldRange). is_marked_held r.mark ≡ false) (same_range out.address o) o.needs.not_held) held
 
-    module _ (sent : SentRanges) (above : IsSentAbove given t.roots s x.told.slot.bus sent) where
+    module _ (sent : SpaceRanges) (above : IsSentAbove given t.roots s x.told.slot.bus sent) where
       range_exact : IsSentTo given x.told.space above.root (ranges_in x.told.space sent)
       range_exact = sent_to given above.root x.told.space sent above.are
 
@@ -239,77 +237,3 @@ module _ (told : Told) (given : Given) (t : Tree) (s : System) where
           → MatchBool b ((a : ℕ) → Holds extent a → Covers (ranges_in x.told.space sent) a) (HasUnsent (ranges_in x.told.space sent) extent) → MatchBool (not b) IsLineOut (IsLineOut → ⊥)
       line_answer true not_held last all = range_in_place all
       line_answer false not_held last unsent = range_out not_held last unsent
-
--- ---- those of a list
-
-module _ {X : Type 0} (R : X → X → Type 0) where
-  pairs_front : (xs ys : List X) → AllPairs R (xs ++ ys) → AllPairs R xs
-  pairs_front [] ys pairs = pairs_nil R
-  pairs_front (x ∷ xs) ys pairs =
-      pairs_cons R x xs (λ y has. pairs_head R x (xs ++ ys) y pairs (Contains-append_left xs ys y has)) (pairs_front xs ys (pairs_tail R x (xs ++ ys) pairs))
-
-  pairs_last : (xs : List X) (y : X) → AllPairs R (xs ++ y ∷ []) → (x : X) → Contains xs x → R x y
-  pairs_last [] y pairs x has = absurd (in_nil x has)
-  pairs_last (z ∷ xs) y pairs x has = elim (in_cons_cases z xs x has) [
-    | inl here ↦ subst (λ w. R w y) here (pairs_head R z (xs ++ y ∷ []) y pairs (Contains-append_right xs (y ∷ []) y (in_head y [])))
-    | inr later ↦ pairs_last xs y (pairs_tail R z (xs ++ y ∷ []) pairs) x later
-  ]
-
-module _ (told : Told) (given : Given) (roots : List ℕ) (s : System) (space : Space) where
-  abbrev pub IsOutHere : Seat → Type 0
-  IsOutHere q = IsSeatOut told given roots s space q
-
-  pub all_in_place : (qs : List Seat) → ((q : Seat) → Contains qs q → IsOutHere q → ⊥) → AreInPlace told given roots s space qs qs
-  all_in_place qs none = record { each = λ q has. has; within = none; complete = λ q has within. has; sorted = λ sorted. sorted }
-
-  pub none_in_place : AreInPlace told given roots s space [] []
-  none_in_place = all_in_place [] (λ q has. absurd (in_nil q has))
-
-  kept : (qs out : List Seat) (q : Seat) → (IsOutHere q → ⊥) → AreInPlace told given roots s space qs out → AreInPlace told given roots s space (qs ++ q ∷ []) (out ++ q ∷ [])
-  kept qs out q within was = record {
-    each = λ p has. elim (Contains-append_cases out (q ∷ []) p has) [
-      | inl early ↦ Contains-append_left qs (q ∷ []) p (was.each p early)
-      | inr late ↦ Contains-append_right qs (q ∷ []) p late
-    ];
-    within = λ p has. elim (Contains-append_cases out (q ∷ []) p has) [
-      | inl early ↦ was.within p early
-      | inr late ↦ elim (in_cons_cases q [] p late) [
-        | inl here ↦ subst (λ (x : Seat). IsOutHere x → ⊥) here within
-        | inr none ↦ absurd (in_nil p none)
-      ]
-    ];
-    complete = λ p has in_place. elim (Contains-append_cases qs (q ∷ []) p has) [
-      | inl early ↦ Contains-append_left out (q ∷ []) p (was.complete p early in_place)
-      | inr late ↦ Contains-append_right out (q ∷ []) p late
-    ];
-    sorted = λ sorted. pairs_append (SeatIsBefore space) out (q ∷ []) (was.sorted (pairs_front (SeatIsBefore space) qs (q ∷ []) sorted)) (pairs_cons (SeatIsBefore space) q [] (λ y none. absurd (in_nil y none)) (pairs_nil (SeatIsBefore space)))
-        (λ x y has one. elim (in_cons_cases q [] y one) [
-          | inl here ↦ subst (λ z. SeatIsBefore space x z) here (pairs_last (SeatIsBefore space) qs q sorted x (was.each x has))
-          | inr none ↦ absurd (in_nil y none)
-        ]);
-  }
-
-  dropped : (qs out : List Seat) (q : Seat) → IsOutHere q → AreInPlace told given roots s space qs out → AreInPlace told given roots s space (qs ++ q ∷ []) out
-  dropped qs out q is_out was = record {
-    each = λ p has. Contains-append_left qs (q ∷ []) p (was.each p has);
-    within = was.within;
-    complete = λ p has in_place. elim (Contains-append_cases qs (q ∷ []) p has) [
-      | inl early ↦ was.complete p early in_place
-      | inr late ↦ elim (in_cons_cases q [] p late) [
-        | inl here ↦ absurd (in_place (subst IsOutHere here is_out))
-        | inr none ↦ absurd (in_nil p none)
-      ]
-    ];
-    sorted = λ sorted. was.sorted (pairs_front (SeatIsBefore space) qs (q ∷ []) sorted);
-  }
-
-  module _ (qs : List Seat) (k : ℕ) (q : Seat) (within : k < length qs) (at : q ≡ get_or qs k q) where
-    split : take k qs ++ q ∷ [] ≡ take (k + 1) qs
-    split = ap (λ x. take k qs ++ x ∷ []) at ∙ sym (take_more qs k q within)
-
-    pub one_kept : (out new : List Seat) → new ≡ out ++ q ∷ [] → (IsOutHere q → ⊥) → AreInPlace told given roots s space (take k qs) out → AreInPlace told given roots s space (take (k + 1) qs) new
-    one_kept out new is in_place was =
-        subst (λ xs. AreInPlace told given roots s space xs new) split (subst (AreInPlace told given roots s space (take k qs ++ q ∷ [])) (sym is) (kept (take k qs) out q in_place was))
-
-    pub one_dropped : (out : List Seat) → IsOutHere q → AreInPlace told given roots s space (take k qs) out → AreInPlace told given roots s space (take (k + 1) qs) out
-    one_dropped out is_out was = subst (λ xs. AreInPlace told given roots s space xs out) split (dropped (take k qs) out q is_out was)

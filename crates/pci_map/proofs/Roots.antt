@@ -14,8 +14,7 @@ use Rattle.given_spec.specs.Given.{Given}
 use Rattle.given_spec.specs.ToldClaims.{Told}
 use Rattle.map_spec.specs.Map.{MapRoot, IsRootOfMap}
 use Rattle.map_spec.specs.MapText.{space_lines, root_text}
-use Rattle.pci_map.specs.Walk.{IsSpaceTold}
-use Rattle.pci_map.specs.Buses.{AreRootsTold}
+use Rattle.pci_map.specs.Buses.{IsSpaceTold, AreRootsTold}
 
 module _ (told : Told) (given : Given) (roots : List ℕ) (s : System) where
   pub told_nothing : (text : List ℕ) → AreRootsTold told given roots s [] text text
@@ -32,15 +31,15 @@ module _ (told : Told) (given : Given) (roots : List ℕ) (s : System) where
   pub told_root : (bus : ℕ) (old mid new : List ℕ) → is_root roots bus ≡ true → IsSpaceTold record { told = told; given = given; roots = roots; system = s; space = Io } bus old mid → IsSpaceTold record { told = told; given = given; roots = roots; system = s; space = Memory } bus mid new
       → AreRootsTold told given roots s (bus ∷ []) old new
   told_root bus old mid new root io memory =
-      let one : MapRoot = record { bus = bus; io = io.lines; memory = memory.lines } in record {
+      let one : MapRoot = record { bus = bus; io = io.x; memory = memory.x } in record {
         written = one ∷ [];
         buses = ap (λ b. cond b (bus ∷ []) []) (sym root);
         each = λ r has. elim (in_cons_cases one [] r has) [
           | inl here ↦ subst (IsRootOfMap told given roots s) here (record { io = io.are; memory = memory.are })
           | inr none ↦ absurd (in_nil r none)
         ];
-        text = memory.text ∙ ap (λ t. t ++ space_lines given bus Memory memory.lines) io.text
-            ∙ append_assoc old (space_lines given bus Io io.lines) (space_lines given bus Memory memory.lines)
+        text = memory.text ∙ ap (λ t. t ++ space_lines given bus Memory memory.x) io.text
+            ∙ append_assoc old (space_lines given bus Io io.x) (space_lines given bus Memory memory.x)
             ∙ ap (λ t. old ++ t) (sym (append-nil (root_text given one)));
       }
 
@@ -73,6 +72,9 @@ told_more told given roots s k bus old mid new is first second =
     (told_both told given roots s (range_with_len 0 k) (bus ∷ []) old mid new first second)
 
 -- ---- whether a bus is one
+
+pub its_root : (roots flagged : List ℕ) (bus : ℕ) (b : Bool) → flagged ≡ roots → IsTrue b ↔ Contains flagged bus → b ≡ true → Contains roots bus
+its_root roots flagged bus b same means is = subst (λ rs. Contains rs bus) same (means.0 is)
 
 pub root_if : (roots flagged : List ℕ) (bus : ℕ) (b : Bool) → flagged ≡ roots → IsTrue b ↔ Contains flagged bus → b ≡ true → is_root roots bus ≡ true
 root_if roots flagged bus b same means is = (root_means roots bus).1 (subst (λ rs. Contains rs bus) same (means.0 is))

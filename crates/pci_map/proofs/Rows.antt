@@ -8,7 +8,7 @@ use Rattle.given_spec.specs.Given.{Given, ranges_said}
 use Rattle.pci_claims.specs.Values.{host_value, given_value}
 use Rattle.pci_claims.specs.declared.given.Given as declared
 use Rattle.pci_map.specs.Above.{AreRootsAbove, AreRows}
-use Rattle.pci_map.specs.Sent.{SentRanges, AreSent}
+use Rattle.pci_map.specs.Addresses.{SpaceRanges, AreSent}
 
 none_mapped : {X Y : Type 0} (f : X → Y) (o : Option X) → is_some o ≡ false → option_map f o ≡ None
 none_mapped f None none = refl
@@ -22,14 +22,14 @@ memory_none given none = none_mapped (λ rs. map host_value rs.now) given.memory
 
 module _ (given : Given) (table : List ℕ) where
   -- at each bus before an end what is sent to the root that a table has there
-  pub record AreRowsBelow (end : ℕ) (rows : List SentRanges) : Type 0 where
+  pub record AreRowsBelow (end : ℕ) (rows : List SpaceRanges) : Type 0 where
     pub size : length rows ≡ end
-    pub each : (bus : ℕ) (d : SentRanges) → bus < end → AreSent given (get_or table bus 0) (get_or rows bus d)
+    pub each : (bus : ℕ) (d : SpaceRanges) → bus < end → AreSent given (get_or table bus 0) (get_or rows bus d)
 
-  pub no_rows : (rows : List SentRanges) → rows ≡ [] → AreRowsBelow 0 rows
+  pub no_rows : (rows : List SpaceRanges) → rows ≡ [] → AreRowsBelow 0 rows
   no_rows rows none = record { size = ap length none; each = λ bus d low. absurd (let no : ⊥ = omega (arith, low) in no) }
 
-  pub one_row : (end root : ℕ) (rows new : List SentRanges) (row : SentRanges) → root ≡ get_or table end 0 → new ≡ rows ++ row ∷ [] → AreRowsBelow end rows → AreSent given root row → AreRowsBelow (end + 1) new
+  pub one_row : (end root : ℕ) (rows new : List SpaceRanges) (row : SpaceRanges) → root ≡ get_or table end 0 → new ≡ rows ++ row ∷ [] → AreRowsBelow end rows → AreSent given root row → AreRowsBelow (end + 1) new
   one_row end root rows new row at is was sent = record {
     size = ap length is ∙ length_push rows row ∙ ap (λ n. n + 1) was.size;
     each = λ bus d low. subst (λ xs. AreSent given (get_or table bus 0) (get_or xs bus d)) (sym is) (elim (cases_lt bus end) [
@@ -43,7 +43,7 @@ module _ (given : Given) (table : List ℕ) where
     ]);
   }
 
-  pub rows_are : (roots : List ℕ) (s : System) (end : ℕ) (rows : List SentRanges) → end ≡ 256 → AreRowsBelow end rows → AreRootsAbove roots s table → AreRows given roots s rows
+  pub rows_are : (roots : List ℕ) (s : System) (end : ℕ) (rows : List SpaceRanges) → end ≡ 256 → AreRowsBelow end rows → AreRootsAbove roots s table → AreRows given roots s rows
   rows_are roots s end rows is below above = record {
     size = below.size ∙ is;
     each = λ f d listed small. record {

@@ -6,8 +6,8 @@ use Rattle.pci_spec.specs.Why.{AreRuns}
 use Rattle.given_spec.specs.Given.{Given}
 use Rattle.given_spec.specs.ToldClaims.{Told}
 use Rattle.map_spec.specs.Regions.{Own}
-use Rattle.map_spec.specs.Lines.{Lines, End, Free, Sits, OnRoot, Inside, IsClaimedOn, IsOutOfPlace, IsFreeOn, AreLinesAt, AreInPart, AreInside}
-use Rattle.map_spec.specs.MapText.{bus_heading, map_region_line, lines_text, space_lines}
+use Rattle.map_spec.specs.Lines.{Lines, End, OnRoot, Inside, IsClaimedOn, IsOutOfPlace, IsFreeOn, AreLinesAt, AreInPart, AreInside}
+use Rattle.map_spec.specs.MapText.{map_region_line, lines_text}
 use Rattle.pci_base.specs.declared.range.Range.{Range}
 use Rattle.pci_base.specs.Ranges.{decoded_range_of}
 use Rattle.pci_tree.specs.declared.region.Part.{Part}
@@ -20,7 +20,7 @@ use Rattle.pci_map.specs.Seats.{seat_value, seat_first, IsSeatOn, AreSortedSeats
 use Rattle.pci_map.specs.Gaps.{IsClaimedBy}
 use Rattle.pci_map.specs.Inside.{AreInsideWindow}
 use Rattle.pci_map.specs.Above.{AreInPlace}
-use Rattle.pci_map.specs.Walk.{ahead, Entry, Run, At, entries, run_entries, merged, ArePlacesWritten, IsSeated, IsNoWindow, HasInside, IsSpaceTold}
+use Rattle.pci_map.specs.Walk.{ahead, Entry, Run, At, entries, run_entries, merged, ArePlacesWritten, IsSeated, IsNoWindow, HasInside}
 use Rattle.pci_map.proofs.Cuts.{cut_of_region, first_own}
 use Rattle.pci_map.proofs.Values.{among, seat_in, seat_bus, seat_space}
 use Rattle.pci_map.proofs.Covering.{seat_claims}
@@ -63,7 +63,7 @@ module _ (told : Told) (given : Given) (roots : List ℕ) (s : System) (space : 
         (λ q has. seat_in told s bus space q (sorted.each q (placed.each q has)))
         (λ q has. seat_space told s bus space q (sorted.each q (placed.each q has)))
         (λ q has. seat_bus told s bus space q (sorted.each q (placed.each q has)))
-        (λ q has. placed.within q has)
+        (λ q has. placed.hold q has)
         (λ v is_in same at in_place. (
         let found = among told s bus space all v sorted is_in at same in record {
           q = found.0;
@@ -111,40 +111,14 @@ module _ (told : Told) (given : Given) (roots : List ℕ) (s : System) (space : 
         ∙ ap (λ d. old ++ (map_region_line given depth (seat_value space q) ++ lines_text given d space placed.lines)) (one ∙ (let e : depth + 1 ≡ suc depth = omega arith in e));
   }
 
-  -- ---- a root bus
-
-  headed : (bus : ℕ) (lines : Lines) → (entries lines ≡ [] → ⊥) → space_lines given bus space lines ≡ bus_heading bus space ++ lines_text given 1 space lines
-  headed bus End some = absurd (some refl)
-  headed bus (Free r rest) some = refl
-  headed bus (Sits q inside rest) some = refl
+  -- ---- what is written
 
   not_nil : (xs : List Entry) (e : Entry) (es : List Entry) → xs ++ e ∷ es ≡ [] → ⊥
   not_nil [] e es none = let n : suc (length es) ≡ 0 = ap length none in omega (arith, n)
   not_nil (x ∷ xs) e es none = let n : suc (length (xs ++ e ∷ es)) ≡ 0 = ap length none in omega (arith, n)
 
-  some_entries : (qs : List Seat) (rs : List Range) → (qs ≡ [] → rs ≡ [] → ⊥) → merged space qs rs ≡ [] → ⊥
+  pub some_entries : (qs : List Seat) (rs : List Range) → (qs ≡ [] → rs ≡ [] → ⊥) → merged space qs rs ≡ [] → ⊥
   unfolding merged
   some_entries [] [] some none = some refl refl
   some_entries [] (r ∷ rs) some none = not_nil [] (Run (decoded_range_of r)) (run_entries rs) none
   some_entries (q ∷ qs) rs some none = not_nil (run_entries (take (ahead (seat_first q) rs) rs)) (At (seat_value space q)) (merged space qs (drop (ahead (seat_first q) rs) rs)) none
-
-  module _ (bus : ℕ) (all qs : List Seat) (rs : List Range) (sorted : AreSortedSeatsOf told s bus space all) (placed : AreInPlace told given roots s space all qs)
-      (free : AreRuns (IsFreeOn told given s bus space) (map decoded_range_of rs)) where
-    pub told_none : (text : List ℕ) → qs ≡ [] → rs ≡ [] → IsSpaceTold the_space bus text text
-    unfolding merged
-    told_none text none no_runs = record {
-      lines = End;
-      are = (lines_on_root bus all qs rs sorted placed free End (subst (λ ts. [] ≡ merged space qs ts) (sym no_runs) (subst (λ xs. [] ≡ merged space xs []) (sym none) refl)), tt);
-      text = sym (append-nil text);
-    }
-
-    pub told_some : (old mid new : List ℕ) → (qs ≡ [] → rs ≡ [] → ⊥) → mid ≡ old ++ bus_heading bus space
-        → ArePlacesWritten the_space 1 (merged space qs rs) mid new → IsSpaceTold the_space bus old new
-    told_some old mid new some line is = record {
-      lines = is.lines;
-      are = (lines_on_root bus all qs rs sorted placed free is.lines is.entries, is.inside);
-      text = is.text
-          ∙ ap (λ t. t ++ lines_text given 1 space is.lines) line
-          ∙ append_assoc old (bus_heading bus space) (lines_text given 1 space is.lines)
-          ∙ ap (λ t. old ++ t) (sym (headed bus is.lines (λ none. some_entries qs rs some (sym is.entries ∙ none))));
-    }

@@ -4,7 +4,7 @@ use Rattle.std.specs.Prelude.{MatchOption, MatchBool, is_some}
 use Rattle.std.proofs.lemmas.Bool.{false≢true}
 use Rattle.pci_base.specs.declared.range.Range.{Range}
 use Rattle.pci_tree.specs.Ranges.{Holds, Covers, IsLeastOutside}
-use Rattle.pci_map.specs.Sent.{HasUnsent}
+use Rattle.pci_map.specs.Addresses.{HasUnsent}
 
 module _ (rs : List Range) (r : Range) where
   abbrev pub IsAnswer : Bool → Type 0

@@ -5,8 +5,8 @@ use Rattle.std.proofs.lemmas.Bool.{cases_Bool, cases_lt, and_from, eq-eqb, both_
 use Rattle.std.proofs.lemmas.List.{get_or_append_left, get_or_push, length_push}
 use Rattle.pci_spec.specs.Slot.{Slot, same_slot}
 use Rattle.pci_spec.specs.System.{System, Function}
-use Rattle.pci_spec.specs.Bus.{IsNested, LeadsTo, secondary}
-use Rattle.pci_spec.proofs.BusRanges.{IsOrdered, IsWithin, ordered, within_of_behind, apart_shares_none, bus_order_means}
+use Rattle.pci_spec.specs.Bus.{IsNested, LeadsTo, secondary, is_root}
+use Rattle.pci_spec.proofs.BusRanges.{IsOrdered, IsWithin, ordered, within_of_behind, apart_shares_none, behind_is_no_root, root_means, bus_order_means}
 use Rattle.given_spec.proofs.Judging.{slots_same}
 use Rattle.given_spec.specs.Given.{Given}
 use Rattle.pci_function.specs.declared.record.Record.{Record}
@@ -15,7 +15,7 @@ use Rattle.pci_tree.proofs.Lifting.{Has, record_for, function_for, same_bridge, 
 use Rattle.pci_tree.proofs.Ways.{bridge_at}
 use Rattle.pci_map.specs.Left.{IsSlotAbove}
 use Rattle.pci_map.specs.Ways.{IsWayTo, AreWays}
-use Rattle.pci_map.specs.declared.left.Windows.{Windows}
+use Rattle.pci_map.specs.Windows.{BridgeWindows}
 
 pub same_slot_refl : (s : Slot) → same_slot s s ≡ true
 same_slot_refl s =
@@ -48,6 +48,11 @@ module _ (roots : List ℕ) (s : System) (nested : IsNested roots s) (bus : ℕ)
         bus (starts_with b bus (ordered b (nested.order b to_b.0 to_b.1)) to_b.2) (starts_with c bus (ordered c (nested.order c to_c.0 to_c.1)) to_c.2))
   ]
 
+  -- no bridge leads to a root
+  pub none_to_root : (b : Function) → LeadsTo s b bus → Contains roots bus → ⊥
+  none_to_root b to root =
+      both_ways (is_root roots bus) (behind_is_no_root roots b (nested.clear b to.0 to.1) bus (starts_with b bus (ordered b (nested.order b to.0 to.1)) to.2)) ((root_means roots bus).1 root)
+
 module _ (roots : List ℕ) (s : System) (rs : List Record) (has : Has s rs) (bus : ℕ) where
   -- a bridge that leads to the bus has a record that does
   pub not_led : ((b : Record) → IsBridgeIn rs b → bus_behind b ≡ bus → ⊥) → (b : Function) → LeadsTo s b bus → ⊥
@@ -79,7 +84,7 @@ module _ (given : Given) (roots : List ℕ) (s : System) where
       let same : above.b.slot.bus ≡ b.bus = ap (λ (y : Slot). y.bus) above.named in
       let leads = above.leads.2 in omega (arith, rises, same, leads, low)
 
-  pub one_way_more : (ways new : List (Option Windows)) (way : Option Windows) → new ≡ ways ++ way ∷ [] → AreWays given roots s ways → IsWayTo given roots s (length ways) way → AreWays given roots s new
+  pub one_way_more : (ways new : List (Option BridgeWindows)) (way : Option BridgeWindows) → new ≡ ways ++ way ∷ [] → AreWays given roots s ways → IsWayTo given roots s (length ways) way → AreWays given roots s new
   one_way_more ways new way is so here bus within = (
       let lt : bus < length ways + 1 = subst (λ n. bus < n) (ap length is ∙ length_push ways way) within in elim (cases_lt bus (length ways)) [
         | inl low ↦ subst (IsWayTo given roots s bus) (sym (ap (λ xs. get_or xs bus None) is ∙ get_or_append_left ways (way ∷ []) None bus low)) (so bus low)

@@ -1,15 +1,15 @@
 -- What the host sends to the root above each bus, and which regions are out of place.
 use Rattle.std.specs.Prelude.{◌≡◌, ℕ, ◌<◌, ◌⊎◌, List, None, length, slice_index_or}
-use Rattle.std.specs.List.{AllPairs, Contains}
+use Rattle.std.specs.List.{Contains}
 use Rattle.pci_spec.specs.System.{System, Function, Space, Io, Memory, Leads}
 use Rattle.given_spec.specs.Given.{Given, ranges_said}
 use Rattle.given_spec.specs.ToldClaims.{Told}
 use Rattle.map_spec.specs.Lines.{IsOutOfPlace}
 use Rattle.pci_tree.specs.Outline.{Tree}
 use Rattle.pci_map.specs.declared.seat.Seat.{Seat}
-use Rattle.pci_map.specs.Seats.{seat_value, SeatIsBefore}
+use Rattle.pci_map.specs.Seats.{seat_value, AreKept}
 use Rattle.pci_map.specs.Left.{IsTreeOf}
-use Rattle.pci_map.specs.Sent.{SentRanges, AreSent}
+use Rattle.pci_map.specs.Addresses.{SpaceRanges, AreSent}
 
 -- the one root from which bridges lead to a bus
 pub record IsOnlyRootAbove (roots : List ℕ) (s : System) (bus root : ℕ) : Type 0 where
@@ -27,26 +27,26 @@ AreRootsAbove roots s table =
 
 -- what is sent to the root above a bus
 pub record IsSentAbove (given : Given) (roots : List ℕ) (s : System) (bus : ℕ)
-    (sent : SentRanges) : Type 0 where
+    (sent : SpaceRanges) : Type 0 where
   pub root : ℕ
   pub above : IsOnlyRootAbove roots s bus root
   pub are : AreSent given root sent
 
 -- no list is said of either space
-pub record IsNothingSaid (given : Given) (rows : List SentRanges) : Type 0 where
+pub record IsNothingSaid (given : Given) (rows : List SpaceRanges) : Type 0 where
   pub none : length rows ≡ 0
   pub io : ranges_said given Io ≡ None
   pub memory : ranges_said given Memory ≡ None
 
 -- at each bus with functions what is sent to the root above it
-pub record AreRows (given : Given) (roots : List ℕ) (s : System) (rows : List SentRanges) : Type 0 where
+pub record AreRows (given : Given) (roots : List ℕ) (s : System) (rows : List SpaceRanges) : Type 0 where
   pub size : length rows ≡ 256
-  pub each : (f : Function) (d : SentRanges) → Contains s f → f.slot.bus < 256
+  pub each : (f : Function) (d : SpaceRanges) → Contains s f → f.slot.bus < 256
       → IsSentAbove given roots s f.slot.bus (slice_index_or rows f.slot.bus d)
 
 -- the same of a system with an outline's records, where a list is said at all
 pub record AreSentAbove (given : Given) (t : Tree) (s : System)
-    (above : List SentRanges) : Type 0 where
+    (above : List SpaceRanges) : Type 0 where
   pub tree : IsTreeOf t s
   pub rows : IsNothingSaid given above ⊎ AreRows given t.roots s above
 
@@ -55,10 +55,6 @@ abbrev pub IsSeatOut : Told → Given → List ℕ → System → Space → Seat
 IsSeatOut told given roots s space q = IsOutOfPlace told given roots s (seat_value space q)
 
 -- just those of some regions that aren't out of place, in their order
-pub record AreInPlace (told : Told) (given : Given) (roots : List ℕ) (s : System) (space : Space)
-    (qs out : List Seat) : Type 0 where
-  pub each : (q : Seat) → Contains out q → Contains qs q
-  pub within : (q : Seat) → Contains out q → IsSeatOut told given roots s space q → ⊥
-  pub complete : (q : Seat) → Contains qs q → (IsSeatOut told given roots s space q → ⊥)
-      → Contains out q
-  pub sorted : AllPairs (SeatIsBefore space) qs → AllPairs (SeatIsBefore space) out
+abbrev pub AreInPlace : Told → Given → List ℕ → System → Space → List Seat → List Seat → Type 0
+AreInPlace told given roots s space qs out =
+    AreKept (λ q. IsSeatOut told given roots s space q → ⊥) space qs out

@@ -1,5 +1,5 @@
--- What some regions claim, and the pieces of a range that lie between such ranges.
-use Rattle.std.specs.Prelude.{ℕ, ◌+◌, ◌-◌, ◌≤◌, ◌↔◌, nat_lt, if◌then◌else◌, IsFalse, Bool, false, List, [], ◌∷◌, ◌++◌, max, min}
+-- What some regions claim.
+use Rattle.std.specs.Prelude.{ℕ, ◌≤◌, ◌↔◌, IsFalse, Bool, false, List}
 use Rattle.std.specs.List.{All, AllPairs, Contains}
 use Rattle.pci_spec.specs.System.{System, Space}
 use Rattle.given_spec.specs.Given.{Given}
@@ -12,19 +12,6 @@ use Rattle.pci_claims.specs.Claim.{is_cut_from}
 use Rattle.pci_claims.specs.Isa.{is_cut_region}
 use Rattle.pci_map.specs.declared.seat.Seat.{Seat}
 use Rattle.pci_map.specs.declared.seat.Seat.TheVariants as seats
-
--- from one number up to another, if there is an address between
-abbrev pub piece : ℕ → ℕ → List Range
-piece first end = if nat_lt first end then record { first = first; last = end - 1 } ∷ [] else []
-
--- the addresses of a range from one number on and before another
-abbrev pub between : Range → ℕ → ℕ → List Range
-between range from end = piece (max from range.first) (min end (range.last + 1))
-
--- those from a number on that none of some ranges has, which stand by first address
-unfoldable pub gaps : Range → ℕ → List Range → List Range
-gaps range from [] = between range from (range.last + 1)
-gaps range from (r ∷ rs) = between range from r.first ++ gaps range (max from (r.last + 1)) rs
 
 -- a region has an address, and ISA Enable doesn't take it from it
 pub record IsKeptIn (given : Given) (space : Space) (q : Region) (a : ℕ) : Type 0 where

@@ -8,8 +8,10 @@ pub mod Walk
 pub mod Off
 pub mod Buses
 pub mod Left
+pub mod Windows
+pub mod Takers
 pub mod Ways
-pub mod Sent
+pub mod Addresses
 pub mod Above
 pub mod Mapped
 pub mod Asides

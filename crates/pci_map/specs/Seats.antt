@@ -84,3 +84,10 @@ pub record AreSortedSeatsOf (told : Told) (s : System) (bus : ℕ) (space : Spac
       → Claims f part space a → HasPart qs f part space
   pub lines : (x : ToldRegion) → IsToldOn told s bus space x → HasLine qs x
   pub sorted : AllPairs (SeatIsBefore space) qs
+
+-- just those of some regions of which P holds, in their order
+pub record AreKept (P : Seat → Type 0) (space : Space) (qs out : List Seat) : Type 0 where
+  pub each : (q : Seat) → Contains out q → Contains qs q
+  pub hold : (q : Seat) → Contains out q → P q
+  pub complete : (q : Seat) → Contains qs q → P q → Contains out q
+  pub sorted : AllPairs (SeatIsBefore space) qs → AllPairs (SeatIsBefore space) out

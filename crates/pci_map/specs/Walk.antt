@@ -3,8 +3,8 @@ use Rattle.std.specs.Prelude.{◌≡◌, ℕ, suc, nat_le, if◌then◌else◌, 
 use Rattle.pci_spec.specs.System.{Space}
 use Rattle.pci_spec.specs.Decoded as decoded
 use Rattle.map_spec.specs.Regions.{MapRegion}
-use Rattle.map_spec.specs.Lines.{Lines, End, Free, Sits, OnRoot, AreInside, AreAllInside, AreLinesOfPlace}
-use Rattle.map_spec.specs.MapText.{map_region_line, lines_text, space_lines}
+use Rattle.map_spec.specs.Lines.{Lines, End, Free, Sits, AreInside, AreAllInside}
+use Rattle.map_spec.specs.MapText.{map_region_line, lines_text}
 use Rattle.pci_base.specs.declared.range.Range.{Range}
 use Rattle.pci_base.specs.Ranges.{decoded_range_of}
 use Rattle.pci_tree.specs.declared.region.Region.{Region}
@@ -68,9 +68,3 @@ pub record HasInside (m : Mapped) (q : Seat) (bus : ℕ) (regions : List Seat)
   pub is : q ≡ seats.Own w
   pub window : w.part ≡ parts.Window
   pub inside : AreInsideWindow m w bus regions runs
-
--- a text got all lines of a space of a root bus
-pub record IsSpaceTold (m : Mapped) (bus : ℕ) (old new : List ℕ) : Type 0 where
-  pub lines : Lines
-  pub are : AreLinesOfPlace m.told m.given m.roots m.system m.space (OnRoot bus) lines
-  pub text : new ≡ old ++ space_lines m.given bus m.space lines

@@ -1,5 +1,5 @@
 -- The windows above each bus, with whether they are left.
-use Rattle.std.specs.Prelude.{ℕ, ◌<◌, ◌≡◌, ◌⊎◌, IsTrue, IsFalse, List, length, slice_index_or, Option, None, MatchOption}
+use Rattle.std.specs.Prelude.{ℕ, ◌<◌, ◌≡◌, ◌⊎◌, IsTrue, IsFalse, List, [], length, slice_index_or, Option, None, MatchOption}
 use Rattle.std.specs.List.{Contains}
 use Rattle.pci_spec.specs.Registers.{IO_BASE, MEMORY_BASE, PREFETCHABLE_BASE}
 use Rattle.pci_spec.specs.Slot.{Slot}
@@ -14,7 +14,8 @@ use Rattle.pci_map.specs.Values.{value_of}
 use Rattle.pci_map.specs.Inside.{region_has, is_taken}
 use Rattle.pci_map.specs.Left.{IsSlotAbove, IsUnled, NoneHas, IsFirstHoldingWindow, IsLeftIf}
 use Rattle.pci_map.specs.declared.left.Judged.{Judged}
-use Rattle.pci_map.specs.declared.left.Windows.{Windows}
+use Rattle.pci_map.specs.Windows.{BridgeWindows}
+use Rattle.pci_map.specs.Takers.{AreTakenAt}
 
 -- where a bridge's window stands: its register, and the space of its addresses
 pub record Spot : Type 0 where
@@ -69,32 +70,34 @@ IsFirstAt given roots s space b a o =
     MatchOption o ((kind : WindowKind) → IsTrue (is_first_window given space kind a b) → ⊥)
     (λ w. IsFirstJudged given roots s space b a w)
 
--- the windows of the bridge at a slot
-pub record AreWindowsOf (given : Given) (roots : List ℕ) (s : System) (slot : Slot) (ws : Windows) : Type 0 where
+-- the windows of the bridge at a slot, and what it takes
+pub record AreWindowsOf (given : Given) (roots : List ℕ) (s : System) (slot : Slot) (ws : BridgeWindows) : Type 0 where
   pub io : IsJudgedAt given roots s (io_spot slot) ws.io
   pub memory : IsJudgedAt given roots s (memory_spot slot) ws.memory
   pub prefetchable : IsJudgedAt given roots s (prefetchable_spot slot) ws.prefetchable
+  pub takes : AreTakenAt given s slot ws.takes
 
 -- the windows of the bridge that leads to a bus, which is no root
-pub record AreAbove (given : Given) (roots : List ℕ) (s : System) (bus : ℕ) (ws : Windows) : Type 0 where
+pub record AreAbove (given : Given) (roots : List ℕ) (s : System) (bus : ℕ) (ws : BridgeWindows) : Type 0 where
   pub slot : Slot
   pub bridge : IsSlotAbove roots s bus slot
   pub windows : AreWindowsOf given roots s slot ws
 
--- no window leads to a bus
-pub record HasNoWindow (roots : List ℕ) (s : System) (bus : ℕ) (ws : Windows) : Type 0 where
+-- no window leads to a bus, and no bridge takes anything that it leads to it
+pub record HasNoWindow (roots : List ℕ) (s : System) (bus : ℕ) (ws : BridgeWindows) : Type 0 where
   pub unled : IsUnled roots s bus
   pub io : ws.io ≡ None
   pub memory : ws.memory ≡ None
   pub prefetchable : ws.prefetchable ≡ None
+  pub takes : ws.takes ≡ record { io = []; memory = [] }
 
 -- those windows, where the bus isn't a root
-abbrev pub IsWayTo : Given → List ℕ → System → ℕ → Option Windows → Type 0
+abbrev pub IsWayTo : Given → List ℕ → System → ℕ → Option BridgeWindows → Type 0
 IsWayTo given roots s bus o =
     MatchOption o (Contains roots bus)
     (λ ws. AreAbove given roots s bus ws ⊎ HasNoWindow roots s bus ws)
 
 -- those above each bus before an end
-abbrev pub AreWays : Given → List ℕ → System → List (Option Windows) → Type 0
+abbrev pub AreWays : Given → List ℕ → System → List (Option BridgeWindows) → Type 0
 AreWays given roots s ways =
     (bus : ℕ) → bus < length ways → IsWayTo given roots s bus (slice_index_or ways bus None)

@@ -17,8 +17,8 @@ ghost use Rattle.pci_map.specs.Values.{value_of};
 ghost use Rattle.pci_map.specs.Seats.{told_of, IsToldOf, IsSeatOn, AreSeatsOn};
 ghost use Rattle.pci_map.specs.Above.{IsOnlyRootAbove, AreRootsAbove, AreSentAbove, IsSeatOut, AreInPlace};
 
+use super::addresses::Addresses;
 use super::seat::{Seat, ToldRegion, add_seat};
-use super::sent::Sent;
 use pci_base::memory::OutOfMemory;
 use pci_base::range::Range;
 use pci_base::slot::{BUSES, Slot};
@@ -31,7 +31,7 @@ use pci_tree::region::{Part, Region};
 use std::alloc::Allocator;
 
 /// The root above the bus of a function.
-fn root_over<A: Allocator + Copy>(outline: &Outline<A>, slot: Slot) -> u8
+pub fn root_over<A: Allocator + Copy>(outline: &Outline<A>, slot: Slot) -> u8
     ensures { (s : System) → HasRecords s outline.now.records → (f : Function) → Contains s f
         → f.slot ≡ slot → IsOnlyRootAbove outline.now.roots s slot.bus result }
 {
@@ -64,7 +64,7 @@ pub fn sent_above<A: Allocator + Copy>(
     alloc: A,
     given: &Given<'_>,
     outline: &Outline<A>,
-) -> Result<Vec<Sent<A>, A>, OutOfMemory>
+) -> Result<Vec<Addresses<A>, A>, OutOfMemory>
     // an outline has no image, so this is said of every system with its records
     ensures { IfOk result (λ v. (s : System) → HasRecords s outline.now.records
         → AreSentAbove (given_value given.now) outline.now s v.items) }
@@ -76,14 +76,14 @@ pub fn sent_above<A: Allocator + Copy>(
     }
     let roots_above = roots_above(outline, records);
     for bus in 0..BUSES {
-        above.push(Sent::to(alloc, given, roots_above[bus])?)?;
+        above.push(Addresses::sent(alloc, given, roots_above[bus])?)?;
     }
     Ok(above)
 }
 
 /// Whether a region of a bus is a BAR or a ROM with an address to which no access of the host starts on the root above.
 pub fn is_out_of_place<A: Allocator>(
-    above: &[Sent<A>],
+    above: &[Addresses<A>],
     space: Space,
     bus: u8,
     region: &Region,
@@ -108,7 +108,7 @@ pub fn is_out_of_place<A: Allocator>(
 }
 
 /// Whether a told range isn't held, and has an address to which no access of the host starts on the root above its bus.
-pub fn is_line_outside<A: Allocator>(above: &[Sent<A>], line: &ToldRegion<'_>) -> bool
+pub fn is_line_outside<A: Allocator>(above: &[Addresses<A>], line: &ToldRegion<'_>) -> bool
     ensures { (told : ToldValue) (given : GivenValue) (t : Tree) (s : System)
         → AreSentAbove given t s above.now → IsToldOf told s → IsToldIn told s (told_of line.now)
         → MatchBool result (IsOutOfPlace told given t.roots s (OfLine (told_of line.now)))
@@ -126,7 +126,12 @@ pub fn is_line_outside<A: Allocator>(above: &[Sent<A>], line: &ToldRegion<'_>) -
 }
 
 /// Whether a region of a bus is out of place.
-fn is_seat_outside<A: Allocator>(above: &[Sent<A>], space: Space, bus: u8, seat: &Seat<'_>) -> bool
+fn is_seat_outside<A: Allocator>(
+    above: &[Addresses<A>],
+    space: Space,
+    bus: u8,
+    seat: &Seat<'_>,
+) -> bool
     ensures { (told : ToldValue) (given : GivenValue) (t : Tree) (s : System)
         → AreSentAbove given t s above.now → IsToldOf told s
         → IsSeatOn told s bus (space_of space) seat.now
@@ -142,7 +147,7 @@ fn is_seat_outside<A: Allocator>(above: &[Sent<A>], space: Space, bus: u8, seat:
 /// The regions of a bus that aren't out of place, in their order.
 pub fn in_place<'g, A: Allocator, B: Allocator>(
     alloc: A,
-    above: &[Sent<B>],
+    above: &[Addresses<B>],
     space: Space,
     bus: u8,
     seats: Vec<Seat<'g>, A>,

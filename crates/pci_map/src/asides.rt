@@ -13,24 +13,25 @@ ghost use Rattle.pci_claims.specs.Found.{IsFoundIn};
 ghost use Rattle.pci_claims.specs.Values.{given_value, told_value};
 ghost use Rattle.pci_map.specs.Values.{value_of};
 ghost use Rattle.pci_map.specs.Seats.{told_of};
-ghost use Rattle.pci_map.specs.Mapped.{AreToldOn, IsSystemOf};
+ghost use Rattle.pci_map.specs.Mapped.{AreToldOn, IsSystemOf, IsSystemWith};
 ghost use Rattle.pci_map.specs.Above.{AreSentAbove};
 ghost use Rattle.pci_map.specs.Ways.{AreWays};
 ghost use Rattle.pci_map.specs.Asides.{IsListedAt, AreFoundBy, IsRecordIn, IsRegionAside, HasAside, HasNoAside, IsNamedAt, IsNamedAtRegister, IsOfRegisters, IsTheRange, IsRangeFrom, AreAsides, AreAsidesTold};
 
 use super::above::{is_line_outside, is_out_of_place};
+use super::addresses::Addresses;
 use super::left::{Windows, is_left};
 use super::line::{push_region, push_told_line};
 use super::mapped::Mapped;
-use super::off::{first_of_slot, push_section};
+use super::off::push_section;
 use super::seat::ToldRegion;
-use super::sent::Sent;
-use super::ways::{Spot, find_ways};
+use super::ways::Spot;
 use pci_base::memory::OutOfMemory;
 use pci_base::slot::Slot;
 use pci_base::space::Space;
 use pci_claims::given::Given;
 use pci_function::record::Record;
+use pci_told::told_list::first_of_slot;
 use pci_tree::region::{Region, add_regions};
 use std::alloc::{Allocator, Global};
 use std::marker::Model;
@@ -60,10 +61,10 @@ impl<A: Allocator> Model for Asides<A> {
 #[derive(Drop)]
 struct Routes<'a, A: Allocator> {
     given: Given<'a>,
-    /// The windows above it.
-    ways: &'a [Option<Windows>],
+    /// The windows above it, and what their bridge takes.
+    ways: &'a [Option<Windows<A>>],
     /// What is sent to the root above it.
-    above: &'a [Sent<A>],
+    above: &'a [Addresses<A>],
 }
 
 /// The regions of a function, by space.
@@ -314,16 +315,17 @@ fn push_all<A: Allocator + Copy, B: Allocator>(
     asides: &mut Asides<B>,
     mapped: &Mapped<'_, '_, A>,
 ) -> Result<(), OutOfMemory>
-    requires { AreToldOn (told_value mapped.now.told) mapped.now.outline.now mapped.now.on.now }
+    requires told { AreToldOn (told_value mapped.now.told) mapped.now.outline.now mapped.now.on.now }
+    // bus numbers index it
+    requires ways { length mapped.now.ways.now ≡ 256 }
     ensures { OnOk result ((s : System)
-        → IsSystemOf (told_value mapped.now.told) (given_value mapped.now.given) mapped.now.outline.now mapped.now.above.now s
+        → IsSystemWith (told_value mapped.now.told) (given_value mapped.now.given) mapped.now.outline.now mapped.now.above.now mapped.now.ways.now mapped.now.takers.now s
         → AreAsides (told_value mapped.now.told) (given_value mapped.now.given) mapped.now.outline.now.roots s
         (IsIn (told_value mapped.now.told) s) asides.old asides.new) }
 {
-    let ways = find_ways(alloc, &mapped.given, mapped.outline)?;
     let routes = Routes {
         given: mapped.given,
-        ways: ways.as_slice(),
+        ways: mapped.ways,
         above: mapped.above,
     };
     // These two lists serve all functions.
@@ -347,15 +349,17 @@ fn push_all<A: Allocator + Copy, B: Allocator>(
 }
 
 /// Appends a line for each region that has none at a place, by slot and register: below the heading `outside` those that
-/// are out of place, and below `unreached` the others, to which windows don't lead from a root.
+/// are out of place, and below `unreached` the others: no windows lead to them, and no bridge takes them.
 pub fn push_asides<A: Allocator + Copy, B: Allocator>(
     alloc: A,
     text: &mut String<B>,
     mapped: &Mapped<'_, '_, A>,
 ) -> Result<(), OutOfMemory>
-    requires { AreToldOn (told_value mapped.now.told) mapped.now.outline.now mapped.now.on.now }
+    requires told { AreToldOn (told_value mapped.now.told) mapped.now.outline.now mapped.now.on.now }
+    // bus numbers index it
+    requires ways { length mapped.now.ways.now ≡ 256 }
     ensures { OnOk result ((s : System)
-        → IsSystemOf (told_value mapped.now.told) (given_value mapped.now.given) mapped.now.outline.now mapped.now.above.now s
+        → IsSystemWith (told_value mapped.now.told) (given_value mapped.now.given) mapped.now.outline.now mapped.now.above.now mapped.now.ways.now mapped.now.takers.now s
         → AreAsidesTold (told_value mapped.now.told) (given_value mapped.now.given) mapped.now.outline.now.roots s
         (string_bytes text.old) (string_bytes text.new)) }
 {

@@ -1,5 +1,5 @@
 //! The regions of a bus and a space: its BARs, ROMs and windows, and told ranges that are on.
-ghost use Rattle.std.specs.Prelude.{◌≡◌, ◌≤◌, length, map, IsTrue, ◌↔◌, IfOk, OnOk};
+ghost use Rattle.std.specs.Prelude.{◌≡◌, ◌≤◌, length, map, IfOk, OnOk};
 ghost use Rattle.std.specs.List.Sorted.{IsNonDecreasingBy, IsPermutation};
 ghost use Rattle.pci_spec.specs.System.{System};
 ghost use Rattle.pci_base.specs.Space.{space_of};
@@ -19,16 +19,6 @@ use pci_claims::all_claims::{Stretch, ranges_of};
 use pci_told::told_range::ToldRange;
 use pci_tree::region::Region;
 use std::alloc::Allocator;
-
-/// Whether a told range is of a space.
-fn is_of(range: &ToldRange, space: Space) -> bool
-    ensures { IsTrue result ↔ (range.now.space ≡ space_of space) }
-{
-    match range.space {
-        Space::Io => matches!(space, Space::Io),
-        Space::Mem => matches!(space, Space::Mem),
-    }
-}
 
 /// BARs, ROMs and windows, as regions of a bus.
 fn own_seats<'g, A: Allocator>(
@@ -63,7 +53,7 @@ fn add_told<'g, A: Allocator>(
 {
     for i in stretch.first..stretch.end {
         let told = &ranges[i];
-        if on[i] && is_of(told, space) {
+        if on[i] && told.is_in(space) {
             let register = 256 + i as u16;
             add_seat(seats, &Seat::OfLine(ToldRegion { register, told }))?;
         }

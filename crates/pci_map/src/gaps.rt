@@ -1,5 +1,5 @@
 //! The addresses of a range that no region of a bus claims, and what is free on a root bus.
-ghost use Rattle.std.specs.Prelude.{◌≡◌, ℕ, ◌++◌, map, IsFalse, IfOk, OnOk};
+ghost use Rattle.std.specs.Prelude.{◌≡◌, ℕ, map, IsFalse, IfOk};
 ghost use Rattle.std.specs.List.{All};
 ghost use Rattle.std.specs.Option.{is_some};
 ghost use Rattle.pci_spec.specs.System.{System};
@@ -10,7 +10,7 @@ ghost use Rattle.map_spec.specs.Lines.{IsFreeOn};
 ghost use Rattle.pci_base.specs.Ranges.{decoded_range_of};
 ghost use Rattle.pci_base.specs.Space.{space_of};
 ghost use Rattle.pci_claims.specs.Values.{given_value};
-ghost use Rattle.pci_map.specs.Gaps.{between, gaps, is_cut_seat, AreClaimedBy, AreClaimsOf, AreClaimed, AreFreeInside};
+ghost use Rattle.pci_map.specs.Gaps.{is_cut_seat, AreClaimedBy, AreClaimsOf, AreClaimed, AreFreeInside};
 ghost use Rattle.pci_map.specs.Seats.{seat_range, AreSortedSeatsOf};
 
 use super::seat::Seat;
@@ -18,50 +18,13 @@ use pci_base::memory::OutOfMemory;
 use pci_base::range::Range;
 use pci_base::space::Space;
 use pci_claims::claim::own;
+use pci_claims::gaps::free_runs;
 use pci_claims::gather::{common, gathered};
 use pci_claims::given::Given;
 use pci_claims::isa::{is_cut, kept};
 use pci_claims::sent::sent_to;
 use pci_tree::region::Region;
 use std::alloc::Allocator;
-
-/// Adds the addresses of a range from `from` on and before `end`, if there are any.
-fn add_between<A: Allocator>(
-    out: &mut Vec<Range, A>,
-    range: Range,
-    from: u128,
-    end: u128,
-) -> Result<(), OutOfMemory>
-    ensures { OnOk result (out.new.items ≡ out.old.items ++ between range from end) }
-{
-    let first = from.max(u128::from(range.first));
-    let end = end.min(u128::from(range.last) + 1);
-    if first < end {
-        out.push(Range {
-            first: first as u64,
-            last: (end - 1) as u64,
-        })?;
-    }
-    Ok(())
-}
-
-/// The addresses of a range that no claimed range has, as ranges: the claimed ones stand by first address.
-fn free_runs<A: Allocator>(
-    alloc: A,
-    range: Range,
-    claimed: &[Range],
-) -> Result<Vec<Range, A>, OutOfMemory>
-    ensures { IfOk result (λ v. v.items ≡ gaps range 0 claimed.now) }
-{
-    let mut out = Vec::new(alloc);
-    let mut from = 0;
-    for claim in claimed {
-        add_between(&mut out, range, from, u128::from(claim.first))?;
-        from = from.max(u128::from(claim.last) + 1);
-    }
-    add_between(&mut out, range, from, u128::from(range.last) + 1)?;
-    Ok(out)
-}
 
 /// Whether ISA Enable takes addresses of a space from a region of a bus.
 fn is_seat_cut(given: &Given<'_>, space: Space, seat: &Seat<'_>) -> bool

@@ -1,16 +1,22 @@
-//! Whether a region is left: no windows lead to it from a root bus.
-ghost use Rattle.std.specs.Prelude.{◌≡◌, ℕ, ◌<◌, length, None};
+//! Whether a region is left: no windows lead to it from a root bus, or from what a bridge takes.
+ghost use Rattle.std.specs.Prelude.{◌≡◌, ℕ, ◌<◌, [], length, None, ◌↔◌, IsTrue, MatchBool};
 ghost use Rattle.pci_spec.specs.System.{System, IsAddress};
 ghost use Rattle.given_spec.specs.Given.{Given};
 ghost use Rattle.map_spec.specs.Regions.{MapRegion, slot_of, space_of as region_space, range_of};
 ghost use Rattle.pci_base.specs.Space.{space_of};
 ghost use Rattle.pci_tree.specs.Outline.{Tree};
+ghost use Rattle.pci_tree.specs.Ranges.{Covers};
+ghost use Rattle.pci_map.specs.Addresses.{ranges_in};
 ghost use Rattle.pci_map.specs.Left.{IsTreeOf, IsLeftIf};
+ghost use Rattle.pci_map.specs.Takers.{IsTakenFirst};
 ghost use Rattle.pci_map.specs.Ways.{Spot, IsJudgedAt, IsHoldingAt, AreAbove, IsFirstAt, AreWays};
 
+use super::addresses::Addresses;
 use super::inside::{has, takes};
 use pci_base::space::Space;
 use pci_tree::region::Region;
+use std::alloc::{Allocator, Global};
+use std::marker::Model;
 
 /// A window of a bridge, whether ISA Enable cuts it, and whether it is left.
 #[derive(Clone, Copy)]
@@ -20,24 +26,44 @@ pub struct Judged {
     pub left: bool,
 }
 
-/// The windows of the bridge that leads to a bus: those that claim an address.
-#[derive(Clone, Copy)]
-pub struct Windows {
+/// The windows of the bridge that leads to a bus, those that claim an address, and what it takes as no region of its own
+/// bus claims it.
+#[derive(Drop)]
+pub struct Windows<A: Allocator = Global> {
     pub io: Option<Judged>,
     pub memory: Option<Judged>,
     pub prefetchable: Option<Judged>,
+    pub takes: Addresses<A>,
 }
 
-impl Windows {
-    /// No windows.
-    pub fn none() -> Windows
-        ensures { result ≡ record { io = None; memory = None; prefetchable = None } }
+impl<A: Allocator> Model for Windows<A> {
+    ghost use Rattle.pci_map.specs.Windows.{BridgeWindows};
+
+    ghost Value = { BridgeWindows };
+
+    ghost view = { λ w. record { io = w.io; memory = w.memory; prefetchable = w.prefetchable; takes = w.takes } };
+}
+
+impl<A: Allocator + Copy> Windows<A> {
+    /// No windows, and nothing that is taken.
+    pub fn none(alloc: A) -> Windows<A>
+        ensures { result ≡ record { io = None; memory = None; prefetchable = None; takes = record { io = []; memory = [] } } }
     {
         Windows {
             io: None,
             memory: None,
             prefetchable: None,
+            takes: Addresses::none(alloc),
         }
+    }
+}
+
+impl<A: Allocator> Windows<A> {
+    /// Whether the bridge takes an address.
+    fn has_taken(&self, space: Space, address: u64) -> bool
+        ensures { IsTrue result ↔ Covers (ranges_in (space_of space) self.now.takes) address }
+    {
+        self.takes.has(space, address)
     }
 }
 
@@ -60,7 +86,7 @@ fn holding(judged: Option<Judged>, address: u64) -> Option<Judged>
 }
 
 /// The first window of a bridge, by register, that claims an address.
-fn first_window(windows: &Windows, space: Space, address: u64) -> Option<Judged>
+fn first_window<A: Allocator>(windows: &Windows<A>, space: Space, address: u64) -> Option<Judged>
     ensures none { windows.now.io ≡ None → windows.now.memory ≡ None → windows.now.prefetchable ≡ None
         → result ≡ None }
     ensures first { (given : Given) (t : Tree) (s : System) (bus : ℕ) → IsTreeOf t s
@@ -79,9 +105,28 @@ fn first_window(windows: &Windows, space: Space, address: u64) -> Option<Judged>
     }
 }
 
-/// Whether a region of a bus with this first address is left: the bus is no root, and no window of the bridge there claims
-/// the address, or the first that does is left itself. Of each bus that is no root the windows above it are given.
-pub fn is_left(ways: &[Option<Windows>], bus: u8, space: Space, address: u64) -> bool
+/// Whether the bridge takes an address that none of its windows claims.
+pub fn is_taken_first<A: Allocator>(windows: &Windows<A>, space: Space, address: u64) -> bool
+    ensures { (given : Given) (t : Tree) (s : System) (bus : ℕ) → IsTreeOf t s
+        → (above : AreAbove given t.roots s bus windows.now) → IsAddress (space_of space) address
+        → MatchBool result (IsTakenFirst given (space_of space) above.bridge.b address)
+        (IsTakenFirst given (space_of space) above.bridge.b address → ⊥) }
+{
+    match first_window(windows, space, address) {
+        None => windows.has_taken(space, address),
+        Some(_) => false,
+    }
+}
+
+/// Whether a region of a bus with this first address is left: the bus is no root, no window of the bridge there claims the
+/// address and the bridge doesn't take it, or the first window that claims it is left itself. Of each bus that is no root
+/// the windows above it are given.
+pub fn is_left<A: Allocator>(
+    ways: &[Option<Windows<A>>],
+    bus: u8,
+    space: Space,
+    address: u64,
+) -> bool
     // bus numbers index it
     requires { bus < length ways.now }
     ensures { (given : Given) (t : Tree) (s : System) (q : MapRegion) → IsTreeOf t s
@@ -93,7 +138,7 @@ pub fn is_left(ways: &[Option<Windows>], bus: u8, space: Space, address: u64) ->
     match way {
         None => false,
         Some(windows) => match first_window(windows, space, address) {
-            None => true,
+            None => !windows.has_taken(space, address),
             Some(judged) => judged.left,
         },
     }

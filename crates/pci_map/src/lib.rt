@@ -7,6 +7,7 @@
 #![tactic(auto)]
 
 pub mod above;
+pub mod addresses;
 pub mod asides;
 pub mod bus_seats;
 pub mod buses;
@@ -18,7 +19,8 @@ pub mod line;
 pub mod mapped;
 pub mod off;
 pub mod seat;
-pub mod sent;
+pub mod takers;
+pub mod takings;
 pub mod text;
 pub mod walk;
 pub mod ways;

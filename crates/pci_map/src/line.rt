@@ -7,7 +7,7 @@ ghost use Rattle.pci_spec.specs.Listing.{range_text};
 ghost use Rattle.pci_spec.specs.Why.{amount_text, address_count};
 ghost use Rattle.given_spec.specs.ToldLine.{register_text};
 ghost use Rattle.map_spec.specs.Regions.{Own};
-ghost use Rattle.map_spec.specs.MapText.{indent, part_name, told_part_name, map_told_line, map_region_line, free_line, bus_heading};
+ghost use Rattle.map_spec.specs.MapText.{indent, part_name, told_part_name, map_told_line, map_region_line, free_line, bus_heading, taking_heading};
 ghost use Rattle.pci_claims.specs.Values.{given_value};
 ghost use Rattle.arrayvec.specs.ArrayVec.{array_vec_len};
 ghost use Rattle.pci_base.specs.Ranges.{decoded_range_of};
@@ -19,11 +19,12 @@ ghost use Rattle.pci_map.specs.Lines.{isa_ending, name_ending, region_line_by};
 use super::cells::{CELLS_MAX, Cells, push_cells, put, put_byte, put_bytes, put_slot};
 use super::seat::{Seat, ToldRegion};
 use pci_base::range::Range;
+use pci_base::slot::Slot;
 use pci_base::space::Space;
 use pci_claims::given::Given;
 use pci_claims::isa::is_cut;
 use pci_listing::amount::{amount_of, unit_name};
-use pci_listing::hex_text::push_byte;
+use pci_listing::hex_text::{push_byte, push_slot};
 use pci_tree::region::{Part, Region};
 use std::alloc::{AllocError, Allocator};
 
@@ -312,4 +313,15 @@ pub fn push_heading<A: Allocator>(
         Space::Io => text.push_str(" io\n"),
         Space::Mem => text.push_str(" mem\n"),
     }
+}
+
+/// Appends the heading of what a bridge takes, as `  unclaimed 00:1e.0`.
+pub fn push_taking_heading<A: Allocator>(text: &mut String<A>, slot: Slot) -> Result<(), AllocError>
+    ensures { OnOk result
+        (string_bytes text.new ≡ string_bytes text.old ++ taking_heading slot) }
+{
+    text.push_str("  unclaimed ")?;
+    push_slot(text, slot)?;
+    text.push_str("\n")?;
+    Ok(())
 }

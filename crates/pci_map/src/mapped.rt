@@ -1,5 +1,7 @@
 //! What is mapped.
-use super::sent::Sent;
+use super::addresses::Addresses;
+use super::left::Windows;
+use super::takers::Taker;
 use pci_claims::given::Given;
 use pci_claims::told::Told;
 use pci_tree::outline::Outline;
@@ -14,5 +16,9 @@ pub struct Mapped<'a, 'g, A: Allocator> {
     /// Of each told range whether it is on.
     pub on: &'a [bool],
     /// At each bus what is sent to the root above it.
-    pub above: &'a [Sent<A>],
+    pub above: &'a [Addresses<A>],
+    /// At each bus that is no root the windows of the bridge that leads there, and what it takes.
+    pub ways: &'a [Option<Windows<A>>],
+    /// The bridges that may take what no region of their bus claims, by slot.
+    pub takers: &'a [Taker],
 }

@@ -1,10 +1,9 @@
 //! What is off: BARs that are implemented, of a space that their function's Command doesn't enable, and told ranges that
 //! aren't on.
-ghost use Rattle.std.specs.Prelude.{◌≡◌, ◌<◌, ◌≤◌, ◌++◌, length, map, OnOk};
-ghost use Rattle.std.specs.List.{AllWithin, flat_map};
+ghost use Rattle.std.specs.Prelude.{◌≡◌, ◌++◌, length, map, OnOk};
+ghost use Rattle.std.specs.List.{flat_map};
 ghost use Rattle.std.specs.String.{string_bytes};
 ghost use Rattle.pci_spec.specs.System.{System};
-ghost use Rattle.pci_spec.specs.Slot.{IsSlot, slot_number};
 ghost use Rattle.pci_tree.specs.Trees.{HasTree};
 ghost use Rattle.given_spec.specs.Told.{IsTold};
 ghost use Rattle.map_spec.specs.MapText.{map_off_line, map_off_text};
@@ -21,6 +20,7 @@ use pci_base::memory::OutOfMemory;
 use pci_base::slot::Slot;
 use pci_function::record::Record;
 use pci_image::bar::Bar;
+use pci_told::told_list::first_of_slot;
 use pci_told::told_range::ToldRange;
 use pci_tree::region::{Part, Region};
 use std::alloc::{AllocError, Allocator};
@@ -71,20 +71,6 @@ fn push_bars<A: Allocator>(
         push_bar(text, slot, command, *bar)?;
     }
     Ok(())
-}
-
-/// The index of the first told range of this slot or a higher one.
-pub fn first_of_slot(ranges: &[ToldRange], slot: Slot) -> usize
-    // they stand by slot, so it is found by halving
-    requires { IsTold ranges.now }
-    ensures bound { result ≤ length ranges.now }
-    ensures before { AllWithin (λ r. slot_number r.slot < slot_number slot) ranges.now 0 result }
-    ensures after { AllWithin (λ r. slot_number slot ≤ slot_number r.slot) ranges.now result (length ranges.now) }
-    // so that slots with one number are one
-    ensures lawful { IsSlot slot }
-{
-    let number = slot.number();
-    ranges.partition_point(|range| range.slot.number() < number)
 }
 
 /// Appends the lines of the told ranges of a function that aren't on.

@@ -6,7 +6,7 @@ use pci_base::range::Range;
 use pci_base::slot::Slot;
 use pci_base::space::Space;
 use pci_claims::claim::number_of;
-use pci_told::told_range::{Mark, ToldRange};
+use pci_told::told_range::ToldRange;
 use pci_tree::region::Region;
 use std::alloc::Allocator;
 use std::slice;
@@ -80,10 +80,7 @@ impl ToldRegion<'_> {
         ensures { result ≡ is_marked_held self.now.told.now.mark }
     {
         let told = self.told;
-        match told.mark {
-            Mark::Command | Mark::Always => false,
-            Mark::Held => true,
-        }
+        told.is_held()
     }
 }
 

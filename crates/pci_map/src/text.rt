@@ -13,14 +13,16 @@ use super::asides::push_asides;
 use super::buses::push_roots;
 use super::mapped::Mapped;
 use super::off::push_off;
+use super::takers::find_takers;
+use super::ways::find_ways;
 use pci_base::memory::OutOfMemory;
 use pci_claims::given::Given;
 use pci_claims::told::{Told, ranges_on};
 use pci_tree::outline::Outline;
 use std::alloc::Allocator;
 
-/// The map of an outline, with what is given and told: the lines of each root bus, the regions that are out of place,
-/// those that no way leads to, and the BARs and told ranges that are off.
+/// The map of an outline, with what is given and told: the lines of each root bus and of what bridges take, the regions that
+/// are out of place, those that no way leads to, and the BARs and told ranges that are off.
 pub fn map_text<A: Allocator + Copy>(
     alloc: A,
     outline: &Outline<A>,
@@ -34,6 +36,8 @@ pub fn map_text<A: Allocator + Copy>(
         → IsMapText (told_value told.now) (given_value given.now) outline.now.roots s (string_bytes text)) }
 {
     let above = sent_above(alloc, given, outline)?;
+    let ways = find_ways(alloc, given, outline)?;
+    let takers = find_takers(alloc, given, outline)?;
     let on = ranges_on(alloc, told, outline)?;
     let mut text = String::new(alloc);
     let mapped = Mapped {
@@ -42,6 +46,8 @@ pub fn map_text<A: Allocator + Copy>(
         told: *told,
         on: on.as_slice(),
         above: above.as_slice(),
+        ways: ways.as_slice(),
+        takers: takers.as_slice(),
     };
     push_roots(alloc, &mut text, &mapped)?;
     push_asides(alloc, &mut text, &mapped)?;

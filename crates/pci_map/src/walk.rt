@@ -10,13 +10,10 @@ ghost use Rattle.pci_claims.specs.Values.{given_value, told_value};
 ghost use Rattle.pci_map.specs.Values.{mapped_of};
 ghost use Rattle.pci_map.specs.Seats.{IsSeatOn, AreSeatsOn};
 ghost use Rattle.pci_map.specs.Mapped.{AreToldOn, IsSystemOf};
-ghost use Rattle.pci_map.specs.Walk.{ahead, merged, ArePlacesWritten, IsSeated, IsNoWindow, HasInside, IsSpaceTold};
+ghost use Rattle.pci_map.specs.Walk.{ahead, merged, ArePlacesWritten, IsSeated, IsNoWindow, HasInside};
 
-use super::above::in_place;
-use super::bus_seats::seats_on;
-use super::gaps::free_on_root;
 use super::inside::{Inside, look_inside};
-use super::line::{push_heading, push_line, push_runs};
+use super::line::{push_line, push_runs};
 use super::mapped::Mapped;
 use super::seat::Seat;
 use pci_base::memory::OutOfMemory;
@@ -27,10 +24,10 @@ use std::alloc::{AllocError, Allocator};
 
 /// A walk through a space of an outline.
 #[derive(Drop)]
-struct Walk<'m, 'a, 'g, A: Allocator> {
-    alloc: A,
-    mapped: &'m Mapped<'a, 'g, A>,
-    space: Space,
+pub struct Walk<'m, 'a, 'g, A: Allocator> {
+    pub alloc: A,
+    pub mapped: &'m Mapped<'a, 'g, A>,
+    pub space: Space,
 }
 
 /// How many of the first runs begin before an address.
@@ -125,7 +122,7 @@ fn push_seat<A: Allocator + Copy, B: Allocator>(
 
 /// Appends the lines of what stands in a place, with what is inside each window below its line.
 #[cycle(place)]
-fn push_place<A: Allocator + Copy, B: Allocator>(
+pub fn push_place<A: Allocator + Copy, B: Allocator>(
     walk: &Walk<'_, '_, '_, A>,
     text: &mut String<B>,
     depth: u32,
@@ -148,34 +145,4 @@ fn push_place<A: Allocator + Copy, B: Allocator>(
     }
     push_runs(text, depth, space, left)?;
     Ok(())
-}
-
-/// Appends the lines of a root bus and a space below their heading, if there are any.
-pub fn push_space<A: Allocator + Copy, B: Allocator>(
-    alloc: A,
-    text: &mut String<B>,
-    mapped: &Mapped<'_, '_, A>,
-    bus: u8,
-    space: Space,
-) -> Result<(), OutOfMemory>
-    requires { AreToldOn (told_value mapped.now.told) mapped.now.outline.now mapped.now.on.now }
-    ensures { OnOk result ((s : System)
-        → IsSystemOf (told_value mapped.now.told) (given_value mapped.now.given) mapped.now.outline.now mapped.now.above.now s
-        → IsSpaceTold (mapped_of (told_value mapped.now.told) (given_value mapped.now.given) mapped.now.outline.now s
-        (space_of space)) bus (string_bytes text.old) (string_bytes text.new)) }
-{
-    let all = seats_on(alloc, mapped, bus, space)?;
-    let runs = free_on_root(alloc, &mapped.given, space, bus, all.as_slice())?;
-    let regions = in_place(alloc, mapped.above, space, bus, all)?;
-    if regions.is_empty() && runs.is_empty() {
-        return Ok(());
-    }
-    let place = Inside { bus, regions, runs };
-    let walk = Walk {
-        alloc,
-        mapped,
-        space,
-    };
-    push_heading(text, bus, space)?;
-    push_place(&walk, text, 1, &place)
 }

@@ -12,6 +12,7 @@ ghost use Rattle.pci_map.specs.Left.{IsTreeOf, HasAbove};
 ghost use Rattle.pci_map.specs.Ways.{IsJudgedAt, AreWindowsOf, IsWayTo, AreWays};
 
 use super::left::{Judged, Windows, is_left};
+use super::takers::taken_at;
 use pci_base::memory::OutOfMemory;
 use pci_base::offset::{IO_BASE, MEMORY_BASE, PREFETCHABLE_BASE};
 use pci_base::slot::{BUSES, Slot};
@@ -67,7 +68,7 @@ fn judge<A: Allocator + Copy>(
     alloc: A,
     given: &Given<'_>,
     outline: &Outline<A>,
-    ways: &[Option<Windows>],
+    ways: &[Option<Windows<A>>],
     spot: Spot,
 ) -> Result<Option<Judged>, OutOfMemory>
     requires { spot.slot.bus < length ways.now }
@@ -88,14 +89,14 @@ fn judge<A: Allocator + Copy>(
     Ok(Some(Judged { window, cut, left }))
 }
 
-/// The windows of a bridge, by those above lower buses.
+/// The windows of a bridge, by those above lower buses, and what it takes.
 fn windows_of<A: Allocator + Copy>(
     alloc: A,
     given: &Given<'_>,
     outline: &Outline<A>,
-    ways: &[Option<Windows>],
+    ways: &[Option<Windows<A>>],
     bridge: Slot,
-) -> Result<Windows, OutOfMemory>
+) -> Result<Windows<A>, OutOfMemory>
     requires { bridge.bus < length ways.now }
     ensures { IfOk result (λ w. (s : System) → IsTreeOf outline.now s
         → AreWays (given_value given.now) outline.now.roots s ways.now
@@ -119,10 +120,12 @@ fn windows_of<A: Allocator + Copy>(
     let io = judge(alloc, given, outline, ways, io_spot)?;
     let memory = judge(alloc, given, outline, ways, memory_spot)?;
     let prefetchable = judge(alloc, given, outline, ways, prefetchable_spot)?;
+    let takes = taken_at(alloc, given, outline, bridge)?;
     Ok(Windows {
         io,
         memory,
         prefetchable,
+        takes,
     })
 }
 
@@ -131,9 +134,9 @@ fn next_way<A: Allocator + Copy>(
     alloc: A,
     given: &Given<'_>,
     outline: &Outline<A>,
-    ways: &[Option<Windows>],
+    ways: &[Option<Windows<A>>],
     above: Above,
-) -> Result<Option<Windows>, OutOfMemory>
+) -> Result<Option<Windows<A>>, OutOfMemory>
     ensures { IfOk result (λ o. (s : System) → IsTreeOf outline.now s
         → AreWays (given_value given.now) outline.now.roots s ways.now
         → HasAbove outline.now.roots s (length ways.now) above
@@ -141,7 +144,7 @@ fn next_way<A: Allocator + Copy>(
 {
     match above {
         Above::Host => Ok(None),
-        Above::Nothing => Ok(Some(Windows::none())),
+        Above::Nothing => Ok(Some(Windows::none(alloc))),
         Above::Bridge(bridge) => {
             // a bridge leads to a higher bus than its own
             if ways.len() <= bridge.bus() as usize {
@@ -158,7 +161,7 @@ pub fn find_ways<A: Allocator + Copy>(
     alloc: A,
     given: &Given<'_>,
     outline: &Outline<A>,
-) -> Result<Vec<Option<Windows>, A>, OutOfMemory>
+) -> Result<Vec<Option<Windows<A>>, A>, OutOfMemory>
     // bus numbers index it
     ensures size { IfOk result (λ v. length v.items ≡ 256) }
     ensures ways { IfOk result (λ v. (s : System) → IsTreeOf outline.now s

@@ -1,4 +1,4 @@
-use Rattle.std.proofs.Common.{rules, ◌≡◌, ◌+◌, ◌<◌, ◌≤◌, List, [], length, get_or, take, subst, sym, ◌∙◌, inl, inr, arith, ap}
+use Rattle.std.proofs.Common.{rules, ◌≡◌, ◌<◌, ◌≤◌, List, [], length, get_or, subst, sym, ◌∙◌, inl, inr, arith, ap}
 use Rattle.std.specs.Prelude.{MatchBool}
 use Rattle.std.specs.List.{Contains}
 use Rattle.std.proofs.lemmas.List.{take_all}
@@ -7,13 +7,14 @@ use Rattle.pci_base.specs.Space.{space_of}
 use Rattle.pci_map.specs.declared.seat.Seat.{Seat}
 use Rattle.pci_map.specs.Seats.{seat_value}
 use Rattle.pci_map.specs.Above.{IsSeatOut, AreInPlace}
-use Rattle.pci_map.proofs.Places.{nothing_out, all_in_place, none_in_place, one_kept, one_dropped}
+use Rattle.pci_map.proofs.Keeping.{all_kept, none_kept, one_kept, one_dropped}
+use Rattle.pci_map.proofs.Places.{nothing_out}
 use Rattle.pci_map.proofs.above.in_place.Goals as goal
 use Rattle.pci_map.proofs.above.in_place.Goals.{then-not-is_seat_outside+in_ok-add_seat, else-not-is_seat_outside}
 
 pub loop-seat-init : goal.loop-seat-init
 loop-seat-init g c = λ told given t s above is_told on.
-    subst (λ (xs : List Seat). AreInPlace told given t.roots s (space_of c.args.space) [] xs) (sym c.in-Ok.ensures.items) (none_in_place told given t.roots s (space_of c.args.space))
+    subst (λ (xs : List Seat). AreInPlace told given t.roots s (space_of c.args.space) [] xs) (sym c.in-Ok.ensures.items) (none_kept (λ q. IsSeatOut told given t.roots s (space_of c.args.space) q → ⊥) (space_of c.args.space))
 
 pub loop-seat-preserved : goal.loop-seat-preserved
 loop-seat-preserved g c = λ told given t s above is_told on.
@@ -27,18 +28,18 @@ loop-seat-preserved g c = λ told given t s above is_told on.
     let listed : Contains qs q = subst (Contains qs) (sym at) (Contains-get_or qs k q within) in
     let answer = c.is_seat_outside.ensures told given t s above is_told (on q listed) in
     let was = c.loop-seat.invariant told given t s above is_told on in elim c.if-not-is_seat_outside.branch [
-      | then-not-is_seat_outside+in_ok-add_seat w ↦ one_kept told given t.roots s space qs k q within at c.loop-seat.out.items c.if-not-is_seat_outside.out.items
+      | then-not-is_seat_outside+in_ok-add_seat w ↦ one_kept (λ q. IsSeatOut told given t.roots s space q → ⊥) space qs k q within at c.loop-seat.out.items c.if-not-is_seat_outside.out.items
           (ap (λ v. v.items) w.out-is ∙ w.in_ok-add_seat.ensures)
           (subst (λ b. MatchBool b (IsSeatOut told given t.roots s space q) (IsSeatOut told given t.roots s space q → ⊥)) w.if-not-is_seat_outside.true answer) was
-      | else-not-is_seat_outside w ↦ subst (λ (xs : List Seat). AreInPlace told given t.roots s space (take (k + 1) qs) xs) (sym (ap (λ v. v.items) w.out-is))
-          (one_dropped told given t.roots s space qs k q within at c.loop-seat.out.items
-          (subst (λ b. MatchBool b (IsSeatOut told given t.roots s space q) (IsSeatOut told given t.roots s space q → ⊥)) w.if-not-is_seat_outside.false answer) was)
+      | else-not-is_seat_outside w ↦ one_dropped (λ q. IsSeatOut told given t.roots s space q → ⊥) space qs k q within at c.loop-seat.out.items c.if-not-is_seat_outside.out.items
+          (ap (λ v. v.items) w.out-is)
+          (λ in_place. in_place (subst (λ b. MatchBool b (IsSeatOut told given t.roots s space q) (IsSeatOut told given t.roots s space q → ⊥)) w.if-not-is_seat_outside.false answer)) was
     ]
 
 pub returns-then-is_empty : goal.returns-then-is_empty
 returns-then-is_empty g c = λ told given t s above is_told on.
     let none : length c.args.above.now ≡ 0 = search rules in
-    all_in_place told given t.roots s (space_of c.args.space) c.args.seats.items (λ q has out. elim above.rows [
+    all_kept (λ q. IsSeatOut told given t.roots s (space_of c.args.space) q → ⊥) (space_of c.args.space) c.args.seats.items (λ q has out. elim above.rows [
       | inl nothing ↦ nothing_out told given t s nothing.io nothing.memory (seat_value (space_of c.args.space) q) out
       | inr rows ↦ (let size = rows.size in let no : ⊥ = omega (arith, none, size) in no)
     ])

@@ -9,7 +9,7 @@ use Rattle.pci_base.specs.declared.range.Range.{Range}
 use Rattle.pci_base.specs.Space.{space_of}
 use Rattle.pci_tree.specs.Ranges.{Holds, Covers}
 use Rattle.pci_map.specs.Above.{IsSentAbove}
-use Rattle.pci_map.specs.Sent.{SentRanges, ranges_in, HasUnsent}
+use Rattle.pci_map.specs.Addresses.{SpaceRanges, ranges_in, HasUnsent}
 use Rattle.pci_map.specs.Seats.{told_of, told_range}
 use Rattle.pci_map.proofs.Places.{nothing_out, held_in_place, function_there, last_there, line_answer}
 use Rattle.pci_map.proofs.above.is_line_outside.Goals as goal
@@ -34,7 +34,7 @@ returns-then-is_held g c = λ told given t s above is_told is.
 pub returns : goal.returns
 returns g c = λ told given t s above is_told is.
     let x : ToldRegion = told_of c.args.line.now in
-    let sent : SentRanges = c.index-above-bus.result in
+    let sent : SpaceRanges = c.index-above-bus.result in
     let low = c.if-above-bus.false in
     let not_held : is_marked_held x.told.mark ≡ false = sym c.is_held.ensures ∙ c.if-is_held.false in elim above.rows [
       | inl nothing ↦ (let none = nothing.none in absurd (let no : ⊥ = omega (arith, low, none) in no))

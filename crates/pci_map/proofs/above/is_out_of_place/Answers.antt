@@ -3,7 +3,7 @@ use Rattle.pci_base.specs.Space.{space_of}
 use Rattle.pci_tree.specs.declared.region.Part.TheVariants.{Window}
 use Rattle.pci_tree.specs.declared.region.Region.{Region}
 use Rattle.pci_map.specs.Above.{IsSentAbove}
-use Rattle.pci_map.specs.Sent.{SentRanges}
+use Rattle.pci_map.specs.Addresses.{SpaceRanges}
 use Rattle.pci_map.proofs.Places.{window_in_place, answer}
 use Rattle.pci_map.proofs.above.is_out_of_place.Goals as goal
 
@@ -15,7 +15,7 @@ returns-then-eq g c = λ told given t s above on.
 pub returns : goal.returns
 returns g c = λ told given t s above on.
     let q : Region = c.args.region.now in
-    let sent : SentRanges = c.index-above-bus.result in
+    let sent : SpaceRanges = c.index-above-bus.result in
     let low = c.if-above-bus.false in
     let not_window : q.part ≡ Window → ⊥ = λ window. search (rules, window) in elim above.rows [
       | inl nothing ↦ (let none = nothing.none in absurd (let no : ⊥ = omega (arith, low, none) in no))

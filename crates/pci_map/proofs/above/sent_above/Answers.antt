@@ -18,8 +18,8 @@ returns-then-is_none-2 g c = λ s has. record {
 
 pub loop-bus-preserved : goal.loop-bus-preserved
 loop-bus-preserved g c =
-    one_row (given_value c.args.given.now) c.roots_above-roots_above.result c.loop-bus.bus (get_or c.roots_above-roots_above.result c.loop-bus.bus 0) c.loop-bus.above.items c.push.new.self.items c.in_ok-to.field-0
-    refl c.in_ok-push.ensures.items c.loop-bus.invariant c.in_ok-to.ensures
+    one_row (given_value c.args.given.now) c.roots_above-roots_above.result c.loop-bus.bus (get_or c.roots_above-roots_above.result c.loop-bus.bus 0) c.loop-bus.above.items c.push.new.self.items c.in_ok-sent.field-0
+    refl c.in_ok-push.ensures.items c.loop-bus.invariant c.in_ok-sent.ensures
 
 pub returns : goal.returns
 returns g c = λ s has.

@@ -6,7 +6,7 @@ use Rattle.pci_base.specs.Space.{space_of}
 use Rattle.pci_map.proofs.Asciis.{told_facts}
 use Rattle.pci_map.specs.BusSeats.{AreToldSeats, AreMoreSeats}
 use Rattle.pci_map.proofs.BusSeating.{seat_more, seat_less}
-use Rattle.pci_map.proofs.bus_seats.add_told.Goals.{then-on-i+then-is_of+in_ok-add_seat, else-on-i, else-on-i-via-then-on-i+else-is_of, else-on-i-via-else-on-i}
+use Rattle.pci_map.proofs.bus_seats.add_told.Goals.{then-on-i+then-is_in+in_ok-add_seat, else-on-i, else-on-i-via-then-on-i+else-is_in, else-on-i-via-else-on-i}
 use Rattle.pci_map.proofs.bus_seats.add_told.Goals as goal
 
 pub invariant_of-add_seat : goal.invariant_of-add_seat
@@ -33,16 +33,16 @@ loop-i-preserved g c =
     record {
       from = omega (arith, from);
       made = elim c.if-on-i.branch [
-        | then-on-i+then-is_of+in_ok-add_seat w ↦
+        | then-on-i+then-is_in+in_ok-add_seat w ↦
             seat_more ranges on c.args.stretch.first space c.loop-i.i r from at c.args.seats.now.items c.loop-i.seats.items
-            c.loop-i.invariant.made _ c.if-on-i.seats.items w.if-on-i.true (w.is_of.ensures.0 w.if-is_of.true)
+            c.loop-i.invariant.made _ c.if-on-i.seats.items w.if-on-i.true (w.is_in.ensures.0 w.if-is_in.true)
             (record { x = _; is = refl; told = refl; register = refl })
             (ap (λ v. v.items) w.seats-is ∙ w.in_ok-add_seat.ensures)
         | else-on-i w ↦
             subst (AreMoreSeats (AreToldSeats ranges on c.args.stretch.first (c.loop-i.i + 1) space) c.args.seats.now.items) (sym (ap (λ v. v.items) w.seats-is))
             (seat_less ranges on c.args.stretch.first space c.loop-i.i r from at c.args.seats.now.items c.loop-i.seats.items
             c.loop-i.invariant.made (λ is. elim w.else-on-i.branch [
-              | else-on-i-via-then-on-i+else-is_of v ↦ iff_false v.is_of.ensures v.if-is_of.false is.space
+              | else-on-i-via-then-on-i+else-is_in v ↦ iff_false v.is_in.ensures v.if-is_in.false is.space
               | else-on-i-via-else-on-i v ↦ both_ways _ v.if-on-i.false is.on
             ]))
       ];

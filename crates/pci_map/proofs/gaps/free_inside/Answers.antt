@@ -8,7 +8,7 @@ use Rattle.pci_claims.specs.Found.{range_at}
 use Rattle.pci_claims.specs.Gathered.{IsGathered}
 use Rattle.pci_claims.specs.Isa.{AreKept}
 use Rattle.pci_claims.specs.Values.{given_value}
-use Rattle.pci_map.specs.Gaps.{gaps}
+use Rattle.pci_claims.specs.Gaps.{gaps}
 use Rattle.pci_map.proofs.Frees.{gaps_have, free_of_whole, free_of_cut}
 use Rattle.pci_map.proofs.gaps.free_inside.Goals as goal
 

@@ -5,7 +5,7 @@ use Rattle.pci_base.specs.Space.{space_of}
 use Rattle.pci_base.specs.declared.range.Range.{Range}
 use Rattle.pci_claims.specs.Values.{given_value}
 use Rattle.pci_claims.specs.Gathered.{IsGathered, IsCommon}
-use Rattle.pci_map.specs.Gaps.{gaps}
+use Rattle.pci_claims.specs.Gaps.{gaps}
 use Rattle.pci_map.proofs.Frees.{gaps_have, free_on}
 use Rattle.pci_map.proofs.gaps.free_on_root.Goals as goal
 

@@ -1,7 +1,7 @@
 use Rattle.std.proofs.Common.{subst, length, ◌≤◌, ap, inl, inr, rules}
 use Rattle.pci_claims.specs.Values.{given_value}
 use Rattle.pci_map.specs.Left.{HasAbove}
-use Rattle.pci_map.specs.declared.left.Windows.{Windows}
+use Rattle.pci_map.specs.Windows.{BridgeWindows}
 use Rattle.pci_map.proofs.Ups.{low_way}
 use Rattle.pci_map.proofs.ways.next_way.Goals as goal
 
@@ -11,9 +11,10 @@ returns-in-Host g c = λ s tree ways has. subst (HasAbove c.args.outline.now.roo
 pub returns-in-Nothing : goal.returns-in-Nothing
 returns-in-Nothing g c = λ s tree ways has. inr record {
   unled = subst (HasAbove c.args.outline.now.roots s (length c.args.ways.now)) c.in-Nothing.is has;
-  io = ap (λ (ws : Windows). ws.io) c.none.ensures;
-  memory = ap (λ (ws : Windows). ws.memory) c.none.ensures;
-  prefetchable = ap (λ (ws : Windows). ws.prefetchable) c.none.ensures;
+  io = ap (λ (ws : BridgeWindows). ws.io) c.none.ensures;
+  memory = ap (λ (ws : BridgeWindows). ws.memory) c.none.ensures;
+  prefetchable = ap (λ (ws : BridgeWindows). ws.prefetchable) c.none.ensures;
+  takes = ap (λ (ws : BridgeWindows). ws.takes) c.none.ensures;
 }
 
 pub returns-then-ways-bus : goal.returns-then-ways-bus

@@ -1,6 +1,6 @@
 use Rattle.std.proofs.Common.{subst}
 use Rattle.pci_map.proofs.Sents.{IsAnswer, all_sent}
-use Rattle.pci_map.proofs.sent.Sent.has_all.Goals as goal
+use Rattle.pci_map.proofs.addresses.Addresses.has_all.Goals as goal
 
 pub returns : goal.returns
 returns g c =
