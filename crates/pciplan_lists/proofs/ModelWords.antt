@@ -7,7 +7,7 @@ use Rattle.std.proofs.lemmas.List.{append_assoc, length-append, get_or_append_le
 use Rattle.std.proofs.lemmas.List.Elements.{Contains-append_left, Contains-append_right, Contains-append_cases}
 use Rattle.std.proofs.lemmas.List.Quantifiers.{all_pairs_push}
 use Rattle.given_spec.specs.Words.{VgaWord, Vga, Vga16}
-use Rattle.model_spec.specs.Words.{Words, Name, Cardbus, Ide, Isa, Power, Reset, Subtractive, Unnumbered, Legacy, Windows, name_text, IsCounted, AreNames, no_words}
+use Rattle.model_spec.specs.Words.{Words, Name, Cardbus, Ide, Isa, Power, Reset, Snoop, Subtractive, Unclaimed, Unnumbered, Legacy, Windows, name_text, IsCounted, AreNames, no_words}
 use Rattle.pci_model.specs.WordsValue.{vga_value, words_value}
 use Rattle.pci_model.specs.declared.words.VgaWord.{VgaWord as DeclaredVga}
 use Rattle.pci_model.specs.declared.words.Words as declared
@@ -31,7 +31,9 @@ all_above Ide = refl
 all_above Isa = refl
 all_above Power = refl
 all_above Reset = refl
+all_above Snoop = refl
 all_above Subtractive = refl
+all_above Unclaimed = refl
 all_above Unnumbered = refl
 all_above (Legacy Vga) = refl
 all_above (Legacy Vga16) = refl
@@ -60,7 +62,9 @@ same_words w v h = λ i. record {
   isa = same_flag w.isa v.isa (h Isa) i;
   power = same_flag w.power v.power (h Power) i;
   reset = same_flag w.reset v.reset (h Reset) i;
+  snoop = same_flag w.snoop v.snoop (h Snoop) i;
   subtractive = same_flag w.subtractive v.subtractive (h Subtractive) i;
+  unclaimed = same_flag w.unclaimed v.unclaimed (h Unclaimed) i;
   unnumbered = same_flag w.unnumbered v.unnumbered (h Unnumbered) i;
   vga = same_vga w.vga v.vga (λ x. h (Legacy x)) i;
   windows = same_flag w.windows v.windows (h Windows) i;
@@ -100,7 +104,9 @@ nothing_counts Ide is = false≢true is
 nothing_counts Isa is = false≢true is
 nothing_counts Power is = false≢true is
 nothing_counts Reset is = false≢true is
+nothing_counts Snoop is = false≢true is
 nothing_counts Subtractive is = false≢true is
+nothing_counts Unclaimed is = false≢true is
 nothing_counts Unnumbered is = false≢true is
 nothing_counts (Legacy v) is = cc is
 nothing_counts Windows is = false≢true is
@@ -229,7 +235,9 @@ first_letter Ide = omega arith
 first_letter Isa = omega arith
 first_letter Power = omega arith
 first_letter Reset = omega arith
+first_letter Snoop = omega arith
 first_letter Subtractive = omega arith
+first_letter Unclaimed = omega arith
 first_letter Unnumbered = omega arith
 first_letter (Legacy Vga) = omega arith
 first_letter (Legacy Vga16) = omega arith
@@ -241,7 +249,9 @@ some_letter Ide rest = refl
 some_letter Isa rest = refl
 some_letter Power rest = refl
 some_letter Reset rest = refl
+some_letter Snoop rest = refl
 some_letter Subtractive rest = refl
+some_letter Unclaimed rest = refl
 some_letter Unnumbered rest = refl
 some_letter (Legacy Vga) rest = refl
 some_letter (Legacy Vga16) rest = refl

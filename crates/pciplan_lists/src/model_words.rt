@@ -19,7 +19,9 @@ enum Name {
     Isa,
     Power,
     Reset,
+    Snoop,
     Subtractive,
+    Unclaimed,
     Unnumbered,
     Legacy(VgaWord),
     Windows,
@@ -40,8 +42,12 @@ fn name_of(word: &str) -> Option<Name>
         Some(Name::Power)
     } else if word == "reset" {
         Some(Name::Reset)
+    } else if word == "snoop" {
+        Some(Name::Snoop)
     } else if word == "subtractive" {
         Some(Name::Subtractive)
+    } else if word == "unclaimed" {
+        Some(Name::Unclaimed)
     } else if word == "unnumbered" {
         Some(Name::Unnumbered)
     } else if word == "vga" {
@@ -78,7 +84,9 @@ fn adds(words: &mut Words, name: Name) -> bool
         Name::Isa => sets(&mut words.isa),
         Name::Power => sets(&mut words.power),
         Name::Reset => sets(&mut words.reset),
+        Name::Snoop => sets(&mut words.snoop),
         Name::Subtractive => sets(&mut words.subtractive),
+        Name::Unclaimed => sets(&mut words.unclaimed),
         Name::Unnumbered => sets(&mut words.unnumbered),
         Name::Legacy(vga) => {
             let is_none = words.vga.is_none();
@@ -105,7 +113,9 @@ fn listed_words(list: &str) -> Option<Words>
         isa: false,
         power: false,
         reset: false,
+        snoop: false,
         subtractive: false,
+        unclaimed: false,
         unnumbered: false,
         vga: None,
         windows: false,
@@ -140,7 +150,9 @@ pub fn words_of_list(list: &str) -> Option<Words>
             isa: true,
             power: true,
             reset: true,
+            snoop: true,
             subtractive: true,
+            unclaimed: true,
             unnumbered: true,
             vga: Some(VgaWord::Vga),
             windows: true,

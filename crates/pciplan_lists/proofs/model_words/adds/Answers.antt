@@ -1,6 +1,6 @@
 use Rattle.std.proofs.Common.{sym, ◌∙◌, ap, subst}
 use Rattle.std.specs.Prelude.{not}
-use Rattle.model_spec.specs.Words.{Cardbus, Ide, Isa, Power, Reset, Subtractive, Unnumbered, Windows}
+use Rattle.model_spec.specs.Words.{Cardbus, Ide, Isa, Power, Reset, Snoop, Subtractive, Unclaimed, Unnumbered, Windows}
 use Rattle.pci_model.specs.WordsValue.{words_value, vga_value}
 use Rattle.pciplan_lists.specs.NameWords.{name_value, IsTooMuch}
 use Rattle.pciplan_lists.proofs.ModelWords.{code_too_much, counts_already}
@@ -36,10 +36,20 @@ returns-in-Reset-clause-much c = λ off.
     subst (λ n. IsTooMuch (words_value c.args.words.now) (name_value n)) (sym c.in-Reset.is)
     (counts_already (words_value c.args.words.now) Reset (c.sets-in-Reset.ensures.not off))
 
+pub returns-in-Snoop-clause-much : goal.returns-in-Snoop-clause-much
+returns-in-Snoop-clause-much c = λ off.
+    subst (λ n. IsTooMuch (words_value c.args.words.now) (name_value n)) (sym c.in-Snoop.is)
+    (counts_already (words_value c.args.words.now) Snoop (c.sets-in-Snoop.ensures.not off))
+
 pub returns-in-Subtractive-clause-much : goal.returns-in-Subtractive-clause-much
 returns-in-Subtractive-clause-much c = λ off.
     subst (λ n. IsTooMuch (words_value c.args.words.now) (name_value n)) (sym c.in-Subtractive.is)
     (counts_already (words_value c.args.words.now) Subtractive (c.sets-in-Subtractive.ensures.not off))
+
+pub returns-in-Unclaimed-clause-much : goal.returns-in-Unclaimed-clause-much
+returns-in-Unclaimed-clause-much c = λ off.
+    subst (λ n. IsTooMuch (words_value c.args.words.now) (name_value n)) (sym c.in-Unclaimed.is)
+    (counts_already (words_value c.args.words.now) Unclaimed (c.sets-in-Unclaimed.ensures.not off))
 
 pub returns-in-Unnumbered-clause-much : goal.returns-in-Unnumbered-clause-much
 returns-in-Unnumbered-clause-much c = λ off.
