@@ -14,7 +14,6 @@ use Rattle.pci_tree.specs.Admission.{Admission, IsOutlineFor}
 use Rattle.pci_tree.specs.Outline.{Tree}
 use Rattle.given_spec.specs.Given.{Given}
 use Rattle.given_spec.specs.Fault as untold
-use Rattle.given_spec.specs.FaultLines as untold_lines
 use Rattle.given_spec.specs.ToldClaims.{Told}
 use Rattle.given_spec.specs.ToldFault.{Fault, Known, NotListed, IsIn}
 use Rattle.given_spec.specs.ToldAllFaults.{IsNamed}

@@ -5,6 +5,8 @@ pub mod Faults
 mod Maps
 mod NoMap
 mod WithNothing
+mod Saying
+mod Untaken
 mod ShownSlots
 mod SettlingTold
 mod SettlingWrites

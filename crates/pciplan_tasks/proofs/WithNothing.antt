@@ -25,7 +25,7 @@ use Rattle.given_spec.proofs.ToldDetermined.{told_list_is_determined}
 use Rattle.given_spec.proofs.ToldSounding.{told_sound_without_faults}
 use Rattle.pci_given.specs.Every.{AreSound}
 use Rattle.pci_claims.specs.Values.{host_value}
-use Rattle.pciplan_tasks.specs.FaultsAnswers.{isa_by, legacy_by, list_answer}
+use Rattle.pciplan_tasks.specs.FaultsAnswers.{isa_by, legacy_by, list_answer, palette_by, vga_of}
 use Rattle.pciplan_tasks.specs.FaultsLaws.{FirstLineIsVerdict, PlainWithNothingGiven, NothingSaidGivesNothing, NothingSaidTellsNothing}
 use Rattle.pciplan_tasks.specs.Also.{ranges_told}
 use Rattle.pciplan_tasks.specs.ToldAnswers.{AreAsleepFor}
@@ -100,11 +100,13 @@ plain_with_nothing_given asleep roots why dump probe answer is_dump is_probe tol
     }
 
 pub nothing_said_gives_nothing : NothingSaidGivesNothing
-nothing_said_gives_nothing beside dump io memory vga isa = λ i. record {
+nothing_said_gives_nothing beside dump io memory vga isa snoop = λ i. record {
   io = option_map (λ list. map host_value list.items) (io i);
   memory = option_map (λ list. map host_value list.items) (memory i);
   legacy = legacy_by (vga i) (system_of dump dump);
   isa = isa_by (isa i) (system_of dump dump);
+  palette = palette_by (snoop i) (vga_of beside.words) (system_of dump dump);
+  unclaimed = [];
 }
 
 pub nothing_said_tells_nothing : NothingSaidTellsNothing

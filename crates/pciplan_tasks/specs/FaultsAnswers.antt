@@ -4,15 +4,17 @@ use Rattle.pci_spec.specs.Slot.{Slot}
 use Rattle.pci_spec.specs.Text.{Block}
 use Rattle.pci_spec.specs.System.{System, system_of}
 use Rattle.pci_spec.specs.Mark.{AssumedRegister, all_named}
-use Rattle.given_spec.specs.Given.{Given, LegacyBridge}
+use Rattle.given_spec.specs.Given.{Given, LegacyBridge, TakingBridge}
 use Rattle.given_spec.specs.ToldClaims.{Told}
 use Rattle.given_spec.specs.ToldFault.{Fault}
 use Rattle.given_spec.specs.ToldFaultLines.{AreAllFaults}
 use Rattle.given_spec.specs.ToldLine.{list_text}
 use Rattle.given_spec.specs.FaultsText.{IsFaultsText}
-use Rattle.given_spec.specs.Words.{VgaWord, isa_bridges, legacy_bridges}
+use Rattle.given_spec.specs.UnclaimedLaws.{with_taking}
+use Rattle.given_spec.specs.Words.{VgaWord, isa_bridges, legacy_bridges, palette_bridges}
+use Rattle.model_spec.specs.Taken.{taking_by}
 use Rattle.pci_claims.specs.Values.{host_value}
-use Rattle.pci_given.specs.Every.{AreSound}
+use Rattle.pci_given.specs.Every.{AreReady, AreSound, AreTakenFor}
 use Rattle.pci_tree.specs.Outline.{Tree}
 use Rattle.pci_tree.specs.Roots.{buses_of}
 use Rattle.pci_why.specs.Lists.{IsReasonedTextOf}
@@ -40,15 +42,41 @@ abbrev pub isa_of : Option Words → Bool
 isa_of None = false
 isa_of (Some words) = (words_value words).isa
 
--- What is given beside a dump: what the host sends, and its bridges with legacy parts or ISA Enable. What reads back tells
--- nothing of these, so the dump stands for the probe too.
-abbrev pub given_of : HostLists → Option Words → List Block → Given
-given_of host words dump = record {
+-- the bridges with palette parts, where the word for them counts; the word for VGA says how they decode
+abbrev pub palette_by : Bool → Option VgaWord → System → List LegacyBridge
+palette_by counts word s = if counts then palette_bridges word s else []
+
+abbrev pub snoop_of : Option Words → Bool
+snoop_of None = false
+snoop_of (Some words) = (words_value words).snoop
+
+abbrev pub unclaimed_of : Option Words → Bool
+unclaimed_of None = false
+unclaimed_of (Some words) = (words_value words).unclaimed
+
+-- the bridges that take what no region of their bus claims: none without words
+abbrev pub taking_of : Option Words → System → List Slot
+taking_of None s = []
+taking_of (Some words) s = taking_by (words_value words) s
+
+-- What is given by what the host sends and some bridges: those with legacy parts, with ISA Enable and with palette parts.
+abbrev pub given_with : HostLists → List LegacyBridge → List Slot → List LegacyBridge → Given
+given_with host legacy isa palette = record {
   io = option_map (λ list. map host_value list.items) host.io;
   memory = option_map (λ list. map host_value list.items) host.mem;
-  legacy = legacy_by (vga_of words) (system_of dump dump);
-  isa = isa_by (isa_of words) (system_of dump dump);
+  legacy = legacy;
+  isa = isa;
+  palette = palette;
+  unclaimed = [];
 }
+
+-- What is given beside a dump, but for what bridges take as nobody claims it. What reads back tells nothing of it, so the
+-- dump stands for the probe too.
+abbrev pub given_of : HostLists → Option Words → List Block → Given
+given_of host words dump =
+    given_with host (legacy_by (vga_of words) (system_of dump dump))
+    (isa_by (isa_of words) (system_of dump dump))
+    (palette_by (snoop_of words) (vga_of words) (system_of dump dump))
 
 -- the text of a list, where it is of what was judged with reasons
 abbrev pub IsListText :
@@ -73,9 +101,23 @@ pub record AreTold (told : Told) (given : Given) (roots : List ℕ) (why : Bool)
   pub is : IsFaultsText (all_named probe) told given roots (system_of dump probe) why faults text
   pub line : answer ≡ list_answer faults text
 
+-- What bridges at some slots take of what is judged. Of two texts that aren't judged nothing is taken.
+pub record AreTakenBeside (told : Told) (given : Given) (roots : List ℕ) (dump probe : List Block)
+    (slots : List Slot) (bridges : List TakingBridge) : Type 0 where
+  pub judged : AreTakenFor told given roots dump probe slots bridges
+  pub unjudged : (AreReady told roots dump probe → ⊥) → bridges ≡ []
+
+-- The same where bridges at some slots take what no region of their bus claims.
+pub record AreToldTaking (told : Told) (given : Given) (roots : List ℕ) (slots : List Slot)
+    (why : Bool) (dump probe : List Block) (answer : Answer) : Type 0 where
+  pub bridges : List TakingBridge
+  pub taken : AreTakenBeside told given roots dump probe slots bridges
+  pub are : AreTold told (with_taking bridges given) roots why dump probe answer
+
 -- of the two as words take them, beside what the dump as it is gives and what is told
 abbrev pub IsFaultsAnswer : Beside → Bool → List Block → List Block → Answer → Type 0
 IsFaultsAnswer beside why dump probe answer =
     IsAnswerWithTold beside
-    (λ told. AreTold told (given_of beside.host beside.words dump) (buses_of beside.roots) why)
+    (λ told. AreToldTaking told (given_of beside.host beside.words dump) (buses_of beside.roots)
+    (taking_of beside.words (system_of dump dump)) why)
     dump probe answer

@@ -1,8 +1,8 @@
 -- Laws of `faults` and `map` where nothing is given or told beside the two texts.
-use Rattle.std.specs.Prelude.{◌≡◌, ◌↔◌, ℕ, Bool, false, List, [], ◌∷◌, None}
+use Rattle.std.specs.Prelude.{◌≡◌, ◌↔◌, ℕ, Bool, false, List, [], ◌∷◌, Option, None}
 use Rattle.pci_spec.specs.Slot.{Slot}
 use Rattle.pci_spec.specs.Text.{Block, IsDump}
-use Rattle.pci_spec.specs.System.{system_of}
+use Rattle.pci_spec.specs.System.{System, system_of}
 use Rattle.pci_spec.specs.Fault.{Fault}
 use Rattle.pci_spec.specs.FaultLines.{AreAllFaults}
 use Rattle.pci_spec.specs.FaultsText.{IsFaultsText}
@@ -12,7 +12,8 @@ use Rattle.pci_check.specs.Audits.{AreSound}
 use Rattle.given_spec.specs.Given.{Given, nothing_given}
 use Rattle.given_spec.specs.ToldClaims.{Told, nothing_told}
 use Rattle.pciplan_tasks.specs.Answers.{Answer}
-use Rattle.pciplan_tasks.specs.FaultsAnswers.{AreTold, given_of, isa_of, list_answer, vga_of}
+use Rattle.pci_model.specs.declared.words.Words.{Words}
+use Rattle.pciplan_tasks.specs.FaultsAnswers.{AreTold, AreToldTaking, given_of, isa_of, list_answer, snoop_of, taking_of, unclaimed_of, vga_of}
 use Rattle.pciplan_tasks.specs.MapAnswers.{IsNoMap}
 use Rattle.pciplan_tasks.specs.PlanAnswers.{IsRefusedText}
 use Rattle.pciplan_tasks.specs.ToldAnswers.{IsToldBeside}
@@ -43,12 +44,26 @@ PlainWithNothingGiven =
     → AreTold (nothing_told asleep) nothing_given roots why dump probe answer
     → ArePlainTold roots why dump probe answer
 
--- Nothing is given where no list is said of what the host sends, and no word takes VGA Enable or ISA
--- Enable.
+-- Nothing is given where no list is said of what the host sends, and no word takes VGA Enable, ISA Enable or VGA Palette
+-- Snoop.
 abbrev pub NothingSaidGivesNothing : Type 0
 NothingSaidGivesNothing =
     (beside : Beside) (dump : List Block) → beside.host.io ≡ None → beside.host.mem ≡ None
-    → vga_of beside.words ≡ None → isa_of beside.words ≡ false → given_of beside.host beside.words dump ≡ nothing_given
+    → vga_of beside.words ≡ None → isa_of beside.words ≡ false → snoop_of beside.words ≡ false
+    → given_of beside.host beside.words dump ≡ nothing_given
+
+-- Where the word for it doesn't count, no bridge takes what nobody claims,
+abbrev pub NothingSaidTakesNothing : Type 0
+NothingSaidTakesNothing =
+    (words : Option Words) (s : System) → unclaimed_of words ≡ false → taking_of words s ≡ []
+
+-- so the answer is what is told by what is given alone.
+abbrev pub NothingTakenTellsTheSame : Type 0
+NothingTakenTellsTheSame =
+    (told : Told) (given : Given) (roots : List ℕ) (why : Bool) (dump probe : List Block)
+    (answer : Answer) → IsDump dump → IsDump probe → given.unclaimed ≡ []
+    → AreToldTaking told given roots [] why dump probe answer
+    → AreTold told given roots why dump probe answer
 
 -- Nothing is told where there is no third text, or an empty one.
 abbrev pub NothingSaidTellsNothing : Type 0

@@ -9,5 +9,6 @@ pub mod TakenAnswers
 pub mod ToldAnswers
 pub mod MapAnswers
 pub mod FaultsAnswers
+pub mod Saying
 pub mod FaultsLaws
 pub mod Tasks

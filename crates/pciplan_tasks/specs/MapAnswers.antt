@@ -1,42 +1,35 @@
 -- What the program answers where a map of two texts is asked for.
-use Rattle.std.specs.Prelude.{◌≡◌, ◌⊎◌, ℕ, List, [], ◌∷◌, map, Option, option_map}
+use Rattle.std.specs.Prelude.{◌≡◌, ◌⊎◌, ℕ, List, [], ◌∷◌}
 use Rattle.pci_spec.specs.Slot.{Slot}
 use Rattle.pci_spec.specs.Text.{Block}
 use Rattle.pci_spec.specs.System.{system_of}
-use Rattle.given_spec.specs.Given.{Given}
+use Rattle.given_spec.specs.Given.{Given, TakingBridge}
 use Rattle.given_spec.specs.ToldClaims.{Told}
 use Rattle.given_spec.specs.ToldFault.{Fault, IsHeldOrphan}
 use Rattle.given_spec.specs.ToldFaultLines.{AreListed}
 use Rattle.given_spec.specs.ToldLine.{fault_text}
+use Rattle.given_spec.specs.Unclaimed.{AreTaking}
+use Rattle.given_spec.specs.UnclaimedLaws.{with_taking}
 use Rattle.map_spec.specs.MapText.{IsMapText}
-use Rattle.pci_claims.specs.Values.{host_value}
 use Rattle.pci_given.specs.Every.{AreBefore}
 use Rattle.pci_tree.specs.Admission.{IsAdmitted}
 use Rattle.pciplan_tasks.specs.Answers.{Answer, done, fault_answer_line, refused}
-use Rattle.pci_model.specs.declared.words.Words.{Words}
-use Rattle.pciplan_tasks.specs.FaultsAnswers.{isa_by, isa_of}
+use Rattle.pciplan_tasks.specs.FaultsAnswers.{given_of, taking_of}
 use Rattle.pci_tree.specs.Roots.{buses_of}
 use Rattle.pciplan_tasks.specs.ToldAnswers.{IsAnswerWithTold}
 use Rattle.pciplan_tasks.specs.declared.task.Beside.{Beside}
-use Rattle.pciplan_tasks.specs.declared.task.HostLists.{HostLists}
 
--- what is given of a dump by lists of what the host sends, and the bridges with ISA Enable
-abbrev pub mapped_by : HostLists → Option Words → List Block → Given
-mapped_by host words dump = record {
-  io = option_map (λ list. map host_value list.items) host.io;
-  memory = option_map (λ list. map host_value list.items) host.mem;
-  legacy = [];
-  isa = isa_by (isa_of words) (system_of dump dump);
-}
-
--- the map of the two, which are admitted with what is told: no 34 is there, and no 58 of a held range
-pub record IsMapAnswer (told : Told) (given : Given) (roots : List ℕ) (dump probe : List Block)
-    (answer : Answer) : Type 0 where
+-- The map of the two, which are admitted with what is told: no 34 is there, and no 58 of a held range. Bridges at some slots
+-- take what no region of their bus claims.
+pub record IsMapAnswer (told : Told) (given : Given) (roots : List ℕ) (slots : List Slot)
+    (dump probe : List Block) (answer : Answer) : Type 0 where
   pub admitted : IsAdmitted record { roots = roots; dump = dump; probe = probe }
   pub listed : AreListed told dump probe
   pub led_to : (slot : Slot) → IsHeldOrphan told roots (system_of dump probe) slot → ⊥
+  pub bridges : List TakingBridge
+  pub taking : AreTaking told given (system_of dump probe) slots bridges
   pub text : List ℕ
-  pub is : IsMapText told given roots (system_of dump probe) text
+  pub is : IsMapText told (with_taking bridges given) roots (system_of dump probe) text
   pub line : answer ≡ done text
 
 -- the line of the first of some faults
@@ -52,13 +45,16 @@ pub record IsNoMap (told : Told) (given : Given) (roots : List ℕ) (dump probe 
   pub line : IsFirstLine faults answer
 
 -- `map`: the map, or the line of that fault
-abbrev pub IsMapped : Told → Given → List ℕ → List Block → List Block → Answer → Type 0
-IsMapped told given roots dump probe answer =
-    IsMapAnswer told given roots dump probe answer ⊎ IsNoMap told given roots dump probe answer
+abbrev pub IsMapped :
+    Told → Given → List ℕ → List Slot → List Block → List Block → Answer → Type 0
+IsMapped told given roots slots dump probe answer =
+    IsMapAnswer told given roots slots dump probe answer
+    ⊎ IsNoMap told given roots dump probe answer
 
 -- of the two as words take them, beside what the dump as it is gives and what is told
 abbrev pub IsMapAnswerBy : Beside → List Block → List Block → Answer → Type 0
 IsMapAnswerBy beside dump probe answer =
     IsAnswerWithTold beside
-    (λ told. IsMapped told (mapped_by beside.host beside.words dump) (buses_of beside.roots))
+    (λ told. IsMapped told (given_of beside.host beside.words dump) (buses_of beside.roots)
+    (taking_of beside.words (system_of dump dump)))
     dump probe answer

@@ -8,19 +8,20 @@ ghost use Rattle.pci_tree.specs.Roots.{buses_of};
 ghost use Rattle.pci_claims.specs.Values.{given_value, told_value};
 ghost use Rattle.pci_given.specs.AllLines.{fault_of};
 ghost use Rattle.pciplan_tasks.specs.Answers.{AreLines, answer_of};
-ghost use Rattle.pciplan_tasks.specs.FaultsAnswers.{AreTold, IsFaultsAnswer, IsListText};
+ghost use Rattle.pciplan_tasks.specs.FaultsAnswers.{AreToldTaking, IsFaultsAnswer, IsListText};
 
 use crate::reply::{Reply, Text};
-use crate::said::{Said, asleep_for, isa_by, legacy_by, ranges_of};
+use crate::said::{asleep_for, bridges_by, said_by};
 use crate::taking::taken;
 use crate::task::Beside;
 use pci_base::memory::OutOfMemory;
 use pci_claims::given::Given;
-use pci_claims::told::Told;
+use pci_claims::taking::all_lent;
 use pci_dump::block::Block;
 use pci_dump::dump::Dump;
 use pci_given::any_fault::AnyFault;
 use pci_given::every::all_faults;
+use pci_given::said::Said;
 use pci_given::text::list_text;
 use pci_tree::outline::Outline;
 use pci_why::judged::Judged;
@@ -73,17 +74,28 @@ fn faults_pair<A: Allocator + Copy>(
 ) -> Result<Reply<A>, OutOfMemory>
     // they are read of a text
     requires { IsTold asked.now.said.told.ranges.now }
-    ensures told { IfOk result (λ reply. AreTold (told_value asked.now.said.told)
-        (given_value asked.now.said.given) (buses_of asked.now.said.roots) asked.now.why dump.now
-        probe.now (answer_of reply)) }
+    ensures told { IfOk result (λ reply. AreToldTaking (told_value asked.now.said.told)
+        (given_value asked.now.said.given) (buses_of asked.now.said.roots)
+        asked.now.said.taking.now asked.now.why dump.now probe.now (answer_of reply)) }
     ensures lines { IfOk result (λ reply. AreLines reply.text) }
 {
     // slots rise in both, so a list of 30 is none of judging
     let _ = dump.blocks();
-    let said = &asked.said;
-    let found = all_faults(alloc, dump, probe, said.roots, &said.given, &said.told)?;
+    let found = all_faults(alloc, dump, probe, &asked.said)?;
+    let taking = all_lent(alloc, &found.taking)?;
+    let given = Given {
+        unclaimed: &taking,
+        ..asked.said.given
+    };
+    let judging = Asked {
+        said: Said {
+            given,
+            ..asked.said
+        },
+        why: asked.why,
+    };
     let faults = found.faults.as_slice();
-    let text = text_of(alloc, asked, &found.judged, probe.blocks(), faults)?;
+    let text = text_of(alloc, &judging, &found.judged, probe.blocks(), faults)?;
     Ok(Reply {
         refused: !faults.is_empty(),
         text: Text::Lines(text),
@@ -92,8 +104,7 @@ fn faults_pair<A: Allocator + Copy>(
 }
 
 /// All faults of a dump and its probe with what is said beside them, with reasons or without: as words take them, where
-/// there are words, with what the host sends, the bridges with legacy parts or ISA Enable, and the ranges that a third text
-/// tells.
+/// there are words, with what the host sends, what the words take of bridges, and the ranges that a third text tells.
 pub fn faults_by<A: Allocator + Copy>(
     alloc: A,
     dump: &Dump<A>,
@@ -106,23 +117,10 @@ pub fn faults_by<A: Allocator + Copy>(
     // so a caller has the text of the list as it is
     ensures lines { IfOk result (λ reply. AreLines reply.text) }
 {
-    let legacy = legacy_by(alloc, dump, beside.words)?;
-    let isa = isa_by(alloc, dump, beside.words)?;
+    let bridges = bridges_by(alloc, dump, beside.words)?;
     let ranges = beside.also.ranges();
     let asleep = asleep_for(alloc, ranges, dump, probe, beside.words)?;
-    let said = Said {
-        roots: beside.roots,
-        given: Given {
-            io: ranges_of(&beside.host.io),
-            memory: ranges_of(&beside.host.mem),
-            legacy: &legacy,
-            isa: &isa,
-        },
-        told: Told {
-            ranges,
-            asleep: &asleep,
-        },
-    };
+    let said = said_by(beside, &bridges, &asleep);
     let asked = Asked { said, why };
     match taken(alloc, dump, probe, beside.words)? {
         None => faults_pair(alloc, dump, probe, &asked),

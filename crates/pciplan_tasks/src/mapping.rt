@@ -8,15 +8,17 @@ ghost use Rattle.pciplan_tasks.specs.Answers.{answer_of};
 ghost use Rattle.pciplan_tasks.specs.MapAnswers.{IsFirstLine, IsMapped, IsMapAnswerBy};
 
 use crate::reply::{Reply, Text, done, refused};
-use crate::said::{Said, asleep_for, isa_by, ranges_of};
+use crate::said::{asleep_for, bridges_by, said_by};
 use crate::taking::taken;
 use crate::task::Beside;
 use pci_base::memory::OutOfMemory;
 use pci_claims::given::Given;
-use pci_claims::told::Told;
+use pci_claims::taking::all_lent;
 use pci_dump::dump::Dump;
 use pci_given::any_fault::AnyFault;
 use pci_given::every::{BeforeJudging, before_judging};
+use pci_given::said::Said;
+use pci_given::taken::taken as taken_by_bridges;
 use pci_map::text::map_text;
 use std::alloc::Allocator;
 
@@ -43,21 +45,27 @@ fn map_pair<A: Allocator + Copy>(
     // they are read of a text
     requires { IsTold said.now.told.ranges.now }
     ensures { IfOk result (λ reply. IsMapped (told_value said.now.told)
-        (given_value said.now.given) (buses_of said.now.roots) dump.now probe.now
-        (answer_of reply)) }
+        (given_value said.now.given) (buses_of said.now.roots) said.now.taking.now dump.now
+        probe.now (answer_of reply)) }
 {
     let found = before_judging(alloc, dump, probe, said.roots, &said.told)?;
     match found {
         BeforeJudging::Refused(faults) => first_line(alloc, faults.as_slice()),
         BeforeJudging::Admitted(outline) => {
-            let text = map_text(alloc, &outline, &said.given, &said.told)?;
+            let taking = taken_by_bridges(alloc, said, &outline)?;
+            let lent = all_lent(alloc, &taking)?;
+            let given = Given {
+                unclaimed: &lent,
+                ..said.given
+            };
+            let text = map_text(alloc, &outline, &given, &said.told)?;
             Ok(done(alloc, Text::Lines(text)))
         }
     }
 }
 
 /// The map of a dump and its probe with what is said beside them: as words take them, where there are words, with what the
-/// host sends to the root buses, the bridges with ISA Enable, and the ranges that a third text tells.
+/// host sends, what the words take of bridges, and the ranges that a third text tells.
 pub fn map_by<A: Allocator + Copy>(
     alloc: A,
     dump: &Dump<A>,
@@ -66,22 +74,10 @@ pub fn map_by<A: Allocator + Copy>(
 ) -> Result<Reply<A>, OutOfMemory>
     ensures { IfOk result (λ reply. IsMapAnswerBy beside.now dump.now probe.now (answer_of reply)) }
 {
-    let isa = isa_by(alloc, dump, beside.words)?;
+    let bridges = bridges_by(alloc, dump, beside.words)?;
     let ranges = beside.also.ranges();
     let asleep = asleep_for(alloc, ranges, dump, probe, beside.words)?;
-    let said = Said {
-        roots: beside.roots,
-        given: Given {
-            io: ranges_of(&beside.host.io),
-            memory: ranges_of(&beside.host.mem),
-            legacy: &[],
-            isa: &isa,
-        },
-        told: Told {
-            ranges,
-            asleep: &asleep,
-        },
-    };
+    let said = said_by(beside, &bridges, &asleep);
     match taken(alloc, dump, probe, beside.words)? {
         None => map_pair(alloc, dump, probe, &said),
         Some(taken) => map_pair(alloc, &taken.dump, &taken.probe, &said),

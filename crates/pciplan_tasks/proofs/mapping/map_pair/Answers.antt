@@ -1,10 +1,15 @@
-use Rattle.std.proofs.Common.{ap, map, sym, ◌∙◌, subst, List}
+use Rattle.std.proofs.Common.{◌≡◌, ap, map, sym, ◌∙◌, subst, List}
 use Rattle.std.proofs.lemmas.Result.{IfOk-weaker}
 use Rattle.std.specs.Prelude.{IfOk}
 use Rattle.std.specs.String.{string_bytes}
+use Rattle.pci_spec.specs.System.{System}
 use Rattle.pci_tree.specs.Roots.{buses_of}
-use Rattle.pci_claims.specs.Values.{given_value, told_value}
-use Rattle.given_spec.specs.Given.{nothing_given}
+use Rattle.pci_tree.specs.Trees.{HasTree}
+use Rattle.pci_claims.specs.Values.{given_value, taking_value, told_value}
+use Rattle.given_spec.specs.Given.{TakingBridge, nothing_given}
+use Rattle.given_spec.specs.ToldNumbered.{AreListedIn}
+use Rattle.given_spec.specs.UnclaimedLaws.{with_taking}
+use Rattle.map_spec.specs.MapText.{IsMapText}
 use Rattle.pci_given.specs.AllLines.{fault_of}
 use Rattle.pci_given.specs.declared.any_fault.AnyFault.{AnyFault}
 use Rattle.pciplan_tasks.specs.MapAnswers.{IsFirstLine, IsMapped}
@@ -23,12 +28,21 @@ returns-in-Refused g c =
     let given = given_value said.given in
     let found = (rw c.in-Refused.is at c.in_ok-found.ensures) given in
     IfOk-weaker c.first_line.result (λ reply. IsFirstLine (map fault_of c.in-Refused.faults.items) (answer_of reply))
-    (λ reply. IsMapped (told_value said.told) given (buses_of said.roots) c.args.dump.now c.args.probe.now (answer_of reply))
-    (λ reply line. not_mapped (told_value said.told) given (buses_of said.roots) c.args.dump.now c.args.probe.now (map fault_of c.in-Refused.faults.items) (answer_of reply) found line)
+    (λ reply. IsMapped (told_value said.told) given (buses_of said.roots) said.taking.now c.args.dump.now c.args.probe.now (answer_of reply))
+    (λ reply line. not_mapped (told_value said.told) given (buses_of said.roots) said.taking.now c.args.dump.now c.args.probe.now (map fault_of c.in-Refused.faults.items) (answer_of reply) found line)
     (subst (λ (items : List AnyFault). IfOk c.first_line.result (λ reply. IsFirstLine (map fault_of items) (answer_of reply))) c.as_slice.ensures.value c.first_line.ensures)
 
 pub returns-in_ok-text-in-Admitted : goal.returns-in_ok-text-in-Admitted
 returns-in_ok-text-in-Admitted g c =
     let said = c.args.said.now in
     let ready = rw c.in-Admitted.is at c.in_ok-found.ensures in
-    mapped (told_value said.told) (given_value said.given) (buses_of said.roots) c.args.dump.now c.args.probe.now c.in-Admitted.outline (string_bytes c.in_ok-text-in-Admitted.text) _ ready.0 ready.1 c.in_ok-text-in-Admitted.ensures c.done.ensures
+    let outline = c.in-Admitted.outline in
+    let text = string_bytes c.in_ok-text-in-Admitted.text in
+    let lent : map taking_value c.deref-in-Admitted.result.now ≡ c.in_ok-taking-in-Admitted.taking.items = cc (c.deref.ensures.value, c.deref-in-Admitted.ensures.value, c.in_ok-lent-in-Admitted.ensures) in
+    let is : (s : System) → HasTree outline s → AreListedIn (told_value said.told) s
+    → IsMapText (told_value said.told) (with_taking c.in_ok-taking-in-Admitted.taking.items (given_value said.given)) outline.roots s text
+    = subst (λ (bs : List TakingBridge). (s : System) → HasTree outline s → AreListedIn (told_value said.told) s
+    → IsMapText (told_value said.told) (with_taking bs (given_value said.given)) outline.roots s text)
+    lent c.in_ok-text-in-Admitted.ensures in
+    mapped (told_value said.told) (given_value said.given) (buses_of said.roots) said.taking.now c.args.dump.now c.args.probe.now outline c.in_ok-taking-in-Admitted.taking.items text _ ready.0 ready.1
+    c.in_ok-taking-in-Admitted.ensures is c.done.ensures
