@@ -97,7 +97,7 @@ list_is : {A : Type 0} (roots dump probe : List ℕ) (words : FaultsWords) (repl
     → AreListed roots dump probe words (answer_of reply)
     → IsListing roots dump probe words (listing_of reply.refused) (answer_of reply).text
 list_is roots dump probe words reply is =
-    let told = is.is.is.means in
+    let told = is.is.is.means.are in
     by_status roots dump probe words reply.refused (text_bytes reply.text)
     (subst (λ remarks. AreListed roots dump probe words (record { status = if reply.refused then 1 else 0; text = text_bytes reply.text; remarks = remarks }))
     (no_remarks told.faults told.text (answer_of reply) told.line) is)

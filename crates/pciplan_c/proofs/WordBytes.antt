@@ -11,7 +11,7 @@ use Rattle.pci_spec.specs.Text.{hex_byte, hex_digit}
 use Rattle.pci_spec.specs.Window.{WindowKind, IoWindow, MemoryWindow, PrefetchWindow}
 use Rattle.pci_spec.specs.Line.{hex_number, window_name}
 use Rattle.given_spec.specs.Words.{Vga, Vga16}
-use Rattle.model_spec.specs.Words.{Words, Name, Cardbus, Ide, Isa, Power, Reset, Subtractive, Unnumbered, Legacy, Windows, name_text}
+use Rattle.model_spec.specs.Words.{Words, Name, Cardbus, Ide, Isa, Power, Reset, Snoop, Subtractive, Unclaimed, Unnumbered, Legacy, Windows, name_text}
 use Rattle.pci_base.specs.declared.range.Range.{Range}
 use Rattle.pci_base.specs.declared.range.RootRange.{RootRange}
 use Rattle.pciplan_lists.specs.Joined.{AreJoined}
@@ -125,7 +125,9 @@ all_plain Ide = refl
 all_plain Isa = refl
 all_plain Power = refl
 all_plain Reset = refl
+all_plain Snoop = refl
 all_plain Subtractive = refl
+all_plain Unclaimed = refl
 all_plain Unnumbered = refl
 all_plain (Legacy Vga) = refl
 all_plain (Legacy Vga16) = refl

@@ -1,5 +1,4 @@
 -- Words of a settling that have their meaning.
-use Rattle.std.proofs.Common.{List}
 use Rattle.std.specs.Global.{Vec}
 use Rattle.pci_spec.specs.Slot.{Slot}
 use Rattle.pci_base.specs.declared.range.RootRange.{RootRange}

@@ -5,7 +5,7 @@
 //!
 //! ```text
 //! let words = program::words_of(&rt); // as in `check DUMP PROBE`
-//! let status = program::program(rt.alloc(), words, &mut dump, &mut probe, &mut told, &mut output, &mut errors);
+//! let status = program::program(rt.alloc(), words, &mut outside);
 //! // 0 done or yes, 1 no, 2 refused, 3 out of memory, 4 an opening, a read or a write failed
 //! ```
 #![tactic(auto)]
@@ -18,6 +18,7 @@ pub mod invocation;
 mod map_asked;
 pub mod opened;
 pub mod option_words;
+pub mod outside;
 pub mod program;
 pub mod root_list;
 mod settle_asked;

@@ -13,6 +13,7 @@ ghost use Rattle.pciplan_tasks.specs.declared.failure.Failure.{Failure};
 
 use crate::invocation::{Invocation, start};
 use crate::opened::Opening;
+use crate::outside::Outside;
 use pci_dump::read_fault::ReadFault;
 use pci_dump::reader::read_dump;
 use pci_dump::streams::{Sink, Source};
@@ -147,57 +148,62 @@ pub fn open_texts<A: Allocator, D: Opening, P: Opening>(
 /// Opens the two texts of a line, the dump first, and carries out its task. A text that can't be opened is one
 /// that can't be read: there is no answer then, and the message names it, unless it is the second and the dump
 /// has a failure of its own. A third text is read already, and its failure is told where these two have none.
-pub fn carry_out<A: Allocator + Copy, D: Opening, P: Opening, O: Sink, E: Sink>(
+pub fn carry_out<A: Allocator + Copy, D: Opening, P: Opening, M, O: Sink, E: Sink>(
     alloc: A,
     line: &Invocation,
-    dump: &mut D,
-    probe: &mut P,
-    out: &mut O,
-    err: &mut E,
+    outside: &mut Outside<D, P, M, O, E>,
 ) -> u8
-    ensures done { result < 2 → IsCarriedOut line.now (texts (D.stands dump.old) (D.bytes_at dump.old))
-        (texts (P.stands probe.old) (P.bytes_at probe.old)) result
-        (Appends (O.taken out.old) (O.taken out.new))
-        (AreRemarked (E.taken err.old) (E.taken err.new)
-        (E.failures err.new ≡ E.failures err.old + 1) (err.new ≡ err.old)) }
+    ensures done { result < 2 → IsCarriedOut line.now
+        (texts (D.stands outside.old.dump) (D.bytes_at outside.old.dump))
+        (texts (P.stands outside.old.second) (P.bytes_at outside.old.second)) result
+        (Appends (O.taken outside.old.out) (O.taken outside.new.out))
+        (AreRemarked (E.taken outside.old.err) (E.taken outside.new.err)
+        (E.failures outside.new.err ≡ E.failures outside.old.err + 1)
+        (outside.new.err ≡ outside.old.err)) }
     // who reads the output by a pipe gets nothing that looks like an answer
-    ensures quiet { (result ≡ 2) ⊎ (result ≡ 3) → out.new ≡ out.old }
+    ensures quiet { (result ≡ 2) ⊎ (result ≡ 3) → outside.new.out ≡ outside.old.out }
     // what went out can't be taken back, so all that is promised is that it is a beginning
-    ensures begun { result ≡ 4 → (out.new ≡ out.old)
-        ⊎ IsCarriedOutBegun line.now (D.bytes_at dump.old) (P.bytes_at probe.old) (O.taken out.old)
-        (O.taken out.new) }
+    ensures begun { result ≡ 4 → (outside.new.out ≡ outside.old.out)
+        ⊎ IsCarriedOutBegun line.now (D.bytes_at outside.old.dump) (P.bytes_at outside.old.second)
+        (O.taken outside.old.out) (O.taken outside.new.out) }
     ensures refused { result ≡ 2
-        → IsTaskRefused line.now.task (D.bytes_at dump.old (string_bytes line.now.dump))
-        (P.bytes_at probe.old (string_bytes line.now.probe)) }
-    ensures failed { result ≡ 4 → HasFailed (D.failures dump.old) (D.failures dump.new)
-        (P.failures probe.old) (P.failures probe.new) (O.failures out.old) (O.failures out.new)
+        → IsTaskRefused line.now.task (D.bytes_at outside.old.dump (string_bytes line.now.dump))
+        (P.bytes_at outside.old.second (string_bytes line.now.probe)) }
+    ensures failed { result ≡ 4
+        → HasFailed (D.failures outside.old.dump) (D.failures outside.new.dump)
+        (P.failures outside.old.second) (P.failures outside.new.second)
+        (O.failures outside.old.out) (O.failures outside.new.out)
         ⊎ IsAlsoUnread line.now.task }
-    ensures unopened { D.lacks dump.old (string_bytes line.now.dump) → result ≡ 4 }
+    ensures unopened { D.lacks outside.old.dump (string_bytes line.now.dump) → result ≡ 4 }
     // where the dump isn't read its own failure is told
-    ensures second { P.lacks probe.old (string_bytes line.now.probe) → (failure : Failure)
+    ensures second { P.lacks outside.old.second (string_bytes line.now.probe) → (failure : Failure)
         × (result ≡ status_of failure)
-        × IsSecondUnopened line.now.task (D.bytes_at dump.old (string_bytes line.now.dump))
-        (D.failures dump.old) (D.failures dump.new) failure }
+        × IsSecondUnopened line.now.task (D.bytes_at outside.old.dump (string_bytes line.now.dump))
+        (D.failures outside.old.dump) (D.failures outside.new.dump) failure }
+    ensures third { outside.new.third ≡ outside.old.third }
     ensures known { result ≤ 4 }
 {
-    match open_texts(alloc, line, dump, probe) {
-        Ok(()) => run(alloc, &line.task, dump, probe, out, err),
-        Err(failure) => report(err, failure),
+    match open_texts(alloc, line, &mut outside.dump, &mut outside.second) {
+        Ok(()) => run(
+            alloc,
+            &line.task,
+            &mut outside.dump,
+            &mut outside.second,
+            &mut outside.out,
+            &mut outside.err,
+        ),
+        Err(failure) => report(&mut outside.err, failure),
     }
 }
 
 /// Does what the words ask for: writes the answer to `out` or a message to `err`, and answers the status. 0 or 1
 /// where the answer was written, and the remarks on a derived probe to `err`; 2 where the words or a text are refused;
 /// 3 at want of memory; 4 where a text couldn't be opened, or a read or a write failed. At 2 and 3 nothing was written
-/// to `out`, at 4 a beginning of the answer at most.
-pub fn program<D: Opening, P: Opening, T: Opening, O: Sink, E: Sink>(
+/// to `out`, at 4 a beginning of the answer at most. The machine isn't looked at.
+pub fn program<D: Opening, P: Opening, M, O: Sink, E: Sink>(
     alloc: Global,
     words: io::Result<Vec<String>>,
-    dump: &mut D,
-    probe: &mut P,
-    third: &mut T,
-    out: &mut O,
-    err: &mut E,
+    outside: &mut Outside<D, P, M, O, E>,
 ) -> u8
     // of words that couldn't be had: 3 may go away by itself, 2 needs other words
     ensures memory { IfErr words (λ error. error_kind error ≡ ErrorKind.OutOfMemory → result ≡ 3) }
@@ -206,35 +212,38 @@ pub fn program<D: Opening, P: Opening, T: Opening, O: Sink, E: Sink>(
     ensures done { result < 2
         → MatchResult words
         (λ words. (line : Invocation) × IsInvocationOf (map string_bytes words.items)
-        (texts (T.stands third.old) (T.bytes_at third.old)) line
-        × IsCarriedOut line (texts (D.stands dump.old) (D.bytes_at dump.old))
-        (texts (P.stands probe.old) (P.bytes_at probe.old)) result
-        (Appends (O.taken out.old) (O.taken out.new))
-        (AreRemarked (E.taken err.old) (E.taken err.new)
-        (E.failures err.new ≡ E.failures err.old + 1) (err.new ≡ err.old)))
+        (texts (P.stands outside.old.third) (P.bytes_at outside.old.third)) line
+        × IsCarriedOut line (texts (D.stands outside.old.dump) (D.bytes_at outside.old.dump))
+        (texts (P.stands outside.old.second) (P.bytes_at outside.old.second)) result
+        (Appends (O.taken outside.old.out) (O.taken outside.new.out))
+        (AreRemarked (E.taken outside.old.err) (E.taken outside.new.err)
+        (E.failures outside.new.err ≡ E.failures outside.old.err + 1)
+        (outside.new.err ≡ outside.old.err)))
         (λ _. ⊥) }
     // who reads the output by a pipe gets nothing that looks like an answer
-    ensures quiet { (result ≡ 2) ⊎ (result ≡ 3) → out.new ≡ out.old }
+    ensures quiet { (result ≡ 2) ⊎ (result ≡ 3) → outside.new.out ≡ outside.old.out }
     ensures begun { result ≡ 4
-        → (out.new ≡ out.old)
+        → (outside.new.out ≡ outside.old.out)
         ⊎ MatchResult words
         (λ words. (line : Invocation) × IsInvocationOf (map string_bytes words.items)
-        (texts (T.stands third.old) (T.bytes_at third.old)) line
-        × IsCarriedOutBegun line (D.bytes_at dump.old) (P.bytes_at probe.old)
-        (O.taken out.old) (O.taken out.new))
+        (texts (P.stands outside.old.third) (P.bytes_at outside.old.third)) line
+        × IsCarriedOutBegun line (D.bytes_at outside.old.dump) (P.bytes_at outside.old.second)
+        (O.taken outside.old.out) (O.taken outside.new.out))
         (λ _. ⊥) }
     ensures refused { result ≡ 2 → IfOk words (λ words. HasBadWords (map string_bytes words.items)
         ⊎ ((line : Invocation) × IsInvocationOf (map string_bytes words.items)
-        (texts (T.stands third.old) (T.bytes_at third.old)) line
-        × IsTaskRefused line.task (D.bytes_at dump.old (string_bytes line.dump))
-        (P.bytes_at probe.old (string_bytes line.probe)))) }
-    ensures failed { result ≡ 4 → HasFailed (D.failures dump.old) (D.failures dump.new)
-        (P.failures probe.old) (P.failures probe.new) (O.failures out.old) (O.failures out.new)
-        ⊎ (T.failures third.new ≡ T.failures third.old + 1) }
+        (texts (P.stands outside.old.third) (P.bytes_at outside.old.third)) line
+        × IsTaskRefused line.task (D.bytes_at outside.old.dump (string_bytes line.dump))
+        (P.bytes_at outside.old.second (string_bytes line.probe)))) }
+    ensures failed { result ≡ 4
+        → HasFailed (D.failures outside.old.dump) (D.failures outside.new.dump)
+        (P.failures outside.old.second) (P.failures outside.new.second)
+        (O.failures outside.old.out) (O.failures outside.new.out)
+        ⊎ (P.failures outside.new.third ≡ P.failures outside.old.third + 1) }
     ensures known { result ≤ 4 }
 {
-    match line_of(alloc, words, third, err) {
-        Ok(line) => carry_out(alloc, &line, dump, probe, out, err),
+    match line_of(alloc, words, &mut outside.third, &mut outside.err) {
+        Ok(line) => carry_out(alloc, &line, outside),
         Err(status) => status,
     }
 }

@@ -13,7 +13,6 @@ use Rattle.pciplan_tasks.specs.Also.{IsTold}
 use Rattle.pciplan_tasks.specs.Answers.{Answer, AreRemarked, done_with}
 use Rattle.pciplan_tasks.specs.Tasks.{IsAnswerTo, IsPairAnswer, IsTaskRefused}
 use Rattle.pciplan_tasks.specs.declared.task.Beside.{Beside}
-use Rattle.pciplan_tasks.specs.declared.task.Task.{Task}
 use Rattle.pciplan_tasks.specs.declared.task.Task.TheVariants as task
 use Rattle.pciplan_front.specs.Went.{Went}
 

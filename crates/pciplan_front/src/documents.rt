@@ -12,11 +12,11 @@ ghost use Rattle.pciplan_tasks.specs.declared.failure.Failure.{Failure};
 ghost use Rattle.pciplan_front.specs.JsonAsked.{IsDocumented, IsJson, IsJsonReply, IsLineBegun, IsLineDone, IsReplyRefused, with_document};
 ghost use Rattle.pciplan_front.specs.Went.{went};
 
-use crate::outside::Outside;
 use pci_dump::streams::Sink;
 use pci_json::document::{Command, document};
 use pciplan_cli::invocation::{Invocation, start};
 use pciplan_cli::opened::Opening;
+use pciplan_cli::outside::Outside;
 use pciplan_cli::program::open_texts;
 use pciplan_tasks::failure::{Failure, report};
 use pciplan_tasks::reply::{Reply, Text, send};

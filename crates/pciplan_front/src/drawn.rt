@@ -12,7 +12,6 @@ ghost use Rattle.pciplan_tasks.specs.declared.task.Task.{Task};
 ghost use Rattle.pciplan_front.specs.PictureAsked.{IsDrawnOrNot, IsPicture, IsPictureBegun, IsPictureDone, IsPictureRefused, IsPictureReply, map_words};
 ghost use Rattle.pciplan_front.specs.Went.{went};
 
-use crate::outside::Outside;
 use pci_base::memory::OutOfMemory;
 use pci_dump::dump::Dump;
 use pci_dump::reader::read_dump;
@@ -21,6 +20,7 @@ use pci_picture::board::Texts;
 use pci_picture::picture::picture_of;
 use pciplan_cli::invocation::{Invocation, start};
 use pciplan_cli::opened::Opening;
+use pciplan_cli::outside::Outside;
 use pciplan_cli::program::open_texts;
 use pciplan_tasks::failure::{Failure, report};
 use pciplan_tasks::faulting::faults_by;

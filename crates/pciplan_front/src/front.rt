@@ -19,10 +19,10 @@ use crate::drawn::picture;
 use crate::first::{First, first_of};
 use crate::folder::Foldered;
 use crate::here::here;
-use crate::outside::Outside;
 use crate::told::tell;
 use pci_dump::streams::Sink;
 use pciplan_cli::opened::Opening;
+use pciplan_cli::outside::Outside;
 use pciplan_cli::program::program;
 use pciplan_tasks::failure::{Failure, report};
 use std::alloc::{AllocError, Global};
@@ -199,25 +199,9 @@ pub fn front<D: Opening, P: Opening, M: Foldered, O: Sink, E: Sink>(
 {
     match words {
         Ok(words) => match first_of(words.as_slice()) {
-            First::Texts => program(
-                alloc,
-                Ok(words),
-                &mut outside.dump,
-                &mut outside.second,
-                &mut outside.third,
-                &mut outside.out,
-                &mut outside.err,
-            ),
+            First::Texts => program(alloc, Ok(words), outside),
             first => beside(alloc, first, words.as_slice(), outside),
         },
-        Err(error) => program(
-            alloc,
-            Err(error),
-            &mut outside.dump,
-            &mut outside.second,
-            &mut outside.third,
-            &mut outside.out,
-            &mut outside.err,
-        ),
+        Err(error) => program(alloc, Err(error), outside),
     }
 }

@@ -18,5 +18,4 @@ pub mod front;
 pub mod here;
 pub mod here_asked;
 mod messages;
-pub mod outside;
 pub mod told;

@@ -1,6 +1,7 @@
 //! All that the program reads, and all that it writes to.
 
-/// The three texts, which are opened by their paths; the machine that `here` reads; standard output and standard error.
+/// The three texts, which are opened by their paths; the machine that commands without texts read; standard output and
+/// standard error.
 #[derive(Drop)]
 pub struct Outside<D, P, M, O, E> {
     pub dump: D,
