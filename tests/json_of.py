@@ -21,12 +21,16 @@ OF_RANGE = r'(?P<slot>\S+) (?P<register>\+[1-9][0-9]*)'
 SPACE = r' (?P<space>io|mem)(?P<pref> pref)? '
 REGION = PLACE + r' (?P<part>bar|rom|window)' + SPACE + SPAN + r' \w+(?P<isa> isa)?'
 TOLD = OF_RANGE + r' (?P<part>told|held)' + SPACE + SPAN + r' \w+( (?P<name>\S+))?'
-LEGACY = PLACE + r' (?P<part>vga|vga16) (?P<space>io|mem) (?P<spans>[0-9a-f,-]+)(?P<each> of each 1K)?( \w+)?'
+FIXED = PLACE + r' (?P<part>vga|vga16|snoop|snoop16) (?P<space>io|mem) (?P<spans>[0-9a-f,-]+)(?P<each> of each 1K)?( \w+)?'
 
 
 def span(text):
     first, last = text.split('-')
     return {'first': '0x' + first, 'last': '0x' + last, 'size': int(last, 16) - int(first, 16) + 1}
+
+
+def span_or_one(text):
+    return span(text if '-' in text else text + '-' + text)
 
 
 def whole(pattern, line):
@@ -99,11 +103,11 @@ def region(text):
 
 
 def claim(text):
-    if not re.match(r'\S+ \S\S vga', text):
+    if not re.match(r'\S+ \S\S (vga|snoop)', text):
         return region(text)
-    found = whole(LEGACY, text)
+    found = whole(FIXED, text)
     made = {**place(found), 'part': found['part'], 'space': found['space'],
-            'ranges': [span(one) for one in found['spans'].split(',')]}
+            'ranges': [span_or_one(one) for one in found['spans'].split(',')]}
     if found['each']:
         made['each'] = 1024
     return made
@@ -114,13 +118,12 @@ def opening(word):
 
 
 def bridge(text):
-    found = whole(r'(?P<slot>\S+) (?P<on>on|off) (?P<space>io|mem) (?P<window>\S+)( pref (?P<pref>\S+))?(?P<isa> isa)?( (?P<legacy>vga\S*))?',
-                  text)
+    found = whole(r'(?P<slot>\S+) (?P<on>on|off) (?P<space>io|mem) (?P<window>\S+)( pref (?P<pref>\S+))?(?P<isa> isa)?'
+                  r'(?P<unclaimed> unclaimed)?( (?P<legacy>vga\S*))?', text)
     made = {'slot': found['slot'], 'on': found['on'] == 'on', 'windows': {found['space']: opening(found['window'])}}
     if found['pref']:
         made['windows']['pref'] = opening(found['pref'])
-    if found['isa']:
-        made['isa'] = True
+    made.update({name: True for name in ('isa', 'unclaimed') if found[name]})
     if found['legacy']:
         made['legacy'] = found['legacy']
     return made
@@ -176,7 +179,11 @@ FORMS = {'told': SITS_TOLD, 'held': SITS_TOLD, 'free': FREE}
 def places(lines):
     made = []
     for line, inner in groups(lines):
-        found = whole(FORMS.get(line.split()[2], SITS), line)
+        if line.startswith('unclaimed '):
+            found = whole(r'unclaimed (?P<slot>\S+)', line)
+            made.append({'part': 'unclaimed', 'slot': found['slot'], 'inside': places(inner)})
+            continue
+        found = whole(FORMS.get(' '.join(line.split()[2:3]), SITS), line)
         at = {'part': found['part'], **({'prefetchable': True} if found.get('pref') else {})}
         if found['part'] != 'free':
             at.update(place(found))

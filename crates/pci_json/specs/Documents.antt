@@ -50,7 +50,8 @@ abbrev pub place_of : ℕ → List ℕ → List Json → List Json
 place_of depth line inside =
     if depth_of line == depth then object_of (place_members (content_of line) inside) ∷ [] else []
 
--- the regions of the lines at this depth, up to the first line above it; what is deeper is inside a window
+-- the regions of the lines at this depth, up to the first line above it; what is deeper is inside a window, or below the
+-- bridge that takes it
 abbrev pub places_of : ℕ → List (List ℕ) → List Json
 places_of depth [] = []
 places_of depth (line ∷ lines) =

@@ -1,5 +1,5 @@
 -- The lines of a listing, of a map, and of writes (docs/FORMATS.md, "Listing", "Address map" and "Planning").
-use Rattle.std.specs.Prelude.{ℕ, ◌==◌, Bool, true, List, [], ◌∷◌, ◌++◌, length, codes, if◌then◌else◌}
+use Rattle.std.specs.Prelude.{ℕ, ◌==◌, ◌||◌, Bool, true, List, [], ◌∷◌, ◌++◌, length, codes, if◌then◌else◌}
 use Rattle.std.specs.List.{before_first, after_first}
 use Rattle.json.specs.Json.{Json, string, boolean}
 use Rattle.pci_json.specs.Lines.{word, is_word, behind, value_of}
@@ -52,7 +52,8 @@ abbrev pub capability_members : List ℕ → List (List ℕ × Json)
 capability_members line =
     (codes "at", hex (word 1 line)) ∷ (codes "kind", string (word 2 line)) ∷ (codes "text", string (behind 3 line)) ∷ []
 
--- ---- a map: F-L N free, F-L N PART S r, or F-L N PART pref S r; and isa behind a window, a name behind a told range
+-- ---- a map: F-L N free, F-L N PART S r, or F-L N PART pref S r; and isa behind a window, a name behind a told range;
+-- or unclaimed S, of a bridge that takes what no region of its bus claims
 
 -- what stands behind PART
 abbrev pub kind_members : List ℕ → List (List ℕ × Json)
@@ -73,13 +74,23 @@ sits_members line part =
     (codes "part", string (word 0 part))
     ∷ (kind_members (behind 1 part) ++ (range_members (word 0 line) ++ end_member 0 (end_place part) part))
 
+abbrev pub is_taking : List ℕ → Bool
+is_taking line = is_word 0 (codes "unclaimed") line
+
+abbrev pub taking_members : List ℕ → List (List ℕ × Json)
+taking_members line = (codes "part", string (codes "unclaimed")) ∷ (codes "slot", string (word 1 line)) ∷ []
+
 abbrev pub outer_members : List ℕ → List (List ℕ × Json)
 outer_members line =
-    if is_word 0 (codes "free") (behind 2 line) then free_members line else sits_members line (behind 2 line)
+    if is_taking line then taking_members line
+    else (if is_word 0 (codes "free") (behind 2 line) then free_members line else sits_members line (behind 2 line))
 
--- what a window has inside
+-- what a window or such a bridge has inside
+abbrev pub has_inside : List ℕ → Bool
+has_inside line = is_taking line || is_word 2 (codes "window") line
+
 abbrev pub inside_members : List ℕ → List Json → List (List ℕ × Json)
-inside_members line inside = if is_word 2 (codes "window") line then (codes "inside", array_of inside) ∷ [] else []
+inside_members line inside = if has_inside line then (codes "inside", array_of inside) ∷ [] else []
 
 abbrev pub place_members : List ℕ → List Json → List (List ℕ × Json)
 place_members line inside = outer_members line ++ inside_members line inside

@@ -70,9 +70,9 @@ slot_and_register n content = (codes "slot", string (word n content)) ∷ regist
 
 -- ---- what stands at the end of a region's line
 
--- where a line has `isa` behind so many words
-abbrev pub isa_member : ℕ → List ℕ → List (List ℕ × Json)
-isa_member n line = if is_word n (codes "isa") line then (codes "isa", boolean true) ∷ [] else []
+-- where a line has a word behind so many words, the member of this name
+abbrev pub flag_member : List ℕ → ℕ → List ℕ → List (List ℕ × Json)
+flag_member name n line = if is_word n name line then (name, boolean true) ∷ [] else []
 
 -- where a line has a word behind so many words
 abbrev pub name_member : ℕ → List ℕ → List (List ℕ × Json)
@@ -84,9 +84,9 @@ is_told n line = is_word n (codes "told") line || is_word n (codes "held") line
 
 -- the name of a told range, or `isa` of another region, whose part stands behind the first number of words
 abbrev pub end_member : ℕ → ℕ → List ℕ → List (List ℕ × Json)
-end_member part n line = if is_told part line then name_member n line else isa_member n line
+end_member part n line = if is_told part line then name_member n line else flag_member (codes "isa") n line
 
--- ---- a range F-L: its first and last address, and how many they are
+-- ---- a range F-L, or F alone: its first and last address, and how many they are
 
 abbrev pub is_dash : ℕ → Bool
 is_dash b = b == 45
@@ -97,12 +97,19 @@ first_of = before_first is_dash
 abbrev pub last_of : List ℕ → List ℕ
 last_of = after_first is_dash
 
+-- the last address, of what stands before and behind the dash: the first one, where no dash follows
+abbrev pub last_address : List ℕ → List ℕ → List ℕ
+last_address first behind = if length behind == 0 then first else behind
+
+abbrev pub end_of : List ℕ → List ℕ
+end_of range = last_address (first_of range) (last_of range)
+
 abbrev pub size_of : List ℕ → ℕ
-size_of range = value_of 16 (last_of range) - value_of 16 (first_of range) + 1
+size_of range = value_of 16 (end_of range) - value_of 16 (first_of range) + 1
 
 abbrev pub range_members : List ℕ → List (List ℕ × Json)
 range_members range =
-    (codes "first", hex (first_of range)) ∷ (codes "last", hex (last_of range))
+    (codes "first", hex (first_of range)) ∷ (codes "last", hex (end_of range))
     ∷ (codes "size", count (size_of range)) ∷ []
 
 abbrev pub range_object : List ℕ → Json

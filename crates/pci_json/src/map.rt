@@ -2,7 +2,7 @@
 ghost use Rattle.std.specs.Prelude.{◌≡◌, ◌<◌, ◌≤◌, ◌+◌, ◌^◌, ℕ, length, OnOk, IfOk};
 ghost use Rattle.pci_json.specs.Lines.{lines_of};
 ghost use Rattle.pci_json.specs.Members.{with_members, with_items};
-ghost use Rattle.pci_json.specs.Listings.{free_members, end_place, sits_members, outer_members, inside_members, root_members};
+ghost use Rattle.pci_json.specs.Listings.{free_members, end_place, sits_members, is_taking, taking_members, outer_members, has_inside, inside_members, root_members};
 ghost use Rattle.pci_json.specs.Documents.{place_of, places_of, root_of, buses_of, behind_heading, aside_of, is_heading};
 
 use crate::lines::{behind, content, cut, depth_of, is_inner, is_word, split_word, word};
@@ -38,10 +38,28 @@ fn push_sits<A: Allocator>(out: &mut Output<A>, line: &str, part: &str) -> Resul
     push_end(out, part, 0, end_place(part))
 }
 
+/// Whether a line is of a bridge that takes what no region of its bus claims.
+fn is_taking(line: &str) -> bool
+    ensures { result ≡ is_taking line.now }
+{
+    is_word(line, 0, "unclaimed")
+}
+
+/// The members of such a bridge, but what it takes.
+fn push_taking<A: Allocator>(out: &mut Output<A>, line: &str) -> Result<(), AllocError>
+    ensures { OnOk result (out.new ≡ with_members out.old (taking_members line.now)) }
+{
+    out.text("part", "unclaimed")?;
+    out.text("slot", word(line, 1))
+}
+
 /// The members of a line of a map, but what is inside it.
 fn push_place<A: Allocator>(out: &mut Output<A>, line: &str) -> Result<(), AllocError>
     ensures { OnOk result (out.new ≡ with_members out.old (outer_members line.now)) }
 {
+    if is_taking(line) {
+        return push_taking(out, line);
+    }
     let part = behind(line, 2);
     if is_word(part, 0, "free") {
         push_free(out, line)
@@ -99,7 +117,14 @@ fn push_here<'a, A: Allocator>(
     Ok(rest)
 }
 
-/// What a window has inside, and the text behind that.
+/// Whether a line is of a window, or of a bridge that takes what stands below it.
+fn has_inside(line: &str) -> bool
+    ensures { result ≡ has_inside line.now }
+{
+    is_taking(line) || is_word(line, 2, "window")
+}
+
+/// What stands inside, and the text behind that.
 #[cycle(places)]
 fn push_inside<'a, A: Allocator>(
     out: &mut Output<A>,
@@ -113,7 +138,7 @@ fn push_inside<'a, A: Allocator>(
         → places_of above (lines_of rest.now) ≡ places_of above (lines_of text.now)) }
     ensures shorter { IfOk result (λ rest. length rest.now ≤ length text.now) }
 {
-    if !is_word(line, 2, "window") {
+    if !has_inside(line) {
         return Ok(text);
     }
     out.key("inside")?;

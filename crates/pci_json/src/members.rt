@@ -1,7 +1,7 @@
 //! Members that several kinds of lines have.
 ghost use Rattle.std.specs.Prelude.{◌≡◌, ◌<◌, ◌++◌, OnOk};
 ghost use Rattle.json.specs.Tree.{json_tokens};
-ghost use Rattle.pci_json.specs.Members.{with_members, with_items, first_of, last_of, is_line, line_number, register_or_line, slot_and_register, isa_member, name_member, is_told, end_member, range_members, range_object, opening, ranges_of};
+ghost use Rattle.pci_json.specs.Members.{with_members, with_items, first_of, last_of, is_line, line_number, register_or_line, slot_and_register, flag_member, name_member, is_told, end_member, last_address, range_members, range_object, opening, ranges_of};
 
 use crate::lines::{behind, cut, is_word, split_at_first, split_word, value, word};
 use crate::output::Output;
@@ -45,13 +45,18 @@ pub fn push_slot_and_register<A: Allocator>(
     push_register_or_line(out, word(rest, 0))
 }
 
-/// That ISA Enable cuts a window, where this word of its line says so.
-pub fn push_isa<A: Allocator>(out: &mut Output<A>, line: &str, n: usize) -> Result<(), AllocError>
+/// A member that is true, where this word of a line is its name.
+pub fn push_flag<A: Allocator>(
+    out: &mut Output<A>,
+    line: &str,
+    n: usize,
+    name: &str,
+) -> Result<(), AllocError>
     requires { n < 1000 }
-    ensures { OnOk result (out.new ≡ with_members out.old (isa_member n line.now)) }
+    ensures { OnOk result (out.new ≡ with_members out.old (flag_member name.now n line.now)) }
 {
-    if is_word(line, n, "isa") {
-        return out.boolean("isa", true);
+    if is_word(line, n, name) {
+        return out.boolean(name, true);
     }
     Ok(())
 }
@@ -87,7 +92,7 @@ pub fn push_end<A: Allocator>(
     if is_told(line, part) {
         push_name(out, line, n)
     } else {
-        push_isa(out, line, n)
+        push_flag(out, line, n, "isa")
     }
 }
 
@@ -99,11 +104,19 @@ pub fn ends_of(range: &str) -> (&str, &str)
     split_at_first(range, b'-')
 }
 
+/// The last address of a range, of what stands before and behind its dash. An address alone is the last one, too.
+fn last_address<'a>(first: &'a str, behind: &'a str) -> &'a str
+    ensures { result.now ≡ last_address first.now behind.now }
+{
+    if behind.is_empty() { first } else { behind }
+}
+
 /// A range's first and last address, and how many they are.
 pub fn push_range<A: Allocator>(out: &mut Output<A>, range: &str) -> Result<(), AllocError>
     ensures { OnOk result (out.new ≡ with_members out.old (range_members range.now)) }
 {
-    let (first, last) = ends_of(range);
+    let (first, behind) = ends_of(range);
+    let last = last_address(first, behind);
     let less = value(last, 16).saturating_sub(value(first, 16));
     out.hex("first", first)?;
     out.hex("last", last)?;

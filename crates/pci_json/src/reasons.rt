@@ -3,11 +3,11 @@ ghost use Rattle.std.specs.Prelude.{◌≡◌, ◌<◌, ◌++◌, OnOk};
 ghost use Rattle.json.specs.Tree.{json_tokens};
 ghost use Rattle.pci_json.specs.Lines.{word};
 ghost use Rattle.pci_json.specs.Members.{with_members, with_items, object_of, array_of, ranges_of};
-ghost use Rattle.pci_json.specs.Reasons.{range_place, part_members, region_members, each_members, legacy_members, claim_members, prefetchable_window, legacy_place, legacy_word, way_members, bridge_members, host_ranges, fits_value};
+ghost use Rattle.pci_json.specs.Reasons.{range_place, part_members, region_members, each_members, fixed_members, is_fixed, claim_members, prefetchable_window, unclaimed_place, legacy_place, legacy_word, way_members, bridge_members, bridge_words, host_ranges, fits_value};
 
 use crate::lines::{behind, is_word, word};
 use crate::members::{
-    push_end, push_isa, push_opening, push_range, push_ranges, push_slot_and_register,
+    push_end, push_flag, push_opening, push_range, push_ranges, push_slot_and_register,
 };
 use crate::output::Output;
 use std::alloc::{AllocError, Allocator};
@@ -61,8 +61,8 @@ fn push_each<A: Allocator>(out: &mut Output<A>, line: &str) -> Result<(), AllocE
     Ok(())
 }
 
-/// The ranges of a legacy part.
-fn push_legacy_ranges<A: Allocator>(out: &mut Output<A>, line: &str) -> Result<(), AllocError>
+/// The ranges of a legacy part or a palette part.
+fn push_fixed_ranges<A: Allocator>(out: &mut Output<A>, line: &str) -> Result<(), AllocError>
     ensures { OnOk result
         (out.new ≡ out.old ++ json_tokens (array_of (ranges_of 44 (word 5 line.now)))) }
 {
@@ -71,22 +71,32 @@ fn push_legacy_ranges<A: Allocator>(out: &mut Output<A>, line: &str) -> Result<(
     out.end_array()
 }
 
-/// The members of a legacy part.
-fn push_legacy<A: Allocator>(out: &mut Output<A>, line: &str) -> Result<(), AllocError>
-    ensures { OnOk result (out.new ≡ with_members out.old (legacy_members line.now)) }
+/// The members of a legacy part or a palette part.
+fn push_fixed<A: Allocator>(out: &mut Output<A>, line: &str) -> Result<(), AllocError>
+    ensures { OnOk result (out.new ≡ with_members out.old (fixed_members line.now)) }
 {
     push_part(out, line, 1)?;
     out.key("ranges")?;
-    push_legacy_ranges(out, line)?;
+    push_fixed_ranges(out, line)?;
     push_each(out, line)
 }
 
-/// The members of a region or a legacy part.
+/// Whether the part of a line is a legacy part or a palette part.
+fn is_fixed(line: &str) -> bool
+    ensures { result ≡ is_fixed line.now }
+{
+    is_word(line, 3, "vga")
+        || is_word(line, 3, "vga16")
+        || is_word(line, 3, "snoop")
+        || is_word(line, 3, "snoop16")
+}
+
+/// The members of a region, a legacy part or a palette part.
 pub fn push_claim<A: Allocator>(out: &mut Output<A>, line: &str) -> Result<(), AllocError>
     ensures { OnOk result (out.new ≡ with_members out.old (claim_members line.now)) }
 {
-    if is_word(line, 3, "vga") || is_word(line, 3, "vga16") {
-        push_legacy(out, line)
+    if is_fixed(line) {
+        push_fixed(out, line)
     } else {
         push_region(out, line, 1)
     }
@@ -103,9 +113,10 @@ fn push_prefetchable<A: Allocator>(out: &mut Output<A>, line: &str) -> Result<()
     push_opening(out, word(line, 6))
 }
 
-/// Where the word of a legacy part stands.
-fn legacy_place(line: &str) -> usize
-    ensures { result ≡ legacy_place line.now }
+/// Where `unclaimed` stands, if the line has it.
+fn unclaimed_place(line: &str) -> usize
+    ensures value { result ≡ unclaimed_place line.now }
+    ensures small { result < 8 }
 {
     if is_word(line, 5, "pref") {
         7
@@ -113,6 +124,18 @@ fn legacy_place(line: &str) -> usize
         6
     } else {
         5
+    }
+}
+
+/// Where the word of a legacy part stands.
+fn legacy_place(line: &str) -> usize
+    ensures { result ≡ legacy_place line.now }
+{
+    let place = unclaimed_place(line);
+    if is_word(line, place, "unclaimed") {
+        place + 1
+    } else {
+        place
     }
 }
 
@@ -145,6 +168,15 @@ fn push_windows<A: Allocator>(out: &mut Output<A>, line: &str) -> Result<(), All
     out.end_object()
 }
 
+/// The words behind a bridge's windows: what it passes beside them.
+fn push_bridge_words<A: Allocator>(out: &mut Output<A>, line: &str) -> Result<(), AllocError>
+    ensures { OnOk result (out.new ≡ with_members out.old (bridge_words line.now)) }
+{
+    push_flag(out, line, 5, "isa")?;
+    push_flag(out, line, unclaimed_place(line), "unclaimed")?;
+    push_legacy_word(out, line)
+}
+
 /// The members of a bridge that doesn't pass all of a region.
 pub fn push_bridge<A: Allocator>(out: &mut Output<A>, line: &str) -> Result<(), AllocError>
     ensures { OnOk result (out.new ≡ with_members out.old (bridge_members line.now)) }
@@ -153,8 +185,7 @@ pub fn push_bridge<A: Allocator>(out: &mut Output<A>, line: &str) -> Result<(), 
     out.boolean("on", is_word(line, 2, "on"))?;
     out.key("windows")?;
     push_windows(out, line)?;
-    push_isa(out, line, 5)?;
-    push_legacy_word(out, line)
+    push_bridge_words(out, line)
 }
 
 /// The ranges of a line that tells what the host sends.

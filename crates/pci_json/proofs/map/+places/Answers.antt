@@ -14,7 +14,7 @@ use Rattle.pci_json.proofs.map.+places.Goals as goal
 pub push_inside-returns-clause-written : goal.push_inside-returns-clause-written
 push_inside-returns-clause-written g t c =
     named_value c.args.out.now c.key.new.self c.end_array.new.self (codes "inside") (array_of (places_of (c.args.depth + 1) (lines_of c.args.text.now))) c.in_ok-key.ensures (array_value c.key.new.self c.begin_array.new.self c.push_places.new.out c.end_array.new.self (places_of (c.args.depth + 1) (lines_of c.args.text.now)) c.in_ok-begin_array.ensures c.in_ok-rest.ensures.written c.in_ok-end_array.ensures)
-    ∙ ap (with_members c.args.out.now) (ap (λ (b : Bool). if b then (codes "inside", array_of (places_of (c.args.depth + 1) (lines_of c.args.text.now))) ∷ [] else []) (sym (sym c.is_word.ensures ∙ c.if-not-is_word.false)))
+    ∙ ap (with_members c.args.out.now) (ap (λ (b : Bool). if b then (codes "inside", array_of (places_of (c.args.depth + 1) (lines_of c.args.text.now))) ∷ [] else []) (sym (sym c.has_inside.ensures ∙ c.if-not-has_inside.false)))
 
 pub push_places-returns-clause-written : goal.push_places-returns-clause-written
 push_places-returns-clause-written g t c =
