@@ -74,17 +74,20 @@ def read_map(lines):
     """The sections (bus, space, regions), and the lists behind them."""
     sections, lists, stack = [], {'outside': [], 'unreached': [], 'off': []}, None
     for line in lines:
-        depth = (len(line) - len(line.lstrip())) // 2
+        depth, words = (len(line) - len(line.lstrip())) // 2, line.split()
         if depth == 0:
-            words = line.split()
+            left_out = 0
             if words[0] == 'bus':
                 sections.append((words[1], words[2], []))
                 stack = [sections[-1][2]]
             else:
                 stack = [lists[words[0]]]
+        elif words[0] == 'unclaimed':
+            # what a bridge takes stands where regions of its root bus do
+            left_out = 1
         else:
             region = Region(line)
-            del stack[depth:]
+            del stack[depth - left_out:]
             stack[-1].append(region)
             stack.append(region.inside)
     return sections, lists
@@ -156,9 +159,9 @@ class Heights:
 
 
 def lanes(regions):
-    """Regions with their lane and how many lanes their group has."""
+    """Regions, by rising address, with their lane and how many lanes their group has."""
     group, until, out = [], -1, []
-    for r in sorted(regions, key=lambda r: (r.first, r.slot or '~', r.place)):
+    for r in regions:
         if r.first > until:
             out += [(s, lane, max(l for _, l in group) + 1) for s, lane in group]
             group = []
@@ -304,8 +307,8 @@ class Picture:
         split = edge - LOST if lost else edge
         self.places, self.frees = {}, []
         self.axis(axis, heights, edge, digits, max(r.last for r in every))
-        self.draw(regions, heights, axis, split)
-        self.draw(lost, heights, split + 8, edge, True)
+        self.draw(sorted(regions, key=lambda r: r.first), heights, axis, split)
+        self.draw(sorted(lost, key=lambda r: (r.first, r.slot, r.place)), heights, split + 8, edge, True)
         for n, keys, _, first, last in shared:
             spots = [p for k in keys for p in self.places.get(k, [])]
             if spots:
@@ -437,7 +440,7 @@ def look(svg, map_lines):
     width, height = int(root.get('width')), int(root.get('height'))
     boxes = [(r.find(ns + 'title').text.split('\n')[0], *(int(r.get(a)) for a in ('x', 'y', 'width', 'height')))
              for r in root.iter(ns + 'rect') if r.find(ns + 'title') is not None]
-    lines = [line.strip() for line in map_lines if line.startswith('  ')]
+    lines = [line.strip() for line in map_lines if line.startswith('  ') and not line.startswith('  unclaimed ')]
     titles = [b[0] for b in boxes]
     for line in set(lines):
         if titles.count(line) != lines.count(line):

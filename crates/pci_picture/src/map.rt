@@ -14,6 +14,8 @@ use std::alloc::Allocator;
 pub struct Line<'a> {
     /// The number of its section; none under `outside` and `unreached`.
     pub section: Option<u16>,
+    /// The first address of the line of depth 1 that it is, or stands inside.
+    pub top: u64,
     pub region: Region<'a>,
 }
 
@@ -61,12 +63,17 @@ fn heading_of(line: &[u8]) -> Heading {
     }
 }
 
-/// A map whose first lines were read, the heading of the next line, and how deep the one before stands.
+/// A map whose first lines were read.
 #[derive(Drop)]
 struct Reader<'a, A: Allocator> {
     map: Map<'a, A>,
+    /// The heading of the next line.
     heading: Heading,
+    /// Whether it stands below a line `unclaimed S`.
+    is_taken: bool,
+    /// How deep the line before it stands, and the first address of the last line of depth 1.
     level: usize,
+    top: u64,
 }
 
 impl<'a, A: Allocator + Copy> Reader<'a, A> {
@@ -78,18 +85,39 @@ impl<'a, A: Allocator + Copy> Reader<'a, A> {
         match self.heading {
             Heading::Section(number) => {
                 let section = Some(number);
-                self.map.lines.push(Line { section, region })?;
+                let top = self.top;
+                self.map.lines.push(Line {
+                    section,
+                    top,
+                    region,
+                })?;
             }
             Heading::Lost => {
                 let section = None;
-                self.map.lines.push(Line { section, region })?;
+                let top = self.top;
+                self.map.lines.push(Line {
+                    section,
+                    top,
+                    region,
+                })?;
             }
             Heading::Off => self.map.off.push(region)?,
         }
         Ok(())
     }
 
-    /// Reads a line. One that is more than one step deeper than the one before counts as one step deeper.
+    /// How deep the next line stands, which begins with two blanks for each of these steps. What a bridge takes stands
+    /// where regions of its root bus do. A line is at most one step deeper than the one before.
+    fn depth(&self, steps: usize) -> usize {
+        let steps = if self.is_taken {
+            steps.saturating_sub(1).max(1)
+        } else {
+            steps
+        };
+        steps.min(self.level.saturating_add(1))
+    }
+
+    /// Reads a line.
     fn take(&mut self, line: &'a [u8]) -> Result<(), OutOfMemory>
         requires { IsTrue (is_one_line line.now) }
         ensures { OnOk result (IsPermutation
@@ -98,16 +126,22 @@ impl<'a, A: Allocator + Copy> Reader<'a, A> {
         let blanks = indent(line);
         if blanks < 2 {
             self.heading = heading_of(line);
+            self.is_taken = false;
             self.level = 0;
             return Ok(());
         }
-        let depth = deeper(self.level, blanks / 2);
+        let depth = self.depth(blanks / 2);
         match region_of(stripped(line), depth) {
             Some(region) => {
+                self.top = if depth == 1 { region.first } else { self.top };
                 self.level = depth;
                 self.put(region)
             }
-            None => Ok(()),
+            None => {
+                self.is_taken = word(line, 0) == b"unclaimed".as_slice();
+                self.level = 0;
+                Ok(())
+            }
         }
     }
 }
@@ -123,7 +157,9 @@ impl<'a, A: Allocator + Copy> Map<'a, A> {
                 off: Vec::new(alloc),
             },
             heading: Heading::Off,
+            is_taken: false,
             level: 0,
+            top: 0,
         };
         for line in text.split('\n') {
             reader.take(line.as_bytes())?;
@@ -161,9 +197,4 @@ impl<'a, A: Allocator + Copy> Map<'a, A> {
     pub fn has_lost(&self) -> bool {
         self.lines.iter().any(|line| line.section.is_none())
     }
-}
-
-/// The depth of a line, at most one step deeper than the line before.
-fn deeper(level: usize, depth: usize) -> usize {
-    depth.min(level.saturating_add(1))
 }

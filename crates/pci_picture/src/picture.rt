@@ -150,6 +150,7 @@ fn members<'a, A: Allocator + Copy>(
         members.push(Member {
             section,
             is_lost: line.section.is_none(),
+            top: line.top,
             region,
         })?;
     }

@@ -50,17 +50,19 @@ pub struct Member<'a> {
     pub section: u16,
     /// Whether it is out of place or not reached.
     pub is_lost: bool,
+    /// The first address of the line of depth 1 that it is, or stands inside.
+    pub top: u64,
     pub region: Region<'a>,
 }
 
 impl Member<'_> {
-    /// The sort key of a region in its section. Those below the heading stay in the order of the map. Those that are
-    /// lost are sorted by address and key.
+    /// The sort key of a region in its section. Lines of depth 1 are sorted by their first addresses, and what is inside
+    /// stays behind its line. Those that are lost are sorted by address and key.
     pub fn rank(&self) -> (u64, u64) {
         if self.is_lost {
             (self.region.first, self.region.key)
         } else {
-            (0, 0)
+            (self.top, 0)
         }
     }
 }

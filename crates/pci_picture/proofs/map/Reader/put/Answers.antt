@@ -6,9 +6,9 @@ use Rattle.pci_picture.proofs.map.Reader.put.Goals as goal
 pub returns-in_ok-push-in-Section : goal.returns-in_ok-push-in-Section
 returns-in_ok-push-in-Section g c =
     put_line c.args.self.now.map.lines.items c.push.new.self.items (lines_of c.args.self.now.map.off.items)
-    (record { section = Some c.in-Section.number; region = c.args.region }) c.in_ok-push-in-Section.ensures.items
+    (record { section = Some c.in-Section.number; top = c.args.self.now.top; region = c.args.region }) c.in_ok-push-in-Section.ensures.items
 
 pub returns-in_ok-push-in-Lost : goal.returns-in_ok-push-in-Lost
 returns-in_ok-push-in-Lost g c =
     put_line c.args.self.now.map.lines.items c.push-in-Lost.new.self.items (lines_of c.args.self.now.map.off.items)
-    (record { section = None; region = c.args.region }) c.in_ok-push-in-Lost.ensures.items
+    (record { section = None; top = c.args.self.now.top; region = c.args.region }) c.in_ok-push-in-Lost.ensures.items

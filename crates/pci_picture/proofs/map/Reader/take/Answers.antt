@@ -12,8 +12,8 @@ pub returns-then-blanks-lt2 : goal.returns-then-blanks-lt2
 returns-then-blanks-lt2 g c =
     untold (lines_read c.args.self.now.map) (told_line c.args.line.now) (shallow c.args.line.now c.indent-blanks.result c.indent-blanks.ensures.value c.if-blanks-lt2.true)
 
-pub returns-in-Some : goal.returns-in-Some
-returns-in-Some g c =
+pub returns-after-depth-eq1 : goal.returns-after-depth-eq1
+returns-after-depth-eq1 g c =
     on_ok_weaker c.put.result
     (λ moved. told_one (lines_read c.args.self.now.map) (lines_read c.put.new.self.map) (told_line c.args.line.now) c.in-Some.region.line.now
     (deep c.args.line.now c.stripped.result.now c.indent-blanks.result (c.in-Some.region.line.now ∷ []) c.indent-blanks.ensures.value c.if-blanks-lt2.false
