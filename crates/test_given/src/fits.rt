@@ -55,6 +55,8 @@ fn nothing() -> Given<'static> {
         memory: None,
         legacy: &[],
         isa: &[],
+        palette: &[],
+        unclaimed: &[],
     }
 }
 
@@ -65,6 +67,8 @@ fn beside(legacy: &[LegacyBridge]) -> Given<'_> {
         memory: None,
         legacy,
         isa: &[],
+        palette: &[],
+        unclaimed: &[],
     }
 }
 

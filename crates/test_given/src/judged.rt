@@ -62,6 +62,8 @@ fn faults_of(
         memory: said.memory,
         legacy: &legacy,
         isa: &[],
+        palette: &[],
+        unclaimed: &[],
     };
     let told = Told {
         ranges: &[],

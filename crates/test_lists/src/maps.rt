@@ -17,6 +17,8 @@ fn are_lines(alloc: Global, board: &Admitted, wanted: &str) -> bool {
         memory: None,
         legacy: &[],
         isa: &[],
+        palette: &[],
+        unclaimed: &[],
     };
     let told = Told {
         ranges: &[],

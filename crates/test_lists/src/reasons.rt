@@ -67,6 +67,8 @@ fn told(alloc: Global, outline: &Outline, probe: &Dump, faults: &[Named]) -> Opt
         memory: None,
         legacy: &[],
         isa: &[],
+        palette: &[],
+        unclaimed: &[],
     };
     let untold = Told {
         ranges: &[],

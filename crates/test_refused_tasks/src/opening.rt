@@ -6,6 +6,7 @@ use pci_base::failures::Failures;
 use pci_dump::std_streams::Outgoing;
 use pci_dump::streams::{Failed, Source};
 use pciplan_cli::opened::Opening;
+use pciplan_cli::outside::Outside;
 use pciplan_cli::program::program;
 use std::alloc::AllocError;
 use std::io;
@@ -73,15 +74,17 @@ fn words_of(rt: &impl AllocGlobal, words: &[&str]) -> Result<Vec<String>, AllocE
 fn answer(rt: &impl AllocGlobal, words: io::Result<Vec<String>>, texts: &[(&str, &str)]) -> Answer {
     let mut out = Vec::new(rt.alloc());
     let mut err = Vec::new(rt.alloc());
-    let status = program(
-        rt.alloc(),
-        words,
-        &mut Shelf::closed(texts),
-        &mut Shelf::closed(texts),
-        &mut Shelf::closed(texts),
-        &mut Outgoing::new(&mut out),
-        &mut Outgoing::new(&mut err),
-    );
+    let status = {
+        let mut outside = Outside {
+            dump: Shelf::closed(texts),
+            second: Shelf::closed(texts),
+            third: Shelf::closed(texts),
+            machine: (),
+            out: Outgoing::new(&mut out),
+            err: Outgoing::new(&mut err),
+        };
+        program(rt.alloc(), words, &mut outside)
+    };
     Answer { status, out, err }
 }
 

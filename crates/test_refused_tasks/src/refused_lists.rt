@@ -65,7 +65,9 @@ const ALL_WORDS: Words = Words {
     isa: true,
     power: true,
     reset: true,
+    snoop: true,
     subtractive: true,
+    unclaimed: true,
     unnumbered: true,
     vga: None,
     windows: true,
@@ -96,6 +98,18 @@ fn so_does_one_of_an_earlier_phase(rt: HostRuntime) -> Result<(), Fail> {
 #[test]
 fn so_does_one_by_words(rt: HostRuntime) -> Result<(), Fail> {
     is_refused(rt.alloc(), task_by(rt.alloc(), Some(ALL_WORDS)), JUDGED)
+}
+
+/// A bridge that takes what no region of its bus claims, with a palette part, above a BAR part of which it doesn't take.
+const TAKEN: &[Row] = &[
+    Device("00:02.0", 2, &[(0x10, 0xe000_0800, 0xffff_ff00)]),
+    Bridge("00:1e.0", 0x23, (0, 1, 1), &[(0x08, 0x0604_0100, 0)]),
+    Device("01:00.0", 2, &[(0x10, 0xe000_0000, 0xffff_f000)]),
+];
+
+#[test]
+fn so_does_one_of_what_a_bridge_takes(rt: HostRuntime) -> Result<(), Fail> {
+    is_refused(rt.alloc(), task_by(rt.alloc(), Some(ALL_WORDS)), TAKEN)
 }
 
 #[test]

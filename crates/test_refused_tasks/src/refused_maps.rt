@@ -90,7 +90,9 @@ const WORDS: Words = Words {
     isa: true,
     power: true,
     reset: true,
+    snoop: true,
     subtractive: true,
+    unclaimed: true,
     unnumbered: true,
     vga: Some(VgaWord::Vga),
     windows: true,
@@ -114,6 +116,17 @@ fn a_map_that_is_refused_a_growth_says_just_that(rt: HostRuntime) -> Result<(), 
 #[test]
 fn so_does_one_by_words(rt: HostRuntime) -> Result<(), Fail> {
     is_refused(rt.alloc(), task_by(rt.alloc(), Some(WORDS)), MAPPED)
+}
+
+/// A bridge that takes what no region of its bus claims, with a palette part, above a BAR that its window doesn't hold.
+const TAKEN: &[Row] = &[
+    Bridge("00:1e.0", 0x23, (0, 1, 1), &[(0x08, 0x0604_0100, 0)]),
+    Device("01:00.0", 2, &[(0x10, 0xe000_0000, 0xffff_f000)]),
+];
+
+#[test]
+fn so_does_one_of_what_a_bridge_takes(rt: HostRuntime) -> Result<(), Fail> {
+    is_refused(rt.alloc(), task_by(rt.alloc(), Some(WORDS)), TAKEN)
 }
 
 #[test]
