@@ -17,8 +17,8 @@ Boards of `growth` have tight windows, of which some grow. Laws are tried of wha
 settles the boards of growth_rows.py. Boards of `spare` have slots behind which room is wanted. The same is done there, with
 those of spare_rows.py. The program is asked for the same writes and denied spares. Beside boards of `also` ranges are told
 that no register shows. Laws are tried of what the slow judge and the slow map say there, and of the boards of also_rows.py
-they say what stands there. A program that takes `--also` is asked for the same. Of one of these three kinds no program is
-asked without a PROGRAM.
+they say what stands there. The program is asked for the same. Of one of these three kinds no program is asked without a
+PROGRAM.
 
 The status is 1 where boards disagree or a sort is lacking. `show` prints the board of a seed. RT_JOBS sets how many
 processes run at a time (as many as there are cores if not said).

@@ -111,6 +111,14 @@ def region_words(region):
 def address_map(functions, probe_slots, given, words=None):
     """What `map` prints."""
     lines = early_faults(functions, probe_slots, given, words)
-    if lines:
-        return 'no %s\n' % lines[0]
-    return ''.join(line + '\n' for line in Map(system_of(functions, given, words)).lines())
+    return no_map(lines) if lines else map_text(system_of(functions, given, words))
+
+
+def no_map(lines):
+    """What is printed in place of a map, where a list of all faults before judging has lines."""
+    return 'no %s\n' % lines[0]
+
+
+def map_text(system):
+    """The map of a system."""
+    return ''.join(line + '\n' for line in Map(system).lines())

@@ -5,12 +5,12 @@
 - `answers(functions, probe_slots, given, words)`: what `faults`, `faults --why` and `map` print.
 """
 
-from address_map import address_map
-from judge import faults
+from address_map import map_text, no_map
+from judge import early_faults, judging, list_text, system_of
 from model import IO, slot_of, slot_text
 from regions import ToldRange
 from told import judge
-from why import faults_and_why
+from why import reasoned_text
 
 
 def told_ranges(text):
@@ -46,5 +46,9 @@ def numbered(ranges):
 
 def answers(functions, probe_slots, given, words):
     """What `faults`, `faults --why` and `map` print."""
-    beside = (functions, probe_slots, given, words)
-    return faults(*beside), faults_and_why(*beside), address_map(*beside)
+    lines = early_faults(functions, probe_slots, given, words)
+    if lines:
+        return list_text(lines), list_text(lines), no_map(lines)
+    system = system_of(functions, given, words)
+    found = judging(system)
+    return list_text([fault.line for fault in found]), reasoned_text(system, found), map_text(system)

@@ -2,7 +2,8 @@
 
 `also_board(seed)` is a board as boards.py makes them, which has `told` besides. On more of them than there ISA Enable, VGA
 Enable, palette snooping and subtractive decode are set, and functions sleep. Words mostly take these as they are. Told
-ranges begin and end where something else does, at an edge of a KB, or one address beside it.
+ranges begin and end where something else does, at an edge of a KB, or one address beside it. Some are told on the bus of a
+bridge that decodes subtractively, of what stands behind it.
 """
 
 import random
@@ -10,11 +11,11 @@ import random
 from also import numbered
 from boards import Board, Maker
 from early import is_asleep
-from model import BRIDGE_CONTROL, CLASS, COMMAND, IO, MEM, WIDTH, bit, put_number
+from model import COMMAND, IO, MEM, WIDTH, bit
 from regions import ToldRange
 from spoiling import (change_buses, change_class, change_command, change_roots, clear_buses, drop_function, fix_window,
                       make_socket, move_part, move_window, put_to_sleep, switch_rom)
-from words import has_isa_enable, has_snooping, has_vga_enable, is_subtractive
+from words import has_isa_enable, has_vga_enable, is_subtractive
 
 COMMON = (move_part, move_part, move_window, move_window, change_command, switch_rom)
 RARE = (change_buses, change_class, change_roots, clear_buses, drop_function, fix_window, fix_window, fix_window, fix_window,
@@ -42,7 +43,7 @@ class AlsoMaker(Maker):
         self.board = AlsoBoard(seed)
         self.most = self.draw.choice((3, 5, 8, 12))
         self.is_vga, self.is_isa = self.one_in(8), self.one_in(4)
-        self.is_subtractive, self.is_snooping = self.one_in(3), self.one_in(5)
+        self.is_subtractive, self.is_snooping = self.one_in(2), self.one_in(4)
 
     def make(self):
         """The board."""
@@ -65,9 +66,8 @@ class AlsoMaker(Maker):
         """Palette snooping, subtractive decode, and a function that sleeps."""
         if self.one_in(2 if self.is_snooping else 20):
             f.image[COMMAND] |= 0x20
-        others = [g for g in self.board.functions if is_subtractive(g) and g.slot[0] == f.slot[0]]
-        if f.is_bridge and self.one_in(2 if self.is_subtractive else 12) and (not others or self.one_in(12)):
-            put_number(f.image, CLASS, 3, 0x060401)
+        if self.one_in(2 if self.is_subtractive else 12):
+            self.make_subtractive(f)
         if self.one_in(16):
             put_to_sleep(self.draw, self.board, f)
 
@@ -82,6 +82,8 @@ class AlsoMaker(Maker):
         words |= {word for word, _ in needed if self.one_in(8)} if not words & {'vga', 'vga16'} else set()
         words |= set(self.board.words.split(',')) if self.board.words else set()
         self.board.words = ','.join(self.draw.sample(sorted(words), len(words))) or None
+        if self.one_in(8):
+            self.board.words = 'all'
         if self.one_in(6):
             self.board.host_io = self.ranges(IO, 32)
         if self.one_in(6):
@@ -92,7 +94,10 @@ class AlsoMaker(Maker):
         functions = self.board.functions
         slot = self.draw.choice(functions).slot
         mark = self.draw.choice(('command', 'command', 'always', 'always', 'held'))
-        if self.one_in(4):
+        taking = [b for b in functions if is_subtractive(b)]
+        if taking and self.one_in(3):
+            slot = self.draw.choice([f.slot for b in taking for f in functions if f.slot[0] == b.slot[0]])
+        elif self.one_in(4):
             buses = [f.slot[0] for f in functions] + [f.secondary for f in functions if f.is_bridge]
             bus = self.draw.choice(buses) if not self.one_in(20) else self.draw.randrange(256)
             slot = (bus, self.draw.randrange(32), self.draw.randrange(8))
@@ -111,6 +116,9 @@ class AlsoMaker(Maker):
         roots = self.board.roots
         if slot[0] in roots and len(roots) > 1 and self.one_in(2):
             near = [part for part in parts if part.function.slot[0] in roots and part.function.slot[0] != slot[0]]
+        behind = [b.secondary for b in self.board.functions if is_subtractive(b) and b.slot[0] == slot[0]]
+        if behind and self.one_in(2):
+            near = [part for part in parts if part.function.slot[0] in behind and part.kind != 'window']
         part = self.draw.choice((near if near and not self.one_in(3) else parts) or [None])
         space = part.space if part else self.draw.choice((IO, MEM))
         ends = [part.first, part.last, part.last + 1] if part else []

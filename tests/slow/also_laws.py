@@ -1,14 +1,14 @@
 """Told ranges beside boards made by rule: what has to hold of lists, reasons and maps, whatever is told.
 
 - `compare(seed, program, folder)`: what doesn't hold on the board of a seed, or None, and the sorts of the board. A program
-  that knows `--also` is asked for the same lists, reasons and maps.
+  is asked for the same lists, reasons and maps.
 - `show(seed)`: the board of a seed, and what is told.
 - `SORTS`: the sorts that a run over many seeds has to meet.
 """
 
-import functools
 import random
 
+from address_map import map_text
 from also import answers, numbered, told_ranges, told_text
 from also_boards import also_board
 from also_maps import map_fault, under
@@ -16,7 +16,7 @@ from also_plain import Case, clash_fault, plain_fault
 from boards import described
 from early import has_window_fault
 from judge import faults
-from model import IO, MEM, WIDTH, WINDOWS, number_at, put_bar, put_rom, window_bounds
+from model import CLASS, COMMAND, IO, MEM, WIDTH, WINDOWS, bit, number_at, put_bar, put_rom, window_bounds
 from program import put_files, run
 from regions import Given, System, ToldRange, is_told_on
 from told import judge, message
@@ -27,7 +27,9 @@ NEEDED = ('isa', 'snoop', 'unclaimed', 'cardbus', 'windows')
 SORTS = ('yes', 'not listed', 'held at no bus', 'told 60', 'told 61', 'told 62', 'told 63', 'held and something else',
          'told of what sleeps', 'off', 'told in a map', 'held in a map', 'unclaimed in a map', 'outside', 'unreached',
          'the first of two is moved', 'a told range stands for a BAR', 'a bridge that takes what is unclaimed',
-         'a cut window', 'a palette part') + NEEDED
+         'it has an open window', 'it has none', 'two of the class', 'reached as nobody claims it', 'not taken as it is told',
+         'a cut window', 'a palette part', 'a palette part of 16 bits', 'a palette part that clashes',
+         'a device that snoops') + NEEDED
 SAMPLES = 24
 
 
@@ -98,7 +100,7 @@ def adding_fault(case, bare):
 
 def map_of(case):
     """The lines of the map."""
-    return answers(case.functions, None, case.given, case.words)[2].splitlines()
+    return map_text(case.system).splitlines()
 
 
 def held_fault(case):
@@ -212,14 +214,15 @@ def address_fault(case, rule):
         ends = turns[1:] + [1 << WIDTH[space]]
         for place in rule.sample(range(len(turns)), min(SAMPLES, len(turns))):
             first, last = turns[place], ends[place] - 1
-            for address in (first, last, rule.randint(first, last)):
+            addresses = first, rule.randint(first, last), last
+            for address in addresses:
                 told = plain_fault(case, space, address)
                 if told:
                     return told
             if clash_fault(case, space, first):
                 return clash_fault(case, space, first)
             for region in case.system.regions:
-                if region.space == space and region.claims(first) != region.claims(last):
+                if region.space == space and len({region.claims(address) for address in addresses}) > 1:
                     return '%s %x: no cut at an end of %s' % (space, first, region.name)
     return None
 
@@ -239,6 +242,22 @@ def unclaimed_fault(case):
         closed = case.with_system(System(case.system.functions, given_without(given, b.slot, told)))
         if keys(kept.missed) != keys(closed.missed):
             return '%s takes what is told' % (b.slot,)
+    return None
+
+
+def class_fault(case):
+    """A bridge that takes what is unclaimed is judged as one of another class is, but for what it takes."""
+    given = case.system.given
+    for slot in sorted(given.unclaimed):
+        functions = [f.copy() for f in case.functions]
+        own = [f for f in functions if f.slot == slot][0]
+        own.image[CLASS] = 0
+        other = Case(functions, None, case.given, case.words)
+        if other.early:
+            return 'of another class than %s has there is %s' % (slot, other.early[0])
+        without = case.with_system(System(case.system.functions, given_without(given, slot, given.told)))
+        if all_keys(other) != all_keys(without):
+            return '%s is judged otherwise, though it takes nothing' % (slot,)
     return None
 
 
@@ -266,6 +285,17 @@ def palette_fault(case):
         return 'a palette part changes what is reached'
     lost = keys(other.clashes) - keys(case.clashes)
     return 'a palette part takes a clash away' if lost else None
+
+
+def listener_fault(case, texts):
+    """With `snoop` a device answers alike whether it listens to the palette or not."""
+    functions = [f.copy() for f in case.functions]
+    for f in functions:
+        if not f.is_bridge:
+            f.image[COMMAND] &= 0xDF
+    if 'snoop' not in case.names or answers(functions, None, case.given, case.words) == texts:
+        return None
+    return 'a device that listens to the palette answers'
 
 
 def cut_fault(case):
@@ -358,6 +388,9 @@ def sorts_of(case, texts):
     given = case.system.given
     told = {line.split()[0] for line in listed if ' +' in line}
     sorts = {'told ' + number for number in told} | ({'yes'} if listed == ['yes'] else set())
+    parts = [region for region in case.system.regions if region.kind == 'snoop']
+    takers = [f for f in case.system.functions if f.slot in given.unclaimed and f.is_bridge]
+    are_open = [any(window.enabled and not window.is_closed for window in b.windows()) for b in takers]
     for sort, there in (
             ('held and something else', any(fault.region.kind == 'held' or fault.beside.kind == 'held'
                                             for fault in case.clashes)),
@@ -370,11 +403,34 @@ def sorts_of(case, texts):
             ('unclaimed in a map', any(line.startswith('  unclaimed') for line in mapped)),
             ('outside', 'outside' in mapped and any(' told ' in line for line in under('outside', mapped))),
             ('unreached', any(' +' in line for line in under('unreached', mapped))),
-            ('a bridge that takes what is unclaimed', bool(given.unclaimed)),
+            ('a bridge that takes what is unclaimed', bool(takers)),
+            ('it has an open window', any(are_open)),
+            ('it has none', not all(are_open)),
+            ('reached as nobody claims it', any(is_reached_so(case, b) for b in takers)),
+            ('not taken as it is told', any(fault.beside in given.unclaimed and is_told_at(case, fault)
+                                            for fault in case.missed)),
             ('a cut window', any(region.is_cut for region in case.system.regions)),
-            ('a palette part', any(region.kind == 'snoop' for region in case.system.regions))):
+            ('a palette part', bool(parts)),
+            ('a palette part of 16 bits', any(given.palette[part.slot] for part in parts)),
+            ('a palette part that clashes', any('snoop' in (fault.region.kind, fault.beside.kind)
+                                                for fault in case.clashes)),
+            ('a device that snoops', 'snoop' in case.names and any(bit(f.command, 5) and not f.is_bridge
+                                                                   for f in case.functions))):
         sorts |= {sort} if there else set()
     return sorts
+
+
+def is_reached_so(case, b):
+    """Whether a region behind a bridge is reached where none of its windows holds it."""
+    missed = {fault.region.name for fault in case.missed}
+    return any(region.is_home and region.bus == b.secondary and region.name not in missed
+               and case.system.takes(b, region.space, region.first) for region in case.system.regions)
+
+
+def is_told_at(case, fault):
+    """Whether a told range of the bus of a bridge claims what this misses."""
+    return any(region.is_told and region.bus == fault.beside[0] and region.space == fault.region.space
+               and region.claims(fault.address) for region in case.system.regions)
 
 
 def needed_words(case, listed):
@@ -385,18 +441,9 @@ def needed_words(case, listed):
 
 # ---- a board
 
-@functools.lru_cache(maxsize=None)
-def knows(program, folder, words):
-    """Whether a program takes `--also`, and these words."""
-    files = put_files(folder, (('none.txt', ''), ('none_probe.txt', ''), ('none_also.txt', '')))
-    model = ['--model', words] if words else []
-    return run(program, ['faults'] + files[:2] + ['--also', files[2]] + model) == (0, 'yes\n', '')
-
-
 def program_fault(board, program, folder, texts):
-    """What a program that takes what is told prints otherwise, or none."""
-    words = [None] + (board.words.split(',') if board.words else [])
-    if not program or not all(knows(program, folder, word) for word in words):
+    """What a program prints otherwise, or none."""
+    if not program:
         return None
     files = put_files(folder, (('dump.txt', board.dump), ('probe.txt', board.probe), ('also.txt', told_text(board.told))))
     options = files[:2] + board.options() + ['--also', files[2]]
@@ -422,6 +469,11 @@ def refusal_fault(board, program, files, rule):
     return None if got == wanted else 'the text %r: %s, and not %s' % (text, got, wanted)
 
 
+def is_crowded(case):
+    """Whether `unclaimed` doesn't count for a bridge, as another one of the class is on its bus."""
+    return 'unclaimed' in case.names and any(line.startswith('54') for line in case.early)
+
+
 def law_fault(case, bare, rule, sorts):
     """Which law doesn't hold of a board that is judged, or none."""
     texts = answers(case.functions, None, case.given, case.words)
@@ -429,8 +481,9 @@ def law_fault(case, bare, rule, sorts):
     listed = [line for line in texts[0].splitlines() if line != 'yes']
     return (adding_fault(case, bare) or held_fault(case) or name_fault(case) or halves_fault(case)
             or word_fault(case) or bar_fault(case, rule, sorts) or address_fault(case, rule)
-            or unclaimed_fault(case) or palette_fault(case) or cut_fault(case) or window_fault(case)
-            or fits_fault(case) or list_fault(case, listed) or map_fault(case, texts[2].splitlines()))
+            or unclaimed_fault(case) or class_fault(case) or palette_fault(case) or listener_fault(case, texts)
+            or cut_fault(case) or window_fault(case) or fits_fault(case) or list_fault(case, listed)
+            or map_fault(case, texts[2].splitlines()))
 
 
 def compare(seed, program, folder):
@@ -445,6 +498,7 @@ def compare(seed, program, folder):
     if none_told != answers(*beside, Given(board.roots, board.host_io, board.host_mem), board.words):
         return 'an empty text changes something', sorts
     found = text_fault(board, rule) or early_fault(case, bare)
+    sorts |= {'two of the class'} if is_crowded(case) else set()
     sorts |= {'not listed'} if any(line.startswith('34') for line in case.early) else set()
     sorts |= {'held at no bus'} if case.early and not bare.early and case.early[0].startswith('58') else set()
     if not found and not case.early:

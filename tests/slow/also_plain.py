@@ -1,6 +1,7 @@
 """Who answers an address, and which bridge takes it further: once more, by the definitions, and by that address alone.
 
-Nothing is asked of regions or of where they begin. `plain_fault(case, space, address)` tells what the slow judge says
+Nothing is asked of regions or of where they begin, and what words say of a bridge is read off the registers that are listed.
+`plain_fault(case, space, address)` tells what the slow judge says
 otherwise, or none, and `clash_fault` of two regions. A `Case` is a board as it is judged:
 
 - `functions` (of the dump), `given`, `words`, `names`; `early`: the faults before judging, and where there are none
@@ -39,6 +40,7 @@ class Case:
         self.clashes = pairs(self.system, turns)
         self.missed = unreached(self.system, turns)
         self.sent = outside(self.system, turns)
+        self.known = {}
 
 
 def told_claims(case, told, space, address):
@@ -93,6 +95,13 @@ def palette_claims(case, f, space, address):
 
 
 def claimers(case, space, address):
+    """The names of all that claims an address, by bus: found once."""
+    if (space, address) not in case.known:
+        case.known[space, address] = all_claimers(case, space, address)
+    return case.known[space, address]
+
+
+def all_claimers(case, space, address):
     """The names of all that claims an address, by bus."""
     found = []
     for f in case.system.functions:
@@ -103,9 +112,27 @@ def claimers(case, space, address):
     return sorted(found)
 
 
+def is_of_the_class(f):
+    """Whether a listed function is a bridge of class 060401h."""
+    return f.image[0x0E] & 0x7F == 1 and tuple(f.image[9:12]) == (1, 4, 6)
+
+
+def is_taking(case, slot):
+    """Whether words say that a bridge takes what nobody claims: it is alone of the class on its bus.
+
+    One that has nothing behind it is taken as another bridge where `subtractive` counts.
+    """
+    there = [f.slot for f in case.functions if is_of_the_class(f) and f.slot[0] == slot[0]]
+    if 'unclaimed' not in case.names or there != [slot]:
+        return False
+    own = [f for f in case.functions if f.slot == slot][0]
+    buses = range(own.image[0x19], own.image[0x1A] + 1)
+    return 'subtractive' not in case.names or any(f.slot[0] in buses for f in case.functions)
+
+
 def takes(case, b, space, address):
     """Whether a bridge takes an address that nobody on its bus claims."""
-    if b.slot not in case.system.given.unclaimed or not b.is_bridge or not b.is_on(space):
+    if not b.is_bridge or not is_taking(case, b.slot) or not b.is_on(space):
         return False
     return all(slot[0] != b.slot[0] for slot, _ in claimers(case, space, address))
 

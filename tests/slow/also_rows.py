@@ -9,10 +9,13 @@ they show and read back. A bridge of which no memory window is said has a closed
 
 import os
 
-from also import answers, told_ranges
+from address_map import address_map
+from also import told_ranges
+from judge import faults
 from model import BRIDGE_CONTROL, CLASS, COMMAND, HEADER, STATUS, Function, functions_of, put_number, slot_of
 from regions import Given
 from told import EXAMPLES, judge, message
+from why import faults_and_why
 
 MACHINES = os.path.join(os.path.dirname(os.path.abspath(__file__)), '..', '..', 'machines')
 
@@ -146,6 +149,49 @@ LISTS = [
     # the bridge beside it is of the class, though nothing is behind
     (TAKES + '; ' + SOUND + '; 00:1d.0 (1) class 060401, cmd 0000, 0-2-2', 'subtractive,unclaimed', '',
      '54 Subtractive 00:1e.0'),
+    # all words take both in
+    (SNOOPS + '; 00:02.0 (0) cmd 0021', 'all', '', 'yes'),
+    (SNOOPS + '; 00:02.0 (0) cmd 0001, 10 = 000007c1/ffffffe1', 'all', '',
+     '61 Clash bus 00 io 000007c6 00:01.0 04 00:02.0 10'),
+    (TAKES + '; ' + SOUND, 'all', '', 'yes'),
+    (TAKES + '; ' + SOUND + '; ' + BESIDE, 'all', '', '60 Unreached 01:00.0 10 mem 00000000e0000800 bridge 00:1e.0'),
+    (TAKES + '; ' + SOUND + '; 00:1d.0 (1) class 060401, cmd 0000, 0-2-2', 'all', '', '54 Subtractive 00:1e.0'),
+    ('00:01.0 (2) cmd 0020', 'cardbus', '', '51 PaletteSnoop 00:01.0'),
+    ('00:01.0 (2) cmd 0020', 'all', '', 'yes'),
+    # palette parts: to the end of 64 KB, by ISA Enable, of two bridges, on two roots, and of a bridge that is off or asleep
+    (SNOOPS + '; 00:02.0 (0) cmd 0001, 10 = 0000ffc9/fffffffd, 14 = 000103c9/fffffffd', 'snoop', '',
+     '61 Clash bus 00 io 0000ffc8 00:01.0 04 00:02.0 10'),
+    (SNOOPS + ', ctl 0004, 1c = 0000/f0f0; 00:02.0 (0) cmd 0001, 10 = 000003c1/ffffffe1', 'isa,snoop', '',
+     '61 Clash bus 00 io 000003c6 00:01.0 04 00:02.0 10'),
+    (SNOOPS + '; 00:02.0 (1) cmd 0021, 0-2-2, ctl 0010', 'snoop', '', '61 Clash bus 00 io 000003c6 00:01.0 04 00:02.0 04'),
+    (SNOOPS + '; 40:02.0 (0) cmd 0001, 10 = 000003c1/ffffffe1', {'words': 'snoop', 'roots': [0, 0x40]}, '',
+     '62 Split io 000003c6 00:01.0 04 40:02.0 10'),
+    (SNOOPS.replace('0021', '0022') + '; 00:02.0 (0) cmd 0001, 10 = 000003c1/ffffffe1', 'snoop', '', 'yes'),
+    (SNOOPS + ', asleep; 00:02.0 (0) cmd 0001, 10 = 000003c1/ffffffe1', 'power,snoop', '', 'yes'),
+    # two that answer behind the bridge would take the same write
+    (SNOOPS + '; 01:00.0 (0) cmd 0001, 10 = 000003c9/fffffffd; 01:01.0 (0) cmd 0001', 'snoop',
+     '01:01.0 io 000003c9-000003c9 held',
+     '60 Unreached 01:00.0 10 io 000003c8 bridge 00:01.0\n61 Clash bus 01 io 000003c9 01:00.0 10 01:01.0 +1'),
+    # it takes nothing that a BAR of its own, a legacy part or a palette part of its bus claims, nor while it sleeps
+    (TAKES + ', 10 = e0000000/fffffff0; ' + SOUND, 'unclaimed', '',
+     '60 Unreached 01:00.0 10 mem 00000000e0000000 bridge 00:1e.0'),
+    (TAKES + '; 00:01.0 (1) cmd 0002, 0-2-2, ctl 0008; 01:00.0 (0) cmd 0002, 10 = 000a0000/ffff0000', 'unclaimed,vga', '',
+     '60 Unreached 01:00.0 10 mem 00000000000a0000 bridge 00:1e.0'),
+    (TAKES.replace('0002', '0021') + '; 01:00.0 (0) cmd 0001, 10 = 000003c1/fffffff1', 'snoop,unclaimed', '',
+     '60 Unreached 01:00.0 10 io 000003c6 bridge 00:1e.0'),
+    (TAKES + ', asleep; ' + SOUND, 'power,unclaimed', '', '60 Unreached 01:00.0 10 mem 00000000e0000000 bridge 00:1e.0'),
+    # ports that ISA Enable takes from its own window are claimed by nobody
+    (TAKES.replace('0002', '0001') + ', ctl 0004, 1c = 1010/f0f0; 01:00.0 (0) cmd 0001, 10 = 00001101/ffffff01',
+     'isa,unclaimed', '', 'yes'),
+    # one of each bus, one without bus numbers, and a device of the class
+    (TAKES.replace('0-1-1', '0-1-2') + '; 01:1e.0 (1) class 060401, cmd 0002, 1-2-2; '
+     '02:00.0 (0) cmd 0002, 10 = e0000000/fffff000', 'unclaimed', '', 'yes'),
+    (TAKES.replace('0-1-1', '0-0-0'), 'unclaimed', '', '57 BusRange 00:1e.0'),
+    (TAKES.replace('0-1-1', '0-0-0'), 'unclaimed,unnumbered', '', 'yes'),
+    (TAKES + '; ' + SOUND + '; 00:1d.0 (0) class 060401, cmd 0002', 'unclaimed', '', 'yes'),
+    # what stands on one root bus keeps no bridge on another from taking it
+    (TAKES + '; ' + SOUND + '; 40:01.0 (0) cmd 0002, 10 = e0000000/fffff000', {'words': 'unclaimed', 'roots': [0, 0x40]},
+     '', 'yes'),
     # what it takes goes on to the bus behind, and what is told of the bridge itself doesn't
     (TAKES + '; ' + SOUND, 'unclaimed', '00:1e.0 mem 00000000e0000000-00000000e00000ff always',
      '60 Unreached 01:00.0 10 mem 00000000e0000000 bridge 00:1e.0'),
@@ -197,6 +243,42 @@ off 01:02.0 +2 told mem 00000000e0080000-00000000e0080fff 4K ea0'''),
   bridge 00:1e.0 on mem closed unclaimed
   missed 00000000e0000800-00000000e00008ff 256
   fits 0000000000000000-0000000000000fff 4K'''),
+    # where it fits no palette part is, and nobody claims it where a bridge has to take it
+    (SNOOPS + '; 00:02.0 (0) cmd 0001, 10 = 000003c9/fffffffd', {'words': 'snoop', 'host_io': [(None, 0x3C8, 0x3FF)]}, '',
+     '''61 Clash bus 00 io 000003c8 00:01.0 04 00:02.0 10
+  first 00:01.0 04 snoop io 000003c6,000003c8-000003c9 of each 1K
+  second 00:02.0 10 bar io 000003c8-000003cb 4
+  shared 000003c8-000003c9 2
+  fits 000003cc-000003cf 4'''),
+    (TAKES + '; ' + SOUND + '; ' + BESIDE, {'words': 'unclaimed', 'host_mem': [(None, 0xE0000000, 0xE0003FFF)]}, '',
+     '''60 Unreached 01:00.0 10 mem 00000000e0000800 bridge 00:1e.0
+  needs 01:00.0 10 bar mem 00000000e0000000-00000000e0000fff 4K
+  bridge 00:1e.0 on mem closed unclaimed
+  missed 00000000e0000800-00000000e00008ff 256
+  fits 00000000e0001000-00000000e0001fff 4K'''),
+    (SNOOPS + '; 00:00.0 (0) cmd 0001, 10 = 000003c1/ffffffe1', {'words': 'all', 'host_io': [(None, 0x300, 0xFFFF)]}, '',
+     '''61 Clash bus 00 io 000003c6 00:00.0 10 00:01.0 04
+  first 00:00.0 10 bar io 000003c0-000003df 32
+  second 00:01.0 04 snoop io 000003c6,000003c8-000003c9 of each 1K
+  shared 000003c6-000003c6 1
+  shared 000003c8-000003c9 2'''),
+    (SNOOPS + '; 00:02.0 (0) cmd 0001', {'words': 'snoop', 'host_io': [(None, 0x300, 0xFFFF)]},
+     '00:02.0 io 000003c9-000003ca command dac',
+     '''61 Clash bus 00 io 000003c9 00:01.0 04 00:02.0 +1
+  first 00:01.0 04 snoop io 000003c6,000003c8-000003c9 of each 1K
+  second 00:02.0 +1 told io 000003c9-000003ca 2 dac
+  shared 000003c9-000003c9 1'''),
+    (SNOOPS + '; 00:02.0 (0) cmd 0001, 10 = 000003c1/ffffffe1', {'words': 'snoop', 'host_io': [(None, 0x3C8, 0xFFFF)]}, '',
+     '''63 Outside 00:02.0 10 io 000003c0
+  needs 00:02.0 10 bar io 000003c0-000003df 32
+  host io 000003c8-0000ffff
+  fits 000003e0-000003ff 32
+61 Clash bus 00 io 000003c8 00:01.0 04 00:02.0 10
+  first 00:01.0 04 snoop io 000003c6,000003c8-000003c9 of each 1K
+  second 00:02.0 10 bar io 000003c0-000003df 32
+  shared 000003c6-000003c6 1
+  shared 000003c8-000003c9 2
+  fits 000003e0-000003ff 32'''),
     ('00:02.0 (0) cmd 0001, 10 = 00001101/ffffff01; 00:1e.0 (1) class 060401, cmd 0001, 0-1-1, ctl 000c, 1c = 1010/f0f0; '
      '01:00.0 (0) cmd 0001, 10 = 00001101/ffffff01', 'isa,unclaimed,vga', '',
      '''60 Unreached 01:00.0 10 io 00001100 bridge 00:1e.0
@@ -265,6 +347,37 @@ off
   00000000e0000000-00000000e0000000 1 held 00:1f.0 +1
 unreached
   00000000e0000000-00000000e0000fff 4K bar 01:00.0 10'''),
+    (TAKES.replace('0002', '0003') + ', 20 = e000e000/fff0fff0; 01:00.0 (0) cmd 0003, 10 = e0000000/fffff000, '
+     '14 = d0000008/fffff008, 1c = 00002001/ffffff01', 'all', '',
+     '''bus 00 io
+  unclaimed 00:1e.0
+    00002000-000020ff 256 bar 01:00.0 1c
+bus 00 mem
+  00000000e0000000-00000000e00fffff 1M window 00:1e.0 20
+    00000000e0000000-00000000e0000fff 4K bar 01:00.0 10
+    00000000e0001000-00000000e00fffff 1020K free
+  unclaimed 00:1e.0
+    00000000d0000000-00000000d0000fff 4K bar pref 01:00.0 14'''),
+    (TAKES.replace('0-1-1', '0-1-2') + '; 01:00.0 (1) cmd 0002, 1-2-2, 20 = e000e000/fff0fff0; '
+     '02:00.0 (0) cmd 0002, 10 = e0000000/fffff000', 'unclaimed', '',
+     '''bus 00 mem
+  unclaimed 00:1e.0
+    00000000e0000000-00000000e00fffff 1M window 01:00.0 20
+      00000000e0000000-00000000e0000fff 4K bar 02:00.0 10
+      00000000e0001000-00000000e00fffff 1020K free'''),
+    # what isn't sent stands under no bridge
+    (TAKES + '; 01:00.0 (0) cmd 0002, 10 = e0000000/fffff000, 14 = d0000000/fffff000',
+     {'words': 'unclaimed', 'host_mem': [(None, 0xE0000000, 0xE00FFFFF)]}, '',
+     '''bus 00 mem
+  00000000e0000000-00000000e00fffff 1M free
+  unclaimed 00:1e.0
+    00000000e0000000-00000000e0000fff 4K bar 01:00.0 10
+outside
+  00000000d0000000-00000000d0000fff 4K bar 01:00.0 14'''),
+    (SNOOPS + ', 1c = 0000/f0f0', 'snoop', '',
+     '''bus 00 io
+  00000000-00000fff 4K window 00:01.0 1c
+    00000000-00000fff 4K free'''),
     (OVER, None, '01:1f.0 pref 00000000f0000000-00000000f0000fff held x\n'
      '01:1f.0 pref 00000000e00ff000-00000000e0100fff held',
      '''bus 00 mem
@@ -320,12 +433,12 @@ def board_of(text):
     return sorted((function_of(part) for part in text.split('; ')), key=lambda f: f.slot)
 
 
-def answers_of(functions, words, told):
-    """The list, the list with reasons and the map of a board."""
+def answer_of(task, functions, words, told):
+    """What a task answers of a board."""
     beside = dict(words) if isinstance(words, dict) else {'words': words}
     model = beside.pop('words', None)
     given = Given(beside.pop('roots', [0]), **beside, told=told_ranges(told + '\n' if told else ''))
-    return answers(functions, None, given, model)
+    return task(functions, None, given, model)
 
 
 def machine(name):
@@ -347,13 +460,13 @@ STORED = [
 def row_faults():
     """What disagrees on all of them, each with its board."""
     found = []
-    rows = [(place, row) for place, table in enumerate((LISTS, REASONS, MAPS)) for row in table]
-    for place, (text, words, told, wanted) in rows:
-        got = answers_of(board_of(text), words, told)[place]
+    tables = ((faults, LISTS), (faults_and_why, REASONS), (address_map, MAPS))
+    for task, (text, words, told, wanted) in [(task, row) for task, table in tables for row in table]:
+        got = answer_of(task, board_of(text), words, told)
         if got != wanted + '\n':
             found.append('%s, %s, %r: wanted\n%s\nfound\n%s' % (text, words, told, wanted, got))
     for name, words, wanted in STORED:
-        got = answers_of(machine(name), words, '')[0]
+        got = answer_of(faults, machine(name), words, '')
         if got != wanted + '\n':
             found.append('%s, %s: wanted\n%s\nfound\n%s' % (name, words, wanted, got))
     for text, wanted in EXAMPLES:

@@ -11,9 +11,10 @@ spoiling.py says.
 import random
 
 from model import (BRIDGE_CONTROL, CAPABILITIES, CLASS, COMMAND, HEADER, IO, MEM, STATUS, WINDOWS, Function, bit,
-                   dump_text, probe_text, put_bar, put_bounds, put_number, put_rom, put_window, slot_text)
+                   close_window, dump_text, probe_text, put_bar, put_bounds, put_number, put_rom, put_window, slot_text)
 from placing import place_tidily
 from spoiling import spoil
+from words import is_subtractive
 
 PORTS = (0x3A0, 0x3B0, 0x3B8, 0x3BC, 0x3C0, 0x3D8, 0x3E0, 0x13B0, 0x13DC, 0xC3C0, 0xF7C8, 0xFFB8, 0x103B0, 0x113C0,
          0xFFFFFFB0, 0x2000, 0xFFF, 0x1000, 0xFFFF, 0x10000)
@@ -27,10 +28,12 @@ VGA_PLACES = (0x9FFF0, 0xA0000, 0xA8000, 0xB0000, 0xBFFF0, 0xC0000)
 # of these alone on boards that are about ISA Enable
 ISA_PORTS = (0xF8, 0x100, 0x3FC, 0x400, 0x4F0, 0x500, 0x1000, 0x10F8, 0x1100, 0x1400, 0x1FF0, 0xFC00, 0xFCF8, 0xFD00, 0xFFF8,
              0x10000, 0x10100, 0x10400)
+# of these alone on boards that are about the palette of a VGA adapter
+PALETTE_PORTS = (0x3C0, 0x3C4, 0x3C8, 0x3CC, 0x7C4, 0x7C8, 0xFBC0, 0xFFC4, 0xFFC8, 0x103C8, 0x3E0)
 IO_PAGES = (0, 0, 1, 0xC, 0xF, 0x10, 0x11, 0xFFFFF)
 MEMORY_PAGES = (0, 0, 1, 2, 3, 0xFFF)
 HIGH_PAGES = (0, 1, 0x1000, 0x1001, 0xFFFFFFFFFFF)
-MODEL_WORDS = ('cardbus', 'ide', 'isa', 'power', 'reset', 'subtractive', 'unnumbered', 'windows')
+MODEL_WORDS = ('cardbus', 'ide', 'isa', 'power', 'reset', 'snoop', 'subtractive', 'unclaimed', 'unnumbered', 'windows')
 
 
 class Board:
@@ -102,6 +105,8 @@ class Maker:
         self.spread = self.draw.choice((2, 3, 5))
         self.is_vga = self.one_in(5)
         self.is_isa = not self.is_vga and self.one_in(5)
+        self.is_snooping = not self.is_vga and not self.is_isa and self.one_in(6)
+        self.is_subtractive = self.one_in(8)
 
     def one_in(self, n):
         """Whether a draw of n is the first."""
@@ -116,7 +121,7 @@ class Maker:
             end = (board.roots + [256])[place + 1]
             self.fill(root, min(end - 1, root + 12), 0)
         board.functions.sort(key=lambda f: f.slot)
-        if self.is_vga or self.is_isa or self.one_in(2):
+        if self.is_vga or self.is_isa or self.is_snooping or self.one_in(2):
             self.crowd()
         else:
             place_tidily(self.draw, board)
@@ -127,6 +132,7 @@ class Maker:
         self.lay_out()
         for f in board.functions:
             self.decorate(f)
+            self.set_bits(f)
         self.say_beside()
         spoil(self.draw, board)
         return board
@@ -219,6 +225,8 @@ class Maker:
                     places = VGA_PORTS if part.space == IO else VGA_PLACES
                 if self.is_isa and part.space == IO:
                     places = ISA_PORTS
+                if self.is_snooping and part.space == IO:
+                    places = PALETTE_PORTS
                 if part.wide and self.one_in(3):
                     places = HIGH_PLACES
                 address = self.draw.choice(places) & ~(part.size - 1)
@@ -257,6 +265,23 @@ class Maker:
         if self.one_in(10):
             f.titles = (f.titles[0], self.draw.choice(('assumed 10,30', 'assumed 10', 'assumed 18,38', 'assumed')))
 
+    def set_bits(self, f):
+        """Palette snooping and subtractive decode, on boards that are about these."""
+        if self.is_snooping and self.one_in(2):
+            f.image[COMMAND] |= 0x20
+        if self.is_subtractive and self.one_in(2):
+            self.make_subtractive(f)
+
+    def make_subtractive(self, f):
+        """A bridge decodes subtractively, mostly alone on its bus, and mostly with some of its windows closed."""
+        rivals = [g for g in self.board.functions if is_subtractive(g) and g.slot[0] == f.slot[0]]
+        if not f.is_bridge or (rivals and not self.one_in(3)):
+            return
+        put_number(f.image, CLASS, 3, 0x060401)
+        for window in f.windows():
+            if self.one_in(2):
+                close_window(f, window.window)
+
     def give_list(self, f):
         """A capabilities list that ends."""
         places = self.draw.sample(range(0x40, 0xE8, 0x18), self.draw.randrange(1, 5))
@@ -271,13 +296,14 @@ class Maker:
     def say_beside(self):
         """Words of `--model`, and what the host sends."""
         board = self.board
-        if self.is_vga or self.is_isa or self.one_in(2):
+        about = [word for word, is_about in (('isa', self.is_isa), ('snoop', self.is_snooping),
+                                             ('unclaimed', self.is_subtractive)) if is_about]
+        if self.is_vga or about or self.one_in(2):
             words = self.draw.sample(MODEL_WORDS, self.draw.randrange(0, len(MODEL_WORDS) + 1))
             words += self.draw.choice(([], ['vga'], ['vga16'], ['vga']))
             if self.is_vga and not {'vga', 'vga16'} & set(words):
                 words.append('vga')
-            if self.is_isa and 'isa' not in words:
-                words.append('isa')
+            words += [word for word in about if word not in words]
             self.draw.shuffle(words)
             board.words = 'all' if self.one_in(6) else ','.join(words) or None
         if self.one_in(3):

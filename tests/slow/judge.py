@@ -141,12 +141,15 @@ def judging(system):
     return sorted(found, key=lambda fault: fault.key)
 
 
+def list_text(lines):
+    """The text of a list of all faults, without reasons."""
+    return '\n'.join(lines or ['yes']) + '\n'
+
+
 def faults(functions, probe_slots, given, words=None):
     """What `faults` prints, without reasons."""
     lines = early_faults(functions, probe_slots, given, words)
-    if not lines:
-        lines = [fault.line for fault in judging(system_of(functions, given, words))]
-    return '\n'.join(lines or ['yes']) + '\n'
+    return list_text(lines or [fault.line for fault in judging(system_of(functions, given, words))])
 
 
 def early_faults(functions, probe_slots, given, words=None):

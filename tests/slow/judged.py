@@ -9,7 +9,7 @@ from why import faults_and_why
 from words import names_of
 
 # words without which a list has to be another one, on some boards
-NEEDED = ('cardbus', 'isa', 'windows')
+NEEDED = ('cardbus', 'isa', 'snoop', 'unclaimed', 'windows')
 # what has to be there among many boards: each fault's number, a yes, and a board that needs each of these words
 SORTS = tuple('%d' % number for first, end in ((20, 32), (50, 59), (60, 64)) for number in range(first, end)) + (
     ('yes',) + NEEDED)

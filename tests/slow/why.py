@@ -1,6 +1,6 @@
 """Reasons behind faults of judging, and BARs that are off: what `faults --why` prints ("All faults" of docs/FORMATS.md)."""
 
-from judge import early_faults, judging, name_words, system_of
+from judge import early_faults, judging, list_text, name_words, system_of
 from model import IO, WIDTH, assumed, slot_text
 from regions import Region, is_told_on, may_share, told_region
 
@@ -167,9 +167,13 @@ def faults_and_why(functions, probe_slots, given, words=None):
     """What `faults --why` prints."""
     lines = early_faults(functions, probe_slots, given, words)
     if lines:
-        return '\n'.join(lines) + '\n'
+        return list_text(lines)
     system = system_of(functions, given, words)
-    found = judging(system)
+    return reasoned_text(system, judging(system))
+
+
+def reasoned_text(system, found):
+    """The text of a list of all faults of judging, with reasons."""
     lines = [] if found else ['yes']
     for fault in found:
         lines += [fault.line] + evidence(system, fault) + advice(system, fault)

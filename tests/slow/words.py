@@ -1,19 +1,17 @@
-"""The words of `--model`: how functions are taken by a user's words, and what bridges do by them.
-
-`snoop` and `unclaimed` count where they are said by name. `all` is what docs/FORMATS.md says that it is.
-"""
+"""The words of `--model`: how functions are taken by a user's words, and what bridges do by them."""
 
 from early import decoding_lines, has_window_fault, identity_lines, is_asleep, profile_lines
 from model import (BRIDGE_CONTROL, CLASS, COMMAND, HEADER, STATUS, IO, WINDOWS, bit, number_at, put_bounds,
                    put_number, window_bounds)
 
-NAMES = ('cardbus', 'ide', 'isa', 'power', 'reset', 'subtractive', 'unnumbered', 'vga', 'vga16', 'windows')
+NAMES = ('cardbus', 'ide', 'isa', 'power', 'reset', 'snoop', 'subtractive', 'unclaimed', 'unnumbered', 'vga', 'vga16',
+         'windows')
 SUBTRACTIVE = 0x060401
 PLAIN_BRIDGE = 0x060400
 
 
 def names_of(words):
-    """The names that the words of `--model` are."""
+    """The names that the words of `--model` are: `all` is each but `vga16`."""
     if words is None:
         return set()
     return set(NAMES) - {'vga16'} if words == 'all' else set(words.split(','))
