@@ -4,10 +4,10 @@
 
 use pci_dump::std_streams::Outgoing;
 use pciplan_cli::opened::FileText;
+use pciplan_cli::outside::Outside;
 use pciplan_cli::program::words_of;
 use pciplan_front::folder::FolderMachine;
 use pciplan_front::front::front;
-use pciplan_front::outside::Outside;
 use std::process::ExitCode;
 
 fn main(rt: HostRuntime) -> ExitCode {
