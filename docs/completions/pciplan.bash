@@ -4,7 +4,7 @@
 _pciplan_model() {
     local begun='' each offered=''
     [[ $1 != *,* ]] || begun=${1%,*},
-    for each in cardbus ide isa power reset subtractive unnumbered vga vga16 windows; do
+    for each in cardbus ide isa power reset snoop subtractive unclaimed unnumbered vga vga16 windows; do
         [[ ,$begun == *,$each,* || ($each == vga* && ,$begun == *,vga*) ]] || offered+="$begun$each "
     done
     [ -n "$begun" ] || offered+=all

@@ -55,22 +55,27 @@ pciplan faults DUMP PROBE [--root LIST] [--model WORDS] [--host-io LIST]
     pci0000:40.
   --model WORDS
     faults and map take functions otherwise than their registers say: one or
-    more of cardbus, ide, isa, power, reset, subtractive, unnumbered, windows
-    and one of vga and vga16, in any order, with commas between them, none
-    twice; or all, which is all but vga16, so a bridge decodes ten bits of a
-    port unless its bit VGA 16-bit Decode is set. cardbus takes a CardBus bridge
-    (header layout 2) as a device that decodes no address; ide leaves out the
-    BARs of IDE channels in compatibility mode; isa takes the I/O window of a
-    bridge with ISA Enable to claim, below 64 KB, the first 256 ports of each KB
-    alone; power takes a function that isn't in D0 as one that decodes nothing;
-    reset and subtractive take away the faults 55 and 54 of a bridge behind
-    which no function is listed; unnumbered takes a bridge whose bus numbers are
-    0 and whose windows claim nothing as one that leads nowhere; vga judges what
-    bridges with VGA Enable forward to a display, and not what the display
-    itself answers: the legacy addresses, which come again in each KB of I/O
-    space where the bridge decodes ten bits alone; vga16 takes each of them to
-    decode 16 bits; windows takes a bridge's window whose read back is of none
-    (26) as the one that its registers show.
+    more of cardbus, ide, isa, power, reset, snoop, subtractive, unclaimed,
+    unnumbered, windows and one of vga and vga16, in any order, with commas
+    between them, none twice; or all, which is all but vga16, so a bridge
+    decodes ten bits of a port unless its bit VGA 16-bit Decode is set. cardbus
+    takes a CardBus bridge (header layout 2) as a device that decodes no
+    address; ide leaves out the BARs of IDE channels in compatibility mode; isa
+    takes the I/O window of a bridge with ISA Enable to claim, below 64 KB, the
+    first 256 ports of each KB alone; power takes a function that isn't in D0 as
+    one that decodes nothing; reset and subtractive take away the faults 55 and
+    54 of a bridge behind which no function is listed; snoop takes a bridge with
+    VGA Palette Snoop to claim the ports of a palette and to forward writes to
+    them, and a device with it to answer no more for it; unclaimed takes a
+    bridge of class 060401h that is alone of this class on its bus to pass each
+    address that no BAR, ROM, window, legacy part, palette part or told range of
+    its bus claims; unnumbered takes a bridge whose bus numbers are 0 and whose
+    windows claim nothing as one that leads nowhere; vga judges what bridges
+    with VGA Enable forward to a display, and not what the display itself
+    answers: the legacy addresses, which come again in each KB of I/O space
+    where the bridge decodes ten bits alone; vga16 takes each of them to decode
+    16 bits; windows takes a bridge's window whose read back is of none (26) as
+    the one that its registers show.
   --host-io LIST
   --host-mem LIST
     faults judges beside what the host sends to its root buses, and map shows
@@ -104,22 +109,27 @@ pciplan map DUMP PROBE [--root LIST] [--model WORDS] [--host-io LIST]
     pci0000:40.
   --model WORDS
     faults and map take functions otherwise than their registers say: one or
-    more of cardbus, ide, isa, power, reset, subtractive, unnumbered, windows
-    and one of vga and vga16, in any order, with commas between them, none
-    twice; or all, which is all but vga16, so a bridge decodes ten bits of a
-    port unless its bit VGA 16-bit Decode is set. cardbus takes a CardBus bridge
-    (header layout 2) as a device that decodes no address; ide leaves out the
-    BARs of IDE channels in compatibility mode; isa takes the I/O window of a
-    bridge with ISA Enable to claim, below 64 KB, the first 256 ports of each KB
-    alone; power takes a function that isn't in D0 as one that decodes nothing;
-    reset and subtractive take away the faults 55 and 54 of a bridge behind
-    which no function is listed; unnumbered takes a bridge whose bus numbers are
-    0 and whose windows claim nothing as one that leads nowhere; vga judges what
-    bridges with VGA Enable forward to a display, and not what the display
-    itself answers: the legacy addresses, which come again in each KB of I/O
-    space where the bridge decodes ten bits alone; vga16 takes each of them to
-    decode 16 bits; windows takes a bridge's window whose read back is of none
-    (26) as the one that its registers show.
+    more of cardbus, ide, isa, power, reset, snoop, subtractive, unclaimed,
+    unnumbered, windows and one of vga and vga16, in any order, with commas
+    between them, none twice; or all, which is all but vga16, so a bridge
+    decodes ten bits of a port unless its bit VGA 16-bit Decode is set. cardbus
+    takes a CardBus bridge (header layout 2) as a device that decodes no
+    address; ide leaves out the BARs of IDE channels in compatibility mode; isa
+    takes the I/O window of a bridge with ISA Enable to claim, below 64 KB, the
+    first 256 ports of each KB alone; power takes a function that isn't in D0 as
+    one that decodes nothing; reset and subtractive take away the faults 55 and
+    54 of a bridge behind which no function is listed; snoop takes a bridge with
+    VGA Palette Snoop to claim the ports of a palette and to forward writes to
+    them, and a device with it to answer no more for it; unclaimed takes a
+    bridge of class 060401h that is alone of this class on its bus to pass each
+    address that no BAR, ROM, window, legacy part, palette part or told range of
+    its bus claims; unnumbered takes a bridge whose bus numbers are 0 and whose
+    windows claim nothing as one that leads nowhere; vga judges what bridges
+    with VGA Enable forward to a display, and not what the display itself
+    answers: the legacy addresses, which come again in each KB of I/O space
+    where the bridge decodes ten bits alone; vga16 takes each of them to decode
+    16 bits; windows takes a bridge's window whose read back is of none (26) as
+    the one that its registers show.
   --host-io LIST
   --host-mem LIST
     faults judges beside what the host sends to its root buses, and map shows
@@ -272,22 +282,27 @@ pciplan picture DUMP PROBE [--root LIST] [--model WORDS] [--host-io LIST]
     pci0000:40.
   --model WORDS
     faults and map take functions otherwise than their registers say: one or
-    more of cardbus, ide, isa, power, reset, subtractive, unnumbered, windows
-    and one of vga and vga16, in any order, with commas between them, none
-    twice; or all, which is all but vga16, so a bridge decodes ten bits of a
-    port unless its bit VGA 16-bit Decode is set. cardbus takes a CardBus bridge
-    (header layout 2) as a device that decodes no address; ide leaves out the
-    BARs of IDE channels in compatibility mode; isa takes the I/O window of a
-    bridge with ISA Enable to claim, below 64 KB, the first 256 ports of each KB
-    alone; power takes a function that isn't in D0 as one that decodes nothing;
-    reset and subtractive take away the faults 55 and 54 of a bridge behind
-    which no function is listed; unnumbered takes a bridge whose bus numbers are
-    0 and whose windows claim nothing as one that leads nowhere; vga judges what
-    bridges with VGA Enable forward to a display, and not what the display
-    itself answers: the legacy addresses, which come again in each KB of I/O
-    space where the bridge decodes ten bits alone; vga16 takes each of them to
-    decode 16 bits; windows takes a bridge's window whose read back is of none
-    (26) as the one that its registers show.
+    more of cardbus, ide, isa, power, reset, snoop, subtractive, unclaimed,
+    unnumbered, windows and one of vga and vga16, in any order, with commas
+    between them, none twice; or all, which is all but vga16, so a bridge
+    decodes ten bits of a port unless its bit VGA 16-bit Decode is set. cardbus
+    takes a CardBus bridge (header layout 2) as a device that decodes no
+    address; ide leaves out the BARs of IDE channels in compatibility mode; isa
+    takes the I/O window of a bridge with ISA Enable to claim, below 64 KB, the
+    first 256 ports of each KB alone; power takes a function that isn't in D0 as
+    one that decodes nothing; reset and subtractive take away the faults 55 and
+    54 of a bridge behind which no function is listed; snoop takes a bridge with
+    VGA Palette Snoop to claim the ports of a palette and to forward writes to
+    them, and a device with it to answer no more for it; unclaimed takes a
+    bridge of class 060401h that is alone of this class on its bus to pass each
+    address that no BAR, ROM, window, legacy part, palette part or told range of
+    its bus claims; unnumbered takes a bridge whose bus numbers are 0 and whose
+    windows claim nothing as one that leads nowhere; vga judges what bridges
+    with VGA Enable forward to a display, and not what the display itself
+    answers: the legacy addresses, which come again in each KB of I/O space
+    where the bridge decodes ten bits alone; vga16 takes each of them to decode
+    16 bits; windows takes a bridge's window whose read back is of none (26) as
+    the one that its registers show.
   --host-io LIST
   --host-mem LIST
     faults judges beside what the host sends to its root buses, and map shows

@@ -222,7 +222,8 @@ pub const PALETTE_SNOOP: &str = "\
   With palette snooping a display takes writes to palette ports beside the
   device that answers them. No BAR shows these addresses (PCI 3.0, 6.2.2).
   Mostly: Command bit 5 is set, for an old display.
-  Do: Clear it: what the bit changes isn't judged.
+  Do: faults --model snoop judges what the bit changes. To take the bit away,
+    clear it, if no display needs it.
 ";
 
 pub const VGA_ENABLE: &str = "\
@@ -252,8 +253,9 @@ pub const SUBTRACTIVE: &str = "\
   The bridge forwards what nobody else on its bus claims. Its registers don't
   say which addresses those are.
   Mostly: The bridge takes what nobody else claims.
-  Do: Where nothing is listed behind it, take faults --model subtractive. Else a
-    machine that has such a bridge can't be judged.
+  Do: Where nothing is listed behind it, take faults --model subtractive. Else
+    faults --model unclaimed judges what the bridge takes, where it is alone of
+    its class on its bus. Tell what the board itself answers there with --also.
 ";
 
 pub const IN_RESET: &str = "\
