@@ -1,16 +1,12 @@
 -- A region that the windows on the way pass isn't unreached.
-use Rattle.std.proofs.Common.{rules, ◌≡◌, ℕ, inl, inr, length, [], Bool, true, false, not, refl, arith, ap, subst}
-use Rattle.std.specs.Prelude.{◌||◌, IsTrue}
+use Rattle.std.proofs.Common.{◌≡◌, ℕ, inl, inr, Bool, true, false, not, refl, ap, subst}
+use Rattle.std.specs.Prelude.{◌||◌}
 use Rattle.std.proofs.lemmas.Bool.{and_from, both_ways}
-use Rattle.std.proofs.lemmas.Option.{slice_get_within}
 use Rattle.pci_spec.specs.System.{Function, Space, Io, Memory, IsPassedTo, is_prefetchable_part}
 use Rattle.pci_spec.specs.Slot.{Slot}
 use Rattle.pci_spec.specs.System as system
 use Rattle.pci_spec.specs.System.{System}
-use Rattle.pci_spec.specs.Fault as plain
-use Rattle.pci_spec.specs.Order.{precedes}
 use Rattle.pci_spec.specs.Fault.{address_in, named_region}
-use Rattle.pci_spec.proofs.Members.{in_nil, pairs_nil}
 use Rattle.pci_spec.proofs.Verdicts.{passed_by_each}
 use Rattle.pci_base.specs.Space.{space_of}
 use Rattle.pci_tree.specs.Outline.{Tree}
@@ -19,14 +15,10 @@ use Rattle.pci_tree.specs.Trees.{HasTree}
 use Rattle.pci_check.specs.Stops.{Reaches, AreReachesOf, AlwaysNested}
 use Rattle.given_spec.specs.Given.{Given, is_cut}
 use Rattle.given_spec.specs.Claims.{passes, passes_else}
-use Rattle.given_spec.specs.Fault.{Known, Outside, fault_number}
-use Rattle.given_spec.specs.Fault as spec
-use Rattle.given_spec.specs.AllFaults.{judging_key}
 use Rattle.given_spec.specs.ToldClaims.{Told}
 use Rattle.given_spec.specs.ToldFault.{IsUnreached}
-use Rattle.given_spec.specs.ToldAllFaults.{IsNamed}
 use Rattle.pci_given.specs.declared.needed.Needed.{Needed}
-use Rattle.pci_given.specs.Named.{AreAllUnreached}
+use Rattle.pci_given.specs.Needed.{IsOfRange}
 use Rattle.pci_given.specs.Stopped.{IsNeverUnreached, IsWholeAt, NeverCut}
 use Rattle.pci_given.proofs.Unreaching.{unreached_from}
 
@@ -52,35 +44,17 @@ never_where_reached given t reaches n nested are whole uncut told s tree listed 
     both_ways _ (subst (λ q. passes given space q a stop.b ≡ false) kind_is (subst (λ (x : Space). passes given x p a stop.b ≡ false) space_is stop.stops))
     (passes_uncut given space n.prefetch a stop.b pass (uncut a stop.b.slot))
 
--- ---- where nothing is told, and windows pass all of each BAR and ROM
+-- ---- where windows pass all of each BAR and ROM
 
-module _ (told : Told) (given : Given) (t : Tree) (nothing : length told.ranges ≡ 0) (nested : AlwaysNested t) (home : AreHome t) (uncut : NeverCut given Io) where
-  never_unreached : (s : System) → HasTree t s → (slot : Slot) (register : ℕ) (space : Space) (a : ℕ) (bridge : Slot) → IsUnreached told given t.roots s (named_region slot register) (address_in space a) bridge → ⊥
-  never_unreached s tree slot register space a bridge (inl u) =
+module _ (told : Told) (given : Given) (t : Tree) (nested : AlwaysNested t) (home : AreHome t) (uncut : NeverCut given Io) where
+  -- a region that isn't reached is a told range
+  pub told_where_home : (s : System) → HasTree t s → (slot : Slot) (register : ℕ) (space : Space) (a : ℕ) (bridge : Slot) → IsUnreached told given t.roots s (named_region slot register) (address_in space a) bridge
+      → (p : Bool) × IsOfRange told s slot register space a p
+  told_where_home s tree slot register space a bridge (inl u) =
       let prefetch = is_prefetchable_part u.f u.part in
       let passed : IsPassedTo t.roots s space prefetch a slot.bus =
       subst (λ (x : Slot). IsPassedTo t.roots s space prefetch a x.bus) u.named.0 (home s tree u.f u.part space a u.listed u.no_window u.claims) in
       let pass : system.passes space prefetch a u.b ≡ true =
       passed_by_each t.roots s tree.system (nested s tree) space prefetch a u.root slot.bus u.bridges u.is_root u.leads passed u.b u.on_the_way in
-      both_ways _ u.stops (passes_uncut given space prefetch a u.b pass (never_cut given uncut space a u.b.slot))
-  never_unreached s tree slot register space a bridge (inr u) =
-      let within = slice_get_within told.ranges u.needs.named.index u.r u.needs.named.at in
-      let no : ⊥ = omega (arith, within, nothing) in
-      no
-
-  none_named : (s : System) → HasTree t s → (f : plain.Fault) → IsNamed told given t.roots s (Known f) → fault_number (Known f) ≡ 60 → ⊥
-  none_named s tree (plain.Unreached slot register space a bridge) line number = never_unreached s tree slot register space a bridge line.there
-  none_named s tree (plain.Clash bus space a f r g q) line number = (let no : ⊥ = omega (arith, number) in no)
-  none_named s tree (plain.Split space a f r g q) line number = (let no : ⊥ = omega (arith, number) in no)
-  none_named s tree f line number = absurd (search rules)
-
-  never_named : (s : System) → HasTree t s → (f : spec.Fault) → IsNamed told given t.roots s f → fault_number f ≡ 60 → ⊥
-  never_named s tree (Known f) named number = none_named s tree f named number
-  never_named s tree (Outside slot register space a) named number = (let no : ⊥ = omega (arith, number) in no)
-
-  pub none_unreached : AreAllUnreached told given t []
-  none_unreached s tree listed = record {
-    each = λ f has. absurd (in_nil f has);
-    complete = λ f named number. absurd (never_named s tree f named number);
-    rising = pairs_nil (λ f g. IsTrue (precedes (judging_key f) (judging_key g)));
-  }
+      absurd (both_ways _ u.stops (passes_uncut given space prefetch a u.b pass (never_cut given uncut space a u.b.slot)))
+  told_where_home s tree slot register space a bridge (inr u) = (u.r.prefetchable, record { r = u.r; needs = u.needs; kind = refl })

@@ -22,7 +22,7 @@ use Rattle.pci_tree.proofs.RegionParts.{window_named}
 use Rattle.given_spec.specs.ToldClaims.{Told}
 use Rattle.pci_given.specs.declared.needed.Needed.{Needed}
 use Rattle.pci_given.specs.Clashes.{IsOnBusIn}
-use Rattle.pci_given.specs.Needed.{IsOfBar, IsOfRange, Which, IsNeeded, IsOfBarAt, needed_place, IsOneOf, HasName, AreJust, Differ, AreAdded, AreBarsAdded, AreAllNeeded, needed_of, needed_among}
+use Rattle.pci_given.specs.Needed.{IsOfBar, IsOfRange, Which, IsNeeded, IsOfBarAt, needed_place, IsOneOf, HasName, AreJust, Differ, AreAdded, AreBarsAdded, AreAllNeeded, AreToldNeeded, needed_of, needed_among}
 use Rattle.pci_given.proofs.AllClashing.{Where, IsBelow, IsOnBus, not_both_spaces, either_space, not_below_and_on, below_or_on}
 use Rattle.pci_claims.proofs.Making.{rise_in_order}
 
@@ -275,13 +275,26 @@ bars_and_ranges_apart told s system slot register space a p sp b q bar range =
     let no : ⊥ = omega (arith, low, is, high) in
     no
 
-pub all_are : (told : Told) (t : Tree) (none bars xs ys : List Needed) → none ≡ [] → AreAdded IsOfBar t none bars → AreAdded (IsOfRange told) t bars xs → IsPermutation xs ys
-    → IsNonDecreasingBy needed_place ys → AreAllNeeded told t ys
-all_are told t none bars xs ys empty of_bars of_ranges moved sorted s tree =
-    let added = both_added IsOfBar (IsOfRange told) (IsNeeded told) (bars_and_ranges_apart told) (λ s slot register space a p. (λ x. x, λ x. x)) t none bars xs of_bars of_ranges in
+-- in order
+sorted_are : (W : Which) (t : Tree) (none xs ys : List Needed) → none ≡ [] → AreAdded W t none xs → IsPermutation xs ys → IsNonDecreasingBy needed_place ys
+    → (s : System) → HasTree t s → AreJust W (λ n m. needed_place n < needed_place m) s ys
+sorted_are W t none xs ys empty added moved sorted s tree =
     let is : xs ≡ added.more = added.appended ∙ ap (λ (l : List Needed). l ++ added.more) empty in
-    let all = subst (AreJust (IsNeeded told) Differ s) (sym is) (added.are s tree) in record {
+    let all = subst (AreJust W Differ s) (sym is) (added.are s tree) in record {
       each = λ n has. all.each n (Contains-permutation ys xs n (IsPermutation-sym xs ys moved) has);
       complete = λ slot register space a p is. has_more xs ys (λ n has. Contains-permutation xs ys n moved has) slot register (all.complete slot register space a p is);
       pairs = rise_in_order needed_place xs ys all.pairs moved sorted;
     }
+
+pub all_are : (told : Told) (t : Tree) (none bars xs ys : List Needed) → none ≡ [] → AreAdded IsOfBar t none bars → AreAdded (IsOfRange told) t bars xs → IsPermutation xs ys
+    → IsNonDecreasingBy needed_place ys → AreAllNeeded told t ys
+all_are told t none bars xs ys empty of_bars of_ranges moved sorted s tree =
+    sorted_are (IsNeeded told) t none xs ys empty (both_added IsOfBar (IsOfRange told) (IsNeeded told) (bars_and_ranges_apart told) (λ s slot register space a p. (λ x. x, λ x. x)) t none bars xs of_bars of_ranges)
+    moved sorted s tree
+
+pub told_are : (told : Told) (t : Tree) (none xs ys : List Needed) → none ≡ [] → AreAdded (IsOfRange told) t none xs → IsPermutation xs ys → IsNonDecreasingBy needed_place ys → AreToldNeeded told t ys
+told_are told t none xs ys empty of_ranges moved sorted s tree = sorted_are (IsOfRange told) t none xs ys empty of_ranges moved sorted s tree
+
+-- a told range has just the addresses that have to be sent and reached
+pub range_needed : (told : Told) (s : System) → IsSystem s → (n : Needed) → IsOneOf (IsOfRange told) s n → IsOneOf (IsNeeded told) s n
+range_needed told = right_of IsOfBar (IsOfRange told) (IsNeeded told) (bars_and_ranges_apart told) (λ s slot register space a p. (λ x. x, λ x. x))

@@ -1,10 +1,10 @@
 -- The faults 60 of all regions that have to be reached, as a list of all has them.
-use Rattle.std.proofs.Common.{rules, ◌≡◌, ℕ, ◌+◌, ◌<◌, inl, inr, List, [], ◌∷◌, ◌++◌, length, get_or, map, take, refl, sym, ◌∙◌, ap, subst, arith}
+use Rattle.std.proofs.Common.{rules, ◌≡◌, ℕ, ◌+◌, ◌<◌, inl, inr, Bool, List, [], ◌∷◌, ◌++◌, length, get_or, map, take, refl, sym, ◌∙◌, ap, subst, arith}
 use Rattle.std.specs.Bool.{IsTrue}
 use Rattle.std.specs.List.{AllPairs, Contains}
 use Rattle.std.proofs.lemmas.List.Elements.{Contains-get_or}
 use Rattle.pci_spec.specs.Slot.{Slot, slot_number, IsSlot}
-use Rattle.pci_spec.specs.System.{System, Space}
+use Rattle.pci_spec.specs.System.{System, Space, Io}
 use Rattle.pci_spec.specs.Fault as plain
 use Rattle.pci_spec.specs.Order.{precedes, slot_key}
 use Rattle.pci_spec.specs.Fault.{address_in, named_region}
@@ -13,22 +13,27 @@ use Rattle.pci_spec.proofs.Members.{in_map_to, in_map_from, pairs_map}
 use Rattle.pci_base.specs.Space.{space_of}
 use Rattle.pci_tree.specs.Outline.{Tree}
 use Rattle.pci_tree.specs.Trees.{HasTree}
+use Rattle.pci_check.specs.Judgement.{AreHome}
+use Rattle.pci_check.specs.Stops.{AlwaysNested}
 use Rattle.given_spec.specs.Given.{Given}
 use Rattle.given_spec.specs.Fault.{Known, Outside, fault_number}
 use Rattle.given_spec.specs.Fault as spec
 use Rattle.given_spec.specs.AllFaults.{judging_key}
 use Rattle.given_spec.specs.ToldClaims.{Told}
+use Rattle.given_spec.specs.ToldFault.{IsUnreached}
 use Rattle.given_spec.specs.ToldAllFaults.{region_number, IsUnreachedOf, IsNamed}
 use Rattle.given_spec.specs.ToldNumbered.{AreListedIn, AreAllNumbered}
 use Rattle.pci_given.specs.declared.needed.Needed.{Needed}
 use Rattle.pci_given.specs.declared.named.Unreached.{Unreached}
 use Rattle.pci_given.specs.Named.{unreached_of, AreAllUnreached}
-use Rattle.pci_given.specs.Needed.{needed_place, IsNeeded, AreJust, AreAllNeeded}
-use Rattle.pci_given.specs.Stopped.{IsNeverUnreached, IsUnreachedLine}
+use Rattle.pci_given.specs.Needed.{needed_place, IsNeeded, IsOneOf, HasName, AreJust, AreAllNeeded, AreToldNeeded}
+use Rattle.pci_given.specs.Stopped.{NeverCut, IsNeverUnreached, IsUnreachedLine}
 use Rattle.pci_given.specs.UnreachedLines.{unreached_at, IsUnreachedOfOne, AreUnreachedLines}
 use Rattle.pci_claims.proofs.Making.{made_none, made_more, made_less}
 use Rattle.pci_given.proofs.Lining.{region_precedes}
 use Rattle.pci_given.proofs.Unreaching.{unreached_from}
+use Rattle.pci_given.proofs.Homes.{told_where_home}
+use Rattle.pci_given.proofs.Listing.{range_needed}
 
 -- ---- one by one
 
@@ -75,8 +80,15 @@ one_line told given roots s slot register space a e b c one other = elim (one.fi
   ]
 ]
 
+-- the list has each region that isn't reached
+record IsEnough (told : Told) (given : Given) (t : Tree) (s : System) (list : List Needed) : Type 0 where
+  each : (n : Needed) → Contains list n → IsOneOf (IsNeeded told) s n
+  complete : (slot : Slot) (register : ℕ) (space : Space) (a : ℕ) (bridge : Slot) (p : Bool) → IsUnreached told given t.roots s (named_region slot register) (address_in space a) bridge
+      → IsNeeded told s slot register space a p → HasName list slot register
+  pairs : AllPairs (λ n m. needed_place n < needed_place m) list
+
 module _ (told : Told) (given : Given) (t : Tree) (s : System) (tree : HasTree t s) (listed : AreListedIn told s) (list : List Needed)
-    (needed : AreJust (IsNeeded told) (λ n m. needed_place n < needed_place m) s list) (lines : List Unreached) (made : AreUnreachedLines given t list lines) where
+    (needed : IsEnough told given t s list) (lines : List Unreached) (made : AreUnreachedLines given t list lines) where
   abbrev IsLineAt : Slot → ℕ → Space → ℕ → Slot → Type 0
   IsLineAt slot register space a bridge = IsUnreachedOf told given t.roots s (named_region slot register) (address_in space a) bridge
 
@@ -107,7 +119,7 @@ module _ (told : Told) (given : Given) (t : Tree) (s : System) (tree : HasTree t
       → (f : Unreached) × Contains lines f × (plain_of f ≡ plain.Unreached slot register space address bridge)
   found slot register space address bridge line =
       let (p, needs, stop) = unreached_from told given t.roots s slot register space address bridge line.there in
-      let has = needed.complete slot register space address p needs in
+      let has = needed.complete slot register space address bridge p line.there needs in
       let moved : IsNeeded told s has.n.name.slot has.n.name.register space address p =
       subst (λ k. IsNeeded told s has.n.name.slot k space address p) (sym has.register_is) (subst (λ (x : Slot). IsNeeded told s x register space address p) (sym has.slot_is) needs) in
       let only = (needed.each has.n has.has).only space address p moved in
@@ -153,5 +165,21 @@ module _ (told : Told) (given : Given) (t : Tree) (s : System) (tree : HasTree t
     rising = pairs_map (λ f g. IsTrue (precedes (judging_key f) (judging_key g))) unreached_of lines rise;
   }
 
+all_enough : (told : Told) (given : Given) (t : Tree) (s : System) (list : List Needed) → AreJust (IsNeeded told) (λ n m. needed_place n < needed_place m) s list → IsEnough told given t s list
+all_enough told given t s list needed = record {
+  each = needed.each;
+  complete = λ slot register space a bridge p line needs. needed.complete slot register space a p needs;
+  pairs = needed.pairs;
+}
+
 pub all_unreached_are : (told : Told) (given : Given) (t : Tree) (list : List Needed) (lines : List Unreached) → AreAllNeeded told t list → AreUnreachedLines given t list lines → AreAllUnreached told given t lines
-all_unreached_are told given t list lines needed made s tree listed = all_numbered told given t s tree listed list (needed s tree) lines made
+all_unreached_are told given t list lines needed made s tree listed = all_numbered told given t s tree listed list (all_enough told given t s list (needed s tree)) lines made
+
+-- where windows pass all of each BAR and ROM told ranges are enough
+pub told_unreached_are : (told : Told) (given : Given) (t : Tree) (list : List Needed) (lines : List Unreached) → AlwaysNested t → AreHome t → NeverCut given Io
+    → AreToldNeeded told t list → AreUnreachedLines given t list lines → AreAllUnreached told given t lines
+told_unreached_are told given t list lines nested home uncut needed made s tree listed = all_numbered told given t s tree listed list (record {
+  each = λ n has. range_needed told s tree.system n ((needed s tree).each n has);
+  complete = λ slot register space a bridge p line needs. (let (q, range) = told_where_home told given t nested home uncut s tree slot register space a bridge line in (needed s tree).complete slot register space a q range);
+  pairs = (needed s tree).pairs;
+}) lines made

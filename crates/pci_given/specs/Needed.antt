@@ -103,6 +103,12 @@ AreAllNeeded told t list =
     (s : System) → HasTree t s
     → AreJust (IsNeeded told) (λ n m. needed_place n < needed_place m) s list
 
+-- the told ranges among them, likewise
+abbrev pub AreToldNeeded : Told → Tree → List Needed → Type 0
+AreToldNeeded told t list =
+    (s : System) → HasTree t s
+    → AreJust (IsOfRange told) (λ n m. needed_place n < needed_place m) s list
+
 -- ---- made of regions and told ranges
 
 abbrev pub needed_of : code.Space → Region → Needed

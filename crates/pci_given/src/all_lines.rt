@@ -6,6 +6,7 @@ ghost use Rattle.given_spec.specs.Told.{IsTold};
 ghost use Rattle.given_spec.specs.ToldClaims.{nothing_told};
 ghost use Rattle.pci_given.specs.declared.any_fault.AnyFault.TheVariants as codes;
 ghost use Rattle.pci_claims.specs.Values.{given_value, told_value};
+ghost use Rattle.pci_claims.specs.AllClaims.{IsBoard};
 ghost use Rattle.pci_given.specs.AllLines.{AreAllLines, fault_of, plain_fault, is_given};
 
 use super::any_fault::{AnyFault, without_told};
@@ -15,8 +16,9 @@ use super::outside_lines::all_outside;
 use super::split_lines::all_splits;
 use super::unreached_lines::all_unreached;
 use pci_base::memory::OutOfMemory;
+use pci_claims::board::Board;
 use pci_claims::given::Given;
-use pci_claims::told::Told;
+use pci_claims::told::{Told, ranges_on};
 use pci_faults::judging;
 use pci_function::fault::Fault;
 use pci_tree::outline::Outline;
@@ -93,6 +95,28 @@ pub fn add_without_told<A: Allocator>(
 }
 
 /// All faults of judging by number, each with what is given and told.
+fn lines_of<A: Allocator + Copy>(
+    alloc: A,
+    board: &Board<'_, '_, A>,
+) -> Result<Vec<AnyFault, A>, OutOfMemory>
+    requires { IsBoard (told_value board.now.told) board.now.outline.now board.now.on.now
+        board.now.bridges.now }
+    ensures { IfOk result (λ v. AreAllLines (told_value board.now.told)
+        (given_value board.now.given) board.now.outline.now v.items) }
+{
+    let outside = all_outside(alloc, board)?;
+    let unreached = all_unreached(alloc, board)?;
+    let clashes = all_clashes(alloc, board)?;
+    let splits = all_splits(alloc, board)?;
+    let mut faults = Vec::new(alloc);
+    add_outside(&mut faults, &outside)?;
+    add_unreached(&mut faults, &unreached)?;
+    add_clashes(&mut faults, &clashes)?;
+    add_splits(&mut faults, &splits)?;
+    Ok(faults)
+}
+
+/// The same, of the systems with these records and root buses.
 fn all_by_number<A: Allocator + Copy>(
     alloc: A,
     given: &Given<'_>,
@@ -103,16 +127,16 @@ fn all_by_number<A: Allocator + Copy>(
     ensures { IfOk result (λ v. AreAllLines (told_value told.now) (given_value given.now)
         outline.now v.items) }
 {
-    let outside = all_outside(alloc, given, told, outline)?;
-    let unreached = all_unreached(alloc, given, told, outline)?;
-    let clashes = all_clashes(alloc, given, told, outline)?;
-    let splits = all_splits(alloc, given, told, outline)?;
-    let mut faults = Vec::new(alloc);
-    add_outside(&mut faults, &outside)?;
-    add_unreached(&mut faults, &unreached)?;
-    add_clashes(&mut faults, &clashes)?;
-    add_splits(&mut faults, &splits)?;
-    Ok(faults)
+    let bridges = outline.bridges()?;
+    let on = ranges_on(alloc, told, outline)?;
+    let board = Board {
+        outline,
+        given: *given,
+        told: *told,
+        on: &on,
+        bridges: &bridges,
+    };
+    lines_of(alloc, &board)
 }
 
 /// Whether something is given.

@@ -2,7 +2,6 @@
 ghost use Rattle.std.specs.Prelude.{◌≡◌, ◌<◌, ◌++◌, length, map, IfOk, OnOk};
 ghost use Rattle.pci_base.specs.Space.{space_of};
 ghost use Rattle.pci_faults.specs.Shares.{AreWithin};
-ghost use Rattle.given_spec.specs.Told.{IsTold};
 ghost use Rattle.pci_claims.specs.Values.{given_value, told_value};
 ghost use Rattle.pci_claims.specs.AllClaims.{IsBoard};
 ghost use Rattle.pci_given.specs.Clashes.{name_of, claims_clash, AreClashesAdded, IsOnBusIn};
@@ -18,10 +17,7 @@ use pci_base::space::Space;
 use pci_claims::all_claims::claims_among;
 use pci_claims::board::Board;
 use pci_claims::claim::Claim;
-use pci_claims::given::Given;
-use pci_claims::told::{Told, ranges_on};
 use pci_faults::shares::{Among, Share};
-use pci_tree::outline::Outline;
 use std::alloc::Allocator;
 
 /// The region of a claim.
@@ -131,25 +127,15 @@ fn add_clashes<A: Allocator + Copy>(
 /// which judging looks for them.
 pub fn all_clashes<A: Allocator + Copy>(
     alloc: A,
-    given: &Given<'_>,
-    told: &Told<'_>,
-    outline: &Outline<A>,
+    board: &Board<'_, '_, A>,
 ) -> Result<Vec<Clash, A>, OutOfMemory>
-    // they are read of a text
-    requires { IsTold told.now.ranges.now }
-    ensures { IfOk result (λ v. AreAllClashes (told_value told.now) (given_value given.now) outline.now v.items) }
+    requires { IsBoard (told_value board.now.told) board.now.outline.now board.now.on.now
+        board.now.bridges.now }
+    ensures { IfOk result (λ v. AreAllClashes (told_value board.now.told) (given_value board.now.given)
+        board.now.outline.now v.items) }
 {
-    let bridges = outline.bridges()?;
-    let on = ranges_on(alloc, told, outline)?;
-    let board = Board {
-        outline,
-        given: *given,
-        told: *told,
-        on: &on,
-        bridges: &bridges,
-    };
     let mut clashes = Vec::new(alloc);
-    add_clashes(alloc, &mut clashes, &board)?;
+    add_clashes(alloc, &mut clashes, board)?;
     sort_clashes(&mut clashes)?;
     Ok(clashes)
 }

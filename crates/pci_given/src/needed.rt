@@ -2,10 +2,10 @@
 //! held.
 ghost use Rattle.std.specs.Prelude.{◌≡◌, IfOk, OnOk};
 ghost use Rattle.std.specs.List.Sorted.{IsNonDecreasingBy, IsPermutation};
-ghost use Rattle.given_spec.specs.Told.{IsTold};
 ghost use Rattle.given_spec.specs.ToldAllFaults.{region_number};
 ghost use Rattle.pci_claims.specs.Values.{told_value};
-ghost use Rattle.pci_given.specs.Needed.{needed_place, AreAllNeeded};
+ghost use Rattle.pci_claims.specs.AllClaims.{IsBoard};
+ghost use Rattle.pci_given.specs.Needed.{needed_place, AreAllNeeded, AreToldNeeded};
 
 use super::bars_and_roms::add_bars_and_roms;
 use super::named::Name;
@@ -13,8 +13,7 @@ use super::told_needed::add_told;
 use pci_base::memory::OutOfMemory;
 use pci_base::range::Range;
 use pci_base::space::Space;
-use pci_claims::told::Told;
-use pci_tree::outline::Outline;
+use pci_claims::board::Board;
 use std::alloc::Allocator;
 
 /// A region that has to be sent and reached, and its addresses.
@@ -45,19 +44,35 @@ fn sort<A: Allocator>(list: &mut Vec<Needed, A>) -> Result<(), OutOfMemory>
     }
 }
 
+/// The told ranges that have to be sent and reached, by slot and register.
+pub fn told_needed<A: Allocator + Copy>(
+    alloc: A,
+    board: &Board<'_, '_, A>,
+) -> Result<Vec<Needed, A>, OutOfMemory>
+    requires { IsBoard (told_value board.now.told) board.now.outline.now board.now.on.now
+        board.now.bridges.now }
+    ensures { IfOk result
+        (λ v. AreToldNeeded (told_value board.now.told) board.now.outline.now v.items) }
+{
+    let mut list = Vec::new(alloc);
+    add_told(&mut list, &board.told, board.on)?;
+    sort(&mut list)?;
+    Ok(list)
+}
+
 /// All regions that have to be sent and reached, by slot and register.
 pub fn all_needed<A: Allocator + Copy>(
     alloc: A,
-    told: &Told<'_>,
-    outline: &Outline<A>,
+    board: &Board<'_, '_, A>,
 ) -> Result<Vec<Needed, A>, OutOfMemory>
-    // line 4096 has the last register
-    requires { IsTold told.now.ranges.now }
-    ensures { IfOk result (λ v. AreAllNeeded (told_value told.now) outline.now v.items) }
+    requires { IsBoard (told_value board.now.told) board.now.outline.now board.now.on.now
+        board.now.bridges.now }
+    ensures { IfOk result
+        (λ v. AreAllNeeded (told_value board.now.told) board.now.outline.now v.items) }
 {
     let mut list = Vec::new(alloc);
-    add_bars_and_roms(&mut list, outline)?;
-    add_told(alloc, &mut list, told, outline)?;
+    add_bars_and_roms(&mut list, board.outline)?;
+    add_told(&mut list, &board.told, board.on)?;
     sort(&mut list)?;
     Ok(list)
 }

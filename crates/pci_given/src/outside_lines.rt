@@ -1,17 +1,17 @@
 //! All regions outside the host's ranges: one fault for each BAR, ROM or told range with an address to which no access
 //! starts on the root above it.
 ghost use Rattle.std.specs.Prelude.{IfOk, MatchOption};
-ghost use Rattle.given_spec.specs.Told.{IsTold};
 ghost use Rattle.pci_claims.specs.Values.{given_value, told_value};
+ghost use Rattle.pci_claims.specs.AllClaims.{IsBoard};
 ghost use Rattle.pci_given.specs.Named.{AreAllOutside};
 ghost use Rattle.pci_given.specs.OutsideLines.{IsNeverOutside, IsOutsideLine, AreOutsideLines};
 
 use super::named::Outside;
 use super::needed::{Needed, all_needed};
 use pci_base::memory::OutOfMemory;
+use pci_claims::board::Board;
 use pci_claims::given::Given;
 use pci_claims::outside::{least_unsent, root_above};
-use pci_claims::told::Told;
 use pci_tree::outline::Outline;
 use std::alloc::Allocator;
 
@@ -65,18 +65,18 @@ fn outside_among<A: Allocator + Copy>(
 /// They stand in the order in which judging looks for them.
 pub fn all_outside<A: Allocator + Copy>(
     alloc: A,
-    given: &Given<'_>,
-    told: &Told<'_>,
-    outline: &Outline<A>,
+    board: &Board<'_, '_, A>,
 ) -> Result<Vec<Outside, A>, OutOfMemory>
-    // they are read of a text
-    requires { IsTold told.now.ranges.now }
-    ensures { IfOk result (λ v. AreAllOutside (told_value told.now) (given_value given.now) outline.now v.items) }
+    requires { IsBoard (told_value board.now.told) board.now.outline.now board.now.on.now
+        board.now.bridges.now }
+    ensures { IfOk result (λ v. AreAllOutside (told_value board.now.told)
+        (given_value board.now.given) board.now.outline.now v.items) }
 {
+    let given = &board.given;
     // all is sent to each root bus
     if given.io.is_none() && given.memory.is_none() {
         return Ok(Vec::new(alloc));
     }
-    let list = all_needed(alloc, told, outline)?;
-    outside_among(alloc, given, outline, &list)
+    let list = all_needed(alloc, board)?;
+    outside_among(alloc, given, board.outline, &list)
 }

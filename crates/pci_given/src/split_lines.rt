@@ -2,7 +2,6 @@
 ghost use Rattle.std.specs.Prelude.{◌≡◌, ◌<◌, ◌++◌, length, map, IfOk, OnOk};
 ghost use Rattle.pci_base.specs.Space.{space_of};
 ghost use Rattle.pci_faults.specs.Shares.{AreWithin};
-ghost use Rattle.given_spec.specs.Told.{IsTold};
 ghost use Rattle.pci_claims.specs.Values.{given_value, told_value};
 ghost use Rattle.pci_claims.specs.AllClaims.{IsBoard};
 ghost use Rattle.pci_given.specs.Splits.{claims_split, AreSplitsAdded, IsSplitIn};
@@ -17,11 +16,8 @@ use pci_base::memory::OutOfMemory;
 use pci_base::space::Space;
 use pci_claims::board::Board;
 use pci_claims::claim::Claim;
-use pci_claims::given::Given;
 use pci_claims::root_claims::claims_of_roots;
-use pci_claims::told::{Told, ranges_on};
 use pci_faults::shares::{Among, Share};
-use pci_tree::outline::Outline;
 use std::alloc::Allocator;
 
 /// The split that two claims of a list tell of.
@@ -97,25 +93,15 @@ fn add_splits<A: Allocator + Copy>(
 /// in which judging looks for them.
 pub fn all_splits<A: Allocator + Copy>(
     alloc: A,
-    given: &Given<'_>,
-    told: &Told<'_>,
-    outline: &Outline<A>,
+    board: &Board<'_, '_, A>,
 ) -> Result<Vec<Split, A>, OutOfMemory>
-    // they are read of a text
-    requires { IsTold told.now.ranges.now }
-    ensures { IfOk result (λ v. AreAllSplits (told_value told.now) (given_value given.now) outline.now v.items) }
+    requires { IsBoard (told_value board.now.told) board.now.outline.now board.now.on.now
+        board.now.bridges.now }
+    ensures { IfOk result (λ v. AreAllSplits (told_value board.now.told) (given_value board.now.given)
+        board.now.outline.now v.items) }
 {
-    let bridges = outline.bridges()?;
-    let on = ranges_on(alloc, told, outline)?;
-    let board = Board {
-        outline,
-        given: *given,
-        told: *told,
-        on: &on,
-        bridges: &bridges,
-    };
     let mut splits = Vec::new(alloc);
-    add_splits(alloc, &mut splits, &board)?;
+    add_splits(alloc, &mut splits, board)?;
     sort_splits(&mut splits)?;
     Ok(splits)
 }

@@ -11,9 +11,8 @@ use super::named::Name;
 use super::needed::Needed;
 use pci_base::memory::OutOfMemory;
 use pci_base::range::Range;
-use pci_claims::told::{Told, ranges_on};
+use pci_claims::told::Told;
 use pci_told::told_range::ToldRange;
-use pci_tree::outline::Outline;
 use std::alloc::Allocator;
 
 /// The register of the told range of line 1.
@@ -45,7 +44,7 @@ fn needed_of(range: &ToldRange, register: u16) -> Needed
 }
 
 /// Adds those that have to be sent and reached, `on` telling of each told range whether it is on.
-fn add_ranges<A: Allocator>(
+pub fn add_told<A: Allocator>(
     out: &mut Vec<Needed, A>,
     told: &Told<'_>,
     on: &[bool],
@@ -62,24 +61,4 @@ fn add_ranges<A: Allocator>(
         }
     }
     Ok(())
-}
-
-/// Adds the told ranges that have to be sent and reached.
-pub fn add_told<A: Allocator + Copy>(
-    alloc: A,
-    out: &mut Vec<Needed, A>,
-    told: &Told<'_>,
-    outline: &Outline<A>,
-) -> Result<(), OutOfMemory>
-    // line 4096 has the last register
-    requires { IsTold told.now.ranges.now }
-    ensures { OnOk result (AreAdded (IsOfRange (told_value told.now)) outline.now out.old.items
-        out.new.items) }
-{
-    // so it is without a text
-    if told.ranges.is_empty() {
-        return Ok(());
-    }
-    let on = ranges_on(alloc, told, outline)?;
-    add_ranges(out, told, &on)
 }

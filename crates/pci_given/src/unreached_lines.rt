@@ -4,22 +4,22 @@ ghost use Rattle.std.specs.Prelude.{IfOk, IsTrue};
 ghost use Rattle.pci_spec.specs.System.{Io};
 ghost use Rattle.pci_check.specs.Judgement.{AreHome};
 ghost use Rattle.pci_check.specs.Stops.{AreReachesOf, AlwaysNested};
-ghost use Rattle.given_spec.specs.Told.{IsTold};
 ghost use Rattle.pci_claims.specs.Values.{given_value, told_value};
+ghost use Rattle.pci_claims.specs.AllClaims.{IsBoard};
 ghost use Rattle.pci_given.specs.Named.{AreAllUnreached};
 ghost use Rattle.pci_given.specs.Stopped.{NeverCut};
 ghost use Rattle.pci_given.specs.UnreachedLines.{AreUnreachedLines};
 
 use super::named::Unreached;
-use super::needed::{Needed, all_needed};
+use super::needed::{Needed, all_needed, told_needed};
 use super::unreached::{are_any_cut, stop_of_lost};
 use pci_base::memory::OutOfMemory;
 use pci_base::slot::BUSES;
 use pci_base::space::Space;
 use pci_check::reached::Reached;
 use pci_check::unreached::first_unreached;
+use pci_claims::board::Board;
 use pci_claims::given::Given;
-use pci_claims::told::Told;
 use pci_tree::outline::Outline;
 use std::alloc::Allocator;
 
@@ -93,19 +93,20 @@ fn are_all_home<A: Allocator + Copy>(
 /// judging looks for them.
 pub fn all_unreached<A: Allocator + Copy>(
     alloc: A,
-    given: &Given<'_>,
-    told: &Told<'_>,
-    outline: &Outline<A>,
+    board: &Board<'_, '_, A>,
 ) -> Result<Vec<Unreached, A>, OutOfMemory>
-    // they are read of a text
-    requires { IsTold told.now.ranges.now }
-    ensures { IfOk result (λ v. AreAllUnreached (told_value told.now) (given_value given.now) outline.now v.items) }
+    requires { IsBoard (told_value board.now.told) board.now.outline.now board.now.on.now
+        board.now.bridges.now }
+    ensures { IfOk result (λ v. AreAllUnreached (told_value board.now.told)
+        (given_value board.now.given) board.now.outline.now v.items) }
 {
-    let reached = Reached::of(outline)?;
+    let given = &board.given;
+    let reached = Reached::of(board.outline)?;
     // so it is on most boards, and what else is given only adds to what windows pass
-    if told.ranges.is_empty() && are_all_home(given, outline, &reached)? {
-        return Ok(Vec::new(alloc));
+    if are_all_home(given, board.outline, &reached)? {
+        let list = told_needed(alloc, board)?;
+        return unreached_among(alloc, given, board.outline, &reached, &list);
     }
-    let list = all_needed(alloc, told, outline)?;
-    unreached_among(alloc, given, outline, &reached, &list)
+    let list = all_needed(alloc, board)?;
+    unreached_among(alloc, given, board.outline, &reached, &list)
 }

@@ -8,5 +8,5 @@ use Rattle.pci_given.proofs.outside_lines.all_outside.Goals as goal
 
 pub returns : goal.returns
 returns g c = IfOk-weaker c.outside_among.result _ _
-    (λ v made. all_outside_are (told_value c.args.told.now) (given_value c.args.given.now) c.args.outline.now c.in_ok-list.list.items v.items c.in_ok-list.ensures
-    (subst (λ (l : List Needed). AreOutsideLines (given_value c.args.given.now) c.args.outline.now l v.items) c.deref.ensures.value made)) c.outside_among.ensures
+    (λ v made. all_outside_are (told_value c.args.board.now.told) (given_value c.args.board.now.given) c.args.board.now.outline.now c.in_ok-list.list.items v.items c.in_ok-list.ensures
+    (subst (λ (l : List Needed). AreOutsideLines (given_value c.args.board.now.given) c.args.board.now.outline.now l v.items) c.deref.ensures.value made)) c.outside_among.ensures
