@@ -103,7 +103,7 @@ mkdir "$built/cases"
 for memory in pciplan_memory pciplan_fixed_memory; do
     compiled cases/pciplan -Wl,--wrap=rattle_alloc,--wrap=rattle_realloc \
         "$here/test/pciplan_faults_test.c" "$here/memory/$memory.c" "$library"
-    for of in faults given_reasons host_ranges models vga; do
+    for of in faults given_reasons host_ranges isa models palette unclaimed vga; do
         awk -f "$here/test/faults_cases.awk" "$cases/cases/$of.txt" >"$built/cases/$of.txt"
         told "$memory: faults of " run_cases "$of.txt"
     done

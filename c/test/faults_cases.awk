@@ -1,5 +1,6 @@
 # Prints, of a file of crates/pciplan/cases, the cases of `faults` that the library can be asked for: without other words of the
-# command line, without empty words, which C takes as not said, and without command lines that are none.
+# command line and without told ranges, without empty words, which C takes as not said, and without command lines that are
+# none.
 
 # Keeps the commands that were read last, with their answer.
 function end_commands() {
@@ -23,7 +24,7 @@ held != "" { $0 = held $0; held = "" }
     if (answer != "")
         end_commands()
     begun = 1
-    if (/^\$ faults / && !/''/)
+    if (/^\$ faults / && !/''/ && !/ --also /)
         asked = asked $0 "\n"
     next
 }
