@@ -12,7 +12,7 @@ use Rattle.pci_tree.specs.Outline.{Tree}
 use Rattle.pci_tree.specs.Ranges.{Holds, Covers}
 use Rattle.pci_tree.specs.Trees.{HasTree}
 use Rattle.pci_check.specs.Stops.{Reaches, ranges_at}
-use Rattle.given_spec.specs.Given.{Given, is_cut}
+use Rattle.given_spec.specs.Given.{Given, is_cut, is_isa_port}
 use Rattle.given_spec.specs.ToldClaims.{Told}
 use Rattle.given_spec.specs.ToldFault.{IsUnreached}
 use Rattle.given_spec.specs.ToldAllFaults.{IsUnreachedOf}
@@ -25,6 +25,15 @@ use Rattle.pci_given.specs.Needed.{IsNeeded, IsOneOf}
 -- ISA Enable takes no address of a space from any window
 abbrev pub NeverCut : Given → Space → Type 0
 NeverCut given space = (a : ℕ) (slot : Slot) → IsFalse (is_cut given space a slot)
+
+-- it takes no port of a range from any window
+abbrev pub ArePortsLeft : Range → Type 0
+ArePortsLeft range = (a : ℕ) → Holds range a → IsFalse (is_isa_port a)
+
+-- it takes no address of a region from any window
+abbrev pub IsLeftWhole : Given → Needed → Type 0
+IsLeftWhole given n =
+    (a : ℕ) → Holds n.range a → (slot : Slot) → IsFalse (is_cut given (space_of n.space) a slot)
 
 -- the bridge at a slot passes each address of a range that is sent there
 abbrev pub PassesEach : (ℕ → Type 0) → (ℕ → Slot → Type 0) → Range → Slot → Type 0

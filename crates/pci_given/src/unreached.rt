@@ -11,7 +11,7 @@ ghost use Rattle.pci_check.specs.Stops.{AreReachesOf, AlwaysNested};
 ghost use Rattle.pci_claims.specs.Values.{given_value};
 ghost use Rattle.pci_claims.specs.Outside.{IsSent};
 ghost use Rattle.pci_claims.specs.Reached.{PassesAt};
-ghost use Rattle.pci_given.specs.Stopped.{NeverCut, PassesSent, IsFirstBridgeThatStops, IsWholeAt, IsNeverUnreached, IsUnreachedLine};
+ghost use Rattle.pci_given.specs.Stopped.{ArePortsLeft, IsLeftWhole, NeverCut, PassesSent, IsFirstBridgeThatStops, IsWholeAt, IsNeverUnreached, IsUnreachedLine};
 
 use super::missed::least_missed;
 use super::needed::Needed;
@@ -119,6 +119,27 @@ pub fn are_any_cut(given: &Given<'_>, space: Space) -> bool
     }
 }
 
+/// Whether ISA Enable leaves all ports of a range to the windows that it cuts: they are above the first 64 KB, or among the
+/// first 256 of one KB.
+#[tactic(auto, using(crate::proofs::Homes::ports_left))]
+fn are_ports_left(range: Range) -> bool
+    ensures { IsTrue result → ArePortsLeft range }
+{
+    0x1_0000 <= range.first
+        || (range.first / 0x400 == range.last / 0x400 && range.last % 0x400 < 0x100)
+}
+
+/// Whether ISA Enable may take an address of a region from some window.
+fn may_be_cut(given: &Given<'_>, one: &Needed) -> bool
+    ensures { IsFalse result → IsLeftWhole (given_value given.now) one.now }
+{
+    if are_any_cut(given, one.space) {
+        !are_ports_left(one.range)
+    } else {
+        false
+    }
+}
+
 /// Whether windows alone let all of a region to its bus.
 fn is_whole<A: Allocator + Copy>(reached: &Reached<A>, one: &Needed) -> bool
     ensures { IsTrue result → IsWholeAt reached.now one.now }
@@ -151,7 +172,7 @@ pub fn stop_of_lost<A: Allocator + Copy>(
         (λ stop. IsUnreachedLine (given_value given.now) outline.now one.now stop.address stop.bridge)) }
 {
     // a window may not pass what it holds
-    if are_any_cut(given, one.space) {
+    if may_be_cut(given, one) {
         return first_stop_of(alloc, given, outline, one);
     }
     // what the windows on the way pass isn't stopped, so that few ways are walked
