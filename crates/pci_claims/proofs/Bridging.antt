@@ -17,7 +17,6 @@ use Rattle.pci_base.specs.Space.{is_on, kind_in}
 use Rattle.pci_function.specs.declared.record.Record.{Record}
 use Rattle.pci_tree.specs.Ranges.{Holds, Covers, IsCanonical}
 use Rattle.given_spec.specs.Given.{Given, ranges_of}
-use Rattle.given_spec.specs.Given as spec
 use Rattle.pci_claims.specs.declared.given.LegacyBridge.{LegacyBridge}
 use Rattle.pci_claims.specs.declared.given.TakingBridge.{TakingBridge}
 use Rattle.pci_claims.specs.declared.legacy.FixedPart.{FixedPart}
@@ -127,7 +126,7 @@ module _ (part : FixedPart) where
 
 -- ---- ranges that are not empty, behind others
 
-one_holds : (r : Range) (a : ℕ) → Covers (r ∷ []) a → Holds r a
+pub one_holds : (r : Range) (a : ℕ) → Covers (r ∷ []) a → Holds r a
 one_holds r a h = elim (cons_to r [] a h) [ inl held ↦ held | inr none ↦ absurd (none_covered a none) ]
 
 pub none_behind : (before : List Range) → AreLawfulBehind before [] before

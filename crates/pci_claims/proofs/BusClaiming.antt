@@ -1,19 +1,18 @@
 -- The claims of a bus in a system.
-use Rattle.std.proofs.Common.{◌≡◌, ℕ, ◌+◌, ◌*◌, ◌<◌, ◌⊎◌, inl, inr, List, [], ◌∷◌, ◌++◌, length, get_or, map, take, Bool, true, false, ◌&&◌, ◌||◌, sym, ◌∙◌, ap, subst, arith, append_assoc, append-nil}
-use Rattle.std.specs.Prelude.{◌==◌, IsTrue}
-use Rattle.std.proofs.Math.Bool.{or-true}
+use Rattle.std.proofs.Common.{◌≡◌, ℕ, ◌+◌, ◌*◌, ◌<◌, ◌⊎◌, inl, inr, List, [], ◌∷◌, ◌++◌, length, get_or, map, take, true, false, ◌&&◌, sym, ◌∙◌, ap, subst, arith, append_assoc, append-nil}
+use Rattle.std.specs.Prelude.{◌==◌}
 use Rattle.std.specs.Option.{is_some}
-use Rattle.std.specs.List.{AllPairs, Contains, filter, list_any}
+use Rattle.std.specs.List.{AllPairs, Contains, filter}
 use Rattle.std.specs.List.Sorted.{IsPermutation, IsNonDecreasingBy}
-use Rattle.std.proofs.lemmas.Bool.{eqb-true, eq-eqb, and_parts, or_cases, both_ways}
+use Rattle.std.proofs.lemmas.Bool.{and_parts, both_ways}
 use Rattle.std.proofs.lemmas.List.Elements.{Contains-get_or, Contains-append_left, Contains-append_right, Contains-append_cases}
 use Rattle.std.proofs.lemmas.List.Sorted.{Contains-permutation, IsPermutation-sym}
-use Rattle.pci_spec.specs.Slot.{Slot, slot_number, same_slot}
+use Rattle.pci_spec.specs.Slot.{Slot, slot_number}
 use Rattle.pci_spec.specs.System.{System, Function, Space, IsAddress, is_bridge, is_space_on}
 use Rattle.pci_spec.specs.Bus.{IsNested}
 use Rattle.pci_spec.specs.Decoded.{record_of}
 use Rattle.pci_spec.specs.Fault.{RegionName, address_in, named_region}
-use Rattle.pci_spec.proofs.Members.{in_nil, in_filter_to, in_filter_from, in_map_to, in_map_from, pairs_append, pairs_filter, pairs_map, pairs_nil}
+use Rattle.pci_spec.proofs.Members.{in_nil, in_map_to, in_map_from, pairs_append, pairs_filter, pairs_map, pairs_nil}
 use Rattle.pci_spec.proofs.Regions.{register_of-lt}
 use Rattle.pci_base.specs.declared.range.Range.{Range}
 use Rattle.pci_base.specs.Space.{is_on}
@@ -23,21 +22,20 @@ use Rattle.pci_tree.specs.Regions.{AreRegionsOf}
 use Rattle.pci_tree.specs.Ranges.{Covers}
 use Rattle.pci_tree.specs.Ways.{slots_of}
 use Rattle.pci_tree.specs.Outline.{Tree, RiseBySlot}
-use Rattle.pci_tree.proofs.Lifting.{Has, record_for, function_for, functions_rise, same_slot_of, one_by_number}
+use Rattle.pci_tree.proofs.Lifting.{Has, functions_rise, one_by_number}
 use Rattle.pci_tree.specs.Trees.{HasTree}
-use Rattle.given_spec.specs.Given.{Given, LegacyBridge}
+use Rattle.given_spec.specs.Given.{Given}
 use Rattle.given_spec.specs.Claims.{Gets, ClaimsOnBus}
 use Rattle.given_spec.specs.Claims as spec
 use Rattle.given_spec.specs.ToldAllFaults.{region_number}
 use Rattle.pci_claims.specs.declared.legacy.FixedPart.{FixedPart}
 use Rattle.pci_claims.specs.declared.legacy.FixedPart.TheVariants.{Legacy, Palette}
-use Rattle.pci_claims.specs.Legacy.{part_holds, bridges_with, register_of_part}
-use Rattle.pci_claims.specs.Passed.{is_part_at}
+use Rattle.pci_claims.specs.Legacy.{register_of_part}
 use Rattle.pci_claims.specs.Reached.{IsAccessReach}
 use Rattle.pci_claims.specs.Claim.{Claimed, IsClaimOn, IsClaimAmong, IsClaimOfRegion, IsClaimOfPart}
-use Rattle.pci_claims.specs.BusClaims.{claim_number, number_of_region, AreRegionClaims, HasPart, IsAnsweringBridge, IsAnsweringPart, IsPartClaimAt, ArePartClaims, AreMoreClaims, AreBridgesOf, IsNamedOn, AreRegisterClaimsAmong, AreRegisterClaimsOn}
+use Rattle.pci_claims.specs.BusClaims.{claim_number, number_of_region, AreRegionClaims, IsAnsweringBridge, IsAnsweringPart, IsPartClaimAt, ArePartClaims, AreMoreClaims, AreBridgesOf, IsNamedOn, AreRegisterClaimsAmong, AreRegisterClaimsOn}
 use Rattle.pci_claims.proofs.RegionClaims.{not_part}
-use Rattle.pci_claims.proofs.Linking.{claims_by, part_same}
+use Rattle.pci_claims.proofs.PartsOnBus.{IsListedAt, IsPartNamed, bridge_at, bridge_here, part_claims_it, part_has}
 use Rattle.pci_claims.proofs.Rooted.{sent_there}
 use Rattle.pci_claims.proofs.Making.{made_none, made_more, made_less, rise_in_order}
 
@@ -103,45 +101,17 @@ none_on records space slot q rise has at off r here =
     let same : r ≡ q = one_by_number (λ (x : Record). slot_number x.slot) records r q rise here.0 has (ap slot_number (here.1 ∙ sym at)) in
     both_ways _ off (subst (λ (x : Record). (is_some x.bridge && is_on x.command space) ≡ true) same here.2)
 
--- a bridge that claims an address by a part has it
-has_it : (test : LegacyBridge → Bool) (slot : Slot) (entries : List LegacyBridge) → IsTrue (list_any (λ entry. same_slot entry.slot slot && test entry) entries)
-    → IsTrue (list_any (λ entry. same_slot entry.slot slot) entries)
-has_it test slot [] h = h
-has_it test slot (e ∷ entries) h = elim (or_cases (same_slot e.slot slot && test e) (list_any (λ entry. same_slot entry.slot slot && test entry) entries) h) [
-  | inl here ↦ ap (λ b. b || list_any (λ (entry : LegacyBridge). same_slot entry.slot slot) entries) (and_parts (same_slot e.slot slot) (test e) here).0
-  | inr later ↦ ap (λ b. same_slot e.slot slot || b) (has_it test slot entries later) ∙ or-true _
-]
-
 -- ---- in a system
 
 module _ (given : Given) (t : Tree) (s : System) (tree : HasTree t s) (bus : ℕ) (space : Space) (regions : List Region) (are : AreRegionsOf s bus space regions)
     (bridges here : List Slot) (all : AreBridgesOf t bridges) (on : here ≡ filter (λ slot. slot.bus == bus) bridges) where
-  -- the function at a slot of the bus
-  record IsListedAt (slot : Slot) : Type 0 where
-    f : Function
-    listed : Contains s f
-    at : f.slot ≡ slot
-    on_bus : slot.bus ≡ bus
-
-  bridge_at : (slot : Slot) → Contains here slot → IsListedAt slot
-  bridge_at slot has =
-      let of_bus = in_filter_to (λ (x : Slot). x.bus == bus) bridges slot (subst (λ l. Contains l slot) on has) in
-      let made = in_map_to (λ (f : Function). f.slot) (filter is_bridge s) slot (subst (λ l. Contains l slot) (all s tree.records) of_bus.0) in
-      record { f = made.from; listed = (in_filter_to is_bridge s made.from made.has).0; at = made.is; on_bus = eqb-true slot.bus bus of_bus.1 }
-
-  bridge_here : (f : Function) → Contains s f → is_bridge f ≡ true → f.slot.bus ≡ bus → Contains here f.slot
-  bridge_here f listed bridge at = subst (λ l. Contains l f.slot) (sym on)
-      (in_filter_from (λ (x : Slot). x.bus == bus) bridges f.slot
-      (subst (λ l. Contains l f.slot) (sym (all s tree.records)) (in_map_from (λ (g : Function). g.slot) (filter is_bridge s) f (in_filter_from is_bridge s f listed bridge)))
-      (eq-eqb f.slot.bus bus at))
-
-  some_at : (slot : Slot) → Contains (map (λ r. r.slot) regions) slot ⊎ Contains here slot → IsListedAt slot
+  some_at : (slot : Slot) → Contains (map (λ r. r.slot) regions) slot ⊎ Contains here slot → IsListedAt s bus slot
   some_at slot (inl has) =
       let made = in_map_to (λ (r : Region). r.slot) regions slot has in
       let region = are.each made.from made.has in
       let at : region.f.slot ≡ slot = sym region.is.slot ∙ made.is in
       record { f = region.f; listed = region.listed; at = at; on_bus = ap (λ (x : Slot). x.bus) (sym at) ∙ region.on_bus }
-  some_at slot (inr has) = bridge_at slot has
+  some_at slot (inr has) = bridge_at t s tree bus bridges here all on slot has
 
   -- it is one of the tree's
   pub never_unlisted : (slot : Slot) → Contains (map (λ r. r.slot) regions) slot ⊎ Contains here slot → (Contains (map (λ r. r.slot) t.records) slot → ⊥) → ⊥
@@ -160,16 +130,8 @@ module _ (given : Given) (t : Tree) (s : System) (tree : HasTree t s) (bus : ℕ
     slot_is : q.slot ≡ slot
     register_is : q.reg ≡ register
 
-  record IsPartNamed (part : FixedPart) (a : ℕ) (slot : Slot) (register : ℕ) : Type 0 where
-    f : Function
-    listed : Contains s f
-    has : Contains here f.slot
-    claims : claims_by given part space a f ≡ true
-    slot_is : f.slot ≡ slot
-    register_is : register ≡ register_of_part part
-
   abbrev IsNamed : ℕ → Slot → ℕ → Type 0
-  IsNamed a slot register = IsRegionNamed slot register ⊎ (IsPartNamed Legacy a slot register ⊎ IsPartNamed Palette a slot register)
+  IsNamed a slot register = IsRegionNamed slot register ⊎ (IsPartNamed given s space here Legacy a slot register ⊎ IsPartNamed given s space here Palette a slot register)
 
   claimant : (slot : Slot) (register a : ℕ) → ClaimsOnBus given s bus (address_in space a) (named_region slot register) → IsNamed a slot register
   claimant slot register a (f, spec.Own part, listed, at, on_bus, named, own) =
@@ -177,10 +139,10 @@ module _ (given : Given) (t : Tree) (s : System) (tree : HasTree t s) (bus : ℕ
       inl record { q = found.q; has = found.has; slot_is = found.is.slot ∙ at; register_is = found.is.register ∙ named }
   claimant slot register a (f, spec.Legacy, listed, at, on_bus, named, claims) =
       let bridge = (and_parts (is_bridge f) (is_space_on f space) (and_parts (is_bridge f && is_space_on f space) _ claims.claims).0).0 in
-      inr (inl record { f = f; listed = listed; has = bridge_here f listed bridge (ap (λ (x : Slot). x.bus) at ∙ on_bus); claims = claims.claims; slot_is = at; register_is = sym named })
+      inr (inl record { f = f; listed = listed; has = bridge_here t s tree bus bridges here all on f listed bridge (ap (λ (x : Slot). x.bus) at ∙ on_bus); claims = claims.claims; slot_is = at; register_is = sym named })
   claimant slot register a (f, spec.Palette, listed, at, on_bus, named, claims) =
       let bridge = (and_parts (is_bridge f) (is_space_on f space) (and_parts (is_bridge f && is_space_on f space) _ claims.claims).0).0 in
-      inr (inr record { f = f; listed = listed; has = bridge_here f listed bridge (ap (λ (x : Slot). x.bus) at ∙ on_bus); claims = claims.claims; slot_is = at; register_is = sym named })
+      inr (inr record { f = f; listed = listed; has = bridge_here t s tree bus bridges here all on f listed bridge (ap (λ (x : Slot). x.bus) at ∙ on_bus); claims = claims.claims; slot_is = at; register_is = sym named })
 
   -- without regions and bridges nothing claims an address
   pub no_claims : regions ≡ [] → here ≡ [] → AreRegisterClaimsOn given t.roots s bus space []
@@ -201,27 +163,10 @@ module _ (given : Given) (t : Tree) (s : System) (tree : HasTree t s) (bus : ℕ
     -- ---- claims of a part
 
     module _ (part : FixedPart) (more : List Claimed) (parts : ArePartClaims given part space records reach here more) where
-      part_claims_it : (c : Claimed) → Contains more c → IsClaimAmong given s bus space reach c
-      part_claims_it c in_more =
-          let (slot, there, (r, at, of)) = parts.each c in_more in
-          let (f, listed, same) = function_for s records r has at.0.0 in
-          let on_bus : f.slot.bus ≡ bus = ap (λ (x : Slot). x.bus) (sym (same_slot_of r f same) ∙ at.0.1) ∙ (bridge_at slot there).on_bus in
-          subst (λ n. IsClaimAmong given s n space reach c) on_bus (of.exact s f tree.system listed same addresses)
-
-      part_has : (slot : Slot) (register a : ℕ) → IsPartNamed part a slot register → (c : Claimed) × Contains more c × (c.slot ≡ slot) × (c.register ≡ register)
-      part_has slot register a named =
-          let (r, stands) = record_for s records named.f has named.listed in
-          let passes = sym (part_same given part space a r named.f stands.same) ∙ named.claims in
-          let both = and_parts (is_some r.bridge && is_on r.command space) (list_any (is_part_at part r.slot space a) (bridges_with given part)) passes in
-          let its = same_slot_of r named.f stands.same in
-          let (c, there, (q, at, of)) = parts.complete named.f.slot named.has
-          (r, ((stands.has, its, both.0), subst (λ (x : Slot). HasPart given part x) its (has_it (λ (entry : LegacyBridge). part_holds part entry.is_wide space a) r.slot (bridges_with given part) both.1))) in
-          (c, there, of.slot ∙ at.0.1 ∙ named.slot_is, of.register ∙ sym named.register_is)
-
       part_named : (c : Claimed) → Contains more c → IsNamedOn s bus c
       part_named c in_more =
           let (slot, there, (r, at, of)) = parts.each c in_more in
-          let place = bridge_at slot there in
+          let place = bridge_at t s tree bus bridges here all on slot there in
           let named = of.register in
           let low = low_part part in
           record {
@@ -337,12 +282,12 @@ module _ (given : Given) (t : Tree) (s : System) (tree : HasTree t s) (bus : ℕ
 
       pub claims_made : AreRegisterClaimsAmong given s bus space reach made
       claims_made = record {
-        each = λ c in_made. in_each c in_made (region_claims own regional c) (part_claims_it Legacy legacies legacy c) (part_claims_it Palette palettes palette c);
+        each = λ c in_made. in_each c in_made (region_claims own regional c) (part_claims_it given t s tree bus space bridges here all on records has reach addresses Legacy legacies legacy c) (part_claims_it given t s tree bus space bridges here all on records has reach addresses Palette palettes palette c);
         complete = λ slot register a claims_it. elim (claimant slot register a claims_it) [
           | inl region ↦ (let (c, there, at, named) = region_has own regional slot register region in (c, from_own c there, at, named))
           | inr fixed ↦ elim fixed [
-            | inl part ↦ (let (c, there, at, named) = part_has Legacy legacies legacy slot register a part in (c, from_legacies c there, at, named))
-            | inr part ↦ (let (c, there, at, named) = part_has Palette palettes palette slot register a part in (c, Contains-append_right (own ++ legacies) palettes c there, at, named))
+            | inl part ↦ (let (c, there, at, named) = part_has given t s tree bus space bridges here all on records has reach addresses Legacy legacies legacy slot register a part in (c, from_legacies c there, at, named))
+            | inr part ↦ (let (c, there, at, named) = part_has given t s tree bus space bridges here all on records has reach addresses Palette palettes palette slot register a part in (c, Contains-append_right (own ++ legacies) palettes c there, at, named))
           ]
         ];
         differ = pairs_append (λ c d. claim_number c ≡ claim_number d → ⊥) (own ++ legacies) palettes

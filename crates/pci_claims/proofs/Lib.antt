@@ -12,6 +12,7 @@ pub mod RegionClaims
 pub mod PartClaims
 pub mod Making
 pub mod Rooted
+pub mod PartsOnBus
 pub mod BusClaiming
 pub mod RootClaims
 pub mod VgaBridges

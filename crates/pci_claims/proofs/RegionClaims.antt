@@ -1,6 +1,7 @@
 -- What a BAR, a ROM or a window claims of a bus.
 use Rattle.std.proofs.Common.{◌≡◌, ℕ, ◌≤◌, List, Bool, true, false, arith, subst, sym, ◌∙◌, ap, refl}
 use Rattle.std.specs.Prelude.{◌==◌, ◌&&◌, IsFalse}
+use Rattle.std.specs.List.{Contains}
 use Rattle.pci_spec.specs.Slot.{Slot}
 use Rattle.pci_spec.specs.Header.{layout, rom_place}
 use Rattle.pci_spec.specs.Window.{IoWindow, MemoryWindow, PrefetchWindow}
@@ -11,10 +12,10 @@ use Rattle.pci_spec.proofs.Firsts.{same_region}
 use Rattle.pci_base.specs.declared.range.Range.{Range}
 use Rattle.pci_tree.specs.declared.region.Region.{Region}
 use Rattle.pci_tree.specs.Ranges.{Covers}
-use Rattle.pci_tree.specs.Regions.{IsRegionOn, is_of_window}
+use Rattle.pci_tree.specs.Regions.{IsRegionOn, AreRegionsOf, is_of_window}
 use Rattle.pci_tree.proofs.RegionParts.{window_named}
 use Rattle.given_spec.specs.Given.{Given, is_cut}
-use Rattle.given_spec.specs.Claims.{Own, Legacy, Palette, is_cut_of, ClaimsOnBus}
+use Rattle.given_spec.specs.Claims.{Own, Legacy, Palette, OwnClaims, is_cut_of, ClaimsOnBus}
 use Rattle.pci_claims.specs.declared.legacy.FixedPart.{FixedPart}
 use Rattle.pci_claims.specs.declared.legacy.FixedPart.TheVariants as fixed
 use Rattle.pci_claims.specs.Legacy.{register_of_part}
@@ -57,6 +58,27 @@ cut_same given bus s space r on a =
     ap (λ p. is_of_window p && is_cut given space a r.slot) on.is.named ∙ ap (λ b. b && is_cut given space a r.slot) (sym (window_named on.part))
     ∙ ap (λ x. system.is_window on.part && is_cut given space a x) on.is.slot
 
+-- what ISA Enable leaves of a region the region claims,
+pub region_claims_it : (given : Given) (s : System) (bus : ℕ) (space : Space) (r : Region) → IsRegionOn s bus space r → (a : ℕ) → ((r.first ≤ a) × (a ≤ r.last)) × IsFalse (is_cut_from given space r a)
+    → ClaimsOnBus given s bus (address_in space a) (named_region r.slot r.reg)
+region_claims_it given s bus space r on a left = (
+  on.f,
+  Own on.part,
+  on.listed,
+  sym on.is.slot,
+  ap (λ (x : Slot). x.bus) on.is.slot ∙ on.on_bus,
+  sym on.is.register,
+  record { claims = (on.is.claims a).0 left.0; kept = sym (cut_same given bus s space r on a) ∙ left.1 },
+)
+
+-- and what address registers of the bus claim is left of a region
+pub left_of_own : (given : Given) (s : System) (bus : ℕ) (space : Space) (regions : List Region) → AreRegionsOf s bus space regions → (f : Function) (part : Part) (a : ℕ) → Contains s f → f.slot.bus ≡ bus
+    → OwnClaims given f part space a → (r : Region) × Contains regions r × (((r.first ≤ a) × (a ≤ r.last)) × IsFalse (is_cut_from given space r a))
+left_of_own given s bus space regions are f part a listed on_bus it =
+    let found = are.complete f part a listed on_bus it.claims in
+    let on : IsRegionOn s bus space found.q = record { f = f; part = part; listed = listed; on_bus = on_bus; is = found.is } in
+    (found.q, found.has, ((found.is.claims a).1 it.claims, cut_same given bus s space found.q on a ∙ it.kept))
+
 -- what a region claims by its name is the region's
 pub claimed_is : (given : Given) (s : System) → IsSystem s → (bus : ℕ) (space : Space) (r : Region) → IsRegionOn s bus space r → (a : ℕ) → ClaimsOnBus given s bus (address_in space a) (named_region r.slot r.reg)
     → (((r.first ≤ a) × (a ≤ r.last)) × IsFalse (is_cut_from given space r a)) × system.IsAddress space a
@@ -77,21 +99,7 @@ region_claim given space r reach own pieces held is = record {
   register = refl;
   held = refl;
   exact = λ s bus sound on a. (
-    λ (h : Covers pieces a). (
-        let both = (is.exact a).0 h in (
-          both.1,
-          (
-            on.f,
-            Own on.part,
-            on.listed,
-            sym on.is.slot,
-            ap (λ (x : Slot). x.bus) on.is.slot ∙ on.on_bus,
-            sym on.is.register,
-            (
-                let own_it = (held.exact a).0 both.0 in
-                record { claims = (on.is.claims a).0 own_it.0; kept = sym (cut_same given bus s space r on a) ∙ own_it.1 }),
-          ),
-        )),
+    λ (h : Covers pieces a). (let both = (is.exact a).0 h in (both.1, region_claims_it given s bus space r on a ((held.exact a).0 both.0))),
     λ (h : Covers reach a × ClaimsOnBus given s bus (address_in space a) (named_region r.slot r.reg)).
         (is.exact a).1 ((held.exact a).1 (claimed_is given s sound bus space r on a h.1).0, h.0),
   );

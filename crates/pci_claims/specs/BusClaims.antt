@@ -15,10 +15,10 @@ use Rattle.pci_tree.specs.Regions.{AreRegionsOf}
 use Rattle.pci_tree.specs.Outline.{Tree}
 use Rattle.pci_tree.specs.Trees.{HasTree}
 use Rattle.given_spec.specs.Given.{Given, starts}
-use Rattle.given_spec.specs.Claims.{ClaimsOnBus}
+use Rattle.given_spec.specs.Claims.{Claims, ClaimsOnBus}
 use Rattle.given_spec.specs.ToldAllFaults.{region_number}
 use Rattle.pci_claims.specs.declared.legacy.FixedPart.{FixedPart}
-use Rattle.pci_claims.specs.Legacy.{bridges_with, register_of_part}
+use Rattle.pci_claims.specs.Legacy.{bridges_with, part_of, register_of_part}
 use Rattle.pci_claims.specs.Claim.{Claimed, IsClaimOn, IsClaimAmong, IsClaimOfRegion, IsClaimOfPart}
 use Rattle.pci_claims.specs.Made.{AreOneEach}
 
@@ -64,6 +64,14 @@ pub record AreRegisterClaimsAmong (given : Given) (s : System) (bus : ℕ) (spac
   pub differ : AllPairs (λ c d. claim_number c ≡ claim_number d → ⊥) claims
   pub named : (c : Claimed) → Contains claims c → IsNamedOn s bus c
   pub plain : (c : Claimed) → Contains claims c → c.held ≡ false
+
+-- of each legacy part and palette part of the bus that claims an address of the space there is one claim
+pub record AreClaimsOfParts (given : Given) (s : System) (bus : ℕ) (space : Space)
+    (reach : List Range) (claims : List Claimed) : Type 0 where
+  pub each : (c : Claimed) → Contains claims c → IsClaimAmong given s bus space reach c
+  pub complete : (f : Function) (part : FixedPart) (a : ℕ) → Contains s f → f.slot.bus ≡ bus
+      → Claims given f (part_of part) space a
+      → (c : Claimed) × Contains claims c × (c.slot ≡ f.slot) × (c.register ≡ register_of_part part)
 
 -- the regions of a bus and a space that address registers show, and of some bridges those of the bus
 pub record AreOnBus (s : System) (bus : ℕ) (space : Space) (all : List Slot)

@@ -15,11 +15,11 @@ use Rattle.pci_tree.specs.Passes.{record_passes}
 use Rattle.pci_tree.specs.Ranges.{Covers, IsCanonical}
 use Rattle.given_spec.specs.Given.{Given, legacy_holds, ranges_of, is_cut}
 use Rattle.given_spec.specs.Given as spec
-use Rattle.given_spec.specs.Claims.{forwards, passes}
+use Rattle.given_spec.specs.Claims.{passes}
 use Rattle.pci_claims.specs.declared.given.LegacyBridge.{LegacyBridge}
 use Rattle.pci_claims.specs.declared.given.TakingBridge.{TakingBridge}
 use Rattle.pci_claims.specs.declared.legacy.FixedPart.{FixedPart}
-use Rattle.pci_claims.specs.declared.legacy.FixedPart.TheVariants.{Legacy, Palette}
+use Rattle.pci_claims.specs.declared.legacy.FixedPart.TheVariants.{Palette}
 use Rattle.pci_claims.specs.declared.passed.Through.{Through}
 use Rattle.pci_claims.specs.declared.passed.Through.TheVariants.{Regions, Accesses}
 use Rattle.pci_claims.specs.Legacy.{part_holds, bridges_with}

@@ -12,7 +12,7 @@ ghost use Rattle.pci_tree.specs.Outline.{RiseBySlot};
 ghost use Rattle.pci_tree.specs.Trees.{HasTree};
 ghost use Rattle.pci_function.specs.declared.record.Record.{Record as RecordValue};
 ghost use Rattle.pci_claims.specs.Values.{given_value};
-ghost use Rattle.pci_claims.specs.BusClaims.{claim_number, HasPart, IsAnsweringPart, AreOnBus, AreRegionClaims, ArePartClaims, AreMoreClaims, AreBridgesOf, AreRegisterClaimsAmong, AreRegisterClaimsInEach};
+ghost use Rattle.pci_claims.specs.BusClaims.{claim_number, HasPart, IsAnsweringPart, AreOnBus, AreRegionClaims, ArePartClaims, AreMoreClaims, AreBridgesOf, AreRegisterClaimsAmong, AreClaimsOfParts, AreRegisterClaimsInEach};
 
 use super::board::Board;
 use super::claim::{Arriving, Claim, claim_of, claim_of_part};
@@ -130,11 +130,7 @@ fn add_part_claims<A: Allocator + Copy>(
 }
 
 /// The slots of a bus.
-pub(crate) fn slots_on<A: Allocator>(
-    alloc: A,
-    slots: &[Slot],
-    bus: u8,
-) -> Result<Vec<Slot, A>, OutOfMemory>
+fn slots_on<A: Allocator>(alloc: A, slots: &[Slot], bus: u8) -> Result<Vec<Slot, A>, OutOfMemory>
     ensures { IfOk result (λ v. v.items ≡ filter (λ slot. slot.bus == bus) slots.now) }
 {
     let mut out = Vec::new(alloc);
@@ -170,13 +166,13 @@ pub(crate) fn sort<A: Allocator>(claims: &mut Vec<Claim<A>, A>) -> Result<(), Ou
 
 /// What stands on a bus: the regions of a space that address registers show, and the slots of bridges.
 #[derive(Clone, Copy)]
-pub(crate) struct OnBus<'r, 'b> {
-    pub(crate) regions: &'r [Region],
-    pub(crate) bridges: &'b [Slot],
+struct OnBus<'r, 'b> {
+    regions: &'r [Region],
+    bridges: &'b [Slot],
 }
 
 /// What BARs, ROMs, windows, legacy parts and palette parts of a bus answer of some addresses.
-pub(crate) fn claims_arriving<A: Allocator + Copy>(
+fn claims_arriving<A: Allocator + Copy>(
     alloc: A,
     board: &Board<'_, '_, A>,
     here: &OnBus,
@@ -199,6 +195,36 @@ pub(crate) fn claims_arriving<A: Allocator + Copy>(
         records: board.outline.records(),
     };
     let mut claims = region_claims(alloc, given, here.regions, arriving)?;
+    add_part_claims(&mut claims, given, FixedPart::Legacy, &bridges, arriving)?;
+    add_part_claims(&mut claims, given, FixedPart::Palette, &bridges, arriving)?;
+    Ok(claims)
+}
+
+/// What legacy parts and palette parts of a bus answer of some addresses.
+pub(crate) fn part_claims<A: Allocator + Copy>(
+    alloc: A,
+    board: &Board<'_, '_, A>,
+    bus: u8,
+    arriving: &Arriving,
+) -> Result<Vec<Claim<A>, A>, OutOfMemory>
+    requires canonical { IsCanonical arriving.now.reach.now }
+    requires bridges { AreBridgesOf board.now.outline.now board.now.bridges.now }
+    ensures { IfOk result (λ v. (s : System) → HasTree board.now.outline.now s
+        → ((a : ℕ) → Covers arriving.now.reach.now a → IsAddress (space_of arriving.now.space) a)
+        → AreClaimsOfParts (given_value board.now.given) s bus (space_of arriving.now.space)
+        arriving.now.reach.now v.items) }
+{
+    let given = &board.given;
+    let mut claims = Vec::new(alloc);
+    // most machines have none, and then the bridges needn't be listed
+    if given.legacy.is_empty() && given.palette.is_empty() {
+        return Ok(claims);
+    }
+    let slots = slots_on(alloc, board.bridges, bus)?;
+    let bridges = Bridges {
+        slots: &slots,
+        records: board.outline.records(),
+    };
     add_part_claims(&mut claims, given, FixedPart::Legacy, &bridges, arriving)?;
     add_part_claims(&mut claims, given, FixedPart::Palette, &bridges, arriving)?;
     Ok(claims)

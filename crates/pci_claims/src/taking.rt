@@ -1,25 +1,28 @@
 //! What bridges take as no region of their bus claims it (PCI 3.0, 3.6.1: subtractive decoding).
-ghost use Rattle.std.specs.Prelude.{◌≡◌, map, IfOk};
+ghost use Rattle.std.specs.Prelude.{◌≡◌, ◌≤◌, [], map, IfOk, OnOk};
+ghost use Rattle.std.specs.List.{All};
 ghost use Rattle.pci_spec.specs.System.{System};
 ghost use Rattle.pci_base.specs.Space.{space_of};
 ghost use Rattle.pci_tree.specs.Trees.{HasTree};
 ghost use Rattle.given_spec.specs.Unclaimed.{IsTakingBridge, AreTaking};
 ghost use Rattle.pci_claims.specs.Values.{given_value, taking_value, told_value};
 ghost use Rattle.pci_claims.specs.AllClaims.{IsBoard};
-ghost use Rattle.pci_claims.specs.Taking.{ArePiecesOfAll, AreAllClaimsOn, AreUnclaimedRuns};
+ghost use Rattle.pci_claims.specs.Taking.{OneHas, IsLeft, IsAnswered, AreMorePieces, AreOtherClaimsOn, AreClaimedOn, AreUnclaimedRuns};
 
 use super::all_claims::{add_range_claims, ranges_of};
 use super::board::Board;
-use super::bus_claims::{OnBus, claims_arriving, slots_on};
-use super::claim::{Arriving, Claim};
+use super::bus_claims::part_claims;
+use super::claim::{Arriving, Claim, own};
 use super::gaps::free_runs;
 use super::gather::gathered;
-use super::given::TakingBridge;
+use super::given::{Given, TakingBridge};
+use super::isa::is_cut;
 use super::sent::all_of;
 use pci_base::memory::OutOfMemory;
 use pci_base::range::Range;
 use pci_base::slot::Slot;
 use pci_base::space::Space;
+use pci_tree::region::Region;
 use std::alloc::{Allocator, Global};
 use std::marker::Model;
 use std::slice;
@@ -59,8 +62,53 @@ impl<A: Allocator> Taking<A> {
     }
 }
 
-/// What regions of a bus claim of a space, told ranges among them, whether or not any access gets there.
-fn claims_of_any<A: Allocator + Copy>(
+/// Adds the addresses of a region of a space that ISA Enable doesn't take.
+fn add_own<A: Allocator + Copy>(
+    out: &mut Vec<Range, A>,
+    given: &Given<'_>,
+    region: &Region,
+    space: Space,
+) -> Result<(), OutOfMemory>
+    ensures { OnOk result (AreMorePieces (IsLeft (given_value given.now) (space_of space) region.now)
+        out.old.items out.new.items) }
+{
+    if is_cut(given, space, region) {
+        let pieces = own(*out.allocator(), given, region, space)?;
+        out.extend_from_slice(&pieces)?;
+        return Ok(());
+    }
+    // ranges are sorted and joined, for which none may be empty
+    if region.last < region.first {
+        return Ok(());
+    }
+    out.push(Range {
+        first: region.first,
+        last: region.last,
+    })?;
+    Ok(())
+}
+
+/// The addresses of regions of a space that ISA Enable doesn't take, region by region.
+fn own_pieces<A: Allocator + Copy>(
+    alloc: A,
+    given: &Given<'_>,
+    regions: &[Region],
+    space: Space,
+) -> Result<Vec<Range, A>, OutOfMemory>
+    ensures { IfOk result (λ v. AreMorePieces (OneHas (IsLeft (given_value given.now) (space_of space))
+        regions.now) [] v.items) }
+{
+    let Ok(mut out) = Vec::with_capacity(alloc, regions.len()) else {
+        return Err(OutOfMemory);
+    };
+    for region in regions {
+        add_own(&mut out, given, region, space)?;
+    }
+    Ok(out)
+}
+
+/// What legacy parts, palette parts and told ranges of a bus claim of a space, whether or not any access gets there.
+fn other_claims<A: Allocator + Copy>(
     alloc: A,
     board: &Board<'_, '_, A>,
     bus: u8,
@@ -69,37 +117,48 @@ fn claims_of_any<A: Allocator + Copy>(
     requires { IsBoard (told_value board.now.told) board.now.outline.now board.now.on.now
         board.now.bridges.now }
     ensures { IfOk result (λ v. (s : System) → HasTree board.now.outline.now s
-        → AreAllClaimsOn (told_value board.now.told) (given_value board.now.given) s bus (space_of space) v.items) }
+        → AreOtherClaimsOn (told_value board.now.told) (given_value board.now.given) s bus (space_of space) v.items) }
 {
     let whole = all_of(alloc, space)?;
     let arriving = Arriving {
         space,
         reach: &whole,
     };
-    let regions = board.outline.regions(bus, space)?;
-    let bridges = slots_on(alloc, board.bridges, bus)?;
-    let here = OnBus {
-        regions: &regions,
-        bridges: &bridges,
-    };
-    let mut claims = claims_arriving(alloc, board, &here, &arriving)?;
+    let mut claims = part_claims(alloc, board, bus, &arriving)?;
     let stretch = ranges_of(board.told.ranges, bus);
     add_range_claims(alloc, &mut claims, board, stretch, &arriving)?;
     Ok(claims)
 }
 
-/// The addresses of some claims, claim by claim.
-fn pieces_of_all<A: Allocator + Copy>(
-    alloc: A,
-    claims: &[Claim<A>],
-) -> Result<Vec<Range, A>, OutOfMemory>
-    ensures { IfOk result (λ v. ArePiecesOfAll claims.now v.items) }
+/// Adds the addresses of some claims, claim by claim.
+fn add_pieces<A: Allocator>(out: &mut Vec<Range, A>, claims: &[Claim<A>]) -> Result<(), OutOfMemory>
+    ensures { OnOk result (AreMorePieces (OneHas IsAnswered claims.now) out.old.items out.new.items) }
 {
-    let mut out = Vec::new(alloc);
     for claim in claims {
         out.extend_from_slice(claim.pieces())?;
     }
-    Ok(out)
+    Ok(())
+}
+
+/// The addresses of a space that regions of a bus claim, told ranges among them.
+fn claimed_on<A: Allocator + Copy>(
+    alloc: A,
+    board: &Board<'_, '_, A>,
+    bus: u8,
+    space: Space,
+) -> Result<Vec<Range, A>, OutOfMemory>
+    requires { IsBoard (told_value board.now.told) board.now.outline.now board.now.on.now
+        board.now.bridges.now }
+    // they are sorted and joined, for which none may be empty
+    ensures lawful { IfOk result (λ v. All (λ r. r.first ≤ r.last) v.items) }
+    ensures exact { IfOk result (λ v. (s : System) → HasTree board.now.outline.now s
+        → AreClaimedOn (told_value board.now.told) (given_value board.now.given) s bus (space_of space) v.items) }
+{
+    let regions = board.outline.regions(bus, space)?;
+    let mut pieces = own_pieces(alloc, &board.given, &regions, space)?;
+    let others = other_claims(alloc, board, bus, space)?;
+    add_pieces(&mut pieces, &others)?;
+    Ok(pieces)
 }
 
 /// The addresses of a space that no region of a bus claims: ranges that rise, with an address between each two.
@@ -114,8 +173,7 @@ fn unclaimed_on<A: Allocator + Copy>(
     ensures { IfOk result (λ v. (s : System) → HasTree board.now.outline.now s
         → AreUnclaimedRuns (told_value board.now.told) (given_value board.now.given) s bus (space_of space) v.items) }
 {
-    let claims = claims_of_any(alloc, board, bus, space)?;
-    let claimed = gathered(pieces_of_all(alloc, &claims)?)?;
+    let claimed = gathered(claimed_on(alloc, board, bus, space)?)?;
     free_runs(alloc, space.whole(), &claimed)
 }
 

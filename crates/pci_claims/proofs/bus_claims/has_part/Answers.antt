@@ -1,10 +1,9 @@
-use Rattle.std.proofs.Common.{◌≡◌, length, get_or, map, true, arith, refl, sym, ◌∙◌, ap, subst}
+use Rattle.std.proofs.Common.{◌≡◌, get_or, map, arith, refl, sym, ◌∙◌, ap, subst}
 use Rattle.std.specs.Prelude.{IsTrue}
 use Rattle.std.specs.List.{list_any}
 use Rattle.std.proofs.lemmas.List.{get_or-map, length-map}
 use Rattle.std.proofs.lemmas.List.Folds.{list_any_at}
 use Rattle.pci_spec.specs.Slot.{same_slot}
-use Rattle.given_spec.specs.Given as spec
 use Rattle.pci_claims.specs.Values.{legacy_value}
 use Rattle.pci_claims.proofs.bus_claims.has_part.Goals as goal
 
