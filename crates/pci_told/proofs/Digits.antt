@@ -6,7 +6,6 @@ use Rattle.given_spec.specs.Told.{ToldRange}
 use Rattle.given_spec.specs.ToldForm.{Field, Bus, Device, Function, First, Last, Place, Digits, Begun, Step, Wrong, digit_in, digit_step, step_at, step, digits_of, greatest_digit, IsFit}
 use Rattle.given_spec.proofs.ToldLines.{digit_read, digit_known}
 use Rattle.pci_told.specs.Steps.{IsOfField, IsStep}
-use Rattle.pci_told.specs.declared.line.Next.{Next}
 use Rattle.pci_told.specs.declared.line.Next.TheVariants as next
 
 pub digit_some : (c d : ℕ) → d ≤ 15 → c ≡ hex_digit d → digit_in c ≡ Some d
@@ -77,6 +76,7 @@ step_none l f k c place none = subst (λ (s : Step). IsStep l s next.Wrong l) (s
   none_here : step l c ≡ Wrong
   none_here = ap (λ (p : Place). step_at p l.number l.range c) (sym place) ∙ none_at f k l.number l.range c none
 
-pub step_some : (l : Begun) (f : Field) (k c d : ℕ) (answer : Next) (new : Begun) → Digits f k ≡ l.place → digit_in c ≡ Some d → IsStep l (digit_step f k l.number l.range (Some d)) answer new → IsStep l (step l c) answer new
-step_some l f k c d answer new place some h =
-    subst (λ (s : Step). IsStep l s answer new) (sym (ap (λ (p : Place). step_at p l.number l.range c) (sym place) ∙ some_at f k l.number l.range c d some)) h
+-- what is said of the line behind a digit
+pub step_some : (P : Step → Type 0) (l : Begun) (f : Field) (k c d : ℕ) → Digits f k ≡ l.place → digit_in c ≡ Some d → P (digit_step f k l.number l.range (Some d)) → P (step l c)
+step_some P l f k c d place some h =
+    subst P (sym (ap (λ (p : Place). step_at p l.number l.range c) (sym place) ∙ some_at f k l.number l.range c d some)) h

@@ -14,6 +14,7 @@ use Rattle.given_spec.proofs.ToldLengths.{read_length, length_of, begun_read}
 use Rattle.pci_dump.specs.declared.read_fault.ReadFault.{ReadFault}
 use Rattle.pci_dump.specs.declared.read_fault.ReadFault.TheVariants as faults
 use Rattle.pci_told.specs.Faults.{IsToldTextFault, StopsWith}
+use Rattle.pci_told.specs.Steps.{AreTaken}
 
 -- ---- bytes one after the other
 
@@ -21,11 +22,6 @@ use Rattle.pci_told.specs.Faults.{IsToldTextFault, StopsWith}
 one_more : (s : ToldSoFar) (bytes : List ℕ) (k : ℕ) → k < length bytes → take_bytes s (drop k bytes) ≡ and_then (take_byte s (get_or bytes k 0)) (λ t. take_bytes t (drop (k + 1) bytes))
 unfolding take_bytes
 one_more s bytes k less = ap (λ (t : List ℕ). take_bytes s t) (drop_more bytes k 0 less)
-
--- all bytes come to what the rest comes to
-pub record AreTaken (old : ToldSoFar) (bytes : List ℕ) (k : ℕ) (s : ToldSoFar) : Type 0 where
-  pub rest : take_bytes old bytes ≡ take_bytes s (drop k bytes)
-  pub begun : IsBegun s.line
 
 -- a line that is begun stays one behind each byte
 abbrev BegunReads : Reads → Type 0

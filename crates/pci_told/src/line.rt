@@ -2,7 +2,7 @@
 ghost use Rattle.std.specs.Prelude.{◌≡◌, ◌<◌, Some, IsTrue, false};
 ghost use Rattle.given_spec.specs.ToldForm.{no_line, with_number, digit_step, step, is_of_slot, IsFit, IsBegun, Digits, goes_at, Bus, space_begins, space_step, mark_begins, mark_step, name_step};
 ghost use Rattle.pci_told.specs.Places.{field_of, place_of};
-ghost use Rattle.pci_told.specs.Steps.{IsStep, IsOfField};
+ghost use Rattle.pci_told.specs.Steps.{IsStep, IsOfField, IsAddressField, AreTakenWithin};
 
 use super::place::{Field, Place, behind, digits_of, greatest_digit, is_of_slot, separator};
 use super::told_range::{Mark, ToldRange};
@@ -120,6 +120,43 @@ impl Line {
         self.place = Place::Digits(field, read + 1);
         self.number = number;
         Next::Goes
+    }
+
+    /// Takes the digits of an address that `bytes` begins with, but its last one, and answers how many these are. Most bytes of a
+    /// text are such digits.
+    pub(crate) fn take_digits(&mut self, bytes: &[u8]) -> usize
+        requires { IsBegun self.old }
+        ensures { AreTakenWithin self.old bytes.now result self.new }
+    {
+        match self.place {
+            Place::Digits(Field::First, read) => self.address(Field::First, read, bytes),
+            Place::Digits(Field::Last, read) => self.address(Field::Last, read, bytes),
+            _ => 0,
+        }
+    }
+
+    /// The same behind so many digits of an address.
+    fn address(&mut self, field: Field, read: u8, bytes: &[u8]) -> usize
+        requires place { self.old.place ≡ Digits (field_of field) read }
+        requires address { IsAddressField (field_of field) }
+        requires begun { IsBegun self.old }
+        ensures { AreTakenWithin self.old bytes.now result self.new }
+    {
+        let most = digits_of(field, self.range.space) - 1;
+        let mut number = self.number;
+        let mut read = read;
+        let mut count = 0;
+        while read < most && count < bytes.len() {
+            let Some(digit) = digit_value(bytes[count]) else {
+                break;
+            };
+            number = 16 * number + u64::from(digit);
+            read += 1;
+            count += 1;
+        }
+        self.place = Place::Digits(field, read);
+        self.number = number;
+        count
     }
 
     /// Takes a byte at the first letter of the space.

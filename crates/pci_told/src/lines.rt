@@ -1,8 +1,9 @@
 //! Lines one after the other.
-ghost use Rattle.std.specs.Prelude.{◌≡◌, ◌+◌, length, OnOk, IfOk, IfErr};
+ghost use Rattle.std.specs.Prelude.{◌≡◌, ◌+◌, ◌≤◌, length, OnOk, IfOk, IfErr};
 ghost use Rattle.given_spec.specs.Told.{IsTold};
 ghost use Rattle.given_spec.specs.ToldForm.{Bus, Digits, nothing_read, IsBegun, is_in_order, slot_follows, Reading, take_byte, take_bytes};
 ghost use Rattle.pci_told.specs.Faults.{StopsWith};
+ghost use Rattle.pci_told.specs.Steps.{AreTaken};
 
 use super::line::{Line, Next};
 use super::place::{Field, Place};
@@ -109,14 +110,31 @@ impl<A: Allocator> Lines<A> {
         }
     }
 
+    /// Takes the digits of an address that `bytes` begins with, but its last one, and answers how many these are.
+    fn take_digits(&mut self, bytes: &[u8]) -> usize
+        requires { IsBegun self.old.line }
+        ensures count { result ≤ length bytes.now }
+        ensures taken { AreTaken self.old bytes.now result self.new }
+    {
+        if self.ranges.len() == LINES_MAX {
+            return 0;
+        }
+        self.line.take_digits(bytes)
+    }
+
     /// Takes bytes one after the other.
     pub(crate) fn take_all(&mut self, bytes: &[u8]) -> Result<(), ReadFault>
         requires { IsBegun self.old.line }
         ensures ok { OnOk result (take_bytes self.old bytes.now ≡ Reading self.new) }
         ensures fault { IfErr result (StopsWith (take_bytes self.old bytes.now)) }
     {
-        for &byte in bytes {
-            self.take(byte)?;
+        let mut at = 0;
+        while at < bytes.len() {
+            at += self.take_digits(&bytes[at..]);
+            if at < bytes.len() {
+                self.take(bytes[at])?;
+                at += 1;
+            }
         }
         Ok(())
     }

@@ -1,5 +1,6 @@
 use Rattle.std.proofs.Common.{ap, sym, ◌∙◌}
 use Rattle.pci_told.specs.Places.{place_of, field_of}
+use Rattle.pci_told.specs.Steps.{IsStep}
 use Rattle.pci_told.proofs.Digits.{digit_some, digit_none, step_none, step_some}
 use Rattle.pci_told.proofs.line.Line.step.Goals as goal
 
@@ -9,5 +10,5 @@ returns-in-None c =
 
 pub returns-in-Some : goal.returns-in-Some
 returns-in-Some c =
-    step_some c.args.self.now (field_of c.in-Digits.field) c.in-Digits.read c.args.byte c.in-Some.digit c.digit.result c.digit.new.self (sym (ap place_of c.in-Digits.is) ∙ ap (λ b. b.place) c.self.view_is)
+    step_some (λ s. IsStep c.args.self.now s c.digit.result c.digit.new.self) c.args.self.now (field_of c.in-Digits.field) c.in-Digits.read c.args.byte c.in-Some.digit (sym (ap place_of c.in-Digits.is) ∙ ap (λ b. b.place) c.self.view_is)
     (digit_some c.args.byte c.in-Some.digit c.in-Some.ensures.some.0 c.in-Some.ensures.some.1) c.digit.ensures
