@@ -1,20 +1,30 @@
--- Where all is placed anew, nothing stays.
-use Rattle.std.proofs.Common.{◌≡◌, ◌&&◌, ℕ, zero, suc, not, false, length, ap, refl}
+-- Where all is placed anew and nothing is told, nothing stays.
+use Rattle.std.proofs.Common.{◌≡◌, ◌&&◌, ℕ, zero, suc, [], not, false, length, ap, refl, inl, inr}
 use Rattle.std.specs.Bool.{IsTrue}
-use Rattle.std.specs.List.{list_all}
+use Rattle.std.specs.List.{list_any, list_all}
+use Rattle.std.proofs.lemmas.Bool.{and_parts, or_cases, not-true, both_ways, false_from_ne_true}
 use Rattle.pci_spec.specs.System.{System}
 use Rattle.plan_spec.specs.Plan.{bridges_above}
+use Rattle.given_spec.specs.ToldClaims.{told_register}
+use Rattle.given_spec.specs.ToldRegion.{regions_from}
 use Rattle.settle_spec.specs.Lists.{Request}
-use Rattle.settle_spec.specs.Parts.{FunctionPart, system_parts, is_part, class_in}
-use Rattle.settle_spec.specs.Stands.{window_part, takes_from, is_in_place, stands_within}
+use Rattle.settle_spec.specs.Parts.{FunctionPart, system_parts, class_in}
+use Rattle.settle_spec.specs.Stands.{window_part, leads_to_range, leads_to_told, stands_within}
 use Rattle.settle_spec.specs.Items.{has_room, has_room_behind, holds_within, stays}
 
-module _ (q : Request) (s : System) (anew : IsTrue q.anew) where
+module _ (q : Request) (s : System) (anew : IsTrue q.anew) (nothing : q.told.ranges ≡ []) where
+  none_leads : (r : FunctionPart) → leads_to_told q s r ≡ false
+  none_leads r = ap (λ ranges. list_any (leads_to_range q s r) (regions_from (told_register 0) ranges)) nothing
+
   pub none_stands : (others : ℕ) (r : FunctionPart) → stands_within q s others r ≡ false
   unfolding stands_within
   none_stands zero r = refl
   none_stands (suc others) r =
-      ap (λ b. not b && is_part q s r.function r.part && is_in_place q s (stands_within q s others) r && list_all (λ t. not (takes_from q t r && stands_within q s others t)) (system_parts q s)) anew
+      false_from_ne_true (stands_within q s (suc others) r) (λ is.
+      elim (or_cases (leads_to_told q s r) (not q.anew) (and_parts _ _ (and_parts _ _ (and_parts _ _ (and_parts _ _ is).0).0).0).1) [
+        | inl leads ↦ both_ways (leads_to_told q s r) (none_leads r) leads
+        | inr stays ↦ both_ways q.anew (not-true q.anew stays) anew
+      ])
 
   none_holds : (depth : ℕ) (r : FunctionPart) → holds_within q s depth r ≡ false
   unfolding holds_within

@@ -8,8 +8,7 @@ use Rattle.pci_spec.specs.System.{System, IsSystem}
 use Rattle.pci_spec.specs.Bus.{is_root, are_siblings, IsNested}
 use Rattle.pci_spec.proofs.Members.{in_head, in_tail}
 use Rattle.settle_spec.specs.Lists.{Request}
-use Rattle.settle_spec.specs.Items.{Item, Placing, and_placed, place_next, taken_by}
-use Rattle.settle_spec.specs.Growth.{place_each}
+use Rattle.settle_spec.specs.Items.{Item, Placing, and_placed, place_next, taken_by, place_each}
 
 -- ---- searches that agree
 

@@ -8,3 +8,8 @@ pub mod Writes
 pub mod Growth
 pub mod Spares
 pub mod Assumed
+pub mod ToldPlaces
+pub mod ToldKeepsOff
+pub mod ToldCommand
+pub mod ToldSpares
+pub mod ToldAgain

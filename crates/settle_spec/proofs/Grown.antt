@@ -79,14 +79,17 @@ grown_holds c w others =
 abbrev pub HoldsAll : Range → Option Range → Type 0
 HoldsAll w o = (r : Range) → o ≡ Some r → lies_within w r ≡ true
 
-none_holds : (w : Range) → HoldsAll w None
+pub none_holds : (w : Range) → HoldsAll w None
 none_holds w r is = absurd (false≢true (ap is_some is))
 
-around_holds : (c : WindowKind) (w : Range) (others : List Range) (p : Placing) → HoldsAll w (grown_around c w others p)
+pub around_holds : (c : WindowKind) (w : Range) (others : List Range) (p : Placing) → HoldsAll w (grown_around c w others p)
 around_holds c w others (Lacks i) r is = none_holds w r is
 around_holds c w others (AllPlaced placed) r is =
     let all = others ++ map (λ (p : Placed). taken_by p.item p.at) placed in
     subst (λ t. lies_within w t ≡ true) (ap (λ o. range_or o (grown_to c w all)) is) (grown_holds c w all)
+
+pub itself : (w : Range) → lies_within w w ≡ true
+itself w = and_from (nat_le w.first w.first) (nat_le w.last w.last) (le-leb w.first w.first (omega arith)) (le-leb w.last w.last (omega arith))
 
 module _ (q : Request) (s : System) where
   pub part_holds : (f : Function) (p : Part) → HoldsAll (addresses (record { function = f; part = p })) (part_comes_to q s (there q s) f p)
@@ -97,9 +100,6 @@ module _ (q : Request) (s : System) where
       by false r is = none_holds (addresses (window_part c f)) r is
   part_holds f (Bar n) = none_holds (addresses (record { function = f; part = Bar n }))
   part_holds f Rom = none_holds (addresses (record { function = f; part = Rom }))
-
-  itself : (w : Range) → lies_within w w ≡ true
-  itself w = and_from (nat_le w.first w.first) (nat_le w.last w.last) (le-leb w.first w.first (omega arith)) (le-leb w.last w.last (omega arith))
 
   pub growth_holds_all : (r : FunctionPart) → lies_within (addresses r) (range_growing q s r) ≡ true
   growth_holds_all r = by (has_grown q s r) (comes_to q s r) (part_holds r.function r.part)

@@ -23,3 +23,5 @@ pub mod Live
 pub mod Anew
 pub mod NoSlots
 pub mod Examples
+pub mod ToldStanding
+pub mod ToldNaming

@@ -4,7 +4,7 @@ use Rattle.pci_spec.specs.Window.{WindowKind}
 use Rattle.pci_spec.specs.System.{System, Function}
 use Rattle.settle_spec.specs.Lists.{Request}
 use Rattle.settle_spec.specs.Items.{spare_of}
-use Rattle.settle_spec.specs.Writes.{Settling, BadLists, Fixed, NoRoom, Settled}
+use Rattle.settle_spec.specs.Writes.{Settling, BadLists, Fixed, NoRoom, Settled, NotKept}
 use Rattle.settle_spec.specs.Kept.{Kept, as_it_stands, growing}
 use Rattle.settle_spec.specs.Keeping.Writes.{settle_keeping}
 use Rattle.settle_spec.specs.Growing.{or_else, kept_by, settle_growing, finally_kept}
@@ -31,6 +31,7 @@ module _ (q : Request) where
   ends_by p s BadLists is = refl
   ends_by p s (Fixed slot register) is = refl
   ends_by p s (NoRoom class slot register size alignment) is = refl
+  ends_by p s (NotKept slot register) is = refl
 
   -- without slots what is settled with wishes is settled as growing does
   no_slots_wished : (s : System) → settle_wished (without_slots q) s ≡ settle_growing (without_slots q) s

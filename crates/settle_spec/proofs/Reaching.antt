@@ -1,5 +1,5 @@
 -- The reach of a window is in the room around it, and off all else that stands on its bus.
-use Rattle.std.proofs.Common.{◌&&◌, ◌≡◌, ◌≢◌, ◌⊎◌, ℕ, suc, ◌+◌, ◌-◌, ◌*◌, ◌/◌, ◌%◌, ◌<◌, ◌≤◌, min, max, inl, inr, Bool, List, [], ◌∷◌, arith, ap, sym, subst, ◌∙◌, refl, true, false, Option, None, Some}
+use Rattle.std.proofs.Common.{◌&&◌, ◌≡◌, ◌≢◌, ◌⊎◌, ℕ, suc, ◌+◌, ◌-◌, ◌*◌, ◌/◌, ◌%◌, ◌<◌, ◌≤◌, min, max, inl, inr, Bool, List, [], ◌∷◌, arith, ap, sym, subst, ◌∙◌, refl, true, false, Option, None, Some, ◌++◌}
 use Rattle.std.specs.Bool.{nat_le, nat_lt, ◌==◌, if◌then◌else◌}
 use Rattle.std.specs.Prelude.{not}
 use Rattle.std.specs.List.{Contains, filter, fold}
@@ -8,15 +8,18 @@ use Rattle.std.proofs.lemmas.Nat.{div-add-mod', mod_below}
 use Rattle.std.proofs.Math.Nat.{mul-le-mul_right, mul-mod_left}
 use Rattle.pci_spec.specs.Window.{WindowKind, IoWindow, MemoryWindow, PrefetchWindow, base_page, limit_page, page_size}
 use Rattle.pci_spec.specs.Decoded.{Range}
-use Rattle.pci_spec.specs.System.{System, Function}
-use Rattle.pci_spec.proofs.Members.{in_nil, in_head, in_tail, in_cons_cases, in_map_from, in_filter_from}
+use Rattle.pci_spec.specs.System.{System, Function, window_space}
+use Rattle.pci_spec.proofs.Members.{in_nil, in_head, in_tail, in_cons_cases, in_map_from, in_filter_from, in_flat_map_from, in_flat_map_to}
 use Rattle.plan_spec.proofs.Planning.Room.{raised}
+use Rattle.std.proofs.lemmas.List.Elements.{Contains-append_left, Contains-append_right, Contains-append_cases}
+use Rattle.given_spec.specs.ToldRegion.{ToldRegion, told_regions}
+use Rattle.settle_spec.specs.Lines.{line_range, can_keep_off}
 use Rattle.settle_spec.specs.FirstPlace.{ranges_are_apart}
 use Rattle.settle_spec.specs.Lists.{Request}
 use Rattle.settle_spec.specs.Parts.{FunctionPart, system_parts, addresses, lies_within}
-use Rattle.settle_spec.specs.Stands.{is_fixed_part, rank, are_beside, window_part, stands}
+use Rattle.settle_spec.specs.Stands.{is_fixed_part, rank, are_beside, window_part, stands, part_space}
 use Rattle.settle_spec.specs.Items.{highest_in}
-use Rattle.settle_spec.specs.Reach.{half_size, upper_of, lower_of, cut_to_halves, clear_of, standing_beside, no_higher, whole_pages, room_around, reach_in, reach_if, reach_within, reach}
+use Rattle.settle_spec.specs.Reach.{half_size, upper_of, lower_of, cut_to_halves, clear_of, standing_beside, no_higher, whole_pages, room_around, reach_in, reach_if, reach_within, reach, before_window, past_window, lines_beside}
 use Rattle.settle_spec.specs.GrowthLaws.{CanReach}
 use Rattle.settle_spec.proofs.Grown.{some_page}
 use Rattle.settle_spec.proofs.Outward.{some_half, page_from}
@@ -53,16 +56,16 @@ lies_in_trans a b c inner outer =
     record { first = omega (arith, f, g); last = omega (arith, l, m) }
 
 -- it is on that side of other addresses on which a window is
-abbrev IsOnSide : Range → Range → Range → Type 0
+abbrev pub IsOnSide : Range → Range → Range → Type 0
 IsOnSide w t r = (nat_lt w.last t.first ≡ true → r.last < t.first) × (nat_lt w.last t.first ≡ false → t.last < r.first)
 
-side_in : (w t a b : Range) → LiesIn a b → IsOnSide w t b → IsOnSide w t a
+pub side_in : (w t a b : Range) → LiesIn a b → IsOnSide w t b → IsOnSide w t a
 side_in w t a b inner side =
     let f = inner.first in
     let l = inner.last in
     (λ under. (let at = side.0 under in omega (arith, at, l)), λ over. (let at = side.1 over in omega (arith, at, f)))
 
-side_apart : (w t r : Range) → IsOnSide w t r → LieApart r t
+pub side_apart : (w t r : Range) → IsOnSide w t r → LieApart r t
 side_apart w t r side = elim (cases_Bool (nat_lt w.last t.first)) [
   | inl under ↦ inl (side.0 under)
   | inr over ↦ inr (side.1 over)
@@ -91,11 +94,11 @@ clear_side w r t = (
       omega (arith, is)),
 )
 
-all_in : (w room : Range) (ts : List Range) → LiesIn (fold (clear_of w) room ts) room
+pub all_in : (w room : Range) (ts : List Range) → LiesIn (fold (clear_of w) room ts) room
 all_in w room [] = lies_in_same room
 all_in w room (t ∷ ts) = lies_in_trans (fold (clear_of w) (clear_of w room t) ts) (clear_of w room t) room (all_in w (clear_of w room t) ts) (clear_in w room t)
 
-all_sides : (w room : Range) (ts : List Range) (t : Range) → Contains ts t → IsOnSide w t (fold (clear_of w) room ts)
+pub all_sides : (w room : Range) (ts : List Range) (t : Range) → Contains ts t → IsOnSide w t (fold (clear_of w) room ts)
 all_sides w room [] t listed = absurd (in_nil t listed)
 all_sides w room (u ∷ ts) t listed = elim (in_cons_cases u ts t listed) [
   | inl here ↦
@@ -106,13 +109,13 @@ all_sides w room (u ∷ ts) t listed = elim (in_cons_cases u ts t listed) [
 
 -- ---- whole pages, and ends whose halves can be reached
 
-pages_in : (page : ℕ) → 0 < page → (r : Range) → LiesIn (whole_pages page r) r
+pub pages_in : (page : ℕ) → 0 < page → (r : Range) → LiesIn (whole_pages page r) r
 pages_in page pos r =
     let up = (raised page r.first pos).from in
     let split = div-add-mod' (r.last + 1) page in
     record { first = up; last = omega (arith, split) }
 
-cut_in : (c : WindowKind) (w r : Range) → LiesIn (cut_to_halves c w r) r
+pub cut_in : (c : WindowKind) (w r : Range) → LiesIn (cut_to_halves c w r) r
 cut_in c w r =
     let first = div-add-mod' r.first (half_size c) in
     let small = mod_below r.first (half_size c) (some_half c) in
@@ -273,6 +276,36 @@ within_gives r t h =
 pub within_from : (r t : Range) → LiesIn r t → lies_within r t ≡ true
 within_from r t is = and_from (nat_le t.first r.first) (nat_le r.last t.last) (le-leb t.first r.first is.first) (le-leb r.last t.last is.last)
 
+-- ---- pieces of lines beside a window
+
+before_apart : (w r t : Range) → Contains (before_window w r) t → LieApart w t
+before_apart w r t has = by (nat_lt r.first w.first) refl has
+  where
+    by : (b : Bool) → nat_lt r.first w.first ≡ b → Contains (if b then record { first = r.first; last = min r.last (w.first - 1) } ∷ [] else []) t → LieApart w t
+    by true is here = elim (in_cons_cases _ [] t here) [
+      | inl same ↦ (let less = ltb-true r.first w.first is in let last = ap (λ (x : Range). x.last) same in inr (omega (arith, less, last)))
+      | inr none ↦ absurd (in_nil t none)
+    ]
+    by false is here = absurd (in_nil t here)
+
+past_apart : (w r t : Range) → Contains (past_window w r) t → LieApart w t
+past_apart w r t has = by (nat_lt w.last r.last) has
+  where
+    by : (b : Bool) → Contains (if b then record { first = max r.first (w.last + 1); last = r.last } ∷ [] else []) t → LieApart w t
+    by true here = elim (in_cons_cases _ [] t here) [
+      | inl same ↦ (let first = ap (λ (x : Range). x.first) same in inl (omega (arith, first)))
+      | inr none ↦ absurd (in_nil t none)
+    ]
+    by false here = absurd (in_nil t here)
+
+pieces_apart : (q : Request) (w : FunctionPart) (t : Range) → Contains (lines_beside q w) t → LieApart (addresses w) t
+pieces_apart q w t has =
+    let piece = in_flat_map_to (λ x. before_window (addresses w) (line_range x) ++ past_window (addresses w) (line_range x)) (filter (λ x. can_keep_off q x w.function.slot (part_space w)) (told_regions q.told)) t has in
+    elim (Contains-append_cases (before_window (addresses w) (line_range piece.of)) (past_window (addresses w) (line_range piece.of)) t piece.piece) [
+      | inl before ↦ before_apart (addresses w) (line_range piece.of) t before
+      | inr past ↦ past_apart (addresses w) (line_range piece.of) t past
+    ]
+
 module _ (q : Request) (s : System) (c : WindowKind) (b : Function) (room : Range) where
   abbrev own : Range
   own = addresses (window_part c b)
@@ -280,8 +313,11 @@ module _ (q : Request) (s : System) (c : WindowKind) (b : Function) (room : Rang
   abbrev start : Range
   start = no_higher (highest_in c b.probe) room
 
+  abbrev beside : List Range
+  beside = lines_beside q (window_part c b) ++ standing_beside q s (window_part c b)
+
   abbrev free : Range
-  free = fold (clear_of own) start (standing_beside q s (window_part c b))
+  free = fold (clear_of own) start beside
 
   start_in : LiesIn start room
   start_in = record { first = omega arith; last = omega arith }
@@ -293,13 +329,16 @@ module _ (q : Request) (s : System) (c : WindowKind) (b : Function) (room : Rang
       let first = is.first in
       let last = is.last in
       let from : LiesIn own start = record { first = first; last = omega (arith, last, high) } in
-      let clear = all_keep own start (standing_beside q s (window_part c b)) from (λ t listed. ends_apart own t (apart t listed)) in
+      let clear = all_keep own start beside from (λ t listed. elim (Contains-append_cases (lines_beside q (window_part c b)) (standing_beside q s (window_part c b)) t listed) [
+        | inl line ↦ pieces_apart q (window_part c b) t line
+        | inr stand ↦ ends_apart own t (apart t stand)
+      ]) in
       let pages = whole_pages (page_size c) free in
       let pos = some_page c in
       let kept = pages_keep (page_size c) pos own free (window_first c b) (window_last c b) clear in
       let can = cut_reaches c own pages kept (raised (page_size c) free.first pos).multiple (pages_end (page_size c) pos own free (window_last c b) clear.last) in
       let in_free = lies_in_trans (cut_to_halves c own pages) pages free (cut_in c own pages) (pages_in (page_size c) pos free) in
-      let in_start = lies_in_trans (cut_to_halves c own pages) free start in_free (all_in own start (standing_beside q s (window_part c b))) in
+      let in_start = lies_in_trans (cut_to_halves c own pages) free start in_free (all_in own start beside) in
       (can, within_from (cut_to_halves c own pages) room (lies_in_trans (cut_to_halves c own pages) start room in_start start_in))
 
   -- and no higher than the window may be
@@ -308,47 +347,99 @@ module _ (q : Request) (s : System) (c : WindowKind) (b : Function) (room : Rang
       let pages = whole_pages (page_size c) free in
       let cut = cut_to_halves c own pages in
       let in_free = lies_in_trans cut pages free (cut_in c own pages) (pages_in (page_size c) (some_page c) free) in
-      let in_start = lies_in_trans cut free start in_free (all_in own start (standing_beside q s (window_part c b))) in
+      let in_start = lies_in_trans cut free start in_free (all_in own start beside) in
       let last = in_start.last in
       omega (arith, last)
 
 -- ---- the reach is off all else
 
-module _ (q : Request) (s : System) (c : WindowKind) (b : Function) (t : FunctionPart) where
+before_piece : (w r : Range) → r.first < w.first → r.last < w.first → before_window w r ≡ record { first = r.first; last = min r.last (w.first - 1) } ∷ []
+before_piece w r first last = ap (λ b. if b then record { first = r.first; last = min r.last (w.first - 1) } ∷ [] else []) (lt-ltb r.first w.first first)
+
+past_piece : (w r : Range) → w.last < r.last → past_window w r ≡ record { first = max r.first (w.last + 1); last = r.last } ∷ []
+past_piece w r last = ap (λ b. if b then record { first = max r.first (w.last + 1); last = r.last } ∷ [] else []) (lt-ltb w.last r.last last)
+
+module _ (q : Request) (s : System) (c : WindowKind) (b : Function) where
   abbrev w : FunctionPart
   w = window_part c b
 
-  beside_is : Contains (system_parts q s) t → are_beside q w t ≡ true → rank t ≢ rank w → stands q s t ≡ true → Contains (standing_beside q s w) (addresses t)
-  beside_is listed beside other stand =
-      let differ : not (rank t == rank w) ≡ true = ap not (false_from_ne_true (rank t == rank w) (λ same. other (eqb-true (rank t) (rank w) same))) in
-      in_map_from addresses (filter (λ u. are_beside q w u && not (rank u == rank w) && stands q s u) (system_parts q s)) t
-      (in_filter_from (λ u. are_beside q w u && not (rank u == rank w) && stands q s u) (system_parts q s) t listed
-      (and_from (are_beside q w t && not (rank t == rank w)) (stands q s t) (and_from (are_beside q w t) (not (rank t == rank w)) beside differ) stand))
+  abbrev neighbours : List Range
+  neighbours = lines_beside q w ++ standing_beside q s w
 
-  in_apart : Contains (standing_beside q s w) (addresses t) → (room : Range) → LieApart (reach_in q s c b room) (addresses t)
-  in_apart has room =
+  -- ---- what is beside is off the reach
+
+  in_apart : (t : Range) → Contains neighbours t → (room : Range) → LieApart (reach_in q s c b room) t
+  in_apart t has room =
       let start = no_higher (highest_in c b.probe) room in
-      let free = fold (clear_of (addresses w)) start (standing_beside q s w) in
+      let free = fold (clear_of (addresses w)) start neighbours in
       let pages = whole_pages (page_size c) free in
-      side_apart (addresses w) (addresses t) (cut_to_halves c (addresses w) pages)
-      (side_in (addresses w) (addresses t) (cut_to_halves c (addresses w) pages) free
+      side_apart (addresses w) t (cut_to_halves c (addresses w) pages)
+      (side_in (addresses w) t (cut_to_halves c (addresses w) pages) free
       (lies_in_trans (cut_to_halves c (addresses w) pages) pages free (cut_in c (addresses w) pages) (pages_in (page_size c) (some_page c) free))
-      (all_sides (addresses w) start (standing_beside q s w) (addresses t) has))
+      (all_sides (addresses w) start neighbours t has))
 
-  if_apart : Contains (standing_beside q s w) (addresses t) → LieApart (addresses w) (addresses t) → (o : Option Range) → LieApart (reach_if q s c b o) (addresses t)
-  if_apart has apart None = apart
-  if_apart has apart (Some room) = by (is_fixed_part q w)
+  if_apart : (t : Range) → Contains neighbours t → LieApart (addresses w) t → (o : Option Range) → LieApart (reach_if q s c b o) t
+  if_apart t has apart None = apart
+  if_apart t has apart (Some room) = by (is_fixed_part q w)
     where
-      by : (fixed : Bool) → LieApart (if fixed then addresses w else reach_in q s c b room) (addresses t)
+      by : (fixed : Bool) → LieApart (if fixed then addresses w else reach_in q s c b room) t
       by true = apart
-      by false = in_apart has room
+      by false = in_apart t has room
 
   pub reach_step : reach q s c b ≡ reach_if q s c b (room_around q s c (reach_within q s c 255) b)
   unfolding reach_within
   reach_step = refl
 
-  pub reach_is_off : Contains (system_parts q s) t → are_beside q w t ≡ true → rank t ≢ rank w → stands q s t ≡ true → ranges_are_apart (addresses w) (addresses t) ≡ true → ranges_are_apart (reach q s c b) (addresses t) ≡ true
-  reach_is_off listed beside other stand apart =
+  beside_apart : (t : Range) → Contains neighbours t → LieApart (addresses w) t → LieApart (reach q s c b) t
+  beside_apart t has apart = subst (λ r. LieApart r t) (sym reach_step) (if_apart t has apart (room_around q s c (reach_within q s c 255) b))
+
+  -- ---- other parts
+
+  standing_is : (t : FunctionPart) → Contains (system_parts q s) t → are_beside q w t ≡ true → rank t ≢ rank w → stands q s t ≡ true → Contains neighbours (addresses t)
+  standing_is t listed near other stand =
+      let differ : not (rank t == rank w) ≡ true = ap not (false_from_ne_true (rank t == rank w) (λ same. other (eqb-true (rank t) (rank w) same))) in
+      Contains-append_right (lines_beside q w) (standing_beside q s w) (addresses t)
+      (in_map_from addresses (filter (λ u. are_beside q w u && not (rank u == rank w) && stands q s u) (system_parts q s)) t
+      (in_filter_from (λ u. are_beside q w u && not (rank u == rank w) && stands q s u) (system_parts q s) t listed
+      (and_from (are_beside q w t && not (rank t == rank w)) (stands q s t) (and_from (are_beside q w t) (not (rank t == rank w)) near differ) stand)))
+
+  pub reach_is_off : (t : FunctionPart) → Contains (system_parts q s) t → are_beside q w t ≡ true → rank t ≢ rank w → stands q s t ≡ true → ranges_are_apart (addresses w) (addresses t) ≡ true → ranges_are_apart (reach q s c b) (addresses t) ≡ true
+  reach_is_off t listed near other stand apart =
       apart_ends (reach q s c b) (addresses t)
-      (subst (λ r. LieApart r (addresses t)) (sym reach_step)
-      (if_apart (beside_is listed beside other stand) (ends_apart (addresses w) (addresses t) apart) (room_around q s c (reach_within q s c 255) b)))
+      (beside_apart (addresses t) (standing_is t listed near other stand) (ends_apart (addresses w) (addresses t) apart))
+
+  -- ---- lines
+
+  piece_is : (x : ToldRegion) → Contains (told_regions q.told) x → can_keep_off q x b.slot (window_space c) ≡ true → (t : Range)
+      → Contains (before_window (addresses w) (line_range x) ++ past_window (addresses w) (line_range x)) t → Contains neighbours t
+  piece_is x is_told can t piece =
+      Contains-append_left (lines_beside q w) (standing_beside q s w) t
+      (in_flat_map_from (λ x. before_window (addresses w) (line_range x) ++ past_window (addresses w) (line_range x))
+      (filter (λ x. can_keep_off q x w.function.slot (part_space w)) (told_regions q.told)) x t
+      (in_filter_from (λ x. can_keep_off q x w.function.slot (part_space w)) (told_regions q.told) x is_told can) piece)
+
+  lines_apart : (x : ToldRegion) → Contains (told_regions q.told) x → can_keep_off q x b.slot (window_space c) ≡ true → x.told.first ≤ x.told.last
+      → LieApart (addresses w) (line_range x) → LieApart (reach q s c b) (line_range x)
+  lines_apart x is_told can forward (inl under) =
+      let t : Range = record { first = max (line_range x).first ((addresses w).last + 1); last = (line_range x).last } in
+      let piece = piece_is x is_told can t
+      (Contains-append_right (before_window (addresses w) (line_range x)) (past_window (addresses w) (line_range x)) t
+      (subst (λ ts. Contains ts t) (sym (past_piece (addresses w) (line_range x) (omega (arith, under, forward)))) (in_head t []))) in
+      elim (beside_apart t piece (inl (omega (arith, under)))) [
+        | inl below ↦ inl (omega (arith, below, under))
+        | inr above ↦ inr above
+      ]
+  lines_apart x is_told can forward (inr over) =
+      let t : Range = record { first = (line_range x).first; last = min (line_range x).last ((addresses w).first - 1) } in
+      let piece = piece_is x is_told can t
+      (Contains-append_left (before_window (addresses w) (line_range x)) (past_window (addresses w) (line_range x)) t
+      (subst (λ ts. Contains ts t) (sym (before_piece (addresses w) (line_range x) (omega (arith, over, forward)) over)) (in_head t []))) in
+      elim (beside_apart t piece (inr (omega (arith, over)))) [
+        | inl below ↦ inl below
+        | inr above ↦ inr (omega (arith, above, over))
+      ]
+
+  pub reach_is_off_lines : (x : ToldRegion) → Contains (told_regions q.told) x → can_keep_off q x b.slot (window_space c) ≡ true → x.told.first ≤ x.told.last
+      → ranges_are_apart (addresses w) (line_range x) ≡ true → ranges_are_apart (reach q s c b) (line_range x) ≡ true
+  reach_is_off_lines x is_told can forward apart =
+      apart_ends (reach q s c b) (line_range x) (lines_apart x is_told can forward (ends_apart (addresses w) (line_range x) apart))

@@ -7,12 +7,13 @@ use Rattle.pci_spec.specs.Decoded.{Range}
 use Rattle.pci_spec.specs.System.{System, Function, Part, Window, window_space}
 use Rattle.pci_spec.specs.Bus.{secondary, are_siblings}
 use Rattle.plan_spec.specs.Plan.{bridges_above, raised_to, same_class}
+use Rattle.settle_spec.specs.Lines.{lines_on, taken_for}
 use Rattle.settle_spec.specs.FirstPlace.{Extent, ranges_are_apart, else_at, first_place_in}
 use Rattle.settle_spec.specs.LastPlace.{last_place_in}
 use Rattle.settle_spec.specs.Lists.{Request}
 use Rattle.settle_spec.specs.Parts.{FunctionPart, system_parts, addresses, class_in, are_same_space}
 use Rattle.settle_spec.specs.Stands.{part_space, are_beside, window_part, stands}
-use Rattle.settle_spec.specs.Items.{Item, Placed, Placing, AllPlaced, Lacks, place_next, taken_by, bus_items, new_window, has_room_behind}
+use Rattle.settle_spec.specs.Items.{Placed, Placing, AllPlaced, Lacks, taken_by, bus_items, new_window, has_room_behind, place_each}
 use Rattle.settle_spec.specs.Reach.{raised_last, lowered_first, reach}
 
 -- ---- what a window takes
@@ -23,12 +24,6 @@ place_around w reach taken e =
     else_at (first_place_in (record { first = w.first; last = reach.last }) taken e)
     (if nat_lt reach.first w.first
     then last_place_in (record { first = reach.first; last = w.first - 1 }) taken e else None)
-
--- each item gets the place that is found for it beside what is taken
-abbrev pub place_each : (Item → List Range → Option ℕ) → List Range → List Item → Placing
-place_each find taken [] = AllPlaced []
-place_each find taken (i ∷ items) =
-    place_next i (find i taken) (λ a. place_each find (taken_by i a ∷ taken) items)
 
 -- the least pages that hold a window and other addresses, where no half of a bound moves inward: so a write of any register
 -- leaves a window that holds what it held, and no more than it will
@@ -61,8 +56,9 @@ there_on q s there test bus =
 abbrev pub taken_around : Request → System → (FunctionPart → Option Range) → WindowKind → Function → Placing
 taken_around q s there c b =
     place_each
-    (λ i taken. place_around (addresses (window_part c b)) (reach q s c b) taken i.extent)
-    (there_on q s there (λ r. are_same_space (window_space c) (part_space r)) (secondary b))
+    (λ i taken. place_around (addresses (window_part c b)) (reach q s c b) (taken_for q i.region taken) i.extent)
+    (lines_on q (window_space c) (secondary b)
+    ++ there_on q s there (λ r. are_same_space (window_space c) (part_space r)) (secondary b))
     (bus_items q s c (λ r. is_some (there r)) (new_window q s c) (secondary b))
 
 -- a window that takes comes to its own addresses, those of its class that are there behind it, and those places
@@ -102,13 +98,15 @@ there_if q s comes before r =
 -- the same, where at most so many others have to be asked one after another
 unfoldable pub there_beside : Request → System → (FunctionPart → Option Range) → ℕ → FunctionPart → Option Range
 there_beside q s comes zero r = None
-there_beside q s comes (suc others) r = there_if q s comes (there_beside q s comes others) r
+there_beside q s comes (suc others) r =
+    there_if q s comes (there_beside q s comes others) r
 
 -- the same, where at most `depth` buses are behind one another
 unfoldable pub there_within : Request → System → ℕ → FunctionPart → Option Range
 there_within q s zero r = None
 there_within q s (suc depth) r =
-    there_beside q s (λ r. part_comes_to q s (there_within q s depth) r.function r.part)
+    there_beside q s
+    (λ r. part_comes_to q s (there_within q s depth) r.function r.part)
     (length (system_parts q s)) r
 
 -- buses rise on the way down, so 256 of them are all

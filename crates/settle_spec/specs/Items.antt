@@ -8,11 +8,13 @@ use Rattle.pci_spec.specs.System.{System, Function, Part, Bar, Window, window_sp
 use Rattle.pci_spec.specs.Bus.{secondary, is_behind, are_siblings}
 use Rattle.plan_spec.specs.Plan.{bridges_above, greatest, raised_to, same_class, size_of}
 use Rattle.plan_spec.specs.Place.{range_from}
+use Rattle.given_spec.specs.ToldRegion.{ToldRegion}
+use Rattle.settle_spec.specs.Lines.{line_bus, lines_on, taken_for}
 use Rattle.settle_spec.specs.FirstPlace.{Extent, least_number, first_spot, first_place}
 use Rattle.settle_spec.specs.Lists.{Request}
 use Rattle.settle_spec.specs.Spares.{spare_below, with_spare}
 use Rattle.settle_spec.specs.Parts.{FunctionPart, system_parts, function_parts, addresses, bridge_over, class_in, are_same_space}
-use Rattle.settle_spec.specs.Stands.{rank, window_part, part_space, stands}
+use Rattle.settle_spec.specs.Stands.{rank, window_part, part_space, stands, range_class, range_stands}
 
 -- what is to be placed
 pub record Item : Type 0 where
@@ -65,6 +67,16 @@ place_all ranges taken [] = AllPlaced []
 place_all ranges taken (i ∷ items) =
     place_next i (first_place (ranges i) taken i.extent)
     (λ a. place_all ranges (taken_by i a ∷ taken) items)
+
+-- each item gets the place that is found for it beside what is taken
+abbrev pub place_each : (Item → List Range → Option ℕ) → List Range → List Item → Placing
+place_each find taken [] = AllPlaced []
+place_each find taken (i ∷ items) =
+    place_next i (find i taken) (λ a. place_each find (taken_by i a ∷ taken) items)
+
+-- the first place of an item in a range
+abbrev pub place_in : Range → Item → List Range → Option ℕ
+place_in r i taken = first_place (r ∷ []) taken i.extent
 
 -- ---- of a bus
 
@@ -181,14 +193,16 @@ are_placed (Lacks i) = false
 -- what is taken on a bus in the space of a class
 abbrev pub taken_on : Request → System → WindowKind → (FunctionPart → Bool) → ℕ → List Range
 taken_on q s c keeps bus =
-    map addresses
+    lines_on q (window_space c) bus
+    ++ map addresses
     (filter (λ r. are_siblings q.roots bus r.function.slot.bus && are_same_space (window_space c) (part_space r) && keeps r)
     (system_parts q s))
 
 -- whether a window has a place for each item behind it, `keeps` saying what keeps its place there
 abbrev pub has_places : Request → System → (FunctionPart → Bool) → Function → WindowKind → Bool
 has_places q s keeps b c =
-    are_placed (place_all (λ i. addresses (window_part c b) ∷ [])
+    are_placed (place_each
+    (λ i taken. place_in (addresses (window_part c b)) i (taken_for q i.region taken))
     (taken_on q s c keeps (secondary b))
     (bus_items q s c keeps (new_window q s c) (secondary b)))
 
@@ -200,7 +214,8 @@ has_room q s keeps f p = true
 -- a part stands and, if it is a window, holds, where at most `depth` buses are behind one another
 unfoldable pub holds_within : Request → System → ℕ → FunctionPart → Bool
 holds_within q s zero r = stands q s r
-holds_within q s (suc depth) r = stands q s r && has_room q s (holds_within q s depth) r.function r.part
+holds_within q s (suc depth) r =
+    stands q s r && has_room q s (holds_within q s depth) r.function r.part
 
 abbrev pub has_room_behind : Request → System → FunctionPart → Bool
 has_room_behind q s r = holds_within q s 256 r
@@ -211,3 +226,9 @@ stays q s r =
     has_room_behind q s r
     && list_all (λ b. has_room_behind q s (window_part (class_in q s r.function r.part) b))
     (bridges_above s r.function.slot.bus)
+
+-- a told range stays where it stands and each window of its class above it stays
+abbrev pub range_stays : Request → System → (FunctionPart → Bool) → ToldRegion → Bool
+range_stays q s keeps x =
+    range_stands q s x
+    && list_all (λ b. keeps (window_part (range_class q s x) b)) (bridges_above s (line_bus x))

@@ -1,14 +1,13 @@
 -- What keeps its place as a system is settled, and where that is: as it stands, or where windows grow.
-use Rattle.std.specs.Prelude.{ℕ, Bool, ◌&&◌, ◌||◌, if◌then◌else◌, List, ◌∷◌, [], Option, None, Some}
+use Rattle.std.specs.Prelude.{ℕ, Bool, ◌&&◌, ◌||◌, if◌then◌else◌, List, Option, None, Some}
 use Rattle.std.specs.List.{list_all}
 use Rattle.pci_spec.specs.Decoded.{Range}
 use Rattle.pci_spec.specs.System.{System, Function}
 use Rattle.plan_spec.specs.Plan.{bridges_above}
-use Rattle.settle_spec.specs.FirstPlace.{first_place}
 use Rattle.settle_spec.specs.Lists.{Request}
 use Rattle.settle_spec.specs.Parts.{FunctionPart, addresses, class_in}
 use Rattle.settle_spec.specs.Stands.{window_part}
-use Rattle.settle_spec.specs.Items.{Item, Placed, has_room_behind, stays}
+use Rattle.settle_spec.specs.Items.{Item, Placed, has_room_behind, stays, place_in}
 use Rattle.settle_spec.specs.Places.{placed_of, place_among}
 use Rattle.settle_spec.specs.Growth.{taken_around, there, comes_to, has_grown}
 
@@ -27,9 +26,6 @@ no_wish r = None
 -- the same without that room
 abbrev pub unwished : Kept → Kept
 unwished k = record k { wished = no_wish }
-
-abbrev pub place_in : Range → Item → List Range → Option ℕ
-place_in r i taken = first_place (r ∷ []) taken i.extent
 
 -- what stays keeps the addresses that it has
 abbrev pub as_it_stands : Request → System → Kept

@@ -3,6 +3,7 @@ pub mod PlacingLaws
 pub mod Lists
 pub mod Spares
 pub mod Parts
+pub mod Lines
 pub mod Assumed
 pub mod Stands
 pub mod Items
@@ -22,3 +23,4 @@ pub mod Growing
 pub mod Wishes
 pub mod Sparing
 pub mod SpareLaws
+pub mod ToldLaws

@@ -7,6 +7,7 @@ use Rattle.pci_spec.specs.Window.{WindowKind, IoWindow, MemoryWindow, PrefetchWi
 use Rattle.pci_spec.specs.Decoded.{Range}
 use Rattle.pci_spec.specs.Bus.{is_root}
 use Rattle.plan_spec.specs.Plan.{is_backward}
+use Rattle.given_spec.specs.ToldClaims.{Told}
 use Rattle.settle_spec.specs.FirstPlace.{ranges_are_apart}
 
 -- a range, and the root that alone has it: None where all have it
@@ -47,6 +48,8 @@ pub record Request : Type 0 where
   -- the bridges with a slot, and what is wanted behind each
   pub slots : List Slot
   pub spares : Spares
+  -- what a text tells of beside BARs and ROMs
+  pub told : Told
 
 -- whether a root has a range
 abbrev pub is_had_by : Option ℕ → ℕ → Bool

@@ -1,14 +1,16 @@
 -- How far a window can grow where it stands: over pages beside it that nothing else on its bridge's bus has (Bridge 1.2, 3.2.5).
-use Rattle.std.specs.Prelude.{ℕ, zero, suc, ◌+◌, ◌-◌, ◌*◌, ◌/◌, ◌%◌, ◌==◌, nat_lt, min, max, ◌&&◌, not, if◌then◌else◌, List, ◌++◌, map, Option, None, Some}
-use Rattle.std.specs.List.{filter, find, fold}
+use Rattle.std.specs.Prelude.{ℕ, zero, suc, ◌+◌, ◌-◌, ◌*◌, ◌/◌, ◌%◌, ◌==◌, nat_lt, min, max, ◌&&◌, not, if◌then◌else◌, List, ◌++◌, map, Option, None, Some, [], ◌∷◌}
+use Rattle.std.specs.List.{filter, find, fold, flat_map}
 use Rattle.pci_spec.specs.Window.{WindowKind, IoWindow, MemoryWindow, PrefetchWindow, page_size, lower_pages}
 use Rattle.pci_spec.specs.Decoded.{Range}
 use Rattle.pci_spec.specs.System.{System, Function}
 use Rattle.pci_spec.specs.Bus.{is_root}
 use Rattle.plan_spec.specs.Plan.{raised_to}
+use Rattle.given_spec.specs.ToldRegion.{told_regions}
+use Rattle.settle_spec.specs.Lines.{line_range, can_keep_off}
 use Rattle.settle_spec.specs.Lists.{Request, class_ranges}
 use Rattle.settle_spec.specs.Parts.{FunctionPart, system_parts, addresses, bridge_over, lies_within}
-use Rattle.settle_spec.specs.Stands.{is_fixed_part, rank, are_beside, window_part, stands}
+use Rattle.settle_spec.specs.Stands.{is_fixed_part, rank, are_beside, window_part, stands, part_space}
 use Rattle.settle_spec.specs.Items.{highest_in}
 
 -- ---- halves of a bound
@@ -83,24 +85,44 @@ room_around q s c reach b =
     then find (lies_within (addresses (window_part c b))) (ranges_for q c b.slot.bus)
     else range_over reach (bridge_over s b.slot.bus)
 
+-- what a range has before a window
+abbrev pub before_window : Range → Range → List Range
+before_window w r =
+    if nat_lt r.first w.first
+    then record { first = r.first; last = min r.last (w.first - 1) } ∷ [] else []
+
+-- and what it has behind it
+abbrev pub past_window : Range → Range → List Range
+past_window w r =
+    if nat_lt w.last r.last
+    then record { first = max r.first (w.last + 1); last = r.last } ∷ [] else []
+
+-- what lines on its bus hold outside of a window, where they can keep it off
+abbrev pub lines_beside : Request → FunctionPart → List Range
+lines_beside q w =
+    flat_map (λ x. before_window (addresses w) (line_range x) ++ past_window (addresses w) (line_range x))
+    (filter (λ x. can_keep_off q x w.function.slot (part_space w)) (told_regions q.told))
+
 -- the pages of a room that a window can take
 abbrev pub reach_in : Request → System → WindowKind → Function → Range → Range
 reach_in q s c b room =
     cut_to_halves c (addresses (window_part c b))
     (whole_pages (page_size c)
     (fold (clear_of (addresses (window_part c b))) (no_higher (highest_in c b.probe) room)
-    (standing_beside q s (window_part c b))))
+    (lines_beside q (window_part c b) ++ standing_beside q s (window_part c b))))
 
 -- the window of a fixed bridge can take none, and so can one with no room around it
 abbrev pub reach_if : Request → System → WindowKind → Function → Option Range → Range
 reach_if q s c b None = addresses (window_part c b)
 reach_if q s c b (Some room) =
-    if is_fixed_part q (window_part c b) then addresses (window_part c b) else reach_in q s c b room
+    if is_fixed_part q (window_part c b) then addresses (window_part c b)
+    else reach_in q s c b room
 
 -- the reach of a window that stands, where at most `depth` buses are above one another
 unfoldable pub reach_within : Request → System → WindowKind → ℕ → Function → Range
 reach_within q s c zero b = addresses (window_part c b)
-reach_within q s c (suc depth) b = reach_if q s c b (room_around q s c (reach_within q s c depth) b)
+reach_within q s c (suc depth) b =
+    reach_if q s c b (room_around q s c (reach_within q s c depth) b)
 
 -- buses rise on the way down, so 256 of them are all
 abbrev pub reach : Request → System → WindowKind → Function → Range

@@ -9,9 +9,12 @@ use Rattle.pci_spec.specs.System.{System, Function, Space, Part, Bar, Rom, Windo
 use Rattle.plan_spec.specs.Plan.{is_open}
 use Rattle.plan_spec.specs.Place.{nibble_of}
 use Rattle.plan_spec.specs.Planning.Showing.{bar_value, rom_value}
+use Rattle.given_spec.specs.ToldRegion.{ToldRegion, told_regions}
+use Rattle.pci_spec.specs.Slot.{same_slot}
+use Rattle.settle_spec.specs.Lines.{is_command_line}
 use Rattle.settle_spec.specs.Lists.{Request}
 use Rattle.settle_spec.specs.Parts.{FunctionPart, function_parts, header_parts, is_part, are_same_space}
-use Rattle.settle_spec.specs.Stands.{part_space}
+use Rattle.settle_spec.specs.Stands.{part_space, range_stands}
 use Rattle.settle_spec.specs.Items.{Placed}
 
 -- `width` bytes of a number from an offset on
@@ -56,7 +59,14 @@ changing q s f =
 
 -- ---- Command
 
--- a function has a BAR or ROM of a space
+-- a `command` range of a function stands in a space
+abbrev pub is_answered_by : Request → System → Space → Function → ToldRegion → Bool
+is_answered_by q s space f x =
+    is_command_line x && same_slot x.told.slot f.slot && are_same_space space x.told.space
+    && range_stands q s x
+
+-- a function has something of a space to answer: such a range, a BAR or a ROM
 abbrev pub has_own : Request → System → Space → Function → Bool
 has_own q s space f =
-    list_any (λ r. are_same_space space (part_space r) && not (is_window r.part)) (function_parts q s f)
+    list_any (is_answered_by q s space f) (told_regions q.told)
+    || list_any (λ r. are_same_space space (part_space r) && not (is_window r.part)) (function_parts q s f)

@@ -1,5 +1,5 @@
 -- Laws of room behind slots: it refuses nothing, no part goes for it, and what isn't denied is there.
-use Rattle.std.specs.Prelude.{◌≡◌, ◌^◌, ◌<◌, Bool, ◌&&◌, IsTrue, IsFalse, Some}
+use Rattle.std.specs.Prelude.{◌≡◌, ◌^◌, ◌<◌, Bool, ◌&&◌, IsTrue, IsFalse, [], Some}
 use Rattle.std.specs.List.{Contains}
 use Rattle.std.specs.Option.{is_some}
 use Rattle.pci_spec.specs.Window.{WindowKind, has_window}
@@ -18,8 +18,9 @@ use Rattle.settle_spec.specs.Keeping.Registers.{settled_function, settled_comman
 use Rattle.settle_spec.specs.Growing.{settle_growing, finally_kept}
 use Rattle.settle_spec.specs.Sparing.{without_slots, is_settled, placing_request, grants, denied, settle_sparing}
 
--- A system is admitted, and lists of prefetchable memory end below 2^64.
+-- Nothing is told beside BARs and ROMs, a system is admitted, and lists of prefetchable memory end below 2^64.
 pub record CanAsk (q : Request) (s : System) : Type 0 where
+  pub untold : q.told.ranges ≡ []
   pub high : (r : RootRange) → Contains q.lists.prefetch r → r.range.last < 2 ^ 64
   pub system : IsSystem s
   pub nested : IsNested q.roots s

@@ -8,6 +8,8 @@ use Rattle.pci_spec.specs.System.{System, Function, Space, window_space}
 use Rattle.pci_spec.specs.Bus.{secondary, is_root, are_siblings}
 use Rattle.plan_spec.specs.Plan.{raised_to}
 use Rattle.plan_spec.specs.Place.{range_from}
+use Rattle.given_spec.specs.ToldRegion.{told_regions}
+use Rattle.settle_spec.specs.Lines.{keeps_off, lines_on, lines_behind}
 use Rattle.settle_spec.specs.FirstPlace.{Extent, ranges_are_apart, first_spot, first_place}
 use Rattle.settle_spec.specs.Lists.{Request, class_ranges}
 use Rattle.settle_spec.specs.Parts.{FunctionPart, bridge_over, are_same_space}
@@ -37,6 +39,10 @@ there_then q s k space bus =
     flat_map (λ r. range_list (range_then q s k r))
     (filter (λ r. are_siblings q.roots bus r.function.slot.bus && are_same_space space (part_space r))
     (flat_map (changing q s) s))
+
+-- and what lines hold there
+abbrev pub taken_then : Request → System → Kept → Space → ℕ → List Range
+taken_then q s k space bus = lines_on q space bus ++ there_then q s k space bus
 
 -- a window has other addresses
 abbrev pub with_window : FunctionPart → Range → Kept → Kept
@@ -71,10 +77,16 @@ module _ (q : Request) (s : System) (c : WindowKind) where
 
   -- ---- an open window ends later
 
+  -- no line on the bridge's bus keeps its window off a range
+  abbrev pub is_off_lines : Function → Range → Bool
+  is_off_lines b r =
+      list_all (λ x. not (keeps_off q x b.slot (window_space c) r)) (told_regions q.told)
+
   -- a bridge can show a window that ends there, and nothing of its space on the bridge's bus has an address that it gains
   abbrev pub can_end_at : Function → Kept → Range → ℕ → Bool
   can_end_at b k w last =
-      not (is_fixed_part q (window_part c b))
+      is_off_lines b (gained w last)
+      && not (is_fixed_part q (window_part c b))
       && (nat_le last (highest_in c b.probe)
       && list_all (ranges_are_apart (gained w last)) (there_then q s k (window_space c) b.slot.bus))
 
@@ -97,7 +109,8 @@ module _ (q : Request) (s : System) (c : WindowKind) where
   -- an open window ends at an address at least, where at most `depth` buses are above one another
   unfoldable pub ending_within : ℕ → Function → ℕ → Kept → Option Kept
   ending_within zero b last k = None
-  ending_within (suc depth) b last k = ending_if (ending_within depth) b last k (range_of_window b k)
+  ending_within (suc depth) b last k =
+      ending_if (ending_within depth) b last k (range_of_window b k)
 
   -- buses rise on the way down, so 256 of them are all
   abbrev pub ending : Function → ℕ → Kept → Option Kept
@@ -106,8 +119,9 @@ module _ (q : Request) (s : System) (c : WindowKind) where
   -- ---- room for a spare
 
   -- in an open window: at the first place from its first address on, as if it had no end
-  abbrev pub spot_behind : Function → Extent → Kept → Range → ℕ
-  spot_behind b e k w = first_spot w.first (there_then q s k (window_space c) (secondary b)) e
+  abbrev pub spot_behind : Function → Extent → List Range → Kept → Range → ℕ
+  spot_behind b e behind k w =
+      first_spot w.first (behind ++ taken_then q s k (window_space c) (secondary b)) e
 
   abbrev pub spared_at : Function → Extent → Kept → ℕ → Option Spared
   spared_at b e k at =
@@ -116,12 +130,13 @@ module _ (q : Request) (s : System) (c : WindowKind) where
       else None
 
   -- a window of the spare's size: on a root at its first place in the list of its class, else as a spare in the window above
-  abbrev pub spared_above : (Function → Extent → Kept → Option Spared) → Function → Extent → Kept → Option Spared
+  abbrev pub spared_above : (Function → Extent → List Range → Kept → Option Spared) → Function → Extent → Kept → Option Spared
   spared_above above b e k =
       if is_root q.roots b.slot.bus
       then option_map (λ at. record { at = at; kept = k })
-      (first_place (class_ranges q c b.slot.bus) (there_then q s k (window_space c) b.slot.bus) e)
-      else with_bridge (λ over. above over e k) (bridge_over s b.slot.bus)
+      (first_place (class_ranges q c b.slot.bus)
+      (lines_behind q (window_part c b) ++ taken_then q s k (window_space c) b.slot.bus) e)
+      else with_bridge (λ over. above over e (lines_behind q (window_part c b)) k) (bridge_over s b.slot.bus)
 
   -- no address is above what a window of the bridge can hold
   abbrev pub held_by : Function → Extent → Extent
@@ -133,20 +148,21 @@ module _ (q : Request) (s : System) (c : WindowKind) where
     kept = with_window (window_part c b) (range_from found.at e.size) found.kept;
   }
 
-  abbrev pub spared_if : (Function → Extent → Kept → Option Spared) → Function → Extent → Kept → Option Range → Option Spared
-  spared_if above b e k None =
+  abbrev pub spared_if : (Function → Extent → List Range → Kept → Option Spared) → Function → Extent → List Range → Kept → Option Range → Option Spared
+  spared_if above b e behind k None =
       if has_window c b.probe && not (is_fixed_part q (window_part c b))
       then option_map (opened_at b e) (spared_above above b (held_by b e) k)
       else None
-  spared_if above b e k (Some w) = spared_at b e k (spot_behind b e k w)
+  spared_if above b e behind k (Some w) = spared_at b e k (spot_behind b e behind k w)
 
   -- room for a spare behind a bridge, where at most `depth` buses are above one another
-  unfoldable pub spared_within : ℕ → Function → Extent → Kept → Option Spared
-  spared_within zero b e k = None
-  spared_within (suc depth) b e k = spared_if (spared_within depth) b e k (range_of_window b k)
+  unfoldable pub spared_within : ℕ → Function → Extent → List Range → Kept → Option Spared
+  spared_within zero b e behind k = None
+  spared_within (suc depth) b e behind k =
+      spared_if (spared_within depth) b e behind k (range_of_window b k)
 
   abbrev pub spared_behind : Function → Extent → Kept → Option Spared
-  spared_behind b e k = spared_within 256 b e k
+  spared_behind b e k = spared_within 256 b e [] k
 
 -- ---- one wish after another
 
@@ -163,7 +179,8 @@ or_denied w g (Some found) = record { kept = found.kept; denied = g.denied }
 abbrev pub with_spare_of : Request → System → WindowKind → Function → Option Extent → Granted → Granted
 with_spare_of q s c b None g = g
 with_spare_of q s c b (Some e) g =
-    if has_window c b.probe then or_denied (window_part c b) g (spared_behind q s c b e g.kept) else g
+    if has_window c b.probe
+    then or_denied (window_part c b) g (spared_behind q s c b e g.kept) else g
 
 -- I/O first, then memory, then prefetchable memory
 abbrev pub with_spares_of : Request → System → (WindowKind → Function → Option Extent) → Function → Granted → Granted
@@ -175,7 +192,8 @@ with_spares_of q s spare b g =
 -- the highest slot first
 abbrev pub with_all_spares : Request → System → (WindowKind → Function → Option Extent) → Granted → System → Granted
 with_all_spares q s spare g [] = g
-with_all_spares q s spare g (f ∷ more) = with_spares_of q s spare f (with_all_spares q s spare g more)
+with_all_spares q s spare g (f ∷ more) =
+    with_spares_of q s spare f (with_all_spares q s spare g more)
 
 -- all wishes beside what is kept
 abbrev pub granted : Request → System → (WindowKind → Function → Option Extent) → Kept → Granted

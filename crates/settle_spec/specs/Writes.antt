@@ -85,6 +85,8 @@ pub data Settling : Type 0 where
   -- a part of a class has no place on its root, nor a new window
   NoRoom : (class : WindowKind) (slot : Slot) (register : ℕ) (size : ℕ) (alignment : ℕ) → Settling
   Settled : (writes : List Write) → Settling
+  -- 75: the told range with this register isn't reached as the board stands, or settling would cut it off or switch it on
+  NotKept : (slot : Slot) (register : ℕ) → Settling
 
 -- the first part of a fixed function that fails a test
 abbrev pub fixed_without : (FunctionPart → Bool) → Request → System → Option FunctionPart

@@ -5,6 +5,7 @@ use Rattle.pci_spec.specs.Window.{IoWindow, MemoryWindow}
 use Rattle.pci_spec.specs.System.{System, Function}
 use Rattle.pci_spec.proofs.Examples.Samples.{slot, device, bridge, write, range, host}
 use Rattle.plan_spec.proofs.Examples.Placed.{start}
+use Rattle.given_spec.specs.ToldClaims.{nothing_told}
 use Rattle.settle_spec.specs.Lists.{Lists, RootRange, Spares, Request}
 use Rattle.settle_spec.specs.Stands.{stands_within}
 use Rattle.settle_spec.specs.Items.{window_within, holds_within}
@@ -32,7 +33,7 @@ abbrev pub no_spares : Spares
 no_spares = record { io = 0; memory = 0; prefetch = 0 }
 
 abbrev pub request : Request
-request = record { roots = host; lists = lists; fixed = []; anew = false; slots = []; spares = no_spares }
+request = record { roots = host; lists = lists; fixed = []; anew = false; slots = []; spares = no_spares; told = nothing_told [] }
 
 -- with other lists
 abbrev pub with_io : List RootRange → Request

@@ -5,13 +5,13 @@ use Rattle.pci_spec.specs.Window.{IoWindow, MemoryWindow, PrefetchWindow}
 use Rattle.pci_spec.specs.Decoded.{Range}
 use Rattle.pci_spec.specs.System.{System, Function, Space, Io, Memory, space_of}
 use Rattle.pci_spec.specs.Bus.{is_root, are_siblings}
+use Rattle.settle_spec.specs.Lines.{lines_on, taken_for}
 use Rattle.settle_spec.specs.FirstPlace.{first_place}
 use Rattle.settle_spec.specs.Lists.{Request}
 use Rattle.settle_spec.specs.Parts.{FunctionPart, system_parts, bridge_over, are_same_space}
 use Rattle.settle_spec.specs.Stands.{part_space, window_part}
-use Rattle.settle_spec.specs.Items.{Item, Placed, Placing, AllPlaced, bus_items, new_window}
+use Rattle.settle_spec.specs.Items.{Item, Placed, Placing, AllPlaced, bus_items, new_window, place_each}
 use Rattle.settle_spec.specs.Places.{root_ranges, placed_of, place_among, placed_range, first_lack}
-use Rattle.settle_spec.specs.Growth.{place_each}
 use Rattle.settle_spec.specs.Kept.{Kept}
 
 -- the items of a bus in a space: of memory, those of class M come first
@@ -24,7 +24,8 @@ space_items q s k Memory bus =
 -- what is taken on a bus in a space by what stays
 abbrev pub taken_at : Request → System → Kept → Space → ℕ → List Range
 taken_at q s k space bus =
-    map k.range
+    lines_on q space bus
+    ++ map k.range
     (filter (λ r. are_siblings q.roots bus r.function.slot.bus && are_same_space space (part_space r) && k.stays r)
     (system_parts q s))
 
@@ -44,7 +45,8 @@ place_of_item q s k placed i taken =
 unfoldable pub placing_within : Request → System → Kept → Space → ℕ → ℕ → Placing
 placing_within q s k space zero bus = AllPlaced []
 placing_within q s k space (suc depth) bus =
-    place_each (place_of_item q s k (λ bus. placed_of (placing_within q s k space depth bus)))
+    place_each
+    (λ i taken. place_of_item q s k (λ bus. placed_of (placing_within q s k space depth bus)) i (taken_for q i.region taken))
     (taken_at q s k space bus) (space_items q s k space bus)
 
 -- buses rise on the way down, so 256 of them are all

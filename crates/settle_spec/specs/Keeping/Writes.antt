@@ -1,6 +1,6 @@
 -- The writes of settling beside what is kept: what is shut and when, which windows are closed meanwhile, and how settling ends.
-use Rattle.std.specs.Prelude.{ℕ, ◌+◌, Bool, ◌&&◌, ◌||◌, not, if◌then◌else◌, List, [], ◌∷◌, ◌++◌}
-use Rattle.std.specs.List.{list_any, flat_map}
+use Rattle.std.specs.Prelude.{ℕ, ◌+◌, Bool, ◌&&◌, ◌||◌, not, if◌then◌else◌, List, [], ◌∷◌, ◌++◌, Option, None, Some}
+use Rattle.std.specs.List.{list_any, flat_map, find}
 use Rattle.pci_spec.specs.Registers.{COMMAND}
 use Rattle.pci_spec.specs.Header.{command}
 use Rattle.pci_spec.specs.Window.{WindowKind, IoWindow, MemoryWindow, PrefetchWindow, bounds_at}
@@ -9,14 +9,18 @@ use Rattle.pci_spec.specs.Machine.{Write, without_low}
 use Rattle.plan_spec.specs.Plan.{bridges_above, is_open}
 use Rattle.plan_spec.specs.Place.{nibble_of}
 use Rattle.plan_spec.specs.Planning.PlanWrites.{Change, register_write}
+use Rattle.given_spec.specs.ToldRegion.{ToldRegion, told_regions}
+use Rattle.given_spec.specs.ToldClaims.{is_enabled_at}
+use Rattle.settle_spec.specs.Items.{range_stays}
+use Rattle.settle_spec.specs.Lines.{line_bus, is_held_line, is_command_line, is_always_line}
 use Rattle.settle_spec.specs.Lists.{Request, are_bad_lists}
 use Rattle.settle_spec.specs.Parts.{FunctionPart, function_parts, has_left, class_in, are_same_space}
-use Rattle.settle_spec.specs.Stands.{part_space, window_part, stands}
+use Rattle.settle_spec.specs.Stands.{part_space, window_part, stands, is_line_on, range_stands}
 use Rattle.settle_spec.specs.Registers.{with_bounds, with_number}
-use Rattle.settle_spec.specs.Writes.{differs_at, part_registers, is_cut_off_in, shut_bounds, closing_registers, setting_registers, Settling, BadLists, Settled, fixed_without, fixed_write, or_fixed, or_lack, or_write}
+use Rattle.settle_spec.specs.Writes.{differs_at, part_registers, is_cut_off_in, shut_bounds, closing_registers, setting_registers, Settling, BadLists, Settled, fixed_without, fixed_write, or_fixed, or_lack, or_write, NotKept}
 use Rattle.settle_spec.specs.Kept.{Kept, unwished}
 use Rattle.settle_spec.specs.Keeping.Places.{lacking}
-use Rattle.settle_spec.specs.Keeping.Registers.{settled_function}
+use Rattle.settle_spec.specs.Keeping.Registers.{settled_function, settled}
 
 -- ---- what changes
 
@@ -124,9 +128,58 @@ settle_writes q s k =
 
 -- ---- how settling ends
 
--- bad lists come first, then fixed parts that don't stand or stay, then want of room, then fixed functions that would be written
+-- a told range that is on doesn't stand
+abbrev pub is_not_reached : Request → System → ToldRegion → Bool
+is_not_reached q s x =
+    not (is_held_line x) && is_line_on q s x && not (range_stands q s x)
+
+-- one that stands doesn't stay
+abbrev pub does_not_stay : Request → System → Kept → ToldRegion → Bool
+does_not_stay q s k x = range_stands q s x && not (range_stays q s k.stays x)
+
+-- Command of its function enables one in the result that doesn't stand
+abbrev pub would_be_on : Request → System → Kept → ToldRegion → Bool
+would_be_on q s k x =
+    is_command_line x && not (range_stands q s x)
+    && is_enabled_at (settled q s k) x.told.slot x.told.space
+
+-- a bridge above one that is marked `always` is shut in its space for a time
+abbrev pub would_be_off : Request → System → Kept → ToldRegion → Bool
+would_be_off q s k x =
+    is_always_line x
+    && list_any (is_shut q s k x.told.space) (bridges_above s (line_bus x))
+
+abbrev pub would_be_switched : Request → System → Kept → ToldRegion → Bool
+would_be_switched q s k x = would_be_on q s k x || would_be_off q s k x
+
+-- the earliest line that passes a test
+abbrev pub earliest : Request → (ToldRegion → Bool) → Option ToldRegion
+earliest q test = find test (told_regions q.told)
+
+abbrev pub or_told : Option ToldRegion → Settling → Settling
+or_told None other = other
+or_told (Some x) other = NotKept x.told.slot x.register
+
+-- told ranges and then fixed parts that don't stand,
+abbrev pub or_not_standing : Request → System → Settling → Settling
+or_not_standing q s other =
+    or_told (earliest q (is_not_reached q s))
+    (or_fixed (fixed_without (stands q s) q s) other)
+
+-- those that don't stay,
+abbrev pub or_not_staying : Request → System → Kept → Settling → Settling
+or_not_staying q s k other =
+    or_told (earliest q (does_not_stay q s k)) (or_fixed (fixed_without k.stays q s) other)
+
+-- fixed functions that would be written, and then told ranges that would be switched
+abbrev pub or_written : Request → System → Kept → Settling → Settling
+or_written q s k other =
+    or_write (fixed_write q (settle_writes q s k))
+    (or_told (earliest q (would_be_switched q s k)) other)
+
+-- bad lists come first, and want of room stands before what would be written
 abbrev pub settle_keeping : Request → System → Kept → Settling
 settle_keeping q s k =
     if are_bad_lists q.roots q.lists then BadLists
-    else or_fixed (fixed_without (stands q s) q s) (or_fixed (fixed_without k.stays q s)
-    (or_lack (lacking q s k) (or_write (fixed_write q (settle_writes q s k)) (Settled (settle_writes q s k)))))
+    else or_not_standing q s (or_not_staying q s k
+    (or_lack (lacking q s k) (or_written q s k (Settled (settle_writes q s k)))))
