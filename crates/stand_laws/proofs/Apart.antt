@@ -9,12 +9,12 @@ use Rattle.pci_spec.proofs.BusRanges.{all_gives}
 use Rattle.settle_spec.specs.FirstPlace.{ranges_are_apart}
 use Rattle.settle_spec.specs.Lists.{Request}
 use Rattle.settle_spec.specs.Parts.{FunctionPart, system_parts, addresses, is_part, lies_within, class_in, bridge_over, are_same_space}
-use Rattle.settle_spec.specs.Stands.{rank, part_space, part_precedes, are_beside, is_in_lists, is_in_window, is_in_place, window_part, takes_from, stands}
+use Rattle.settle_spec.specs.Stands.{rank, part_space, are_beside, is_in_lists, is_in_window, is_in_place, window_part, takes_from, stands, precedes}
 use Rattle.settle_spec.proofs.BridgeOver.{over_is}
 use Rattle.stand_laws.proofs.Order.{precedes_else}
-use Rattle.stand_laws.proofs.Standing.{stands_is}
+use Rattle.stand_laws.proofs.Standing.{stands_is, allowed}
 
-siblings_back : (roots : List ℕ) (bus other : ℕ) → are_siblings roots bus other ≡ true → are_siblings roots other bus ≡ true
+pub siblings_back : (roots : List ℕ) (bus other : ℕ) → are_siblings roots bus other ≡ true → are_siblings roots other bus ≡ true
 siblings_back roots bus other beside = elim (or_cases (bus == other) (is_root roots bus && is_root roots other) beside) [
   | inl same ↦ or_left (other == bus) (is_root roots other && is_root roots bus) (eq-eqb other bus (sym (eqb-true bus other same)))
   | inr both ↦
@@ -22,13 +22,13 @@ siblings_back roots bus other beside = elim (or_cases (bus == other) (is_root ro
       or_right (other == bus) (is_root roots other && is_root roots bus) (and_from (is_root roots other) (is_root roots bus) parts.1 parts.0)
 ]
 
-space_back : (a b : Space) → are_same_space a b ≡ true → are_same_space b a ≡ true
+pub space_back : (a b : Space) → are_same_space a b ≡ true → are_same_space b a ≡ true
 space_back Io Io same = refl
 space_back Io Memory same = absurd (both_ways false refl same)
 space_back Memory Io same = absurd (both_ways false refl same)
 space_back Memory Memory same = refl
 
-or_swap : (x y : Bool) → (x || y) ≡ (y || x)
+pub or_swap : (x y : Bool) → (x || y) ≡ (y || x)
 or_swap true true = refl
 or_swap true false = refl
 or_swap false true = refl
@@ -45,24 +45,24 @@ module _ (q : Request) (s : System) where
     -- the sides of what stands
     record Sides : Type 0 where
       place : is_in_place q s (stands q s) r ≡ true
-      free : list_all (λ t. not (takes_from q t r && stands q s t)) (system_parts q s) ≡ true
+      free : list_all (λ t. not (takes_from q s t r && stands q s t)) (system_parts q s) ≡ true
 
     sides : Sides
     sides =
         let place = is_in_place q s (stands q s) r in
-        let free = list_all (λ t. not (takes_from q t r && stands q s t)) (system_parts q s) in
-        let parts = and_parts (not q.anew && is_part q s r.function r.part && place) free (sym (stands_is q s nested r listed) ∙ is) in
-        record { place = (and_parts (not q.anew && is_part q s r.function r.part) place parts.0).1; free = parts.1 }
+        let free = list_all (λ t. not (takes_from q s t r && stands q s t)) (system_parts q s) in
+        let parts = and_parts (allowed q s r && is_part q s r.function r.part && place) free (sym (stands_is q s nested r listed) ∙ is) in
+        record { place = (and_parts (allowed q s r && is_part q s r.function r.part) place parts.0).1; free = parts.1 }
 
     -- it shares no address with what stands before it
-    apart_before : (t : FunctionPart) → Contains (system_parts q s) t → stands q s t ≡ true → are_beside q t r ≡ true → part_precedes q t r ≡ true → ranges_are_apart (addresses t) (addresses r) ≡ true
+    apart_before : (t : FunctionPart) → Contains (system_parts q s) t → stands q s t ≡ true → are_beside q t r ≡ true → precedes q s t r ≡ true → ranges_are_apart (addresses t) (addresses r) ≡ true
     apart_before t in_t stands_t beside before = elim (cases_Bool (ranges_are_apart (addresses t) (addresses r))) [
       | inl fine ↦ fine
       | inr shares ↦
-          let takes = and_from (are_beside q t r && part_precedes q t r) (not (ranges_are_apart (addresses t) (addresses r))) (and_from (are_beside q t r) (part_precedes q t r) beside before) (ap not shares) in
-          absurd (both_ways (not (takes_from q t r && stands q s t))
-          (not_from_true (takes_from q t r && stands q s t) (and_from (takes_from q t r) (stands q s t) takes stands_t))
-          (all_gives (λ t. not (takes_from q t r && stands q s t)) (system_parts q s) sides.free t in_t))
+          let takes = and_from (are_beside q t r && precedes q s t r) (not (ranges_are_apart (addresses t) (addresses r))) (and_from (are_beside q t r) (precedes q s t r) beside before) (ap not shares) in
+          absurd (both_ways (not (takes_from q s t r && stands q s t))
+          (not_from_true (takes_from q s t r && stands q s t) (and_from (takes_from q s t r) (stands q s t) takes stands_t))
+          (all_gives (λ t. not (takes_from q s t r && stands q s t)) (system_parts q s) sides.free t in_t))
     ]
 
     pub in_root_lists : is_root q.roots r.function.slot.bus ≡ true → is_in_lists q r.function.slot.bus (addresses r) (part_space r) ≡ true
@@ -82,9 +82,9 @@ module _ (q : Request) (s : System) where
 
   pub apart_where_beside : (r t : FunctionPart) → IsNested q.roots s → Contains (system_parts q s) r → Contains (system_parts q s) t → stands q s r ≡ true → stands q s t ≡ true → are_beside q r t ≡ true → rank r ≢ rank t
       → ranges_are_apart (addresses r) (addresses t) ≡ true
-  apart_where_beside r t nested in_r in_t stands_r stands_t beside differ = elim (cases_Bool (part_precedes q r t)) [
+  apart_where_beside r t nested in_r in_t stands_r stands_t beside differ = elim (cases_Bool (precedes q s r t)) [
     | inl before ↦ apart_before nested t in_t stands_t r in_r stands_r beside before
     | inr not_before ↦
         or_swap (nat_lt (addresses r).last (addresses t).first) (nat_lt (addresses t).last (addresses r).first)
-        ∙ apart_before nested r in_r stands_r t in_t stands_t (beside_back r t beside) (precedes_else q r t differ not_before)
+        ∙ apart_before nested r in_r stands_r t in_t stands_t (beside_back r t beside) (precedes_else q s r t differ not_before)
   ]

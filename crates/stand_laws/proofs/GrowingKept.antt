@@ -244,7 +244,7 @@ module _ (q : Request) (s : System) where
 
       reach_listed : (c : WindowKind) (b : Function) → IsStandingWindow q s c b → is_root q.roots b.slot.bus ≡ true → is_in_lists q b.slot.bus (reach q s c b) (window_space c) ≡ true
       reach_listed c b is root =
-          subst (λ x. is_in_lists q b.slot.bus x (window_space c) ≡ true) (sym (reach_step q s c b w)) (by_room (room_around q s c (reach_within q s c 255) b) refl)
+          subst (λ x. is_in_lists q b.slot.bus x (window_space c) ≡ true) (sym (reach_step q s c b)) (by_room (room_around q s c (reach_within q s c 255) b) refl)
         where
           w : FunctionPart
           w = window_part c b
@@ -288,7 +288,7 @@ module _ (q : Request) (s : System) where
       -- ---- no higher than a window may be
 
       reach_low : (c : WindowKind) (b : Function) → IsStandingWindow q s c b → (reach q s c b).last ≤ highest_in c b.probe
-      reach_low c b is = subst (λ (x : Range). x.last ≤ highest_in c b.probe) (sym (reach_step q s c b w)) (by_room (room_around q s c (reach_within q s c 255) b))
+      reach_low c b is = subst (λ (x : Range). x.last ≤ highest_in c b.probe) (sym (reach_step q s c b)) (by_room (room_around q s c (reach_within q s c 255) b))
         where
           w : FunctionPart
           w = window_part c b

@@ -11,10 +11,11 @@ use Rattle.plan_spec.specs.Plan.{is_open, bridges_above, same_class}
 use Rattle.plan_spec.proofs.Planning.AboveBuses.{all_above, all_above_root}
 use Rattle.plan_spec.proofs.Planning.PlacedItems.{same_class_is}
 use Rattle.plan_spec.proofs.Planning.Safe.{slots_of, order_of}
+use Rattle.settle_spec.specs.Lines.{lines_on, taken_for}
 use Rattle.settle_spec.specs.Lists.{Request}
 use Rattle.settle_spec.specs.Parts.{FunctionPart, system_parts, function_parts, parts_of, header_parts, is_part, addresses, class_in, are_same_space}
 use Rattle.settle_spec.specs.Stands.{window_part, part_space, stands}
-use Rattle.settle_spec.specs.Items.{Item, in_turn, own_item, is_own, has_of, items_of, bus_items, new_window, taken_on, are_placed, place_all, has_places, has_room, holds_within, has_room_behind, stays}
+use Rattle.settle_spec.specs.Items.{Item, in_turn, own_item, is_own, has_of, items_of, bus_items, new_window, taken_on, are_placed, has_places, has_room, holds_within, has_room_behind, stays, place_each, place_in}
 use Rattle.settle_spec.proofs.Nested.{on_it}
 use Rattle.stand_laws.specs.Holding.{TellsRoom}
 use Rattle.stand_laws.proofs.Standing.{part_of, in_header, stands_by_itself}
@@ -89,17 +90,17 @@ module _ (q : Request) (s : System) where
 
     taken_same : (c : WindowKind) → taken_on q s c test bus ≡ taken_on q s c other bus
     taken_same c =
-        ap (map addresses) (filter_same
+        ap (λ rs. lines_on q (window_space c) bus ++ map addresses rs) (filter_same
         (λ r. are_siblings q.roots bus r.function.slot.bus && are_same_space (window_space c) (part_space r) && test r)
         (λ r. are_siblings q.roots bus r.function.slot.bus && are_same_space (window_space c) (part_space r) && other r) (system_parts q s)
         (λ t has. kept_same (are_siblings q.roots bus t.function.slot.bus) t refl (part_of q s t has).listed (are_same_space (window_space c) (part_space t))))
 
     places_same : (b : Function) (c : WindowKind) → secondary b ≡ bus → has_places q s test b c ≡ has_places q s other b c
     places_same b c behind =
-        ap (λ n. are_placed (place_all (λ i. addresses (window_part c b) ∷ []) (taken_on q s c test n) (bus_items q s c test (new_window q s c) n))) behind
-        ∙ ap (λ xs. are_placed (place_all (λ i. addresses (window_part c b) ∷ []) xs (bus_items q s c test (new_window q s c) bus))) (taken_same c)
-        ∙ ap (λ xs. are_placed (place_all (λ i. addresses (window_part c b) ∷ []) (taken_on q s c other bus) xs)) (items_same test other bus c (λ t listed beside class. same t listed beside))
-        ∙ sym (ap (λ n. are_placed (place_all (λ i. addresses (window_part c b) ∷ []) (taken_on q s c other n) (bus_items q s c other (new_window q s c) n))) behind)
+        ap (λ n. are_placed (place_each (λ i taken. place_in (addresses (window_part c b)) i (taken_for q i.region taken)) (taken_on q s c test n) (bus_items q s c test (new_window q s c) n))) behind
+        ∙ ap (λ xs. are_placed (place_each (λ i taken. place_in (addresses (window_part c b)) i (taken_for q i.region taken)) xs (bus_items q s c test (new_window q s c) bus))) (taken_same c)
+        ∙ ap (λ xs. are_placed (place_each (λ i taken. place_in (addresses (window_part c b)) i (taken_for q i.region taken)) (taken_on q s c other bus) xs)) (items_same test other bus c (λ t listed beside class. same t listed beside))
+        ∙ sym (ap (λ n. are_placed (place_each (λ i taken. place_in (addresses (window_part c b)) i (taken_for q i.region taken)) (taken_on q s c other n) (bus_items q s c other (new_window q s c) n))) behind)
 
   module _ (system : IsSystem s) (nested : IsNested q.roots s) where
     -- so what stands holds by what is on a higher bus

@@ -11,3 +11,4 @@ pub mod ThereByBus
 pub mod ThereAlone
 pub mod StandingKept
 pub mod GrowingKept
+pub mod Told

@@ -1,5 +1,5 @@
 -- Each part is asked once at most, so what stands is told by what stands on lower buses and before it.
-use Rattle.std.proofs.Common.{◌≡◌, ℕ, zero, suc, ◌+◌, ◌<◌, inl, inr, List, [], ◌∷◌, length, Bool, true, false, cond, ◌&&◌, not, arith, sym, ◌∙◌, ap, subst, refl, Option, None, Some}
+use Rattle.std.proofs.Common.{◌≡◌, ℕ, zero, suc, ◌+◌, ◌<◌, inl, inr, List, [], ◌∷◌, length, Bool, true, false, cond, ◌&&◌, not, arith, sym, ◌∙◌, ap, subst, refl, Option, None, Some, ◌||◌}
 use Rattle.std.specs.Bool.{nat_lt, ◌==◌}
 use Rattle.std.specs.List.{Contains, list_all}
 use Rattle.std.proofs.lemmas.Bool.{cases_Bool, and_parts, and_from, or_cases, or_left, or_right, eqb-true, eq-eqb, lt-ltb, both_ways, false_from_ne_true}
@@ -12,7 +12,7 @@ use Rattle.plan_spec.proofs.Planning.Safe.{order_of}
 use Rattle.settle_spec.specs.FirstPlace.{ranges_are_apart}
 use Rattle.settle_spec.specs.Lists.{Request}
 use Rattle.settle_spec.specs.Parts.{FunctionPart, system_parts, function_parts, parts_of, header_bars, header_parts, addresses, is_part, lies_within, class_in, bridge_over, are_same_space}
-use Rattle.settle_spec.specs.Stands.{part_space, part_precedes, are_beside, is_in_lists, is_in_window, is_in_place, window_part, takes_from, stands_if, stands_within, stands}
+use Rattle.settle_spec.specs.Stands.{part_space, are_beside, is_in_lists, is_in_window, is_in_place, window_part, takes_from, stands_if, stands_within, stands, precedes, is_kept_off, leads_to_told}
 use Rattle.settle_spec.proofs.BridgeOver.{over_leads}
 use Rattle.stand_laws.specs.Standing.{IsStanding}
 use Rattle.stand_laws.specs.Order.{level, comes_first}
@@ -32,12 +32,16 @@ module _ (q : Request) (s : System) where
   unfolding stands_within
   stands_zero r = refl
 
+  -- what lines and a request for new places say of a part, whatever else stands
+  abbrev pub allowed : FunctionPart → Bool
+  allowed r = not (is_kept_off q s r) && (leads_to_told q s r || not q.anew)
+
   -- ---- what is no part never stands
 
   no_part_if : (test : FunctionPart → Bool) (r : FunctionPart) → is_part q s r.function r.part ≡ false → stands_if q s test r ≡ false
-  no_part_if test r off = elim (not q.anew) as (λ a. (a && is_part q s r.function r.part && is_in_place q s test r && list_all (λ t. not (takes_from q t r && test t)) (system_parts q s)) ≡ false) [
+  no_part_if test r off = elim (allowed r) as (λ a. (a && is_part q s r.function r.part && is_in_place q s test r && list_all (λ t. not (takes_from q s t r && test t)) (system_parts q s)) ≡ false) [
     | false ↦ refl
-    | true ↦ ap (λ b. b && is_in_place q s test r && list_all (λ t. not (takes_from q t r && test t)) (system_parts q s)) off
+    | true ↦ ap (λ b. b && is_in_place q s test r && list_all (λ t. not (takes_from q s t r && test t)) (system_parts q s)) off
   ]
 
   no_part : (others : ℕ) (r : FunctionPart) → is_part q s r.function r.part ≡ false → stands_within q s others r ≡ false
@@ -49,7 +53,7 @@ module _ (q : Request) (s : System) where
   -- two tests agree on the window over a bus, and on what takes addresses from a part
   pub record Agree (test other : FunctionPart → Bool) (r : FunctionPart) : Type 0 where
     pub window : (c : WindowKind) (b : Function) → is_root q.roots r.function.slot.bus ≡ false → LeadsTo s b r.function.slot.bus → test (window_part c b) ≡ other (window_part c b)
-    pub beside : (t : FunctionPart) → Contains (system_parts q s) t → takes_from q t r ≡ true → test t ≡ other t
+    pub beside : (t : FunctionPart) → Contains (system_parts q s) t → takes_from q s t r ≡ true → test t ≡ other t
 
   module _ (test other : FunctionPart → Bool) (r : FunctionPart) (agree : Agree test other r) where
     abbrev bus : ℕ
@@ -74,17 +78,17 @@ module _ (q : Request) (s : System) where
           ∙ sym (ap (λ b. cond b (is_in_lists q bus (addresses r) (part_space r)) (is_in_window other class (addresses r) (bridge_over s bus))) off)
     ]
 
-    not_taken : (t : FunctionPart) → Contains (system_parts q s) t → not (takes_from q t r && test t) ≡ not (takes_from q t r && other t)
-    not_taken t listed = elim (cases_Bool (takes_from q t r)) [
-      | inl takes ↦ ap (λ b. not (takes_from q t r && b)) (agree.beside t listed takes)
+    not_taken : (t : FunctionPart) → Contains (system_parts q s) t → not (takes_from q s t r && test t) ≡ not (takes_from q s t r && other t)
+    not_taken t listed = elim (cases_Bool (takes_from q s t r)) [
+      | inl takes ↦ ap (λ b. not (takes_from q s t r && b)) (agree.beside t listed takes)
       | inr off ↦ ap (λ b. not (b && test t)) off ∙ sym (ap (λ b. not (b && other t)) off)
     ]
 
     pub by_asked : stands_if q s test r ≡ stands_if q s other r
     by_asked =
-        ap (λ b. not q.anew && is_part q s r.function r.part && b && list_all (λ t. not (takes_from q t r && test t)) (system_parts q s)) in_place
-        ∙ ap (λ b. not q.anew && is_part q s r.function r.part && is_in_place q s other r && b)
-        (all_same (λ t. not (takes_from q t r && test t)) (λ t. not (takes_from q t r && other t)) (system_parts q s) not_taken)
+        ap (λ b. allowed r && is_part q s r.function r.part && b && list_all (λ t. not (takes_from q s t r && test t)) (system_parts q s)) in_place
+        ∙ ap (λ b. allowed r && is_part q s r.function r.part && is_in_place q s other r && b)
+        (all_same (λ t. not (takes_from q s t r && test t)) (λ t. not (takes_from q s t r && other t)) (system_parts q s) not_taken)
 
   -- ---- the parts of a system
 
@@ -139,23 +143,23 @@ module _ (q : Request) (s : System) where
   -- the three sides of what takes an address
   pub record Takes (t r : FunctionPart) : Type 0 where
     pub beside : are_beside q t r ≡ true
-    pub before : part_precedes q t r ≡ true
+    pub before : precedes q s t r ≡ true
     pub shares : not (ranges_are_apart (addresses t) (addresses r)) ≡ true
 
-  pub taking : (t r : FunctionPart) → takes_from q t r ≡ true → Takes t r
+  pub taking : (t r : FunctionPart) → takes_from q s t r ≡ true → Takes t r
   taking t r takes =
-      let two = and_parts (are_beside q t r && part_precedes q t r) (not (ranges_are_apart (addresses t) (addresses r))) takes in
-      let one = and_parts (are_beside q t r) (part_precedes q t r) two.0 in
+      let two = and_parts (are_beside q t r && precedes q s t r) (not (ranges_are_apart (addresses t) (addresses r))) takes in
+      let one = and_parts (are_beside q t r) (precedes q s t r) two.0 in
       record { beside = one.0; before = one.1; shares = two.1 }
 
-  beside_first : (t r : FunctionPart) → takes_from q t r ≡ true → comes_first q t r ≡ true
+  beside_first : (t r : FunctionPart) → takes_from q s t r ≡ true → comes_first q s t r ≡ true
   beside_first t r takes =
       let parts = taking t r takes in
       let below = level q t.function.slot.bus in
       let here = level q r.function.slot.bus in
       let siblings = (and_parts (are_siblings q.roots t.function.slot.bus r.function.slot.bus) (are_same_space (part_space t) (part_space r)) parts.beside).0 in
-      or_right (nat_lt below here) (below == here && part_precedes q t r)
-      (and_from (below == here) (part_precedes q t r) (eq-eqb below here (one_level t.function.slot.bus r.function.slot.bus siblings)) parts.before)
+      or_right (nat_lt below here) (below == here && precedes q s t r)
+      (and_from (below == here) (precedes q s t r) (eq-eqb below here (one_level t.function.slot.bus r.function.slot.bus siblings)) parts.before)
 
   module _ (nested : IsNested q.roots s) where
     rises : (b : Function) (bus : ℕ) → LeadsTo s b bus → is_root q.roots bus ≡ false → level q b.slot.bus < level q bus
@@ -168,21 +172,21 @@ module _ (q : Request) (s : System) where
           | inr none ↦ (let low = on_none b.slot.bus none in omega (arith, low, high, up, to))
         ]
 
-    window_first : (c : WindowKind) (b : Function) (r : FunctionPart) → LeadsTo s b r.function.slot.bus → is_root q.roots r.function.slot.bus ≡ false → comes_first q (window_part c b) r ≡ true
+    window_first : (c : WindowKind) (b : Function) (r : FunctionPart) → LeadsTo s b r.function.slot.bus → is_root q.roots r.function.slot.bus ≡ false → comes_first q s (window_part c b) r ≡ true
     window_first c b r leads off =
         let below = level q b.slot.bus in
         let here = level q r.function.slot.bus in
-        or_left (nat_lt below here) (below == here && part_precedes q (window_part c b) r) (lt-ltb below here (rises b r.function.slot.bus leads off))
+        or_left (nat_lt below here) (below == here && precedes q s (window_part c b) r) (lt-ltb below here (rises b r.function.slot.bus leads off))
 
     abbrev place : FunctionPart → ℕ
-    place r = before q (system_parts q s) r
+    place r = before q s (system_parts q s) r
 
     -- ---- one way alone
 
     -- where tests agree on what comes first, they agree on whom a part asks
     pub agree_before : (test other : FunctionPart → Bool) (r : FunctionPart)
         → ((c : WindowKind) (b : Function) → Contains s b → is_part q s b (Window c) ≡ false → test (window_part c b) ≡ other (window_part c b))
-        → ((t : FunctionPart) → Contains (system_parts q s) t → comes_first q t r ≡ true → test t ≡ other t) → Agree test other r
+        → ((t : FunctionPart) → Contains (system_parts q s) t → comes_first q s t r ≡ true → test t ≡ other t) → Agree test other r
     agree_before test other r none same = record {
       window = λ c b off leads. elim (cases_Bool (is_part q s b (Window c))) [
         | inl is ↦ same (window_part c b) (window_listed c b leads.0 is) (window_first c b r leads off)
@@ -200,14 +204,14 @@ module _ (q : Request) (s : System) where
         (agree_before (stands_within q s d) (stands_within q s e) r
         (λ c b in_b out. no_part d (window_part c b) out ∙ sym (no_part e (window_part c b) out))
         (λ t in_t first.
-        let less = falls q (system_parts q s) t r in_t first in
+        let less = falls q s (system_parts q s) t r in_t first in
         enough d e t in_t (omega (arith, less, hd)) (omega (arith, less, he))))
         ∙ sym (stands_step e r)
 
     pub stands_is : (r : FunctionPart) → Contains (system_parts q s) r → stands q s r ≡ stands_if q s (stands q s) r
     stands_is r listed =
         let all = length (system_parts q s) in
-        let low = few q (system_parts q s) r listed in
+        let low = few q s (system_parts q s) r listed in
         enough all (suc all) r listed low (omega (arith, low)) ∙ stands_step all r
 
     pub stands_by_itself : IsStanding q s (stands q s)
@@ -230,8 +234,8 @@ module _ (q : Request) (s : System) where
           ∙ by_asked test (stands_within q s d) r
           (agree_before test (stands_within q s d) r
           (λ c b in_b out. no_part_of (window_part c b) in_b out ∙ sym (no_part d (window_part c b) out))
-          (λ t in_t first. let less = falls q (system_parts q s) t r in_t first in as_within d t in_t (omega (arith, less, low))))
+          (λ t in_t first. let less = falls q s (system_parts q s) t r in_t first in as_within d t in_t (omega (arith, less, low))))
           ∙ sym (stands_step d r)
 
       pub stands_alone : (r : FunctionPart) → Contains (system_parts q s) r → test r ≡ stands q s r
-      stands_alone r listed = as_within (length (system_parts q s)) r listed (few q (system_parts q s) r listed)
+      stands_alone r listed = as_within (length (system_parts q s)) r listed (few q s (system_parts q s) r listed)

@@ -19,10 +19,11 @@ use Rattle.settle_spec.specs.LastPlace.{last_place_in}
 use Rattle.settle_spec.specs.Lists.{Request}
 use Rattle.settle_spec.specs.Parts.{FunctionPart, system_parts, addresses, class_in, lies_within, are_same_space}
 use Rattle.settle_spec.specs.Stands.{window_part, part_space, stands}
-use Rattle.settle_spec.specs.Items.{Item, Placed, Placing, AllPlaced, Lacks, and_placed, place_next, are_placed, taken_by, bus_items, new_window, has_room, has_room_behind, holds_within}
+use Rattle.settle_spec.specs.Items.{Item, Placed, Placing, AllPlaced, Lacks, and_placed, place_next, are_placed, taken_by, bus_items, new_window, has_room, has_room_behind, holds_within, place_each}
+use Rattle.settle_spec.specs.Lines.{lines_on, taken_for}
 use Rattle.settle_spec.specs.Places.{placed_of}
 use Rattle.settle_spec.specs.Reach.{reach}
-use Rattle.settle_spec.specs.Growth.{place_around, place_each, grown_to, grown_around, range_list, there_on, taken_around, window_comes_to, part_comes_to, is_clear, there_if, there_beside, there_within, there, comes_to}
+use Rattle.settle_spec.specs.Growth.{place_around, grown_to, grown_around, range_list, there_on, taken_around, window_comes_to, part_comes_to, is_clear, there_if, there_beside, there_within, there, comes_to}
 use Rattle.settle_spec.specs.GrowthLaws.{CanReach}
 use Rattle.settle_spec.proofs.FirstPlace.{in_is}
 use Rattle.settle_spec.proofs.LastSpot.{place_gives, last_is_place}
@@ -264,7 +265,7 @@ module _ (q : Request) (s : System) where
           items = bus_items q s c (λ r. is_some (there r)) (new_window q s c) (secondary b)
 
           find : Item → List Range → Option ℕ
-          find i taken = place_around (addresses (window_part c b)) (reach q s c b) taken i.extent
+          find i taken = place_around (addresses (window_part c b)) (reach q s c b) (taken_for q i.region taken) i.extent
 
           of_other : (t : Range) → Contains others t → lies_within t (reach q s c b) ≡ true
           of_other t has =
@@ -275,9 +276,9 @@ module _ (q : Request) (s : System) where
           of_placed placed all t has =
               let made : IsMade (λ (p : Placed). taken_by p.item p.at) placed t = in_map_to (λ (p : Placed). taken_by p.item p.at) placed t has in
               let p = made.from in
-              let at = each_found find (there_on q s there (λ r. are_same_space (window_space c) (part_space r)) (secondary b)) items placed all p made.has in
+              let at = each_found find (lines_on q (window_space c) (secondary b) ++ there_on q s there (λ r. are_same_space (window_space c) (part_space r)) (secondary b)) items placed all p made.has in
               let pos = aligned c (λ r. is_some (there r)) (secondary b) p.item at.listed in
-              let inside = place_in_reach (addresses (window_part c b)) (reach q s c b) at.taken p.item.extent p.at pos (opened c b is).forward can.last can.first at.found in
+              let inside = place_in_reach (addresses (window_part c b)) (reach q s c b) (taken_for q p.item.region at.taken) p.item.extent p.at pos (opened c b is).forward can.last can.first at.found in
               subst (λ t. lies_within t (reach q s c b) ≡ true) made.is (within_from (taken_by p.item p.at) (reach q s c b) inside)
 
           by : (p : Placing) → taken_around q s there c b ≡ p → grown_around c (addresses (window_part c b)) others (taken_around q s there c b) ≡ Some g → lies_within g (reach q s c b) ≡ true

@@ -1,5 +1,5 @@
 -- What is there is told by what is there on the bus behind and before it on its own bus: 256 buses behind one another are all.
-use Rattle.std.proofs.Common.{◌≡◌, ℕ, zero, suc, ◌+◌, ◌<◌, ◌≤◌, inl, inr, List, [], length, Option, None, Some, Bool, true, false, ◌&&◌, arith, ap, sym, ◌∙◌, refl}
+use Rattle.std.proofs.Common.{◌≡◌, ℕ, zero, suc, ◌+◌, ◌<◌, ◌≤◌, inl, inr, List, [], length, Option, None, Some, Bool, true, false, ◌&&◌, arith, ap, sym, ◌∙◌, refl, ◌++◌}
 use Rattle.std.specs.Bool.{◌==◌, if◌then◌else◌}
 use Rattle.std.specs.List.{Contains}
 use Rattle.std.specs.Option.{is_some}
@@ -10,12 +10,13 @@ use Rattle.pci_spec.specs.System.{System, Function, IsSystem, Part, Bar, Rom, Wi
 use Rattle.pci_spec.specs.Bus.{is_root, secondary, are_siblings, IsNested}
 use Rattle.plan_spec.specs.Plan.{same_class, is_open}
 use Rattle.plan_spec.proofs.Planning.Safe.{slots_of, order_of}
+use Rattle.settle_spec.specs.Lines.{lines_on, taken_for}
 use Rattle.settle_spec.specs.Lists.{Request}
 use Rattle.settle_spec.specs.Parts.{FunctionPart, system_parts, header_parts, addresses, class_in, are_same_space}
 use Rattle.settle_spec.specs.Stands.{are_beside, window_part, part_space, stands}
-use Rattle.settle_spec.specs.Items.{Item, bus_items, new_window, has_room_behind}
+use Rattle.settle_spec.specs.Items.{Item, bus_items, new_window, has_room_behind, place_each}
 use Rattle.settle_spec.specs.Reach.{reach}
-use Rattle.settle_spec.specs.Growth.{place_around, place_each, grown_around, range_list, there_on, taken_around, window_comes_to, part_comes_to, is_clear, there_if, there_beside, there_within, there, comes_to}
+use Rattle.settle_spec.specs.Growth.{place_around, grown_around, range_list, there_on, taken_around, window_comes_to, part_comes_to, is_clear, there_if, there_beside, there_within, there, comes_to}
 use Rattle.settle_spec.proofs.Nested.{at_secondary, is_no_root, on_it}
 use Rattle.stand_laws.specs.There.{height}
 use Rattle.stand_laws.proofs.Holding.{pieces_same, items_same_on}
@@ -43,8 +44,8 @@ module _ (q : Request) (s : System) where
       → window_comes_to q s one c b ≡ window_comes_to q s other c b
   comes_same one other c b same =
       ap (λ xs. grown_around c w xs (taken_around q s one c b)) (on_same one other (secondary b) same of_class)
-      ∙ ap (λ xs. grown_around c w (there_on q s other of_class (secondary b)) (place_each find xs (items one))) (on_same one other (secondary b) same of_space)
-      ∙ ap (λ is. grown_around c w (there_on q s other of_class (secondary b)) (place_each find (there_on q s other of_space (secondary b)) is))
+      ∙ ap (λ xs. grown_around c w (there_on q s other of_class (secondary b)) (place_each find (lines_on q (window_space c) (secondary b) ++ xs) (items one))) (on_same one other (secondary b) same of_space)
+      ∙ ap (λ is. grown_around c w (there_on q s other of_class (secondary b)) (place_each find (lines_on q (window_space c) (secondary b) ++ there_on q s other of_space (secondary b)) is))
       (items_same_on q s (λ r. is_some (one r)) (λ r. is_some (other r)) (secondary b) c (λ t listed there beside class. ap is_some (same t listed there beside)))
     where
       w : Range
@@ -57,7 +58,7 @@ module _ (q : Request) (s : System) where
       of_space r = are_same_space (window_space c) (part_space r)
 
       find : Item → List Range → Option ℕ
-      find i taken = place_around (addresses (window_part c b)) (reach q s c b) taken i.extent
+      find i taken = place_around (addresses (window_part c b)) (reach q s c b) (taken_for q i.region taken) i.extent
 
       items : (FunctionPart → Option Range) → List Item
       items there = bus_items q s c (λ r. is_some (there r)) (new_window q s c) (secondary b)

@@ -5,3 +5,4 @@ pub mod Holding
 pub mod Reach
 pub mod There
 pub mod KeptApart
+pub mod Told

@@ -12,7 +12,7 @@ use Rattle.stand_laws.specs.Order.{comes_first}
 pub record AreInOrder (q : Request) (s : System) (rs : List FunctionPart) : Type 0 where
   pub all : (r : FunctionPart) → Contains (system_parts q s) r → Contains rs r
   pub only : (r : FunctionPart) → Contains rs r → Contains (system_parts q s) r
-  pub order : AllPairs (λ r t. IsTrue (comes_first q r t)) rs
+  pub order : AllPairs (λ r t. IsTrue (comes_first q s r t)) rs
 
 -- one of the first parts
 pub record IsAmong (rs : List FunctionPart) (count : ℕ) (r : FunctionPart) : Type 0 where

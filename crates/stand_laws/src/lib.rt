@@ -5,3 +5,4 @@ pub mod holding_laws;
 pub mod kept_laws;
 pub mod reach_laws;
 pub mod standing_laws;
+pub mod told_laws;

@@ -1,0 +1,4 @@
+pub mod Standing
+pub mod Passes
+pub mod Kept
+pub mod Untold
