@@ -50,7 +50,7 @@ abbrev asked : Request
 asked = just_in host pools []
 
 planned_tree_stands : IsStandingSystem asked planned
-planned_tree_stands = planned_is_standing asked start planned pools (plan_writes (changes_between start planned)) 0 tree_is_plannable one_root tree_has_a_plan (has_just_pools host pools [])
+planned_tree_stands = planned_is_standing asked refl start planned pools (plan_writes (changes_between start planned)) 0 tree_is_plannable one_root tree_has_a_plan (has_just_pools host pools [])
 
 module _ (old new : Function) (old_image : IsImage old.image) (new_image : IsImage new.image) (rest : each_from 0 256 (λ offset. offset == 4 || byte_at new.image offset == byte_at old.image offset) ≡ true) where
   other_byte : (offset : ℕ) → (offset ≡ 4 → ⊥) → byte_at new.image offset ≡ byte_at old.image offset
@@ -106,7 +106,7 @@ abbrev without_device : System
 without_device = new_bridge ∷ device_off ∷ new_behind ∷ []
 
 still_stands : IsStandingSystem asked without_device
-still_stands = switched_stands asked planned without_device planned_tree_stands (bridge_itself, (device_switched, (behind_itself, tt)))
+still_stands = switched_stands asked refl planned without_device planned_tree_stands (bridge_itself, (device_switched, (behind_itself, tt)))
 
 nothing_is_cut_off : IsUncut asked without_device
 nothing_is_cut_off = record { left = λ f listed. by (λ f. has_left asked without_device f ≡ true → is_space_on f Io ≡ false) (λ h. absurd (both_ways false refl h)) (λ h. absurd (both_ways false refl h)) (λ h. absurd (both_ways false refl h)) f listed; above = above }
@@ -131,8 +131,8 @@ without_bridge = bridge_off ∷ new_device ∷ new_behind ∷ []
 
 is_unsound_without_bridge : IsSound host without_bridge → ⊥
 is_unsound_without_bridge sound =
-    let stands = switched_stands asked planned without_bridge planned_tree_stands (bridge_switched, (device_itself, (behind_itself, tt))) in
-    let uncut = sound_is_uncut asked without_bridge stands sound none_left in
+    let stands = switched_stands asked refl planned without_bridge planned_tree_stands (bridge_switched, (device_itself, (behind_itself, tt))) in
+    let uncut = sound_is_uncut asked refl without_bridge stands sound none_left in
     both_ways (is_cut_off_in asked without_bridge new_behind Memory) (uncut.above new_behind Memory (2, lit< tt, refl)) refl
   where
     none_left : (f : Function) → Contains without_bridge f → has_left asked without_bridge f ≡ true → is_space_on f Io ≡ false

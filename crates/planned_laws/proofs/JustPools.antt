@@ -18,16 +18,16 @@ use Rattle.pci_spec.specs.System.{Function, Io, is_space_on}
 use Rattle.std.specs.List.{Contains}
 
 pub planned_is_settled : PlannedIsSettled
-planned_is_settled q s t pools ws n plannable rising plan has fine =
+planned_is_settled q untold s t pools ws n plannable rising plan has fine =
     let system = moved_system s t plan.planned.moved plannable.system in
     let laid = plan_is_laid_out q.roots s t pools plannable rising plan.planned plan.placed in
     let none = leaves_nothing q t pools system plan.sound laid has in
-    let stand = all_stand q t pools system plan.sound laid has plannable.can.good in
+    let stand = all_stand q t pools system plan.sound laid has plannable.can.good untold in
     let off : (f : Function) → Contains t f → has_left q t f ≡ true → is_space_on f Io ≡ false = λ f listed left. absurd (both_ways (has_left q t f) (none f listed) left) in
-    (nothing_settled q t system plan.sound stand off fine, nothing_grows q t system plan.sound stand off fine)
+    (nothing_settled q untold t system plan.sound stand off fine, nothing_grows q untold t system plan.sound stand off fine)
 
 pub planned_is_standing : PlannedIsStanding
-planned_is_standing q s t pools ws n plannable rising plan has =
+planned_is_standing q untold s t pools ws n plannable rising plan has =
     let system = moved_system s t plan.planned.moved plannable.system in
     let laid = plan_is_laid_out q.roots s t pools plannable rising plan.planned plan.placed in
     record {
@@ -35,7 +35,7 @@ planned_is_standing q s t pools ws n plannable rising plan has =
       nested = plan.sound.nested;
       profile = plan.sound.profile;
       chains = plan.sound.chains;
-      stand = all_stand q t pools system plan.sound laid has plannable.can.good;
+      stand = all_stand q t pools system plan.sound laid has plannable.can.good untold;
     }
 
 pool_listed : (roots : List ℕ) (pools : Pools) (fixed : List Slot) (root : ℕ) (c : WindowKind) → is_listed (just_in roots pools fixed) root (pool_of pools c) c ≡ true
@@ -48,5 +48,5 @@ has_just_pools roots pools fixed = record { kept = refl; listed = λ root c is_o
 
 pub planned_is_settled_in_its_pools : PlannedIsSettledInItsPools
 planned_is_settled_in_its_pools roots s t pools ws n fixed p rising plan =
-    planned_is_settled (just_in roots pools fixed) s t pools ws n p rising plan (has_just_pools roots pools fixed)
+    planned_is_settled (just_in roots pools fixed) refl s t pools ws n p rising plan (has_just_pools roots pools fixed)
     (can_settle_where_planned roots s pools p.system p.nested p.profile p.chains rising p.addresses p.can).lists

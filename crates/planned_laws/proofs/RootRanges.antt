@@ -77,7 +77,7 @@ standing_is_listed q s r system nested in_r is = below q s system nested (suc r.
 
 -- The law: so does each part of what settling comes to.
 pub settled_is_listed : SettledIsListed
-settled_is_listed q s k r can in_r =
-    let is : IsStandingSystem (keeping q []) (settled q s k) = settled_is_standing q s k can [] in
+settled_is_listed q untold s k r can in_r =
+    let is : IsStandingSystem (keeping q []) (settled q s k) = settled_is_standing q untold s k can [] in
     let listed = standing_is_listed (keeping q []) (settled q s k) r is.system is.nested in_r (is.stand r in_r) in
     record { root = listed.root; over = listed.over; holds = listed.holds }

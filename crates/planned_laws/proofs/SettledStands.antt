@@ -22,7 +22,7 @@ use Rattle.settle_laws.proofs.Keeping.SettledSound.{settled_sound}
 use Rattle.planned_laws.specs.Switching.{IsStandingSystem, keeping}
 use Rattle.settle_laws.proofs.NothingSettled.{nothing_settled, nothing_grows}
 
-module _ (q : Request) (s : System) (k : Kept) (can : CanSettle q s k) (fixed : List Slot) where
+module _ (q : Request) (untold : q.told.ranges ≡ []) (s : System) (k : Kept) (can : CanSettle q s k) (fixed : List Slot) where
   abbrev kq : Request
   kq = keeping q fixed
 
@@ -38,7 +38,7 @@ module _ (q : Request) (s : System) (k : Kept) (can : CanSettle q s k) (fixed : 
     nested = new_nested q s k can;
     profile = new_profile q s k can;
     chains = new_chains q s k can;
-    stand = stand_kept q s k can fixed;
+    stand = stand_kept q s k can fixed untold;
   }
 
   -- ---- and nothing is to be settled
@@ -55,4 +55,4 @@ module _ (q : Request) (s : System) (k : Kept) (can : CanSettle q s k) (fixed : 
   settled_anew_is_settled =
       let system = new_system q s k can in
       let sound = settled_sound q s k can in
-      (nothing_settled kq t system sound settled_is_standing.stand left_off can.lists, nothing_grows kq t system sound settled_is_standing.stand left_off can.lists)
+      (nothing_settled kq untold t system sound settled_is_standing.stand left_off can.lists, nothing_grows kq untold t system sound settled_is_standing.stand left_off can.lists)

@@ -28,6 +28,7 @@ use Rattle.settle_laws.proofs.HeaderParts.{part_cases}
 use Rattle.settle_laws.proofs.InLists.{listed_in, within_from, within_gives}
 use Rattle.settle_laws.proofs.Kept.{off_roots, one_space}
 use Rattle.settle_laws.proofs.PartClasses.{by_tests, by_windows}
+use Rattle.settle_laws.proofs.Untold.{none_kept_off}
 use Rattle.planned_laws.specs.SettledPlans.{HasPools}
 use Rattle.planned_laws.proofs.Placed.{beside_apart, classes_agree, in_memory, in_prefetch, not_in_memory, open_above, over, space_by_class}
 use Rattle.settle_laws.proofs.NonePasses.{none_by}
@@ -164,5 +165,5 @@ module _ (q : Request) (t : System) (pools : Pools) (system : IsSystem t) (sound
         (one_space (part_space r) (part_space u) parts.1) (beside_of q.roots r.function u.function parts.0) (two_of r u differ))
 
     -- The law: each part stands.
-    pub all_stand : (r : FunctionPart) → Contains (system_parts q t) r → stands q t r ≡ true
-    all_stand r listed = all_in_place q t system sound.nested has.kept in_place two_apart r listed
+    pub all_stand : q.told.ranges ≡ [] → (r : FunctionPart) → Contains (system_parts q t) r → stands q t r ≡ true
+    all_stand untold r listed = all_in_place q t system sound.nested has.kept (λ u in_u. none_kept_off q untold t u) in_place two_apart r listed

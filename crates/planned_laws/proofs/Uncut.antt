@@ -6,4 +6,4 @@ use Rattle.planned_laws.specs.Switching.{SoundIsUncut}
 
 -- The law: a sound system is uncut.
 pub sound_is_uncut : SoundIsUncut
-sound_is_uncut q s is sound off = record { left = off; above = not_cut q s (as_it_stands q s) is.system is.nested (start_stays q s is.system sound is.stand off) }
+sound_is_uncut q untold s is sound off = record { left = off; above = not_cut q s (as_it_stands q s) is.system is.nested (start_stays q untold s is.system sound is.stand off) }

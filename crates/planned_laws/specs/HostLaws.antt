@@ -82,7 +82,7 @@ SoundForHostLiesInPlace =
 -- and settling it writes nothing, whatever is fixed, unless all is placed anew.
 abbrev pub SoundForHostIsSettled : Type 0
 SoundForHostIsSettled =
-    (q : Request) (s : System) → IsSystem s → given.IsSound (host_by q) q.roots s → HaveGaps q
+    (q : Request) → q.told.ranges ≡ [] → (s : System) → IsSystem s → given.IsSound (host_by q) q.roots s → HaveGaps q
     → RestLiesInPlace q s → OffLieApart q s → LeftIsOff q s → IsFalse q.anew
     → IsFalse (are_bad_lists q.roots q.lists)
     → (settle_keeping q s (as_it_stands q s) ≡ Settled []) × (settle_growing q s ≡ Settled [])

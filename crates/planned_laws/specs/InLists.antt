@@ -1,5 +1,5 @@
 -- Laws of where what stands lies: in a range that the root above it has.
-use Rattle.std.specs.Prelude.{◌≡◌, ◌⊎◌, ℕ, IsTrue, List}
+use Rattle.std.specs.Prelude.{◌≡◌, ◌⊎◌, ℕ, IsTrue, List, []}
 use Rattle.std.specs.List.{Contains}
 use Rattle.pci_spec.specs.System.{System, Function, IsSystem}
 use Rattle.pci_spec.specs.Bus.{is_root, IsNested}
@@ -32,5 +32,5 @@ StandingIsListed =
 -- and for each part of what settling comes to, behind bridges too.
 abbrev pub SettledIsListed : Type 0
 SettledIsListed =
-    (q : Request) (s : System) (k : Kept) (r : FunctionPart) → CanSettle q s k
+    (q : Request) → q.told.ranges ≡ [] → (s : System) (k : Kept) (r : FunctionPart) → CanSettle q s k
     → Contains (system_parts q (settled q s k)) r → HasListedRange q (settled q s k) r

@@ -31,7 +31,7 @@ pub record HasPools (q : Request) (pools : Pools) : Type 0 where
 -- In a sound system in which everything has its place in pools, each part stands where lists have these pools,
 abbrev pub LaidOutStands : Type 0
 LaidOutStands =
-    (q : Request) (t : System) (pools : Pools) → IsSystem t → IsSound q.roots t
+    (q : Request) → q.told.ranges ≡ [] → (t : System) (pools : Pools) → IsSystem t → IsSound q.roots t
     → IsLaidOut q.roots t pools → IsFalse (are_bad pools) → HasPools q pools → (r : FunctionPart)
     → Contains (system_parts q t) r → IsTrue (stands q t r)
 
@@ -45,7 +45,7 @@ LaidOutLeavesNothing =
 -- and so settling writes nothing, whatever may not be written.
 abbrev pub LaidOutIsSettled : Type 0
 LaidOutIsSettled =
-    (q : Request) (t : System) (pools : Pools) → IsSystem t → IsSound q.roots t
+    (q : Request) → q.told.ranges ≡ [] → (t : System) (pools : Pools) → IsSystem t → IsSound q.roots t
     → IsLaidOut q.roots t pools → IsFalse (are_bad pools) → HasPools q pools
     → IsFalse (are_bad_lists q.roots q.lists)
     → (settle_keeping q t (as_it_stands q t) ≡ Settled []) × (settle_growing q t ≡ Settled [])
@@ -62,7 +62,7 @@ PlannedIsLaidOut =
 -- so settling it writes nothing,
 abbrev pub PlannedIsSettled : Type 0
 PlannedIsSettled =
-    (q : Request) (s t : System) (pools : Pools) (ws : List Write) (n : ℕ)
+    (q : Request) → q.told.ranges ≡ [] → (s t : System) (pools : Pools) (ws : List Write) (n : ℕ)
     → IsPlannable q.roots s pools → IsStrictlyIncreasing q.roots → IsPlanOf q.roots s t pools ws n
     → HasPools q pools → IsFalse (are_bad_lists q.roots q.lists)
     → (settle_keeping q t (as_it_stands q t) ≡ Settled []) × (settle_growing q t ≡ Settled [])

@@ -45,14 +45,14 @@ StandingIsSound =
 -- and only then, as far as I/O is off where it has to be.
 abbrev pub SoundIsUncut : Type 0
 SoundIsUncut =
-    (q : Request) (s : System) → IsStandingSystem q s → IsSound q.roots s
+    (q : Request) → q.told.ranges ≡ [] → (s : System) → IsStandingSystem q s → IsSound q.roots s
     → ((f : Function) → Contains s f → IsTrue (has_left q s f) → IsFalse (is_space_on f Io))
     → IsUncut q s
 
 -- Then nothing is to be settled, whatever is fixed.
 abbrev pub StandingIsSettled : Type 0
 StandingIsSettled =
-    (q : Request) (s : System) → IsStandingSystem q s → IsUncut q s
+    (q : Request) → q.told.ranges ≡ [] → (s : System) → IsStandingSystem q s → IsUncut q s
     → IsFalse (are_bad_lists q.roots q.lists)
     → (settle_keeping q s (as_it_stands q s) ≡ Settled []) × (settle_growing q s ≡ Settled [])
 
@@ -71,7 +71,7 @@ pub record IsSwitched (old new : Function) : Type 0 where
 -- Each part stands whatever Command enables.
 abbrev pub SwitchedStands : Type 0
 SwitchedStands =
-    (q : Request) (s t : System) → IsStandingSystem q s → AllZip IsSwitched s t
+    (q : Request) → q.told.ranges ≡ [] → (s t : System) → IsStandingSystem q s → AllZip IsSwitched s t
     → IsStandingSystem q t
 
 -- Where all parts are enabled, nothing is cut off.
@@ -87,7 +87,7 @@ EnabledIsUncut =
 -- What a plan comes to is such a system, where lists have its pools,
 abbrev pub PlannedIsStanding : Type 0
 PlannedIsStanding =
-    (q : Request) (s t : System) (pools : Pools) (ws : List Write) (n : ℕ)
+    (q : Request) → q.told.ranges ≡ [] → (s t : System) (pools : Pools) (ws : List Write) (n : ℕ)
     → IsPlannable q.roots s pools → IsStrictlyIncreasing q.roots → IsPlanOf q.roots s t pools ws n
     → HasPools q pools → IsStandingSystem q t
 
@@ -98,12 +98,12 @@ keeping q fixed = record q { fixed = fixed; anew = false }
 -- and so is what settling comes to, whether all was placed anew or not.
 abbrev pub SettledIsStanding : Type 0
 SettledIsStanding =
-    (q : Request) (s : System) (k : Kept) (fixed : List Slot) → CanSettle q s k
+    (q : Request) → q.told.ranges ≡ [] → (s : System) (k : Kept) (fixed : List Slot) → CanSettle q s k
     → IsStandingSystem (keeping q fixed) (settled q s k)
 
 -- So settling that once more, with what stands kept, writes nothing, whatever is fixed then.
 abbrev pub SettledAnewIsSettled : Type 0
 SettledAnewIsSettled =
-    (q : Request) (s : System) (k : Kept) (fixed : List Slot) → CanSettle q s k
+    (q : Request) → q.told.ranges ≡ [] → (s : System) (k : Kept) (fixed : List Slot) → CanSettle q s k
     → (settle_keeping (keeping q fixed) (settled q s k) (as_it_stands (keeping q fixed) (settled q s k)) ≡ Settled [])
     × (settle_growing (keeping q fixed) (settled q s k) ≡ Settled [])

@@ -1,24 +1,32 @@
 -- In two systems that are alike everything gets the same place, where all is placed anew.
-use Rattle.std.proofs.Common.{◌≡◌, false, ℕ, zero, suc, List, [], ◌∷◌, ◌++◌, ◌&&◌, refl, sym, ◌∙◌, ap, subst, Option, None, Some}
+use Rattle.std.proofs.Common.{◌≡◌, true, false, inl, inr, map, Bool, ℕ, zero, suc, List, [], ◌∷◌, ◌++◌, ◌&&◌, refl, sym, ◌∙◌, ap, subst, Option, None, Some}
 use Rattle.std.specs.Bool.{IsTrue, ◌==◌, if◌then◌else◌}
-use Rattle.std.specs.List.{AllZip}
+use Rattle.std.specs.List.{AllZip, Contains, filter}
 use Rattle.std.specs.Option.{is_some}
 use Rattle.pci_spec.specs.Window.{WindowKind, IoWindow, MemoryWindow, PrefetchWindow}
 use Rattle.pci_spec.specs.Decoded.{Range}
-use Rattle.pci_spec.specs.System.{System, Function, Space, Io, Memory, space_of, is_bridge}
-use Rattle.pci_spec.specs.Bus.{secondary, is_root}
+use Rattle.pci_spec.specs.System.{System, Function, Space, Io, Memory, Part, space_of, is_bridge, is_window}
+use Rattle.pci_spec.specs.Bus.{secondary, is_behind, is_root}
 use Rattle.plan_spec.specs.Place.{range_from}
 use Rattle.settle_spec.specs.FirstPlace.{Extent, first_place}
 use Rattle.settle_spec.specs.Lists.{Request, class_ranges}
-use Rattle.settle_spec.specs.Parts.{FunctionPart, bridge_over}
+use Rattle.settle_spec.specs.Parts.{FunctionPart, bridge_over, are_same_space}
 use Rattle.settle_spec.specs.Stands.{rank, window_part}
-use Rattle.settle_spec.specs.Items.{Item, Placed, Placing, AllPlaced, Lacks, and_placed, place_next, place_all, taken_by, bus_items, new_window}
+use Rattle.settle_spec.specs.Items.{Item, Placed, Placing, AllPlaced, Lacks, and_placed, place_next, place_each, taken_by, bus_items, new_window}
 use Rattle.settle_spec.specs.FirstPlace.{is_high}
 use Rattle.settle_spec.specs.Places.{wide_ranges, root_ranges, placed_of, place_among, placed_range, first_lack}
 use Rattle.settle_spec.specs.Keeping.Places.{space_items, placing_within, placing_on, new_place, lacking_on, lacking}
-use Rattle.settle_laws.proofs.Anew.{new_ranges, ranges_anew, placing_anew}
+use Rattle.std.proofs.Math.Path.{fun_ext}
+use Rattle.std.proofs.lemmas.Bool.{both_ways, cases_Bool}
+use Rattle.pci_spec.proofs.Members.{in_head, in_tail}
+use Rattle.given_spec.specs.ToldRegion.{ToldRegion, told_regions}
+use Rattle.settle_spec.specs.Lines.{line_bus, line_range, is_line_behind, lines_behind, lines_on}
+use Rattle.settle_laws.proofs.Anew.{new_ranges, ranges_anew}
+use Rattle.settle_laws.proofs.ItemForms.{IsPlaceable, IsOwnPart, IsNewWindow}
+use Rattle.settle_laws.proofs.Keeping.Items.{space_items_are}
+use Rattle.settle_laws.proofs.Told.AnewPlaces.{find_anew, placing_off}
 use Rattle.settle_laws.proofs.Zipped.{BothOrNone, both_some, append_zip, find_zip}
-use Rattle.settle_laws.proofs.Alike.{IsAlike, IsAlikeRegion, bus_alike, of_bridges, space_alike}
+use Rattle.settle_laws.proofs.Alike.{IsAlike, IsAlikeRegion, behind_alike, bus_alike, of_bridges, space_alike}
 use Rattle.settle_laws.proofs.AlikeItems.{IsAlikeItem, rank_same, items_alike, windows_alike}
 use Rattle.settle_spec.specs.Kept.{Kept}
 
@@ -50,21 +58,19 @@ next_alike : (i j : Item) → IsAlikeItem i j → (o : Option ℕ) (rest more : 
 next_alike i j is None rest more same = is
 next_alike i j is (Some a) rest more same = and_alike i j is a (rest a) (more a) (same a)
 
-all_alike : (ranges others : Item → List Range) → ((i j : Item) → IsAlikeItem i j → ranges i ≡ others j) → (taken : List Range) (xs ys : List Item) → AllZip IsAlikeItem xs ys
-    → ArePlacedAlike (place_all ranges taken xs) (place_all others taken ys)
-all_alike ranges others same taken [] [] pairs = tt
-all_alike ranges others same taken [] (y ∷ ys) pairs = absurd pairs
-all_alike ranges others same taken (x ∷ xs) [] pairs = absurd pairs
-all_alike ranges others same taken (x ∷ xs) (y ∷ ys) (first, pairs) =
-    let rest = λ (a : ℕ). place_all ranges (taken_by x a ∷ taken) xs in
-    let more = λ (a : ℕ). place_all others (taken_by y a ∷ taken) ys in
-    let had = same x y first in
+each_alike : (find other : Item → List Range → Option ℕ) (taken : List Range) (xs ys : List Item) → ((i j : Item) (zs : List Range) → Contains xs i → IsAlikeItem i j → find i zs ≡ other j zs) → AllZip IsAlikeItem xs ys
+    → ArePlacedAlike (place_each find taken xs) (place_each other taken ys)
+each_alike find other taken [] [] same pairs = tt
+each_alike find other taken [] (y ∷ ys) same pairs = absurd pairs
+each_alike find other taken (x ∷ xs) [] same pairs = absurd pairs
+each_alike find other taken (x ∷ xs) (y ∷ ys) same (first, pairs) =
+    let rest = λ (a : ℕ). place_each find (taken_by x a ∷ taken) xs in
+    let more = λ (a : ℕ). place_each other (taken_by y a ∷ taken) ys in
     let extent = first.extent in
-    let place : first_place (ranges x) taken x.extent ≡ first_place (others y) taken y.extent = λ i. first_place (had i) taken (extent i) in
-    subst (λ o. ArePlacedAlike (place_next x (first_place (ranges x) taken x.extent) rest) (place_next y o more)) place
-    (next_alike x y first (first_place (ranges x) taken x.extent) rest more
-    (λ a. subst (λ r. ArePlacedAlike (place_all ranges (taken_by x a ∷ taken) xs) (place_all others (r ∷ taken) ys)) (ap (λ (e : Extent). range_from a e.size) extent)
-    (all_alike ranges others same (taken_by x a ∷ taken) xs ys pairs)))
+    subst (λ o. ArePlacedAlike (place_next x (find x taken) rest) (place_next y o more)) (same x y taken (in_head x xs) first)
+    (next_alike x y first (find x taken) rest more
+    (λ a. subst (λ r. ArePlacedAlike (place_each find (taken_by x a ∷ taken) xs) (place_each other (r ∷ taken) ys)) (ap (λ (e : Extent). range_from a e.size) extent)
+    (each_alike find other (taken_by x a ∷ taken) xs ys (λ i j zs has. same i j zs (in_tail x xs i has)) pairs)))
 
 range_alike : (o p : Option Placed) → BothOrNone IsAlikePlaced o p → placed_range o ≡ placed_range p
 range_alike None None both = refl
@@ -120,6 +126,44 @@ module _ (q : Request) (anew : IsTrue q.anew) (s t : System) (pairs : AllZip IsA
       append_zip IsAlikeItem (bus_items q s MemoryWindow k.stays (new_window q s MemoryWindow) bus) (bus_items q s PrefetchWindow k.stays (new_window q s PrefetchWindow) bus)
       (bus_items q t MemoryWindow j.stays (new_window q t MemoryWindow) bus) (bus_items q t PrefetchWindow j.stays (new_window q t PrefetchWindow) bus) (of_class MemoryWindow bus) (of_class PrefetchWindow bus)
 
+  -- ---- what lines hold behind
+
+  -- a window is of a bridge
+  of_bridge : (space : Space) (bus : ℕ) (i : Item) → Contains (space_items q s k space bus) i → is_window i.region.part ≡ true → is_bridge i.region.function ≡ true
+  of_bridge space bus i has window =
+      let is = (space_items_are q s k space bus i has).of in
+      let region : record { function = is.f; part = is.p } ≡ i.region = ap (λ (j : Item). j.region) is.is in
+      by is.f is.p region is.can
+    where
+      by : (f : Function) (p : Part) → record { function = f; part = p } ≡ i.region → {c : WindowKind} → IsPlaceable q s c f p → is_bridge i.region.function ≡ true
+      by f p region (IsOwnPart plain part) = absurd (both_ways (is_window p) plain (ap (λ (r : FunctionPart). is_window r.part) region ∙ window))
+      by f p region (IsNewWindow new bridge has) = ap (λ (r : FunctionPart). is_bridge r.function) (sym region) ∙ bridge
+
+  lines_alike : (space : Space) (bus : ℕ) (i j : Item) → Contains (space_items q s k space bus) i → IsAlikeItem i j → lines_behind q i.region ≡ lines_behind q j.region
+  lines_alike space bus i j has is = ap (λ (test : ToldRegion → Bool). map line_range (filter test (told_regions q.told))) (fun_ext same)
+    where
+      f : Function
+      f = i.region.function
+
+      g : Function
+      g = j.region.function
+
+      same_part : is_window i.region.part ≡ is_window j.region.part
+      same_part = ap is_window is.region.part
+
+      same_space : space_of f i.region.part ≡ space_of g j.region.part
+      same_space = space_alike f g is.region.function i.region.part ∙ ap (space_of g) is.region.part
+
+      same : (x : ToldRegion) → is_line_behind i.region x ≡ is_line_behind j.region x
+      same x = elim (cases_Bool (is_window i.region.part)) [
+        | inr plain ↦
+            ap (λ b. b && is_behind f (line_bus x) && are_same_space (space_of f i.region.part) x.told.space) plain
+            ∙ sym (ap (λ b. b && is_behind g (line_bus x) && are_same_space (space_of g j.region.part) x.told.space) (sym same_part ∙ plain))
+        | inl window ↦
+            let behind = behind_alike f g is.region.function (of_bridge space bus i has window) (line_bus x) in
+            λ n. same_part n && behind n && are_same_space (same_space n) x.told.space
+      ]
+
   -- ---- places
 
   placing_alike : (space : Space) (depth bus : ℕ) → ArePlacedAlike (placing_within q s k space depth bus) (placing_within q t j space depth bus)
@@ -128,10 +172,16 @@ module _ (q : Request) (anew : IsTrue q.anew) (s t : System) (pairs : AllZip IsA
   placing_alike space (suc depth) bus =
       let placed = λ (over : ℕ). placed_of (placing_within q s k space depth over) in
       let others = λ (over : ℕ). placed_of (placing_within q t j space depth over) in
-      subst (λ x. ArePlacedAlike x (placing_within q t j space (suc depth) bus)) (sym (placing_anew q s k none space depth bus))
-      (subst (ArePlacedAlike (place_all (ranges_anew q s placed) [] (space_items q s k space bus))) (sym (placing_anew q t j no_other space depth bus))
-      (all_alike (ranges_anew q s placed) (ranges_anew q t others) (ranges_alike placed others (λ over. placed_alike (placing_within q s k space depth over) (placing_within q t j space depth over) (placing_alike space depth over)))
-      [] (space_items q s k space bus) (space_items q t j space bus) (space_items_alike space bus)))
+      let lower = λ (over : ℕ). placed_alike (placing_within q s k space depth over) (placing_within q t j space depth over) (placing_alike space depth over) in
+      subst (λ x. ArePlacedAlike x (placing_within q t j space (suc depth) bus)) (sym (placing_off q s k none space depth bus))
+      (subst (ArePlacedAlike (place_each (find_anew q s k none placed) (lines_on q space bus) (space_items q s k space bus))) (sym (placing_off q t j no_other space depth bus))
+      (each_alike (find_anew q s k none placed) (find_anew q t j no_other others) (lines_on q space bus) (space_items q s k space bus) (space_items q t j space bus)
+      (λ x y zs has is.
+      let ranges = ranges_alike placed others lower x y is in
+      let lines = lines_alike space bus x y has is in
+      let extent = is.extent in
+      λ n. first_place (ranges n) (lines n ++ zs) (extent n))
+      (space_items_alike space bus)))
 
   pub new_places_alike : (r u : FunctionPart) → IsAlikeRegion r u → BothOrNone IsAlikePlaced (new_place q s k r) (new_place q t j u)
   new_places_alike r u is =

@@ -1,5 +1,5 @@
 -- Each part stands where each lies in its list or window and no two beside one another share an address, whichever comes first.
-use Rattle.std.proofs.Common.{◌≡◌, ◌&&◌, ℕ, ◌+◌, ◌*◌, inl, inr, List, Bool, true, false, not, arith, refl, sym, ◌∙◌, ap, subst}
+use Rattle.std.proofs.Common.{◌≡◌, ◌&&◌, ◌||◌, ℕ, ◌+◌, ◌*◌, inl, inr, List, Bool, true, false, not, arith, refl, sym, ◌∙◌, ap, subst}
 use Rattle.std.specs.Bool.{◌==◌, nat_lt}
 use Rattle.std.specs.List.{Contains, list_all}
 use Rattle.std.proofs.lemmas.Bool.{and_from, and_parts, both_ways, cases_Bool, eq-eqb, eqb-true, false_from_ne_true, lt-ltb, or_cases, or_left, or_right}
@@ -16,7 +16,7 @@ use Rattle.plan_spec.proofs.Planning.Writes.{same_fields}
 use Rattle.settle_spec.specs.FirstPlace.{ranges_are_apart}
 use Rattle.settle_spec.specs.Lists.{Request}
 use Rattle.settle_spec.specs.Parts.{FunctionPart, system_parts, function_parts, parts_of, header_parts, addresses, is_part}
-use Rattle.settle_spec.specs.Stands.{rank, part_precedes, are_beside, is_in_place, takes_from, stands}
+use Rattle.settle_spec.specs.Stands.{rank, are_beside, is_in_place, is_kept_off, leads_to_told, takes_from, stands, precedes}
 use Rattle.stand_laws.specs.Standing.{IsStanding}
 use Rattle.stand_laws.proofs.Order.{precedes_itself}
 use Rattle.stand_laws.proofs.Standing.{stands_alone}
@@ -105,14 +105,14 @@ module _ (q : Request) (s : System) where
 
     -- ---- the law
 
-    module _ (nested : IsNested q.roots s) (kept : q.anew ≡ false) (place : (r : FunctionPart) → Contains (system_parts q s) r → is_in_place q s looked_at r ≡ true)
+    module _ (nested : IsNested q.roots s) (kept : q.anew ≡ false) (off : (r : FunctionPart) → Contains (system_parts q s) r → is_kept_off q s r ≡ false) (place : (r : FunctionPart) → Contains (system_parts q s) r → is_in_place q s looked_at r ≡ true)
         (apart : (r t : FunctionPart) → Contains (system_parts q s) r → Contains (system_parts q s) t → are_beside q r t ≡ true → (rank r ≡ rank t → ⊥) → ranges_are_apart (addresses r) (addresses t) ≡ true) where
-      none_takes : (t r : FunctionPart) → Contains (system_parts q s) t → Contains (system_parts q s) r → takes_from q t r ≡ false
-      none_takes t r in_t in_r = false_from_ne_true (takes_from q t r) (λ takes.
-          let two = and_parts (are_beside q t r && part_precedes q t r) (not (ranges_are_apart (addresses t) (addresses r))) takes in
-          let one = and_parts (are_beside q t r) (part_precedes q t r) two.0 in
+      none_takes : (t r : FunctionPart) → Contains (system_parts q s) t → Contains (system_parts q s) r → takes_from q s t r ≡ false
+      none_takes t r in_t in_r = false_from_ne_true (takes_from q s t r) (λ takes.
+          let two = and_parts (are_beside q t r && precedes q s t r) (not (ranges_are_apart (addresses t) (addresses r))) takes in
+          let one = and_parts (are_beside q t r) (precedes q s t r) two.0 in
           let differ : (rank t ≡ rank r → ⊥) = λ same.
-          both_ways (part_precedes q r r) (precedes_itself q r) (subst (λ x. part_precedes q x r ≡ true) (one_region t r (looked t in_t) (looked r in_r) same) one.1) in
+          both_ways (precedes q s r r) (precedes_itself q s r) (subst (λ x. precedes q s x r ≡ true) (one_region t r (looked t in_t) (looked r in_r) same) one.1) in
           both_ways (not (ranges_are_apart (addresses t) (addresses r))) (ap not (apart t r in_t in_r one.0 differ)) two.1)
 
       standing : IsStanding q s looked_at
@@ -120,9 +120,11 @@ module _ (q : Request) (s : System) where
         each = λ r listed.
             let part = (looked r listed).part in
             part
-            ∙ sym (and_from (not q.anew && looked_at r && is_in_place q s looked_at r) (list_all (λ t. not (takes_from q t r && looked_at t)) (system_parts q s))
-            (and_from (not q.anew && looked_at r) (is_in_place q s looked_at r) (and_from (not q.anew) (looked_at r) (ap not kept) part) (place r listed))
-            (all_from (λ t. not (takes_from q t r && looked_at t)) (system_parts q s) (λ t in_t. ap (λ b. not (b && looked_at t)) (none_takes t r in_t listed))));
+            ∙ sym (and_from (not (is_kept_off q s r) && (leads_to_told q s r || not q.anew) && looked_at r && is_in_place q s looked_at r) (list_all (λ t. not (takes_from q s t r && looked_at t)) (system_parts q s))
+            (and_from (not (is_kept_off q s r) && (leads_to_told q s r || not q.anew) && looked_at r) (is_in_place q s looked_at r)
+            (and_from (not (is_kept_off q s r) && (leads_to_told q s r || not q.anew)) (looked_at r)
+            (and_from (not (is_kept_off q s r)) (leads_to_told q s r || not q.anew) (ap not (off r listed)) (or_right (leads_to_told q s r) (not q.anew) (ap not kept))) part) (place r listed))
+            (all_from (λ t. not (takes_from q s t r && looked_at t)) (system_parts q s) (λ t in_t. ap (λ b. not (b && looked_at t)) (none_takes t r in_t listed))));
         only = λ r listed is. is;
       }
 

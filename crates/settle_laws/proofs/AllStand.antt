@@ -11,10 +11,11 @@ use Rattle.plan_spec.specs.Plan.{bridges_above}
 use Rattle.plan_spec.proofs.Planning.AboveBuses.{above_to, above_from, root_or_led}
 use Rattle.plan_spec.proofs.Planning.Behind.{behind_range, bridge_between}
 use Rattle.plan_spec.proofs.Planning.Safe.{order_of}
+use Rattle.settle_spec.specs.Lines.{taken_for}
 use Rattle.settle_spec.specs.Lists.{Request}
 use Rattle.settle_spec.specs.Parts.{FunctionPart, system_parts, addresses, class_in}
 use Rattle.settle_spec.specs.Stands.{window_part, stands}
-use Rattle.settle_spec.specs.Items.{Item, place_all, are_placed, taken_on, bus_items, has_of, has_room, has_room_behind, stays, new_window}
+use Rattle.settle_spec.specs.Items.{Item, place_each, place_in, are_placed, taken_on, bus_items, has_of, has_room, has_room_behind, stays, new_window}
 use Rattle.settle_spec.proofs.Nested.{is_no_root, one_bridge}
 use Rattle.stand_laws.specs.Holding.{TellsRoom}
 use Rattle.stand_laws.proofs.Holding.{holds_alone, stays_on_root, stays_by_bus}
@@ -84,7 +85,7 @@ module _ (q : Request) (s : System) (system : IsSystem s) (nested : IsNested q.r
   has_its_room f (Bar n) = refl
   has_its_room f Rom = refl
   has_its_room f (Window c) =
-      ap (λ items. are_placed (place_all (λ i. addresses (window_part c f) ∷ []) (taken_on q s c (stands q s) (secondary f)) items)) (no_items (stands q s) all c (secondary f))
+      ap (λ items. are_placed (place_each (λ i taken. place_in (addresses (window_part c f)) i (taken_for q i.region taken)) (taken_on q s c (stands q s) (secondary f)) items)) (no_items (stands q s) all c (secondary f))
 
   holding : TellsRoom q s (stands q s)
   holding r listed = sym (ap (λ b. stands q s r && b) (has_its_room r.function r.part) ∙ and_true (stands q s r))

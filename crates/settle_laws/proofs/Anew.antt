@@ -17,9 +17,10 @@ use Rattle.settle_spec.specs.Kept.{Kept}
 use Rattle.settle_spec.specs.Keeping.Places.{space_items, taken_at, place_behind, place_of_item, placing_within}
 use Rattle.settle_spec.proofs.Buses.{each_same}
 use Rattle.settle_laws.proofs.EachPlaced.{each_all}
-use Rattle.settle_laws.proofs.Keeping.Buses.{placing_step}
+use Rattle.settle_laws.proofs.Keeping.Buses.{plain_step}
+use Rattle.settle_laws.proofs.Untold.{taken_at_is}
 
-nowhere : {X : Type 0} (test : X → Bool) (xs : List X) → ((x : X) → test x ≡ false) → filter test xs ≡ []
+pub nowhere : {X : Type 0} (test : X → Bool) (xs : List X) → ((x : X) → test x ≡ false) → filter test xs ≡ []
 nowhere test [] none = refl
 nowhere test (x ∷ xs) none = ap (λ b. cond b (x ∷ filter test xs) (filter test xs)) (none x) ∙ nowhere test xs none
 
@@ -33,9 +34,9 @@ ranges_anew q s placed i =
     if is_root q.roots i.region.function.slot.bus then root_ranges q i
     else new_ranges placed i.class (bridge_over s i.region.function.slot.bus)
 
-module _ (q : Request) (s : System) (k : Kept) (none : (r : FunctionPart) → k.stays r ≡ false) where
+module _ (q : Request) (untold : q.told.ranges ≡ []) (s : System) (k : Kept) (none : (r : FunctionPart) → k.stays r ≡ false) where
   pub none_taken : (space : Space) (bus : ℕ) → taken_at q s k space bus ≡ []
-  none_taken space bus = ap (map k.range) (nowhere (λ r. are_siblings q.roots bus r.function.slot.bus && are_same_space space (part_space r) && k.stays r) (system_parts q s)
+  none_taken space bus = taken_at_is q untold s k space bus ∙ ap (map k.range) (nowhere (λ r. are_siblings q.roots bus r.function.slot.bus && are_same_space space (part_space r) && k.stays r) (system_parts q s)
       (λ r. and_right (are_siblings q.roots bus r.function.slot.bus && are_same_space space (part_space r)) (k.stays r) (none r)))
 
   behind_anew : (placed : ℕ → List Placed) (i : Item) (xs : List Range) (o : Option Function) → place_behind k placed i xs o ≡ first_place (new_ranges placed i.class o) xs i.extent
@@ -54,7 +55,7 @@ module _ (q : Request) (s : System) (k : Kept) (none : (r : FunctionPart) → k.
       → placing_within q s k space (suc depth) bus ≡ place_all (ranges_anew q s (λ over. placed_of (placing_within q s k space depth over))) [] (space_items q s k space bus)
   placing_anew space depth bus =
       let placed = λ (over : ℕ). placed_of (placing_within q s k space depth over) in
-      placing_step q s k space depth bus
+      plain_step q s k untold space depth bus
       ∙ each_same (place_of_item q s k placed) (λ i xs. first_place (ranges_anew q s placed i) xs i.extent) (taken_at q s k space bus) (space_items q s k space bus) (λ i xs has. place_anew placed i xs)
       ∙ each_all (ranges_anew q s placed) (taken_at q s k space bus) (space_items q s k space bus)
       ∙ ap (λ xs. place_all (ranges_anew q s placed) xs (space_items q s k space bus)) (none_taken space bus)

@@ -9,10 +9,9 @@ use Rattle.plan_spec.specs.Place.{range_from}
 use Rattle.plan_spec.proofs.Planning.Behind.{any_from}
 use Rattle.settle_spec.specs.FirstPlace.{Extent, ranges_are_apart, first_place}
 use Rattle.settle_spec.specs.Stands.{rank}
-use Rattle.settle_spec.specs.Items.{Item, Placed, Placing, AllPlaced, Lacks, and_placed, place_next, are_placed, place_all, taken_by}
+use Rattle.settle_spec.specs.Items.{Item, Placed, Placing, AllPlaced, Lacks, and_placed, place_next, are_placed, place_all, taken_by, place_each}
 use Rattle.settle_spec.specs.Places.{placed_of, place_among}
 use Rattle.settle_spec.specs.PlacingLaws.{PlacesAreApart, HasOtherRank}
-use Rattle.settle_spec.specs.Growth.{place_each}
 use Rattle.settle_spec.proofs.FirstSpot.{IsApart}
 use Rattle.settle_laws.proofs.Finding.{found, is_found}
 use Rattle.settle_laws.proofs.PlacedBus.{pairs_either}

@@ -1,4 +1,6 @@
 -- A worked tree that can be settled, anew or not: the laws say something of it.
+use Rattle.settle_laws.proofs.Keeping.AgainKept.{all_stand}
+use Rattle.settle_laws.proofs.Told.OnlyHeld.{held_of}
 use Rattle.std.proofs.Common.{◌≡◌, ◌^◌, ◌<◌, [], ◌∷◌, inl, inr, refl, Bool, true, false, arith, subst, None}
 use Rattle.std.specs.Bool.{IsTrue, IsFalse}
 use Rattle.std.specs.List.{Contains}
@@ -64,20 +66,20 @@ tree_is_settled anew = settled_sound (asked anew) start (standing anew) (tree_ca
 -- settled once more it stays as it is,
 tree_stays : (anew : Bool)
     → settled (asked anew) (settled (asked anew) start (standing anew)) (as_it_stands (asked anew) (settled (asked anew) start (standing anew))) ≡ settled (asked anew) start (standing anew)
-tree_stays anew = settled_again (asked anew) start (standing anew) (tree_can_settle anew) (λ all. refl)
+tree_stays anew = settled_again (asked anew) (held_of (asked anew) refl) start (standing anew) (tree_can_settle anew) (all_stand (asked anew) refl start (standing anew) (tree_can_settle anew)) (λ all. refl)
 
 -- and all of it stays, where not all is placed anew
 its_parts_stay : (r : FunctionPart) → Contains (system_parts request (settled request start (standing false))) r → IsTrue (stays request (settled request start (standing false)) r)
 its_parts_stay r listed =
     let can = tree_can_settle false in
-    all_stay request (settled request start (standing false)) (new_system request start (standing false) can) (new_nested request start (standing false) can) (all_stand request start (standing false) can refl) r listed
+    all_stay request (settled request start (standing false)) (new_system request start (standing false) can) (new_nested request start (standing false) can) (all_stand request refl start (standing false) can refl) r listed
 
 -- so the hypotheses of the laws of a sound start are met
 its_parts_lie : LieInPlace request (settled request start (standing false))
-its_parts_lie = standing_lies request (settled request start (standing false)) (new_system request start (standing false) (tree_can_settle false)) (tree_is_settled false) (all_stand request start (standing false) (tree_can_settle false) refl)
+its_parts_lie = standing_lies request (settled request start (standing false)) (new_system request start (standing false) (tree_can_settle false)) (tree_is_settled false) (all_stand request refl start (standing false) (tree_can_settle false) refl)
 
 what_is_off_lies_apart : OffLieApart request (settled request start (standing false))
-what_is_off_lies_apart = standing_apart request (settled request start (standing false)) (new_system request start (standing false) (tree_can_settle false)) (tree_is_settled false) (all_stand request start (standing false) (tree_can_settle false) refl)
+what_is_off_lies_apart = standing_apart request (settled request start (standing false)) (new_system request start (standing false) (tree_can_settle false)) (tree_is_settled false) (all_stand request refl start (standing false) (tree_can_settle false) refl)
 
 -- ---- what settling leaves alone
 

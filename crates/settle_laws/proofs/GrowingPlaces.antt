@@ -4,7 +4,7 @@ use Rattle.std.specs.Bool.{nat_lt, if◌then◌else◌}
 use Rattle.std.specs.List.{Contains, AllPairs}
 use Rattle.std.specs.Option.{is_some}
 use Rattle.std.proofs.lemmas.Bool.{cases_Bool, false≢true, both_ways, and_right, false_from_ne_true}
-use Rattle.std.proofs.lemmas.List.Elements.{Contains-append_right}
+use Rattle.std.proofs.lemmas.List.Elements.{Contains-append_left, Contains-append_right}
 use Rattle.pci_spec.specs.Window.{WindowKind}
 use Rattle.pci_spec.specs.Decoded.{Range}
 use Rattle.pci_spec.specs.System.{System, Function, IsSystem, is_bridge, window_space}
@@ -16,12 +16,12 @@ use Rattle.settle_spec.specs.LastPlace.{last_place_in}
 use Rattle.settle_spec.specs.Lists.{Request}
 use Rattle.settle_spec.specs.Parts.{FunctionPart, system_parts, header_parts, addresses, class_in, are_same_space}
 use Rattle.settle_spec.specs.Stands.{part_space, window_part, stands}
-use Rattle.settle_spec.specs.Items.{Item, Placed, Placing, AllPlaced, Lacks, taken_by, bus_items, highest_in, new_window, has_room_behind}
+use Rattle.settle_spec.specs.Items.{Item, Placed, Placing, AllPlaced, Lacks, taken_by, bus_items, highest_in, new_window, has_room_behind, place_each, place_in}
 use Rattle.settle_spec.specs.Places.{placed_of, place_among}
 use Rattle.settle_spec.specs.PlacingLaws.{HasOtherRank}
 use Rattle.settle_spec.specs.Reach.{reach}
-use Rattle.settle_spec.specs.Growth.{place_around, place_each, grown_to, grown_around, there_on, taken_around, window_comes_to, there, comes_to, takes, has_grown}
-use Rattle.settle_spec.specs.Kept.{is_kept, stays_growing, range_growing, place_of, place_in, growing}
+use Rattle.settle_spec.specs.Growth.{place_around, grown_to, grown_around, there_on, taken_around, window_comes_to, there, comes_to, takes, has_grown}
+use Rattle.settle_spec.specs.Kept.{is_kept, stays_growing, range_growing, place_of, growing}
 use Rattle.settle_spec.specs.Keeping.Places.{taken_at}
 use Rattle.settle_spec.proofs.FirstPlace.{in_is}
 use Rattle.settle_spec.proofs.FirstSpot.{IsApart}
@@ -35,13 +35,15 @@ use Rattle.stand_laws.proofs.Reach.{some_is}
 use Rattle.stand_laws.proofs.Standing.{window_listed, stands_by_itself}
 use Rattle.stand_laws.proofs.There.{there_on_from}
 use Rattle.stand_laws.proofs.ThereAlone.{unstanding}
-use Rattle.settle_laws.specs.KeptLaws.{IsAside, IsAlikeIn, HavePlaces, IsGrown}
+use Rattle.settle_laws.specs.KeptLaws.{IsAside, IsAlikeIn, AreOffBehind, HavePlaces, IsGrown}
 use Rattle.settle_laws.proofs.EachPlaced.{IsFreeAt, AreFree, each_free, looked_up, among_is}
 use Rattle.settle_laws.proofs.Held.{same_itself}
 use Rattle.settle_laws.proofs.ItemRanks.{items_differ}
 use Rattle.settle_laws.proofs.Kept.{in_regions}
 use Rattle.settle_laws.proofs.LowWindows.{grown_first, grown_last}
-use Rattle.settle_laws.proofs.KeptTaken.{kept_there, items_aligned, item_class, leads_to, standing_places}
+use Rattle.settle_laws.proofs.KeptTaken.{IsKeptThere, kept_there, items_aligned, item_class, leads_to, standing_places}
+use Rattle.settle_spec.specs.Lines.{lines_on, lines_behind, taken_for}
+use Rattle.settle_laws.proofs.Told.Places.{found_each}
 
 -- ---- places around a window are off what is taken
 
@@ -123,7 +125,7 @@ module _ (q : Request) (s : System) (system : IsSystem s) (nested : IsNested q.r
 
       module _ (low : WindowsAreLow q s) where
         as_it_was : (taken : List Range) → IsAlikeIn (range_growing q s w) taken (taken_at q s (growing q s) (window_space c) bus) → IsAlikeIn (range_growing q s w) (taken_at q s (growing q s) (window_space c) bus) taken
-            → HavePlaces (range_growing q s w) ((growing q s).place b) taken (bus_items q s c (stays_growing q s) (new_window q s c) bus)
+            → HavePlaces q (range_growing q s w) ((growing q s).place b) taken (bus_items q s c (stays_growing q s) (new_window q s c) bus)
         as_it_was = standing_places q s (growing q s) system nested b listed bridge
             (growing_kept q s system nested low (items_aligned q s (growing q s))) c keeps (same_range q s w off) holds
             (λ t in_t there beside class. stays_there t beside class ∙ or_false (has_grown q s t) (has_room_behind q s t) (not_grown t beside class))
@@ -140,13 +142,13 @@ module _ (q : Request) (s : System) (system : IsSystem s) (nested : IsNested q.r
       items = bus_items q s c before (new_window q s c) bus
 
       abbrev taken_there : List Range
-      taken_there = there_on q s (there q s) (λ r. are_same_space (window_space c) (part_space r)) bus
+      taken_there = lines_on q (window_space c) bus ++ there_on q s (there q s) (λ r. are_same_space (window_space c) (part_space r)) bus
 
       abbrev others : List Range
       others = there_on q s (there q s) (λ r. same_class c (class_in q s r.function r.part)) bus
 
       abbrev find : Item → List Range → Option ℕ
-      find i taken = place_around (addresses w) (reach q s c b) taken i.extent
+      find i taken = place_around (addresses w) (reach q s c b) (taken_for q i.region taken) i.extent
 
       -- what is there behind it is what stays there
       same_there : (t : FunctionPart) → Contains s t.function → Contains (header_parts t.function) t.part → are_siblings q.roots bus t.function.slot.bus ≡ true → class_in q s t.function t.part ≡ c → stays_growing q s t ≡ before t
@@ -189,9 +191,23 @@ module _ (q : Request) (s : System) (system : IsSystem s) (nested : IsNested q.r
           by_stand g comes true e = by_placed g comes (taken_around q s (there q s) c b) refl e
           by_stand g comes false e = absurd (false≢true (ap is_some e))
 
+      -- a place that is found is off what is taken, and what lines hold behind
+      found_free : (i : Item) (xs : List Range) (a : ℕ) → Contains items i → find i xs ≡ Some a → IsFreeAt i.extent (taken_for q i.region xs) a
+      found_free i xs a has is = around_free (addresses w) (reach q s c b) (taken_for q i.region xs) i.extent a (items_aligned q s (growing q s) c before bus i has) is
+
       free : AreFree taken_there items come_to.placed
       free = each_free find taken_there items come_to.placed
-          (λ i xs a has is. around_free (addresses w) (reach q s c b) xs i.extent a (items_aligned q s (growing q s) c before bus i has) is) come_to.all
+          (λ i xs a has is.
+          let at = found_free i xs a has is in
+          record { multiple = at.multiple; free = λ t in_t. at.free t (Contains-append_right (lines_behind q i.region) xs t in_t); highest = at.highest }) come_to.all
+
+      in_items : (p : Placed) → Contains come_to.placed p → Contains items p.item
+      in_items p has = subst (λ is. Contains is p.item) free.all (in_map_from (λ (p : Placed). p.item) come_to.placed p has)
+
+      off_behind : AreOffBehind q come_to.placed
+      off_behind p t has behind =
+          let at = found_each find taken_there items come_to.placed come_to.all p has in
+          (found_free p.item at.beside p.at (in_items p has) at.is).free t (Contains-append_left (lines_behind q p.item.region) at.beside t behind)
 
       differ : AllPairs HasOtherRank (map (λ (p : Placed). p.item) come_to.placed)
       differ = subst (AllPairs HasOtherRank) (sym free.all) (items_differ q s c before (new_window q s c) system bus)
@@ -199,8 +215,7 @@ module _ (q : Request) (s : System) (system : IsSystem s) (nested : IsNested q.r
       known : (p : Placed) (xs : List Range) → Contains come_to.placed p → (growing q s).place b p.item xs ≡ Some p.at
       known p xs has =
           let i = p.item in
-          let in_items : Contains items i = subst (λ is. Contains is i) free.all (in_map_from (λ (p : Placed). p.item) come_to.placed p has) in
-          let class = item_class q s (growing q s) c before bus i in_items in
+          let class = item_class q s (growing q s) c before bus i (in_items p has) in
           ap (λ d. if has_grown q s (window_part d b) then place_of (place_among i.region (placed_of (taken_around q s (there q s) d b))) else place_in (addresses (window_part d b)) i xs) class
           ∙ ap (λ t. if t then place_of (place_among i.region (placed_of (taken_around q s (there q s) c b))) else place_in (addresses w) i xs) grown
           ∙ ap (λ p. place_of (place_among i.region (placed_of p))) come_to.all
@@ -216,26 +231,35 @@ module _ (q : Request) (s : System) (system : IsSystem s) (nested : IsNested q.r
           (Contains-append_right others (map (λ (p : Placed). taken_by p.item p.at) come_to.placed) (taken_by p.item p.at) (in_map_from (λ (p : Placed). taken_by p.item p.at) come_to.placed p has))))
 
       -- and off what stays behind it
-      off_kept : (p : Placed) → Contains come_to.placed p → (t : Range) → Contains (taken_at q s (growing q s) (window_space c) bus) t → IsApart p.item.extent.size p.at t
-      off_kept p has t in_t =
-          let is = kept_there q s (growing q s) (window_space c) bus t in_t in
+      off_stays : (p : Placed) → Contains come_to.placed p → (t : Range) → IsKeptThere q s (growing q s) (window_space c) bus t → IsApart p.item.extent.size p.at t
+      off_stays p has t is =
           let r = is.of in
           let at = kept_is_there q s system nested r is.listed (stays_kept q s r is.kept) in
           let space = ap (are_same_space (window_space c)) is.at ∙ same_itself (window_space c) in
-          let taken = there_on_from q s (there q s) (λ r. are_same_space (window_space c) (part_space r)) bus r at.range is.listed is.beside space at.is in
+          let taken = Contains-append_right (lines_on q (window_space c) bus) (there_on q s (there q s) (λ r. are_same_space (window_space c) (part_space r)) bus) at.range
+          (there_on_from q s (there q s) (λ r. are_same_space (window_space c) (part_space r)) bus r at.range is.listed is.beside space at.is) in
           less_apart p.item.extent.size p.at at.range t
           (subst (λ v. LiesIn v at.range) is.is (within_gives (range_growing q s r) at.range at.holds))
           ((free.each p has).free at.range taken)
 
+      -- and off what lines hold there
+      off_kept : (p : Placed) → Contains come_to.placed p → (t : Range) → Contains (taken_at q s (growing q s) (window_space c) bus) t → IsApart p.item.extent.size p.at t
+      off_kept p has t in_t = elim (kept_there q s (growing q s) (window_space c) bus t in_t) [
+        | inl line ↦ (free.each p has).free t (Contains-append_left (lines_on q (window_space c) bus) (there_on q s (there q s) (λ r. are_same_space (window_space c) (part_space r)) bus) t line)
+        | inr is ↦ off_stays p has t is
+      ]
+
       pub grown_places : (taken : List Range) → IsAlikeIn (range_growing q s w) taken (taken_at q s (growing q s) (window_space c) bus)
-          → HavePlaces (range_growing q s w) ((growing q s).place b) taken (bus_items q s c (stays_growing q s) (new_window q s c) bus)
+          → HavePlaces q (range_growing q s w) ((growing q s).place b) taken (bus_items q s c (stays_growing q s) (new_window q s c) bus)
       grown_places taken to =
           let g = range_growing q s w in
           let same : items ≡ bus_items q s c (stays_growing q s) (new_window q s c) bus = sym (items_same_on q s (stays_growing q s) before bus c same_there) in
           let all = free.all ∙ same in
           record {
             placed = come_to.placed;
-            found = ap (place_each ((growing q s).place b) taken) (sym all) ∙ looked_up ((growing q s).place b) taken come_to.placed known;
+            found =
+                ap (place_each own_place taken) (sym all)
+                ∙ looked_up own_place taken come_to.placed (λ p xs has. known p (taken_for q p.item.region xs) has);
             are = record {
               all = all;
               each = λ p has.
@@ -255,12 +279,16 @@ module _ (q : Request) (s : System) (system : IsSystem s) (nested : IsNested q.r
                   );
               apart = free.apart;
             };
+            off = off_behind;
           }
+        where
+          own_place : Item → List Range → Option ℕ
+          own_place i xs = (growing q s).place b i (taken_for q i.region xs)
 
   pub growing_places : WindowsAreLow q s → (c : WindowKind) (b : Function) (taken : List Range) → Contains s b → is_bridge b ≡ true → stays_growing q s (window_part c b) ≡ true
       → IsAlikeIn (range_growing q s (window_part c b)) taken (taken_at q s (growing q s) (window_space c) (secondary b))
       → IsAlikeIn (range_growing q s (window_part c b)) (taken_at q s (growing q s) (window_space c) (secondary b)) taken
-      → HavePlaces (range_growing q s (window_part c b)) ((growing q s).place b) taken (bus_items q s c (stays_growing q s) (new_window q s c) (secondary b))
+      → HavePlaces q (range_growing q s (window_part c b)) ((growing q s).place b) taken (bus_items q s c (stays_growing q s) (new_window q s c) (secondary b))
   growing_places low c b taken listed bridge keeps to back = elim (cases_Bool (has_grown q s (window_part c b))) [
     | inl grown ↦ grown_places c b listed bridge keeps grown taken to
     | inr off ↦ as_it_was c b listed bridge keeps off low taken to back

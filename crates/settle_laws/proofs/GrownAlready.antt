@@ -11,12 +11,13 @@ use Rattle.pci_spec.specs.Bus.{is_root, secondary, are_siblings, IsNested}
 use Rattle.plan_spec.specs.Plan.{same_class}
 use Rattle.plan_spec.proofs.Planning.PlacedItems.{same_class_is}
 use Rattle.plan_spec.proofs.Planning.Safe.{slots_of, order_of}
+use Rattle.settle_spec.specs.Lines.{lines_on, taken_for}
 use Rattle.settle_spec.specs.Lists.{Request}
 use Rattle.settle_spec.specs.Parts.{FunctionPart, system_parts, header_parts, addresses, class_in, lies_within, are_same_space}
 use Rattle.settle_spec.specs.Stands.{window_part, part_space, stands}
-use Rattle.settle_spec.specs.Items.{bus_items, new_window}
+use Rattle.settle_spec.specs.Items.{bus_items, new_window, place_each}
 use Rattle.settle_spec.specs.Reach.{reach}
-use Rattle.settle_spec.specs.Growth.{place_around, place_each, grown_to, grown_around, there_on, window_comes_to, there, comes_to, takes, has_grown}
+use Rattle.settle_spec.specs.Growth.{place_around, grown_to, grown_around, there_on, window_comes_to, there, comes_to, takes, has_grown}
 use Rattle.settle_spec.specs.Kept.{range_growing}
 use Rattle.settle_spec.proofs.Grown.{grown_holds}
 use Rattle.settle_spec.proofs.Nested.{on_it}
@@ -112,7 +113,7 @@ module _ (q : Request) (s : System) (system : IsSystem s) (nested : IsNested q.r
     comes_same =
         ap (λ t. if t then window_comes_to q s (there q s) c b else None) (all (window_part c b) listed)
         ∙ ap (λ items. grown_around c (addresses (window_part c b)) (there_on q s (there q s) (λ r. same_class c (class_in q s r.function r.part)) (secondary b))
-        (place_each (λ i taken. place_around (addresses (window_part c b)) (reach q s c b) taken i.extent) (there_on q s (there q s) (λ r. are_same_space (window_space c) (part_space r)) (secondary b)) items)) none_to_place
+        (place_each (λ i taken. place_around (addresses (window_part c b)) (reach q s c b) (taken_for q i.region taken) i.extent) (lines_on q (window_space c) (secondary b) ++ there_on q s (there q s) (λ r. are_same_space (window_space c) (part_space r)) (secondary b)) items)) none_to_place
         ∙ ap (λ list. Some (grown_to c (addresses (window_part c b)) list)) (append_none others)
         ∙ ap Some (grown_same c b others other_in)
 

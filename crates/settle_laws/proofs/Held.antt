@@ -19,7 +19,8 @@ use Rattle.plan_spec.proofs.Planning.Safe.{lower_bus, order_of, slots_of}
 use Rattle.settle_spec.specs.Lists.{Request}
 use Rattle.settle_spec.specs.Parts.{FunctionPart, is_empty, is_left, is_part, header_bars, header_parts, has_left, are_same_space}
 use Rattle.settle_spec.specs.Stands.{part_space}
-use Rattle.settle_spec.specs.Registers.{has_own}
+use Rattle.given_spec.specs.ToldRegion.{told_regions}
+use Rattle.settle_spec.specs.Registers.{is_answered_by, has_own}
 use Rattle.settle_spec.proofs.Nested.{behind_outer}
 
 pub and_second_false : (x y : Bool) → x ≡ true → (x && y) ≡ false → y ≡ false
@@ -97,6 +98,8 @@ module _ (q : Request) (s : System) (system : IsSystem s) (nested : IsNested q.r
     pub own_by : (p : Part) (space : Space) → Contains (header_parts f) p → is_part q s f p ≡ true → is_window p ≡ false → space_of f p ≡ space → has_own q s space f ≡ true
     own_by p space there part plain at =
         let r : FunctionPart = record { function = f; part = p } in
-        any_from (λ r. are_same_space space (part_space r) && not (is_window r.part)) (map (λ p. record { function = f; part = p }) (filter (is_part q s f) (header_parts f))) r
+        let test = λ (r : FunctionPart). are_same_space space (part_space r) && not (is_window r.part) in
+        or_right (list_any (is_answered_by q s space f) (told_regions q.told)) (list_any test (map (λ p. record { function = f; part = p }) (filter (is_part q s f) (header_parts f))))
+        (any_from test (map (λ p. record { function = f; part = p }) (filter (is_part q s f) (header_parts f))) r
         (in_map_from (λ p. record { function = f; part = p }) (filter (is_part q s f) (header_parts f)) p (in_filter_from (is_part q s f) (header_parts f) p there part))
-        (and_from (are_same_space space (space_of f p)) (not (is_window p)) (ap (are_same_space space) at ∙ same_itself space) (ap not plain))
+        (and_from (are_same_space space (space_of f p)) (not (is_window p)) (ap (are_same_space space) at ∙ same_itself space) (ap not plain)))

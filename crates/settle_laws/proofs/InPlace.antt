@@ -36,6 +36,7 @@ use Rattle.settle_laws.proofs.ItemForms.{header_has}
 use Rattle.settle_laws.proofs.Kept.{in_regions, off_roots, one_space, siblings_through}
 use Rattle.settle_laws.proofs.PartClaims.{claims_at, part_order}
 use Rattle.settle_laws.proofs.PartClasses.{space_of_class}
+use Rattle.settle_laws.proofs.Untold.{none_kept_off}
 
 -- ---- addresses that two ranges share
 
@@ -260,5 +261,5 @@ module _ (q : Request) (s : System) (system : IsSystem s) (sound : IsSound q.roo
         ]
 
     -- The law: each part stands.
-    pub placed_stand : q.anew ≡ false → (r : FunctionPart) → Contains (system_parts q s) r → stands q s r ≡ true
-    placed_stand kept r listed = all_in_place q s system sound.nested kept (in_place q s system sound.nested place) two_apart r listed
+    pub placed_stand : q.told.ranges ≡ [] → q.anew ≡ false → (r : FunctionPart) → Contains (system_parts q s) r → stands q s r ≡ true
+    placed_stand untold kept r listed = all_in_place q s system sound.nested kept (λ r listed. none_kept_off q untold s r) (in_place q s system sound.nested place) two_apart r listed

@@ -1,5 +1,5 @@
 -- What settling says of I/O hangs on no list of memory: it is the same with the lists of I/O alone, and then no part in memory stands.
-use Rattle.std.proofs.Common.{◌≡◌, ℕ, zero, suc, inl, inr, List, [], ◌∷◌, ◌++◌, ◌&&◌, map, not, length, refl, Bool, true, false, sym, ◌∙◌, ap, Option, None, Some}
+use Rattle.std.proofs.Common.{◌≡◌, ℕ, zero, suc, inl, inr, List, [], ◌∷◌, ◌++◌, ◌&&◌, ◌||◌, map, not, length, refl, Bool, true, false, sym, ◌∙◌, ap, Option, None, Some}
 use Rattle.std.specs.Bool.{if◌then◌else◌}
 use Rattle.std.specs.List.{Contains, filter, flat_map, list_any, list_all}
 use Rattle.std.proofs.lemmas.Bool.{cases_Bool, and_parts, and_left, and_right}
@@ -10,16 +10,16 @@ use Rattle.pci_spec.specs.Bus.{secondary, is_behind, is_root, are_siblings}
 use Rattle.plan_spec.specs.Plan.{bridges_above, same_class}
 use Rattle.plan_spec.proofs.Planning.PlacedItems.{same_class_is}
 use Rattle.settle_spec.specs.FirstPlace.{Extent, first_place, is_high, ranges_are_apart}
+use Rattle.settle_spec.specs.Lines.{lines_on, taken_for}
 use Rattle.settle_spec.specs.Lists.{Request, class_ranges}
 use Rattle.settle_spec.specs.Parts.{FunctionPart, addresses, is_part, header_parts, function_parts, system_parts, class_in, bridge_over, are_same_space}
-use Rattle.settle_spec.specs.Stands.{window_part, part_space, is_in_lists, is_in_window, is_in_place, takes_from, are_beside, part_precedes, stands_within, stands}
-use Rattle.settle_spec.specs.Items.{Item, Placed, in_turn, own_item, is_own, has_of, items_of, bus_items, window_around, window_within, new_window, nothing, are_placed, taken_on, place_all, has_places, has_room, holds_within, has_room_behind, stays}
+use Rattle.settle_spec.specs.Stands.{window_part, part_space, is_in_lists, is_in_window, is_in_place, is_kept_off, leads_to_told, takes_from, are_beside, stands_within, stands, precedes}
+use Rattle.settle_spec.specs.Items.{Item, Placed, in_turn, own_item, is_own, has_of, items_of, bus_items, window_around, window_within, new_window, nothing, are_placed, taken_on, place_in, has_places, has_room, holds_within, has_room_behind, stays, place_each}
 use Rattle.settle_spec.specs.Places.{wide_ranges, placed_of, place_among, placed_range}
 use Rattle.settle_spec.specs.Keeping.Places.{place_behind, place_of_item, space_items, taken_at, placing_within, placing_on}
 use Rattle.settle_spec.proofs.ItemsOn.{each_in}
 use Rattle.settle_spec.proofs.Buses.{each_same}
 use Rattle.settle_laws.proofs.PartClasses.{space_of_class}
-use Rattle.settle_spec.specs.Growth.{place_each}
 use Rattle.settle_spec.specs.Kept.{Kept, as_it_stands}
 use Rattle.pci_spec.proofs.Members.{in_head, in_tail, in_filter_to}
 
@@ -36,6 +36,7 @@ io_alone q = record {
   anew = q.anew;
   slots = q.slots;
   spares = q.spares;
+  told = q.told;
 }
 
 io_class : (c : WindowKind) → window_space c ≡ Io → c ≡ IoWindow
@@ -120,7 +121,7 @@ module _ (q : Request) (s : System) where
     taken_same : (bus : ℕ) → taken_on p s IoWindow keeps bus ≡ taken_on q s IoWindow other bus
     taken_same bus =
         let each = λ (r : FunctionPart). by_on (are_siblings q.roots bus r.function.slot.bus) (part_space r) (keeps r) (other r) (same r) in
-        λ i. map addresses (filter (λ r. each r i) (regions_same i))
+        λ i. lines_on q Io bus ++ map addresses (filter (λ r. each r i) (regions_same i))
 
     module _ (extent outer : Function → Extent) (are : (f : Function) → extent f ≡ outer f) where
       function_same : (f : Function) → items_of p s IoWindow keeps extent f ≡ items_of q s IoWindow other outer f
@@ -168,10 +169,10 @@ module _ (q : Request) (s : System) where
         let window = in_window_same r io in
         λ i. if is_root q.roots r.function.slot.bus then lists i else window i
 
-    apart_same : (r : FunctionPart) → part_space r ≡ Io → (t : FunctionPart) → not (takes_from p t r && test t) ≡ not (takes_from q t r && other t)
-    apart_same r io t = by_taken (takes_from q t r) (test t) (other t) (λ takes.
-        let both = and_parts (are_beside q t r && part_precedes q t r) (not (ranges_are_apart (addresses t) (addresses r))) takes in
-        let beside = and_parts (are_beside q t r) (part_precedes q t r) both.0 in
+    apart_same : (r : FunctionPart) → part_space r ≡ Io → (t : FunctionPart) → not (takes_from p s t r && test t) ≡ not (takes_from q s t r && other t)
+    apart_same r io t = by_taken (takes_from q s t r) (test t) (other t) (λ takes.
+        let both = and_parts (are_beside q t r && precedes q s t r) (not (ranges_are_apart (addresses t) (addresses r))) takes in
+        let beside = and_parts (are_beside q t r) (precedes q s t r) both.0 in
         let space = and_parts (are_siblings q.roots t.function.slot.bus r.function.slot.bus) (are_same_space (part_space t) (part_space r)) beside.0 in
         same t (beside_io (part_space t) (part_space r) io space.1))
 
@@ -182,7 +183,7 @@ module _ (q : Request) (s : System) where
       let part = part_same r.function r.part in
       let place = in_place_same (stands_within p s others) (stands_within q s others) (stand_same others) r io in
       let apart = apart_same (stands_within p s others) (stands_within q s others) (stand_same others) r io in
-      λ i. not q.anew && part i && place i && list_all (λ t. apart t i) (regions_same i)
+      λ i. not (is_kept_off q s r) && (leads_to_told q s r || not q.anew) && part i && place i && list_all (λ t. apart t i) (regions_same i)
 
   pub stands_alone : (r : FunctionPart) → part_space r ≡ Io → stands p s r ≡ stands q s r
   stands_alone r io = ap (λ rs. stands_within p s (length rs) r) regions_same ∙ stand_same (length (system_parts q s)) r io
@@ -193,7 +194,7 @@ module _ (q : Request) (s : System) where
   places_same keeps other same b =
       let taken = taken_same keeps other same (secondary b) in
       let items = items_same keeps other same (new_window p s IoWindow) (new_window q s IoWindow) (window_same 256) (secondary b) in
-      λ i. are_placed (place_all (λ x. addresses (window_part IoWindow b) ∷ []) (taken i) (items i))
+      λ i. are_placed (place_each (λ x xs. place_in (addresses (window_part IoWindow b)) x (taken_for q x.region xs)) (taken i) (items i))
 
   room_same : (keeps other : FunctionPart → Bool) → ((r : FunctionPart) → part_space r ≡ Io → keeps r ≡ other r) → (f : Function) (x : Part) → space_of f x ≡ Io → has_room p s keeps f x ≡ has_room q s other f x
   room_same keeps other same f (Bar n) io = refl
@@ -238,10 +239,10 @@ module _ (q : Request) (s : System) where
     taken_alike : (bus : ℕ) → taken_at p s k Io bus ≡ taken_at q s j Io bus
     taken_alike bus =
         let each = λ (r : FunctionPart). by_on (are_siblings q.roots bus r.function.slot.bus) (part_space r) (k.stays r) (j.stays r) (alike.stays r) in
-        (λ i. map k.range (filter (λ r. each r i) (regions_same i)))
-        ∙ map_in k.range j.range (filter (is_taken bus) (system_parts q s)) (λ r has.
+        (λ i. lines_on q Io bus ++ map k.range (filter (λ r. each r i) (regions_same i)))
+        ∙ ap (λ rs. lines_on q Io bus ++ rs) (map_in k.range j.range (filter (is_taken bus) (system_parts q s)) (λ r has.
         let beside = and_parts (are_siblings q.roots bus r.function.slot.bus && are_same_space Io (part_space r)) (j.stays r) (in_filter_to (is_taken bus) (system_parts q s) r has).1 in
-        alike.range r (io_space (part_space r) (and_parts (are_siblings q.roots bus r.function.slot.bus) (are_same_space Io (part_space r)) beside.0).1))
+        alike.range r (io_space (part_space r) (and_parts (are_siblings q.roots bus r.function.slot.bus) (are_same_space Io (part_space r)) beside.0).1)))
       where
         io_space : (space : Space) → are_same_space Io space ≡ true → space ≡ Io
         io_space Io same = refl
@@ -271,9 +272,9 @@ module _ (q : Request) (s : System) where
         let e = λ (over : ℕ). placed_of (placing_within q s j Io depth over) in
         let taken = taken_alike bus in
         let items = items_same k.stays j.stays alike.stays (new_window p s IoWindow) (new_window q s IoWindow) (window_same 256) bus in
-        (λ i. place_each (place_of_item p s k d) (taken i) (items i))
-        ∙ each_same (place_of_item p s k d) (place_of_item q s j e) (taken_at q s j Io bus) (space_items q s j Io bus)
-        (λ x xs listed. place_alike d e (λ over. ap placed_of (place_same depth over)) x xs
+        (λ i. place_each (λ x xs. place_of_item p s k d x (taken_for q x.region xs)) (taken i) (items i))
+        ∙ each_same (λ x xs. place_of_item p s k d x (taken_for q x.region xs)) (λ x xs. place_of_item q s j e x (taken_for q x.region xs)) (taken_at q s j Io bus) (space_items q s j Io bus)
+        (λ x xs listed. place_alike d e (λ over. ap placed_of (place_same depth over)) x (taken_for q x.region xs)
         (each_in q s j Io bus (λ x. x.class ≡ IoWindow) (λ c of f on part is. io_class c of) (λ c of f on is. io_class c of) x listed))
 
     pub placing_alone : (bus : ℕ) → placing_on p s k Io bus ≡ placing_on q s j Io bus

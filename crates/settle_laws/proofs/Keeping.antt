@@ -30,6 +30,7 @@ pub mod NewPlaces
 pub mod PartPlaces
 pub mod PassedAbove
 pub mod PlacedBus
+pub mod PlacedLists
 pub mod PlacesFit
 pub mod RomPlaces
 pub mod SameImage

@@ -1,5 +1,5 @@
 -- What stays on a bus, what is taken there, and how windows over a bus tell of what stays behind them.
-use Rattle.std.proofs.Common.{◌≡◌, ℕ, inl, inr, List, Bool, true, false, ◌&&◌, arith, refl, sym, ◌∙◌, ap, subst}
+use Rattle.std.proofs.Common.{◌≡◌, ◌⊎◌, ℕ, inl, inr, List, map, Bool, true, false, ◌&&◌, arith, refl, sym, ◌∙◌, ap, subst}
 use Rattle.std.specs.Bool.{nat_le, nat_lt, ◌==◌}
 use Rattle.std.specs.List.{Contains, filter, list_all}
 use Rattle.std.proofs.lemmas.Bool.{and_parts, and_from, both_ways, eqb-true, false_from_ne_true, leb-true, ltb-true, or_cases, or_right}
@@ -12,6 +12,7 @@ use Rattle.pci_spec.proofs.Members.{in_map_to, in_map_from, in_filter_to, in_fil
 use Rattle.plan_spec.specs.Plan.{bridges_above}
 use Rattle.plan_spec.specs.Planning.Layout.{LieApart}
 use Rattle.settle_spec.specs.FirstPlace.{ranges_are_apart}
+use Rattle.settle_spec.specs.Lines.{lines_on}
 use Rattle.settle_spec.specs.Lists.{Request}
 use Rattle.settle_spec.specs.Parts.{FunctionPart, system_parts, function_parts, parts_of, header_parts, addresses, is_part, lies_within, class_in, are_same_space}
 use Rattle.settle_spec.specs.Stands.{rank, window_part, part_space, stands}
@@ -23,6 +24,7 @@ use Rattle.stand_laws.proofs.Standing.{stands_by_itself}
 use Rattle.settle_laws.specs.KeptLaws.{IsAside}
 use Rattle.settle_laws.proofs.HeaderParts.{one_window, window_of}
 use Rattle.settle_laws.proofs.Held.{above_above, same_itself}
+use Rattle.std.proofs.lemmas.List.Elements.{Contains-append_cases, Contains-append_left, Contains-append_right}
 
 pub one_space : (a b : Space) → are_same_space a b ≡ true → a ≡ b
 one_space Io Io same = refl
@@ -78,31 +80,38 @@ module _ (q : Request) (s : System) where
     abbrev counts : FunctionPart → Bool
     counts r = are_siblings q.roots bus r.function.slot.bus && are_same_space (window_space c) (part_space r) && keeps r
 
-    pub taken_is : (t : Range) → Contains (taken_on q s c keeps bus) t → IsTaken (window_space c) keeps bus t
-    taken_is t has =
-        let made : IsMade addresses (filter counts (system_parts q s)) t = in_map_to addresses (filter counts (system_parts q s)) t has in
-        let r = made.from in
-        let chosen = in_filter_to counts (system_parts q s) r made.has in
-        let two = and_parts (are_siblings q.roots bus r.function.slot.bus && are_same_space (window_space c) (part_space r)) (keeps r) chosen.1 in
-        let one = and_parts (are_siblings q.roots bus r.function.slot.bus) (are_same_space (window_space c) (part_space r)) two.0 in
-        record {
-          of = r;
-          listed = chosen.0;
-          beside = one.0;
-          at = sym (one_space (window_space c) (part_space r) one.1);
-          kept = two.1;
-          is = made.is;
-        }
+    -- what is taken is held by a line, or keeps its place
+    pub taken_is : (t : Range) → Contains (taken_on q s c keeps bus) t → Contains (lines_on q (window_space c) bus) t ⊎ IsTaken (window_space c) keeps bus t
+    taken_is t has = elim (Contains-append_cases (lines_on q (window_space c) bus) (map addresses (filter counts (system_parts q s))) t has) [
+      | inl line ↦ inl line
+      | inr own ↦
+          let made : IsMade addresses (filter counts (system_parts q s)) t = in_map_to addresses (filter counts (system_parts q s)) t own in
+          let r = made.from in
+          let chosen = in_filter_to counts (system_parts q s) r made.has in
+          let two = and_parts (are_siblings q.roots bus r.function.slot.bus && are_same_space (window_space c) (part_space r)) (keeps r) chosen.1 in
+          let one = and_parts (are_siblings q.roots bus r.function.slot.bus) (are_same_space (window_space c) (part_space r)) two.0 in
+          inr record {
+            of = r;
+            listed = chosen.0;
+            beside = one.0;
+            at = sym (one_space (window_space c) (part_space r) one.1);
+            kept = two.1;
+            is = made.is;
+          }
+    ]
+
+    pub line_is_taken : (t : Range) → Contains (lines_on q (window_space c) bus) t → Contains (taken_on q s c keeps bus) t
+    line_is_taken t has = Contains-append_left (lines_on q (window_space c) bus) (map addresses (filter counts (system_parts q s))) t has
 
     pub is_taken : (t : Range) → IsTaken (window_space c) keeps bus t → Contains (taken_on q s c keeps bus) t
     is_taken t is =
         let r = is.of in
         subst (Contains (taken_on q s c keeps bus)) is.is
-        (in_map_from addresses (filter counts (system_parts q s)) r
+        (Contains-append_right (lines_on q (window_space c) bus) (map addresses (filter counts (system_parts q s))) (addresses r) (in_map_from addresses (filter counts (system_parts q s)) r
         (in_filter_from counts (system_parts q s) r is.listed
         (and_from (are_siblings q.roots bus r.function.slot.bus && are_same_space (window_space c) (part_space r)) (keeps r)
         (and_from (are_siblings q.roots bus r.function.slot.bus) (are_same_space (window_space c) (part_space r)) is.beside
-        (ap (are_same_space (window_space c)) is.at ∙ same_itself (window_space c))) is.kept)))
+        (ap (are_same_space (window_space c)) is.at ∙ same_itself (window_space c))) is.kept))))
 
   pub stays_holds : (r : FunctionPart) → stays q s r ≡ true → has_room_behind q s r ≡ true
   stays_holds r is = (and_parts (has_room_behind q s r) _ is).0

@@ -1,5 +1,5 @@
 -- What is taken on a bus by what stays there, and places in a window that stays with just the addresses that it had.
-use Rattle.std.proofs.Common.{◌≡◌, ℕ, ◌<◌, inl, inr, List, [], ◌∷◌, Bool, true, false, ◌&&◌, sym, ◌∙◌, ap, subst, refl}
+use Rattle.std.proofs.Common.{◌≡◌, ◌⊎◌, ℕ, ◌<◌, inl, inr, List, [], ◌∷◌, map, Bool, true, false, ◌&&◌, sym, ◌∙◌, ap, subst, refl, Option}
 use Rattle.std.specs.Bool.{◌==◌}
 use Rattle.std.specs.List.{Contains, filter}
 use Rattle.std.proofs.lemmas.Bool.{and_parts, and_from, both_ways, cases_Bool, eq-eqb, or_left}
@@ -12,27 +12,27 @@ use Rattle.plan_spec.specs.Plan.{same_class}
 use Rattle.plan_spec.proofs.Planning.Placement.{power_pos}
 use Rattle.plan_spec.proofs.Planning.PlacedItems.{same_class_is}
 use Rattle.plan_spec.proofs.Planning.Tables.{class_itself}
+use Rattle.settle_spec.specs.Lines.{lines_on, lines_behind, taken_for}
 use Rattle.settle_spec.specs.Lists.{Request}
 use Rattle.settle_spec.specs.Parts.{FunctionPart, system_parts, function_parts, parts_of, header_parts, is_part, addresses, class_in, are_same_space}
 use Rattle.settle_spec.specs.Stands.{are_beside, part_space, window_part}
-use Rattle.settle_spec.specs.Items.{Item, are_placed, place_all, has_room_behind, bus_items, new_window, taken_on}
+use Rattle.settle_spec.specs.Items.{Item, are_placed, place_each, has_room_behind, bus_items, new_window, taken_on, place_in}
 use Rattle.settle_spec.specs.PlacingLaws.{ArePlaced}
-use Rattle.settle_spec.specs.Kept.{Kept, place_in}
+use Rattle.settle_spec.specs.Kept.{Kept}
 use Rattle.settle_spec.specs.Keeping.Places.{taken_at}
 use Rattle.settle_spec.proofs.Nested.{on_it}
-use Rattle.settle_spec.proofs.Placed.{are_placed as placed_are}
 use Rattle.stand_laws.specs.KeptApart.{IsKeptApart}
 use Rattle.stand_laws.proofs.Holding.{items_same_on}
 use Rattle.stand_laws.proofs.Standing.{part_of}
 use Rattle.settle_laws.specs.KeptLaws.{IsAside, IsAlikeIn, HavePlaces}
 use Rattle.settle_spec.proofs.Buses.{each_same}
-use Rattle.settle_laws.proofs.EachPlaced.{each_all}
 use Rattle.settle_laws.proofs.Held.{same_itself}
 use Rattle.settle_laws.proofs.ItemForms.{items_are, item_power, new_window_power}
-use Rattle.settle_laws.proofs.Kept.{IsTaken, taken_is, is_taken, one_space, lie_apart, outside_within, holding, stand_apart, off_roots, window_ranks, window_listed, within_over}
-use Rattle.settle_laws.proofs.Outside.{same_outside}
+use Rattle.settle_laws.proofs.Kept.{IsTaken, taken_is, line_is_taken, is_taken, one_space, lie_apart, outside_within, holding, stand_apart, off_roots, window_ranks, window_listed, within_over}
 use Rattle.settle_laws.proofs.PartClasses.{space_of_class}
 use Rattle.settle_laws.proofs.PlacedBus.{placed_list}
+use Rattle.settle_laws.proofs.Told.Places.{same_with, placed_off}
+use Rattle.std.proofs.lemmas.List.Elements.{Contains-append_cases, Contains-append_left, Contains-append_right}
 
 module _ (q : Request) (s : System) (k : Kept) where
   -- the addresses of what stays on a bus, in a space
@@ -48,31 +48,38 @@ module _ (q : Request) (s : System) (k : Kept) where
     abbrev counts : FunctionPart → Bool
     counts r = are_siblings q.roots bus r.function.slot.bus && are_same_space space (part_space r) && k.stays r
 
-    pub kept_there : (t : Range) → Contains (taken_at q s k space bus) t → IsKeptThere space bus t
-    kept_there t has =
-        let made : IsMade k.range (filter counts (system_parts q s)) t = in_map_to k.range (filter counts (system_parts q s)) t has in
-        let r = made.from in
-        let chosen = in_filter_to counts (system_parts q s) r made.has in
-        let two = and_parts (are_siblings q.roots bus r.function.slot.bus && are_same_space space (part_space r)) (k.stays r) chosen.1 in
-        let one = and_parts (are_siblings q.roots bus r.function.slot.bus) (are_same_space space (part_space r)) two.0 in
-        record {
-          of = r;
-          listed = chosen.0;
-          beside = one.0;
-          at = sym (one_space space (part_space r) one.1);
-          kept = two.1;
-          is = made.is;
-        }
+    -- what is taken is held by a line, or stays there
+    pub kept_there : (t : Range) → Contains (taken_at q s k space bus) t → Contains (lines_on q space bus) t ⊎ IsKeptThere space bus t
+    kept_there t has = elim (Contains-append_cases (lines_on q space bus) (map k.range (filter counts (system_parts q s))) t has) [
+      | inl line ↦ inl line
+      | inr own ↦
+          let made : IsMade k.range (filter counts (system_parts q s)) t = in_map_to k.range (filter counts (system_parts q s)) t own in
+          let r = made.from in
+          let chosen = in_filter_to counts (system_parts q s) r made.has in
+          let two = and_parts (are_siblings q.roots bus r.function.slot.bus && are_same_space space (part_space r)) (k.stays r) chosen.1 in
+          let one = and_parts (are_siblings q.roots bus r.function.slot.bus) (are_same_space space (part_space r)) two.0 in
+          inr record {
+            of = r;
+            listed = chosen.0;
+            beside = one.0;
+            at = sym (one_space space (part_space r) one.1);
+            kept = two.1;
+            is = made.is;
+          }
+    ]
+
+    pub there_line : (t : Range) → Contains (lines_on q space bus) t → Contains (taken_at q s k space bus) t
+    there_line t has = Contains-append_left (lines_on q space bus) (map k.range (filter counts (system_parts q s))) t has
 
     pub there_kept : (t : Range) → IsKeptThere space bus t → Contains (taken_at q s k space bus) t
     there_kept t is =
         let r = is.of in
         subst (Contains (taken_at q s k space bus)) is.is
-        (in_map_from k.range (filter counts (system_parts q s)) r
+        (Contains-append_right (lines_on q space bus) (map k.range (filter counts (system_parts q s))) (k.range r) (in_map_from k.range (filter counts (system_parts q s)) r
         (in_filter_from counts (system_parts q s) r is.listed
         (and_from (are_siblings q.roots bus r.function.slot.bus && are_same_space space (part_space r)) (k.stays r)
         (and_from (are_siblings q.roots bus r.function.slot.bus) (are_same_space space (part_space r)) is.beside
-        (ap (are_same_space space) is.at ∙ same_itself space)) is.kept)))
+        (ap (are_same_space space) is.at ∙ same_itself space)) is.kept))))
 
   -- a part is one of its function's header
   pub in_header : (t : FunctionPart) → Contains (system_parts q s) t → Contains (header_parts t.function) t.part
@@ -131,7 +138,7 @@ module _ (q : Request) (s : System) (k : Kept) where
       module _ (same : k.range w ≡ addresses w) (holds : has_room_behind q s w ≡ true)
           (stay : (t : FunctionPart) → Contains s t.function → Contains (header_parts t.function) t.part → are_siblings q.roots bus t.function.slot.bus ≡ true → class_in q s t.function t.part ≡ c → k.stays t ≡ has_room_behind q s t)
           (own : (t : FunctionPart) → are_siblings q.roots bus t.function.slot.bus ≡ true → class_in q s t.function t.part ≡ c → k.stays t ≡ true → k.range t ≡ addresses t)
-          (find : (i : Item) (xs : List Range) → i.class ≡ c → k.place b i xs ≡ place_in (addresses w) i xs) where
+          (own_place : (i : Item) (xs : List Range) → i.class ≡ c → k.place b i xs ≡ place_in (addresses w) i xs) where
         abbrev holding_on : List Range
         holding_on = taken_on q s c (has_room_behind q s) bus
 
@@ -142,22 +149,23 @@ module _ (q : Request) (s : System) (k : Kept) where
         held t in_t beside class = stay t (part_of q s t in_t).listed (in_header t in_t) beside class
 
         to_holding : IsAlikeIn (k.range w) (taken_at q s k (window_space c) bus) holding_on
-        to_holding t has =
-            let is = kept_there (window_space c) bus t has in
-            let r = is.of in
-            elim (cases_Bool (same_class c (class_in q s r.function r.part))) [
-              | inl one ↦
-                  let class = same_class_is c (class_in q s r.function r.part) one in
-                  inl (is_taken q s c (has_room_behind q s) bus t record {
-                    of = r;
-                    listed = is.listed;
-                    beside = is.beside;
-                    at = is.at;
-                    kept = sym (held r is.listed is.beside class) ∙ is.kept;
-                    is = sym (own r is.beside class is.kept) ∙ is.is;
-                  })
-              | inr other ↦ inr (other_kept t is other)
-            ]
+        to_holding t has = elim (kept_there (window_space c) bus t has) [
+          | inl line ↦ inl (line_is_taken q s c (has_room_behind q s) bus t line)
+          | inr is ↦ elim (cases_Bool (same_class c (class_in q s is.of.function is.of.part))) [
+            | inl one ↦
+                let r = is.of in
+                let class = same_class_is c (class_in q s r.function r.part) one in
+                inl (is_taken q s c (has_room_behind q s) bus t record {
+                  of = r;
+                  listed = is.listed;
+                  beside = is.beside;
+                  at = is.at;
+                  kept = sym (held r is.listed is.beside class) ∙ is.kept;
+                  is = sym (own r is.beside class is.kept) ∙ is.is;
+                })
+            | inr other ↦ inr (other_kept t is other)
+          ]
+        ]
 
         of_other : (t : Range) (is : IsTaken q s (window_space c) (has_room_behind q s) bus t) → same_class c (class_in q s is.of.function is.of.part) ≡ false → IsAside (addresses w) t
         of_other t is differ =
@@ -174,16 +182,17 @@ module _ (q : Request) (s : System) (k : Kept) where
             (λ e. both_ways (same_class c d) differ (ap (same_class c) (sym (window_ranks q s system nested b listed bridge c d e)) ∙ class_itself c))) within.0)
 
         from_holding : IsAlikeIn (k.range w) holding_on (taken_at q s k (window_space c) bus)
-        from_holding t has =
-            let is : IsTaken q s (window_space c) (has_room_behind q s) bus t = taken_is q s c (has_room_behind q s) bus t has in
-            let r = is.of in
-            elim (cases_Bool (same_class c (class_in q s r.function r.part))) [
-              | inl one ↦
-                  let class = same_class_is c (class_in q s r.function r.part) one in
-                  let kept = held r is.listed is.beside class ∙ is.kept in
-                  inl (there_kept (window_space c) bus t record { of = r; listed = is.listed; beside = is.beside; at = is.at; kept = kept; is = own r is.beside class kept ∙ is.is })
-              | inr other ↦ inr (subst (λ v. IsAside v t) (sym same) (of_other t is other))
-            ]
+        from_holding t has = elim (taken_is q s c (has_room_behind q s) bus t has) [
+          | inl line ↦ inl (there_line (window_space c) bus t line)
+          | inr is ↦ elim (cases_Bool (same_class c (class_in q s is.of.function is.of.part))) [
+            | inl one ↦
+                let r = is.of in
+                let class = same_class_is c (class_in q s r.function r.part) one in
+                let kept = held r is.listed is.beside class ∙ is.kept in
+                inl (there_kept (window_space c) bus t record { of = r; listed = is.listed; beside = is.beside; at = is.at; kept = kept; is = own r is.beside class kept ∙ is.is })
+            | inr other ↦ inr (subst (λ v. IsAside v t) (sym same) (of_other t is other))
+          ]
+        ]
 
         through : (xs ys zs : List Range) → IsAlikeIn (k.range w) xs ys → IsAlikeIn (k.range w) ys zs → IsAlikeIn (addresses w) xs zs
         through xs ys zs first second t has = elim (first t has) [
@@ -192,20 +201,23 @@ module _ (q : Request) (s : System) (k : Kept) where
         ]
 
         pub standing_places : (taken : List Range) → IsAlikeIn (k.range w) taken (taken_at q s k (window_space c) bus) → IsAlikeIn (k.range w) (taken_at q s k (window_space c) bus) taken
-            → HavePlaces (k.range w) (k.place b) taken items
+            → HavePlaces q (k.range w) (k.place b) taken items
         standing_places taken to back =
-            let ranges : Item → List Range = λ i. addresses w ∷ [] in
+            let more : Item → List Range = λ i. lines_behind q i.region in
+            let find : Item → List Range → Option ℕ = λ i xs. place_in (addresses w) i (taken_for q i.region xs) in
             let at = taken_at q s k (window_space c) bus in
             let pos = items_aligned c k.stays bus in
-            let alike : place_all ranges taken items ≡ place_all ranges holding_on (bus_items q s c (has_room_behind q s) (new_window q s c) bus) =
-            same_outside (addresses w) items taken holding_on (through taken at holding_on to to_holding) (through holding_on at taken from_holding back) pos
-            ∙ ap (place_all ranges holding_on) (items_same_on q s k.stays (has_room_behind q s) bus c stay) in
-            let list = placed_list (place_all ranges taken items) (ap are_placed alike ∙ (holding q s system nested w listed holds).room) in
+            let alike : place_each find taken items ≡ place_each find holding_on (bus_items q s c (has_room_behind q s) (new_window q s c) bus) =
+            same_with (addresses w) more items taken holding_on (through taken at holding_on to to_holding) (through holding_on at taken from_holding back) pos
+            ∙ ap (place_each find holding_on) (items_same_on q s k.stays (has_room_behind q s) bus c stay) in
+            let list = placed_list (place_each find taken items) (ap are_placed alike ∙ (holding q s system nested w listed holds).room) in
+            let is = placed_off (λ i. addresses w ∷ []) more taken items pos list.0 list.1 in
             record {
               placed = list.0;
               found =
-                  each_same (k.place b) (λ i xs. place_in (addresses w) i xs) taken items (λ i xs has. find i xs (item_class c k.stays bus i has))
-                  ∙ each_all ranges taken items
+                  each_same (λ i xs. k.place b i (taken_for q i.region xs)) find taken items
+                  (λ i xs has. own_place i (taken_for q i.region xs) (item_class c k.stays bus i has))
                   ∙ list.1;
-              are = subst (λ v. ArePlaced (λ i. v ∷ []) taken items list.0) (sym same) (placed_are ranges taken items list.0 pos list.1);
+              are = subst (λ v. ArePlaced (λ i. v ∷ []) taken items list.0) (sym same) is.are;
+              off = is.off;
             }

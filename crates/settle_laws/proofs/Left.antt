@@ -28,7 +28,7 @@ pub record IsLeft (s : System) (h w : Function → Function) : Type 0 where
   pub passed : (f b : Function) (p : Part) (space : Space) (a : ℕ) → Contains s f → is_window p ≡ false → Claims (h f) p space a
       → Contains (bridges_above s f.slot.bus) b → passes space (is_prefetchable_part f p) a (w b) ≡ true → passes space (is_prefetchable_part f p) a (h b) ≡ true
 
-register_by : (f g : Function) → layout f.image ≡ layout g.image → (p : Part) → register_of f p ≡ register_of g p
+pub register_by : (f g : Function) → layout f.image ≡ layout g.image → (p : Part) → register_of f p ≡ register_of g p
 register_by f g kind (Bar n) = refl
 register_by f g kind Rom = ap rom_register kind
 register_by f g kind (Window c) = refl
@@ -38,7 +38,7 @@ prefetchable_by f g probe (Bar n) = ap (λ b. is_prefetchable_part (function_at 
 prefetchable_by f g probe Rom = refl
 prefetchable_by f g probe (Window c) = refl
 
-all_over : (p r : Function → Bool) (h w : Function → Function) (bs : List Function) → ((b : Function) → Contains bs b → p (h b) ≡ true → r (w b) ≡ true)
+pub all_over : (p r : Function → Bool) (h w : Function → Function) (bs : List Function) → ((b : Function) → Contains bs b → p (h b) ≡ true → r (w b) ≡ true)
     → list_all p (map h bs) ≡ true → list_all r (map w bs) ≡ true
 all_over p r h w [] each all = refl
 all_over p r h w (b ∷ bs) each all =
@@ -48,12 +48,12 @@ all_over p r h w (b ∷ bs) each all =
 -- ---- ways, where functions are moved one by one
 
 module _ (s : System) (images : (f : Function) → Contains s f → IsImage f.image) (h : Function → Function) (moved : (f : Function) → Contains s f → IsMoved f (h f)) where
-  record IsWayOf (from : ℕ) (bridges : List Function) (to : ℕ) : Type 0 where
-    of : List Function
-    leads : Leads s from of to
-    is : map h of ≡ bridges
+  pub record IsWayOf (from : ℕ) (bridges : List Function) (to : ℕ) : Type 0 where
+    pub of : List Function
+    pub leads : Leads s from of to
+    pub is : map h of ≡ bridges
 
-  way_before : (from : ℕ) (bridges : List Function) (to : ℕ) → Leads (map h s) from bridges to → IsWayOf from bridges to
+  pub way_before : (from : ℕ) (bridges : List Function) (to : ℕ) → Leads (map h s) from bridges to → IsWayOf from bridges to
   way_before from [] to e = record { of = []; leads = e; is = refl }
   way_before from (c ∷ bridges) to (listed, bridge, on, rest) =
       let made : IsMade h s c = in_map_to h s c listed in
@@ -71,7 +71,7 @@ module _ (s : System) (images : (f : Function) → Contains s f → IsImage f.im
         is = ap (λ (g : Function). g ∷ map h more.of) made.is ∙ ap (λ t. c ∷ t) more.is;
       }
 
-  way_after : (from : ℕ) (bs : List Function) (to : ℕ) → Leads s from bs to → Leads (map h s) from (map h bs) to
+  pub way_after : (from : ℕ) (bs : List Function) (to : ℕ) → Leads s from bs to → Leads (map h s) from (map h bs) to
   way_after from [] to e = e
   way_after from (b ∷ bs) to (has, bridge, on, rest) =
       let m = moved b has in
@@ -82,11 +82,11 @@ module _ (s : System) (images : (f : Function) → Contains s f → IsImage f.im
         subst (λ n. Leads (map h s) n (map h bs) to) (sym (secondary_same b (h b) m image bridge)) (way_after (secondary_bus b.image) bs to rest),
       )
 
-record IsOnWay (s : System) (b : Function) : Type 0 where
-  listed : Contains s b
-  bridge : is_bridge b ≡ true
+pub record IsOnWay (s : System) (b : Function) : Type 0 where
+  pub listed : Contains s b
+  pub bridge : is_bridge b ≡ true
 
-on_way : (s : System) (from : ℕ) (bs : List Function) (to : ℕ) → Leads s from bs to → (b : Function) → Contains bs b → IsOnWay s b
+pub on_way : (s : System) (from : ℕ) (bs : List Function) (to : ℕ) → Leads s from bs to → (b : Function) → Contains bs b → IsOnWay s b
 on_way s from [] to leads b has = absurd (in_nil b has)
 on_way s from (c ∷ bs) to (listed, bridge, on, rest) b has = elim (in_cons_cases c bs b has) [
   | inl is ↦ subst (IsOnWay s) is record { listed = listed; bridge = bridge }
@@ -103,7 +103,7 @@ module _ (roots : List ℕ) (s : System) (system : IsSystem s) (nested : IsNeste
   kind : (f : Function) → Contains s f → layout (h f).image ≡ layout (w f).image
   kind f listed = layout_same f (h f) (moved_h f listed) (images f listed) ∙ sym (layout_same f (w f) (moved_w f listed) (images f listed))
 
-  got : (space : Space) (a bus : ℕ) → Gets roots (map h s) space a bus → Gets roots (map w s) space a bus
+  pub got : (space : Space) (a bus : ℕ) → Gets roots (map h s) space a bus → Gets roots (map w s) space a bus
   got space a bus (root, starts, bridges, leads, all) =
       let way = way_before s images h moved_h root bridges bus leads in (
         root,

@@ -81,9 +81,11 @@ pub mod Staying
 pub mod StayingRests
 pub mod StillHeld
 pub mod Stopping
+pub mod Told
 pub mod TurnFalls
 pub mod Unchanged
 pub mod Unleft
+pub mod Untold
 pub mod WideWindows
 pub mod WindowBytes
 pub mod Wishing

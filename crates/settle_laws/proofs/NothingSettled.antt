@@ -1,4 +1,5 @@
 -- Where every part stands, and nothing is left, settling writes nothing, whatever is fixed: with windows that grow, and without.
+use Rattle.settle_laws.proofs.Told.OnlyHeld.{held_of}
 use Rattle.std.proofs.Common.{◌≡◌, ◌&&◌, List, [], ◌∷◌, Bool, true, false, cond, not, refl, ◌∙◌, ap, Some, None}
 use Rattle.std.specs.List.{Contains, find}
 use Rattle.std.proofs.lemmas.Bool.{and_right, both_ways}
@@ -20,6 +21,7 @@ use Rattle.stand_laws.proofs.GrowingKept.{growing_stands}
 use Rattle.stand_laws.proofs.Standing.{stands_by_itself}
 use Rattle.settle_laws.proofs.AllStand.{all_stay}
 use Rattle.settle_laws.proofs.GrownAlready.{none_grows}
+use Rattle.settle_laws.proofs.Untold.{settled_untold}
 use Rattle.settle_laws.proofs.Kept.{stays_part}
 use Rattle.settle_laws.proofs.Keeping.SettledAlready.{settled_already}
 use Rattle.settle_laws.proofs.Keeping.Standing.{none_lacks, got_none, image_stays}
@@ -30,7 +32,7 @@ pub find_none : {X : Type 0} (test : X → Bool) (xs : List X) → ((x : X) → 
 find_none test [] none = refl
 find_none test (x ∷ xs) none = ap (λ b. cond b (Some x) (find test xs)) (none x (in_head x xs)) ∙ find_none test xs (λ y listed. none y (in_tail x xs y listed))
 
-module _ (q : Request) (t : System) (system : IsSystem t) (sound : IsSound q.roots t) (all : (r : FunctionPart) → Contains (system_parts q t) r → stands q t r ≡ true)
+module _ (q : Request) (untold : q.told.ranges ≡ []) (t : System) (system : IsSystem t) (sound : IsSound q.roots t) (all : (r : FunctionPart) → Contains (system_parts q t) r → stands q t r ≡ true)
     (off : (f : Function) → Contains t f → has_left q t f ≡ true → is_space_on f Io ≡ false) where
   none_without : (test : FunctionPart → Bool) → ((r : FunctionPart) → Contains (system_parts q t) r → test r ≡ true) → fixed_without test q t ≡ None
   none_without test each = find_none (λ r. is_fixed_part q r && not (test r)) (system_parts q t) (λ r listed. and_right (is_fixed_part q r) (not (test r)) (ap not (each r listed)))
@@ -40,7 +42,7 @@ module _ (q : Request) (t : System) (system : IsSystem t) (sound : IsSound q.roo
       (only : (r : FunctionPart) → Contains t r.function → k.stays r ≡ true → is_part q t r.function r.part ≡ true) (wishless : WishesNothing k) where
     stays_as_it_is : settled q t k ≡ t
     stays_as_it_is =
-        settled_already q t k system sound off
+        settled_already q (held_of q untold) t k system sound off
         (λ space f listed fine got. absurd (both_ways (got_place q t k space f) (got_none q t k system sound.nested all keeps same only wishless space f) got))
         (image_stays q t k system sound.nested all keeps same only wishless)
 
@@ -49,7 +51,8 @@ module _ (q : Request) (t : System) (system : IsSystem t) (sound : IsSound q.roo
 
     nothing_kept : are_bad_lists q.roots q.lists ≡ false → settle_keeping q t k ≡ Settled []
     nothing_kept fine =
-        ap (λ b. cond b BadLists (or_fixed (fixed_without (stands q t) q t) (or_fixed (fixed_without k.stays q t)
+        settled_untold q untold t k
+        ∙ ap (λ b. cond b BadLists (or_fixed (fixed_without (stands q t) q t) (or_fixed (fixed_without k.stays q t)
         (or_lack (lacking q t k) (or_write (fixed_write q (settle_writes q t k)) (Settled (settle_writes q t k))))))) fine
         ∙ ap (λ o. or_fixed o (or_fixed (fixed_without k.stays q t) (or_lack (lacking q t k) (or_write (fixed_write q (settle_writes q t k)) (Settled (settle_writes q t k)))))) (none_without (stands q t) all)
         ∙ ap (λ o. or_fixed o (or_lack (lacking q t k) (or_write (fixed_write q (settle_writes q t k)) (Settled (settle_writes q t k))))) (none_without k.stays keeps)

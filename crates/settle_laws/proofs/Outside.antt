@@ -47,7 +47,7 @@ module _ (r : Range) (xs ys : List Range) (to : IsAlikeIn r xs ys) (back : IsAli
             least = λ b place. first.least b (place_too r xs ys e b back place);
           }
 
-  same_first : (e : Extent) → 0 < e.alignment → first_place (r ∷ []) xs e ≡ first_place (r ∷ []) ys e
+  pub same_first : (e : Extent) → 0 < e.alignment → first_place (r ∷ []) xs e ≡ first_place (r ∷ []) ys e
   same_first e pos = ap (λ o. else_at o None) (same_in e pos)
 
 next_by : (i : Item) (o : Option ℕ) (f g : ℕ → Placing) → ((a : ℕ) → f a ≡ g a) → place_next i o f ≡ place_next i o g

@@ -256,7 +256,7 @@ module _ (roots : List ℕ) (s : System) (pools : Pools) (system : IsSystem s) (
   lower space over = placed_of (placing_within q s k space 255 over)
 
   placing_is : (space : Space) → placing_on q s k space root ≡ place_all (ranges_anew q s (lower space)) [] (space_items q s k space root)
-  placing_is space = placing_anew q s k (none_stays q s refl) space 255 root
+  placing_is space = placing_anew q refl s k (none_stays q s refl refl) space 255 root
 
   none_in : (t : Range) → Contains [] t → (A : Type 0) → A
   none_in t has A = absurd (in_nil t has)

@@ -51,6 +51,7 @@ use Rattle.settle_laws.proofs.Keeping.Shown.{IsChanging, can_change, changing_is
 use Rattle.settle_laws.proofs.WindowBytes.{number_elsewhere}
 use Rattle.settle_laws.proofs.NonePasses.{none_by}
 use Rattle.settle_spec.specs.Kept.{Kept}
+use Rattle.settle_spec.specs.Lines.{taken_for}
 
 pub range_itself : (r : Range) → is_same_range r r ≡ true
 range_itself r = and_from (r.first == r.first) (r.last == r.last) (eq-eqb r.first r.first refl) (eq-eqb r.last r.last refl)
@@ -66,7 +67,7 @@ module _ (q : Request) (s : System) (k : Kept) (system : IsSystem s) (nested : I
   is_item : (space : Space) (bus : ℕ) (placing : Placing) → placing_on q s k space bus ≡ placing → (x : Placed) → Contains (placed_of placing) x → Contains (space_items q s k space bus) x.item
   is_item space bus (Lacks i) e x has = absurd (in_nil x has)
   is_item space bus (AllPlaced placed) e x has =
-      let find = place_of_item q s k (λ over. placed_of (placing_within q s k space 255 over)) in
+      let find : Item → List Range → Option ℕ = λ i xs. place_of_item q s k (λ over. placed_of (placing_within q s k space 255 over)) i (taken_for q i.region xs) in
       subst (λ items. Contains items x.item) (each_items find (taken_at q s k space bus) (space_items q s k space bus) placed (sym (placing_step q s k space 255 bus) ∙ e)) (in_map_from (λ (y : Placed). y.item) placed x has)
 
   record GetsPlace (f : Function) (p : Part) : Type 0 where

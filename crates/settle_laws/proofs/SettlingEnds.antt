@@ -1,4 +1,5 @@
 -- Where settling ends with writes, lists are good and nothing lacks room; so each stop is sound, with windows that grow and without.
+use Rattle.settle_laws.proofs.Told.OnlyHeld.{held_of}
 use Rattle.std.proofs.Common.{◌≡◌, ℕ, ◌≤◌, ◌⊎◌, inl, inr, List, [], Option, None, Some, Bool, true, false, sym, ◌∙◌, ap, subst, refl, length, take}
 use Rattle.std.specs.Bool.{if◌then◌else◌}
 use Rattle.std.proofs.lemmas.Bool.{cases_Bool, false≢true}
@@ -11,7 +12,7 @@ use Rattle.settle_spec.specs.Lists.{Request, are_bad_lists}
 use Rattle.settle_spec.specs.Parts.{FunctionPart}
 use Rattle.settle_spec.specs.Stands.{stands}
 use Rattle.settle_spec.specs.Items.{Item}
-use Rattle.settle_spec.specs.Writes.{Settling, BadLists, Fixed, NoRoom, Settled, fixed_without, fixed_write, or_fixed, or_lack, or_write}
+use Rattle.settle_spec.specs.Writes.{Settling, BadLists, Fixed, NoRoom, Settled, fixed_without, fixed_write, or_fixed, or_lack, or_write, NotKept}
 use Rattle.settle_spec.specs.Kept.{Kept, as_it_stands, growing}
 use Rattle.settle_spec.specs.Keeping.Places.{lacking}
 use Rattle.settle_spec.specs.Keeping.Writes.{closings, settle_writes, settle_keeping}
@@ -31,6 +32,7 @@ use Rattle.settle_laws.proofs.Keeping.AgainKept.{all_stand}
 use Rattle.settle_laws.proofs.Keeping.AgainSettled.{all_left_off}
 use Rattle.settle_laws.proofs.Keeping.AnewAgain.{anew_again}
 use Rattle.settle_laws.proofs.Keeping.Moves.{new_system}
+use Rattle.settle_laws.proofs.Untold.{settled_untold}
 
 -- ---- how settling ends
 
@@ -63,7 +65,7 @@ ends false None None None None own writes e = record { good = refl; stand = refl
 
 module _ (q : Request) (s : System) (asked : CanBeAsked q s) (k : Kept) (sound : IsSoundKept q s k) where
   kept_end : (writes : List Write) → settle_keeping q s k ≡ Settled writes → IsEnd (are_bad_lists q.roots q.lists) (fixed_without (stands q s) q s) (lacking q s k) (fixed_write q (settle_writes q s k)) (settle_writes q s k) writes
-  kept_end writes e = ends (are_bad_lists q.roots q.lists) (fixed_without (stands q s) q s) (fixed_without k.stays q s) (lacking q s k) (fixed_write q (settle_writes q s k)) (settle_writes q s k) writes e
+  kept_end writes e = ends (are_bad_lists q.roots q.lists) (fixed_without (stands q s) q s) (fixed_without k.stays q s) (lacking q s k) (fixed_write q (settle_writes q s k)) (settle_writes q s k) writes (sym (settled_untold q asked.untold s k) ∙ e)
 
   kept_can : (writes : List Write) → settle_keeping q s k ≡ Settled writes → CanSettle q s k
   kept_can writes e =
@@ -98,7 +100,7 @@ module _ (q : Request) (s : System) (asked : CanBeAsked q s) (k : Kept) (sound :
       let can = kept_can writes e in
       subst (λ ws. settle_growing q (system_after s ws) ≡ Settled []) (kept_end writes e).same
       (subst (λ t. settle_growing q t ≡ Settled []) (sym (writes_settle q s k can))
-      (nothing_grows q (settled q s k) (new_system q s k can) (settled_sound q s k can) (all_stand q s k can kept) (all_left_off q s k can) can.lists))
+      (nothing_grows q asked.untold (settled q s k) (new_system q s k can) (settled_sound q s k can) (all_stand q asked.untold s k can kept) (all_left_off q s k can) can.lists))
 
   kept_anew : WishesNothing k → (writes : List Write) → settle_keeping q s k ≡ Settled writes → q.anew ≡ true → settle_growing q (system_after s writes) ≡ Settled []
   kept_anew wishless writes e anew =
@@ -106,7 +108,7 @@ module _ (q : Request) (s : System) (asked : CanBeAsked q s) (k : Kept) (sound :
       let end = kept_end writes e in
       subst (λ ws. settle_growing q (system_after s ws) ≡ Settled []) end.same
       (subst (λ t. settle_growing q t ≡ Settled []) (sym (writes_settle q s k can))
-      (anew_nothing_grows q (settled q s k) anew ∙ anew_again q s k can anew end.stand end.unwritten wishless))
+      (anew_nothing_grows q asked.untold (settled q s k) anew ∙ anew_again q (held_of q asked.untold) s k can anew end.stand end.unwritten wishless))
 
   kept_nothing : WishesNothing k → (writes : List Write) → settle_keeping q s k ≡ Settled writes → settle_growing q (system_after s writes) ≡ Settled []
   kept_nothing wishless writes e = elim (cases_Bool q.anew) [
@@ -137,6 +139,7 @@ module _ (q : Request) (s : System) (asked : CanBeAsked q s) where
       by BadLists is e = kept_sound q s asked j plain writes e
       by (Fixed slot register) is e = kept_sound q s asked j plain writes e
       by (NoRoom class slot register size alignment) is e = kept_sound q s asked j plain writes e
+      by (NotKept slot register) is e = kept_sound q s asked j plain writes e
 
   pub stops_sound : (writes : List Write) (n : ℕ) → settle_growing q s ≡ Settled writes → (length (growing_closings q s) ≤ n) ⊎ IsSound q.roots s → IsSound q.roots (system_after s (take n writes))
   stops_sound writes n e from = by (settle_keeping q s k) refl e from
@@ -147,6 +150,7 @@ module _ (q : Request) (s : System) (asked : CanBeAsked q s) where
       by BadLists is e from = kept_stop q s asked j plain writes n e from
       by (Fixed slot register) is e from = kept_stop q s asked j plain writes n e from
       by (NoRoom class slot register size alignment) is e from = kept_stop q s asked j plain writes n e from
+      by (NotKept slot register) is e from = kept_stop q s asked j plain writes n e from
 
   pub ends_few : (writes : List Write) → settle_growing q s ≡ Settled writes → (f : Function) → Contains s f → count_by (λ w. same_slot w.slot f.slot) writes ≤ most_settle_writes f
   ends_few writes e f listed = by (settle_keeping q s k) refl e
@@ -156,6 +160,7 @@ module _ (q : Request) (s : System) (asked : CanBeAsked q s) where
       by BadLists is e = kept_few q s asked j plain writes f listed e
       by (Fixed slot register) is e = kept_few q s asked j plain writes f listed e
       by (NoRoom class slot register size alignment) is e = kept_few q s asked j plain writes f listed e
+      by (NotKept slot register) is e = kept_few q s asked j plain writes f listed e
 
   pub again_nothing : (writes : List Write) → settle_growing q s ≡ Settled writes → settle_growing q (system_after s writes) ≡ Settled []
   again_nothing writes e = by (settle_keeping q s k) refl e
@@ -165,6 +170,7 @@ module _ (q : Request) (s : System) (asked : CanBeAsked q s) where
       by BadLists is e = kept_nothing q s asked j plain refl writes e
       by (Fixed slot register) is e = kept_nothing q s asked j plain refl writes e
       by (NoRoom class slot register size alignment) is e = kept_nothing q s asked j plain refl writes e
+      by (NotKept slot register) is e = kept_nothing q s asked j plain refl writes e
 
 pub settled_growing_is_sound : SettledGrowingIsSound
 settled_growing_is_sound q s writes asked e = ends_sound q s asked writes e

@@ -1,23 +1,28 @@
 -- What stays, as it stands or where windows grow, is kept soundly.
-use Rattle.std.proofs.Common.{◌≡◌, ◌&&◌, Bool, true, false, arith, ap, ◌∙◌, refl}
+use Rattle.std.proofs.Common.{◌≡◌, ◌&&◌, ◌≤◌, Bool, true, false, arith, ap, ◌∙◌, refl}
 use Rattle.std.specs.List.{Contains}
 use Rattle.pci_spec.specs.Window.{WindowKind}
 use Rattle.pci_spec.specs.System.{System, Function, IsSystem}
 use Rattle.pci_spec.specs.Bus.{IsNested}
 use Rattle.pci_spec.specs.Sound.{IsInProfile}
 use Rattle.settle_spec.specs.Lists.{Request}
-use Rattle.settle_spec.specs.Parts.{addresses}
-use Rattle.settle_spec.specs.Stands.{window_part, stands}
-use Rattle.settle_spec.specs.Items.{has_room_behind, stays}
-use Rattle.settle_spec.specs.Kept.{as_it_stands, growing, place_in}
+use Rattle.settle_spec.specs.Parts.{FunctionPart, system_parts, addresses}
+use Rattle.settle_spec.specs.Stands.{part_space, window_part, stands}
+use Rattle.settle_spec.specs.Items.{has_room_behind, stays, place_in}
+use Rattle.settle_spec.specs.Kept.{stays_growing, range_growing, as_it_stands, growing}
 use Rattle.settle_spec.proofs.Grown.{growth_holds_all, only_windows_grow}
+use Rattle.plan_spec.specs.Planning.Layout.{LieApart}
+use Rattle.given_spec.specs.ToldRegion.{ToldRegion, told_regions}
+use Rattle.settle_spec.specs.Lines.{line_range, can_keep_off}
 use Rattle.settle_spec.proofs.Reaching.{within_from, window_first, window_last}
 use Rattle.stand_laws.specs.Reach.{WindowsAreLow}
 use Rattle.stand_laws.proofs.GrowingKept.{growing_kept}
+use Rattle.stand_laws.proofs.Told.Kept.{grown_off}
 use Rattle.stand_laws.proofs.StandingKept.{standing_kept}
 use Rattle.settle_laws.specs.KeptLaws.{IsGrown, IsSoundKept}
+use Rattle.settle_laws.proofs.AllInPlace.{apart_from}
 use Rattle.settle_laws.proofs.GrowingPlaces.{growing_places, growing_grown}
-use Rattle.settle_laws.proofs.Kept.{stays_holds, stays_over}
+use Rattle.settle_laws.proofs.Kept.{lie_apart, stays_holds, stays_over}
 use Rattle.settle_laws.proofs.Keeping.Wishless.{none_wished}
 use Rattle.settle_laws.proofs.LowWindows.{windows_low}
 use Rattle.settle_laws.proofs.KeptTaken.{items_aligned, on_bus, standing_places}
@@ -48,12 +53,19 @@ module _ (q : Request) (s : System) (system : IsSystem s) (nested : IsNested q.r
         (λ t beside class is. refl)
         (λ i xs class. ap (λ d. place_in (addresses (window_part d b)) i xs) class)
         taken to back;
+    off = λ r x listed keeps told can_be forward apart. apart;
     wished = none_wished q s (as_it_stands q s) refl;
   }
     where
       and_true : (x : Bool) → (x && true) ≡ x
       and_true true = refl
       and_true false = refl
+
+  -- what a window comes to is off lines, where it is off them itself
+  growing_off : (r : FunctionPart) (x : ToldRegion) → Contains (system_parts q s) r → stays_growing q s r ≡ true → Contains (told_regions q.told) x → can_keep_off q x r.function.slot (part_space r) ≡ true → x.told.first ≤ x.told.last
+      → LieApart (addresses r) (line_range x) → LieApart (range_growing q s r) (line_range x)
+  growing_off r x listed keeps told can_be forward apart =
+      lie_apart (range_growing q s r) (line_range x) (grown_off q s system nested low (items_aligned q s (growing q s)) x told forward r listed can_be (apart_from (addresses r) (line_range x) apart))
 
   pub growing_is_sound : IsSoundKept q s (growing q s)
   growing_is_sound = record {
@@ -62,5 +74,6 @@ module _ (q : Request) (s : System) (system : IsSystem s) (nested : IsNested q.r
     plain = only_windows_grow q s;
     grown = growing_grown q s system nested low;
     places = growing_places q s system nested low;
+    off = growing_off;
     wished = none_wished q s (growing q s) refl;
   }

@@ -1,5 +1,5 @@
 -- Between the stages of writes, what claims and forwards is what does at the start or at the end.
-use Rattle.std.proofs.Common.{◌≡◌, ℕ, ◌+◌, ◌<◌, ◌≤◌, ◌⊎◌, inl, inr, List, refl, true, false, arith, sym, ◌∙◌, subst}
+use Rattle.std.proofs.Common.{◌≡◌, ℕ, ◌+◌, ◌<◌, ◌≤◌, ◌⊎◌, inl, inr, List, refl, Bool, true, false, arith, sym, ◌∙◌, subst}
 use Rattle.std.specs.List.{Contains, list_any}
 use Rattle.std.proofs.lemmas.Bool.{and_from, both_ways, ltb-true}
 use Rattle.pci_spec.specs.Number.{byte_at, number_at, IsImage}
@@ -35,17 +35,30 @@ module _ (roots : List ℕ) (s : System) (system : IsSystem s) (nested : IsNeste
   bridge_above : (f b : Function) → Contains (bridges_above s f.slot.bus) b → is_bridge b ≡ true
   bridge_above f b above = (above_to s f.slot.bus b above).bridge
 
+  -- a bridge whose kept window holds an address passes it, as long as it is on and the window holds what it held
+  by_held : (b k : Function) (prefetchable : Bool) (space : Space) (a : ℕ) → IsHeldBy b (closed b) (final b) prefetchable space a → IsMoved b k → (is_space_on (closed b) space ≡ true → is_space_on k space ≡ true)
+      → ((c : WindowKind) → IsKeptWindow b (closed b) (final b) c → holds c b.image b.probe a ≡ true → holds c k.image b.probe a ≡ true) → passes space prefetchable a k ≡ true
+  by_held b k prefetchable space a by m on still =
+      let holds_k = still by.class by.kept by.held in
+      subst (λ x. passes x prefetchable a k ≡ true) by.at
+      (passes_by by.class prefetchable a k by.may
+      (and_from (is_space_on k (window_space by.class)) (holds by.class k.image k.probe a) (subst (λ x. is_space_on k x ≡ true) (sym by.at) (on by.on))
+      (subst (λ t. holds by.class k.image t a ≡ true) (sym m.probe) holds_k)))
+
+  -- so it does at the start and at the end
+  pub start_held_passes : (b : Function) (prefetchable : Bool) (space : Space) (a : ℕ) → Contains s b → IsHeldBy b (closed b) (final b) prefetchable space a → passes space prefetchable a b ≡ true
+  start_held_passes b prefetchable space a in_b by = by_held b b prefetchable space a by (moved_itself b (is b in_b)) (are.was_on b space in_b) (λ c kept e. e)
+
+  pub final_held_passes : (b : Function) (prefetchable : Bool) (space : Space) (a : ℕ) → Contains s b → IsHeldBy b (closed b) (final b) prefetchable space a → passes space prefetchable a (final b) ≡ true
+  final_held_passes b prefetchable space a in_b by =
+      by_held b (final b) prefetchable space a by (are.states.final_moved b in_b) (are.ends_on b space in_b)
+      (λ c kept e. holds_within c b.image (final b).image (holds_out c b.image (final b).image kept.final_out) b.probe a e)
+
   -- what claims an address once closed is passed by the bridges above, as long as they are on and their windows hold what they held
   held_passes : (f b k : Function) (p : Part) (space : Space) (a : ℕ) → Contains s f → is_window p ≡ false → Claims (closed f) p space a → Contains (bridges_above s f.slot.bus) b → IsMoved b k
       → (is_space_on (closed b) space ≡ true → is_space_on k space ≡ true) → ((c : WindowKind) → IsKeptWindow b (closed b) (final b) c → holds c b.image b.probe a ≡ true → holds c k.image b.probe a ≡ true)
       → passes space (is_prefetchable_part f p) a k ≡ true
-  held_passes f b k p space a listed plain claim above m on still =
-      let by : IsHeldBy b (closed b) (final b) (is_prefetchable_part f p) space a = are.held f b p space a listed plain claim above in
-      let holds_k = still by.class by.kept by.held in
-      subst (λ x. passes x (is_prefetchable_part f p) a k ≡ true) by.at
-      (passes_by by.class (is_prefetchable_part f p) a k by.may
-      (and_from (is_space_on k (window_space by.class)) (holds by.class k.image k.probe a) (subst (λ x. is_space_on k x ≡ true) (sym by.at) (on by.on))
-      (subst (λ t. holds by.class k.image t a ≡ true) (sym m.probe) holds_k)))
+  held_passes f b k p space a listed plain claim above m on still = by_held b k (is_prefetchable_part f p) space a (are.held f b p space a listed plain claim above) m on still
 
   -- the registers of what claims an address in a space that is on once closed show the same at the end
   resting : (f g : Function) → Contains s f → IsMoved f g → (p : Part) (space : Space) (a : ℕ) → is_window p ≡ false → is_space_on (closed f) space ≡ true → Claims g p space a
@@ -78,7 +91,7 @@ module _ (roots : List ℕ) (s : System) (system : IsSystem s) (nested : IsNeste
       command_either : (f : Function) → Contains s f → (command (h f).image ≡ command f.image) ⊎ (command (h f).image ≡ command (closed f).image)
       command_either f listed = either_shows (closing_registers f) f (closed f) (h f) (progress f listed) (COMMAND, 2) (in_head (COMMAND, 2) _)
 
-      on_before : (f : Function) → Contains s f → (space : Space) → is_space_on (h f) space ≡ true → is_space_on f space ≡ true
+      pub on_before : (f : Function) → Contains s f → (space : Space) → is_space_on (h f) space ≡ true → is_space_on f space ≡ true
       on_before f listed space on = elim (command_either f listed) [
         | inl same ↦ sym (on_same f (h f) same space) ∙ on
         | inr made ↦ are.was_on f space listed (sym (on_same (closed f) (h f) made space) ∙ on)
@@ -115,6 +128,20 @@ module _ (roots : List ℕ) (s : System) (system : IsSystem s) (nested : IsNeste
           claims_window f (h f) f (is f listed) (moved f listed) (moved_itself f (is f listed)) c space a
           (held_before f listed (there_at f (h f) listed (moved f listed) (Window c) space a claim) c a) (on_before f listed (window_space c)) claim
 
+      -- a bridge whose kept window holds an address passes it all the time
+      pub closing_held_passes : (b : Function) (prefetchable : Bool) (space : Space) (a : ℕ) → Contains s b → is_bridge b ≡ true → IsHeldBy b (closed b) (final b) prefetchable space a → passes space prefetchable a (h b) ≡ true
+      closing_held_passes b prefetchable space a in_b bridge by =
+          by_held b (h b) prefetchable space a by (moved b in_b) (still_on b in_b space)
+          (λ c kept e. closing_held b (closed b) (final b) (h b) bridge (is b in_b) (are.states.closed_moved b in_b).image (moved b in_b).image (progress b in_b) (upper_shown b in_b) c kept b.probe a e)
+
+      -- one above a function passes what it passed, if its kept window holds it where the function is still on once closed
+      pub closing_passes : (f b : Function) (prefetchable : Bool) (space : Space) (a : ℕ) → Contains s f → Contains s b → is_bridge b ≡ true → slot_number b.slot < slot_number f.slot → is_space_on (h f) space ≡ true
+          → (is_space_on (closed f) space ≡ true → IsHeldBy b (closed b) (final b) prefetchable space a) → passes space prefetchable a b ≡ true → passes space prefetchable a (h b) ≡ true
+      closing_passes f b prefetchable space a in_f in_b bridge lower on by e = elim (order f b in_f in_b lower) [
+        | inr same ↦ subst (λ g. passes space prefetchable a g ≡ true) (sym same) e
+        | inl done ↦ closing_held_passes b prefetchable space a in_b bridge (by (subst (λ g. is_space_on g space ≡ true) done on))
+      ]
+
       pub closing_left : IsLeft s h (λ f. f)
       closing_left = record {
         claimed = λ f p space a listed claim. claims_before f p space a listed claim;
@@ -134,10 +161,10 @@ module _ (roots : List ℕ) (s : System) (system : IsSystem s) (nested : IsNeste
     module _ (progress : (f : Function) → Contains s f → IsProgress (setting_registers (setting_change closed final f)) (closed f) (final f) (h f))
         (either : (f : Function) (place : ℕ) → Contains s f → place < 256 → (byte_at (h f).image place ≡ byte_at (closed f).image place) ⊎ (byte_at (h f).image place ≡ byte_at (final f).image place))
         (command_is : (f : Function) → Contains s f → command (h f).image ≡ command (closed f).image) where
-      on_closed : (f : Function) → Contains s f → (space : Space) → is_space_on (h f) space ≡ is_space_on (closed f) space
+      pub on_closed : (f : Function) → Contains s f → (space : Space) → is_space_on (h f) space ≡ is_space_on (closed f) space
       on_closed f listed space = on_same (closed f) (h f) (command_is f listed) space
 
-      on_at_end : (f : Function) → Contains s f → (space : Space) → is_space_on (h f) space ≡ true → is_space_on (final f) space ≡ true
+      pub on_at_end : (f : Function) → Contains s f → (space : Space) → is_space_on (h f) space ≡ true → is_space_on (final f) space ≡ true
       on_at_end f listed space on = are.ends_on f space listed (sym (on_closed f listed space) ∙ on)
 
       closed_bridge : (f : Function) → Contains s f → is_bridge f ≡ true → is_bridge (closed f) ≡ true
@@ -176,6 +203,11 @@ module _ (roots : List ℕ) (s : System) (system : IsSystem s) (nested : IsNeste
           claims_window f (h f) (final f) (is f listed) (moved f listed) (are.states.final_moved f listed) c space a
           (held_at_end f listed (there_at f (h f) listed (moved f listed) (Window c) space a claim) c a) (on_at_end f listed (window_space c)) claim
 
+      pub setting_held_passes : (b : Function) (prefetchable : Bool) (space : Space) (a : ℕ) → Contains s b → is_bridge b ≡ true → IsHeldBy b (closed b) (final b) prefetchable space a → passes space prefetchable a (h b) ≡ true
+      setting_held_passes b prefetchable space a in_b bridge by =
+          by_held b (h b) prefetchable space a by (moved b in_b) (λ on. on_closed b in_b space ∙ on)
+          (λ c kept e. setting_held b (closed b) (final b) (h b) (closed_bridge b in_b bridge) (are.states.closed_moved b in_b).image (are.states.final_moved b in_b).image (moved b in_b).image (progress b in_b) c kept b.probe a e)
+
       pub setting_left : IsLeft s h final
       setting_left = record {
         claimed = λ f p space a listed claim. claims_at_end f p space a listed claim;
@@ -194,7 +226,7 @@ module _ (roots : List ℕ) (s : System) (system : IsSystem s) (nested : IsNeste
       agrees : (f : Function) → Contains s f → AgreeAside (h f).image (final f).image
       agrees f listed place low high = bytes f place listed (omega (arith, high)) (inr (omega (arith, low)))
 
-      on_opened : (f : Function) → Contains s f → (space : Space) → is_space_on (h f) space ≡ true → is_space_on (final f) space ≡ true
+      pub on_opened : (f : Function) → Contains s f → (space : Space) → is_space_on (h f) space ≡ true → is_space_on (final f) space ≡ true
       on_opened f listed space on = elim (opens f listed) [
         | inl waits ↦ are.ends_on f space listed (sym (on_same (closed f) (h f) waits space) ∙ on)
         | inr done ↦ subst (λ g. is_space_on g space ≡ true) done on
@@ -231,6 +263,18 @@ module _ (roots : List ℕ) (s : System) (system : IsSystem s) (nested : IsNeste
           let rests = resting f (h f) listed (moved f listed) p space a plain (sym on ∙ claim_on (h f) p space a claim) claim in
           claims_in f (h f) (closed f) (is f listed) (moved f listed) (are.states.closed_moved f listed) p space a plain
           (λ r has place from to. agrees_in f p space a plain listed claim r has place from to ∙ rests r has place from to) (λ e. sym on ∙ e) claim
+
+      pub opening_held_passes : (b : Function) (prefetchable : Bool) (space : Space) (a : ℕ) → Contains s b → IsHeldBy b (closed b) (final b) prefetchable space a → passes space prefetchable a (h b) ≡ true
+      opening_held_passes b prefetchable space a in_b by =
+          by_held b (h b) prefetchable space a by (moved b in_b) (stays_on b in_b space)
+          (λ c kept e. holds_by_bounds c (h b).image (final b).image b.probe a (bounds_aside (h b).image (final b).image (agrees b in_b) c) ∙ holds_within c b.image (final b).image (holds_out c b.image (final b).image kept.final_out) b.probe a e)
+
+      pub opening_passes : (f b : Function) (prefetchable : Bool) (space : Space) (a : ℕ) → Contains s f → Contains s b → slot_number b.slot < slot_number f.slot → is_space_on (h f) space ≡ true
+          → (is_space_on (closed f) space ≡ true → IsHeldBy b (closed b) (final b) prefetchable space a) → passes space prefetchable a (final b) ≡ true → passes space prefetchable a (h b) ≡ true
+      opening_passes f b prefetchable space a in_f in_b lower on by e = elim (order f b in_f in_b lower) [
+        | inl done ↦ subst (λ g. passes space prefetchable a g ≡ true) (sym done) e
+        | inr waits ↦ opening_held_passes b prefetchable space a in_b (by (sym (on_same (closed f) (h f) waits space) ∙ on))
+      ]
 
       pub opening_left : IsLeft s h final
       opening_left = record {

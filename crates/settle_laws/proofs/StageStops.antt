@@ -45,7 +45,25 @@ stages_end s system closed final states =
     system_by_function s (all_stages closed final s)
     ∙ map_same (λ f. function_after f (all_stages closed final s)) final s (λ f listed. end_is_final s system closed final states f listed)
 
-module _ (roots : List ℕ) (s : System) (system : IsSystem s) (nested : IsNested roots s) (closed final : Function → Function) (are : AreStages s closed final) where
+-- What is so of a system is so between the stages: while functions are closed if it was, and then if it is at the end.
+pub record AreSteps (s : System) (closed final : Function → Function) (Safe : System → Type 0) : Type 0 where
+  pub closing : (h : Function → Function) → ((f : Function) → Contains s f → IsMoved f (h f))
+      → ((f : Function) → Contains s f → IsProgress (closing_registers f) f (closed f) (h f))
+      → ((f : Function) (place : ℕ) → Contains s f → place < 256 → list_any (is_in_register place) (closing_registers f) ≡ false → byte_at (h f).image place ≡ byte_at f.image place)
+      → ((f b : Function) → Contains s f → Contains s b → slot_number b.slot < slot_number f.slot → (h f ≡ closed f) ⊎ (h b ≡ b))
+      → Safe s → Safe (map h s)
+  pub setting : (h : Function → Function) → ((f : Function) → Contains s f → IsMoved f (h f))
+      → ((f : Function) → Contains s f → IsProgress (setting_registers (setting_change closed final f)) (closed f) (final f) (h f))
+      → ((f : Function) (place : ℕ) → Contains s f → place < 256 → (byte_at (h f).image place ≡ byte_at (closed f).image place) ⊎ (byte_at (h f).image place ≡ byte_at (final f).image place))
+      → ((f : Function) → Contains s f → command (h f).image ≡ command (closed f).image)
+      → Safe (map final s) → Safe (map h s)
+  pub opening : (h : Function → Function) → ((f : Function) → Contains s f → IsMoved f (h f))
+      → ((f : Function) (place : ℕ) → Contains s f → place < 256 → (place < 4) ⊎ (6 ≤ place) → byte_at (h f).image place ≡ byte_at (final f).image place)
+      → ((f : Function) → Contains s f → (command (h f).image ≡ command (closed f).image) ⊎ (h f ≡ final f))
+      → ((f b : Function) → Contains s f → Contains s b → slot_number b.slot < slot_number f.slot → (h b ≡ final b) ⊎ (command (h f).image ≡ command (closed f).image))
+      → Safe (map final s) → Safe (map h s)
+
+module _ (s : System) (system : IsSystem s) (closed final : Function → Function) (are : AreStages s closed final) (Safe : System → Type 0) (steps : AreSteps s closed final Safe) where
   abbrev first : List Write
   first = all_closings closed final s
 
@@ -57,16 +75,14 @@ module _ (roots : List ℕ) (s : System) (system : IsSystem s) (nested : IsNeste
 
   -- ---- while functions are closed
 
-  pub closing_safe : (p rest : List Write) → p ++ rest ≡ first → IsSafe roots s → IsSafe roots (system_after s p)
+  closing_safe : (p rest : List Write) → p ++ rest ≡ first → Safe s → Safe (system_after s p)
   closing_safe p rest split safe =
       let h : Function → Function = λ f. function_after f p in
       let moved : (f : Function) → Contains s f → IsMoved f (h f) = closing_moved s system closed final are.states p rest split in
       let still : (f : Function) (place : ℕ) → Contains s f → place < 256 → list_any (is_in_register place) (closing_registers f) ≡ false → byte_at (h f).image place ≡ byte_at f.image place =
       λ f place listed inside out. byte_by (h f).image f.image place (closing_others s system closed final are.states p rest split f listed place 1 (omega (arith, inside)) (apart (closing_registers f) place out)) in
-      subst (IsSafe roots) (sym (system_by_function s p))
-      (left_safe roots s system nested h (λ f. f) moved (λ f listed. moved_itself f (images_of s system f listed))
-      (closing_left roots s system nested closed final are h moved (closing_progress s system closed final are.states p rest split) still (closing_order s system closed final are.states p rest split))
-      (subst (IsSafe roots) (sym (map-id s)) safe))
+      subst Safe (sym (system_by_function s p))
+      (steps.closing h moved (closing_progress s system closed final are.states p rest split) still (closing_order s system closed final are.states p rest split) safe)
 
   -- ---- while registers are set
 
@@ -97,11 +113,10 @@ module _ (roots : List ℕ) (s : System) (system : IsSystem s) (nested : IsNeste
           ]
     ]
 
-    pub setting_safe : IsSafe roots (map final s) → IsSafe roots (system_after s (first ++ p))
+    setting_safe : Safe (map final s) → Safe (system_after s (first ++ p))
     setting_safe safe =
-        subst (IsSafe roots) (sym (system_by_function s (first ++ p) ∙ map_same (λ f. function_after f (first ++ p)) now s (λ f listed. after_closings s system closed final are.states f listed p)))
-        (left_safe roots s system nested now final now_moved are.states.final_moved
-        (setting_left roots s system nested closed final are now now_moved progress either (setting_command s system closed final are.states p rest split)) safe)
+        subst Safe (sym (system_by_function s (first ++ p) ∙ map_same (λ f. function_after f (first ++ p)) now s (λ f listed. after_closings s system closed final are.states f listed p)))
+        (steps.setting now now_moved progress either (setting_command s system closed final are.states p rest split) safe)
 
   -- ---- while functions are opened
 
@@ -139,37 +154,54 @@ module _ (roots : List ℕ) (s : System) (system : IsSystem s) (nested : IsNeste
       | inr waits ↦ inr (waits_closed f in_f waits)
     ]
 
-    pub opening_safe : IsSafe roots (map final s) → IsSafe roots (system_after s ((first ++ second) ++ p))
+    opening_safe : Safe (map final s) → Safe (system_after s ((first ++ second) ++ p))
     opening_safe safe =
-        subst (IsSafe roots) (sym (system_by_function s ((first ++ second) ++ p) ∙ map_same (λ f. function_after f ((first ++ second) ++ p)) opened s (λ f listed. after_settings s system closed final are.states f listed p)))
-        (left_safe roots s system nested opened final opened_moved are.states.final_moved (opening_left roots s system nested closed final are opened opened_moved opened_bytes opens opens_before) safe)
+        subst Safe (sym (system_by_function s ((first ++ second) ++ p) ∙ map_same (λ f. function_after f ((first ++ second) ++ p)) opened s (λ f listed. after_settings s system closed final are.states f listed p)))
+        (steps.opening opened opened_moved opened_bytes opens opens_before safe)
 
   -- ---- where they stop
 
-  past_closing : IsSafe roots (map final s) → (j : ℕ) → IsSafe roots (system_after s (first ++ take j (second ++ third)))
+  past_closing : Safe (map final s) → (j : ℕ) → Safe (system_after s (first ++ take j (second ++ third)))
   past_closing safe j = elim (cases_lt j (length second)) [
     | inl less ↦
-        subst (λ ws. IsSafe roots (system_after s (first ++ ws))) (sym (take-append-le j second third (omega (arith, less))))
+        subst (λ ws. Safe (system_after s (first ++ ws))) (sym (take-append-le j second third (omega (arith, less))))
         (setting_safe (take j second) (drop j second) (take-append-drop j second) safe)
     | inr past ↦
         let i = j - length second in
         let at : length second + i ≡ j = omega (arith, past) in
-        subst (λ n. IsSafe roots (system_after s (first ++ take n (second ++ third)))) at
-        (subst (λ ws. IsSafe roots (system_after s (first ++ ws))) (sym (take-append-add second third i))
-        (subst (λ ws. IsSafe roots (system_after s ws)) (append_assoc first second (take i third))
+        subst (λ n. Safe (system_after s (first ++ take n (second ++ third)))) at
+        (subst (λ ws. Safe (system_after s (first ++ ws))) (sym (take-append-add second third i))
+        (subst (λ ws. Safe (system_after s ws)) (append_assoc first second (take i third))
         (opening_safe (take i third) (drop i third) (take-append-drop i third) safe)))
   ]
 
-  -- The law: they can stop anywhere, where the final system is safe and, as long as functions are closed, the start is.
-  pub stop_safe : IsSafe roots (map final s) → (k : ℕ) → (length first ≤ k) ⊎ IsSafe roots s → IsSafe roots (system_after s (take k (all_stages closed final s)))
-  stop_safe safe k from = elim (cases_lt k (length first)) [
+  -- they can stop anywhere, where the final system is safe and, as long as functions are closed, the start is
+  pub stop_by : Safe (map final s) → (k : ℕ) → (length first ≤ k) ⊎ Safe s → Safe (system_after s (take k (all_stages closed final s)))
+  stop_by safe k from = elim (cases_lt k (length first)) [
     | inl less ↦
-        subst (λ ws. IsSafe roots (system_after s ws)) (sym (take-append-le k first (second ++ third) (omega (arith, less))))
+        subst (λ ws. Safe (system_after s ws)) (sym (take-append-le k first (second ++ third) (omega (arith, less))))
         (closing_safe (take k first) (drop k first) (take-append-drop k first)
         (elim from [ inl past ↦ absurd (let no : ⊥ = omega (arith, past, less) in no) | inr start ↦ start ]))
     | inr past ↦
         let j = k - length first in
         let at : length first + j ≡ k = omega (arith, past) in
-        subst (λ n. IsSafe roots (system_after s (take n (all_stages closed final s)))) at
-        (subst (λ ws. IsSafe roots (system_after s ws)) (sym (take-append-add first (second ++ third) j)) (past_closing safe j))
+        subst (λ n. Safe (system_after s (take n (all_stages closed final s)))) at
+        (subst (λ ws. Safe (system_after s ws)) (sym (take-append-add first (second ++ third) j)) (past_closing safe j))
   ]
+
+module _ (roots : List ℕ) (s : System) (system : IsSystem s) (nested : IsNested roots s) (closed final : Function → Function) (are : AreStages s closed final) where
+  safe_steps : AreSteps s closed final (IsSafe roots)
+  safe_steps = record {
+    closing = λ h moved progress still order safe.
+        left_safe roots s system nested h (λ f. f) moved (λ f listed. moved_itself f (images_of s system f listed))
+        (closing_left roots s system nested closed final are h moved progress still order)
+        (subst (IsSafe roots) (sym (map-id s)) safe);
+    setting = λ h moved progress either command_is safe.
+        left_safe roots s system nested h final moved are.states.final_moved (setting_left roots s system nested closed final are h moved progress either command_is) safe;
+    opening = λ h moved bytes opens before safe.
+        left_safe roots s system nested h final moved are.states.final_moved (opening_left roots s system nested closed final are h moved bytes opens before) safe;
+  }
+
+  -- The law: so it is with what is safe.
+  pub stop_safe : IsSafe roots (map final s) → (k : ℕ) → (length (all_closings closed final s) ≤ k) ⊎ IsSafe roots s → IsSafe roots (system_after s (take k (all_stages closed final s)))
+  stop_safe = stop_by s system closed final are (IsSafe roots) safe_steps

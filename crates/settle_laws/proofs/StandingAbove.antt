@@ -37,9 +37,14 @@ module _ (q : Request) (s : System) (system : IsSystem s) (nested : IsNested q.r
     pub within : lies_within (addresses r) (addresses (window_part (class_in q s r.function r.part) b)) ≡ true
     pub there : has_window (class_in q s r.function r.part) b.probe ≡ true
 
+  -- so each window of its class above it does
+  pub around_above : (b : Function) → Contains (bridges_above s r.function.slot.bus) b → IsAround (window_part (class_in q s r.function r.part) b)
+  around_above b above =
+      climbs q s system nested IsAround step r (part_of q s r in_r).listed record { listed = in_r; stands = stand; within = within_from (addresses r) (addresses r) (record { first = omega arith; last = omega arith }) } b above
+
   pub standing_above : (b : Function) → Contains (bridges_above s r.function.slot.bus) b → IsOver b
   standing_above b above =
       let c = class_in q s r.function r.part in
-      let at = climbs q s system nested IsAround step r (part_of q s r in_r).listed record { listed = in_r; stands = stand; within = within_from (addresses r) (addresses r) (record { first = omega arith; last = omega arith }) } b above in
+      let at = around_above b above in
       let is = (part_of q s (window_part c b) at.listed).is in
       record { within = at.within; there = (and_parts (is_bridge b) (has_window c b.probe) (and_parts (is_bridge b && has_window c b.probe) (not (is_closed c b.image)) is).0).1 }

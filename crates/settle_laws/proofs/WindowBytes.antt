@@ -1,14 +1,20 @@
 -- The bytes of a bridge's windows: which are whose, and what they show once bounds are put there.
-use Rattle.std.proofs.Common.{◌≡◌, ℕ, ◌+◌, ◌<◌, ◌≤◌, ◌⊎◌, inl, inr, List, refl, arith, ◌∙◌}
+use Rattle.std.proofs.Common.{◌≡◌, ℕ, ◌+◌, ◌-◌, ◌%◌, ◌<◌, ◌≤◌, ◌⊎◌, inl, inr, List, refl, arith, ◌∙◌}
 use Rattle.std.proofs.lemmas.Bool.{cases_lt}
 use Rattle.pci_spec.specs.Number.{byte_at, number_at, IsImage}
 use Rattle.pci_spec.specs.System.{Function}
-use Rattle.pci_spec.specs.Window.{WindowKind, IoWindow, MemoryWindow, PrefetchWindow, Bounds, bounds_at}
+use Rattle.pci_spec.specs.Window.{WindowKind, IoWindow, MemoryWindow, PrefetchWindow, Bounds, bounds_at, page_size}
 use Rattle.plan_spec.proofs.Planning.WindowFits.{PartsFit}
 use Rattle.settle_spec.specs.Registers.{with_number, with_bounds}
 use Rattle.settle_laws.proofs.Images.{same_number}
 use Rattle.settle_laws.proofs.Numbers.{with_elsewhere, with_image}
 use Rattle.settle_laws.proofs.NumbersPut.{reads_one, reads_two, reads_four}
+
+-- the size of whole pages is one of them
+pub size_whole : (c : WindowKind) (first last : ℕ) → first ≤ last → first % page_size c ≡ 0 → (last + 1) % page_size c ≡ 0 → (last + 1 - first) % page_size c ≡ 0
+size_whole IoWindow first last forward from to = omega (arith, forward, from, to)
+size_whole MemoryWindow first last forward from to = omega (arith, forward, from, to)
+size_whole PrefetchWindow first last forward from to = omega (arith, forward, from, to)
 
 -- a byte of a window's registers
 abbrev pub IsOf : WindowKind → ℕ → Type 0

@@ -15,6 +15,7 @@ pub mod Granted
 pub mod Later
 pub mod Longer
 pub mod Nothing
+pub mod Plain
 pub mod Refused
 pub mod Refusing
 pub mod Room

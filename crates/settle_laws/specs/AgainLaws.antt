@@ -16,19 +16,19 @@ use Rattle.settle_laws.specs.Keeping.PlacesLaws.{CanSettle, end_range}
 -- What can be settled beside what is kept can be settled again beside what stays as it stands then:
 abbrev pub CanSettleAgain : Type 0
 CanSettleAgain =
-    (q : Request) (s : System) (k : Kept) → CanSettle q s k
+    (q : Request) → q.told.ranges ≡ [] → (s : System) (k : Kept) → CanSettle q s k
     → CanSettle q (settled q s k) (as_it_stands q (settled q s k))
 
 -- each of its parts stays, unless all is placed anew,
 abbrev pub SettledPartsStay : Type 0
 SettledPartsStay =
-    (q : Request) (s : System) (k : Kept) → CanSettle q s k → IsFalse q.anew → (r : FunctionPart)
+    (q : Request) → q.told.ranges ≡ [] → (s : System) (k : Kept) → CanSettle q s k → IsFalse q.anew → (r : FunctionPart)
     → Contains (system_parts q (settled q s k)) r → IsTrue (stays q (settled q s k) r)
 
 -- and each part ends where it ended: where all is placed anew, this is asked only if nothing is wished.
 abbrev pub PartsEndWhereTheyEnded : Type 0
 PartsEndWhereTheyEnded =
-    (q : Request) (s : System) (k : Kept) → CanSettle q s k → (IsTrue q.anew → WishesNothing k) → (f : Function) (p : Part) → Contains s f
+    (q : Request) → q.told.ranges ≡ [] → (s : System) (k : Kept) → CanSettle q s k → (IsTrue q.anew → WishesNothing k) → (f : Function) (p : Part) → Contains s f
     → IsTrue (has_part f p)
     → end_range q (settled q s k) (as_it_stands q (settled q s k)) record { function = settled_function q s k f; part = p }
     ≡ end_range q s k record { function = f; part = p }
@@ -36,19 +36,19 @@ PartsEndWhereTheyEnded =
 -- So nothing changes,
 abbrev pub SettledStays : Type 0
 SettledStays =
-    (q : Request) (s : System) (k : Kept) → CanSettle q s k → (IsTrue q.anew → WishesNothing k)
+    (q : Request) → q.told.ranges ≡ [] → (s : System) (k : Kept) → CanSettle q s k → (IsTrue q.anew → WishesNothing k)
     → settled q (settled q s k) (as_it_stands q (settled q s k)) ≡ settled q s k
 
 -- and nothing is written.
 abbrev pub SettlingAgainWritesNothing : Type 0
 SettlingAgainWritesNothing =
-    (q : Request) (s : System) (k : Kept) → CanSettle q s k → (IsTrue q.anew → WishesNothing k)
+    (q : Request) → q.told.ranges ≡ [] → (s : System) (k : Kept) → CanSettle q s k → (IsTrue q.anew → WishesNothing k)
     → settle_writes q (settled q s k) (as_it_stands q (settled q s k)) ≡ []
 
 -- A sound start is settled already where each part of it stands, and I/O is off in each function with an I/O BAR that is left.
 abbrev pub StandingStartIsSettled : Type 0
 StandingStartIsSettled =
-    (q : Request) (s : System) → IsSystem s → IsSound q.roots s
+    (q : Request) → q.told.ranges ≡ [] → (s : System) → IsSystem s → IsSound q.roots s
     → ((r : FunctionPart) → Contains (system_parts q s) r → IsTrue (stands q s r))
     → ((f : Function) → Contains s f → IsTrue (has_left q s f) → IsFalse (is_space_on f Io))
     → (settled q s (as_it_stands q s) ≡ s) × (settle_writes q s (as_it_stands q s) ≡ [])

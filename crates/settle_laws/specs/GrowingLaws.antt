@@ -13,8 +13,9 @@ use Rattle.settle_spec.specs.Keeping.Writes.{closings, settle_keeping}
 use Rattle.settle_spec.specs.Growing.{settle_growing}
 use Rattle.settle_laws.specs.WriteLaws.{most_settle_writes}
 
--- A system is admitted, and lists of prefetchable memory end below 2^64.
+-- Nothing is told beside BARs and ROMs, a system is admitted, and lists of prefetchable memory end below 2^64.
 pub record CanBeAsked (q : Request) (s : System) : Type 0 where
+  pub untold : q.told.ranges ≡ []
   pub high : (r : RootRange) → Contains q.lists.prefetch r → r.range.last < 2 ^ 64
   pub system : IsSystem s
   pub nested : IsNested q.roots s
@@ -55,7 +56,7 @@ FewGrowingWritesEach =
 -- Where all is placed anew no window grows.
 abbrev pub AnewNothingGrows : Type 0
 AnewNothingGrows =
-    (q : Request) (s : System) → IsTrue q.anew → settle_growing q s ≡ settle_keeping q s (as_it_stands q s)
+    (q : Request) → q.told.ranges ≡ [] → (s : System) → IsTrue q.anew → settle_growing q s ≡ settle_keeping q s (as_it_stands q s)
 
 -- Settled again nothing is written.
 abbrev pub SettlingGrowingAgainWritesNothing : Type 0

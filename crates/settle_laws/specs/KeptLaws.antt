@@ -7,12 +7,13 @@ use Rattle.pci_spec.specs.System.{System, Function, IsSystem, has_part, is_bridg
 use Rattle.pci_spec.specs.Bus.{is_root, secondary, IsNested, LeadsTo}
 use Rattle.pci_spec.specs.Sound.{IsInProfile}
 use Rattle.plan_spec.specs.Planning.Layout.{IsInside, LieApart}
+use Rattle.given_spec.specs.ToldRegion.{ToldRegion, told_regions}
 use Rattle.settle_spec.specs.Lists.{Request}
-use Rattle.settle_spec.specs.Parts.{FunctionPart, addresses, lies_within}
-use Rattle.settle_spec.specs.Stands.{is_fixed_part, rank, are_beside, is_in_lists, window_part}
-use Rattle.settle_spec.specs.Items.{Item, Placed, AllPlaced, bus_items, highest_in, new_window}
+use Rattle.settle_spec.specs.Parts.{FunctionPart, system_parts, addresses, lies_within}
+use Rattle.settle_spec.specs.Stands.{is_fixed_part, rank, part_space, are_beside, is_in_lists, window_part}
+use Rattle.settle_spec.specs.Items.{Item, Placed, AllPlaced, taken_by, bus_items, highest_in, new_window, place_each}
+use Rattle.settle_spec.specs.Lines.{line_range, can_keep_off, lines_behind, taken_for}
 use Rattle.settle_spec.specs.PlacingLaws.{ArePlaced}
-use Rattle.settle_spec.specs.Growth.{place_each}
 use Rattle.settle_spec.specs.GrowthLaws.{MoveOut}
 use Rattle.settle_spec.specs.Kept.{Kept, no_wish, as_it_stands, growing}
 use Rattle.settle_spec.specs.Keeping.Places.{taken_at}
@@ -27,11 +28,18 @@ IsAside r t = (t.last < r.first) ⊎ (r.last < t.first)
 abbrev pub IsAlikeIn : Range → List Range → List Range → Type 0
 IsAlikeIn r xs ys = (t : Range) → Contains xs t → Contains ys t ⊎ IsAside r t
 
--- Items have the places that are found for them, beside what is taken: in a range, off that, and off each other.
-pub record HavePlaces (w : Range) (find : Item → List Range → Option ℕ) (taken : List Range) (items : List Item) : Type 0 where
+-- What is placed is off what lines hold behind it: so it is with each new window.
+abbrev pub AreOffBehind : Request → List Placed → Type 0
+AreOffBehind q placed =
+    (p : Placed) (t : Range) → Contains placed p → Contains (lines_behind q p.item.region) t → LieApart (taken_by p.item p.at) t
+
+-- Items have the places that are found for them, beside what is taken: in a range, off that, off each other, and off what lines
+-- hold behind them.
+pub record HavePlaces (q : Request) (w : Range) (find : Item → List Range → Option ℕ) (taken : List Range) (items : List Item) : Type 0 where
   pub placed : List Placed
-  pub found : place_each find taken items ≡ AllPlaced placed
+  pub found : place_each (λ i xs. find i (taken_for q i.region xs)) taken items ≡ AllPlaced placed
   pub are : ArePlaced (λ i. w ∷ []) taken items placed
+  pub off : AreOffBehind q placed
 
 -- Whole pages that a window can hold, no half of whose bounds is further in than that of its own.
 pub record IsGrown (c : WindowKind) (b : Function) (r : Range) : Type 0 where
@@ -46,8 +54,9 @@ abbrev pub WishesNothing : Kept → Type 0
 WishesNothing k = k.wished ≡ no_wish
 
 -- A window of a bridge keeps room free up to such addresses. They are whole pages that the window can hold, with all that it
--- has else, and no half of its bounds is further in. They are off all other parts on the bridge's bus, and in the lists of the
--- root or in the window above, with its room. The bridge isn't fixed.
+-- has else, and no half of its bounds is further in. They are off all other parts on the bridge's bus, and off each line there
+-- that can keep the window off, where all that it has else is. They are in the lists of the root or in the window above, with
+-- its room. The bridge isn't fixed.
 pub record IsWishedWindow (q : Request) (s : System) (k : Kept) (c : WindowKind) (b : Function) (w : Range) : Type 0 where
   pub there : IsTrue (has_window c b.probe)
   pub unfixed : IsFalse (is_fixed_part q (window_part c b))
@@ -61,6 +70,8 @@ pub record IsWishedWindow (q : Request) (s : System) (k : Kept) (c : WindowKind)
   pub apart : (r : FunctionPart) (t : Range) → Contains s r.function → IsTrue (has_part r.function r.part)
       → IsTrue (are_beside q (window_part c b) r) → rank r ≢ rank (window_part c b)
       → range_then q s k r ≡ Some t → LieApart w t
+  pub off : (x : ToldRegion) → Contains (told_regions q.told) x → IsTrue (can_keep_off q x b.slot (window_space c)) → x.told.first ≤ x.told.last
+      → ((t : Range) → place_then q s k (window_part c b) ≡ Some t → LieApart t (line_range x)) → LieApart w (line_range x)
   pub lists : IsTrue (is_root q.roots b.slot.bus) → IsTrue (is_in_lists q b.slot.bus w (window_space c))
   pub over : (d : Function) → LeadsTo s d b.slot.bus
       → (v : Range) × (range_then q s k (window_part c d) ≡ Some v) × IsInside w v
@@ -74,7 +85,7 @@ pub record IsWished (q : Request) (s : System) (k : Kept) : Type 0 where
 
 -- What stays is apart, in its lists or in the window over it, and has all addresses that it had; a BAR or ROM has the same ones.
 -- A window that stays has such pages, and a place for each item of its class behind it, whatever else is taken outside it.
--- Room that is kept free is so, too.
+-- What it gains is off lines that can keep it off. Room that is kept free is so, too.
 pub record IsSoundKept (q : Request) (s : System) (k : Kept) : Type 0 where
   pub apart : IsKeptApart q s k
   pub holds : (r : FunctionPart) → IsTrue (lies_within (addresses r) (k.range r))
@@ -85,8 +96,11 @@ pub record IsSoundKept (q : Request) (s : System) (k : Kept) : Type 0 where
       → IsTrue (k.stays (window_part c b))
       → IsAlikeIn (k.range (window_part c b)) taken (taken_at q s k (window_space c) (secondary b))
       → IsAlikeIn (k.range (window_part c b)) (taken_at q s k (window_space c) (secondary b)) taken
-      → HavePlaces (k.range (window_part c b)) (k.place b) taken
+      → HavePlaces q (k.range (window_part c b)) (k.place b) taken
       (bus_items q s c k.stays (new_window q s c) (secondary b))
+  pub off : (r : FunctionPart) (x : ToldRegion) → Contains (system_parts q s) r → IsTrue (k.stays r) → Contains (told_regions q.told) x
+      → IsTrue (can_keep_off q x r.function.slot (part_space r)) → x.told.first ≤ x.told.last
+      → LieApart (addresses r) (line_range x) → LieApart (k.range r) (line_range x)
   pub wished : IsWished q s k
 
 -- So it is with what stays as it stands,

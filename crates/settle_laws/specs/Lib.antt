@@ -7,4 +7,8 @@ pub mod PlanLaws
 pub mod RestLaws
 pub mod SparingLaws
 pub mod StartLaws
+pub mod Told
+pub mod ToldAgainLaws
 pub mod WriteLaws
+pub mod ToldSoundLaws
+pub mod ToldSparingLaws

@@ -1,26 +1,24 @@
 -- Laws of settling with room behind slots: wishes change nothing else, what settling comes to is sound, and its writes can stop.
 use Rattle.std.specs.Prelude.{◌≡◌, ℕ, ◌≤◌, ◌⊎◌, Bool, true, false, IsTrue, IsFalse, Some, List, [], length, map, take}
-use Rattle.std.specs.List.{Contains, count_by}
-use Rattle.pci_spec.specs.Slot.{Slot, same_slot}
+use Rattle.std.specs.List.{Contains}
+use Rattle.pci_spec.specs.Slot.{Slot}
 use Rattle.pci_spec.specs.Window.{WindowKind, has_window}
 use Rattle.pci_spec.specs.Decoded.{Range}
-use Rattle.pci_spec.specs.System.{System, Function, IsSystem, Part, has_part, is_window, register_of}
+use Rattle.pci_spec.specs.System.{System, Function, IsSystem, Part, register_of}
 use Rattle.pci_spec.specs.Bus.{IsNested}
 use Rattle.pci_spec.specs.Machine.{Write, system_after}
 use Rattle.pci_spec.specs.Sound.{IsSound}
 use Rattle.settle_spec.specs.FirstPlace.{Extent}
 use Rattle.settle_spec.specs.Lists.{Request}
-use Rattle.settle_spec.specs.Parts.{FunctionPart, addresses, lies_within}
+use Rattle.settle_spec.specs.Parts.{FunctionPart}
 use Rattle.settle_spec.specs.Items.{spare_of}
 use Rattle.settle_spec.specs.Writes.{Settling, Fixed, Settled}
 use Rattle.settle_spec.specs.Kept.{Kept, unwished, as_it_stands}
 use Rattle.settle_spec.specs.Keeping.Registers.{settled, settled_function}
-use Rattle.settle_spec.specs.Keeping.Writes.{closings, settle_writes, settle_keeping}
-use Rattle.settle_spec.specs.Growing.{settle_growing}
-use Rattle.settle_spec.specs.Wishes.{range_then, range_of_window, ending_if, ending, spared_if, spared_behind, Granted, granted}
-use Rattle.settle_spec.specs.Sparing.{without_slots, is_settled, placing_request, grants, denied, settle_wished, settle_sparing}
+use Rattle.settle_spec.specs.Keeping.Writes.{closings, settle_keeping}
+use Rattle.settle_spec.specs.Wishes.{range_then, range_of_window, ending_if, ending, spared_if, spared_within, spared_behind, Granted, granted}
+use Rattle.settle_spec.specs.Sparing.{is_settled, placing_request, grants, denied, settle_sparing}
 use Rattle.settle_spec.specs.SpareLaws.{kept_sparing, result_sparing, has_room_for, result_of}
-use Rattle.settle_laws.specs.WriteLaws.{most_settle_writes}
 use Rattle.settle_laws.specs.KeptLaws.{WishesNothing}
 use Rattle.settle_laws.specs.GrowingLaws.{CanBeAsked}
 use Rattle.settle_laws.specs.Keeping.PlacesLaws.{CanSettle}
@@ -50,9 +48,10 @@ EndingIsByBus =
 -- and so is room for a spare.
 abbrev pub SparedIsByBus : Type 0
 SparedIsByBus =
-    (q : Request) (s : System) (c : WindowKind) (b : Function) (e : Extent) (k : Kept) → IsSystem s
-    → IsNested q.roots s → Contains s b
-    → spared_behind q s c b e k ≡ spared_if q s c (spared_behind q s c) b e k (range_of_window q s c b k)
+    (q : Request) (s : System) (c : WindowKind) (b : Function) (e : Extent) (behind : List Range) (k : Kept)
+    → IsSystem s → IsNested q.roots s → Contains s b
+    → spared_within q s c 256 b e behind k
+    ≡ spared_if q s c (spared_within q s c 256) b e behind k (range_of_window q s c b k)
 
 -- ---- the whole
 
@@ -73,38 +72,6 @@ SettlingSparingCanStop =
     → settle_sparing q s ≡ Settled writes
     → (length (sparing_closings q s) ≤ n) ⊎ IsSound q.roots s
     → IsSound q.roots (system_after s (take n writes))
-
--- To a device at most 9 writes are made, and to a bridge 16.
-abbrev pub FewSparingWritesEach : Type 0
-FewSparingWritesEach =
-    (q : Request) (s : System) (writes : List Write) → CanBeAsked q s
-    → settle_sparing q s ≡ Settled writes → (f : Function) → Contains s f
-    → count_by (λ w. same_slot w.slot f.slot) writes ≤ most_settle_writes f
-
--- ---- nothing goes
-
--- What stays has all addresses that it had, and a BAR or ROM has the same ones.
-abbrev pub SparingKeepsAll : Type 0
-SparingKeepsAll =
-    (q : Request) (s : System) (f : Function) (p : Part) → CanBeAsked q s → IsTrue (is_settled (settle_sparing q s))
-    → Contains s f → IsTrue (has_part f p) → IsTrue ((kept_sparing q s).stays record { function = f; part = p })
-    → (w : Range) × (range_then (placing_request q s) s (kept_sparing q s) record { function = f; part = p } ≡ Some w)
-    × IsTrue (lies_within (addresses record { function = f; part = p }) w)
-    × (IsFalse (is_window p) → w ≡ addresses record { function = f; part = p })
-
--- ---- nothing is refused
-
--- What is settled without slots is settled with them.
-abbrev pub SparesRefuseNoMore : Type 0
-SparesRefuseNoMore =
-    (q : Request) (s : System) → CanBeAsked q s
-    → IsTrue (is_settled (settle_growing (without_slots q) s)) → IsTrue (is_settled (settle_sparing q s))
-
--- It is settled beside wishes, too, and the writes are those beside what is kept with them.
-abbrev pub WishedIsSettled : Type 0
-WishedIsSettled =
-    (q : Request) (s : System) → CanBeAsked q s → IsTrue (is_settled (settle_growing (without_slots q) s))
-    → settle_wished q s ≡ Settled (settle_writes (placing_request q s) s (grants q s).kept)
 
 -- ---- what is denied has no room
 
@@ -154,7 +121,7 @@ pub record ComeToTheSame (q : Request) (s : System) (g h : Granted) : Type 0 whe
 
 abbrev pub AnewWishesAgain : Type 0
 AnewWishesAgain =
-    (q asked : Request) (s : System) (k m : Kept) → CanSettle q s k → IsTrue q.anew → WishesNothing k → WishesNothing m
+    (q asked : Request) → q.told.ranges ≡ [] → (s : System) (k m : Kept) → CanSettle q s k → IsTrue q.anew → WishesNothing k → WishesNothing m
     → ((r : FunctionPart) → IsFalse (m.stays r))
     → ComeToTheSame q s (granted q s (spare_of asked) k)
     (granted q (settled q s (granted q s (spare_of asked) k).kept) (spare_of asked) m)
@@ -162,7 +129,7 @@ AnewWishesAgain =
 -- What is settled so is settled so again by no write.
 abbrev pub AnewWishesSettleOnce : Type 0
 AnewWishesSettleOnce =
-    (q asked : Request) (s : System) (k m : Kept) → CanSettle q s k → IsTrue q.anew → WishesNothing k → WishesNothing m
+    (q asked : Request) → q.told.ranges ≡ [] → (s : System) (k m : Kept) → CanSettle q s k → IsTrue q.anew → WishesNothing k → WishesNothing m
     → CanSettle q (settled q s (granted q s (spare_of asked) k).kept) m
     → IsTrue (is_settled (settle_keeping q s (granted q s (spare_of asked) k).kept))
     → settle_keeping q (settled q s (granted q s (spare_of asked) k).kept)
@@ -172,6 +139,6 @@ AnewWishesSettleOnce =
 -- It can be settled so as it stands.
 abbrev pub AnewResultCanSettle : Type 0
 AnewResultCanSettle =
-    (q asked : Request) (s : System) (k : Kept) → CanSettle q s k → IsTrue q.anew
+    (q asked : Request) → q.told.ranges ≡ [] → (s : System) (k : Kept) → CanSettle q s k → IsTrue q.anew
     → CanSettle q (settled q s (granted q s (spare_of asked) k).kept)
     (as_it_stands q (settled q s (granted q s (spare_of asked) k).kept))

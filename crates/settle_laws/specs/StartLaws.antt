@@ -48,14 +48,14 @@ EnabledLieApart =
 -- In a sound system each part stands, unless all is placed anew, where both hold, and nowhere else.
 abbrev pub SoundStandsInPlace : Type 0
 SoundStandsInPlace =
-    (q : Request) (s : System) → IsSystem s → IsSound q.roots s → IsFalse q.anew
+    (q : Request) → q.told.ranges ≡ [] → (s : System) → IsSystem s → IsSound q.roots s → IsFalse q.anew
     → ((r : FunctionPart) → Contains (system_parts q s) r → IsTrue (stands q s r))
     ↔ LieInPlace q s × OffLieApart q s
 
 -- So settling it writes nothing there, whatever is fixed, if I/O is off in each function with an I/O BAR that is left.
 abbrev pub SoundInPlaceIsSettled : Type 0
 SoundInPlaceIsSettled =
-    (q : Request) (s : System) → IsSystem s → IsSound q.roots s → IsFalse q.anew
+    (q : Request) → q.told.ranges ≡ [] → (s : System) → IsSystem s → IsSound q.roots s → IsFalse q.anew
     → LieInPlace q s → OffLieApart q s
     → ((f : Function) → Contains s f → IsTrue (has_left q s f) → IsFalse (is_space_on f Io))
     → IsFalse (are_bad_lists q.roots q.lists)

@@ -1,6 +1,6 @@
 //! Laws of settling with room behind slots. These functions do nothing: each contract is a law.
 
-ghost use Rattle.settle_laws.specs.SparingLaws.{EndingIsByBus, SparedIsByBus, WishesChangeRoomAlone, GrantedCanSettle, SettledSparingIsSound, SettlingSparingCanStop, FewSparingWritesEach, SparingKeepsAll, SparesRefuseNoMore, WishedIsSettled, SparesAreAnswered, SparingSettlesOnce, SparingSettlesAgain, AnewWishesAgain, AnewWishesSettleOnce, AnewResultCanSettle};
+ghost use Rattle.settle_laws.specs.SparingLaws.{EndingIsByBus, SparedIsByBus, WishesChangeRoomAlone, GrantedCanSettle, SettledSparingIsSound, SettlingSparingCanStop, SparesAreAnswered, SparingSettlesOnce, SparingSettlesAgain, AnewWishesAgain, AnewWishesSettleOnce, AnewResultCanSettle};
 ghost use Rattle.settle_spec.specs.SpareLaws.{NoSlotsNoSpares, SparesRefuseNothing, NothingGoesForSpares, SparesSetNoCommand, SparesHaveRoom};
 
 /// Room behind a slot is told by the window over its bridge, bus by bus.
@@ -17,28 +17,23 @@ pub fn granted_wishes_can_be_settled()
 {}
 
 /// What settling comes to with room behind slots is sound, and so is what is left of it wherever its writes
-/// may stop, of which each function has few.
+/// may stop.
 pub fn settled_sparing_is_sound()
     ensures sound { SettledSparingIsSound }
     ensures stop { SettlingSparingCanStop }
-    ensures few { FewSparingWritesEach }
 {}
 
-/// Without slots all is settled as where no room is wanted. With them all stays that stays without, with all
-/// addresses that it had, and Command is that without slots.
+/// Without slots all is settled as where no room is wanted. With them all stays that stays without, and Command is that
+/// without slots.
 pub fn nothing_goes_for_spares()
     ensures none { NoSlotsNoSpares }
     ensures stays { NothingGoesForSpares }
-    ensures addresses { SparingKeepsAll }
     ensures command { SparesSetNoCommand }
 {}
 
-/// What is settled without slots is settled with them, and its writes are those beside the wishes. What is refused with
-/// slots is refused without them, for the same reason.
+/// What is refused with slots is refused without them, for the same reason.
 pub fn spares_refuse_nothing()
-    ensures settled { SparesRefuseNoMore }
-    ensures wished { WishedIsSettled }
-    ensures refused { SparesRefuseNothing }
+    ensures { SparesRefuseNothing }
 {}
 
 /// The spare behind a slot is denied, or else its window has room for it in the result. Where it has none, none could be

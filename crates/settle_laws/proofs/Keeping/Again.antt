@@ -1,4 +1,5 @@
 -- What is settled is alike to what it was, so where all is placed anew everything gets the place that it got.
+use Rattle.settle_laws.specs.ToldAgainLaws.{AllLinesAreHeld}
 use Rattle.std.proofs.Common.{◌≡◌, refl, sym, ◌∙◌, Option, None, Some, ap}
 use Rattle.std.specs.Bool.{IsTrue}
 use Rattle.std.specs.List.{AllZip, Contains}
@@ -12,7 +13,7 @@ use Rattle.settle_spec.specs.Parts.{FunctionPart}
 use Rattle.settle_spec.specs.Kept.{Kept, as_it_stands}
 use Rattle.settle_spec.specs.Keeping.Places.{new_place, lacking}
 use Rattle.settle_spec.specs.Keeping.Registers.{settled, settled_function}
-use Rattle.settle_spec.proofs.Anew.{none_stays}
+use Rattle.settle_laws.proofs.Told.OnlyHeld.{none_stays}
 use Rattle.settle_laws.specs.PlacesLaws.{place_range}
 use Rattle.settle_laws.specs.Keeping.PlacesLaws.{CanSettle, end_range}
 use Rattle.settle_laws.proofs.Alike.{IsAlike}
@@ -47,7 +48,7 @@ module _ (q : Request) (s : System) (k : Kept) (can : CanSettle q s k) where
   pub all_alike : AllZip IsAlike s (settled q s k)
   all_alike = each_by IsAlike (settled_function q s k) s settled_alike
 
-module _ (q : Request) (s : System) (k : Kept) (can : CanSettle q s k) (anew : IsTrue q.anew) where
+module _ (q : Request) (held : AllLinesAreHeld q) (s : System) (k : Kept) (can : CanSettle q s k) (anew : IsTrue q.anew) where
   abbrev t : System
   t = settled q s k
 
@@ -55,21 +56,21 @@ module _ (q : Request) (s : System) (k : Kept) (can : CanSettle q s k) (anew : I
   j = as_it_stands q t
 
   pub room_again : lacking q t j ≡ None
-  room_again = none_lacks q anew s t (all_alike q s k can) k j (none_kept q s k can anew) (none_stays q t anew) can.room
+  room_again = none_lacks q anew s t (all_alike q s k can) k j (none_kept q held s k can anew) (none_stays q t anew held) can.room
 
   -- the places of a part before and again
   pub again_alike : (f : Function) (p : Part) → Contains s f → BothOrNone IsAlikePlaced (new_place q s k record { function = f; part = p }) (new_place q t j record { function = settled_function q s k f; part = p })
   again_alike f p listed =
-      new_places_alike q anew s t (all_alike q s k can) k j (none_kept q s k can anew) (none_stays q t anew) record { function = f; part = p } record { function = settled_function q s k f; part = p } record { function = settled_alike q s k can f listed; part = refl }
+      new_places_alike q anew s t (all_alike q s k can) k j (none_kept q held s k can anew) (none_stays q t anew held) record { function = f; part = p } record { function = settled_function q s k f; part = p } record { function = settled_alike q s k can f listed; part = refl }
 
   -- so it ends where it ended
   pub ends_again : WishesNothing k → (f : Function) (p : Part) → Contains s f → end_range q t j record { function = settled_function q s k f; part = p } ≡ end_range q s k record { function = f; part = p }
   ends_again wishless f p listed =
       let r : FunctionPart = record { function = f; part = p } in
       let u : FunctionPart = record { function = settled_function q s k f; part = p } in
-      placed_range q t j u (none_stays q t anew u)
+      placed_range q t j u (none_stays q t anew held u)
       ∙ sym (by (new_place q s k r) (new_place q t j u) (again_alike f p listed))
-      ∙ sym (unwished_end q s k r (ap (λ wish. wish r) wishless) ∙ placed_range q s k r (none_kept q s k can anew r))
+      ∙ sym (unwished_end q s k r (ap (λ wish. wish r) wishless) ∙ placed_range q s k r (none_kept q held s k can anew r))
     where
       by : (o n : Option Placed) → BothOrNone IsAlikePlaced o n → place_range o ≡ place_range n
       by None None both = refl

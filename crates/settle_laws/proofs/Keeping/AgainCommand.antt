@@ -1,4 +1,5 @@
 -- The same I/O BARs are left again, and where all is placed anew the same gets a place.
+use Rattle.settle_laws.specs.ToldAgainLaws.{AllLinesAreHeld}
 use Rattle.std.proofs.Common.{◌≡◌, ◌&&◌, ◌||◌, ℕ, List, [], ◌∷◌, map, Bool, true, false, not, refl, sym, ◌∙◌, ap}
 use Rattle.std.specs.Bool.{IsTrue, ◌==◌}
 use Rattle.std.specs.List.{Contains, filter, list_any, range_with_len}
@@ -30,7 +31,19 @@ implemented true true = refl
 implemented true false = refl
 implemented false there = refl
 
-module _ (q : Request) (s : System) (k : Kept) (can : CanSettle q s k) where
+module _ (q : Request) (s : System) (k : Kept) (can : CanSettle q s k) (f : Function) (listed : Contains s f) where
+  pub left_again : has_left q s f ≡ has_left q (settled q s k) (settled_function q s k f)
+  left_again =
+      let u = settled q s k in
+      let g = settled_function q s k f in
+      let is : IsAlike f g = settled_alike q s k can f listed in
+      any_bars (λ p. is_implemented f p && is_left q s f p) (λ p. is_implemented g p && is_left q u g p)
+      (λ n. let left = left_alike q s u (all_alike q s k can) f g is (Bar n) in ap (λ b. has_bar f.probe n && b) left) (range_with_len 0 (bar_count (layout f.image)))
+      ∙ ap (λ k. list_any (λ p. is_implemented g p && is_left q u g p) (map Bar (range_with_len 0 (bar_count k)))) is.kind
+
+-- ---- where all is placed anew the same gets a place
+
+module _ (q : Request) (held : AllLinesAreHeld q) (s : System) (k : Kept) (can : CanSettle q s k) where
   abbrev t : System
   t = settled q s k
 
@@ -40,32 +53,20 @@ module _ (q : Request) (s : System) (k : Kept) (can : CanSettle q s k) where
   abbrev now : Function → Function
   now f = settled_function q s k f
 
-  module _ (f : Function) (listed : Contains s f) where
-    is : IsAlike f (now f)
-    is = settled_alike q s k can f listed
-
-    pub left_again : has_left q s f ≡ has_left q t (now f)
-    left_again =
-        any_bars (λ p. is_implemented f p && is_left q s f p) (λ p. is_implemented (now f) p && is_left q t (now f) p)
-        (λ n. let left = left_alike q s t (all_alike q s k can) f (now f) is (Bar n) in ap (λ b. has_bar f.probe n && b) left) (range_with_len 0 (bar_count (layout f.image)))
-        ∙ ap (λ k. list_any (λ p. is_implemented (now f) p && is_left q t (now f) p) (map Bar (range_with_len 0 (bar_count k)))) is.kind
-
-  -- ---- where all is placed anew the same gets a place
-
   module _ (anew : IsTrue q.anew) (f : Function) (listed : Contains s f) where
     pub change_again : (p : Part) → can_change q s f p ≡ can_change q t (now f) p
-    change_again (Bar n) = (let part = part_alike q s t (all_alike q s k can) f (now f) (is f listed) (Bar n) refl in ap (λ b. b || false) part)
-    change_again Rom = (let part = part_alike q s t (all_alike q s k can) f (now f) (is f listed) Rom refl in ap (λ b. b || false) part)
+    change_again (Bar n) = (let part = part_alike q s t (all_alike q s k can) f (now f) (settled_alike q s k can f listed) (Bar n) refl in ap (λ b. b || false) part)
+    change_again Rom = (let part = part_alike q s t (all_alike q s k can) f (now f) (settled_alike q s k can f listed) Rom refl in ap (λ b. b || false) part)
     change_again (Window c) =
         implemented (is_bridge f && has_window c f.probe) (not (is_closed c f.image))
-        ∙ ap (λ k. k == 1 && has_window c f.probe) (is f listed).kind
+        ∙ ap (λ k. k == 1 && has_window c f.probe) (settled_alike q s k can f listed).kind
         ∙ sym (implemented (is_bridge (now f) && has_window c f.probe) (not (is_closed c (now f).image)))
 
     module _ (space : Space) where
       got_same : (p : Part) → (are_same_space space (space_of f p) && is_some (new_place q s k record { function = f; part = p })) ≡ (are_same_space space (space_of (now f) p) && is_some (new_place q t j record { function = now f; part = p }))
       got_same p =
-          let sp = space_alike f (now f) (is f listed) p in
-          let has = both_some IsAlikePlaced (new_place q s k record { function = f; part = p }) (new_place q t j record { function = now f; part = p }) (again_alike q s k can anew f p listed) in
+          let sp = space_alike f (now f) (settled_alike q s k can f listed) p in
+          let has = both_some IsAlikePlaced (new_place q s k record { function = f; part = p }) (new_place q t j record { function = now f; part = p }) (again_alike q held s k can anew f p listed) in
           λ i. are_same_space space (sp i) && has i
 
       got_each : (ps : List Part)
@@ -83,4 +84,4 @@ module _ (q : Request) (s : System) (k : Kept) (can : CanSettle q s k) where
       pub got_again : got_place q s k space f ≡ got_place q t j space (now f)
       got_again =
           got_each (header_parts f)
-          ∙ ap (λ ps. list_any (λ r. are_same_space space (part_space r) && is_some (new_place q t j r)) (map (λ p. record { function = now f; part = p }) (filter (can_change q t (now f)) ps))) (header_alike f (now f) (is f listed))
+          ∙ ap (λ ps. list_any (λ r. are_same_space space (part_space r) && is_some (new_place q t j r)) (map (λ p. record { function = now f; part = p }) (filter (can_change q t (now f)) ps))) (header_alike f (now f) (settled_alike q s k can f listed))

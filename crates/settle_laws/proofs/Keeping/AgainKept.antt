@@ -1,5 +1,5 @@
 -- What is settled stands where it is, whatever is fixed then: each of its parts lies in the lists of its root or in the window over it, and apart.
-use Rattle.std.proofs.Common.{◌≡◌, ◌&&◌, ℕ, ◌≤◌, inl, inr, List, Bool, true, false, cond, not, arith, refl, sym, ◌∙◌, ap, subst, Some}
+use Rattle.std.proofs.Common.{◌≡◌, ◌&&◌, ℕ, ◌≤◌, inl, inr, List, Bool, true, false, cond, not, arith, refl, sym, ◌∙◌, ap, subst, Some, []}
 use Rattle.std.specs.List.{Contains, list_any}
 use Rattle.std.proofs.lemmas.Bool.{and_from, and_parts, both_ways, false_from_ne_true, not_from_false}
 use Rattle.pci_spec.specs.Slot.{Slot}
@@ -17,7 +17,7 @@ use Rattle.plan_spec.proofs.Planning.Moved.{secondary_same}
 use Rattle.settle_spec.specs.FirstPlace.{ranges_are_apart}
 use Rattle.settle_spec.specs.Lists.{Request}
 use Rattle.settle_spec.specs.Parts.{FunctionPart, system_parts, addresses, is_empty, lies_within, holds_range, upper_pools, bridge_over, is_in_memory, is_in_prefetch, prefetchable_class, class_in, are_same_space}
-use Rattle.settle_spec.specs.Stands.{rank, window_part, part_space, are_beside, is_in_lists, is_in_window, is_in_place, stands}
+use Rattle.settle_spec.specs.Stands.{rank, window_part, part_space, are_beside, is_in_lists, is_in_window, is_in_place, is_kept_off, stands}
 use Rattle.settle_spec.specs.Keeping.Registers.{settled, settled_function}
 use Rattle.settle_spec.proofs.BridgeOver.{over_is}
 use Rattle.settle_laws.specs.Keeping.PlacesLaws.{CanSettle, end_range}
@@ -35,6 +35,7 @@ use Rattle.settle_laws.proofs.PartClasses.{by_tests, by_windows, prefetchable_sp
 use Rattle.settle_laws.proofs.NonePasses.{none_by}
 use Rattle.settle_spec.specs.Kept.{Kept}
 use Rattle.settle_laws.proofs.AgainKept.{tests_same}
+use Rattle.settle_laws.proofs.Untold.{none_kept_off}
 
 -- what the windows over a part have to be for its class to be the one that it had
 record AreWindowsOf (class : WindowKind) (memory prefetch : Bool) : Type 0 where
@@ -184,11 +185,15 @@ module _ (q : Request) (s : System) (k : Kept) (can : CanSettle q s k) (fixed : 
       (two_of record { function = x.f; part = x.p } record { function = y.f; part = y.p } (λ same. differ (sym rank_x ∙ same ∙ rank_y))) h.at e.at h.ends e.ends in
       apart_from (addresses r) (addresses u) (subst (λ w. LieApart w (addresses u)) (sym range_x) (subst (LieApart h.at) (sym range_y) apart))
 
-  -- The law: each part of what is settled stands for a request that keeps what stands.
-  pub stand_kept : (r : FunctionPart) → Contains (system_parts kq t) r → stands kq t r ≡ true
-  stand_kept = all_in_place kq t (new_system q s k can) (new_nested q s k can) refl in_place two_apart
+  -- Where no line keeps a part off, each part of what is settled stands for a request that keeps what stands.
+  pub stand_off : ((r : FunctionPart) → Contains (system_parts kq t) r → is_kept_off kq t r ≡ false) → (r : FunctionPart) → Contains (system_parts kq t) r → stands kq t r ≡ true
+  stand_off off = all_in_place kq t (new_system q s k can) (new_nested q s k can) refl off in_place two_apart
+
+  -- The law: so it is where nothing is told.
+  pub stand_kept : q.told.ranges ≡ [] → (r : FunctionPart) → Contains (system_parts kq t) r → stands kq t r ≡ true
+  stand_kept untold = stand_off (λ r listed. none_kept_off kq untold t r)
 
 -- The request that it was settled for is one, if it placed nothing anew.
-pub all_stand : (q : Request) (s : System) (k : Kept) → CanSettle q s k → q.anew ≡ false → (r : FunctionPart) → Contains (system_parts q (settled q s k)) r → stands q (settled q s k) r ≡ true
-all_stand q s k can kept =
-    subst (λ (kq : Request). (r : FunctionPart) → Contains (system_parts kq (settled q s k)) r → stands kq (settled q s k) r ≡ true) (λ i. record q { anew = sym kept i }) (stand_kept q s k can q.fixed)
+pub all_stand : (q : Request) → q.told.ranges ≡ [] → (s : System) (k : Kept) → CanSettle q s k → q.anew ≡ false → (r : FunctionPart) → Contains (system_parts q (settled q s k)) r → stands q (settled q s k) r ≡ true
+all_stand q untold s k can kept =
+    subst (λ (kq : Request). (r : FunctionPart) → Contains (system_parts kq (settled q s k)) r → stands kq (settled q s k) r ≡ true) (λ i. record q { anew = sym kept i }) (stand_kept q s k can q.fixed untold)

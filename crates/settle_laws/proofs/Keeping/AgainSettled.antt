@@ -1,18 +1,19 @@
 -- Settling what is settled changes nothing, so nothing is written.
+use Rattle.settle_laws.specs.ToldAgainLaws.{AllLinesAreHeld}
 use Rattle.std.proofs.Common.{◌≡◌, inl, inr, [], true, false, ◌&&◌, ◌||◌, not, sym, ◌∙◌, ap, subst, IsTrue}
 use Rattle.std.specs.List.{Contains}
 use Rattle.std.proofs.lemmas.Bool.{both_ways, cases_Bool, false_from_ne_true, not-true, or_left, or_right, and_from}
 use Rattle.pci_spec.specs.System.{System, Function, Space, Io, is_space_on}
 use Rattle.pci_spec.proofs.Members.{in_map_to, in_map_from, IsMade}
 use Rattle.settle_spec.specs.Lists.{Request}
-use Rattle.settle_spec.specs.Parts.{has_left, are_same_space}
+use Rattle.settle_spec.specs.Parts.{FunctionPart, system_parts, has_left, are_same_space}
+use Rattle.settle_spec.specs.Stands.{stands}
 use Rattle.settle_spec.specs.LiveLaws.{is_live, has_live_behind}
 use Rattle.settle_spec.specs.Keeping.Registers.{got_place, settled, settled_image, settled_function}
 use Rattle.settle_spec.specs.Keeping.Writes.{settle_writes}
 use Rattle.settle_laws.specs.Keeping.PlacesLaws.{CanSettle}
 use Rattle.settle_laws.proofs.Keeping.AgainCommand.{left_again, got_again}
 use Rattle.settle_laws.proofs.Keeping.SameImage.{image_again}
-use Rattle.settle_laws.proofs.Keeping.AgainKept.{all_stand}
 use Rattle.settle_laws.proofs.StandingPlaces.{got_none, image_stays}
 use Rattle.settle_laws.proofs.Keeping.Claimed.{on_now}
 use Rattle.settle_laws.proofs.Keeping.Commands.{enabled_unleft}
@@ -23,7 +24,19 @@ use Rattle.settle_laws.specs.KeptLaws.{WishesNothing}
 use Rattle.settle_laws.proofs.Keeping.Unchanged.{no_write}
 use Rattle.settle_spec.specs.Kept.{Kept, as_it_stands}
 
-module _ (q : Request) (s : System) (k : Kept) (can : CanSettle q s k) where
+-- what is left is off
+pub all_left_off : (q : Request) (s : System) (k : Kept) → CanSettle q s k → (g : Function) → Contains (settled q s k) g → has_left q (settled q s k) g ≡ true → is_space_on g Io ≡ false
+all_left_off q s k can g has left =
+    let f : IsMade (settled_function q s k) s g = in_map_to (settled_function q s k) s g has in
+    let new = settled_function q s k f.from in
+    subst (λ x. is_space_on x Io ≡ false) f.is
+    (false_from_ne_true (is_space_on new Io) (λ on.
+    both_ways (has_left q s f.from) (not-true (has_left q s f.from) (enabled_unleft q s k f.from Io (sym (on_now q s k can f.from f.has Io) ∙ on)))
+    (left_again q s k can f.from f.has ∙ ap (has_left q (settled q s k)) f.is ∙ left)))
+
+-- All lines are `held`, and each part of the result stands, unless all is placed anew.
+module _ (q : Request) (held : AllLinesAreHeld q) (s : System) (k : Kept) (can : CanSettle q s k)
+    (stand : q.anew ≡ false → (r : FunctionPart) → Contains (system_parts q (settled q s k)) r → stands q (settled q s k) r ≡ true) where
   abbrev now : Function → Function
   now f = settled_function q s k f
 
@@ -37,21 +50,17 @@ module _ (q : Request) (s : System) (k : Kept) (can : CanSettle q s k) where
 
   image_same : (IsTrue q.anew → WishesNothing k) → (f : Function) → Contains s f → settled_image q t j (now f) ≡ (now f).image
   image_same rests f listed = elim (cases_Bool q.anew) [
-    | inl anew ↦ image_again q s k can anew (rests anew) f listed
-    | inr kept ↦ image_stays q t (new_system q s k can) (new_nested q s k can) (all_stand q s k can kept) (now f) (in_map_from now s f listed)
+    | inl anew ↦ image_again q held s k can anew (rests anew) f listed
+    | inr kept ↦ image_stays q t (new_system q s k can) (new_nested q s k can) (stand kept) (now f) (in_map_from now s f listed)
   ]
 
   no_more : (space : Space) (f : Function) → Contains s f → got_place q t j space (now f) ≡ true → got_place q s k space f ≡ true
   no_more space f listed got = elim (cases_Bool q.anew) [
-    | inl anew ↦ got_again q s k can anew f listed space ∙ got
-    | inr kept ↦ absurd (both_ways (got_place q t j space (now f)) (got_none q t (new_system q s k can) (new_nested q s k can) (all_stand q s k can kept) space (now f)) got)
+    | inl anew ↦ got_again q held s k can anew f listed space ∙ got
+    | inr kept ↦ absurd (both_ways (got_place q t j space (now f)) (got_none q t (new_system q s k can) (new_nested q s k can) (stand kept) space (now f)) got)
   ]
 
-  -- ---- what is left is off, and what got a place is on
-
-  pub left_off : (f : Function) → Contains s f → has_left q t (now f) ≡ true → is_space_on (now f) Io ≡ false
-  left_off f listed left = false_from_ne_true (is_space_on (now f) Io) (λ on.
-      both_ways (has_left q s f) (not-true (has_left q s f) (enabled_unleft q s k f Io (sym (on_now q s k can f listed Io) ∙ on))) (left_again q s k can f listed ∙ left))
+  -- ---- what got a place is on
 
   pub got_on : (space : Space) (f : Function) → Contains s f → not (are_same_space space Io && has_left q t (now f)) ≡ true → got_place q t j space (now f) ≡ true → is_space_on (now f) space ≡ true
   got_on space f listed fine got =
@@ -66,13 +75,10 @@ module _ (q : Request) (s : System) (k : Kept) (can : CanSettle q s k) where
   abbrev of_old : (g : Function) → Contains t g → IsMade now s g
   of_old g has = in_map_to now s g has
 
-  pub all_left_off : (g : Function) → Contains t g → has_left q t g ≡ true → is_space_on g Io ≡ false
-  all_left_off g has left = (let f : IsMade now s g = of_old g has in subst (λ x. is_space_on x Io ≡ false) f.is (left_off f.from f.has (ap (has_left q t) f.is ∙ left)))
-
   pub settled_again : (IsTrue q.anew → WishesNothing k) → settled q t j ≡ t
   settled_again rests =
-      settled_already q t j (new_system q s k can) (settled_sound q s k can)
-      all_left_off
+      settled_already q held t j (new_system q s k can) (settled_sound q s k can)
+      (all_left_off q s k can)
       (λ space g has fine got.
       let f : IsMade now s g = of_old g has in
       subst (λ x. is_space_on x space ≡ true) f.is (got_on space f.from f.has (ap (λ x. not (are_same_space space Io && has_left q t x)) f.is ∙ fine) (ap (got_place q t j space) f.is ∙ got)))

@@ -1,4 +1,5 @@
 -- Where all is placed anew, what is settled is settled again by no write: what is fixed has no part, and no write is to it.
+use Rattle.settle_laws.specs.ToldAgainLaws.{AllLinesAreHeld}
 use Rattle.std.proofs.Common.{◌≡◌, ◌&&◌, inl, inr, length, [], Bool, true, false, cond, not, refl, sym, ◌∙◌, ap, None}
 use Rattle.std.specs.List.{Contains, list_any}
 use Rattle.std.proofs.lemmas.Bool.{and_from, both_ways, cases_Bool, false_from_ne_true}
@@ -11,7 +12,7 @@ use Rattle.settle_spec.specs.Keeping.Places.{lacking}
 use Rattle.settle_spec.specs.Keeping.Registers.{settled, settled_function}
 use Rattle.settle_spec.specs.Writes.{BadLists, Settled, fixed_without, fixed_write, or_fixed, or_lack, or_write}
 use Rattle.settle_spec.specs.Keeping.Writes.{settle_keeping, settle_writes}
-use Rattle.settle_spec.proofs.Anew.{none_stands}
+use Rattle.settle_laws.proofs.Told.OnlyHeld.{none_stands, settled_held}
 use Rattle.settle_laws.specs.KeptLaws.{WishesNothing}
 use Rattle.settle_laws.specs.Keeping.PlacesLaws.{CanSettle}
 use Rattle.settle_laws.proofs.Keeping.Again.{settled_alike, all_alike, room_again}
@@ -24,7 +25,7 @@ use Rattle.settle_laws.proofs.NothingSettled.{find_none}
 use Rattle.settle_laws.proofs.Keeping.FixedRests.{fixed_rests, not_found}
 use Rattle.settle_spec.specs.Kept.{Kept, as_it_stands}
 
-module _ (q : Request) (s : System) (k : Kept) (can : CanSettle q s k) (anew : q.anew ≡ true) (stand : fixed_without (stands q s) q s ≡ None) (unwritten : fixed_write q (settle_writes q s k) ≡ None) where
+module _ (q : Request) (only : AllLinesAreHeld q) (s : System) (k : Kept) (can : CanSettle q s k) (anew : q.anew ≡ true) (stand : fixed_without (stands q s) q s ≡ None) (unwritten : fixed_write q (settle_writes q s k) ≡ None) where
   abbrev now : Function → Function
   now f = settled_function q s k f
 
@@ -56,7 +57,7 @@ module _ (q : Request) (s : System) (k : Kept) (can : CanSettle q s k) (anew : q
       let old : FunctionPart = record { function = at.f; part = at.p } in
       both_ways (is_fixed_part q old && not (stands q s old))
       (not_found (λ r. is_fixed_part q r && not (stands q s r)) (system_parts q s) stand old (in_regions q s at.f at.p at.listed (header_of at.f at.p at.there) (part_before at.f at.p at.listed held at.part)))
-      (and_from (is_fixed_part q old) (not (stands q s old)) held (ap not (none_stands q s anew (length (system_parts q s)) old))))
+      (and_from (is_fixed_part q old) (not (stands q s old)) held (ap not (none_stands q s anew only (length (system_parts q s)) old))))
 
   pub none_without : (test : FunctionPart → Bool) → fixed_without test q t ≡ None
   none_without test = find_none (λ r. is_fixed_part q r && not (test r)) (system_parts q t) (λ r listed. ap (λ b. b && not (test r)) (none_fixed r listed))
@@ -64,9 +65,10 @@ module _ (q : Request) (s : System) (k : Kept) (can : CanSettle q s k) (anew : q
   -- The law: nothing is written.
   pub anew_again : WishesNothing k → settle_keeping q t j ≡ Settled []
   anew_again wishless =
-      ap (λ b. cond b BadLists (or_fixed (fixed_without (stands q t) q t) (or_fixed (fixed_without j.stays q t)
+      settled_held q only t j
+      ∙ ap (λ b. cond b BadLists (or_fixed (fixed_without (stands q t) q t) (or_fixed (fixed_without j.stays q t)
       (or_lack (lacking q t j) (or_write (fixed_write q (settle_writes q t j)) (Settled (settle_writes q t j))))))) can.lists
       ∙ ap (λ o. or_fixed o (or_fixed (fixed_without j.stays q t) (or_lack (lacking q t j) (or_write (fixed_write q (settle_writes q t j)) (Settled (settle_writes q t j)))))) (none_without (stands q t))
       ∙ ap (λ o. or_fixed o (or_lack (lacking q t j) (or_write (fixed_write q (settle_writes q t j)) (Settled (settle_writes q t j))))) (none_without j.stays)
-      ∙ ap (λ o. or_lack o (or_write (fixed_write q (settle_writes q t j)) (Settled (settle_writes q t j)))) (room_again q s k can anew)
-      ∙ ap (λ ws. or_write (fixed_write q ws) (Settled ws)) (none_again q s k can (λ all. wishless))
+      ∙ ap (λ o. or_lack o (or_write (fixed_write q (settle_writes q t j)) (Settled (settle_writes q t j)))) (room_again q only s k can anew)
+      ∙ ap (λ ws. or_write (fixed_write q ws) (Settled ws)) (none_again q only s k can (λ kept. absurd (both_ways q.anew kept anew)) (λ all. wishless))

@@ -1,47 +1,45 @@
 -- Only roots can lack room beside what is kept: where they have it, each bus has a place for each of its items.
 use Rattle.std.proofs.Common.{◌≡◌, ◌&&◌, ℕ, zero, suc, ◌+◌, ◌-◌, ◌%◌, ◌<◌, ◌≤◌, ◌⊎◌, inl, inr, max, List, [], ◌∷◌, ◌++◌, map, true, false, cond, arith, refl, sym, ◌∙◌, ap, subst, Option, None, Some}
-use Rattle.std.specs.Bool.{◌==◌, nat_le, nat_lt}
+use Rattle.std.specs.Bool.{◌==◌, nat_le}
 use Rattle.std.specs.List.{Contains}
-use Rattle.std.proofs.lemmas.Bool.{and_parts, both_ways, cases_Bool, eqb-true, leb-true, lt-ltb, or_cases, or_left, or_right}
+use Rattle.std.proofs.lemmas.Bool.{and_parts, both_ways, cases_Bool, eqb-true, leb-true, or_cases}
 use Rattle.std.proofs.lemmas.List.Elements.{Contains-append_cases}
 use Rattle.pci_spec.specs.Decoded.{Range}
 use Rattle.pci_spec.specs.Window.{WindowKind, IoWindow, MemoryWindow, PrefetchWindow, page_size}
-use Rattle.pci_spec.specs.System.{System, Function, Space, Io, Memory, Window, is_bridge, window_space}
+use Rattle.pci_spec.specs.System.{System, Function, Space, Io, Memory, Window, is_bridge, space_of, window_space}
 use Rattle.pci_spec.specs.Bus.{is_root, are_siblings, secondary}
 use Rattle.pci_spec.proofs.BusRanges.{root_means}
-use Rattle.pci_spec.proofs.Members.{in_nil, in_head, in_tail, in_cons_cases, in_map_from, pairs_nil, pairs_append}
+use Rattle.pci_spec.proofs.Members.{in_nil, in_head, in_tail, in_map_from, pairs_nil}
 use Rattle.plan_spec.specs.Plan.{greatest}
 use Rattle.plan_spec.specs.Place.{range_from}
 use Rattle.plan_spec.specs.Planning.Layout.{LieApart}
 use Rattle.plan_spec.proofs.Planning.AboveBuses.{root_or_led}
 use Rattle.plan_spec.proofs.Planning.Placement.{power_pos}
 use Rattle.plan_spec.proofs.Planning.Safe.{order_of}
-use Rattle.settle_spec.specs.FirstPlace.{Extent, ranges_are_apart, least_number, first_place, is_spot, ends_by, is_place}
+use Rattle.settle_spec.specs.FirstPlace.{Extent, least_number, first_place, is_spot, ends_by, is_place}
+use Rattle.settle_spec.specs.Lines.{lines_on, lines_behind, taken_for}
 use Rattle.settle_spec.specs.Lists.{Request}
 use Rattle.settle_spec.specs.Spares.{with_spare}
 use Rattle.settle_spec.specs.Parts.{FunctionPart, bridge_over, class_in, header_parts}
 use Rattle.settle_spec.specs.Stands.{window_part}
-use Rattle.settle_spec.specs.Items.{Item, Placed, Placing, AllPlaced, Lacks, and_placed, place_next, are_placed, place_all, taken_by, has_of, bus_items, nothing, highest_in, spare_of, window_around, new_window}
+use Rattle.settle_spec.specs.Items.{Item, Placed, Placing, AllPlaced, Lacks, are_placed, place_all, taken_by, has_of, bus_items, nothing, highest_in, spare_of, window_around, new_window, place_each}
 use Rattle.settle_spec.specs.Places.{placed_of, place_among, placed_range, root_ranges, first_lack}
 use Rattle.settle_spec.specs.PlacingLaws.{ArePlaced, PlacesAreApart}
 use Rattle.settle_spec.specs.WindowLaws.{CanBeIn}
-use Rattle.settle_spec.specs.Growth.{place_each}
 use Rattle.settle_spec.specs.Kept.{Kept}
 use Rattle.settle_spec.specs.Keeping.Places.{space_items, taken_at, place_behind, place_of_item, placing_on, root_lack, lacking_on}
 use Rattle.settle_spec.proofs.BridgeOver.{over_is}
-use Rattle.settle_spec.proofs.FirstSpot.{IsApart, least_in, spot_gives}
+use Rattle.settle_spec.proofs.FirstSpot.{least_in, spot_gives}
 use Rattle.settle_spec.proofs.ItemsBehind.{items_are_behind}
-use Rattle.settle_spec.proofs.LastSpot.{place_gives, place_from}
+use Rattle.settle_spec.proofs.LastSpot.{place_gives}
 use Rattle.settle_spec.proofs.Nested.{on_it}
 use Rattle.settle_spec.proofs.NewWindows.{window_is_around}
-use Rattle.settle_spec.proofs.Placed.{are_placed as placed_are}
 use Rattle.settle_spec.proofs.Room.{window_has_room}
 use Rattle.stand_laws.proofs.Holding.{items_same_on}
-use Rattle.settle_laws.specs.KeptLaws.{IsAside, IsAlikeIn, HavePlaces}
+use Rattle.settle_laws.specs.KeptLaws.{IsAside, IsAlikeIn, AreOffBehind, HavePlaces}
 use Rattle.settle_laws.specs.Keeping.PlacesLaws.{CanSettle}
 use Rattle.settle_laws.proofs.BusPlaced.{one_left, nothing_long, page_some, memory_no_prefetch}
 use Rattle.settle_spec.proofs.Buses.{each_same}
-use Rattle.settle_laws.proofs.EachPlaced.{each_all}
 use Rattle.settle_laws.proofs.HeaderParts.{window_of}
 use Rattle.settle_laws.proofs.ItemForms.{item_by, items_are, in_with_spare, window_in, item_power, new_window_power}
 use Rattle.settle_laws.proofs.Kept.{outside_within, off_roots, window_ranks}
@@ -49,84 +47,14 @@ use Rattle.settle_laws.proofs.KeptTaken.{IsKeptThere, kept_there, items_aligned}
 use Rattle.settle_laws.proofs.Outside.{same_outside, with_taken, with_taken_is, with_taken_keeps}
 use Rattle.settle_laws.proofs.PartClasses.{space_of_class}
 use Rattle.settle_laws.proofs.PlacedBus.{placed_list}
+use Rattle.settle_laws.proofs.Told.Behind.{on_is_behind, inner_is_behind}
+use Rattle.settle_laws.proofs.Told.Places.{same_without, placed_off}
 use Rattle.settle_laws.proofs.Powers.{below_greatest, multiple_below}
 use Rattle.settle_laws.proofs.Keeping.Buses.{placing_by_bus, roots_are_one, of_space}
 use Rattle.settle_laws.proofs.Keeping.Items.{item_positive}
 use Rattle.settle_laws.proofs.Keeping.Kept.{stays_listed, kept_over}
 use Rattle.settle_laws.proofs.Keeping.PlacedBus.{window_ranges, ranges_of_item, places, items, low_bus, beside_itself, in_space, IsPlacedBus, HasPlace, place_of, EndsIn, Keeps, Gets, IsBeside, end_apart}
-
--- ---- items of two lists
-
-each_append : (find : Item → List Range → Option ℕ) (taken : List Range) (xs ys : List Item) (first second : List Placed) → place_each find taken xs ≡ AllPlaced first
-    → place_each find (with_taken first taken) ys ≡ AllPlaced second → place_each find taken (xs ++ ys) ≡ AllPlaced (first ++ second)
-each_append find taken [] ys first second done more =
-    let none : [] ≡ first = ap placed_of done in
-    subst (λ f. place_each find (with_taken f taken) ys ≡ AllPlaced second → place_each find taken ys ≡ AllPlaced (f ++ second)) none (λ e. e) more
-each_append find taken (i ∷ xs) ys first second done more =
-    by (find i taken) refl done (λ a rest is last. each_append find (taken_by i a ∷ taken) xs ys rest second is last)
-  where
-    rest_of : List Item → ℕ → Placing
-    rest_of zs a = place_each find (taken_by i a ∷ taken) zs
-
-    by_rest : (a : ℕ) → (p : Placing) → rest_of xs a ≡ p → and_placed i a p ≡ AllPlaced first
-        → ((rest : List Placed) → rest_of xs a ≡ AllPlaced rest → place_each find (with_taken rest (taken_by i a ∷ taken)) ys ≡ AllPlaced second → rest_of (xs ++ ys) a ≡ AllPlaced (rest ++ second))
-        → and_placed i a (rest_of (xs ++ ys) a) ≡ AllPlaced (first ++ second)
-    by_rest a (Lacks j) is all again = cc
-    by_rest a (AllPlaced rest) is all again =
-        let list : record { item = i; at = a } ∷ rest ≡ first = ap placed_of all in
-        ap (and_placed i a) (again rest is (subst (λ f. place_each find (with_taken f taken) ys ≡ AllPlaced second) (sym list) more))
-        ∙ ap (λ f. AllPlaced (f ++ second)) list
-
-    by : (o : Option ℕ) → find i taken ≡ o → place_next i o (rest_of xs) ≡ AllPlaced first
-        → ((a : ℕ) (rest : List Placed) → rest_of xs a ≡ AllPlaced rest → place_each find (with_taken rest (taken_by i a ∷ taken)) ys ≡ AllPlaced second → rest_of (xs ++ ys) a ≡ AllPlaced (rest ++ second))
-        → place_next i (find i taken) (rest_of (xs ++ ys)) ≡ AllPlaced (first ++ second)
-    by None none all again = cc
-    by (Some a) some all again = ap (λ o. place_next i o (rest_of (xs ++ ys))) some ∙ by_rest a (rest_of xs a) refl all (again a)
-
-pub with_taken_has : (placed : List Placed) (taken : List Range) (p : Placed) → Contains placed p → Contains (with_taken placed taken) (taken_by p.item p.at)
-with_taken_has [] taken p has = absurd (in_nil p has)
-with_taken_has (x ∷ placed) taken p has = elim (in_cons_cases x placed p has) [
-  | inl here ↦ subst (λ (y : Placed). Contains (with_taken placed (taken_by x.item x.at ∷ taken)) (taken_by y.item y.at)) here (with_taken_keeps placed (taken_by x.item x.at ∷ taken) (taken_by x.item x.at) (in_head (taken_by x.item x.at) taken))
-  | inr later ↦ with_taken_has placed (taken_by x.item x.at ∷ taken) p later
-]
-
-map_append : (xs ys : List Placed) → map (λ (p : Placed). p.item) (xs ++ ys) ≡ map (λ (p : Placed). p.item) xs ++ map (λ (p : Placed). p.item) ys
-map_append [] ys = refl
-map_append (x ∷ xs) ys = ap (λ is. x.item ∷ is) (map_append xs ys)
-
--- a place that is off more is off less
-fewer_taken : (r : Range) (xs ys : List Range) (e : Extent) (a : ℕ) → ((t : Range) → Contains ys t → Contains xs t) → is_place r xs e a ≡ true → is_place r ys e a ≡ true
-fewer_taken r xs ys e a sub place =
-    let at = place_gives r xs e a place in
-    place_from r ys e a record { multiple = at.multiple; from = at.from; free = λ t has. at.free t (sub t has); last = at.last; highest = at.highest }
-
-apart_back : (size a : ℕ) (t : Range) → IsApart size a t → ranges_are_apart t (range_from a size) ≡ true
-apart_back size a t (inl under) = or_right (nat_lt t.last a) (nat_lt (a + (size - 1)) t.first) (lt-ltb (a + (size - 1)) t.first under)
-apart_back size a t (inr over) = or_left (nat_lt t.last a) (nat_lt (a + (size - 1)) t.first) (lt-ltb t.last a over)
-
-placed_append : (ranges : Item → List Range) (taken : List Range) (xs ys : List Item) (first second : List Placed) → ArePlaced ranges taken xs first → ArePlaced ranges (with_taken first taken) ys second
-    → ArePlaced ranges taken (xs ++ ys) (first ++ second)
-placed_append ranges taken xs ys first second one two = record {
-  all = map_append first second ∙ ap (λ is. is ++ map (λ (p : Placed). p.item) second) one.all ∙ ap (λ is. xs ++ is) two.all;
-  each = λ p has. elim (Contains-append_cases first second p has) [
-    | inl early ↦ one.each p early
-    | inr late ↦ (let own = two.each p late in (own.0, own.1, fewer_taken own.0 (with_taken first taken) taken p.item.extent p.at (λ t in_t. with_taken_keeps first taken t in_t) own.2))
-  ];
-  apart = pairs_append PlacesAreApart first second one.apart two.apart
-      (λ p r in_p in_r.
-      let own = two.each r in_r in
-      apart_back r.item.extent.size r.at (taken_by p.item p.at) ((place_gives own.0 (with_taken first taken) r.item.extent r.at own.2).free (taken_by p.item p.at) (with_taken_has first taken p in_p)));
-}
-
-placed_by : (ranges others : Item → List Range) (taken : List Range) (items : List Item) (placed : List Placed) → ((i : Item) → Contains items i → others i ≡ ranges i) → ArePlaced ranges taken items placed → ArePlaced others taken items placed
-placed_by ranges others taken items placed same are = record {
-  all = are.all;
-  each = λ p has.
-      let own = are.each p has in
-      let item : Contains items p.item = subst (λ is. Contains is p.item) are.all (in_map_from (λ (p : Placed). p.item) placed p has) in
-      (own.0, subst (λ rs. Contains rs own.0) (sym (same p.item item)) own.1, own.2);
-  apart = are.apart;
-}
+use Rattle.settle_laws.proofs.Keeping.PlacedLists.{each_append, placed_append, placed_by}
 
 module _ (q : Request) (s : System) (k : Kept) (can : CanSettle q s k) where
   abbrev pub found_in : Space → Item → List Range → Option ℕ
@@ -134,6 +62,13 @@ module _ (q : Request) (s : System) (k : Kept) (can : CanSettle q s k) where
 
   abbrev pub ranges_in : Space → Item → List Range
   ranges_in space = ranges_of_item q s k (places q s k can space)
+
+  -- beside what lines hold behind it, too
+  abbrev pub found_off : Space → Item → List Range → Option ℕ
+  found_off space i xs = found_in space i (taken_for q i.region xs)
+
+  abbrev behind : Item → List Range
+  behind i = lines_behind q i.region
 
   -- ---- the bus behind a bridge whose own bus is placed
 
@@ -146,6 +81,9 @@ module _ (q : Request) (s : System) (k : Kept) (can : CanSettle q s k) where
 
     abbrev find : Item → List Range → Option ℕ
     find = found_in space
+
+    abbrev find_off : Item → List Range → Option ℕ
+    find_off = found_off space
 
     abbrev taken : List Range
     taken = taken_at q s k space bus
@@ -161,7 +99,7 @@ module _ (q : Request) (s : System) (k : Kept) (can : CanSettle q s k) where
       pub range : Range
       pub ends : EndsIn q s k can over.placed (window_part c b) range
       pub shown : window_ranges q s k (places q s k can space) c (Some b) ≡ range ∷ []
-      pub have : (xs : List Range) → IsAlikeIn range xs taken → IsAlikeIn range taken xs → HavePlaces range find xs (items q s k can c bus)
+      pub have : (xs : List Range) → IsAlikeIn range xs taken → IsAlikeIn range taken xs → HavePlaces q range find xs (items q s k can c bus)
 
     -- the place of an item of the class is found in the window over it
     find_behind : (c : WindowKind) (i : Item) (xs : List Range) → Contains (items q s k can c bus) i → find i xs ≡ place_behind k (places q s k can space) (record { region = i.region; class = c; extent = i.extent }) xs (Some b)
@@ -187,15 +125,18 @@ module _ (q : Request) (s : System) (k : Kept) (can : CanSettle q s k) where
           ∙ ap (λ t. cond t (k.place b (record { region = i.region; class = c; extent = i.extent }) xs) (first_place (placed_range (place_among (window_part c b) (places q s k can space b.slot.bus))) xs i.extent)) keeps
           ∙ ap (λ d. k.place b (record { region = i.region; class = d; extent = i.extent }) xs) (sym class)
 
-      kept_have : (xs : List Range) → IsAlikeIn (k.range (window_part c b)) xs taken → IsAlikeIn (k.range (window_part c b)) taken xs → HavePlaces (k.range (window_part c b)) find xs (items q s k can c bus)
+      kept_have : (xs : List Range) → IsAlikeIn (k.range (window_part c b)) xs taken → IsAlikeIn (k.range (window_part c b)) taken xs → HavePlaces q (k.range (window_part c b)) find xs (items q s k can c bus)
       kept_have xs to back =
           let have = can.sound.places c b xs listed bridge keeps
           (subst (λ sp. IsAlikeIn (k.range (window_part c b)) xs (taken_at q s k sp bus)) (sym of) to)
           (subst (λ sp. IsAlikeIn (k.range (window_part c b)) (taken_at q s k sp bus) xs) (sym of) back) in
           record {
             placed = have.placed;
-            found = each_same find (k.place b) xs (items q s k can c bus) kept_found ∙ have.found;
+            found =
+                each_same find_off (λ i xs. k.place b i (taken_for q i.region xs)) xs (items q s k can c bus) (λ i xs has. kept_found i (taken_for q i.region xs) has)
+                ∙ have.found;
             are = have.are;
+            off = have.off;
           }
 
       kept_has_range : HasRange c
@@ -309,18 +250,42 @@ module _ (q : Request) (s : System) (k : Kept) (can : CanSettle q s k) where
             ∙ ap (λ p. first_place (placed_range (place_among (window_part c b) (placed_of p))) xs i.extent) over.is
             ∙ ap (λ o. first_place (placed_range o) xs i.extent) window_place.found_there
 
-        new_have : (xs : List Range) → IsAlikeIn new_range xs taken → HavePlaces new_range find xs (items q s k can c bus)
+        -- lines behind are off the window's place
+        lines_aside : (t : Range) → Contains (lines_behind q (window_part c b)) t → IsAside new_range t
+        lines_aside t has = swap (over.off window_place.at t window_place.listed (subst (λ r. Contains (lines_behind q r) t) (sym (ap (λ (i : Item). i.region) window_place.item)) has))
+          where
+            swap : LieApart new_range t → IsAside new_range t
+            swap (inl under) = inr under
+            swap (inr over) = inl over
+
+        on_aside : (t : Range) → Contains (lines_on q space bus) t → IsAside new_range t
+        on_aside t has = lines_aside t (on_is_behind q s can.system can.nested b listed bridge c t (subst (λ sp. Contains (lines_on q sp bus) t) (sym of) has))
+
+        behind_aside : (i : Item) (t : Range) → Contains (items q s k can c bus) i → Contains (behind i) t → IsAside new_range t
+        behind_aside i t has_i has =
+            let is = items_are q s (new_window q s) c k.stays bus i has_i in
+            let space_at : space_of is.f is.p ≡ window_space c = sym (space_of_class q s is.f is.p) ∙ ap window_space is.class in
+            lines_aside t (inner_is_behind q s can.system can.nested b listed bridge c c is.f is.p is.listed (on_bus is.f.slot.bus is.beside) space_at is.can t
+            (subst (λ (j : Item). Contains (lines_behind q j.region) t) (sym is.is) has))
+
+        new_have : (xs : List Range) → IsAlikeIn new_range xs taken → HavePlaces q new_range find xs (items q s k can c bus)
         new_have xs to =
             let here : Item → List Range = λ i. new_range ∷ [] in
             let is = items q s k can c bus in
             let pos = items_aligned q s k c k.stays bus in
-            let out : IsAlikeIn new_range xs [] = λ t has_t. elim (to t has_t) [ inl there ↦ inr (other_stays t (kept_there q s k space bus t there)) | inr aside ↦ inr aside ] in
-            let same = same_outside new_range is xs [] out (λ t has_t. absurd (in_nil t has_t)) pos in
-            let list = placed_list (place_all here xs is) (ap are_placed same ∙ new_room) in
+            let place : Item → List Range → Option ℕ = λ i xs. first_place (new_range ∷ []) (taken_for q i.region xs) i.extent in
+            let out : IsAlikeIn new_range xs [] = λ t has_t. elim (to t has_t) [
+              | inl there ↦ inr (elim (kept_there q s k space bus t there) [ inl line ↦ on_aside t line | inr kept ↦ other_stays t kept ])
+              | inr aside ↦ inr aside
+            ] in
+            let same : place_each place xs is ≡ place_all here [] is = same_without new_range behind is xs behind_aside pos ∙ same_outside new_range is xs [] out (λ t has_t. absurd (in_nil t has_t)) pos in
+            let list = placed_list (place_each place xs is) (ap are_placed same ∙ new_room) in
+            let off = placed_off here behind xs is pos list.0 list.1 in
             record {
               placed = list.0;
-              found = each_same find (λ i xs. first_place (here i) xs i.extent) xs is new_found ∙ each_all here xs is ∙ list.1;
-              are = placed_are here xs is list.0 pos list.1;
+              found = each_same find_off place xs is (λ i xs has. new_found i (taken_for q i.region xs) has) ∙ list.1;
+              are = off.are;
+              off = off.off;
             }
 
         new_has_range : HasRange c
@@ -356,8 +321,9 @@ module _ (q : Request) (s : System) (k : Kept) (can : CanSettle q s k) where
     -- items with the places that are found for them
     record AreFound (xs : List Range) (is : List Item) : Type 0 where
       placed : List Placed
-      found : place_each find xs is ≡ AllPlaced placed
+      found : place_each find_off xs is ≡ AllPlaced placed
       are : ArePlaced ranges xs is placed
+      off : AreOffBehind q placed
 
     -- those of one class are placed, whatever else is taken outside the window
     class_placed : (c : WindowKind) → (items q s k can c bus ≡ []) ⊎ HasRange c → (xs : List Range) → ((h : HasRange c) → IsAlikeIn h.range xs taken) → ((h : HasRange c) → IsAlikeIn h.range taken xs)
@@ -366,10 +332,11 @@ module _ (q : Request) (s : System) (k : Kept) (can : CanSettle q s k) where
       placed = [];
       found = refl;
       are = record { all = refl; each = λ p has. absurd (in_nil p has); apart = pairs_nil PlacesAreApart };
+      off = λ p t has. absurd (in_nil p has);
     }
     class_placed c (inr h) xs to back =
         let have = h.have xs (to h) (back h) in
-        record { placed = have.placed; found = have.found; are = placed_by (λ i. h.range ∷ []) ranges xs (items q s k can c bus) have.placed (item_ranges c h) have.are }
+        record { placed = have.placed; found = have.found; are = placed_by (λ i. h.range ∷ []) ranges xs (items q s k can c bus) have.placed (item_ranges c h) have.are; off = have.off }
 
     -- the windows of two classes are apart
     windows_apart : (c d : WindowKind) (h : HasRange c) (j : HasRange d) → window_space c ≡ space → window_space d ≡ space → (c ≡ d → ⊥) → LieApart h.range j.range
@@ -415,8 +382,9 @@ module _ (q : Request) (s : System) (k : Kept) (can : CanSettle q s k) where
       of_memory : AreFound taken (items q s k can MemoryWindow bus ++ items q s k can PrefetchWindow bus)
       of_memory = record {
         placed = memory.placed ++ prefetch.placed;
-        found = each_append find taken (items q s k can MemoryWindow bus) (items q s k can PrefetchWindow bus) memory.placed prefetch.placed memory.found prefetch.found;
+        found = each_append find_off taken (items q s k can MemoryWindow bus) (items q s k can PrefetchWindow bus) memory.placed prefetch.placed memory.found prefetch.found;
         are = placed_append ranges taken (items q s k can MemoryWindow bus) (items q s k can PrefetchWindow bus) memory.placed prefetch.placed memory.are prefetch.are;
+        off = λ p t has in_t. elim (Contains-append_cases memory.placed prefetch.placed p has) [ inl early ↦ memory.off p t early in_t | inr late ↦ prefetch.off p t late in_t ];
       }
 
     of_io : window_space IoWindow ≡ space → AreFound taken (items q s k can IoWindow bus)
@@ -428,6 +396,7 @@ module _ (q : Request) (s : System) (k : Kept) (can : CanSettle q s k) where
     placed = found.placed;
     is = placing_by_bus q s k can.system can.nested space (secondary b) low ∙ found.found;
     are = found.are;
+    off = found.off;
   }
 
   behind_placed : (b : Function) (listed : Contains s b) (bridge : is_bridge b ≡ true) (space : Space) → IsPlacedBus q s k can space b.slot.bus → secondary b < 256 → IsPlacedBus q s k can space (secondary b)
@@ -454,16 +423,12 @@ module _ (q : Request) (s : System) (k : Kept) (can : CanSettle q s k) where
   root_bus : (space : Space) (root : ℕ) → root < 256 → is_root q.roots root ≡ true → IsPlacedBus q s k can space root
   root_bus space root low is =
       let list = placed_list (placing_on q s k space root) (root_placed q.roots refl can.room space root is) in
-      let first : Item → List Range → Option ℕ = λ i xs. first_place (ranges_in space i) xs i.extent in
+      let first : Item → List Range → Option ℕ = λ i xs. first_place (ranges_in space i) (taken_for q i.region xs) i.extent in
       let items = space_items q s k space root in
       let xs = taken_at q s k space root in
-      let same = each_same (found_in space) first xs items (λ i ys has. on_root i ys (root_of i has)) in
-      record {
-        placed = list.0;
-        is = list.1;
-        are = placed_are (ranges_in space) xs items list.0 (item_positive q s k space root)
-            (sym (each_all (ranges_in space) xs items) ∙ sym same ∙ sym (placing_by_bus q s k can.system can.nested space root low) ∙ list.1);
-      }
+      let same = each_same (found_off space) first xs items (λ i ys has. on_root i (taken_for q i.region ys) (root_of i has)) in
+      let off = placed_off (ranges_in space) behind xs items (item_positive q s k space root) list.0 (sym same ∙ sym (placing_by_bus q s k can.system can.nested space root low) ∙ list.1) in
+      record { placed = list.0; is = list.1; are = off.are; off = off.off }
     where
       root_of : (i : Item) → Contains (space_items q s k space root) i → is_root q.roots i.region.function.slot.bus ≡ true
       root_of i has = elim (or_cases (root == i.region.function.slot.bus) (is_root q.roots root && is_root q.roots i.region.function.slot.bus) (of_space q s k space root i has).beside) [

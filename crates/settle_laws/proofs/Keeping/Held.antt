@@ -18,12 +18,14 @@ use Rattle.plan_spec.proofs.Planning.Behind.{Passes, any_gives, any_from}
 use Rattle.settle_spec.specs.Lists.{Request}
 use Rattle.settle_spec.specs.Parts.{FunctionPart, is_empty, is_left, is_part, header_bars, header_parts, has_left, are_same_space}
 use Rattle.settle_spec.specs.Stands.{part_space}
-use Rattle.settle_spec.specs.Registers.{has_own}
+use Rattle.given_spec.specs.ToldRegion.{told_regions}
+use Rattle.settle_spec.specs.Registers.{is_answered_by, has_own}
 use Rattle.settle_spec.specs.Writes.{is_cut_off_in}
 use Rattle.settle_spec.specs.Keeping.Writes.{has_moving, is_shut_itself, is_shut, is_left_on}
 use Rattle.settle_spec.proofs.Nested.{behind_outer}
 use Rattle.settle_laws.proofs.Keeping.Commands.{IsLeftOn, left_parts, left_by}
 use Rattle.settle_laws.proofs.NonePasses.{none_by, none_passes}
+use Rattle.settle_laws.proofs.Unleft.{has_plain}
 use Rattle.settle_spec.specs.Kept.{Kept}
 use Rattle.settle_laws.proofs.Held.{same_itself}
 use Rattle.settle_laws.proofs.Held.{and_second_false, claimed_bar, io_of, memory_is_not_io}
@@ -62,7 +64,7 @@ module _ (q : Request) (s : System) (k : Kept) (system : IsSystem s) (nested : I
       (none_by (is_shut_itself q s k space) (bridges_above s b.slot.bus) (λ d in_d. none_passes (is_shut_itself q s k space) (bridges_above s f.slot.bus) none d (above_above f b d above in_d)))
 
   -- bridges above a part that is on and not shut are on
-  on_above : (f b : Function) (space : Space) → is_shut q s k space f ≡ false → is_space_on f space ≡ true → has_own q s space f ≡ true → Contains (bridges_above s f.slot.bus) b → is_space_on b space ≡ true
+  pub on_above : (f b : Function) (space : Space) → is_shut q s k space f ≡ false → is_space_on f space ≡ true → has_own q s space f ≡ true → Contains (bridges_above s f.slot.bus) b → is_space_on b space ≡ true
   on_above f b space unshut on own above =
       let none = and_second_false (is_space_on f space && has_own q s space f) (list_any (λ b. not (is_space_on b space)) (bridges_above s f.slot.bus))
       (and_from (is_space_on f space) (has_own q s space f) on own) (unshut_parts q s k space f unshut).reached in
@@ -108,12 +110,16 @@ module _ (q : Request) (s : System) (k : Kept) (system : IsSystem s) (nested : I
     ]
 
     -- a part that is listed and looked at, of a space, is one that the function has
-    pub own_by : (p : Part) (space : Space) → Contains (header_parts f) p → is_part q s f p ≡ true → is_window p ≡ false → space_of f p ≡ space → has_own q s space f ≡ true
-    own_by p space there part plain at =
+    pub plain_by : (p : Part) (space : Space) → Contains (header_parts f) p → is_part q s f p ≡ true → is_window p ≡ false → space_of f p ≡ space → has_plain q s space f ≡ true
+    plain_by p space there part plain at =
         let r : FunctionPart = record { function = f; part = p } in
-        any_from (λ r. are_same_space space (part_space r) && not (is_window r.part)) (map (λ p. record { function = f; part = p }) (filter (is_part q s f) (header_parts f))) r
+        let test = λ (r : FunctionPart). are_same_space space (part_space r) && not (is_window r.part) in
+        any_from test (map (λ p. record { function = f; part = p }) (filter (is_part q s f) (header_parts f))) r
         (in_map_from (λ p. record { function = f; part = p }) (filter (is_part q s f) (header_parts f)) p (in_filter_from (is_part q s f) (header_parts f) p there part))
         (and_from (are_same_space space (space_of f p)) (not (is_window p)) (ap (are_same_space space) at ∙ same_itself space) (ap not plain))
+
+    pub own_by : (p : Part) (space : Space) → Contains (header_parts f) p → is_part q s f p ≡ true → is_window p ≡ false → space_of f p ≡ space → has_own q s space f ≡ true
+    own_by p space there part plain at = or_right (list_any (is_answered_by q s space f) (told_regions q.told)) (has_plain q s space f) (plain_by p space there part plain at)
 
     pub own : (p : Part) (space : Space) (a : ℕ) → is_window p ≡ false → Claims f p space a → not (are_same_space space Io && has_left q s f) ≡ true → has_own q s space f ≡ true
     own (Bar n) space a plain c unleft =

@@ -1,4 +1,5 @@
 -- What is kept stands, is apart on its bus, and lies in the window over it.
+use Rattle.settle_laws.specs.ToldAgainLaws.{AllLinesAreHeld}
 use Rattle.std.proofs.Common.{◌≡◌, ◌≤◌, ℕ, true, false, length, arith, sym, ◌∙◌, ap, subst}
 use Rattle.std.specs.List.{Contains}
 use Rattle.std.specs.Bool.{IsTrue}
@@ -22,15 +23,11 @@ use Rattle.settle_laws.proofs.LowWindows.{windows_low}
 use Rattle.settle_laws.proofs.Kept.{in_regions, lie_apart, off_roots, siblings_through}
 use Rattle.plan_spec.specs.Plan.{bridges_above}
 use Rattle.settle_laws.proofs.Climbs.{climbs}
-use Rattle.settle_spec.proofs.Anew.{none_stands}
+use Rattle.settle_laws.proofs.Told.OnlyHeld.{none_stands}
 
 module _ (q : Request) (s : System) (k : Kept) (can : CanSettle q s k) where
   pub stays_stands : (r : FunctionPart) → k.stays r ≡ true → stands q s r ≡ true
   stays_stands r is = can.sound.apart.stands r is
-
-  -- where all is placed anew nothing is kept
-  pub none_kept : IsTrue q.anew → (r : FunctionPart) → k.stays r ≡ false
-  none_kept anew r = false_from_ne_true (k.stays r) (λ is. both_ways (stands q s r) (none_stands q s anew (length (system_parts q s)) r) (stays_stands r is))
 
   pub stays_part : (r : FunctionPart) → Contains s r.function → k.stays r ≡ true → is_part q s r.function r.part ≡ true
   stays_part r listed is = (stands_by_itself q s can.nested).only r listed (stays_stands r is)
@@ -79,3 +76,8 @@ module _ (q : Request) (s : System) (k : Kept) (can : CanSettle q s k) where
   pub above_stays : (f : Function) (p : Part) → Contains s f → Contains (header_parts f) p → k.stays record { function = f; part = p } ≡ true
       → (b : Function) → Contains (bridges_above s f.slot.bus) b → k.stays (window_part (class_in q s f p) b) ≡ true
   above_stays f p listed there keeps b above = (kept_above record { function = f; part = p } record { listed = stays_listed f p listed there keeps; keeps = keeps } b above).keeps
+
+-- where all is placed anew nothing is kept, if all lines are `held`
+pub none_kept : (q : Request) → AllLinesAreHeld q → (s : System) (k : Kept) → CanSettle q s k → IsTrue q.anew → (r : FunctionPart) → k.stays r ≡ false
+none_kept q held s k can anew r =
+    false_from_ne_true (k.stays r) (λ is. both_ways (stands q s r) (none_stands q s anew held (length (system_parts q s)) r) (stays_stands q s k can r is))

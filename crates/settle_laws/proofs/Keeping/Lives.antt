@@ -25,14 +25,14 @@ use Rattle.settle_spec.proofs.Nested.{at_secondary, is_no_root, one_bridge}
 use Rattle.settle_laws.specs.Keeping.PlacesLaws.{CanSettle}
 use Rattle.settle_laws.proofs.HeaderParts.{header_of}
 use Rattle.settle_laws.proofs.Held.{same_itself}
-use Rattle.settle_laws.proofs.Keeping.Held.{above_above, own_by}
+use Rattle.settle_laws.proofs.Keeping.Held.{above_above, own_by, plain_by}
 use Rattle.settle_laws.proofs.ItemForms.{IsPlaceable, IsOwnPart, IsNewWindow}
 use Rattle.settle_laws.proofs.Keeping.Kept.{above_stays}
 use Rattle.settle_laws.proofs.PartClasses.{space_of_class}
 use Rattle.settle_laws.proofs.PartPlaces.{IsBehindOf, behind_of}
 use Rattle.settle_laws.proofs.Keeping.PartPlaces.{part_placed, IsNewPlace, new_place_is}
 use Rattle.settle_laws.proofs.Keeping.ShownParts.{in_changing}
-use Rattle.settle_laws.proofs.Unleft.{unleft, unleft_itself}
+use Rattle.settle_laws.proofs.Unleft.{has_plain, unleft, unleft_itself}
 use Rattle.settle_spec.specs.Kept.{Kept}
 
 module _ (q : Request) (s : System) (k : Kept) (can : CanSettle q s k) where
@@ -59,6 +59,9 @@ module _ (q : Request) (s : System) (k : Kept) (can : CanSettle q s k) where
     pub has_own_here : has_own q s space f ≡ true
     has_own_here = own_by q s k can.system can.nested f listed p space there part plain refl
 
+    has_plain_here : has_plain q s space f ≡ true
+    has_plain_here = plain_by q s k can.system can.nested f listed p space there part plain refl
+
     -- it lives where its space is enabled
     pub live_on : is_enabled_in q s k space f ≡ true → is_live q s k space f ≡ true
     live_on enabled =
@@ -77,13 +80,13 @@ module _ (q : Request) (s : System) (k : Kept) (can : CanSettle q s k) where
     enabled_here : k.stays record { function = f; part = p } ≡ false → is_enabled_in q s k space f ≡ true
     enabled_here moves =
         let behind = has_live_behind s (is_live q s k space) f in
-        and_from (not (are_same_space space Io && has_left q s f)) (is_space_on f space || got_place q s k space f || behind) (unleft_itself q s can.system can.nested f space has_own_here)
+        and_from (not (are_same_space space Io && has_left q s f)) (is_space_on f space || got_place q s k space f || behind) (unleft_itself q s can.system can.nested f space has_plain_here)
         (or_left (is_space_on f space || got_place q s k space f) behind (or_right (is_space_on f space) (got_place q s k space f) (got_here moves)))
 
   -- ---- bridges above
 
   -- bridges above what is live are, if none of their BARs is left where that counts
-  live_above : (n : ℕ) (space : Space) (g b : Function) → g.slot.bus < n → Contains s g → is_live q s k space g ≡ true → Contains (bridges_above s g.slot.bus) b
+  pub live_above : (n : ℕ) (space : Space) (g b : Function) → g.slot.bus < n → Contains s g → is_live q s k space g ≡ true → Contains (bridges_above s g.slot.bus) b
       → ((d : Function) → Contains (bridges_above s g.slot.bus) d → not (are_same_space space Io && has_left q s d) ≡ true) → is_live q s k space b ≡ true
   live_above zero space g b less listed live above kept = absurd (let no : ⊥ = omega (arith, less) in no)
   live_above (suc n) space g b less listed live above kept = elim (root_or_led q.roots s can.system can.nested g listed) [

@@ -22,6 +22,7 @@ use Rattle.settle_spec.specs.Kept.{Kept}
 use Rattle.settle_spec.specs.Keeping.Places.{space_items, taken_at, placing_on}
 use Rattle.settle_spec.specs.PlacingLaws.{PlacesAreApart, ArePlaced}
 use Rattle.settle_spec.proofs.FirstSpot.{spot_gives}
+use Rattle.settle_laws.specs.KeptLaws.{AreOffBehind}
 use Rattle.settle_laws.specs.Keeping.PlacesLaws.{CanSettle}
 use Rattle.settle_laws.proofs.Finding.{found, is_found}
 use Rattle.settle_laws.proofs.ItemForms.{item_by}
@@ -69,6 +70,7 @@ module _ (q : Request) (s : System) (k : Kept) (can : CanSettle q s k) where
     pub placed : List Placed
     pub is : placing_on q s k space bus ≡ AllPlaced placed
     pub are : ArePlaced (ranges_of_item q s k (places space)) (taken_at q s k space bus) (space_items q s k space bus) placed
+    pub off : AreOffBehind q placed
 
   -- the place of an item of such a bus
   pub record HasPlace (space : Space) (f : Function) (p : Part) (placed : List Placed) : Type 0 where
@@ -121,7 +123,7 @@ module _ (q : Request) (s : System) (k : Kept) (can : CanSettle q s k) where
       }
 
   -- what is placed is apart from what is taken
-  off_taken : (space : Space) (bus : ℕ) (b : IsPlacedBus space bus) (x : Placed) (t : Range) → Contains b.placed x → Contains (taken_at q s k space bus) t → LieApart (taken_by x.item x.at) t
+  pub off_taken : (space : Space) (bus : ℕ) (b : IsPlacedBus space bus) (x : Placed) (t : Range) → Contains b.placed x → Contains (taken_at q s k space bus) t → LieApart (taken_by x.item x.at) t
   off_taken space bus b x t has taken =
       let own = b.are.each x has in
       let spot = (and_parts (is_spot own.0.first (taken_at q s k space bus) x.item.extent x.at) (ends_by own.0 x.item.extent x.at) own.2).0 in

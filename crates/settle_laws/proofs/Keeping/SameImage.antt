@@ -1,4 +1,5 @@
 -- Where all is placed anew, the registers show what they do once more, beside the same wishes.
+use Rattle.settle_laws.specs.ToldAgainLaws.{AllLinesAreHeld}
 use Rattle.std.proofs.Common.{◌≡◌, ◌-◌, ◌+◌, ◌<◌, inl, inr, Bool, ℕ, false, true, cond, length, refl, sym, ◌∙◌, ap, subst, Option, None, Some}
 use Rattle.std.specs.List.{Contains}
 use Rattle.std.specs.Bool.{IsTrue}
@@ -17,7 +18,7 @@ use Rattle.settle_spec.specs.Registers.{with_bounds, closed_if_open, changing}
 use Rattle.settle_spec.specs.Keeping.Places.{new_place}
 use Rattle.settle_spec.specs.Keeping.Registers.{with_kept, with_wish, shown, settled, settled_image, settled_function}
 use Rattle.settle_spec.specs.Wishes.{range_then}
-use Rattle.settle_spec.proofs.Anew.{none_stays}
+use Rattle.settle_laws.proofs.Told.OnlyHeld.{none_stays}
 use Rattle.settle_laws.specs.KeptLaws.{WishesNothing}
 use Rattle.settle_laws.specs.PlacesLaws.{place_range}
 use Rattle.settle_laws.specs.Keeping.PlacesLaws.{CanSettle}
@@ -39,7 +40,7 @@ use Rattle.settle_laws.proofs.Keeping.SettledMoved.{kind_stays, new_image}
 use Rattle.settle_laws.proofs.Keeping.Shown.{IsChanging, changing_is, shown_image}
 use Rattle.settle_laws.proofs.Keeping.ShownParts.{window_now, window_wished}
 
-module _ (q : Request) (s : System) (k : Kept) (can : CanSettle q s k) (anew : IsTrue q.anew) (j : Kept) (none : (r : FunctionPart) → j.stays r ≡ false) (f : Function) (listed : Contains s f) where
+module _ (q : Request) (held : AllLinesAreHeld q) (s : System) (k : Kept) (can : CanSettle q s k) (anew : IsTrue q.anew) (j : Kept) (none : (r : FunctionPart) → j.stays r ≡ false) (f : Function) (listed : Contains s f) where
   abbrev t : System
   t = settled q s k
 
@@ -65,7 +66,7 @@ module _ (q : Request) (s : System) (k : Kept) (can : CanSettle q s k) (anew : I
           let same : v ≡ w = cc in
           window_wished q s k can f listed c bridge v wished ∙ ap (λ (x : Range). bounds_for c (nibble_of c f) x.first x.last) same
       by None unwished =
-          let place = place_of_range q s k (new_place q s k (before (Window c))) w (sym (unwished_end q s k (before (Window c)) unwished ∙ placed_range q s k (before (Window c)) (none_kept q s k can anew (before (Window c)))) ∙ ends) in
+          let place = place_of_range q s k (new_place q s k (before (Window c))) w (sym (unwished_end q s k (before (Window c)) unwished ∙ placed_range q s k (before (Window c)) (none_kept q held s k can anew (before (Window c)))) ∙ ends) in
           window_now q s k can f listed c bridge unwished place.0 place.1 ∙ ap (λ (x : Range). bounds_for c (nibble_of c f) x.first x.last) place.2
 
   module _ (ranges : (p : Part) → range_then q t j (after p) ≡ range_then q s k (before p)) (plain : (p : Part) → has_part g p ≡ true → is_window p ≡ false → j.wished (after p) ≡ None)
@@ -133,7 +134,7 @@ module _ (q : Request) (s : System) (k : Kept) (can : CanSettle q s k) (anew : I
         (λ r has x same. ap (λ y. with_wish r (j.wished r) (shown j r (new_place q t j r) y)) same ∙ step_again r has) g.image refl
 
 -- so they do as it stands, where nothing is wished
-pub image_again : (q : Request) (s : System) (k : Kept) (can : CanSettle q s k) (anew : IsTrue q.anew) → WishesNothing k → (f : Function) → Contains s f
+pub image_again : (q : Request) → AllLinesAreHeld q → (s : System) (k : Kept) (can : CanSettle q s k) (anew : IsTrue q.anew) → WishesNothing k → (f : Function) → Contains s f
     → settled_image q (settled q s k) (as_it_stands q (settled q s k)) (settled_function q s k f) ≡ (settled_function q s k f).image
-image_again q s k can anew wishless f listed =
-    image_same q s k can anew (as_it_stands q (settled q s k)) (none_stays q (settled q s k) anew) f listed (λ p. ends_again q s k can anew wishless f p listed) (λ p there plain. refl) (λ p. again_alike q s k can anew f p listed)
+image_again q held s k can anew wishless f listed =
+    image_same q held s k can anew (as_it_stands q (settled q s k)) (none_stays q (settled q s k) anew held) f listed (λ p. ends_again q held s k can anew wishless f p listed) (λ p there plain. refl) (λ p. again_alike q held s k can anew f p listed)

@@ -10,7 +10,7 @@ use Rattle.pci_spec.specs.Registers.{COMMAND}
 use Rattle.pci_spec.specs.Header.{layout, bar_count, bar_register, rom_register}
 use Rattle.pci_spec.specs.Bar.{bar_at, bar_kind, is_wide, starts_bar, whole_bar, has_bar, first_bit}
 use Rattle.pci_spec.specs.Rom.{has_rom}
-use Rattle.pci_spec.specs.Window.{WindowKind, IoWindow, MemoryWindow, PrefetchWindow, Bounds, bounds_at, bounds_for, closed_bounds, has_window, is_closed, page_size}
+use Rattle.pci_spec.specs.Window.{WindowKind, Bounds, bounds_at, bounds_for, closed_bounds, has_window, is_closed, page_size}
 use Rattle.pci_spec.specs.Decoded.{Range, aligned_range, bar_size, rom_size}
 use Rattle.pci_spec.specs.System.{System, Function, Part, Bar, Rom, Window, has_part, is_bridge, is_implemented, is_window}
 use Rattle.pci_spec.proofs.Members.{in_map_from, in_filter_from}
@@ -43,19 +43,12 @@ use Rattle.settle_laws.proofs.Numbers.{with_elsewhere}
 use Rattle.settle_laws.proofs.NumbersPut.{reads_four, reads_low, reads_high}
 use Rattle.settle_laws.proofs.Keeping.PartPlaces.{new_place_is}
 use Rattle.settle_laws.proofs.Keeping.SettledMoved.{kind_stays}
-use Rattle.settle_laws.proofs.Shown.{IsOff, fold_keeps}
+use Rattle.settle_laws.proofs.Shown.{IsOff, fold_keeps, either}
 use Rattle.settle_laws.proofs.Keeping.Shown.{IsChanging, can_change, changing_is, window_bridge, can_bar, upper_there, shown_image, step_off, step_image, step_plain, step_unwished, bar_below}
-use Rattle.settle_laws.proofs.Shown.{either}
-use Rattle.settle_laws.proofs.WindowBytes.{IsOf, one_window, window_bytes, bounds_elsewhere, bounds_by_bytes, bounds_shown}
+use Rattle.settle_laws.proofs.WindowBytes.{size_whole, IsOf, one_window, window_bytes, bounds_elsewhere, bounds_by_bytes, bounds_shown}
 use Rattle.settle_spec.specs.Kept.{Kept}
 use Rattle.settle_laws.proofs.Keeping.Kept.{stays_part, kept_forward}
-use Rattle.settle_laws.proofs.ShownParts.{closed_by}
-use Rattle.settle_laws.proofs.ShownParts.{bar_or_not, reaches, rom_or_not, window_or_not}
-
-size_whole : (c : WindowKind) (first last : ℕ) → first ≤ last → first % page_size c ≡ 0 → (last + 1) % page_size c ≡ 0 → (last + 1 - first) % page_size c ≡ 0
-size_whole IoWindow first last forward from to = omega (arith, forward, from, to)
-size_whole MemoryWindow first last forward from to = omega (arith, forward, from, to)
-size_whole PrefetchWindow first last forward from to = omega (arith, forward, from, to)
+use Rattle.settle_laws.proofs.ShownParts.{closed_by, bar_or_not, reaches, rom_or_not, window_or_not}
 
 module _ (q : Request) (s : System) (k : Kept) (can : CanSettle q s k) (f : Function) (listed : Contains s f) where
   abbrev region : Part → FunctionPart
@@ -68,9 +61,7 @@ module _ (q : Request) (s : System) (k : Kept) (can : CanSettle q s k) (f : Func
   image_is = (was q s k can f listed).image
 
   stepped_image : (r : FunctionPart) → Contains (changing q s f) r → (image : List ℕ) → IsImage image → IsImage (step image r)
-  stepped_image r has image is =
-      let c : IsChanging q s k f r = changing_is q s k f r has in
-      subst (λ t. IsImage (step image t)) c.is (step_image q s k f c.p image is)
+  stepped_image r has image is = (let c = changing_is q s k f r has in subst (λ t. IsImage (step image t)) c.is (step_image q s k f c.p image is))
 
   pub in_changing : (p : Part) → Contains (header_parts f) p → can_change q s k f p ≡ true → Contains (changing q s f) (region p)
   in_changing p there can_p = in_map_from region (filter (can_change q s k f) (header_parts f)) p (in_filter_from (can_change q s k f) (header_parts f) p there can_p)

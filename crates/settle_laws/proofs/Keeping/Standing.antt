@@ -12,10 +12,9 @@ use Rattle.plan_spec.specs.Place.{nibble_of}
 use Rattle.settle_spec.specs.Lists.{Request}
 use Rattle.settle_spec.specs.Parts.{FunctionPart, system_parts, header_parts, addresses, is_part, are_same_space}
 use Rattle.settle_spec.specs.Stands.{part_space, stands}
-use Rattle.settle_spec.specs.Items.{AllPlaced, bus_items, new_window}
+use Rattle.settle_spec.specs.Items.{AllPlaced, bus_items, new_window, place_each}
 use Rattle.settle_spec.specs.Places.{placed_of, place_among, first_lack}
 use Rattle.settle_spec.specs.Registers.{with_bounds, closed_if_open, changing}
-use Rattle.settle_spec.specs.Growth.{place_each}
 use Rattle.settle_spec.specs.Kept.{Kept}
 use Rattle.settle_spec.specs.Keeping.Places.{space_items, placing_within, placing_on, new_place, lacking_on, lacking}
 use Rattle.settle_spec.specs.Keeping.Registers.{is_same_range, with_range, with_kept, shown, settled_image, got_place}

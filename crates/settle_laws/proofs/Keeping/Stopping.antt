@@ -84,7 +84,7 @@ module _ (q : Request) (s : System) (k : Kept) (can : CanSettle q s k) (f : Func
   is : IsImage f.image
   is = images_of s can.system f listed
 
-  shut_on : is_space_on (shut f) space ≡ true
+  pub shut_on : is_space_on (shut f) space ≡ true
   shut_on = on_closed q s k f (shut f) (closed_command q s k f is) space ∙ left
 
   last_on : is_space_on (last f) space ≡ true
@@ -113,14 +113,17 @@ module _ (q : Request) (s : System) (k : Kept) (can : CanSettle q s k) (f : Func
         | inr opened ↦ subst (λ g. is_space_on g space ≡ true) (sym opened) last_on
       ])
 
+  -- it is on at each stop
+  pub on_at_stop : (n : ℕ) → is_space_on (function_after f (take n (settle_writes q s k))) space ≡ true
+  on_at_stop n = subst (λ ws. IsOnAfter (take n ws)) (sym (writes_same q s k)) (in_three IsOnAfter (all_closings shut last s) (all_settings shut last s) (all_openings shut last s) while_closing while_setting while_opening n)
+
   pub never_off : (n : ℕ) → (g : Function) × Contains (system_after s (take n (settle_writes q s k))) g × (g.slot ≡ f.slot) × (is_space_on g space ≡ true)
   never_off n =
       let p = take n (settle_writes q s k) in
-      let on : IsOnAfter p = subst (λ ws. IsOnAfter (take n ws)) (sym (writes_same q s k)) (in_three IsOnAfter (all_closings shut last s) (all_settings shut last s) (all_openings shut last s) while_closing while_setting while_opening n) in
       let fits = All-take (FitsAt s) n (settle_writes q s k) (writes_fit q s k can) in
       let moved : IsMoved f (function_after f p) = function_moved f is f p (moved_itself f is) (λ x has here. All-contains (FitsAt s) p x fits has f listed here) in (
         function_after f p,
         subst (λ t. Contains t (function_after f p)) (sym (system_by_function s p)) (in_map_from (λ g. function_after g p) s f listed),
         moved.slot,
-        on,
+        on_at_stop n,
       )

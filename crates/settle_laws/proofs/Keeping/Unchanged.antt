@@ -32,7 +32,7 @@ use Rattle.settle_laws.proofs.Keeping.ClosedSame.{closed_same}
 use Rattle.settle_laws.proofs.Keeping.Commands.{on_settled, settled_is, enabled_unleft}
 use Rattle.settle_laws.proofs.Keeping.Held.{above_above}
 use Rattle.settle_laws.proofs.Keeping.Shown.{settled_image_is}
-use Rattle.settle_laws.proofs.Unleft.{unleft}
+use Rattle.settle_laws.proofs.Told.AgainUnleft.{unleft}
 use Rattle.settle_laws.proofs.NonePasses.{none_by}
 use Rattle.settle_spec.specs.Kept.{Kept}
 use Rattle.settle_laws.proofs.Unchanged.{fixed_each}
@@ -109,7 +109,7 @@ module _ (q : Request) (s : System) (k : Kept) (system : IsSystem s) (nested : I
   not_shut_itself : (space : Space) (f : Function) → Contains s f → is_shut_itself q s k space f ≡ false
   not_shut_itself space f listed = or_from (has_moving q s k space f) (is_cut_off_in q s f space) (none_moves space f listed) (not_cut f space listed)
 
-  not_shut : (space : Space) (f : Function) → Contains s f → is_shut q s k space f ≡ false
+  pub not_shut : (space : Space) (f : Function) → Contains s f → is_shut q s k space f ≡ false
   not_shut space f listed =
       or_from (is_shut_itself q s k space f) (list_any (is_shut_itself q s k space) (bridges_above s f.slot.bus)) (not_shut_itself space f listed)
       (none_by (is_shut_itself q s k space) (bridges_above s f.slot.bus) (λ b has. not_shut_itself space b (above_to s f.slot.bus b has).listed))

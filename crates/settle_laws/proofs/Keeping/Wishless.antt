@@ -7,11 +7,12 @@ use Rattle.std.proofs.Math.Path.{fun_ext}
 use Rattle.pci_spec.specs.Decoded.{Range}
 use Rattle.pci_spec.specs.System.{System, Function, Space, Io, Memory, is_bridge, is_space_on, space_of}
 use Rattle.pci_spec.specs.Bus.{secondary}
+use Rattle.settle_spec.specs.Items.{place_each}
+use Rattle.settle_spec.specs.Lines.{taken_for}
 use Rattle.settle_spec.specs.Lists.{Request}
 use Rattle.settle_spec.specs.Parts.{FunctionPart, has_left, are_same_space}
 use Rattle.settle_spec.specs.Stands.{part_space, window_part}
 use Rattle.settle_spec.specs.Places.{placed_of, place_among, first_lack}
-use Rattle.settle_spec.specs.Growth.{place_each}
 use Rattle.settle_spec.specs.Kept.{Kept, no_wish, unwished}
 use Rattle.settle_spec.specs.Keeping.Places.{space_items, taken_at, place_of_item, placing_within, new_place, lacking_on, lacking}
 use Rattle.settle_spec.specs.Registers.{changing, has_own}
@@ -28,8 +29,8 @@ module _ (q : Request) (s : System) (k : Kept) (wish : FunctionPart → Option R
   pub placing_same : (space : Space) (depth bus : ℕ) → placing_within q s j space depth bus ≡ placing_within q s k space depth bus
   unfolding placing_within
   placing_same space zero bus = refl
-  placing_same Io (suc depth) bus = ap (λ places. place_each (place_of_item q s k places) (taken_at q s k Io bus) (space_items q s k Io bus)) (fun_ext (λ over. ap placed_of (placing_same Io depth over)))
-  placing_same Memory (suc depth) bus = ap (λ places. place_each (place_of_item q s k places) (taken_at q s k Memory bus) (space_items q s k Memory bus)) (fun_ext (λ over. ap placed_of (placing_same Memory depth over)))
+  placing_same Io (suc depth) bus = ap (λ places. place_each (λ x xs. place_of_item q s k places x (taken_for q x.region xs)) (taken_at q s k Io bus) (space_items q s k Io bus)) (fun_ext (λ over. ap placed_of (placing_same Io depth over)))
+  placing_same Memory (suc depth) bus = ap (λ places. place_each (λ x xs. place_of_item q s k places x (taken_for q x.region xs)) (taken_at q s k Memory bus) (space_items q s k Memory bus)) (fun_ext (λ over. ap placed_of (placing_same Memory depth over)))
 
   pub new_same : (r : FunctionPart) → new_place q s j r ≡ new_place q s k r
   new_same r = ap (λ p. place_among r (placed_of p)) (placing_same (space_of r.function r.part) 256 r.function.slot.bus)
@@ -73,6 +74,7 @@ module _ (q : Request) (s : System) (k : Kept) (wish : FunctionPart → Option R
     plain = sound.plain;
     grown = sound.grown;
     places = sound.places;
+    off = sound.off;
     wished = wished;
   }
 

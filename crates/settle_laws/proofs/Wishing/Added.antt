@@ -1,14 +1,14 @@
 -- Where one more window keeps room free, all that is wished before is kept free as it was.
-use Rattle.std.proofs.Common.{◌≡◌, ◌&&◌, ℕ, inl, inr, true, false, cond, arith, refl, sym, ◌∙◌, ap, subst, None, Some, List}
+use Rattle.std.proofs.Common.{◌≡◌, inl, inr, true, false, cond, arith, refl, sym, ◌∙◌, ap, subst, None, Some}
 use Rattle.std.specs.Bool.{◌==◌}
 use Rattle.std.specs.List.{Contains}
 use Rattle.std.specs.Option.{option_or}
-use Rattle.std.proofs.lemmas.Bool.{and_parts, and_from, both_ways, cases_eq, eq-eqb, eqb-true, false_from_ne_true, or_cases, or_left, or_right}
+use Rattle.std.proofs.lemmas.Bool.{and_parts, and_from, both_ways, cases_eq, eq-eqb, eqb-true, false_from_ne_true}
 use Rattle.pci_spec.specs.Slot.{slot_number}
 use Rattle.pci_spec.specs.Decoded.{Range}
 use Rattle.pci_spec.specs.Window.{WindowKind}
-use Rattle.pci_spec.specs.System.{System, Function, IsSystem, Space, Io, Memory, Part, Window, has_part, is_bridge, is_window, register_of}
-use Rattle.pci_spec.specs.Bus.{are_siblings, is_root, LeadsTo}
+use Rattle.pci_spec.specs.System.{System, Function, IsSystem, Part, Window, has_part, is_bridge, is_window, register_of}
+use Rattle.pci_spec.specs.Bus.{are_siblings, LeadsTo}
 use Rattle.pci_spec.proofs.Nesting.{one_function}
 use Rattle.pci_spec.proofs.Regions.{register_of-lt}
 use Rattle.plan_spec.specs.Planning.Layout.{IsInside, LieApart}
@@ -18,6 +18,7 @@ use Rattle.settle_spec.specs.Parts.{FunctionPart, are_same_space}
 use Rattle.settle_spec.specs.Stands.{rank, are_beside, part_space, window_part}
 use Rattle.settle_spec.specs.Kept.{Kept}
 use Rattle.settle_spec.specs.Wishes.{place_then, range_then, with_window}
+use Rattle.stand_laws.proofs.Apart.{siblings_back, space_back}
 use Rattle.settle_laws.specs.KeptLaws.{IsWishedWindow}
 use Rattle.settle_laws.specs.Keeping.PlacesLaws.{CanSettle}
 use Rattle.settle_laws.proofs.HeaderParts.{is_part_of, one_part}
@@ -29,18 +30,6 @@ within t u v (first, last) (from, to) = (omega (arith, first, from), omega (arit
 pub other_way : (t u : Range) → LieApart t u → LieApart u t
 other_way t u (inl before) = inr before
 other_way t u (inr after) = inl after
-
-siblings_back : (roots : List ℕ) (a b : ℕ) → are_siblings roots a b ≡ true → are_siblings roots b a ≡ true
-siblings_back roots a b is = elim (or_cases (a == b) (is_root roots a && is_root roots b) is) [
-  | inl same ↦ or_left (b == a) (is_root roots b && is_root roots a) (eq-eqb b a (sym (eqb-true a b same)))
-  | inr both ↦ (let parts = and_parts (is_root roots a) (is_root roots b) both in or_right (b == a) (is_root roots b && is_root roots a) (and_from (is_root roots b) (is_root roots a) parts.1 parts.0))
-]
-
-space_back : (a b : Space) → are_same_space a b ≡ true → are_same_space b a ≡ true
-space_back Io Io is = refl
-space_back Memory Memory is = refl
-space_back Io Memory is = absurd (both_ways false refl is)
-space_back Memory Io is = absurd (both_ways false refl is)
 
 pub beside_back : (q : Request) (r t : FunctionPart) → are_beside q r t ≡ true → are_beside q t r ≡ true
 beside_back q r t is =
@@ -121,6 +110,7 @@ module _ (q : Request) (s : System) (k : Kept) (can : CanSettle q s k) (c : Wind
     holds = λ t placed. fits.holds t (sym (place_same q s k j.wished w) ∙ placed);
     outward = λ t placed. fits.outward t (sym (place_same q s k j.wished w) ∙ placed);
     apart = λ r t in_r there beside differ ends. fits.apart r t in_r there beside differ (sym (range_as_before r differ) ∙ ends);
+    off = λ x told can_be forward off. fits.off x told can_be forward (λ t placed. off t (place_same q s k j.wished w ∙ placed));
     lists = fits.lists;
     over = λ d leads. (let is = fits.over d leads in (is.0, range_as_before (window_part c d) (other_over d c leads) ∙ is.1, is.2));
   }
@@ -162,6 +152,7 @@ module _ (q : Request) (s : System) (k : Kept) (can : CanSettle q s k) (c : Wind
       holds = λ t placed. is.holds t (sym (place_same q s k j.wished (window_part e d)) ∙ placed);
       outward = λ t placed. is.outward t (sym (place_same q s k j.wished (window_part e d)) ∙ placed);
       apart = still_apart;
+      off = λ x told can_be forward off. is.off x told can_be forward (λ t placed. off t (place_same q s k j.wished (window_part e d) ∙ placed));
       lists = is.lists;
       over = still_over;
     }

@@ -1,4 +1,5 @@
 -- Where all is placed anew, wishes come to the same beside what they came to.
+use Rattle.settle_laws.proofs.Told.OnlyHeld.{held_of}
 use Rattle.std.proofs.Common.{◌≡◌, ◌&&◌, false, cond, [], refl, sym, ◌∙◌, ap, Option, None, Some}
 use Rattle.std.specs.Bool.{nat_lt, IsTrue}
 use Rattle.std.specs.List.{Contains, list_any}
@@ -29,7 +30,7 @@ use Rattle.settle_laws.proofs.Keeping.Wishless.{new_same}
 use Rattle.settle_laws.proofs.Wishing.AgainGranted.{Match, IsSame, all_same}
 use Rattle.settle_laws.proofs.Wishing.Granted.{all_granted, spare_is}
 
-module _ (q asked : Request) (s : System) (k m : Kept) (could : CanSettle q s k) (anew : IsTrue q.anew) (wishless : WishesNothing k) (without : WishesNothing m) (none : (r : FunctionPart) → m.stays r ≡ false) where
+module _ (q asked : Request) (untold : q.told.ranges ≡ []) (s : System) (k m : Kept) (could : CanSettle q s k) (anew : IsTrue q.anew) (wishless : WishesNothing k) (without : WishesNothing m) (none : (r : FunctionPart) → m.stays r ≡ false) where
   abbrev g : Granted
   g = granted q s (spare_of asked) k
 
@@ -55,14 +56,14 @@ module _ (q asked : Request) (s : System) (k m : Kept) (could : CanSettle q s k)
 
   pub again_placed : (f : Function) (p : Part) → Contains s f → BothOrNone IsAlikePlaced (new_place q s g.kept record { function = f; part = p }) (new_place q t m record { function = now f; part = p })
   again_placed f p listed =
-      new_places_alike q anew s t (all_alike q s g.kept can) g.kept m (none_kept q s g.kept can anew) none record { function = f; part = p } record { function = now f; part = p } record { function = settled_alike q s g.kept can f listed; part = refl }
+      new_places_alike q anew s t (all_alike q s g.kept can) g.kept m (none_kept q (held_of q untold) s g.kept can anew) none record { function = f; part = p } record { function = now f; part = p } record { function = settled_alike q s g.kept can f listed; part = refl }
 
-  first_match : Match q s g.kept can anew k m
+  first_match : Match q untold s g.kept can anew k m
   first_match = record {
     range = λ f p listed.
         let r : FunctionPart = record { function = f; part = p } in
         let u : FunctionPart = record { function = now f; part = p } in
-        let moves : k.stays r ≡ false = ap (λ (x : Kept). x.stays r) (sym beside) ∙ none_kept q s g.kept can anew r in
+        let moves : k.stays r ≡ false = ap (λ (x : Kept). x.stays r) (sym beside) ∙ none_kept q (held_of q untold) s g.kept can anew r in
         unwished_end q t m u (ap (λ wish. wish u) without) ∙ placed_range q t m u (none u)
         ∙ sym (alike_ranges (new_place q s g.kept r) (new_place q t m u) (again_placed f p listed))
         ∙ ap place_range (sym (new_same q s g.kept no_wish r) ∙ ap (λ x. new_place q s x r) beside ∙ new_same q s k no_wish r)
@@ -76,11 +77,11 @@ module _ (q asked : Request) (s : System) (k m : Kept) (could : CanSettle q s k)
       (λ bridge. cond (list_any (same_slot b.slot) asked.slots && bridge && nat_lt 0 (wanted_in asked.spares c)) (Some (spare_extent c (wanted_in asked.spares c) (highest_in c b.probe))) None)
       (bridge_stays q s g.kept can b listed)
 
-  pub same : IsSame q s g.kept can anew g (granted q t (spare_of asked) m)
-  same = all_same q s g.kept can anew (spare_of asked) (λ c b e at. (spare_is asked c b e at).bridge) spare_alike s (λ f has. has) (record { kept = k; denied = [] }) (record { kept = m; denied = [] }) record { kept = first_match; denied = refl }
+  pub same : IsSame q untold s g.kept can anew g (granted q t (spare_of asked) m)
+  same = all_same q untold s g.kept can anew (spare_of asked) (λ c b e at. (spare_is asked c b e at).bridge) spare_alike s (λ f has. has) (record { kept = k; denied = [] }) (record { kept = m; denied = [] }) record { kept = first_match; denied = refl }
 
 -- The law: wishes come to the same.
 pub anew_wishes_again : AnewWishesAgain
-anew_wishes_again q asked s k m could anew wishless without none =
-    let all = same q asked s k m could anew wishless without none in
+anew_wishes_again q asked untold s k m could anew wishless without none =
+    let all = same q asked untold s k m could anew wishless without none in
     record { ranges = all.kept.range; denied = all.denied }

@@ -21,7 +21,7 @@ use Rattle.settle_spec.specs.Registers.{changing}
 use Rattle.settle_spec.specs.Growth.{range_list}
 use Rattle.settle_spec.specs.Kept.{Kept}
 use Rattle.settle_spec.specs.Keeping.Registers.{settled, settled_function}
-use Rattle.settle_spec.specs.Wishes.{place_then, range_then, there_then, with_window, with_bridge, ending_at, end_over, gained, can_end_at, with_room_above, ending_if, ending_within, spot_behind, Spared, spared_at, spared_above, held_by, opened_at, spared_if, spared_within, spared_behind, Granted, or_denied, with_spare_of, with_spares_of, with_all_spares}
+use Rattle.settle_spec.specs.Wishes.{place_then, range_then, there_then, with_window, with_bridge, ending_at, end_over, gained, can_end_at, with_room_above, ending_if, ending_within, Spared, spared_at, held_by, opened_at, spared_behind, Granted, or_denied, with_spare_of, with_spares_of, with_all_spares}
 use Rattle.settle_spec.proofs.BridgeOver.{over_leads}
 use Rattle.settle_laws.specs.SparingLaws.{slot_and_register}
 use Rattle.settle_laws.specs.Keeping.PlacesLaws.{CanSettle}
@@ -32,8 +32,10 @@ use Rattle.settle_laws.proofs.Zipped.{BothOrNone, filter_zip, find_zip, flat_zip
 use Rattle.settle_laws.proofs.Keeping.Again.{settled_alike}
 use Rattle.settle_laws.proofs.Keeping.AgainCommand.{change_again}
 use Rattle.settle_laws.proofs.Keeping.Fits.{was}
+use Rattle.settle_laws.proofs.Told.OnlyHeld.{held_of}
 use Rattle.settle_laws.proofs.Keeping.Moves.{moves}
 use Rattle.settle_laws.proofs.Keeping.Wishless.{place_same}
+use Rattle.settle_laws.proofs.Wishing.Plain.{plain_above, plain_if, plain_spot, plain_within, end_is, plain_is}
 
 -- ---- what may be found on both sides
 
@@ -68,7 +70,7 @@ module _ (q : Request) (s : System) (w : FunctionPart) (v : Range) (k : Kept) wh
   range_with : (r : FunctionPart) → range_then q s (with_window w v k) r ≡ cond (rank r == rank w) (Some v) (range_then q s k r)
   range_with r = beside_wish (rank r == rank w) (k.wished r) (place_then q s (with_window w v k) r) (place_then q s k r) (place_same q s k (with_window w v k).wished r)
 
-module _ (q : Request) (s : System) (k : Kept) (can : CanSettle q s k) (anew : IsTrue q.anew) where
+module _ (q : Request) (untold : q.told.ranges ≡ []) (s : System) (k : Kept) (can : CanSettle q s k) (anew : IsTrue q.anew) where
   abbrev now : Function → Function
   now f = settled_function q s k f
 
@@ -108,7 +110,7 @@ module _ (q : Request) (s : System) (k : Kept) (can : CanSettle q s k) (anew : I
 
   twins : (f : Function) → Contains s f → (ps : List Part) → Twins f (filter (can_change q s f) ps) (filter (can_change q t (now f)) ps)
   twins f listed [] = tt
-  twins f listed (p ∷ ps) = one_more f listed p (filter (can_change q s f) ps) (filter (can_change q t (now f)) ps) (twins f listed ps) (can_change q s f p) (can_change q t (now f) p) (change_again q s k can anew f listed p)
+  twins f listed (p ∷ ps) = one_more f listed p (filter (can_change q s f) ps) (filter (can_change q t (now f)) ps) (twins f listed ps) (can_change q s f p) (can_change q t (now f) p) (change_again q (held_of q untold) s k can anew f listed p)
 
   twins_of : (f g : Function) → Pair f g → AllZip Twin (changing q s f) (changing q t g)
   twins_of f g pair =
@@ -178,7 +180,10 @@ module _ (q : Request) (s : System) (k : Kept) (can : CanSettle q s k) (anew : I
     module _ (b : Function) (listed : Contains s b) (last : ℕ) (above below : Function → ℕ → Kept → Option Kept)
         (rest : (f : Function) → Contains s f → is_bridge f ≡ true → (end : ℕ) (x y : Kept) → Match x y → BothOrNone Match (above f end x) (below (now f) end y)) (x y : Kept) (match : Match x y) where
       can_end_same : (w : Range) (e : ℕ) → can_end_at q s c b x w e ≡ can_end_at q t c (now b) y w e
-      can_end_same w e = ap (λ us. not (is_fixed_part q (window_part c b)) && (nat_le e (highest_in c b.probe) && list_all (ranges_are_apart (gained w e)) us)) (there_same x y match (window_space c) b.slot.bus)
+      can_end_same w e =
+          end_is q s c untold b x w e
+          ∙ ap (λ us. not (is_fixed_part q (window_part c b)) && (nat_le e (highest_in c b.probe) && list_all (ranges_are_apart (gained w e)) us)) (there_same x y match (window_space c) b.slot.bus)
+          ∙ sym (end_is q t c untold (now b) y w e)
 
       room_same : (v : Range) → BothOrNone Match (with_room_above q s c above b v x) (with_room_above q t c below (now b) v y)
       room_same v = if_both Match (is_root q.roots b.slot.bus) (is_root q.roots b.slot.bus) refl
@@ -215,7 +220,7 @@ module _ (q : Request) (s : System) (k : Kept) (can : CanSettle q s k) (anew : I
 
     module _ (b : Function) (listed : Contains s b) (bridge : is_bridge b ≡ true) (e : Extent) (above below : Function → Extent → Kept → Option Spared)
         (rest : (f : Function) → Contains s f → is_bridge f ≡ true → (e : Extent) (x y : Kept) → Match x y → BothOrNone SameSpare (above f e x) (below (now f) e y)) (x y : Kept) (match : Match x y) where
-      spot_same : (w : Range) → spot_behind q s c b e x w ≡ spot_behind q t c (now b) e y w
+      spot_same : (w : Range) → plain_spot q s c b e x w ≡ plain_spot q t c (now b) e y w
       spot_same w =
           ap (λ us. first_spot w.first us e) (there_same x y match (window_space c) (secondary b))
           ∙ ap (λ bus. first_spot w.first (there_then q t y (window_space c) bus) e) (sym (behind_same b listed bridge))
@@ -234,7 +239,7 @@ module _ (q : Request) (s : System) (k : Kept) (can : CanSettle q s k) (anew : I
       root_same h (Some a) None same = absurd (let no : ⊥ = cc in no)
       root_same h (Some a) (Some d) same = (let one : a ≡ d = cc in record { at = sym one; kept = match })
 
-      above_same : (h : Extent) → BothOrNone SameSpare (spared_above q s c above b h x) (spared_above q t c below (now b) h y)
+      above_same : (h : Extent) → BothOrNone SameSpare (plain_above q s c above b h x) (plain_above q t c below (now b) h y)
       above_same h = if_both SameSpare (is_root q.roots b.slot.bus) (is_root q.roots b.slot.bus) refl
           (option_map (λ at. record { at = at; kept = x }) (first_place (class_ranges q c b.slot.bus) (there_then q s x (window_space c) b.slot.bus) h)) (with_bridge (λ f. above f h x) (bridge_over s b.slot.bus))
           (option_map (λ at. record { at = at; kept = y }) (first_place (class_ranges q c b.slot.bus) (there_then q t y (window_space c) b.slot.bus) h)) (with_bridge (λ f. below f h y) (bridge_over t b.slot.bus))
@@ -249,21 +254,21 @@ module _ (q : Request) (s : System) (k : Kept) (can : CanSettle q s k) (anew : I
             (with_match c b listed (range_from a.at e.size) a.kept z.kept same.kept);
       }
 
-      spared_if_same : (o : Option Range) → BothOrNone SameSpare (spared_if q s c above b e x o) (spared_if q t c below (now b) e y o)
+      spared_if_same : (o : Option Range) → BothOrNone SameSpare (plain_if q s c above b e x o) (plain_if q t c below (now b) e y o)
       spared_if_same None =
-          let o = spared_above q s c above b (held_by q s c b e) x in
-          let p = spared_above q t c below (now b) (held_by q s c b e) y in
+          let o = plain_above q s c above b (held_by q s c b e) x in
+          let p = plain_above q t c below (now b) (held_by q s c b e) y in
           if_both SameSpare (has_window c b.probe && not (is_fixed_part q (window_part c b))) (has_window c b.probe && not (is_fixed_part q (window_part c b))) refl
           (option_map (opened_at q s c b e) o) None (option_map (opened_at q t c (now b) e) p) None
           (map_both SameSpare SameSpare (opened_at q s c b e) (opened_at q t c (now b) e) opened_same o p (above_same (held_by q s c b e))) tt
-      spared_if_same (Some w) = open_same (spot_behind q s c b e x w) (spot_behind q t c (now b) e y w) (spot_same w)
+      spared_if_same (Some w) = open_same (plain_spot q s c b e x w) (plain_spot q t c (now b) e y w) (spot_same w)
 
-    spared_same : (n : ℕ) (b : Function) → Contains s b → is_bridge b ≡ true → (e : Extent) (x y : Kept) → Match x y → BothOrNone SameSpare (spared_within q s c n b e x) (spared_within q t c n (now b) e y)
-    unfolding spared_within
+    spared_same : (n : ℕ) (b : Function) → Contains s b → is_bridge b ≡ true → (e : Extent) (x y : Kept) → Match x y → BothOrNone SameSpare (plain_within q s c n b e x) (plain_within q t c n (now b) e y)
+    unfolding plain_within
     spared_same zero b listed bridge e x y match = tt
     spared_same (suc n) b listed bridge e x y match =
-        subst (λ o. BothOrNone SameSpare (spared_if q s c (spared_within q s c n) b e x (range_then q s x (window_part c b))) (spared_if q t c (spared_within q t c n) (now b) e y o)) (sym (match.range b (Window c) listed))
-        (spared_if_same b listed bridge e (spared_within q s c n) (spared_within q t c n) (spared_same n) x y match (range_then q s x (window_part c b)))
+        subst (λ o. BothOrNone SameSpare (plain_if q s c (plain_within q s c n) b e x (range_then q s x (window_part c b))) (plain_if q t c (plain_within q t c n) (now b) e y o)) (sym (match.range b (Window c) listed))
+        (spared_if_same b listed bridge e (plain_within q s c n) (plain_within q t c n) (spared_same n) x y match (range_then q s x (window_part c b)))
 
   -- ---- all wishes
 
@@ -288,7 +293,8 @@ module _ (q : Request) (s : System) (k : Kept) (can : CanSettle q s k) (anew : I
 
       by_window : (e : Extent) → spare c b ≡ Some e → (there : Bool)
           → IsSame (cond there (or_denied (window_part c b) g (spared_behind q s c b e g.kept)) g) (cond there (or_denied (window_part c (now b)) h (spared_behind q t c (now b) e h.kept)) h)
-      by_window e at true = by_spared (spared_behind q s c b e g.kept) (spared_behind q t c (now b) e h.kept) (spared_same c 256 b listed (bridges c b e at) e g.kept h.kept same.kept)
+      by_window e at true = by_spared (spared_behind q s c b e g.kept) (spared_behind q t c (now b) e h.kept) (subst (λ o. BothOrNone (SameSpare c) o (spared_behind q t c (now b) e h.kept)) (sym (plain_is q s c untold b e g.kept))
+          (subst (BothOrNone (SameSpare c) (plain_within q s c 256 b e g.kept)) (sym (plain_is q t c untold (now b) e h.kept)) (spared_same c 256 b listed (bridges c b e at) e g.kept h.kept same.kept)))
       by_window e at false = same
 
       by_spare : (o : Option Extent) → spare c b ≡ o → IsSame (with_spare_of q s c b o g) (with_spare_of q t c (now b) o h)

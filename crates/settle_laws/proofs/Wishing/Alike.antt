@@ -1,5 +1,5 @@
 -- Wishes change nothing of what is kept but the room that is kept free.
-use Rattle.std.proofs.Common.{◌≡◌, ◌&&◌, ℕ, zero, suc, [], ◌∷◌, not, refl, ◌∙◌, Option, None, Some}
+use Rattle.std.proofs.Common.{◌≡◌, ◌&&◌, ℕ, zero, suc, [], ◌∷◌, not, refl, ◌∙◌, Option, None, Some, List, ◌++◌}
 use Rattle.std.specs.Bool.{nat_le}
 use Rattle.std.specs.Option.{option_map}
 use Rattle.std.proofs.lemmas.Bool.{cond_both}
@@ -13,7 +13,8 @@ use Rattle.settle_spec.specs.Lists.{Request, class_ranges}
 use Rattle.settle_spec.specs.Parts.{FunctionPart, bridge_over}
 use Rattle.settle_spec.specs.Stands.{is_fixed_part, is_in_lists, window_part}
 use Rattle.settle_spec.specs.Kept.{Kept, unwished}
-use Rattle.settle_spec.specs.Wishes.{range_then, there_then, with_window, with_bridge, ending_at, end_over, can_end_at, with_room_above, ending_if, ending_within, spot_behind, Spared, spared_above, held_by, opened_at, spared_if, spared_within, spared_behind, Granted, or_denied, with_spare_of, with_spares_of, with_all_spares, granted}
+use Rattle.settle_spec.specs.Wishes.{range_then, taken_then, with_window, with_bridge, ending_at, end_over, can_end_at, with_room_above, ending_if, ending_within, spot_behind, Spared, spared_above, held_by, opened_at, spared_if, spared_within, spared_behind, Granted, or_denied, with_spare_of, with_spares_of, with_all_spares, granted}
+use Rattle.settle_spec.specs.Lines.{lines_behind}
 
 -- what may be found is beside the same
 abbrev MayBeBeside : Kept → Option Kept → Type 0
@@ -56,7 +57,7 @@ module _ (q : Request) (s : System) (c : WindowKind) where
 
   -- ---- room for a spare
 
-  module _ (above : Function → Extent → Kept → Option Spared) (rest : (b : Function) (e : Extent) (k : Kept) → MaySpareBeside k (above b e k)) (b : Function) (e : Extent) (k : Kept) where
+  module _ (above : Function → Extent → List Range → Kept → Option Spared) (rest : (b : Function) (e : Extent) (behind : List Range) (k : Kept) → MaySpareBeside k (above b e behind k)) (b : Function) (e : Extent) (behind : List Range) (k : Kept) where
     opened : (o : Option Spared) → MaySpareBeside k o → MaySpareBeside k (option_map (opened_at q s c b e) o)
     opened None is = tt
     opened (Some x) is = is
@@ -65,33 +66,33 @@ module _ (q : Request) (s : System) (c : WindowKind) where
     on_root None = tt
     on_root (Some a) = refl
 
-    spared_over : (o : Option Function) → MaySpareBeside k (with_bridge (λ d. above d (held_by q s c b e) k) o)
+    spared_over : (o : Option Function) → MaySpareBeside k (with_bridge (λ d. above d (held_by q s c b e) (lines_behind q (window_part c b)) k) o)
     spared_over None = tt
-    spared_over (Some d) = rest d (held_by q s c b e) k
+    spared_over (Some d) = rest d (held_by q s c b e) (lines_behind q (window_part c b)) k
 
     in_open : (a : ℕ) (o : Option Kept) → MayBeBeside k o → MaySpareBeside k (option_map (λ kept. record { at = a; kept = kept }) o)
     in_open a None is = tt
     in_open a (Some j) is = is
 
-    spared_by : (o : Option Range) → MaySpareBeside k (spared_if q s c above b e k o)
+    spared_by : (o : Option Range) → MaySpareBeside k (spared_if q s c above b e behind k o)
     spared_by None =
         let place = spared_above q s c above b (held_by q s c b e) k in
         cond_both (has_window c b.probe && not (is_fixed_part q (window_part c b))) (option_map (opened_at q s c b e) place) None (MaySpareBeside k)
         (λ may. opened place
-        (cond_both (is_root q.roots b.slot.bus) _ (with_bridge (λ d. above d (held_by q s c b e) k) (bridge_over s b.slot.bus)) (MaySpareBeside k)
-        (λ root. on_root (first_place (class_ranges q c b.slot.bus) (there_then q s k (window_space c) b.slot.bus) (held_by q s c b e)))
+        (cond_both (is_root q.roots b.slot.bus) _ (with_bridge (λ d. above d (held_by q s c b e) (lines_behind q (window_part c b)) k) (bridge_over s b.slot.bus)) (MaySpareBeside k)
+        (λ root. on_root (first_place (class_ranges q c b.slot.bus) (lines_behind q (window_part c b) ++ taken_then q s k (window_space c) b.slot.bus) (held_by q s c b e)))
         (λ off. spared_over (bridge_over s b.slot.bus))))
         (λ may_not. tt)
     spared_by (Some w) =
-        let a = spot_behind q s c b e k w in
+        let a = spot_behind q s c b e behind k w in
         let last = (range_from a e.size).last in
         cond_both (nat_le last e.highest) (option_map (λ kept. record { at = a; kept = kept }) (ending_within q s c 256 b last k)) None (MaySpareBeside k)
         (λ low. in_open a (ending_within q s c 256 b last k) (ended_alike 256 b last k)) (λ high. tt)
 
-  spared_alike : (depth : ℕ) (b : Function) (e : Extent) (k : Kept) → MaySpareBeside k (spared_within q s c depth b e k)
+  spared_alike : (depth : ℕ) (b : Function) (e : Extent) (behind : List Range) (k : Kept) → MaySpareBeside k (spared_within q s c depth b e behind k)
   unfolding spared_within
-  spared_alike zero b e k = tt
-  spared_alike (suc depth) b e k = spared_by (spared_within q s c depth) (spared_alike depth) b e k (range_then q s k (window_part c b))
+  spared_alike zero b e behind k = tt
+  spared_alike (suc depth) b e behind k = spared_by (spared_within q s c depth) (spared_alike depth) b e behind k (range_then q s k (window_part c b))
 
 -- ---- one wish after another
 
@@ -100,7 +101,7 @@ module _ (q : Request) (s : System) (spare : WindowKind → Function → Option 
   one_wish c b None g = refl
   one_wish c b (Some e) g =
       cond_both (has_window c b.probe) (or_denied (window_part c b) g (spared_behind q s c b e g.kept)) g (λ x. unwished x.kept ≡ unwished g.kept)
-      (λ there. by (spared_behind q s c b e g.kept) (spared_alike q s c 256 b e g.kept)) (λ absent. refl)
+      (λ there. by (spared_behind q s c b e g.kept) (spared_alike q s c 256 b e [] g.kept)) (λ absent. refl)
     where
       by : (o : Option Spared) → MaySpareBeside g.kept o → unwished (or_denied (window_part c b) g o).kept ≡ unwished g.kept
       by None is = refl

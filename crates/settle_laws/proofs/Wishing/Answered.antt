@@ -17,20 +17,25 @@ use Rattle.settle_spec.specs.Spares.{spare_extent}
 use Rattle.settle_spec.specs.Stands.{window_part}
 use Rattle.settle_spec.specs.Items.{highest_in, spare_of}
 use Rattle.settle_spec.specs.Kept.{Kept}
-use Rattle.settle_spec.specs.Wishes.{Spared, spared_within, spared_behind, Granted, or_denied, with_spare_of, with_spares_of, with_all_spares, granted}
+use Rattle.settle_spec.specs.Wishes.{Spared, spared_behind, Granted, or_denied, with_spare_of, with_spares_of, with_all_spares, granted}
 use Rattle.settle_laws.specs.Keeping.PlacesLaws.{CanSettle}
+use Rattle.settle_laws.proofs.Told.Wished.{can_all}
+use Rattle.settle_laws.proofs.Wishing.Refused.{admitted_of}
 use Rattle.settle_laws.proofs.Pieces.{Lower, system_rises}
 use Rattle.settle_laws.proofs.Wishing.Denied.{room_before}
 use Rattle.settle_laws.proofs.Wishing.Granted.{IsSpareOf, IsGranted, spare_is, one_wish, all_wishes}
 use Rattle.settle_laws.proofs.Wishing.Later.{AreAlike, Same, Changes, spared_changes}
-use Rattle.settle_laws.proofs.Wishing.Spare.{IsSpare, IsSpared, is_spared}
+use Rattle.settle_laws.proofs.Wishing.Spare.{IsSpare, IsSpared, is_spared, is_spared_off}
 use Rattle.settle_laws.proofs.Wishing.Spots.{HasSpot, spared_spot, spot_left}
 use Rattle.plan_spec.proofs.Planning.Placement.{IsMultiple}
 use Rattle.settle_spec.specs.Growing.{finally_kept}
 use Rattle.settle_spec.specs.Sparing.{without_slots, have_spares, placing_request}
 use Rattle.settle_spec.specs.SpareLaws.{kept_sparing, has_room_for, result_sparing, result_of}
 use Rattle.settle_laws.specs.SparingLaws.{SparesAreAnswered}
-use Rattle.settle_laws.proofs.Wishing.Room.{can_all, room_there}
+use Rattle.settle_laws.proofs.Wishing.Room.{room_there}
+use Rattle.given_spec.specs.ToldRegion.{ToldRegion, told_regions}
+use Rattle.settle_laws.proofs.Untold.{untold_forward}
+use Rattle.settle_laws.proofs.Wishing.Sparing.{placing_asked}
 
 -- the spares of a class are alike
 pub record AreSpares (spare : WindowKind → Function → Option Extent) (like : WindowKind → Extent) : Type 0 where
@@ -46,7 +51,7 @@ spares_are q = record { each = spare_is q; alike = λ c b e is. by c b e _ is }
         let same : spare_extent c (wanted_in q.spares c) (highest_in c b.probe) ≡ e = cc in
         subst (λ x. AreAlike x (spare_extent c (wanted_in q.spares c) 0)) same record { size = refl; alignment = refl }
 
-module _ (q : Request) (s : System) (spare : WindowKind → Function → Option Extent) (like : WindowKind → Extent) (are : AreSpares spare like) (k : Kept) (base : CanSettle q s k) where
+module _ (q : Request) (forward : (x : ToldRegion) → Contains (told_regions q.told) x → x.told.first ≤ x.told.last) (s : System) (spare : WindowKind → Function → Option Extent) (like : WindowKind → Extent) (are : AreSpares spare like) (k : Kept) (base : CanSettle q s k) where
   abbrev Ok : Granted → Type 0
   Ok g = IsGranted q s spare are.each k g
 
@@ -56,7 +61,7 @@ module _ (q : Request) (s : System) (spare : WindowKind → Function → Option 
 
   -- ---- what a wish that is granted leaves, all wishes for lower buses leave
 
-  module _ (b : Function) (P : Kept → Type 0) (left : (d : WindowKind) (f : Function) → Contains s f → (x : Extent) → spare d f ≡ Some x → (j : Kept) → CanSettle q s j → (y : Spared) → spared_within q s d 256 f x j ≡ Some y → f.slot.bus ≤ b.slot.bus → P j → P y.kept) where
+  module _ (b : Function) (P : Kept → Type 0) (left : (d : WindowKind) (f : Function) → Contains s f → (x : Extent) → spare d f ≡ Some x → (j : Kept) → CanSettle q s j → (y : Spared) → spared_behind q s d f x j ≡ Some y → f.slot.bus ≤ b.slot.bus → P j → P y.kept) where
     pub left_after : (d : WindowKind) (f : Function) → Contains s f → f.slot.bus ≤ b.slot.bus → (g : Granted) → Ok g → P g.kept → (o : Option Extent) → spare d f ≡ o → P (with_spare_of q s d f o g).kept
     left_after d f in_f low g ok answer None at = answer
     left_after d f in_f low g ok answer (Some x) at =
@@ -88,19 +93,19 @@ module _ (q : Request) (s : System) (spare : WindowKind → Function → Option 
         }
 
     -- a wish that is granted leaves the answer
-    module _ (d : WindowKind) (f : Function) (in_f : Contains s f) (x : Extent) (for_f : spare d f ≡ Some x) (j : Kept) (can : CanSettle q s j) (y : Spared) (found : spared_within q s d 256 f x j ≡ Some y) (low : f.slot.bus ≤ b.slot.bus) where
+    module _ (d : WindowKind) (f : Function) (in_f : Contains s f) (x : Extent) (for_f : spare d f ≡ Some x) (j : Kept) (can : CanSettle q s j) (y : Spared) (found : spared_behind q s d f x j ≡ Some y) (low : f.slot.bus ≤ b.slot.bus) where
       of : IsSpareOf d f x
       of = are.each d f x for_f
 
       made : IsSpared q s d j y f x
-      made = is_spared q s d 256 j can f in_f of.bridge x of.spare y found
+      made = is_spared q s d j can f in_f of.bridge x of.spare y found
 
       changes : Changes q s c can.system can.nested (like c) j y.kept
       changes = elim (cases_Bool (same_class c d)) [
         | inl same ↦
             let class : d ≡ c = same_class_is c d same in
             let few = (slots_of s can.system f in_f).0 in
-            spared_changes q s c can.system can.nested (like c) 256 f in_f of.bridge few x (subst (λ a. AreAlike x (like a)) class (are.alike d f x for_f)) j y (ap (λ a. spared_within q s a 256 f x j) (sym class) ∙ found)
+            spared_changes q s c can.system can.nested (like c) 256 f in_f of.bridge few x (subst (λ a. AreAlike x (like a)) class (are.alike d f x for_f)) [] j y (ap (λ a. spared_behind q s a f x j) (sym class) ∙ found)
         | inr other ↦ λ g in_g is_g. Same (made.classes c (λ is. both_ways (same_class c d) other (ap (same_class c) (sym is) ∙ class_itself c)) g in_g is_g)
       ]
 
@@ -111,7 +116,7 @@ module _ (q : Request) (s : System) (spare : WindowKind → Function → Option 
       none_stays none = false_from_ne_true (is_some (spared_behind q s c b e y.kept)) (λ some.
           let few = (slots_of s can.system b in_b).0 in
           both_ways (is_some (spared_behind q s c b e j)) none
-          (room_before q s c (like c) like_spare j y.kept can made.can made.keeps changes 256 b in_b is_b few e (are.alike c b e spared) some))
+          (room_before q forward s c (like c) like_spare j y.kept can made.can made.keeps changes 256 b in_b is_b few e (are.alike c b e spared) [] some))
 
       step : Answered c j b e → Answered c y.kept b e
       step (inl spot) = inl (spot_stays spot)
@@ -133,7 +138,7 @@ module _ (q : Request) (s : System) (spare : WindowKind → Function → Option 
         by : (o : Option Spared) → spared_behind q s c b x g.kept ≡ o → (t : Bool) → t ≡ true → Answered c (cond t (or_denied (window_part c b) g o) g).kept b x
         by o found false is = absurd (let no : ⊥ = cc in no)
         by None found true is = inr (ap is_some found)
-        by (Some y) found true is = (let of = are.each c b x at in inl (spared_spot q s c g.kept y b x (is_spared q s c 256 g.kept ok.can b in_b of.bridge x of.spare y found)))
+        by (Some y) found true is = (let of = are.each c b x at in inl (spared_spot q s c g.kept y b x [] (is_spared_off q s c g.kept ok.can b in_b of.bridge x of.spare y found)))
 
   by_class : (c : WindowKind) (b : Function) (in_b : Contains s b) (e : Extent) (spared : spare c b ≡ Some e) → has_window c b.probe ≡ true → (g : Granted) → Ok g → Answered c (with_spares_of q s spare b g).kept b e
   by_class c b in_b e spared there g ok = by c spared there
@@ -177,17 +182,17 @@ module _ (q : Request) (s : System) (spare : WindowKind → Function → Option 
       ]
 
 -- The law: in the end each spare is answered.
-pub each_answered : (q asked : Request) (s : System) (k : Kept) (can : CanSettle q s k) (c : WindowKind) (b : Function) → Contains s b → (e : Extent) → has_window c b.probe ≡ true → spare_of asked c b ≡ Some e
+pub each_answered : (q asked : Request) → ((x : ToldRegion) → Contains (told_regions q.told) x → x.told.first ≤ x.told.last) → (s : System) (k : Kept) (can : CanSettle q s k) (c : WindowKind) (b : Function) → Contains s b → (e : Extent) → has_window c b.probe ≡ true → spare_of asked c b ≡ Some e
     → HasSpot q s c (granted q s (spare_of asked) k).kept b e ⊎ (is_some (spared_behind q s c b e (granted q s (spare_of asked) k).kept) ≡ false)
-each_answered q asked s k can c b listed e there at =
-    all_answered q s (spare_of asked) (λ c. spare_extent c (wanted_in asked.spares c) 0) (spares_are asked) k can (record { kept = k; denied = [] }) record { can = can; alike = refl } s (λ f has. has) (system_rises s can.system) c b listed e there at
+each_answered q asked forward s k can c b listed e there at =
+    all_answered q forward s (spare_of asked) (λ c. spare_extent c (wanted_in asked.spares c) 0) (spares_are asked) k can (record { kept = k; denied = [] }) record { can = can; alike = refl } s (λ f has. has) (system_rises s can.system) c b listed e there at
 
 -- The law: a window has room for its spare, or none could be made.
 pub spares_are_answered : SparesAreAnswered
 spares_are_answered q s c b e may listed spare there settles =
     let of = spare_is q c b e spare in
-    let can = can_all q s may settles in
-    elim (each_answered (placing_request q s) q s (finally_kept (placing_request q s) s) can.before c b listed e there spare) [
+    let can = can_all q s (admitted_of q s may) settles in
+    elim (each_answered (placing_request q s) q (untold_forward (placing_request q s) (placing_asked q s may).untold) s (finally_kept (placing_request q s) s) can.before c b listed e there spare) [
       | inl spot ↦ inl (cond_both (have_spares q s) q (without_slots q) (λ r. has_room_for q (result_sparing q s) c (result_of q s b) e ≡ has_room_for r (result_sparing q s) c (result_of q s b) e) (λ spares. refl) (λ none. refl)
           ∙ room_there (placing_request q s) s (kept_sparing q s) can.then c b listed of.bridge e of.spare.aligned spot)
       | inr none ↦ inr none

@@ -1,5 +1,5 @@
 -- Whether a window can end later, or be opened, is told by the window over its bridge.
-use Rattle.std.proofs.Common.{◌≡◌, ◌&&◌, ℕ, zero, suc, ◌<◌, not, arith, refl, sym, ◌∙◌, ap, Option, None, Some}
+use Rattle.std.proofs.Common.{◌≡◌, ◌&&◌, ℕ, zero, suc, ◌<◌, not, arith, refl, sym, ◌∙◌, ap, Option, None, Some, List, ◌++◌}
 use Rattle.std.specs.Bool.{nat_le, if◌then◌else◌}
 use Rattle.std.specs.List.{Contains}
 use Rattle.std.specs.Option.{option_map}
@@ -13,9 +13,10 @@ use Rattle.settle_spec.specs.Lists.{Request, class_ranges}
 use Rattle.settle_spec.specs.Parts.{bridge_over}
 use Rattle.settle_spec.specs.Stands.{is_fixed_part, is_in_lists, window_part}
 use Rattle.settle_spec.specs.Kept.{Kept}
-use Rattle.settle_spec.specs.Wishes.{range_then, there_then, with_window, with_bridge, ending_at, end_over, can_end_at, ending_if, ending_within, Spared, held_by, opened_at, spared_if, spared_within}
+use Rattle.settle_spec.specs.Wishes.{range_then, taken_then, with_window, with_bridge, ending_at, end_over, can_end_at, ending_if, ending_within, Spared, held_by, opened_at, spared_if, spared_within}
 use Rattle.settle_spec.proofs.BridgeOver.{over_leads}
 use Rattle.settle_laws.specs.SparingLaws.{EndingIsByBus, SparedIsByBus}
+use Rattle.settle_spec.specs.Lines.{lines_behind}
 
 module _ (q : Request) (s : System) (c : WindowKind) (system : IsSystem s) (nested : IsNested q.roots s) where
   -- what is asked of the bridge over a bus
@@ -66,38 +67,38 @@ module _ (q : Request) (s : System) (c : WindowKind) (system : IsSystem s) (nest
 
   -- ---- room for a spare
 
-  spared_by : (d e : Function → Extent → Kept → Option Spared) (b : Function) → ((f : Function) → LeadsTo s f b.slot.bus → (x : Extent) (k : Kept) → d f x k ≡ e f x k)
-      → (x : Extent) (k : Kept) (o : Option Range) → spared_if q s c d b x k o ≡ spared_if q s c e b x k o
-  spared_by d e b same x k (Some w) = refl
-  spared_by d e b same x k None =
+  spared_by : (d e : Function → Extent → List Range → Kept → Option Spared) (b : Function) → ((f : Function) → LeadsTo s f b.slot.bus → (x : Extent) (behind : List Range) (k : Kept) → d f x behind k ≡ e f x behind k)
+      → (x : Extent) (behind : List Range) (k : Kept) (o : Option Range) → spared_if q s c d b x behind k o ≡ spared_if q s c e b x behind k o
+  spared_by d e b same x behind k (Some w) = refl
+  spared_by d e b same x behind k None =
       let held = held_by q s c b x in
       ap (λ (over : Option Spared). if has_window c b.probe && not (is_fixed_part q (window_part c b))
       then option_map (opened_at q s c b x)
       (if is_root q.roots b.slot.bus
-      then option_map (λ at. record { at = at; kept = k }) (first_place (class_ranges q c b.slot.bus) (there_then q s k (window_space c) b.slot.bus) held)
+      then option_map (λ at. record { at = at; kept = k }) (first_place (class_ranges q c b.slot.bus) (lines_behind q (window_part c b) ++ taken_then q s k (window_space c) b.slot.bus) held)
       else over)
       else None)
-      (by_over (λ f. d f held k) (λ f. e f held k) b.slot.bus (λ f leads. same f leads held k))
+      (by_over (λ f. d f held (lines_behind q (window_part c b)) k) (λ f. e f held (lines_behind q (window_part c b)) k) b.slot.bus (λ f leads. same f leads held (lines_behind q (window_part c b)) k))
 
-  spared_step : (depth : ℕ) (b : Function) (x : Extent) (k : Kept) → spared_within q s c (suc depth) b x k ≡ spared_if q s c (spared_within q s c depth) b x k (range_then q s k (window_part c b))
+  spared_step : (depth : ℕ) (b : Function) (x : Extent) (behind : List Range) (k : Kept) → spared_within q s c (suc depth) b x behind k ≡ spared_if q s c (spared_within q s c depth) b x behind k (range_then q s k (window_part c b))
   unfolding spared_within
-  spared_step depth b x k = refl
+  spared_step depth b x behind k = refl
 
-  spared_enough : (d e : ℕ) (b : Function) → b.slot.bus < d → b.slot.bus < e → (x : Extent) (k : Kept) → spared_within q s c d b x k ≡ spared_within q s c e b x k
-  spared_enough zero e b less_d less_e x k = absurd (let no : ⊥ = omega (arith, less_d) in no)
-  spared_enough (suc d) zero b less_d less_e x k = absurd (let no : ⊥ = omega (arith, less_e) in no)
-  spared_enough (suc d) (suc e) b less_d less_e x k =
-      spared_step d b x k
+  spared_enough : (d e : ℕ) (b : Function) → b.slot.bus < d → b.slot.bus < e → (x : Extent) (behind : List Range) (k : Kept) → spared_within q s c d b x behind k ≡ spared_within q s c e b x behind k
+  spared_enough zero e b less_d less_e x behind k = absurd (let no : ⊥ = omega (arith, less_d) in no)
+  spared_enough (suc d) zero b less_d less_e x behind k = absurd (let no : ⊥ = omega (arith, less_e) in no)
+  spared_enough (suc d) (suc e) b less_d less_e x behind k =
+      spared_step d b x behind k
       ∙ spared_by (spared_within q s c d) (spared_within q s c e) b
-      (λ f leads. (let below = lower f b.slot.bus leads in spared_enough d e f (omega (arith, below, less_d)) (omega (arith, below, less_e)))) x k (range_then q s k (window_part c b))
-      ∙ sym (spared_step e b x k)
+      (λ f leads. (let below = lower f b.slot.bus leads in spared_enough d e f (omega (arith, below, less_d)) (omega (arith, below, less_e)))) x behind k (range_then q s k (window_part c b))
+      ∙ sym (spared_step e b x behind k)
 
-  pub spared_by_bus : (b : Function) → Contains s b → (x : Extent) (k : Kept) → spared_within q s c 256 b x k ≡ spared_if q s c (spared_within q s c 256) b x k (range_then q s k (window_part c b))
-  spared_by_bus b listed x k =
+  pub spared_by_bus : (b : Function) → Contains s b → (x : Extent) (behind : List Range) (k : Kept) → spared_within q s c 256 b x behind k ≡ spared_if q s c (spared_within q s c 256) b x behind k (range_then q s k (window_part c b))
+  spared_by_bus b listed x behind k =
       let few = (slots_of s system b listed).0 in
-      spared_step 255 b x k
+      spared_step 255 b x behind k
       ∙ spared_by (spared_within q s c 255) (spared_within q s c 256) b
-      (λ f leads. (let below = lower f b.slot.bus leads in spared_enough 255 256 f (omega (arith, below, few)) (omega (arith, below, few)))) x k (range_then q s k (window_part c b))
+      (λ f leads. (let below = lower f b.slot.bus leads in spared_enough 255 256 f (omega (arith, below, few)) (omega (arith, below, few)))) x behind k (range_then q s k (window_part c b))
 
 -- The law: whether a window can end later is told by the window over its bridge.
 pub ending_is_by_bus : EndingIsByBus
@@ -105,4 +106,4 @@ ending_is_by_bus q s c b last k system nested listed = ending_by_bus q s c syste
 
 -- The law: so is room for a spare.
 pub spared_is_by_bus : SparedIsByBus
-spared_is_by_bus q s c b x k system nested listed = spared_by_bus q s c system nested b listed x k
+spared_is_by_bus q s c b x behind k system nested listed = spared_by_bus q s c system nested b listed x behind k

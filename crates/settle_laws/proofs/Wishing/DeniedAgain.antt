@@ -1,54 +1,55 @@
 -- Where a spare has no room, it has none when all is settled again: what was there is there, and windows are where they were.
-use Rattle.std.proofs.Common.{◌≡◌, ◌&&◌, ◌||◌, ℕ, zero, suc, ◌<◌, ◌≤◌, List, [], Bool, true, false, cond, not, arith, refl, sym, ◌∙◌, ap, subst, Option, None, Some}
+use Rattle.std.proofs.Common.{◌≡◌, ◌&&◌, ◌||◌, ℕ, zero, suc, ◌<◌, ◌≤◌, inl, inr, List, [], ◌++◌, map, Bool, true, false, cond, not, arith, refl, sym, ◌∙◌, ap, subst, Option, None, Some}
 use Rattle.std.specs.Bool.{nat_le, nat_lt}
 use Rattle.std.specs.List.{Contains, filter, flat_map, list_all}
 use Rattle.std.specs.Option.{is_some, option_map}
 use Rattle.std.proofs.lemmas.Bool.{and_from, and_parts, both_ways, false_from_ne_true, leb-true, le-leb, or_left}
+use Rattle.std.proofs.Math.Path.{fun_ext}
+use Rattle.std.proofs.lemmas.List.Elements.{Contains-append_cases, Contains-append_left, Contains-append_right}
 use Rattle.pci_spec.specs.Slot.{Slot}
 use Rattle.pci_spec.specs.Header.{bar_count}
 use Rattle.pci_spec.specs.Decoded.{Range}
 use Rattle.pci_spec.specs.Window.{WindowKind, has_window}
-use Rattle.pci_spec.specs.System.{System, Function, IsSystem, Space, Io, Memory, Part, Bar, Rom, Window, has_part, is_bridge, is_implemented, is_space_on, is_window, window_space}
+use Rattle.pci_spec.specs.System.{System, Function, Space, Io, Memory, Part, Bar, Rom, Window, has_part, is_bridge, is_implemented, is_window, window_space}
 use Rattle.pci_spec.specs.Bus.{secondary, is_root, are_siblings, LeadsTo}
-use Rattle.pci_spec.specs.Sound.{IsSound}
 use Rattle.pci_spec.proofs.BusRanges.{all_from}
 use Rattle.pci_spec.proofs.Members.{in_head, in_filter_from, in_flat_map_from, in_map_from, in_map_to, IsMade}
 use Rattle.plan_spec.specs.Place.{range_from}
 use Rattle.plan_spec.proofs.Planning.Behind.{all_gives}
 use Rattle.plan_spec.proofs.Planning.Moved.{secondary_same}
 use Rattle.settle_spec.specs.FirstPlace.{Extent, ranges_are_apart, first_place}
+use Rattle.given_spec.specs.ToldRegion.{ToldRegion, told_regions}
+use Rattle.settle_spec.specs.Lines.{line_bus, line_range, lines_behind, lines_on}
 use Rattle.settle_spec.specs.Lists.{Request, class_ranges}
-use Rattle.settle_spec.specs.Parts.{FunctionPart, system_parts, header_parts, bridge_over, is_part, has_left, are_same_space}
-use Rattle.settle_spec.specs.Stands.{is_fixed_part, is_in_lists, part_space, window_part, stands}
+use Rattle.settle_spec.specs.Parts.{FunctionPart, header_parts, bridge_over, is_part, are_same_space}
+use Rattle.settle_spec.specs.Stands.{is_fixed_part, is_in_lists, part_space, window_part}
 use Rattle.settle_spec.specs.Items.{highest_in}
 use Rattle.settle_spec.specs.Registers.{changing}
 use Rattle.settle_spec.specs.Growth.{range_list}
 use Rattle.settle_spec.specs.Kept.{Kept, growing}
 use Rattle.settle_spec.specs.Keeping.Registers.{settled, settled_function}
-use Rattle.settle_spec.specs.Wishes.{range_then, there_then, with_window, with_bridge, ending_at, end_over, gained, can_end_at, with_room_above, ending_if, ending_within, spot_behind, Spared, spared_at, spared_above, held_by, opened_at, spared_if, spared_within}
+use Rattle.settle_spec.specs.Wishes.{range_then, there_then, taken_then, with_window, with_bridge, ending_at, end_over, gained, is_off_lines, can_end_at, with_room_above, ending_if, ending_within, Spared, spot_behind, spared_at, spared_above, held_by, opened_at, spared_if, spared_within, spared_behind}
 use Rattle.settle_spec.proofs.BridgeOver.{over_leads, over_is}
 use Rattle.settle_spec.proofs.FirstPlace.{first_is, some_place}
 use Rattle.settle_spec.proofs.FirstSpot.{least_spot, spot_from, spot_gives}
 use Rattle.settle_spec.proofs.LastSpot.{place_gives, place_from}
 use Rattle.settle_laws.specs.Keeping.PlacesLaws.{CanSettle}
-use Rattle.settle_laws.proofs.Alike.{space_alike}
+use Rattle.settle_laws.proofs.Alike.{behind_alike, space_alike}
 use Rattle.settle_laws.proofs.HeaderParts.{header_of}
 use Rattle.settle_laws.proofs.Kept.{in_regions}
 use Rattle.settle_laws.proofs.Keeping.Again.{settled_alike}
 use Rattle.settle_laws.proofs.Keeping.AgainEnds.{part_again}
-use Rattle.settle_laws.proofs.Keeping.AgainKept.{all_stand}
 use Rattle.settle_laws.proofs.Keeping.AgainParts.{settled_end}
-use Rattle.settle_laws.proofs.Keeping.AgainSettled.{all_left_off}
 use Rattle.settle_laws.proofs.Keeping.Claimed.{bridge_stays, rest_closed}
 use Rattle.settle_laws.proofs.Keeping.Fits.{was}
-use Rattle.settle_laws.proofs.Keeping.Moves.{moves, new_system}
+use Rattle.settle_laws.proofs.Keeping.Moves.{moves}
 use Rattle.settle_laws.proofs.Keeping.SettledMoved.{kind_stays}
-use Rattle.settle_laws.proofs.Keeping.SettledSound.{settled_sound}
 use Rattle.settle_laws.proofs.Wishing.ByBus.{ending_by_bus, spared_by_bus}
 use Rattle.settle_laws.proofs.Wishing.Denied.{some_map, place_some}
 use Rattle.settle_laws.proofs.Wishing.Later.{lower}
 use Rattle.settle_laws.proofs.Wishing.Longer.{ends_before, there_gives}
-use Rattle.settle_laws.proofs.Wishing.Still.{stands_alike, stays_there, nowhere}
+use Rattle.settle_laws.proofs.Wishing.Still.{stays_there, nowhere}
+use Rattle.settle_laws.proofs.Told.NothingSettled.{IsStart}
 
 some_parts : {A B : Type 0} (t : Bool) (f : A → B) (o : Option A) → is_some (cond t (option_map f o) None) ≡ true → (t ≡ true) × (is_some o ≡ true)
 some_parts true f (Some i) is = (refl, refl)
@@ -82,7 +83,8 @@ module _ (q : Request) (slots : List Slot) where
   lists_alike bus v Io = refl
   lists_alike bus v Memory = refl
 
-module _ (q : Request) (slots : List Slot) (s : System) (j : Kept) (can : CanSettle (record q { slots = slots }) s j) (kept : q.anew ≡ false) where
+module _ (q : Request) (forward : (x : ToldRegion) → Contains (told_regions q.told) x → x.told.first ≤ x.told.last) (slots : List Slot) (s : System) (j : Kept) (can : CanSettle (record q { slots = slots }) s j)
+    (start : IsStart q (settled (record q { slots = slots }) s j)) where
   abbrev x : Request
   x = record q { slots = slots }
 
@@ -94,18 +96,6 @@ module _ (q : Request) (slots : List Slot) (s : System) (j : Kept) (can : CanSet
 
   abbrev k : Kept
   k = growing q t
-
-  system_now : IsSystem t
-  system_now = new_system x s j can
-
-  sound_now : IsSound q.roots t
-  sound_now = settled_sound x s j can
-
-  all_now : (r : FunctionPart) → Contains (system_parts q t) r → stands q t r ≡ true
-  all_now r has = sym (stands_alike q slots t _ r) ∙ all_stand x s j can kept r has
-
-  off_now : (f : Function) → Contains t f → has_left q t f ≡ true → is_space_on f Io ≡ false
-  off_now = all_left_off x s j can
 
   in_now : (f : Function) → Contains s f → Contains t (now f)
   in_now f listed = in_map_from now s f listed
@@ -122,10 +112,10 @@ module _ (q : Request) (slots : List Slot) (s : System) (j : Kept) (can : CanSet
   still_there : (f : Function) (p : Part) → Contains s f → has_part f p ≡ true → (u : Range) → range_then x s j record { function = f; part = p } ≡ Some u
       → (is_part q t (now f) p ≡ true) × (range_then q t k record { function = now f; part = p } ≡ Some u)
   still_there f p listed there u ends =
-      let part : is_part q t (now f) p ≡ true = part_again x s j can kept f p listed there p refl u ends in
+      let part : is_part q t (now f) p ≡ true = part_again x s j can f p listed there p refl u ends in
       let end = settled_end x s j can f p listed there part in (
         part,
-        stays_there q t system_now sound_now all_now off_now can.lists record { function = now f; part = p } (in_regions q t (now f) p (in_now f listed) (header_of (now f) p (has_now f listed p there)) part)
+        stays_there q t start record { function = now f; part = p } (in_regions q t (now f) p (in_now f listed) (header_of (now f) p (has_now f listed p there)) part)
             ∙ ap Some end.shown ∙ sym end.ends ∙ ends,
       )
 
@@ -135,7 +125,7 @@ module _ (q : Request) (slots : List Slot) (s : System) (j : Kept) (can : CanSet
     where
       by : (o : Option Range) → range_then x s j (window_part c b) ≡ o → range_then q t k (window_part c (now b)) ≡ range_then x s j (window_part c b)
       by (Some u) ends = (still_there b (Window c) listed bridge u ends).1 ∙ sym ends
-      by None ends = nowhere q t system_now sound_now all_now off_now can.lists (now b) (Window c) (in_now b listed) (rest_closed x s j can b c listed ends) ∙ sym ends
+      by None ends = nowhere q t start (now b) (Window c) (in_now b listed) (rest_closed x s j can b c listed ends) ∙ sym ends
 
   -- so is all on a bus
   there_still : (space : Space) (bus : ℕ) (u : Range) → Contains (there_then x s j space bus) u → Contains (there_then q t k space bus) u
@@ -154,6 +144,24 @@ module _ (q : Request) (slots : List Slot) (s : System) (j : Kept) (can : CanSet
       (in_filter_from test (flat_map (changing q t) t) r (in_flat_map_from (changing q t) t (now f) r (in_now f is.listed) listed_now)
       (and_from (are_siblings q.roots bus f.slot.bus) (are_same_space space (part_space r)) is.beside same))
       (subst (λ o. Contains (range_list o) u) (sym still.1) (in_head u []))
+
+  -- with what lines hold, and more
+  taken_still : (space : Space) (bus : ℕ) (lines : List Range) (u : Range) → Contains (lines ++ taken_then x s j space bus) u → Contains (lines ++ taken_then q t k space bus) u
+  taken_still space bus lines u has =
+      let on = lines_on q space bus in
+      let after = there_then q t k space bus in
+      elim (Contains-append_cases lines (on ++ there_then x s j space bus) u has) [
+        | inl here ↦ Contains-append_left lines (on ++ after) u here
+        | inr more ↦ Contains-append_right lines (on ++ after) u (elim (Contains-append_cases on (there_then x s j space bus) u more) [
+          | inl line ↦ Contains-append_left on after u line
+          | inr there ↦ Contains-append_right on after u (there_still space bus u there)
+        ])
+      ]
+
+  -- lines behind a window are those that were
+  behind_lines : (c : WindowKind) (b : Function) → Contains s b → is_bridge b ≡ true → lines_behind q (window_part c (now b)) ≡ lines_behind q (window_part c b)
+  behind_lines c b listed bridge = ap (λ (test : ℕ → Bool). map line_range (filter (λ y. test (line_bus y) && are_same_space (window_space c) y.told.space) (told_regions q.told)))
+      (fun_ext (λ bus. sym (behind_alike b (now b) (settled_alike x s j can b listed) bridge bus)))
 
   -- ---- the bridge over a bus
 
@@ -182,9 +190,10 @@ module _ (q : Request) (slots : List Slot) (s : System) (j : Kept) (can : CanSet
     can_end_then b w e is =
         let then = there_then q t k (window_space c) b.slot.bus in
         let before = there_then x s j (window_space c) b.slot.bus in
-        let parts = and_parts (not (is_fixed_part q (window_part c b))) (nat_le e (highest_in c b.probe) && list_all (ranges_are_apart (gained w e)) then) is in
+        let may = is_off_lines q s c b (gained w e) && not (is_fixed_part q (window_part c b)) in
+        let parts = and_parts may (nat_le e (highest_in c b.probe) && list_all (ranges_are_apart (gained w e)) then) is in
         let more = and_parts (nat_le e (highest_in c b.probe)) (list_all (ranges_are_apart (gained w e)) then) parts.1 in
-        and_from (not (is_fixed_part q (window_part c b))) (nat_le e (highest_in c b.probe) && list_all (ranges_are_apart (gained w e)) before) parts.0
+        and_from may (nat_le e (highest_in c b.probe) && list_all (ranges_are_apart (gained w e)) before) parts.0
         (and_from (nat_le e (highest_in c b.probe)) (list_all (ranges_are_apart (gained w e)) before) more.0
         (all_from (ranges_are_apart (gained w e)) before (λ u has. all_gives (ranges_are_apart (gained w e)) then u more.1 (there_still (window_space c) b.slot.bus u has))))
 
@@ -212,21 +221,24 @@ module _ (q : Request) (slots : List Slot) (s : System) (j : Kept) (can : CanSet
         ap is_some (ending_by_bus x s c can.system can.nested b listed last j)
         ∙ ended_at b last (λ f leads end. (let below = lower x s c can.system can.nested spareless f b.slot.bus leads in ended_then n f leads.0 leads.1 (omega (arith, below, low)) end)) (range_then x s j (window_part c b))
         (ap (λ o. is_some (ending_if q t c (ending_within q t c 256) (now b) last k o)) (sym (window_same c b listed bridge))
-        ∙ sym (ap is_some (ending_by_bus q t c system_now sound_now.nested (now b) (in_now b listed) last k)) ∙ is)
+        ∙ sym (ap is_some (ending_by_bus q t c start.needs.system start.needs.nested (now b) (in_now b listed) last k)) ∙ is)
       where
         spareless : Extent
         spareless = record { size = 1; alignment = 1; highest = 0 }
 
     -- ---- so is it with room for a spare
 
-    module _ (b : Function) (listed : Contains s b) (bridge : is_bridge b ≡ true) (e : Extent) (aligned : 0 < e.alignment)
-        (rest : (f : Function) → LeadsTo s f b.slot.bus → is_some (spared_within q t c 256 (now f) (held_by q t c b e) k) ≡ true → is_some (spared_within x s c 256 f (held_by x s c b e) j) ≡ true) where
-      open_then : (w : Range) → is_some (spared_at q t c (now b) e k (spot_behind q t c (now b) e k w)) ≡ true → is_some (spared_at x s c b e j (spot_behind x s c b e j w)) ≡ true
+    module _ (b : Function) (listed : Contains s b) (bridge : is_bridge b ≡ true) (e : Extent) (aligned : 0 < e.alignment) (lines : List Range)
+        (rest : (f : Function) → LeadsTo s f b.slot.bus → is_some (spared_within q t c 256 (now f) (held_by q t c b e) (lines_behind q (window_part c b)) k) ≡ true → is_some (spared_within x s c 256 f (held_by x s c b e) (lines_behind q (window_part c b)) j) ≡ true) where
+      abbrev own : List Range
+      own = lines_behind q (window_part c b)
+
+      open_then : (w : Range) → is_some (spared_at q t c (now b) e k (spot_behind q t c (now b) e lines k w)) ≡ true → is_some (spared_at x s c b e j (spot_behind x s c b e lines j w)) ≡ true
       open_then w is =
-          let a = spot_behind q t c (now b) e k w in
-          let d = spot_behind x s c b e j w in
-          let then = there_then q t k (window_space c) (secondary (now b)) in
-          let before = there_then x s j (window_space c) (secondary b) in
+          let a = spot_behind q t c (now b) e lines k w in
+          let d = spot_behind x s c b e lines j w in
+          let then = lines ++ taken_then q t k (window_space c) (secondary (now b)) in
+          let before = lines ++ taken_then x s j (window_space c) (secondary b) in
           let with_a : Kept → Spared = λ i. record { at = a; kept = i } in
           let with_d : Kept → Spared = λ i. record { at = d; kept = i } in
           let parts = some_parts (nat_le (range_from a e.size).last e.highest) with_a (ending_within q t c 256 (now b) (range_from a e.size).last k) is in
@@ -236,65 +248,71 @@ module _ (q : Request) (slots : List Slot) (s : System) (j : Kept) (can : CanSet
           (spot_from w.first before e a record {
             multiple = spot.multiple;
             from = spot.from;
-            free = λ u has. spot.free u (subst (λ bus. Contains (there_then q t k (window_space c) bus) u) (sym (behind_same b listed bridge)) (there_still (window_space c) (secondary b) u has));
+            free = λ u has. spot.free u (subst (λ bus. Contains (lines ++ taken_then q t k (window_space c) bus) u) (sym (behind_same b listed bridge)) (taken_still (window_space c) (secondary b) lines u has));
           }) in
           let could = ended_then (suc b.slot.bus) b listed bridge (omega arith) (range_from a e.size).last parts.1 in
           some_from (nat_le (range_from d e.size).last e.highest) with_d (ending_within x s c 256 b (range_from d e.size).last j)
           (le-leb (range_from d e.size).last e.highest (omega (arith, high, first)))
-          (ends_before x s c (suc b.slot.bus) j can b listed bridge (omega arith) (range_from a e.size).last (range_from d e.size).last (omega (arith, first)) could)
+          (ends_before x forward s c (suc b.slot.bus) j can b listed bridge (omega arith) (range_from a e.size).last (range_from d e.size).last (omega (arith, first)) could)
 
-      root_then : is_some (first_place (class_ranges q c b.slot.bus) (there_then q t k (window_space c) b.slot.bus) (held_by q t c b e)) ≡ true → is_some (first_place (class_ranges x c b.slot.bus) (there_then x s j (window_space c) b.slot.bus) (held_by x s c b e)) ≡ true
+      root_then : is_some (first_place (class_ranges q c b.slot.bus) (own ++ taken_then q t k (window_space c) b.slot.bus) (held_by q t c b e)) ≡ true → is_some (first_place (class_ranges x c b.slot.bus) (own ++ taken_then x s j (window_space c) b.slot.bus) (held_by x s c b e)) ≡ true
       root_then = by (first_place ranges then held) refl
         where
           ranges : List Range
           ranges = class_ranges q c b.slot.bus
 
           then : List Range
-          then = there_then q t k (window_space c) b.slot.bus
+          then = own ++ taken_then q t k (window_space c) b.slot.bus
 
           held : Extent
           held = held_by q t c b e
 
-          by : (o : Option ℕ) → first_place ranges then held ≡ o → is_some o ≡ true → is_some (first_place ranges (there_then x s j (window_space c) b.slot.bus) held) ≡ true
+          by : (o : Option ℕ) → first_place ranges then held ≡ o → is_some o ≡ true → is_some (first_place ranges (own ++ taken_then x s j (window_space c) b.slot.bus) held) ≡ true
           by None at is = absurd (both_ways false refl is)
           by (Some a) at is =
               let there = some_place ranges then held a ((first_is ranges then held a aligned).0 at) in
               let place = place_gives there.0 then held a there.2 in
-              place_some ranges (there_then x s j (window_space c) b.slot.bus) held a there.0 aligned there.1
-              (place_from there.0 (there_then x s j (window_space c) b.slot.bus) held a record {
+              place_some ranges (own ++ taken_then x s j (window_space c) b.slot.bus) held a there.0 aligned there.1
+              (place_from there.0 (own ++ taken_then x s j (window_space c) b.slot.bus) held a record {
                 multiple = place.multiple;
                 from = place.from;
-                free = λ u has. place.free u (there_still (window_space c) b.slot.bus u has);
+                free = λ u has. place.free u (taken_still (window_space c) b.slot.bus own u has);
                 last = place.last;
                 highest = place.highest;
               })
 
-      above_then : is_some (spared_above q t c (spared_within q t c 256) (now b) (held_by q t c b e) k) ≡ true → is_some (spared_above x s c (spared_within x s c 256) b (held_by x s c b e) j) ≡ true
+      abbrev found_by : List Range → Option Spared
+      found_by ls = cond (is_root q.roots b.slot.bus) (option_map (λ a. record { at = a; kept = k }) (first_place (class_ranges q c b.slot.bus) (ls ++ taken_then q t k (window_space c) b.slot.bus) (held_by q t c b e)))
+          (with_bridge (λ f. spared_within q t c 256 f (held_by q t c b e) ls k) (bridge_over t b.slot.bus))
+
+      above_then : is_some (found_by own) ≡ true → is_some (spared_above x s c (spared_within x s c 256) b (held_by x s c b e) j) ≡ true
       above_then =
           let with_k : ℕ → Spared = λ a. record { at = a; kept = k } in
           let with_j : ℕ → Spared = λ a. record { at = a; kept = j } in
-          let here = first_place (class_ranges q c b.slot.bus) (there_then q t k (window_space c) b.slot.bus) (held_by q t c b e) in
-          let there = first_place (class_ranges x c b.slot.bus) (there_then x s j (window_space c) b.slot.bus) (held_by x s c b e) in
-          either (is_root q.roots b.slot.bus) (option_map with_k here) (with_bridge (λ f. spared_within q t c 256 f (held_by q t c b e) k) (bridge_over t b.slot.bus))
-          (option_map with_j there) (with_bridge (λ f. spared_within x s c 256 f (held_by x s c b e) j) (bridge_over s b.slot.bus))
+          let here = first_place (class_ranges q c b.slot.bus) (own ++ taken_then q t k (window_space c) b.slot.bus) (held_by q t c b e) in
+          let there = first_place (class_ranges x c b.slot.bus) (own ++ taken_then x s j (window_space c) b.slot.bus) (held_by x s c b e) in
+          either (is_root q.roots b.slot.bus) (option_map with_k here) (with_bridge (λ f. spared_within q t c 256 f (held_by q t c b e) own k) (bridge_over t b.slot.bus))
+          (option_map with_j there) (with_bridge (λ f. spared_within x s c 256 f (held_by x s c b e) own j) (bridge_over s b.slot.bus))
           (λ is. some_map with_j there ∙ root_then (sym (some_map with_k here) ∙ is))
-          (over_then (λ f. spared_within q t c 256 f (held_by q t c b e) k) (λ f. spared_within x s c 256 f (held_by x s c b e) j) b.slot.bus rest)
+          (over_then (λ f. spared_within q t c 256 f (held_by q t c b e) own k) (λ f. spared_within x s c 256 f (held_by x s c b e) own j) b.slot.bus rest)
 
-      spared_then_at : (o : Option Range) → is_some (spared_if q t c (spared_within q t c 256) (now b) e k o) ≡ true → is_some (spared_if x s c (spared_within x s c 256) b e j o) ≡ true
+      spared_then_at : (o : Option Range) → is_some (spared_if q t c (spared_within q t c 256) (now b) e lines k o) ≡ true → is_some (spared_if x s c (spared_within x s c 256) b e lines j o) ≡ true
       spared_then_at (Some w) is = open_then w is
       spared_then_at None is =
           let may = has_window c b.probe && not (is_fixed_part q (window_part c b)) in
-          let parts = some_parts may (opened_at q t c (now b) e) (spared_above q t c (spared_within q t c 256) (now b) (held_by q t c b e) k) is in
-          some_from may (opened_at x s c b e) (spared_above x s c (spared_within x s c 256) b (held_by x s c b e) j) parts.0 (above_then parts.1)
+          let parts = some_parts may (opened_at q t c (now b) e) (found_by (lines_behind q (window_part c (now b)))) is in
+          some_from may (opened_at x s c b e) (spared_above x s c (spared_within x s c 256) b (held_by x s c b e) j) parts.0
+          (above_then (subst (λ ls. is_some (found_by ls) ≡ true) (behind_lines c b listed bridge) parts.1))
 
-    spared_then : (n : ℕ) (b : Function) → Contains s b → is_bridge b ≡ true → b.slot.bus < n → (e : Extent) → 0 < e.alignment → is_some (spared_within q t c 256 (now b) e k) ≡ true → is_some (spared_within x s c 256 b e j) ≡ true
-    spared_then zero b listed bridge low e aligned is = absurd (let no : ⊥ = omega (arith, low) in no)
-    spared_then (suc n) b listed bridge low e aligned is =
-        ap is_some (spared_by_bus x s c can.system can.nested b listed e j)
-        ∙ spared_then_at b listed bridge e aligned (λ f leads. (let below = lower x s c can.system can.nested e f b.slot.bus leads in spared_then n f leads.0 leads.1 (omega (arith, below, low)) (held_by x s c b e) aligned)) (range_then x s j (window_part c b))
-        (ap (λ o. is_some (spared_if q t c (spared_within q t c 256) (now b) e k o)) (sym (window_same c b listed bridge))
-        ∙ sym (ap is_some (spared_by_bus q t c system_now sound_now.nested (now b) (in_now b listed) e k)) ∙ is)
+    spared_then : (n : ℕ) (b : Function) → Contains s b → is_bridge b ≡ true → b.slot.bus < n → (e : Extent) → 0 < e.alignment → (lines : List Range) → is_some (spared_within q t c 256 (now b) e lines k) ≡ true → is_some (spared_within x s c 256 b e lines j) ≡ true
+    spared_then zero b listed bridge low e aligned lines is = absurd (let no : ⊥ = omega (arith, low) in no)
+    spared_then (suc n) b listed bridge low e aligned lines is =
+        ap is_some (spared_by_bus x s c can.system can.nested b listed e lines j)
+        ∙ spared_then_at b listed bridge e aligned lines (λ f leads. (let below = lower x s c can.system can.nested e f b.slot.bus leads in spared_then n f leads.0 leads.1 (omega (arith, below, low)) (held_by x s c b e) aligned (lines_behind q (window_part c b)))) (range_then x s j (window_part c b))
+        (ap (λ o. is_some (spared_if q t c (spared_within q t c 256) (now b) e lines k o)) (sym (window_same c b listed bridge))
+        ∙ sym (ap is_some (spared_by_bus q t c start.needs.system start.needs.nested (now b) (in_now b listed) e lines k)) ∙ is)
 
     -- The law: what had no room has none.
-    pub none_then : (b : Function) → Contains s b → is_bridge b ≡ true → (e : Extent) → 0 < e.alignment → is_some (spared_within x s c 256 b e j) ≡ false → is_some (spared_within q t c 256 (now b) e k) ≡ false
-    none_then b listed bridge e aligned none = false_from_ne_true (is_some (spared_within q t c 256 (now b) e k)) (λ some. both_ways (is_some (spared_within x s c 256 b e j)) none (spared_then (suc b.slot.bus) b listed bridge (omega arith) e aligned some))
+    pub none_then : (b : Function) → Contains s b → is_bridge b ≡ true → (e : Extent) → 0 < e.alignment → is_some (spared_behind x s c b e j) ≡ false → is_some (spared_behind q t c (now b) e k) ≡ false
+    none_then b listed bridge e aligned none = false_from_ne_true (is_some (spared_behind q t c (now b) e k)) (λ some.
+        both_ways (is_some (spared_behind x s c b e j)) none (spared_then (suc b.slot.bus) b listed bridge (omega arith) e aligned [] some))

@@ -17,7 +17,7 @@ use Rattle.settle_spec.specs.Parts.{FunctionPart, bridge_over}
 use Rattle.settle_spec.specs.Stands.{is_fixed_part, rank, is_in_lists, window_part}
 use Rattle.settle_spec.specs.Items.{highest_in}
 use Rattle.settle_spec.specs.Kept.{Kept, unwished}
-use Rattle.settle_spec.specs.Wishes.{range_then, there_then, with_window, with_bridge, ending_at, gained, end_over, can_end_at, with_room_above, ending_if, ending_within}
+use Rattle.settle_spec.specs.Wishes.{range_then, there_then, with_window, with_bridge, ending_at, gained, end_over, is_off_lines, can_end_at, with_room_above, ending_if, ending_within}
 use Rattle.settle_spec.proofs.BridgeOver.{over_leads}
 use Rattle.settle_spec.proofs.Nested.{one_bridge}
 use Rattle.settle_laws.specs.Keeping.PlacesLaws.{CanSettle}
@@ -126,15 +126,21 @@ module _ (q : Request) (s : System) (c : WindowKind) where
       v = ending_at w e
 
       module _ (may : can_end_at q s c b k w e ≡ true) (j : Kept) (room : HasRoom q s c k j b v) where
+        both : ((is_off_lines q s c b (gained w e) && not (is_fixed_part q r)) ≡ true) × ((nat_le e (highest_in c b.probe) && list_all (ranges_are_apart (gained w e)) (there_then q s k (window_space c) b.slot.bus)) ≡ true)
+        both = and_parts (is_off_lines q s c b (gained w e) && not (is_fixed_part q r)) (nat_le e (highest_in c b.probe) && list_all (ranges_are_apart (gained w e)) (there_then q s k (window_space c) b.slot.bus)) may
+
+        unfixed : (is_off_lines q s c b (gained w e) ≡ true) × (not (is_fixed_part q r) ≡ true)
+        unfixed = and_parts (is_off_lines q s c b (gained w e)) (not (is_fixed_part q r)) both.0
+
         parts : (not (is_fixed_part q r) ≡ true) × ((nat_le e (highest_in c b.probe) && list_all (ranges_are_apart (gained w e)) (there_then q s k (window_space c) b.slot.bus)) ≡ true)
-        parts = and_parts (not (is_fixed_part q r)) (nat_le e (highest_in c b.probe) && list_all (ranges_are_apart (gained w e)) (there_then q s k (window_space c) b.slot.bus)) may
+        parts = (unfixed.1, both.1)
 
         rest : (nat_le e (highest_in c b.probe) ≡ true) × (list_all (ranges_are_apart (gained w e)) (there_then q s k (window_space c) b.slot.bus) ≡ true)
         rest = and_parts (nat_le e (highest_in c b.probe)) (list_all (ranges_are_apart (gained w e)) (there_then q s k (window_space c) b.slot.bus)) parts.1
 
         can_then : CanSettle q s (with_window r v j)
         can_then = can_end_later q s c k can b listed bridge w ends last more (not-true (is_fixed_part q r) parts.0) (leb-true e (highest_in c b.probe) rest.0)
-            (λ t has. all_gives (ranges_are_apart (gained w e)) (there_then q s k (window_space c) b.slot.bus) t rest.1 has) j room
+            (λ t has. all_gives (ranges_are_apart (gained w e)) (there_then q s k (window_space c) b.slot.bus) t rest.1 has) unfixed.0 j room
 
         ended : IsEnded k (with_window r v j) b last
         ended = record { can = can_then; alike = room.alike; later = later; keeps = keeps; classes = classes_with q s c k j can.system room.classes b v listed bridge; window = window }
@@ -147,14 +153,14 @@ module _ (q : Request) (s : System) (c : WindowKind) where
 
             keeps : KeepsAll q s k (with_window r v j)
             keeps = keeps_wider q s c k can b listed bridge w ends last more (not-true (is_fixed_part q r) parts.0) (leb-true e (highest_in c b.probe) rest.0)
-                (λ t has. all_gives (ranges_are_apart (gained w e)) (there_then q s k (window_space c) b.slot.bus) t rest.1 has) j room
+                (λ t has. all_gives (ranges_are_apart (gained w e)) (there_then q s k (window_space c) b.slot.bus) t rest.1 has) unfixed.0 j room
 
             window : (u : Range) → range_then q s k r ≡ Some u → (n : ℕ) × (range_then q s (with_window r v j) r ≡ Some (ending_at u n)) × (last ≤ n) × (u.last ≤ n)
             window u other =
                 let is : Some w ≡ Some u = sym ends ∙ other in
                 let same : w ≡ u = cc in
                 let up = ends_over q s c k can b listed bridge w ends last more (not-true (is_fixed_part q r) parts.0) (leb-true e (highest_in c b.probe) rest.0)
-                (λ t has. all_gives (ranges_are_apart (gained w e)) (there_then q s k (window_space c) b.slot.bus) t rest.1 has) j room in
+                (λ t has. all_gives (ranges_are_apart (gained w e)) (there_then q s k (window_space c) b.slot.bus) t rest.1 has) unfixed.0 j room in
                 let at : w.last ≡ u.last = ap (λ (x : Range). x.last) same in
                 (e, fits_now ∙ ap (λ x. Some (ending_at x e)) same, up, omega (arith, up, at, more))
 

@@ -96,7 +96,7 @@ module _ (q : Request) (s : System) (spare : WindowKind → Function → Option 
       by None found = record { can = is.can; alike = is.alike }
       by (Some x) found =
           let of = fine c b e at in
-          let spared = is_spared q s c 256 g.kept is.can b listed of.bridge e of.spare x found in
+          let spared = is_spared q s c g.kept is.can b listed of.bridge e of.spare x found in
           record { can = spared.can; alike = spared.alike ∙ is.alike }
 
   pub wishes_of : (b : Function) → Contains s b → (g : Granted) → IsGranted g → IsGranted (with_spares_of q s spare b g)

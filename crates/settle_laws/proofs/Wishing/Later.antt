@@ -1,5 +1,5 @@
 -- How a wish changes the windows of its class: some end later, and some are opened.
-use Rattle.std.proofs.Common.{◌≡◌, ◌&&◌, ℕ, zero, suc, ◌<◌, inl, inr, Bool, true, false, cond, not, arith, refl, sym, ◌∙◌, ap, subst, Option, None, Some}
+use Rattle.std.proofs.Common.{◌≡◌, ◌&&◌, ℕ, zero, suc, ◌<◌, inl, inr, Bool, true, false, cond, not, arith, refl, sym, ◌∙◌, ap, subst, Option, None, Some, List, ◌++◌}
 use Rattle.std.specs.Bool.{nat_le}
 use Rattle.std.specs.List.{Contains}
 use Rattle.std.specs.Option.{is_some, option_map}
@@ -11,11 +11,12 @@ use Rattle.pci_spec.specs.Bus.{is_root, IsNested, LeadsTo}
 use Rattle.plan_spec.specs.Place.{range_from}
 use Rattle.plan_spec.proofs.Planning.Safe.{order_of}
 use Rattle.settle_spec.specs.FirstPlace.{Extent, first_place}
+use Rattle.settle_spec.specs.Lines.{lines_behind}
 use Rattle.settle_spec.specs.Lists.{Request, class_ranges}
 use Rattle.settle_spec.specs.Parts.{FunctionPart, bridge_over}
 use Rattle.settle_spec.specs.Stands.{is_fixed_part, rank, is_in_lists, window_part}
 use Rattle.settle_spec.specs.Kept.{Kept}
-use Rattle.settle_spec.specs.Wishes.{range_then, there_then, with_window, with_bridge, ending_at, end_over, can_end_at, with_room_above, ending_if, ending_within, spot_behind, Spared, held_by, opened_at, spared_if, spared_within}
+use Rattle.settle_spec.specs.Wishes.{range_then, taken_then, with_window, with_bridge, ending_at, end_over, can_end_at, with_room_above, ending_if, ending_within, Spared, spot_behind, held_by, opened_at, spared_if, spared_within}
 use Rattle.settle_spec.proofs.BridgeOver.{over_leads}
 use Rattle.settle_laws.proofs.Wishing.Added.{one_of_rank, range_with, range_without}
 use Rattle.settle_laws.proofs.Wishing.ByBus.{ending_by_bus, spared_by_bus}
@@ -34,8 +35,8 @@ module _ (q : Request) (s : System) (c : WindowKind) (system : IsSystem s) (nest
     Same : (same : range_then q s j (window_part c b) ≡ range_then q s k (window_part c b)) → Change k j b
     Longer : (w : Range) → (last : ℕ) → (before : range_then q s k (window_part c b) ≡ Some w) → (after : range_then q s j (window_part c b) ≡ Some (ending_at w (end_over c w last)))
         → (more : w.last < last) → (could : is_some (ending_within q s c 256 b last k) ≡ true) → Change k j b
-    Opened : (e : Extent) → (found : Spared) → (alike : AreAlike e spare) → (before : range_then q s k (window_part c b) ≡ None) → (after : range_then q s j (window_part c b) ≡ Some (range_from found.at e.size))
-        → (could : spared_within q s c 256 b e k ≡ Some found) → Change k j b
+    Opened : (e : Extent) → (lines : List Range) → (found : Spared) → (alike : AreAlike e spare) → (before : range_then q s k (window_part c b) ≡ None) → (after : range_then q s j (window_part c b) ≡ Some (range_from found.at e.size))
+        → (could : spared_within q s c 256 b e lines k ≡ Some found) → Change k j b
 
   abbrev pub Changes : Kept → Kept → Type 0
   Changes k j = (b : Function) → Contains s b → is_bridge b ≡ true → Change k j b
@@ -62,7 +63,7 @@ module _ (q : Request) (s : System) (c : WindowKind) (system : IsSystem s) (nest
       by : Change k i b → range_then q s (with_window (window_part c f) (ending_at w (end_over c w last)) i) (window_part c b) ≡ range_then q s i (window_part c b) → Change k (with_window (window_part c f) (ending_at w (end_over c w last)) i) b
       by (Same same) at = Same (at ∙ same)
       by (Longer u l before after more could) at = Longer u l before (at ∙ after) more could
-      by (Opened e found alike before after could) at = Opened e found alike before (at ∙ after) could
+      by (Opened e lines found alike before after could) at = Opened e lines found alike before (at ∙ after) could
 
   module _ (n : ℕ) (rest : (f : Function) → Contains s f → is_bridge f ≡ true → f.slot.bus < n → (last : ℕ) (k j : Kept) → ending_within q s c 256 f last k ≡ Some j → Changes k j)
       (f : Function) (in_f : Contains s f) (is_f : is_bridge f ≡ true) (less : f.slot.bus < suc n) (last : ℕ) (k j : Kept) (found : ending_within q s c 256 f last k ≡ Some j) where
@@ -104,23 +105,23 @@ module _ (q : Request) (s : System) (c : WindowKind) (system : IsSystem s) (nest
 
   -- ---- one that is opened
 
-  opened_for : (k i : Kept) → Changes k i → (f : Function) → Contains s f → is_bridge f ≡ true → (e : Extent) (found : Spared) → AreAlike e spare → range_then q s k (window_part c f) ≡ None → spared_within q s c 256 f e k ≡ Some found
+  opened_for : (k i : Kept) → Changes k i → (f : Function) → Contains s f → is_bridge f ≡ true → (e : Extent) (lines : List Range) (found : Spared) → AreAlike e spare → range_then q s k (window_part c f) ≡ None → spared_within q s c 256 f e lines k ≡ Some found
       → Changes k (with_window (window_part c f) (range_from found.at e.size) i)
-  opened_for k i above f in_f is_f e found alike none could b in_b is_b = elim (cases_eq (rank (window_part c b)) (rank (window_part c f))) [
+  opened_for k i above f in_f is_f e lines found alike none could b in_b is_b = elim (cases_eq (rank (window_part c b)) (rank (window_part c f))) [
     | inl same ↦
         let one = one_bridge_of b f in_b in_f is_b is_f same in
         let v = range_from found.at e.size in
-        subst (Change k (with_window (window_part c f) v i)) (sym one) (Opened e found alike none (range_with q s i (window_part c f) v) could)
+        subst (Change k (with_window (window_part c f) v i)) (sym one) (Opened e lines found alike none (range_with q s i (window_part c f) v) could)
     | inr differ ↦ by (above b in_b is_b) (range_without q s i (window_part c f) (range_from found.at e.size) (window_part c b) differ)
   ]
     where
       by : Change k i b → range_then q s (with_window (window_part c f) (range_from found.at e.size) i) (window_part c b) ≡ range_then q s i (window_part c b) → Change k (with_window (window_part c f) (range_from found.at e.size) i) b
       by (Same same) at = Same (at ∙ same)
       by (Longer u l before after more could) at = Longer u l before (at ∙ after) more could
-      by (Opened e found alike before after could) at = Opened e found alike before (at ∙ after) could
+      by (Opened e lines found alike before after could) at = Opened e lines found alike before (at ∙ after) could
 
-  module _ (n : ℕ) (rest : (f : Function) → Contains s f → is_bridge f ≡ true → f.slot.bus < n → (e : Extent) → AreAlike e spare → (k : Kept) (found : Spared) → spared_within q s c 256 f e k ≡ Some found → Changes k found.kept)
-      (f : Function) (in_f : Contains s f) (is_f : is_bridge f ≡ true) (less : f.slot.bus < suc n) (e : Extent) (alike : AreAlike e spare) (k : Kept) (found : Spared) (could : spared_within q s c 256 f e k ≡ Some found) where
+  module _ (n : ℕ) (rest : (f : Function) → Contains s f → is_bridge f ≡ true → f.slot.bus < n → (e : Extent) → AreAlike e spare → (lines : List Range) (k : Kept) (found : Spared) → spared_within q s c 256 f e lines k ≡ Some found → Changes k found.kept)
+      (f : Function) (in_f : Contains s f) (is_f : is_bridge f ≡ true) (less : f.slot.bus < suc n) (e : Extent) (alike : AreAlike e spare) (lines : List Range) (k : Kept) (found : Spared) (could : spared_within q s c 256 f e lines k ≡ Some found) where
     in_open : (a : ℕ) (x : Bool) (o : Option Kept) → ending_within q s c 256 f (range_from a e.size).last k ≡ o → cond x (option_map (λ kept. record { at = a; kept = kept }) o) None ≡ Some found → Changes k found.kept
     in_open a false o at is = absurd (let no : ⊥ = cc in no)
     in_open a true None at is = absurd (let no : ⊥ = cc in no)
@@ -129,11 +130,14 @@ module _ (q : Request) (s : System) (c : WindowKind) (system : IsSystem s) (nest
         let same : spared ≡ found = cc in
         subst (λ (x : Spared). Changes k x.kept) same (ended_changes (suc f.slot.bus) f in_f is_f (omega arith) (range_from a e.size).last k j at)
 
+    abbrev own_lines : List Range
+    own_lines = lines_behind q (window_part c f)
+
     module _ (none : range_then q s k (window_part c f) ≡ None) where
       made : (x : Spared) → Changes k x.kept → opened_at q s c f e x ≡ found → Changes k found.kept
       made x above same =
-          let could_so : spared_within q s c 256 f e k ≡ Some (opened_at q s c f e x) = could ∙ ap Some (sym same) in
-          subst (λ (y : Spared). Changes k y.kept) same (opened_for k x.kept above f in_f is_f e (opened_at q s c f e x) alike none could_so)
+          let could_so : spared_within q s c 256 f e lines k ≡ Some (opened_at q s c f e x) = could ∙ ap Some (sym same) in
+          subst (λ (y : Spared). Changes k y.kept) same (opened_for k x.kept above f in_f is_f e lines (opened_at q s c f e x) alike none could_so)
 
       on_root : (o : Option ℕ) → option_map (opened_at q s c f e) (option_map (λ at. record { at = at; kept = k }) o) ≡ Some found → Changes k found.kept
       on_root None is = absurd (let no : ⊥ = cc in no)
@@ -142,31 +146,31 @@ module _ (q : Request) (s : System) (c : WindowKind) (system : IsSystem s) (nest
           let same : opened_at q s c f e x ≡ found = cc in
           made x (λ b in_b is_b. Same refl) same
 
-      behind : (d : Function) → LeadsTo s d f.slot.bus → (o : Option Spared) → spared_within q s c 256 d (held_by q s c f e) k ≡ o → option_map (opened_at q s c f e) o ≡ Some found → Changes k found.kept
+      behind : (d : Function) → LeadsTo s d f.slot.bus → (o : Option Spared) → spared_within q s c 256 d (held_by q s c f e) own_lines k ≡ o → option_map (opened_at q s c f e) o ≡ Some found → Changes k found.kept
       behind d leads None at is = absurd (let no : ⊥ = cc in no)
       behind d leads (Some x) at is =
           let below = lower d f.slot.bus leads in
           let same : opened_at q s c f e x ≡ found = cc in
-          made x (rest d leads.0 leads.1 (omega (arith, below, less)) (held_by q s c f e) record { size = alike.size; alignment = alike.alignment } k x at) same
+          made x (rest d leads.0 leads.1 (omega (arith, below, less)) (held_by q s c f e) record { size = alike.size; alignment = alike.alignment } own_lines k x at) same
 
-      over_spared : (o : Option Function) → bridge_over s f.slot.bus ≡ o → option_map (opened_at q s c f e) (with_bridge (λ d. spared_within q s c 256 d (held_by q s c f e) k) o) ≡ Some found → Changes k found.kept
+      over_spared : (o : Option Function) → bridge_over s f.slot.bus ≡ o → option_map (opened_at q s c f e) (with_bridge (λ d. spared_within q s c 256 d (held_by q s c f e) own_lines k) o) ≡ Some found → Changes k found.kept
       over_spared None at is = absurd (let no : ⊥ = cc in no)
-      over_spared (Some d) at is = behind d (over_leads s f.slot.bus d at) (spared_within q s c 256 d (held_by q s c f e) k) refl is
+      over_spared (Some d) at is = behind d (over_leads s f.slot.bus d at) (spared_within q s c 256 d (held_by q s c f e) own_lines k) refl is
 
-      closed : (x y : Bool) → cond x (option_map (opened_at q s c f e) (cond y (option_map (λ at. record { at = at; kept = k }) (first_place (class_ranges q c f.slot.bus) (there_then q s k (window_space c) f.slot.bus) (held_by q s c f e)))
-          (with_bridge (λ d. spared_within q s c 256 d (held_by q s c f e) k) (bridge_over s f.slot.bus)))) None ≡ Some found → Changes k found.kept
+      closed : (x y : Bool) → cond x (option_map (opened_at q s c f e) (cond y (option_map (λ at. record { at = at; kept = k }) (first_place (class_ranges q c f.slot.bus) (own_lines ++ taken_then q s k (window_space c) f.slot.bus) (held_by q s c f e)))
+          (with_bridge (λ d. spared_within q s c 256 d (held_by q s c f e) own_lines k) (bridge_over s f.slot.bus)))) None ≡ Some found → Changes k found.kept
       closed false y is = absurd (let no : ⊥ = cc in no)
-      closed true true is = on_root (first_place (class_ranges q c f.slot.bus) (there_then q s k (window_space c) f.slot.bus) (held_by q s c f e)) is
+      closed true true is = on_root (first_place (class_ranges q c f.slot.bus) (own_lines ++ taken_then q s k (window_space c) f.slot.bus) (held_by q s c f e)) is
       closed true false is = over_spared (bridge_over s f.slot.bus) refl is
 
-    spared_by : (o : Option Range) → range_then q s k (window_part c f) ≡ o → spared_if q s c (spared_within q s c 256) f e k o ≡ Some found → Changes k found.kept
+    spared_by : (o : Option Range) → range_then q s k (window_part c f) ≡ o → spared_if q s c (spared_within q s c 256) f e lines k o ≡ Some found → Changes k found.kept
     spared_by None ends is = closed ends (has_window c f.probe && not (is_fixed_part q (window_part c f))) (is_root q.roots f.slot.bus) is
     spared_by (Some w) ends is =
-        let a = spot_behind q s c f e k w in
+        let a = spot_behind q s c f e lines k w in
         in_open a (nat_le (range_from a e.size).last e.highest) (ending_within q s c 256 f (range_from a e.size).last k) refl is
 
   -- so a wish that is granted changes the windows of its class
-  pub spared_changes : (n : ℕ) (f : Function) → Contains s f → is_bridge f ≡ true → f.slot.bus < n → (e : Extent) → AreAlike e spare → (k : Kept) (found : Spared) → spared_within q s c 256 f e k ≡ Some found → Changes k found.kept
-  spared_changes zero f in_f is_f less e alike k found could = absurd (let no : ⊥ = omega (arith, less) in no)
-  spared_changes (suc n) f in_f is_f less e alike k found could =
-      spared_by n (spared_changes n) f in_f is_f less e alike k found could (range_then q s k (window_part c f)) refl (sym (spared_by_bus q s c system nested f in_f e k) ∙ could)
+  pub spared_changes : (n : ℕ) (f : Function) → Contains s f → is_bridge f ≡ true → f.slot.bus < n → (e : Extent) → AreAlike e spare → (lines : List Range) (k : Kept) (found : Spared) → spared_within q s c 256 f e lines k ≡ Some found → Changes k found.kept
+  spared_changes zero f in_f is_f less e alike lines k found could = absurd (let no : ⊥ = omega (arith, less) in no)
+  spared_changes (suc n) f in_f is_f less e alike lines k found could =
+      spared_by n (spared_changes n) f in_f is_f less e alike lines k found could (range_then q s k (window_part c f)) refl (sym (spared_by_bus q s c system nested f in_f e lines k) ∙ could)

@@ -1,9 +1,10 @@
 -- What can end at an address can end before it, and what can once more is kept free could before.
-use Rattle.std.proofs.Common.{◌≡◌, ◌&&◌, ℕ, zero, suc, ◌+◌, ◌%◌, ◌<◌, ◌≤◌, inl, inr, [], Bool, true, false, cond, not, arith, refl, sym, ◌∙◌, ap, subst, Option, None, Some}
+use Rattle.std.proofs.Common.{◌≡◌, ◌&&◌, ℕ, zero, suc, ◌+◌, ◌%◌, ◌<◌, ◌≤◌, inl, inr, List, [], ◌++◌, Bool, true, false, cond, not, arith, refl, sym, ◌∙◌, ap, subst, Option, None, Some}
 use Rattle.std.specs.Bool.{nat_le, nat_lt}
 use Rattle.std.specs.List.{Contains, filter, flat_map, list_all}
 use Rattle.std.specs.Option.{is_some, option_map}
-use Rattle.std.proofs.lemmas.Bool.{and_from, and_parts, both_ways, cases_lt, false_from_ne_true, leb-true, le-leb, lt-ltb, or_cases, or_left, or_right}
+use Rattle.std.proofs.lemmas.Bool.{and_from, and_parts, both_ways, cases_lt, false_from_ne_true, leb-true, le-leb, lt-ltb, not-true, not_from_false, not_from_true, or_cases, or_left, or_right}
+use Rattle.std.proofs.lemmas.List.Elements.{Contains-append_cases, Contains-append_left, Contains-append_right}
 use Rattle.pci_spec.specs.Decoded.{Range}
 use Rattle.pci_spec.specs.Window.{WindowKind, IoWindow, MemoryWindow, PrefetchWindow, page_size}
 use Rattle.pci_spec.specs.System.{System, Function, Space, Io, Memory, Window, has_part, is_bridge, is_window, window_space}
@@ -13,6 +14,8 @@ use Rattle.pci_spec.proofs.Members.{in_nil, in_cons_cases, in_filter_to, IsInPie
 use Rattle.plan_spec.specs.Planning.Layout.{IsInside, LieApart}
 use Rattle.plan_spec.proofs.Planning.Behind.{Passes, all_gives, any_from, any_gives}
 use Rattle.settle_spec.specs.FirstPlace.{Extent, ranges_are_apart}
+use Rattle.given_spec.specs.ToldRegion.{ToldRegion, told_regions}
+use Rattle.settle_spec.specs.Lines.{line_range, can_keep_off, keeps_off, lines_on}
 use Rattle.settle_spec.specs.Lists.{Request, class_ranges}
 use Rattle.settle_spec.specs.Parts.{FunctionPart, bridge_over, are_same_space, lies_within}
 use Rattle.settle_spec.specs.Stands.{is_fixed_part, is_in_lists, is_listed, part_space, window_part}
@@ -20,7 +23,7 @@ use Rattle.settle_spec.specs.Items.{highest_in}
 use Rattle.settle_spec.specs.Growth.{range_list}
 use Rattle.settle_spec.specs.Kept.{Kept}
 use Rattle.settle_spec.specs.Registers.{changing}
-use Rattle.settle_spec.specs.Wishes.{range_then, there_then, with_window, with_bridge, ending_at, gained, end_over, can_end_at, with_room_above, ending_if, ending_within}
+use Rattle.settle_spec.specs.Wishes.{range_then, there_then, taken_then, with_window, with_bridge, ending_at, gained, end_over, can_end_at, with_room_above, ending_if, ending_within, is_off_lines}
 use Rattle.settle_spec.proofs.BridgeOver.{over_leads}
 use Rattle.settle_laws.specs.Keeping.PlacesLaws.{CanSettle}
 use Rattle.settle_laws.proofs.HeaderParts.{part_cases}
@@ -106,6 +109,69 @@ module _ (q : Request) (s : System) (k j : Kept) (next : CanSettle q s j) (keeps
       let u = keeps is.r is.listed is.there t is.ends in
       inside_apart g t u.0 u.2 (off u.0 (in_there q s j next space bus is.r u.0 is.listed is.there is.beside is.same u.1))
 
+  -- so it is with what lines hold, and more
+  pub off_taken : (space : Space) (bus : ℕ) (lines : List Range) (g : Range) → ((u : Range) → Contains (lines ++ taken_then q s j space bus) u → LieApart g u) → (t : Range) → Contains (lines ++ taken_then q s k space bus) t → LieApart g t
+  off_taken space bus lines g off t has =
+      let on = lines_on q space bus in
+      elim (Contains-append_cases lines (on ++ there_then q s k space bus) t has) [
+        | inl here ↦ off t (Contains-append_left lines (on ++ there_then q s j space bus) t here)
+        | inr more ↦ elim (Contains-append_cases on (there_then q s k space bus) t more) [
+          | inl line ↦ off t (Contains-append_right lines (on ++ there_then q s j space bus) t (Contains-append_left on (there_then q s j space bus) t line))
+          | inr there ↦ off_before space bus g t (λ u is. off u (Contains-append_right lines (on ++ there_then q s j space bus) u (Contains-append_right on (there_then q s j space bus) u is))) there
+        ]
+      ]
+
+-- ---- lines
+
+-- ranges that aren't apart share an address
+meets_from : (r t : Range) → ranges_are_apart r t ≡ false → (t.first ≤ r.last) × (r.first ≤ t.last)
+meets_from r t shares = (
+  elim (cases_lt r.last t.first) [ inl under ↦ absurd (both_ways (ranges_are_apart r t) shares (apart_so r t (inl under))) | inr from ↦ from ],
+  elim (cases_lt t.last r.first) [ inl over ↦ absurd (both_ways (ranges_are_apart r t) shares (apart_so r t (inr over))) | inr to ↦ to ],
+)
+
+meets : (r t : Range) → t.first ≤ r.last → r.first ≤ t.last → ranges_are_apart r t ≡ false
+meets r t from to = false_from_ne_true (ranges_are_apart r t) (λ apart. elim (lie_apart r t apart) [
+  | inl under ↦ (let no : ⊥ = omega (arith, under, from) in no)
+  | inr over ↦ (let no : ⊥ = omega (arith, over, to) in no)
+])
+
+module _ (q : Request) (s : System) (c : WindowKind) where
+  -- a line that keeps a window off a range isn't one that it is off
+  off_line : (b : Function) (r : Range) (x : ToldRegion) → Contains (told_regions q.told) x → can_keep_off q x b.slot (window_space c) ≡ true → is_off_lines q s c b r ≡ true → ranges_are_apart (line_range x) r ≡ false → ⊥
+  off_line b r x is_told may off shares =
+      both_ways (not (keeps_off q x b.slot (window_space c) r))
+      (not_from_true (keeps_off q x b.slot (window_space c) r) (and_from (can_keep_off q x b.slot (window_space c)) (not (ranges_are_apart (line_range x) r)) may (ap not shares)))
+      (all_gives (λ y. not (keeps_off q y b.slot (window_space c) r)) (told_regions q.told) x off is_told)
+
+  -- what a window gains is off lines where each of them that can keep it off misses that
+  off_by : (b : Function) (r : Range) → ((x : ToldRegion) → Contains (told_regions q.told) x → can_keep_off q x b.slot (window_space c) ≡ true → ranges_are_apart (line_range x) r ≡ false → ⊥) → is_off_lines q s c b r ≡ true
+  off_by b r none = all_from (λ x. not (keeps_off q x b.slot (window_space c) r)) (told_regions q.told) (λ x is_told.
+      not_from_false (keeps_off q x b.slot (window_space c) r) (false_from_ne_true (keeps_off q x b.slot (window_space c) r) (λ keeps.
+      let parts = and_parts (can_keep_off q x b.slot (window_space c)) (not (ranges_are_apart (line_range x) r)) keeps in
+      none x is_told parts.0 (not-true (ranges_are_apart (line_range x) r) parts.1))))
+
+  -- what it gains up to a lower address is off the same lines
+  pub lines_less : (b : Function) (w : Range) (e d : ℕ) → d ≤ e → is_off_lines q s c b (gained w e) ≡ true → is_off_lines q s c b (gained w d) ≡ true
+  lines_less b w e d le off = off_by b (gained w d) (λ x is_told may shares.
+      let at = meets_from (line_range x) (gained w d) shares in
+      let from = at.0 in
+      let to = at.1 in
+      off_line b (gained w e) x is_told may off (meets (line_range x) (gained w e) from (omega (arith, to, le))))
+
+  -- and so is what it gains in two steps
+  pub lines_between : ((x : ToldRegion) → Contains (told_regions q.told) x → x.told.first ≤ x.told.last) → (b : Function) (w : Range) (a e d : ℕ) → d ≤ e → is_off_lines q s c b (gained w a) ≡ true → is_off_lines q s c b (gained (ending_at w a) e) ≡ true
+      → is_off_lines q s c b (gained w d) ≡ true
+  lines_between forward b w a e d le first second = off_by b (gained w d) (λ x is_told may shares.
+      let at = meets_from (line_range x) (gained w d) shares in
+      let from = at.0 in
+      let to = at.1 in
+      let ahead = forward x is_told in
+      elim (cases_lt a x.told.first) [
+        | inr within_it ↦ off_line b (gained w a) x is_told may first (meets (line_range x) (gained w a) from (omega (arith, within_it)))
+        | inl beyond ↦ off_line b (gained (ending_at w a) e) x is_told may second (meets (line_range x) (gained (ending_at w a) e) (omega (arith, beyond, ahead)) (omega (arith, to, le)))
+      ])
+
 -- ---- one window
 
 some_first : (x : Bool) (k : Kept) (o : Option Kept) → x ≡ true → is_some (cond x (Some k) o) ≡ true
@@ -122,9 +188,10 @@ parts_some true f (Some i) so some = refl
 parts_some true f None so some = absurd (both_ways false refl some)
 parts_some false f o so some = absurd (both_ways false refl so)
 
-module _ (q : Request) (s : System) (c : WindowKind) where
+module _ (q : Request) (forward : (x : ToldRegion) → Contains (told_regions q.told) x → x.told.first ≤ x.told.last) (s : System) (c : WindowKind) where
   -- what is asked for a window to end at an address
   pub record CanEnd (k : Kept) (b : Function) (w : Range) (e : ℕ) : Type 0 where
+    pub off : is_off_lines q s c b (gained w e) ≡ true
     pub unfixed : not (is_fixed_part q (window_part c b)) ≡ true
     pub low : e ≤ highest_in c b.probe
     pub free : (t : Range) → Contains (there_then q s k (window_space c) b.slot.bus) t → LieApart (gained w e) t
@@ -133,14 +200,16 @@ module _ (q : Request) (s : System) (c : WindowKind) where
   can_gives : (k : Kept) (b : Function) (w : Range) (e : ℕ) → can_end_at q s c b k w e ≡ true → is_some (with_room_above q s c (ending_within q s c 256) b (ending_at w e) k) ≡ true → CanEnd k b w e
   can_gives k b w e may room =
       let there = there_then q s k (window_space c) b.slot.bus in
-      let parts = and_parts (not (is_fixed_part q (window_part c b))) (nat_le e (highest_in c b.probe) && list_all (ranges_are_apart (gained w e)) there) may in
+      let parts = and_parts (is_off_lines q s c b (gained w e) && not (is_fixed_part q (window_part c b))) (nat_le e (highest_in c b.probe) && list_all (ranges_are_apart (gained w e)) there) may in
+      let first = and_parts (is_off_lines q s c b (gained w e)) (not (is_fixed_part q (window_part c b))) parts.0 in
       let more = and_parts (nat_le e (highest_in c b.probe)) (list_all (ranges_are_apart (gained w e)) there) parts.1 in
-      record { unfixed = parts.0; low = leb-true e (highest_in c b.probe) more.0; free = λ t has. lie_apart (gained w e) t (all_gives (ranges_are_apart (gained w e)) there t more.1 has); room = room }
+      record { off = first.0; unfixed = first.1; low = leb-true e (highest_in c b.probe) more.0; free = λ t has. lie_apart (gained w e) t (all_gives (ranges_are_apart (gained w e)) there t more.1 has); room = room }
 
   can_from : (k : Kept) (b : Function) (w : Range) (e : ℕ) → CanEnd k b w e → can_end_at q s c b k w e ≡ true
   can_from k b w e is =
       let there = there_then q s k (window_space c) b.slot.bus in
-      and_from (not (is_fixed_part q (window_part c b))) (nat_le e (highest_in c b.probe) && list_all (ranges_are_apart (gained w e)) there) is.unfixed
+      and_from (is_off_lines q s c b (gained w e) && not (is_fixed_part q (window_part c b))) (nat_le e (highest_in c b.probe) && list_all (ranges_are_apart (gained w e)) there)
+      (and_from (is_off_lines q s c b (gained w e)) (not (is_fixed_part q (window_part c b))) is.off is.unfixed)
       (and_from (nat_le e (highest_in c b.probe)) (list_all (ranges_are_apart (gained w e)) there) (le-leb e (highest_in c b.probe) is.low)
       (all_from (ranges_are_apart (gained w e)) there (λ t has. apart_so (gained w e) t (is.free t has))))
 
@@ -200,6 +269,7 @@ module _ (q : Request) (s : System) (c : WindowKind) where
     can_less w e d le over is =
         let low = is.low in
         record {
+          off = lines_less q s c b w e d le is.off;
           unfixed = is.unfixed;
           low = omega (arith, low, le);
           free = λ t has. elim (is.free t has) [ inl under ↦ inl (omega (arith, under, le)) | inr above ↦ inr above ];
@@ -253,6 +323,7 @@ module _ (q : Request) (s : System) (c : WindowKind) where
               let e = end_over c w last in
               let now = end_gives j next b listed bridge w then last more is in
               end_from k can b listed bridge w ends last more record {
+                off = now.off;
                 unfixed = now.unfixed;
                 low = now.low;
                 free = λ t has. off_before q s k j next keeps (window_space c) b.slot.bus (gained w e) t now.free has;
@@ -279,6 +350,7 @@ module _ (q : Request) (s : System) (c : WindowKind) where
                     let up = end_grows c w last other (pages k can b listed bridge w ends) in
                     let low = now.low in
                     end_from k can b listed bridge w ends last further record {
+                      off = lines_between q s c forward b w a e d up first.off now.off;
                       unfixed = now.unfixed;
                       low = omega (arith, low, up);
                       free = λ t has.
@@ -303,4 +375,4 @@ module _ (q : Request) (s : System) (c : WindowKind) where
             let is_w : Some u ≡ Some w = sym before ∙ ends in
             let one : u ≡ w = cc in
             longer above other (after ∙ ap (λ x. Some (ending_at x (end_over c x other))) one) (subst (λ (x : Range). x.last < other) one more) could
-        by (Opened e found alike before after could) above = (let no_w : None ≡ Some w = sym before ∙ ends in absurd (let no : ⊥ = cc in no))
+        by (Opened e lines found alike before after could) above = (let no_w : None ≡ Some w = sym before ∙ ends in absurd (let no : ⊥ = cc in no))

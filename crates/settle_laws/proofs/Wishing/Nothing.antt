@@ -14,12 +14,9 @@ use Rattle.settle_spec.specs.Kept.{Kept, no_wish, unwished}
 use Rattle.settle_spec.specs.Keeping.Registers.{is_enabled_in, settled_command}
 use Rattle.settle_spec.specs.Growing.{settle_growing, finally_kept}
 use Rattle.settle_spec.specs.Sparing.{without_slots, is_settled, keep_alike, have_spares, placing_request}
-use Rattle.settle_spec.specs.SpareLaws.{kept_sparing, NothingGoesForSpares, SparesSetNoCommand}
-use Rattle.settle_laws.specs.GrowingLaws.{CanBeAsked}
+use Rattle.settle_spec.specs.SpareLaws.{kept_sparing, NothingGoesForSpares}
 use Rattle.settle_laws.proofs.Keeping.Wishless.{enabled_same}
 use Rattle.settle_laws.proofs.Wishing.Alike.{granted_alike}
-use Rattle.settle_laws.proofs.Wishing.Same.{command_alike, stays_alike}
-use Rattle.settle_laws.proofs.Wishing.Sparing.{can_finally}
 
 same_by : (x y : Bool) → beq x y ≡ true → x ≡ y
 same_by true true is = refl
@@ -65,18 +62,3 @@ wishes_set_none q s j k f alike =
 -- The law: what stays without slots stays with them.
 pub nothing_goes_for_spares : NothingGoesForSpares
 nothing_goes_for_spares = stays_still
-
--- The law: Command is that without slots.
-pub spares_set_no_command : SparesSetNoCommand
-spares_set_no_command q s f ask listed settled =
-    let w = without_slots q in
-    let may : CanBeAsked q s = record { high = ask.high; system = ask.system; nested = ask.nested; profile = ask.profile; chains = ask.chains } in
-    let asked : CanBeAsked w s = record { high = may.high; system = may.system; nested = may.nested; profile = may.profile; chains = may.chains } in
-    wishes_set_none (placing_request q s) s (kept_sparing q s) (finally_kept (placing_request q s) s) f (kept_alike q s)
-    ∙ cond_both (have_spares q s) q w (λ p. settled_command p s (finally_kept p s) f ≡ settled_command w s (finally_kept w s) f)
-    (λ spares.
-    let have = have_spares_gives q s spares in
-    let can = can_finally q s may have.settled in
-    let free = can_finally w s asked settled in
-    command_alike q s (finally_kept q s) (finally_kept w s) can free (stays_alike q s (finally_kept q s) (finally_kept w s) can free have.alike) f listed)
-    (λ none. refl)

@@ -241,7 +241,7 @@ module _ (q : Request) (s : System) (k j : Kept) (can : CanSettle q s k) (more :
     | inr cut ↦ or_right (has_moving q s k space f) (is_cut_off_in q s f space) cut
   ]
 
-  shut_alike : (space : Space) (f : Function) → Contains s f → is_shut q s j space f ≡ true → is_shut q s k space f ≡ true
+  pub shut_alike : (space : Space) (f : Function) → Contains s f → is_shut q s j space f ≡ true → is_shut q s k space f ≡ true
   shut_alike space f listed is = elim (or_cases (is_shut_itself q s j space f) (list_any (is_shut_itself q s j space) (bridges_above s f.slot.bus)) is) [
     | inl own ↦ or_left (is_shut_itself q s k space f) (list_any (is_shut_itself q s k space) (bridges_above s f.slot.bus)) (itself_alike space f listed own)
     | inr above ↦

@@ -1,8 +1,9 @@
 -- In the result a window has room for each spare that isn't denied, and what stays has all that it had.
-use Rattle.std.proofs.Common.{◌≡◌, ◌&&◌, ℕ, ◌<◌, inl, inr, List, [], ◌∷◌, Bool, true, false, cond, refl, sym, ◌∙◌, ap, subst, Option, None, Some}
+use Rattle.std.proofs.Common.{◌≡◌, ◌&&◌, ℕ, ◌<◌, inl, inr, List, [], ◌∷◌, ◌++◌, Bool, true, false, cond, refl, sym, ◌∙◌, ap, subst, Option, None, Some}
 use Rattle.std.specs.List.{Contains}
 use Rattle.std.specs.Option.{is_some}
 use Rattle.std.proofs.lemmas.Bool.{and_from, and_parts, both_ways, cond_both}
+use Rattle.std.proofs.lemmas.List.Elements.{Contains-append_cases}
 use Rattle.pci_spec.specs.Decoded.{Range}
 use Rattle.pci_spec.specs.Window.{WindowKind, has_window}
 use Rattle.pci_spec.specs.System.{System, Function, Part, Bar, Rom, Window, has_part, is_bridge, is_window, space_of, window_space}
@@ -13,24 +14,23 @@ use Rattle.plan_spec.specs.Place.{range_from}
 use Rattle.plan_spec.specs.Planning.Layout.{LieApart}
 use Rattle.plan_spec.proofs.Planning.Moved.{secondary_same}
 use Rattle.settle_spec.specs.FirstPlace.{Extent, is_place, first_place_in}
+use Rattle.settle_spec.specs.Lines.{lines_on}
 use Rattle.settle_spec.specs.Lists.{Request}
 use Rattle.settle_spec.specs.Parts.{FunctionPart, system_parts, is_part, addresses, are_same_space, lies_within}
 use Rattle.settle_spec.specs.Stands.{part_space, window_part}
 use Rattle.settle_spec.specs.Items.{spare_of}
 use Rattle.settle_spec.specs.Growth.{there_on}
-use Rattle.settle_spec.specs.Writes.{Settling, BadLists, Fixed, NoRoom, Settled}
 use Rattle.settle_spec.specs.Kept.{Kept}
 use Rattle.settle_spec.specs.Keeping.Registers.{settled, settled_function}
 use Rattle.settle_spec.specs.Growing.{finally_kept}
 use Rattle.settle_spec.specs.Wishes.{place_then, range_then}
-use Rattle.settle_spec.specs.Sparing.{without_slots, is_settled, have_spares, denied, placing_request, settle_wished, settle_sparing}
-use Rattle.settle_spec.specs.SpareLaws.{kept_sparing, has_room_for, result_sparing, result_of, SparesHaveRoom}
+use Rattle.settle_spec.specs.Sparing.{without_slots, have_spares, denied, placing_request}
+use Rattle.settle_spec.specs.SpareLaws.{kept_sparing, has_room_for, result_sparing, result_of}
 use Rattle.settle_spec.proofs.FirstPlace.{in_none}
 use Rattle.settle_spec.proofs.LastSpot.{place_from}
 use Rattle.settle_spec.proofs.Nested.{on_it}
-use Rattle.settle_laws.specs.GrowingLaws.{CanBeAsked}
-use Rattle.settle_laws.specs.SparingLaws.{SparingKeepsAll}
 use Rattle.settle_laws.specs.Keeping.PlacesLaws.{CanSettle}
+use Rattle.settle_laws.specs.ToldAgainLaws.{has_room_off}
 use Rattle.settle_laws.proofs.Alike.{space_alike}
 use Rattle.settle_laws.proofs.InLists.{within_from, within_gives}
 use Rattle.settle_laws.proofs.Kept.{one_space}
@@ -43,7 +43,6 @@ use Rattle.settle_laws.proofs.Keeping.InWindows.{kept_range}
 use Rattle.settle_laws.proofs.Keeping.Moves.{moves}
 use Rattle.settle_laws.proofs.Wishing.Added.{within}
 use Rattle.settle_laws.proofs.Wishing.Granted.{spare_is}
-use Rattle.settle_laws.proofs.Wishing.Sparing.{can_before, can_granted, placing_asked, settled_sparing_gives}
 use Rattle.settle_laws.proofs.Wishing.Spots.{HasSpot, spare_has_spot}
 
 -- ---- a spot is there in the result
@@ -103,65 +102,74 @@ module _ (q : Request) (s : System) (j : Kept) (can : CanSettle q s j) (c : Wind
       and_from (is_open (now b) c) (is_some (first_place_in (addresses (window_part c (now b))) taken e)) (ends_open q s j can b c listed bridge spot.v spot.ends)
       (ap (λ v. is_some (first_place_in v taken e)) shown ∙ found)
 
+  -- and off lines
+  pub room_off_there : has_room_off q t c (now b) e ≡ true
+  room_off_there =
+      and_from (is_open (now b) c) (is_some (first_place_in (addresses (window_part c (now b))) more e)) (ends_open q s j can b c listed bridge spot.v spot.ends)
+      (ap (λ v. is_some (first_place_in v more e)) shown ∙ found_off)
+    where
+      lines : List Range
+      lines = lines_on q (window_space c) (secondary (now b))
+
+      more : List Range
+      more = lines ++ taken
+
+      more_off : (u : Range) → Contains more u → LieApart (range_from spot.at e.size) u
+      more_off u has = elim (Contains-append_cases lines taken u has) [
+        | inl line ↦ spot.lines u (subst (λ n. Contains (lines_on q (window_space c) n) u) behind_same line)
+        | inr there ↦ all_off u there
+      ]
+
+      found_off : is_some (first_place_in spot.v more e) ≡ true
+      found_off = by (first_place_in spot.v more e) refl
+        where
+          by : (o : Option ℕ) → first_place_in spot.v more e ≡ o → is_some (first_place_in spot.v more e) ≡ true
+          by (Some a) is = ap is_some is
+          by None none = absurd (both_ways (is_place spot.v more e spot.at) (in_none spot.v more e aligned none spot.at)
+              (place_from spot.v more e spot.at record { multiple = spot.multiple; from = spot.inside.0; free = more_off; last = spot.inside.1; highest = spot.high }))
+
 -- ---- of a request
 
-module _ (q : Request) (s : System) (may : CanBeAsked q s) (settles : is_settled (settle_sparing q s) ≡ true) where
+-- what is kept in the end can be settled, without wishes and with them
+pub record CanAll (q : Request) (s : System) : Type 0 where
+  pub before : CanSettle (placing_request q s) s (finally_kept (placing_request q s) s)
+  pub then : CanSettle (placing_request q s) s (kept_sparing q s)
+
+module _ (q : Request) (s : System) (all : CanAll q s) where
   abbrev p : Request
   p = placing_request q s
 
   abbrev j : Kept
   j = kept_sparing q s
 
-  pub record CanAll : Type 0 where
-    pub before : CanSettle p s (finally_kept p s)
-    pub then : CanSettle p s j
-
-  pub can_all : CanAll
-  can_all = by (settle_wished q s) refl (settled_sparing_gives q s settles).0
-    where
-      by : (o : Settling) → settle_wished q s ≡ o → is_settled o ≡ true → CanAll
-      by (Settled writes) is settled = record { before = can_before p q s (placing_asked q s may) writes is; then = can_granted p q s (placing_asked q s may) writes is }
-      by BadLists is settled = absurd (both_ways false refl settled)
-      by (Fixed slot register) is settled = absurd (both_ways false refl settled)
-      by (NoRoom class slot register size alignment) is settled = absurd (both_ways false refl settled)
-
   pub has_room : (c : WindowKind) (b : Function) (e : Extent) → Contains s b → spare_of q c b ≡ Some e → has_window c b.probe ≡ true → (Contains (denied q s) (window_part c b) → ⊥)
       → has_room_for q (result_sparing q s) c (result_of q s b) e ≡ true
   has_room c b e listed spare there free =
       let of = spare_is q c b e spare in
-      let spot = spare_has_spot p q s (finally_kept p s) can_all.before c b listed e there spare free in
+      let spot = spare_has_spot p q s (finally_kept p s) all.before c b listed e there spare free in
       cond_both (have_spares q s) q (without_slots q) (λ r. has_room_for q (result_sparing q s) c (result_of q s b) e ≡ has_room_for r (result_sparing q s) c (result_of q s b) e) (λ spares. refl) (λ none. refl)
-      ∙ room_there p s j can_all.then c b listed of.bridge e of.spare.aligned spot
+      ∙ room_there p s j all.then c b listed of.bridge e of.spare.aligned spot
 
-  keeps_all : (r : FunctionPart) → Contains s r.function → has_part r.function r.part ≡ true → j.stays r ≡ true
+  pub keeps_all : (r : FunctionPart) → Contains s r.function → has_part r.function r.part ≡ true → j.stays r ≡ true
       → (w : Range) × (range_then p s j r ≡ Some w) × (lies_within (addresses r) w ≡ true) × (is_window r.part ≡ false → w ≡ addresses r)
   keeps_all r listed there keeps = by r.part refl (j.wished r) refl
     where
       own : (lies_within (addresses r) (j.range r) ≡ true)
-      own = can_all.then.sound.holds r
+      own = all.then.sound.holds r
 
       by : (o : Part) → r.part ≡ o → (n : Option Range) → j.wished r ≡ n → (w : Range) × (range_then p s j r ≡ Some w) × (lies_within (addresses r) w ≡ true) × (is_window r.part ≡ false → w ≡ addresses r)
-      by o at None none = (j.range r, unwished_end p s j r none ∙ kept_range p s j r keeps, own, λ plain. can_all.then.sound.plain r plain)
+      by o at None none = (j.range r, unwished_end p s j r none ∙ kept_range p s j r keeps, own, λ plain. all.then.sound.plain r plain)
       by (Window c) at (Some w) wished =
           let f = r.function in
           let same : r ≡ window_part c f = (λ i. record { function = f; part = at i }) in
-          let wish = can_all.then.sound.wished.windows c f w listed (ap (has_part f) (sym at) ∙ there) (ap j.wished (sym same) ∙ wished) in
+          let wish = all.then.sound.wished.windows c f w listed (ap (has_part f) (sym at) ∙ there) (ap j.wished (sym same) ∙ wished) in
           let holds = wish.holds (j.range r) (ap (place_then p s j) (sym same) ∙ kept_range p s j r keeps) in
           (w, wished_end p s j r w wished, within_from (addresses r) w (within (addresses r) (j.range r) w (within_gives (addresses r) (j.range r) own) holds), λ plain. absurd (both_ways (is_window r.part) plain (ap is_window at)))
       by (Bar n) at (Some w) wished = absurd (none_plain (ap is_window at) w wished)
         where
           none_plain : is_window r.part ≡ false → (w : Range) → j.wished r ≡ Some w → ⊥
-          none_plain plain w wished = (let is : None ≡ Some w = sym (can_all.then.sound.wished.plain r listed there plain) ∙ wished in let no : ⊥ = cc in no)
+          none_plain plain w wished = (let is : None ≡ Some w = sym (all.then.sound.wished.plain r listed there plain) ∙ wished in let no : ⊥ = cc in no)
       by Rom at (Some w) wished = absurd (none_plain (ap is_window at) w wished)
         where
           none_plain : is_window r.part ≡ false → (w : Range) → j.wished r ≡ Some w → ⊥
-          none_plain plain w wished = (let is : None ≡ Some w = sym (can_all.then.sound.wished.plain r listed there plain) ∙ wished in let no : ⊥ = cc in no)
-
--- The law: the spare behind a slot is denied, or its window has room for it.
-pub spares_have_room : SparesHaveRoom
-spares_have_room q s c b e may listed spare there free settles =
-    has_room q s record { high = may.high; system = may.system; nested = may.nested; profile = may.profile; chains = may.chains } settles c b e listed spare there free
-
--- The law: what stays has all that it had.
-pub sparing_keeps_all : SparingKeepsAll
-sparing_keeps_all q s f p may settles listed there keeps = keeps_all q s may settles record { function = f; part = p } listed there keeps
+          none_plain plain w wished = (let is : None ≡ Some w = sym (all.then.sound.wished.plain r listed there plain) ∙ wished in let no : ⊥ = cc in no)

@@ -25,6 +25,7 @@ use Rattle.settle_laws.proofs.Kept.{in_regions}
 use Rattle.settle_laws.proofs.Keeping.Kept.{stays_part}
 use Rattle.settle_laws.proofs.Keeping.PartPlaces.{new_place_is, part_placed, window_placed}
 use Rattle.settle_laws.proofs.Keeping.Shown.{IsChanging, can_change, changing_is, window_bridge}
+use Rattle.settle_laws.proofs.Told.Slots.{own_alike}
 
 -- tests that are alike on the members of a list
 pub any_alike : {X : Type 0} (f g : X → Bool) (xs : List X) → ((x : X) → Contains xs x → f x ≡ g x) → list_any f xs ≡ list_any g xs
@@ -95,9 +96,10 @@ module _ (q : Request) (s : System) (j k : Kept) (can : CanSettle q s j) (free :
       let got = got_alike space f listed in
       let behind = any_alike (λ g. g.slot.bus == secondary f && is_live_within q s j space depth g) (λ g. g.slot.bus == secondary f && is_live_within w s k space depth g) s
       (λ g in_g. ap (λ t. g.slot.bus == secondary f && t) (live_alike space depth g in_g)) in
+      let own : has_own q s space f ≡ has_own w s space f = sym (own_alike q [] s space f) in
       λ i. (not (are_same_space space Io && has_left q s f)
       && (is_space_on f space || got i || (is_bridge f && behind i)))
-      && (has_own q s space f || (is_bridge f && behind i))
+      && (own i || (is_bridge f && behind i))
 
   enabled_alike : (space : Space) (f : Function) → Contains s f → is_enabled_in q s j space f ≡ is_enabled_in w s k space f
   enabled_alike space f listed =

@@ -2,7 +2,7 @@
 use Rattle.std.proofs.Common.{◌≡◌, ◌≤◌, [], ◌∷◌, ◌++◌, Bool, true, false, cond, map, arith, refl, sym, ◌∙◌, ap, subst, Option, None, Some}
 use Rattle.std.specs.List.{AllPairs, Contains}
 use Rattle.std.specs.Option.{is_some}
-use Rattle.std.proofs.lemmas.Bool.{both_ways, cond_both}
+use Rattle.std.proofs.lemmas.Bool.{both_ways}
 use Rattle.std.proofs.lemmas.List.{map-append}
 use Rattle.pci_spec.specs.Window.{WindowKind, IoWindow, MemoryWindow, PrefetchWindow, has_window}
 use Rattle.pci_spec.specs.System.{System, Function}
@@ -16,22 +16,19 @@ use Rattle.settle_spec.specs.Kept.{Kept, growing}
 use Rattle.settle_spec.specs.Keeping.Registers.{settled_function}
 use Rattle.settle_spec.specs.Growing.{finally_kept}
 use Rattle.settle_spec.specs.Wishes.{Spared, spared_behind, Granted, or_denied, with_spare_of, with_spares_of, with_all_spares, granted}
-use Rattle.settle_spec.specs.Sparing.{without_slots, is_settled, have_spares, placing_request, granted_beside, denied, settle_sparing}
-use Rattle.settle_spec.specs.SpareLaws.{kept_sparing, has_room_for, result_sparing}
-use Rattle.settle_laws.specs.GrowingLaws.{CanBeAsked}
+use Rattle.settle_spec.specs.Sparing.{without_slots, placing_request, granted_beside, denied}
+use Rattle.settle_spec.specs.SpareLaws.{kept_sparing, result_sparing}
 use Rattle.settle_laws.specs.SparingLaws.{slot_and_register}
 use Rattle.settle_laws.specs.Keeping.PlacesLaws.{CanSettle}
 use Rattle.settle_laws.proofs.Pieces.{Lower, system_rises}
-use Rattle.settle_laws.proofs.Keeping.Moves.{new_system}
-use Rattle.settle_laws.proofs.Wishing.Again.{can, sound_then, stand_then, off_then, fine_then, found, spare_alike, none_there}
+use Rattle.settle_laws.proofs.Wishing.Again.{IsSettledSparing, start_then, forward_p, found, spare_alike, none_there, room_again}
 use Rattle.settle_laws.proofs.Wishing.Answered.{AreSpares, spares_are, left_after, left_behind, spot_stays, none_stays, lower_bus}
 use Rattle.settle_laws.proofs.Wishing.Granted.{IsGranted, spare_is, one_wish, all_wishes}
-use Rattle.settle_laws.proofs.Wishing.Room.{can_all, room_there}
-use Rattle.settle_laws.proofs.Wishing.Spare.{is_spared}
+use Rattle.settle_laws.proofs.Wishing.Spare.{is_spared_off}
 use Rattle.settle_laws.proofs.Wishing.Spots.{HasSpot, spared_spot}
 use Rattle.settle_laws.proofs.Wishing.Still.{finally_is, have}
 
-module _ (q : Request) (s : System) (may : CanBeAsked q s) (standing : q.anew ≡ false) (settles : is_settled (settle_sparing q s) ≡ true) where
+module _ (q : Request) (s : System) (so : IsSettledSparing q s) where
   abbrev p : Request
   p = placing_request q s
 
@@ -51,10 +48,10 @@ module _ (q : Request) (s : System) (may : CanBeAsked q s) (standing : q.anew �
   i = finally_kept p s
 
   base : CanSettle p s i
-  base = (can_all q s may settles).before
+  base = so.base
 
   ends : CanSettle p s j
-  ends = can q s may standing settles
+  ends = so.can
 
   are : AreSpares (spare_of q) (λ c. spare_extent c (wanted_in q.spares c) 0)
   are = spares_are q
@@ -74,26 +71,20 @@ module _ (q : Request) (s : System) (may : CanBeAsked q s) (standing : q.anew �
   lasts_after : (b : Function) → Contains s b → (d : WindowKind) (f : Function) → Contains s f → f.slot.bus ≤ b.slot.bus → (g : Granted) → Ok g → Lasts (with_spare_of p s d f (spare_of q d f) g) b → Lasts g b
   lasts_after b in_b d f in_f low g ok last = record {
     spot = λ c e at has. last.spot c e at
-        (left_after p s (spare_of q) like are i base b (λ x. HasSpot p s c x b e) (spot_stays p s (spare_of q) like are i base c b in_b e at) d f in_f low g ok has (spare_of q d f) refl);
+        (left_after p (forward_p q s so) s (spare_of q) like are i base b (λ x. HasSpot p s c x b e) (spot_stays p (forward_p q s so) s (spare_of q) like are i base c b in_b e at) d f in_f low g ok has (spare_of q d f) refl);
     none = λ c e at has. last.none c e at
-        (left_after p s (spare_of q) like are i base b (λ x. is_some (spared_behind p s c b e x) ≡ false) (none_stays p s (spare_of q) like are i base c b in_b e at) d f in_f low g ok has (spare_of q d f) refl);
+        (left_after p (forward_p q s so) s (spare_of q) like are i base b (λ x. is_some (spared_behind p s c b e x) ≡ false) (none_stays p (forward_p q s so) s (spare_of q) like are i base c b in_b e at) d f in_f low g ok has (spare_of q d f) refl);
   }
 
   lasts_behind : (b : Function) → Contains s b → (f : Function) → Contains s f → f.slot.bus ≤ b.slot.bus → (g : Granted) → Ok g → Lasts (with_spares_of p s (spare_of q) f g) b → Lasts g b
   lasts_behind b in_b f in_f low g ok last = record {
     spot = λ c e at has. last.spot c e at
-        (left_behind p s (spare_of q) like are i base b (λ x. HasSpot p s c x b e) (spot_stays p s (spare_of q) like are i base c b in_b e at) f in_f low g ok has);
+        (left_behind p (forward_p q s so) s (spare_of q) like are i base b (λ x. HasSpot p s c x b e) (spot_stays p (forward_p q s so) s (spare_of q) like are i base c b in_b e at) f in_f low g ok has);
     none = λ c e at has. last.none c e at
-        (left_behind p s (spare_of q) like are i base b (λ x. is_some (spared_behind p s c b e x) ≡ false) (none_stays p s (spare_of q) like are i base c b in_b e at) f in_f low g ok has);
+        (left_behind p (forward_p q s so) s (spare_of q) like are i base b (λ x. is_some (spared_behind p s c b e x) ≡ false) (none_stays p (forward_p q s so) s (spare_of q) like are i base c b in_b e at) f in_f low g ok has);
   }
 
   -- ---- and comes to the same when all is settled again
-
-  room_again : (c : WindowKind) (b : Function) (e : Extent) → Contains s b → spare_of q c b ≡ Some e → HasSpot p s c j b e → has_room_for q t c (now b) e ≡ true
-  room_again c b e listed spare spot =
-      let of = spare_is q c b e spare in
-      cond_both (have_spares q s) q (without_slots q) (λ r. has_room_for q t c (now b) e ≡ has_room_for r t c (now b) e) (λ spares. refl) (λ none. refl)
-      ∙ room_there p s j ends c b listed of.bridge e of.spare.aligned spot
 
   in_now : (b : Function) → Contains s b → Contains t (now b)
   in_now b listed = in_map_from now s b listed
@@ -101,8 +92,7 @@ module _ (q : Request) (s : System) (may : CanBeAsked q s) (standing : q.anew �
   found_again : (c : WindowKind) (b : Function) (e : Extent) → Contains s b → spare_of q c b ≡ Some e → HasSpot p s c j b e → (y : Spared) × (spared_behind q t c (now b) e k ≡ Some y) × (y.kept ≡ k)
   found_again c b e listed spare spot = (
     _,
-    found q t (new_system p s j ends) (sound_then q s may standing settles) (stand_then q s may standing settles) (off_then q s may standing settles) (fine_then q s may standing settles) c (now b) e (in_now b listed)
-        (spare_alike q s may standing settles c b listed ∙ spare) (room_again c b e listed spare spot),
+    found q t (start_then q s so) c (now b) e (in_now b listed) (spare_alike q s so c b listed ∙ spare) (room_again q s so c b e listed spare spot),
     refl,
   )
 
@@ -115,7 +105,7 @@ module _ (q : Request) (s : System) (may : CanBeAsked q s) (standing : q.anew �
     granted_same : (e : Extent) → spare_of q c b ≡ Some e → (y : Spared) → spared_behind p s c b e g.kept ≡ Some y → Lasts (record { kept = y.kept; denied = g.denied }) b → IsSame (record { kept = y.kept; denied = g.denied }) (or_denied (window_part c (now b)) h (spared_behind q t c (now b) e h.kept))
     granted_same e at y could last =
         let of = spare_is q c b e at in
-        let spot = last.spot c e at (spared_spot p s c g.kept y b e (is_spared p s c 256 g.kept ok.can b listed of.bridge e of.spare y could)) in
+        let spot = last.spot c e at (spared_spot p s c g.kept y b e [] (is_spared_off p s c g.kept ok.can b listed of.bridge e of.spare y could)) in
         let again = found_again c b e listed at spot in
         let is : spared_behind q t c (now b) e h.kept ≡ Some again.0 = ap (spared_behind q t c (now b) e) same.kept ∙ again.1 in
         subst (λ o. IsSame (record { kept = y.kept; denied = g.denied }) (or_denied (window_part c (now b)) h o)) (sym is) record { kept = again.2; denied = same.denied }
@@ -133,7 +123,7 @@ module _ (q : Request) (s : System) (may : CanBeAsked q s) (standing : q.anew �
     by_spared e at (Some y) could last = granted_same e at y could last
     by_spared e at None could last =
         let before : Lasts g b = record { spot = last.spot; none = last.none } in
-        let none = none_there q s may standing settles c b e listed at (before.none c e at (ap is_some could)) in
+        let none = none_there q s so c b e listed at (before.none c e at (ap is_some could)) in
         denied_same e at could before (spared_behind q t c (now b) e h.kept) (ap (λ x. is_some (spared_behind q t c (now b) e x)) same.kept ∙ none)
 
     by_window : (e : Extent) → spare_of q c b ≡ Some e → (there : Bool) → Lasts (cond there (or_denied (window_part c b) g (spared_behind p s c b e g.kept)) g) b
@@ -146,7 +136,7 @@ module _ (q : Request) (s : System) (may : CanBeAsked q s) (standing : q.anew �
     by_spare (Some e) at last = by_window e at (has_window c b.probe) last
 
     wish_same : Lasts (with_spare_of p s c b (spare_of q c b) g) b → IsSame (with_spare_of p s c b (spare_of q c b) g) (with_spare_of q t c (now b) (spare_of q c (now b)) h)
-    wish_same last = subst (λ o. IsSame (with_spare_of p s c b (spare_of q c b) g) (with_spare_of q t c (now b) o h)) (sym (spare_alike q s may standing settles c b listed)) (by_spare (spare_of q c b) refl last)
+    wish_same last = subst (λ o. IsSame (with_spare_of p s c b (spare_of q c b) g) (with_spare_of q t c (now b) o h)) (sym (spare_alike q s so c b listed)) (by_spare (spare_of q c b) refl last)
 
   wishes_same : (b : Function) → Contains s b → (g h : Granted) → Ok g → IsSame g h → Lasts (with_spares_of p s (spare_of q) b g) b → IsSame (with_spares_of p s (spare_of q) b g) (with_spares_of q t (spare_of q) (now b) h)
   wishes_same b listed g h ok same last =
@@ -176,7 +166,7 @@ module _ (q : Request) (s : System) (may : CanBeAsked q s) (standing : q.anew �
       let in_f = in_s f (in_head f more) in
       let in_more = λ (b : Function) (has : Contains more b). in_s b (in_tail f more b has) in
       let ok = ok_far more in_more in
-      let before = all_same more in_more (pairs_tail Lower f more rises) (λ b has. lasts_behind b (in_more b has) f in_f (lower_bus p s (spare_of q) like are i base f b in_f (in_more b has) (pairs_head Lower f more b rises has)) (so_far more) ok (last b (in_tail f more b has))) in
+      let before = all_same more in_more (pairs_tail Lower f more rises) (λ b has. lasts_behind b (in_more b has) f in_f (lower_bus p (forward_p q s so) s (spare_of q) like are i base f b in_f (in_more b has) (pairs_head Lower f more b rises has)) (so_far more) ok (last b (in_tail f more b has))) in
       wishes_same f in_f (so_far more) _ ok before (last f (in_head f more))
 
   in_end : (b : Function) → Contains s b → Lasts (so_far s) b
@@ -184,13 +174,8 @@ module _ (q : Request) (s : System) (may : CanBeAsked q s) (standing : q.anew �
 
   again_is : denied q t ≡ (granted q t (spare_of q) k).denied
   again_is =
-      let system = new_system p s j ends in
-      let sound = sound_then q s may standing settles in
-      let stand = stand_then q s may standing settles in
-      let off = off_then q s may standing settles in
-      let fine = fine_then q s may standing settles in
-      ap (λ x. (granted_beside q (cond x q (without_slots q)) t).denied) (have q t system sound stand off fine)
-      ∙ ap (λ x. (granted q t (spare_of q) x).denied) (finally_is q t system sound stand off fine)
+      ap (λ x. (granted_beside q (cond x q (without_slots q)) t).denied) (have q t (start_then q s so))
+      ∙ ap (λ x. (granted q t (spare_of q) x).denied) (finally_is q t (start_then q s so))
 
   -- the same spares are denied
   pub kept_deny_alike : map slot_and_register (denied q t) ≡ map slot_and_register (denied q s)

@@ -1,31 +1,29 @@
 -- What settling with room behind slots comes to is sound, and its writes can stop.
 use Rattle.std.proofs.Common.{◌≡◌, ℕ, ◌≤◌, ◌⊎◌, inl, inr, List, length, take, false, true, cond, refl, sym, ◌∙◌, ap, subst}
-use Rattle.std.specs.List.{Contains, count_by}
 use Rattle.std.proofs.lemmas.Bool.{both_ways, cond_both}
-use Rattle.pci_spec.specs.Slot.{same_slot}
-use Rattle.pci_spec.specs.System.{System, Function}
+use Rattle.pci_spec.specs.System.{System}
 use Rattle.pci_spec.specs.Machine.{Write, system_after}
 use Rattle.pci_spec.specs.Sound.{IsSound}
 use Rattle.settle_spec.specs.Lists.{Request, are_bad_lists}
 use Rattle.settle_spec.specs.Stands.{stands}
 use Rattle.settle_spec.specs.Items.{spare_of}
-use Rattle.settle_spec.specs.Writes.{Settling, BadLists, Fixed, NoRoom, Settled, fixed_without, fixed_write}
+use Rattle.settle_spec.specs.Writes.{Settling, BadLists, Fixed, NoRoom, Settled, fixed_without, fixed_write, NotKept}
 use Rattle.settle_spec.specs.Kept.{Kept, no_wish, as_it_stands, growing}
 use Rattle.settle_spec.specs.Keeping.Places.{lacking}
 use Rattle.settle_spec.specs.Keeping.Writes.{closings, settle_writes, settle_keeping}
 use Rattle.settle_spec.specs.Growing.{or_else, settle_growing, kept_by, finally_kept}
 use Rattle.settle_spec.specs.Wishes.{granted}
 use Rattle.settle_spec.specs.Sparing.{without_slots, is_settled, have_spares, placing_request, grants, settle_wished, settle_sparing}
-use Rattle.settle_laws.specs.WriteLaws.{most_settle_writes}
 use Rattle.settle_laws.specs.KeptLaws.{IsSoundKept}
 use Rattle.settle_laws.specs.GrowingLaws.{CanBeAsked}
-use Rattle.settle_laws.specs.SparingLaws.{SettledSparingIsSound, SettlingSparingCanStop, FewSparingWritesEach}
+use Rattle.settle_laws.specs.SparingLaws.{SettledSparingIsSound, SettlingSparingCanStop}
 use Rattle.settle_laws.specs.Keeping.PlacesLaws.{CanSettle}
-use Rattle.settle_laws.proofs.SettlingEnds.{IsEnd, ends, kept_sound, kept_stop, kept_few}
+use Rattle.settle_laws.proofs.SettlingEnds.{IsEnd, ends, kept_sound, kept_stop}
 use Rattle.settle_laws.proofs.SoundKept.{growing_is_sound, standing_is_sound}
 use Rattle.settle_laws.proofs.Keeping.Wishless.{lacking_same}
 use Rattle.settle_laws.proofs.Wishing.Alike.{granted_alike}
 use Rattle.settle_laws.proofs.Wishing.Granted.{all_granted}
+use Rattle.settle_laws.proofs.Untold.{settled_untold}
 
 -- ---- wishes beside what is kept in the end
 
@@ -44,6 +42,7 @@ module _ (q asked : Request) (s : System) (may : CanBeAsked q s) where
       by BadLists = standing_is_sound q s may.system may.nested may.profile
       by (Fixed slot register) = standing_is_sound q s may.system may.nested may.profile
       by (NoRoom class slot register size alignment) = standing_is_sound q s may.system may.nested may.profile
+      by (NotKept slot register) = standing_is_sound q s may.system may.nested may.profile
 
   -- what lacks room is the same without wishes
   pub lacks_alike : lacking q s j ≡ lacking q s k
@@ -51,7 +50,7 @@ module _ (q asked : Request) (s : System) (may : CanBeAsked q s) where
 
   module _ (writes : List Write) (settled : settle_keeping q s j ≡ Settled writes) where
     end : IsEnd (are_bad_lists q.roots q.lists) (fixed_without (stands q s) q s) (lacking q s j) (fixed_write q (settle_writes q s j)) (settle_writes q s j) writes
-    end = ends (are_bad_lists q.roots q.lists) (fixed_without (stands q s) q s) (fixed_without j.stays q s) (lacking q s j) (fixed_write q (settle_writes q s j)) (settle_writes q s j) writes settled
+    end = ends (are_bad_lists q.roots q.lists) (fixed_without (stands q s) q s) (fixed_without j.stays q s) (lacking q s j) (fixed_write q (settle_writes q s j)) (settle_writes q s j) writes (sym (settled_untold q may.untold s j) ∙ settled)
 
     pub can_before : CanSettle q s k
     can_before = record {
@@ -79,6 +78,7 @@ finally_settles q s = by (settle_keeping q s (growing q s)) refl
     by BadLists is = refl
     by (Fixed slot register) is = refl
     by (NoRoom class slot register size alignment) is = refl
+    by (NotKept slot register) is = refl
 
 -- what is settled so can be settled beside it
 pub can_finally : (q : Request) (s : System) → CanBeAsked q s → is_settled (settle_growing q s) ≡ true → CanSettle q s (finally_kept q s)
@@ -87,11 +87,12 @@ can_finally q s may settled = by (settle_growing q s) refl settled
     by : (o : Settling) → settle_growing q s ≡ o → is_settled o ≡ true → CanSettle q s (finally_kept q s)
     by (Settled writes) is settled =
         let k = finally_kept q s in
-        let end = ends (are_bad_lists q.roots q.lists) (fixed_without (stands q s) q s) (fixed_without k.stays q s) (lacking q s k) (fixed_write q (settle_writes q s k)) (settle_writes q s k) writes (finally_settles q s ∙ is) in
+        let end = ends (are_bad_lists q.roots q.lists) (fixed_without (stands q s) q s) (fixed_without k.stays q s) (lacking q s k) (fixed_write q (settle_writes q s k)) (settle_writes q s k) writes (sym (settled_untold q may.untold s k) ∙ finally_settles q s ∙ is) in
         record { lists = end.good; high = may.high; system = may.system; nested = may.nested; profile = may.profile; chains = may.chains; sound = finally_sound q q s may; room = end.room }
     by BadLists is settled = absurd (both_ways false refl settled)
     by (Fixed slot register) is settled = absurd (both_ways false refl settled)
     by (NoRoom class slot register size alignment) is settled = absurd (both_ways false refl settled)
+    by (NotKept slot register) is settled = absurd (both_ways false refl settled)
 
 -- ---- what is settled with slots
 
@@ -101,6 +102,7 @@ sparing_by (Settled own) wished writes is = (is, refl)
 sparing_by BadLists wished writes is = absurd (both_ways false refl (ap is_settled is))
 sparing_by (Fixed slot register) wished writes is = absurd (both_ways false refl (ap is_settled is))
 sparing_by (NoRoom class slot register size alignment) wished writes is = absurd (both_ways false refl (ap is_settled is))
+sparing_by (NotKept slot register) wished writes is = absurd (both_ways false refl (ap is_settled is))
 
 pub sparing_gives : (q : Request) (s : System) (writes : List Write) → settle_sparing q s ≡ Settled writes → (settle_wished q s ≡ Settled writes) × (is_settled (settle_growing (without_slots q) s) ≡ true)
 sparing_gives q s writes is = sparing_by (settle_growing (without_slots q) s) (settle_wished q s) writes is
@@ -110,6 +112,7 @@ settled_by (Settled own) wished is = (is, refl)
 settled_by BadLists wished is = absurd (both_ways false refl is)
 settled_by (Fixed slot register) wished is = absurd (both_ways false refl is)
 settled_by (NoRoom class slot register size alignment) wished is = absurd (both_ways false refl is)
+settled_by (NotKept slot register) wished is = absurd (both_ways false refl is)
 
 pub settled_sparing_gives : (q : Request) (s : System) → is_settled (settle_sparing q s) ≡ true → (is_settled (settle_wished q s) ≡ true) × (is_settled (settle_growing (without_slots q) s) ≡ true)
 settled_sparing_gives q s is = settled_by (settle_growing (without_slots q) s) (settle_wished q s) is
@@ -133,7 +136,7 @@ module _ (q : Request) (s : System) where
 
   pub placing_asked : CanBeAsked q s → CanBeAsked p s
   placing_asked may = cond_both (have_spares q s) q (without_slots q) (λ r. CanBeAsked r s) (λ spares. may)
-      (λ none. record { high = may.high; system = may.system; nested = may.nested; profile = may.profile; chains = may.chains })
+      (λ none. record { untold = may.untold; high = may.high; system = may.system; nested = may.nested; profile = may.profile; chains = may.chains })
 
   abbrev wished : Kept
   wished = (grants q s).kept
@@ -156,14 +159,8 @@ module _ (q : Request) (s : System) where
         (kept_stop p s asked wished can_sparing.sound writes n beside_wishes
         (elim from [ inl closed ↦ inl closed | inr sound ↦ inr (subst (λ roots. IsSound roots s) (sym placing_roots) sound) ]))
 
-    ends_few : (f : Function) → Contains s f → count_by (λ w. same_slot w.slot f.slot) writes ≤ most_settle_writes f
-    ends_few f listed = kept_few p s asked wished can_sparing.sound writes f listed beside_wishes
-
 pub settled_sparing_is_sound : SettledSparingIsSound
 settled_sparing_is_sound q s writes may settled = ends_sound q s may writes settled
 
 pub settling_sparing_can_stop : SettlingSparingCanStop
 settling_sparing_can_stop q s writes n may settled from = stops_sound q s may writes settled n from
-
-pub few_sparing_writes_each : FewSparingWritesEach
-few_sparing_writes_each q s writes may settled f listed = ends_few q s may writes settled f listed

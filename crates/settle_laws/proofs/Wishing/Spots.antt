@@ -1,5 +1,5 @@
 -- A spare that isn't denied has a spot behind its bridge, and later wishes leave it there.
-use Rattle.std.proofs.Common.{◌≡◌, ℕ, ◌%◌, ◌<◌, ◌≤◌, inl, inr, [], ◌∷◌, Bool, true, false, cond, arith, refl, sym, ◌∙◌, ap, subst, Option, None, Some}
+use Rattle.std.proofs.Common.{◌≡◌, ℕ, ◌%◌, ◌<◌, ◌≤◌, inl, inr, List, [], ◌∷◌, Bool, true, false, cond, arith, refl, sym, ◌∙◌, ap, subst, Option, None, Some}
 use Rattle.std.specs.List.{AllPairs, Contains}
 use Rattle.std.proofs.lemmas.Bool.{cond_both}
 use Rattle.std.proofs.lemmas.List.Elements.{Contains-append_left, Contains-append_right}
@@ -13,6 +13,7 @@ use Rattle.plan_spec.specs.Place.{range_from}
 use Rattle.plan_spec.specs.Planning.Layout.{IsInside, LieApart}
 use Rattle.plan_spec.proofs.Planning.Safe.{order_of, slots_of}
 use Rattle.settle_spec.specs.FirstPlace.{Extent}
+use Rattle.settle_spec.specs.Lines.{lines_on}
 use Rattle.settle_spec.specs.Lists.{Request}
 use Rattle.settle_spec.specs.Parts.{FunctionPart}
 use Rattle.settle_spec.specs.Stands.{part_space, window_part}
@@ -23,21 +24,22 @@ use Rattle.settle_laws.specs.Keeping.PlacesLaws.{CanSettle}
 use Rattle.settle_laws.proofs.Pieces.{Lower, system_rises}
 use Rattle.settle_laws.proofs.Wishing.Added.{one_of_rank, within}
 use Rattle.settle_laws.proofs.Wishing.Granted.{IsSpareOf, IsGranted, spare_is, one_wish, all_wishes}
-use Rattle.settle_laws.proofs.Wishing.Spare.{IsSpared, is_spared}
+use Rattle.settle_laws.proofs.Wishing.Spare.{IsSpared, IsSparedOff, is_spared, is_spared_off}
 
 module _ (q : Request) (s : System) where
-  -- a window has a spot for an extent, off all of its space that is there on the bus behind
+  -- a window has a spot for an extent, off all of its space that is there on the bus behind, and off lines there
   pub record HasSpot (c : WindowKind) (j : Kept) (b : Function) (e : Extent) : Type 0 where
     pub at : ℕ
     pub v : Range
     pub ends : range_then q s j (window_part c b) ≡ Some v
     pub inside : IsInside (range_from at e.size) v
     pub free : (r : FunctionPart) (t : Range) → Contains s r.function → has_part r.function r.part ≡ true → r.function.slot.bus ≡ secondary b → window_space c ≡ part_space r → range_then q s j r ≡ Some t → LieApart (range_from at e.size) t
+    pub lines : (t : Range) → Contains (lines_on q (window_space c) (secondary b)) t → LieApart (range_from at e.size) t
     pub multiple : at % e.alignment ≡ 0
     pub high : (range_from at e.size).last ≤ e.highest
 
-  pub spared_spot : (c : WindowKind) (k : Kept) (found : Spared) (b : Function) (e : Extent) → IsSpared q s c k found b e → HasSpot c found.kept b e
-  spared_spot c k found b e is = record { at = found.at; v = is.window.0; ends = is.window.1; inside = is.window.2; free = is.free; multiple = is.multiple; high = is.high }
+  pub spared_spot : (c : WindowKind) (k : Kept) (found : Spared) (b : Function) (e : Extent) (behind : List Range) → IsSparedOff q s c k found b e behind → HasSpot c found.kept b e
+  spared_spot c k found b e behind off = let is = off.spared in record { at = found.at; v = is.window.0; ends = is.window.1; inside = is.window.2; free = is.free; lines = off.lines; multiple = is.multiple; high = is.high }
 
   -- room on the same bus, or a lower one, leaves it
   pub spot_left : (c d : WindowKind) (k : Kept) → CanSettle q s k → (b f : Function) → Contains s b → is_bridge b ≡ true → Contains s f → is_bridge f ≡ true → f.slot.bus ≤ b.slot.bus
@@ -56,6 +58,7 @@ module _ (q : Request) (s : System) where
             let bus : r.function.slot.bus ≡ f.slot.bus = ap (λ (y : FunctionPart). y.function.slot.bus) one in
             let no : ⊥ = omega (arith, bus, on, low, up) in
             no)) ∙ ends);
+        lines = spot.lines;
         multiple = spot.multiple;
         high = spot.high;
       }
@@ -91,7 +94,7 @@ module _ (q : Request) (s : System) where
         by None found = spot
         by (Some y) found =
             let of = fine d f x at in
-            spot_left c d g.kept ok.can b f in_b is_b in_f of.bridge low e x y (is_spared q s d 256 g.kept ok.can f in_f of.bridge x of.spare y found) spot
+            spot_left c d g.kept ok.can b f in_b is_b in_f of.bridge low e x y (is_spared q s d g.kept ok.can f in_f of.bridge x of.spare y found) spot
 
     spot_behind_all : (c : WindowKind) (b f : Function) → Contains s b → is_bridge b ≡ true → Contains s f → f.slot.bus ≤ b.slot.bus → (e : Extent) (g : Granted) → Ok g → HasSpot c g.kept b e → HasSpot c (with_spares_of q s spare f g).kept b e
     spot_behind_all c b f in_b is_b in_f low e g ok spot =
@@ -117,7 +120,7 @@ module _ (q : Request) (s : System) where
         by None found true is free = absurd (free (Contains-append_right g.denied (window_part c b ∷ []) (window_part c b) (in_head (window_part c b) [])))
         by (Some y) found true is free =
             let of = fine c b x at in
-            spared_spot c g.kept y b x (is_spared q s c 256 g.kept ok.can b in_b of.bridge x of.spare y found)
+            spared_spot c g.kept y b x [] (is_spared_off q s c g.kept ok.can b in_b of.bridge x of.spare y found)
 
     spot_of : (c : WindowKind) (b : Function) → Contains s b → (e : Extent) (g : Granted) → Ok g → has_window c b.probe ≡ true → spare c b ≡ Some e → (Contains (with_spares_of q s spare b g).denied (window_part c b) → ⊥) → HasSpot c (with_spares_of q s spare b g).kept b e
     spot_of c b in_b e g ok there at free = by c there at free

@@ -1,8 +1,8 @@
 -- A window of a bridge gets room: what is beside it and above it, and that all is settled then.
-use Rattle.std.proofs.Common.{◌≡◌, ◌&&◌, ℕ, ◌+◌, ◌%◌, ◌≤◌, inl, inr, true, false, arith, sym, ◌∙◌, ap, subst, Some, ◌-◌}
+use Rattle.std.proofs.Common.{◌≡◌, ◌&&◌, ℕ, ◌+◌, ◌%◌, ◌≤◌, inl, inr, true, false, not, arith, sym, ◌∙◌, ap, subst, Some, ◌-◌}
 use Rattle.std.specs.Bool.{◌==◌}
 use Rattle.std.specs.List.{Contains}
-use Rattle.std.proofs.lemmas.Bool.{and_parts, cases_Bool, eqb-true, or_cases, cases_eq}
+use Rattle.std.proofs.lemmas.Bool.{and_parts, cases_Bool, eqb-true, not-true, not-false, or_cases, cases_eq}
 use Rattle.pci_spec.specs.Slot.{same_slot, slot_number}
 use Rattle.pci_spec.specs.Decoded.{Range}
 use Rattle.pci_spec.specs.Window.{WindowKind, IoWindow, MemoryWindow, PrefetchWindow, bounds_for, page_size}
@@ -11,8 +11,11 @@ use Rattle.pci_spec.specs.Bus.{are_siblings, is_root, LeadsTo}
 use Rattle.pci_spec.proofs.BusRanges.{root_means}
 use Rattle.plan_spec.specs.Plan.{raised_to}
 use Rattle.plan_spec.specs.Planning.Layout.{IsInside, LieApart, AreBeside, AreTwo}
+use Rattle.plan_spec.proofs.Planning.Behind.{all_gives}
 use Rattle.plan_spec.proofs.Planning.Room.{raised}
 use Rattle.plan_spec.proofs.Planning.Writes.{same_fields}
+use Rattle.given_spec.specs.ToldRegion.{ToldRegion, told_regions}
+use Rattle.settle_spec.specs.Lines.{line_range, can_keep_off, keeps_off}
 use Rattle.settle_spec.specs.FirstPlace.{ranges_are_apart}
 use Rattle.settle_spec.specs.Lists.{Request}
 use Rattle.settle_spec.specs.Parts.{FunctionPart, are_same_space}
@@ -21,10 +24,11 @@ use Rattle.settle_spec.specs.Items.{highest_in}
 use Rattle.settle_spec.specs.Reach.{raised_last}
 use Rattle.settle_spec.specs.GrowthLaws.{MoveOut}
 use Rattle.settle_spec.specs.Kept.{Kept, no_wish, unwished}
-use Rattle.settle_spec.specs.Wishes.{place_then, range_then, there_then, with_window, ending_at, gained, end_over}
+use Rattle.settle_spec.specs.Wishes.{place_then, range_then, there_then, with_window, ending_at, gained, end_over, is_off_lines}
 use Rattle.settle_spec.proofs.Grown.{no_lower, some_page}
 use Rattle.settle_laws.specs.KeptLaws.{IsWishedWindow}
 use Rattle.settle_laws.specs.Keeping.PlacesLaws.{CanSettle}
+use Rattle.settle_laws.proofs.Held.{and_second_false}
 use Rattle.settle_laws.proofs.Kept.{lie_apart, one_space}
 use Rattle.settle_laws.proofs.LowWindows.{last_whole}
 use Rattle.settle_laws.proofs.Keeping.ClosedMoves.{further_out}
@@ -138,7 +142,7 @@ module _ (q : Request) (s : System) (c : WindowKind) (k : Kept) (can : CanSettle
 
   module _ (last : ℕ) (more : w.last ≤ last) (unfixed : is_fixed_part q (window_part c b) ≡ false) (low : end_over c w last ≤ highest_in c b.probe)
       (free : (t : Range) → Contains (there_then q s k (window_space c) b.slot.bus) t → ranges_are_apart (gained w (end_over c w last)) t ≡ true)
-      (j : Kept) (room : HasRoom q s c k j b (ending_at w (end_over c w last))) where
+      (lines : is_off_lines q s c b (gained w (end_over c w last)) ≡ true) (j : Kept) (room : HasRoom q s c k j b (ending_at w (end_over c w last))) where
     abbrev v : Range
     v = ending_at w (end_over c w last)
 
@@ -168,6 +172,20 @@ module _ (q : Request) (s : System) (c : WindowKind) (k : Kept) (can : CanSettle
           ]
         ]
 
+    -- and so it is with lines
+    off_lines : (x : ToldRegion) → Contains (told_regions q.told) x → can_keep_off q x b.slot (window_space c) ≡ true → x.told.first ≤ x.told.last
+        → ((t : Range) → place_then q s j r ≡ Some t → LieApart t (line_range x)) → LieApart v (line_range x)
+    off_lines x told can_be forward placed =
+        let kept = all_gives (λ x. not (keeps_off q x b.slot (window_space c) (gained w (end_over c w last)))) (told_regions q.told) x lines told in
+        let apart = and_second_false (can_keep_off q x b.slot (window_space c)) (not (ranges_are_apart (line_range x) (gained w (end_over c w last)))) can_be (not-true (keeps_off q x b.slot (window_space c) (gained w (end_over c w last))) kept) in
+        elim (is.off x told can_be forward (λ t at. placed t (places_alike q s k j room.alike r ∙ at))) [
+          | inr above ↦ inr above
+          | inl under ↦ elim (lie_apart (line_range x) (gained w (end_over c w last)) (not-false (ranges_are_apart (line_range x) (gained w (end_over c w last))) apart)) [
+            | inl over ↦ absurd (let no : ⊥ = omega (arith, under, over, forward) in no)
+            | inr past ↦ inl past
+          ]
+        ]
+
     fits : IsWishedWindow q s j c b v
     fits = record {
       there = is.there;
@@ -179,6 +197,7 @@ module _ (q : Request) (s : System) (c : WindowKind) (k : Kept) (can : CanSettle
       holds = λ t placed. within t w v (is.holds t (place_before t placed)) inside;
       outward = λ t placed n. further_out (bounds_for c n t.first t.last) (bounds_for c n w.first w.last) (bounds_for c n v.first v.last) (is.outward t (place_before t placed) n) (over.out more n);
       apart = apart;
+      off = off_lines;
       lists = room.lists;
       over = room.over;
     }

@@ -4,11 +4,13 @@ use Rattle.std.specs.List.{Contains, filter, flat_map}
 use Rattle.std.proofs.lemmas.Bool.{and_parts, and_from, cases_Bool, or_left, or_right}
 use Rattle.pci_spec.specs.Decoded.{Range}
 use Rattle.pci_spec.specs.Window.{WindowKind, bounds_for, has_window, is_closed, page_size}
-use Rattle.pci_spec.specs.System.{System, Function, Space, Part, Bar, Rom, Window, has_part, is_bridge, is_implemented, is_window}
+use Rattle.pci_spec.specs.System.{System, Function, Space, Part, Bar, Rom, Window, has_part, is_bridge, is_implemented, is_window, window_space}
 use Rattle.pci_spec.specs.Bus.{are_siblings}
 use Rattle.pci_spec.proofs.Members.{in_head, in_filter_from, in_flat_map_from}
-use Rattle.plan_spec.specs.Planning.Layout.{IsInside}
+use Rattle.plan_spec.specs.Planning.Layout.{IsInside, LieApart}
 use Rattle.plan_spec.proofs.Planning.Placement.{mod_of_multiple, multiple_of_mod, multiple_add}
+use Rattle.given_spec.specs.ToldRegion.{ToldRegion, told_regions}
+use Rattle.settle_spec.specs.Lines.{line_range, can_keep_off}
 use Rattle.settle_spec.specs.Lists.{Request}
 use Rattle.settle_spec.specs.Parts.{FunctionPart, addresses, is_part, are_same_space}
 use Rattle.settle_spec.specs.Stands.{part_space, window_part}
@@ -41,6 +43,8 @@ module _ (q : Request) (s : System) (k : Kept) (can : CanSettle q s k) where
     pub low : w.last ≤ highest_in c b.probe
     pub holds : (t : Range) → place_then q s k (window_part c b) ≡ Some t → IsInside t w
     pub outward : (t : Range) → place_then q s k (window_part c b) ≡ Some t → (n : ℕ) → MoveOut (bounds_for c n t.first t.last) (bounds_for c n w.first w.last)
+    pub off : (x : ToldRegion) → Contains (told_regions q.told) x → can_keep_off q x b.slot (window_space c) ≡ true → x.told.first ≤ x.told.last
+        → ((t : Range) → place_then q s k (window_part c b) ≡ Some t → LieApart t (line_range x)) → LieApart w (line_range x)
 
   module _ (c : WindowKind) (b : Function) (listed : Contains s b) (bridge : is_bridge b ≡ true) where
     abbrev r : FunctionPart
@@ -67,6 +71,7 @@ module _ (q : Request) (s : System) (k : Kept) (can : CanSettle q s k) where
           low = grown.low;
           holds = λ t other. same_in (k.range r) t (itself (k.range r) placed t other);
           outward = λ t other. same_out (k.range r) t (itself (k.range r) placed t other);
+          off = λ x told can_be forward off. off (k.range r) placed;
         }
 
     new_end : (x : Placed) → new_place q s k r ≡ Some x → place_then q s k r ≡ Some (taken_by x.item x.at) → IsWindowEnd c b (taken_by x.item x.at)
@@ -84,6 +89,7 @@ module _ (q : Request) (s : System) (k : Kept) (can : CanSettle q s k) where
           low = window_low q s k can b listed (was q s k can b listed) (decodable q s k can b listed) c x (place_is q s k can b listed (Window c) (is_part_of b (Window c) bridge) x shown);
           holds = λ t other. same_in w t (itself w placed t other);
           outward = λ t other. same_out w t (itself w placed t other);
+          off = λ x told can_be forward off. off w placed;
         }
 
     placed_end : (w : Range) → place_then q s k r ≡ Some w → IsWindowEnd c b w
@@ -107,7 +113,7 @@ module _ (q : Request) (s : System) (k : Kept) (can : CanSettle q s k) where
             let wish = can.sound.wished.windows c b x listed bridge e in
             let is : Some x ≡ Some w = sym (wished_end q s k r x e) ∙ ends in
             let same : x ≡ w = cc in
-            subst (IsWindowEnd c b) same record { there = wish.there; forward = wish.forward; first = wish.first; last = wish.last; low = wish.low; holds = wish.holds; outward = wish.outward }
+            subst (IsWindowEnd c b) same record { there = wish.there; forward = wish.forward; first = wish.first; last = wish.last; low = wish.low; holds = wish.holds; outward = wish.outward; off = wish.off }
 
   -- ---- any part that ends somewhere
 

@@ -14,10 +14,10 @@ use Rattle.settle_spec.specs.SpareLaws.{kept_sparing, result_sparing}
 use Rattle.settle_laws.specs.GrowingLaws.{CanBeAsked}
 use Rattle.settle_laws.specs.SparingLaws.{sparing_closings}
 use Rattle.settle_laws.specs.Keeping.PlacesLaws.{CanSettle}
+use Rattle.settle_laws.proofs.Told.Wished.{can_all, settled_by_writes, told_spares_refuse_no_more}
+use Rattle.settle_laws.proofs.Wishing.Refused.{admitted_of}
 use Rattle.settle_laws.proofs.Keeping.SettledSound.{settled_sound}
 use Rattle.settle_laws.proofs.Keeping.Stopping.{writes_fit, writes_settle}
-use Rattle.settle_laws.proofs.Wishing.Refused.{settled_by_writes, spares_refuse_no_more}
-use Rattle.settle_laws.proofs.Wishing.Room.{can_all}
 use Rattle.settle_laws.proofs.Wishing.Sparing.{placing_roots, settled_sparing_gives, settling_sparing_can_stop, sparing_is_wished}
 
 pub record IsWritten (q : Request) (s : System) : Type 0 where
@@ -34,7 +34,7 @@ settled_is_written q s may settles =
     let p = placing_request q s in
     let j = kept_sparing q s in
     let both = settled_sparing_gives q s settles in
-    let can : CanSettle p s j = (can_all q s may settles).then in
+    let can : CanSettle p s j = (can_all q s (admitted_of q s may) settles).then in
     let is : settle_sparing q s ≡ Settled (settle_writes p s j) = sparing_is_wished q s both.1 ∙ settled_by_writes p s j both.0 in
     record {
       can = can;
@@ -47,4 +47,4 @@ settled_is_written q s may settles =
 
 -- so it is where it is settled without slots
 pub written_beside : (q : Request) (s : System) → CanBeAsked q s → is_settled (settle_growing (without_slots q) s) ≡ true → IsWritten q s
-written_beside q s may alone = settled_is_written q s may (spares_refuse_no_more q s may alone)
+written_beside q s may alone = settled_is_written q s may (told_spares_refuse_no_more q s (admitted_of q s may) alone)

@@ -2,9 +2,10 @@
 use Rattle.std.specs.Prelude.{◌≡◌, ℕ, ◌<◌, IsTrue}
 use Rattle.pci_spec.specs.System.{System, IsSystem, Space}
 use Rattle.pci_spec.specs.Bus.{is_root, IsNested}
+use Rattle.settle_spec.specs.Items.{place_each}
+use Rattle.settle_spec.specs.Lines.{taken_for}
 use Rattle.settle_spec.specs.Lists.{Request}
 use Rattle.settle_spec.specs.Places.{placed_of}
-use Rattle.settle_spec.specs.Growth.{place_each}
 use Rattle.settle_spec.specs.Kept.{Kept}
 use Rattle.settle_spec.specs.Keeping.Places.{place_of_item, space_items, taken_at, placing_on}
 
@@ -14,7 +15,7 @@ PlacingIsByBus =
     (q : Request) (s : System) (k : Kept) (space : Space) (bus : ℕ) → IsSystem s → IsNested q.roots s
     → bus < 256
     → placing_on q s k space bus
-    ≡ place_each (place_of_item q s k (λ over. placed_of (placing_on q s k space over)))
+    ≡ place_each (λ i taken. place_of_item q s k (λ over. placed_of (placing_on q s k space over)) i (taken_for q i.region taken))
     (taken_at q s k space bus) (space_items q s k space bus)
 
 -- On each root the same is placed at the same places.

@@ -14,8 +14,8 @@ pub returns-clause-place : goal.returns-clause-place
 returns-clause-place c = λ q s system sound gaps rest. lies_in_place q s system sound gaps rest
 
 pub returns-clause-settled : goal.returns-clause-settled
-returns-clause-settled c = λ q s system sound gaps rest apart left kept fine.
+returns-clause-settled c = λ q untold s system sound gaps rest apart left kept fine.
     let place = lies_in_place q s system sound gaps rest in
     let plain = sound_without q s system place left sound in
-    let stand = placed_stand q s system plain place apart kept in
-    (nothing_settled q s system plain stand left fine, nothing_grows q s system plain stand left fine)
+    let stand = placed_stand q s system plain place apart untold kept in
+    (nothing_settled q untold s system plain stand left fine, nothing_grows q untold s system plain stand left fine)

@@ -8,13 +8,13 @@ use Rattle.std.specs.List.{Contains}
 use Rattle.std.proofs.Common.{◌≡◌, true, false}
 
 pub returns-clause-stands : goal.returns-clause-stands
-returns-clause-stands c = λ q t pools system sound laid good has r listed. all_stand q t pools system sound laid has good r listed
+returns-clause-stands c = λ q untold t pools system sound laid good has r listed. all_stand q t pools system sound laid has good untold r listed
 
 pub returns-clause-left : goal.returns-clause-left
 returns-clause-left c = λ q t pools system sound laid has f listed. leaves_nothing q t pools system sound laid has f listed
 
 pub returns-clause-settled : goal.returns-clause-settled
-returns-clause-settled c = λ q t pools system sound laid good has fine.
-    let stand = all_stand q t pools system sound laid has good in
+returns-clause-settled c = λ q untold t pools system sound laid good has fine.
+    let stand = all_stand q t pools system sound laid has good untold in
     let off : (f : Function) → Contains t f → has_left q t f ≡ true → is_space_on f Io ≡ false = λ f listed left. absurd (both_ways (has_left q t f) (leaves_nothing q t pools system sound laid has f listed) left) in
-    (nothing_settled q t system sound stand off fine, nothing_grows q t system sound stand off fine)
+    (nothing_settled q untold t system sound stand off fine, nothing_grows q untold t system sound stand off fine)

@@ -6,7 +6,7 @@ pub returns-clause-planned : goal.returns-clause-planned
 returns-clause-planned c = planned_is_standing
 
 pub returns-clause-settled : goal.returns-clause-settled
-returns-clause-settled c = λ q s k fixed can. settled_is_standing q s k can fixed
+returns-clause-settled c = λ q untold s k fixed can. settled_is_standing q untold s k can fixed
 
 pub returns-clause-again : goal.returns-clause-again
-returns-clause-again c = λ q s k fixed can. settled_anew_is_settled q s k can fixed
+returns-clause-again c = λ q untold s k fixed can. settled_anew_is_settled q untold s k can fixed

@@ -10,6 +10,6 @@ pub returns-clause-uncut : goal.returns-clause-uncut
 returns-clause-uncut c = sound_is_uncut
 
 pub returns-clause-settled : goal.returns-clause-settled
-returns-clause-settled c = λ q s is uncut fine.
+returns-clause-settled c = λ q untold s is uncut fine.
     let sound = standing_sound q s is uncut in
-    (nothing_settled q s is.system sound is.stand uncut.left fine, nothing_grows q s is.system sound is.stand uncut.left fine)
+    (nothing_settled q untold s is.system sound is.stand uncut.left fine, nothing_grows q untold s is.system sound is.stand uncut.left fine)

@@ -9,7 +9,7 @@ pub returns-clause-again : goal.returns-clause-again
 returns-clause-again c = can_again
 
 pub returns-clause-stay : goal.returns-clause-stay
-returns-clause-stay c = λ q s k can kept r listed. all_stay q (settled q s k) (new_system q s k can) (new_nested q s k can) (all_stand q s k can kept) r listed
+returns-clause-stay c = λ q untold s k can kept r listed. all_stay q (settled q s k) (new_system q s k can) (new_nested q s k can) (all_stand q untold s k can kept) r listed
 
 pub returns-clause-same : goal.returns-clause-same
 returns-clause-same c = ends_stay

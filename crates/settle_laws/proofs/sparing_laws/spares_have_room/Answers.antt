@@ -1,5 +1,5 @@
 use Rattle.settle_laws.proofs.Wishing.Answered.{spares_are_answered}
-use Rattle.settle_laws.proofs.Wishing.Room.{spares_have_room as have_room}
+use Rattle.settle_laws.proofs.Wishing.Refused.{spares_have_room as have_room}
 use Rattle.settle_laws.proofs.sparing_laws.spares_have_room.Goals as goal
 
 pub returns-clause-room : goal.returns-clause-room
