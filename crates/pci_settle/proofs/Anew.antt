@@ -1,4 +1,4 @@
--- Where all is placed anew, nothing stays.
+-- Where all is placed anew and nothing is told, nothing stays.
 use Rattle.std.proofs.Common.{◌≡◌, ◌||◌, ℕ, [], None, cond, ap, sym, ◌∙◌}
 use Rattle.std.specs.Bool.{IsTrue}
 use Rattle.pci_spec.specs.Window.{WindowKind, MemoryWindow, PrefetchWindow}
@@ -20,5 +20,5 @@ module _ (q : Request) (s : System) (anew : IsTrue q.anew) where
   pub over_anew : AreOpenOver q s []
   over_anew f listed = record { memory = sym (window_none MemoryWindow f.slot.bus); prefetch = sym (window_none PrefetchWindow f.slot.bus) }
 
-  pub kept_anew : AreKeptParts s (stays q s) []
-  kept_anew k f part at there = none_noted part ∙ sym (none_stays q s anew (record { function = f; part = part }))
+  pub kept_anew : q.told.ranges ≡ [] → AreKeptParts s (stays q s) []
+  kept_anew untold k f part at there = none_noted part ∙ sym (none_stays q s anew untold (record { function = f; part = part }))

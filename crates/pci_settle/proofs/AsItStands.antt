@@ -9,8 +9,8 @@ use Rattle.plan_spec.specs.Plan.{bridges_above}
 use Rattle.settle_spec.specs.Lists.{Request}
 use Rattle.settle_spec.specs.Parts.{FunctionPart, addresses, class_in}
 use Rattle.settle_spec.specs.Stands.{window_part, stands}
-use Rattle.settle_spec.specs.Items.{has_room, holds_within, has_room_behind, stays, taken_by}
-use Rattle.settle_spec.specs.Kept.{place_in, range_or, as_it_stands}
+use Rattle.settle_spec.specs.Items.{has_room, holds_within, has_room_behind, stays, taken_by, place_in}
+use Rattle.settle_spec.specs.Kept.{range_or, as_it_stands}
 use Rattle.pci_base.specs.declared.window_kind.WindowKind.TheVariants as kinds
 use Rattle.pci_settle.specs.declared.over.Left.{Left}
 use Rattle.pci_settle.specs.Kept.{AreKeptParts}

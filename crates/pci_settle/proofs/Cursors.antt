@@ -100,27 +100,27 @@ ends_next wanted places n ends within count w a low k v less = elim (cases_eq k 
 -- ---- all of it
 
 -- items so far have their places, and the searches for more can go on
-pub record IsPlacing (lists : List (List Range)) (start : List DecodedRange) (wanted : List Wanted) (taken : List Range) (places : List ℕ) (cursors : List Cursor) (n : ℕ) : Type 0 where
-  pub so_far : IsSoFar lists start wanted taken places n
+pub record IsPlacing (lists behind : List (List Range)) (start : List DecodedRange) (wanted : List Wanted) (taken : List Range) (places : List ℕ) (cursors : List Cursor) (n : ℕ) : Type 0 where
+  pub so_far : IsSoFar lists behind start wanted taken places n
   pub search : AreCursors lists taken cursors
   pub ends : AreEnding wanted places n
 
-pub placing_none : (lists : List (List Range)) (wanted : List Wanted) (taken : List Range) (places : List ℕ) (cursors : List Cursor) → AreRisingRanges taken → length places ≡ length wanted
+pub placing_none : (lists behind : List (List Range)) (wanted : List Wanted) (taken : List Range) (places : List ℕ) (cursors : List Cursor) → AreRisingRanges taken → length places ≡ length wanted
     → length cursors ≡ length lists → ((ranges taken : List Range) → All (IsCursor ranges taken) cursors)
-    → IsPlacing lists (map decoded_range_of taken) wanted taken places cursors 0
-placing_none lists wanted taken places cursors listed count long each = record {
-  so_far = so_far_none lists wanted taken places listed count;
+    → IsPlacing lists behind (map decoded_range_of taken) wanted taken places cursors 0
+placing_none lists behind wanted taken places cursors listed count long each = record {
+  so_far = so_far_none lists behind wanted taken places listed count;
   search = cursors_first lists taken cursors long each;
   ends = λ k w less. absurd (let no : ⊥ = omega (arith, less) in no);
 }
 
-pub placing_next : (lists : List (List Range)) (start : List DecodedRange) (wanted : List Wanted) (taken : List Range) (places : List ℕ) (cursors : List Cursor) (n count : ℕ)
-    → IsPlacing lists start wanted taken places cursors n → All (HasListAt count) wanted → n < length wanted → (w : Wanted) (a : ℕ)
-    → Some a ≡ wanted_place lists (map decoded_range_of taken) (get_or wanted n w)
+pub placing_next : (lists behind : List (List Range)) (start : List DecodedRange) (wanted : List Wanted) (taken : List Range) (places : List ℕ) (cursors : List Cursor) (n count : ℕ)
+    → IsPlacing lists behind start wanted taken places cursors n → All (HasListAt count) wanted → n < length wanted → (w : Wanted) (a : ℕ)
+    → Some a ≡ wanted_place lists (map decoded_range_of (get_or behind n []) ++ map decoded_range_of taken) (get_or wanted n w)
     → (new : List Range) → AreRisingRanges new → IsTakenAt taken new (get_or wanted n w).extent a → (others : List Cursor) → AreCursors lists new others
-    → IsPlacing lists start wanted new (set places n a) others (n + 1)
-placing_next lists start wanted taken places cursors n count is lawful within w a found new listed put others search = record {
-  so_far = so_far_next lists start wanted taken places n count is.so_far lawful within w a found new listed put;
+    → IsPlacing lists behind start wanted new (set places n a) others (n + 1)
+placing_next lists behind start wanted taken places cursors n count is lawful within w a found new listed put others search = record {
+  so_far = so_far_next lists behind start wanted taken places n count is.so_far lawful within w a found new listed put;
   search = search;
   ends = ends_next wanted places n is.ends within is.so_far.count w a put.ends;
 }

@@ -4,6 +4,7 @@ pub mod FirstPlaces
 pub mod Starts
 pub mod Inserted
 pub mod AllPlaced
+pub mod Behind
 pub mod Cursors
 pub mod LaidOut
 pub mod Around
@@ -20,6 +21,8 @@ pub mod Sized
 pub mod Anew
 pub mod AsItStands
 pub mod OnBus
+pub mod Filtered
+pub mod Rows
 pub mod Marked
 pub mod Spares
 pub mod Highest

@@ -10,8 +10,8 @@ use Rattle.pci_spec.specs.Bus.{secondary}
 use Rattle.settle_spec.specs.Lists.{Request}
 use Rattle.settle_spec.specs.Parts.{FunctionPart, addresses}
 use Rattle.settle_spec.specs.Stands.{window_part, stands}
-use Rattle.settle_spec.specs.Items.{Item, taken_by}
-use Rattle.settle_spec.specs.Kept.{Kept, place_in, range_or}
+use Rattle.settle_spec.specs.Items.{Item, taken_by, place_in}
+use Rattle.settle_spec.specs.Kept.{Kept, range_or}
 use Rattle.settle_spec.specs.Keeping.Places.{space_items}
 use Rattle.pci_base.specs.declared.range.Range.{Range}
 use Rattle.pci_base.specs.declared.window_kind.ByKind.{ByKind}

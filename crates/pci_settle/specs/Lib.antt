@@ -3,6 +3,8 @@ pub mod Placings
 pub mod Windows
 pub mod Turns
 pub mod Lists
+pub mod ToldProp
+pub mod Lines
 pub mod Slots
 pub mod Kept
 pub mod Tables

@@ -1,5 +1,5 @@
 -- Items at the places of a table, each of them wanted at a place that is told, or in one of many lists of ranges.
-use Rattle.std.specs.Prelude.{ℕ, ◌≡◌, ◌<◌, ◌^◌, List, [], ◌∷◌, map, length, drop, slice_index_or, Option, None, Some, IfSome}
+use Rattle.std.specs.Prelude.{ℕ, ◌≡◌, ◌<◌, ◌^◌, List, [], ◌∷◌, ◌++◌, map, length, drop, slice_index_or, Option, None, Some, IfSome}
 use Rattle.pci_spec.specs.Decoded.{Range as DecodedRange}
 use Rattle.plan_spec.specs.Place.{range_from}
 use Rattle.settle_spec.specs.FirstPlace.{Extent, else_at, first_place}
@@ -31,16 +31,29 @@ abbrev pub wanted_place : List (List Range) → List DecodedRange → Wanted →
 wanted_place lists taken w = else_at w.at (place_by_list lists taken w)
 
 -- an item has this extent, and this place is found for it, whatever is taken
-pub record IsWanted (lists : List (List Range)) (find : Item → List DecodedRange → Option ℕ)
-    (i : Item) (w : Wanted) : Type 0 where
+pub record IsWanted (lists : List (List Range)) (behind : List Range)
+    (find : Item → List DecodedRange → Option ℕ) (i : Item) (w : Wanted) : Type 0 where
   pub extent : i.extent ≡ extent_value w.extent
-  pub place : (taken : List DecodedRange) → find i taken ≡ wanted_place lists taken w
+  pub place : (taken : List DecodedRange)
+      → find i taken ≡ wanted_place lists (map decoded_range_of behind ++ taken) w
 
-pub record AreWanted (lists : List (List Range)) (find : Item → List DecodedRange → Option ℕ)
+-- each off what is behind it, by index: nothing is behind those past the end
+pub record AreWanted (lists behind : List (List Range)) (find : Item → List DecodedRange → Option ℕ)
     (items : List Item) (wanted : List Wanted) : Type 0 where
   pub count : length items ≡ length wanted
   pub each : (k : ℕ) (i : Item) (w : Wanted) → k < length wanted
-      → IsWanted lists find (slice_index_or items k i) (slice_index_or wanted k w)
+      → IsWanted lists (slice_index_or behind k []) find (slice_index_or items k i) (slice_index_or wanted k w)
+
+-- another extent is placed by what is taken as one is by that and by what is behind it
+pub record IsPlacedAs (lists : List (List Range)) (behind taken : List DecodedRange) (w ready : Wanted) : Type 0 where
+  pub extent : ready.extent ≡ w.extent
+  pub place : wanted_place lists taken ready ≡ wanted_place lists (behind ++ taken) w
+
+-- one that is, or none where there is no place
+abbrev pub IsReady : ℕ → List (List Range) → List DecodedRange → List DecodedRange → Wanted → Option Wanted → Type 0
+IsReady count lists behind taken w None = wanted_place lists (behind ++ taken) w ≡ None
+IsReady count lists behind taken w (Some ready) =
+    HasListAt count ready × IsPlacedAs lists behind taken w ready
 
 -- a list can be searched for this extent from there on
 pub record IsCursor (ranges taken : List Range) (c : Cursor) : Type 0 where

@@ -1,8 +1,9 @@
--- Room behind slots, and what is asked of places: lists of ranges and that room.
+-- Room behind slots, and what is asked of places: lists of ranges, that room, and what is told of beside BARs and ROMs.
 use Rattle.std.specs.Prelude.{ℕ, nat_lt, min, if◌then◌else◌, List, [], Option, None, Some}
 use Rattle.std.specs.List.{list_any}
 use Rattle.pci_spec.specs.Slot.{Slot, same_slot}
 use Rattle.pci_spec.specs.Window.{WindowKind, IoWindow, MemoryWindow, PrefetchWindow}
+use Rattle.given_spec.specs.ToldClaims.{Told, nothing_told}
 use Rattle.settle_spec.specs.FirstPlace.{Extent as ExtentValue}
 use Rattle.settle_spec.specs.Lists.{Request, Spares}
 use Rattle.settle_spec.specs.Lists as ranges
@@ -35,9 +36,10 @@ pub record Demand : Type 0 where
   pub lists : ranges.Lists
   pub slots : List Slot
   pub spares : Spares
+  pub told : Told
 
 abbrev pub demand_of : Request → Demand
-demand_of q = record { lists = q.lists; slots = q.slots; spares = q.spares }
+demand_of q = record { lists = q.lists; slots = q.slots; spares = q.spares; told = q.told }
 
 abbrev pub spares_value : Slots → Spares
 spares_value w = record {
@@ -50,9 +52,13 @@ spares_value w = record {
 abbrev pub no_spares : Spares
 no_spares = record { io = 0; memory = 0; prefetch = 0 }
 
--- lists alone, with no room behind slots
+-- lists alone, with no room behind slots, and nothing told
 abbrev pub lists_alone : ranges.Lists → Demand
-lists_alone l = record { lists = l; slots = []; spares = no_spares }
+lists_alone l = record { lists = l; slots = []; spares = no_spares; told = nothing_told [] }
+
+-- what lists tell of beside BARs and ROMs: nobody is asleep where settling is asked for
+abbrev pub told_of : Lists → Told
+told_of l = record { ranges = l.told.ranges.now; asleep = [] }
 
 -- that of the code
 abbrev pub demand_value : Lists → Demand
@@ -60,6 +66,7 @@ demand_value l = record {
   lists = lists_value l;
   slots = l.slots.bridges.now;
   spares = spares_value l.slots;
+  told = told_of l;
 }
 
 -- the same with the list of I/O alone

@@ -15,6 +15,7 @@ ghost use Rattle.pci_settle.specs.Slots.{demand_value, demand_in_io};
 
 use crate::over::is_within;
 use crate::slots::Slots;
+use crate::told::ToldRanges;
 use pci_base::memory::OutOfMemory;
 use pci_base::range::{Range, RootRange};
 use pci_base::space::Space;
@@ -25,13 +26,15 @@ use std::alloc::Allocator;
 /// The highest address of a range of I/O, and of one of memory that isn't prefetchable.
 const LAST_OF_32_BITS: u64 = 0xffff_ffff;
 
-/// A list of ranges for each class: what comes earlier is taken first. Beside them the room that new windows get behind slots.
-#[derive(Clone, Copy, Debug)]
+/// A list of ranges for each class: what comes earlier is taken first. Beside them the room that new windows get behind slots,
+/// and the ranges that a text tells of.
+#[derive(Clone, Copy)]
 pub struct Lists<'a> {
     pub io: &'a [RootRange],
     pub mem: &'a [RootRange],
     pub pref: &'a [RootRange],
     pub slots: Slots<'a>,
+    pub told: ToldRanges<'a>,
 }
 
 /// Whether a range of this root is had by a root bus.
@@ -175,7 +178,7 @@ fn is_bad_list(roots: &Roots, list: &[RootRange]) -> bool
 }
 
 impl<'a> Lists<'a> {
-    /// The list of I/O alone, with the same room behind slots.
+    /// The list of I/O alone, with the same room behind slots and the same told ranges.
     pub fn io_alone(&self) -> Lists<'a>
         ensures { demand_value result ≡ demand_in_io (demand_value self.now) }
     {
@@ -184,6 +187,7 @@ impl<'a> Lists<'a> {
             mem: &[],
             pref: &[],
             slots: self.slots,
+            told: self.told,
         }
     }
 

@@ -3,19 +3,18 @@
 //!
 //! They come by falling alignment and size, so those of one extent come one after another: what one of them didn't
 //! find free isn't free for the next, and its search goes on where the last one in its list was placed.
-ghost use Rattle.std.specs.Prelude.{◌≡◌, ℕ, ◌≤◌, ◌<◌, ◌^◌, IfOk, OnOk, IfSome, IfNone, List, Option, length, map, slice_index_or};
+ghost use Rattle.std.specs.Prelude.{◌≡◌, ℕ, ◌≤◌, ◌<◌, ◌^◌, ◌++◌, [], IfOk, OnOk, IfSome, IfNone, List, Option, length, map, slice_index_or};
 ghost use Rattle.std.specs.List.{All};
 ghost use Rattle.pci_spec.specs.Decoded.{Range as DecodedRange};
 ghost use Rattle.plan_spec.specs.Place.{range_from};
 ghost use Rattle.settle_spec.specs.FirstPlace.{first_place as place_in_ranges};
-ghost use Rattle.settle_spec.specs.Items.{Item};
-ghost use Rattle.settle_spec.specs.Growth.{place_each};
+ghost use Rattle.settle_spec.specs.Items.{Item, place_each};
 ghost use Rattle.pci_base.specs.Ranges.{decoded_range_of};
 ghost use Rattle.pci_settle.specs.Spots.{extent_value, IsExtent, FirstsRise, AreRisingRanges, IsTakenBy, IsTakenAt, IsStart, place_if};
-ghost use Rattle.pci_settle.specs.Placings.{HasListAt, place_by_list, wanted_place, AreWanted, AreEnding, IsCursor, AreCursors, placing_of};
+ghost use Rattle.pci_settle.specs.Placings.{HasListAt, place_by_list, wanted_place, AreWanted, AreEnding, IsCursor, AreCursors, IsReady, placing_of};
 
 use crate::extent::Extent;
-use crate::spot::{Start, first_place};
+use crate::spot::{Start, first_place, sort_by_first};
 use pci_base::memory::OutOfMemory;
 use pci_base::range::Range;
 use std::alloc::Allocator;
@@ -28,6 +27,15 @@ pub struct Wanted {
     pub list: usize,
     /// Its place, where that is told: no list is searched for it then.
     pub at: Option<u64>,
+}
+
+/// Where extents are looked for.
+#[derive(Drop)]
+pub struct Search<'a, B: Allocator, C: Allocator> {
+    /// Lists of ranges, of which each extent names one by index.
+    pub lists: &'a [Vec<Range, B>],
+    /// What the place of each extent has to be off beside what is taken, by the extent's index: nothing past the end.
+    pub behind: &'a [Vec<Range, C>],
 }
 
 /// Where in a list the last extent was placed.
@@ -203,23 +211,88 @@ fn place_wanted<A: Allocator, B: Allocator>(
     }
 }
 
-/// Gives each extent the place that is told for it, or else its first place in its list of ranges, what is taken and those
-/// before it being taken. The answer is None where all have one, else the index of the first that has none.
-pub fn place_all<A: Allocator + Copy, B: Allocator>(
+/// The first place of an extent in some ranges, off what is behind it and off what is taken.
+fn first_off<A: Allocator>(
+    alloc: A,
+    ranges: &[Range],
+    behind: &[Range],
+    taken: &[Range],
+    extent: Extent,
+) -> Result<Option<u64>, OutOfMemory>
+    requires { IsExtent extent }
+    ensures place { IfOk result (λ place. place ≡ place_in_ranges (map decoded_range_of ranges.now)
+        (map decoded_range_of behind.now ++ map decoded_range_of taken.now) (extent_value extent)) }
+    ensures ends { IfOk result (λ place. IfSome place
+        (λ at. (range_from at extent.size).last < 2 ^ 64)) }
+{
+    let mut all = Vec::new(alloc);
+    all.extend_from_slice(behind)?;
+    all.extend_from_slice(taken)?;
+    sort_by_first(&mut all);
+    let mut start = Start::first();
+    if !first_place(ranges, all.as_slice(), extent, &mut start) {
+        return Ok(None);
+    }
+    Ok(Some(start.spot.at))
+}
+
+/// What the place of the extent of an index has to be off beside what is taken.
+fn behind_at<C: Allocator>(behind: &[Vec<Range, C>], index: usize) -> &[Range]
+    ensures { result.now ≡ slice_index_or (map (λ list. list.items) behind.now) index [] }
+{
+    match behind.get(index) {
+        Some(list) => list.as_slice(),
+        None => &[],
+    }
+}
+
+/// What is wanted for an extent that has something behind it: the place that is told, or the first one that is off that and
+/// off what is taken. None where it has none.
+fn wanted_off<A: Allocator, B: Allocator>(
     alloc: A,
     lists: &[Vec<Range, B>],
+    behind: &[Range],
+    taken: &[Range],
+    wanted: &Wanted,
+) -> Result<Option<Wanted>, OutOfMemory>
+    requires { HasListAt (length lists.now) wanted.now }
+    ensures { IfOk result (IsReady (length lists.now) (map (λ list. list.items) lists.now)
+        (map decoded_range_of behind.now) (map decoded_range_of taken.now) wanted.now) }
+{
+    let extent = wanted.extent;
+    let list = wanted.list;
+    if behind.is_empty() || wanted.at.is_some() {
+        return Ok(Some(*wanted));
+    }
+    match first_off(alloc, &lists[list], behind, taken, extent)? {
+        Some(at) => Ok(Some(Wanted {
+            extent,
+            list,
+            at: Some(at),
+        })),
+        None => Ok(None),
+    }
+}
+
+/// Gives each extent the place that is told for it, or else its first place in its list of ranges, what is taken, those
+/// before it and what is behind it being taken. The answer is None where all have one, else the index of the first that has
+/// none.
+pub fn place_all<A: Allocator + Copy, B: Allocator, C: Allocator>(
+    alloc: A,
+    within: &Search<B, C>,
     taken: &mut Vec<Range, A>,
     wanted: &[Wanted],
     places: &mut [u64],
 ) -> Result<Option<usize>, OutOfMemory>
     // each names its list by index
-    requires wanted { All (HasListAt (length lists.now)) wanted.now }
+    requires wanted { All (HasListAt (length within.now.lists.now)) wanted.now }
     // what is free lies between two that follow one another
     requires listed { AreRisingRanges taken.old.items }
     // an extent's place stands at its index
     requires count { length places.old ≡ length wanted.now }
     ensures placing { IfOk result (λ lack. (find : Item → List DecodedRange → Option ℕ) (items : List Item)
-        → AreWanted (map (λ list. list.items) lists.now) find items wanted.now
+        → AreWanted (map (λ list. list.items) within.now.lists.now)
+        (map (λ list. list.items) within.now.behind.now) find items wanted.now
         → place_each find (map decoded_range_of taken.old.items) items
         ≡ placing_of items places.new lack) }
     // by it the caller names the part that has no place
@@ -229,10 +302,15 @@ pub fn place_all<A: Allocator + Copy, B: Allocator>(
         (AreEnding wanted.now places.new (length wanted.now))) }
     ensures listed { AreRisingRanges taken.new.items }
 {
+    let lists = within.lists;
     let mut table = cursors_for(alloc, lists.len())?;
     let cursors = table.as_mut_slice();
     for (index, wanted) in wanted.iter().enumerate() {
-        let Some(at) = place_wanted(lists, taken, cursors, wanted)? else {
+        let behind = behind_at(within.behind, index);
+        let Some(ready) = wanted_off(alloc, lists, behind, taken.as_slice(), wanted)? else {
+            return Ok(Some(index));
+        };
+        let Some(at) = place_wanted(lists, taken, cursors, &ready)? else {
             return Ok(Some(index));
         };
         places[index] = at;

@@ -15,7 +15,7 @@ use Rattle.settle_spec.specs.Parts.{bridge_over}
 use Rattle.settle_spec.specs.Stands.{window_part, is_fixed_part, is_in_lists}
 use Rattle.settle_spec.specs.Items.{highest_in}
 use Rattle.settle_spec.specs.Kept.{Kept}
-use Rattle.settle_spec.specs.Wishes.{range_then, there_then, with_window, with_bridge, ending_at, gained, end_over, range_of_window, can_end_at, with_room_above, ending_if, ending_within}
+use Rattle.settle_spec.specs.Wishes.{range_then, there_then, with_window, with_bridge, ending_at, gained, end_over, range_of_window, is_off_lines, can_end_at, with_room_above, ending_if, ending_within}
 use Rattle.pci_base.specs.declared.range.Range.{Range}
 use Rattle.pci_base.specs.Ranges.{decoded_range_of}
 use Rattle.pci_place.specs.Items.{no_function, function_in}
@@ -29,6 +29,14 @@ use Rattle.pci_spare.specs.Endings.{IsEndedAs, IsOverOne}
 use Rattle.pci_spare.proofs.Wishing.{same_range, ended_same}
 use Rattle.pci_spare.proofs.Weights.{all_same}
 use Rattle.pci_spare.proofs.Told.{told_ended, told_is_then}
+
+and_assoc : (a b c : Bool) → ((a && b) && c) ≡ (a && (b && c))
+and_assoc true b c = refl
+and_assoc false b c = refl
+
+and_false : (b : Bool) → (b && false) ≡ false
+and_false true = refl
+and_false false = refl
 
 -- ---- the definition
 
@@ -100,7 +108,8 @@ module _ (q : Request) (s : System) (k : Kept) (b : Board) (old : Room) (told_ol
       at_enough low =
           subst (λ o. IsEndedAs q s b o true old old) (sym (step (Some range) is ∙ if_enough q s c f last k above (decoded_range_of range) low)) (refl, told_old)
 
-      module _ (more : range.last < last) (facts : Facts) (are : AreFacts q c f facts) (row : ℕ) (row_of : row ≡ row_number (level (buses_of b.roots.now) facts.bus) (window_space c)) (end : ℕ) (end_is : end ≡ end_over c (decoded_range_of range) last) where
+      module _ (more : range.last < last) (facts : Facts) (are : AreFacts q c f facts) (row : ℕ) (row_of : row ≡ row_number (level (buses_of b.roots.now) facts.bus) (window_space c)) (end : ℕ) (end_is : end ≡ end_over c (decoded_range_of range) last)
+          (off : Bool) (off_is : off ≡ is_off_lines q s c f (gained (decoded_range_of range) end)) where
         abbrev ended : DecodedRange
         ended = ending_at (decoded_range_of range) end
 
@@ -110,16 +119,26 @@ module _ (q : Request) (s : System) (k : Kept) (b : Board) (old : Room) (told_ol
         small : f.slot.bus < 256
         small = (All-contains IsFunction s f told_old.asked.system.each listed).slot.0
 
-        abbrev can_here : Bool
-        can_here = not facts.fixed && (nat_le end facts.highest && list_all (λ (r : Range). ranges_are_apart (gained (decoded_range_of range) end) (decoded_range_of r)) (row_at old.rows row))
+        abbrev rest : Bool
+        rest = not facts.fixed && (nat_le end facts.highest && list_all (λ (r : Range). ranges_are_apart (gained (decoded_range_of range) end) (decoded_range_of r)) (row_at old.rows row))
 
-        can_is : can_here ≡ can_end_at q s c f k (decoded_range_of range) end
-        can_is =
+        abbrev can_here : Bool
+        can_here = off && rest
+
+        rest_is : rest ≡ (not (is_fixed_part q (window_part c f)) && (nat_le end (highest_in c f.probe) && list_all (ranges_are_apart (gained (decoded_range_of range) end)) (there_then q s k (window_space c) f.slot.bus)))
+        rest_is =
             ap (λ x. not x && (nat_le end facts.highest && list_all (λ (r : Range). ranges_are_apart (gained (decoded_range_of range) end) (decoded_range_of r)) (row_at old.rows row))) are.fixed
             ∙ ap (λ x. not (is_fixed_part q (window_part c f)) && (nat_le end x && list_all (λ (r : Range). ranges_are_apart (gained (decoded_range_of range) end) (decoded_range_of r)) (row_at old.rows row))) are.highest
             ∙ ap (λ n. not (is_fixed_part q (window_part c f)) && (nat_le end (highest_in c f.probe) && list_all (λ (r : Range). ranges_are_apart (gained (decoded_range_of range) end) (decoded_range_of r)) (row_at old.rows n))) row_is
             ∙ ap (λ x. not (is_fixed_part q (window_part c f)) && (nat_le end (highest_in c f.probe) && x))
             (all_same (row_at old.rows (row_number (level q.roots f.slot.bus) (window_space c))) (there_then q s k (window_space c) f.slot.bus) (told_old.rows (window_space c) f.slot.bus small) (ranges_are_apart (gained (decoded_range_of range) end)))
+
+        can_is : can_here ≡ can_end_at q s c f k (decoded_range_of range) end
+        can_is =
+            ap (λ x. x && rest) off_is
+            ∙ ap (λ x. is_off_lines q s c f (gained (decoded_range_of range) end) && x) rest_is
+            ∙ sym (and_assoc (is_off_lines q s c f (gained (decoded_range_of range) end)) (not (is_fixed_part q (window_part c f)))
+            (nat_le end (highest_in c f.probe) && list_all (ranges_are_apart (gained (decoded_range_of range) end)) (there_then q s k (window_space c) f.slot.bus)))
 
         has : range_then q s k (window_part c f) ≡ Some (decoded_range_of range)
         has = then_is (Some range) is
@@ -130,11 +149,20 @@ module _ (q : Request) (s : System) (k : Kept) (b : Board) (old : Room) (told_ol
             ∙ if_more q s c f last k above (decoded_range_of range) more can (ap (can_end_at q s c f k (decoded_range_of range)) (sym end_is) ∙ sym can_is ∙ here)
             ∙ ap (λ n. cond can (option_map (with_window (window_part c f) (ending_at (decoded_range_of range) n)) (with_room_above q s c above f (ending_at (decoded_range_of range) n) k)) None) (sym end_is)
 
-        pub at_cannot : can_here ≡ false → IsEndedAs q s b whole false old old
-        at_cannot cannot =
+        cannot_here : can_here ≡ false → IsEndedAs q s b whole false old old
+        cannot_here cannot =
             subst (λ o. IsEndedAs q s b o false old old) (sym (step_more false cannot)) (refl, refl)
 
-        module _ (can : can_here ≡ true) where
+        pub at_line : off ≡ false → IsEndedAs q s b whole false old old
+        at_line held = cannot_here (ap (λ x. x && rest) held)
+
+        pub at_cannot : rest ≡ false → IsEndedAs q s b whole false old old
+        at_cannot cannot = cannot_here (ap (λ x. off && x) cannot ∙ and_false off)
+
+        module _ (free : off ≡ true) (rest_can : rest ≡ true) where
+          can : can_here ≡ true
+          can = ap (λ x. x && rest) free ∙ rest_can
+
           whole_is : (o : Option Kept) → with_room_above q s c above f ended k ≡ o → whole ≡ option_map (with_window (window_part c f) ended) o
           whole_is o around = step_more true can ∙ ap (option_map (with_window (window_part c f) ended)) around
 

@@ -8,6 +8,7 @@ use Rattle.pci_spec.specs.Window.{WindowKind, IoWindow, MemoryWindow, PrefetchWi
 use Rattle.pci_spec.specs.Decoded.{record_of, optional_window}
 use Rattle.pci_spec.specs.Decoded as decoded
 use Rattle.pci_spec.specs.System.{System, Function, is_bridge}
+use Rattle.pci_spec.specs.Bus.{secondary, subordinate}
 use Rattle.pci_spec.proofs.Records.{memory_window_there}
 use Rattle.settle_spec.specs.Lists.{Request}
 use Rattle.settle_spec.specs.Parts.{bridge_over}
@@ -82,6 +83,17 @@ module _ (q : Request) (s : System) (b : Board) (asked : IsAsked q s b) where
         fixed = fixed ∙ asked.fixed w.bridge (omega (arith, within, size));
         highest = highest ∙ highest_is r f d is.value there (class_of w);
       }
+
+  pub slot_at : (k : ℕ) (r : Record) → k < length records → r ≡ get_or records k r → r.slot ≡ (function_in s k).slot
+  slot_at k r within read = same_slot_of r (function_in s k) (record_at k r within read).value
+
+  -- the buses behind a bridge
+  pub buses_are : (w : BridgeWindow) (r : Record) → w.bridge < length records → r ≡ get_or records w.bridge r → (d : Bridge) → r.bridge ≡ Some d
+      → (secondary (bridge_of s w) ≡ d.secondary) × (subordinate (bridge_of s w) ≡ d.subordinate)
+  buses_are w r within read d there =
+      let is = record_at w.bridge r within read in
+      let same = same_bridge_of r (bridge_of s w) d is.value there in
+      (sym (ap (λ (x : decoded.Bridge). x.secondary) same), sym (ap (λ (x : decoded.Bridge). x.subordinate) same))
 
   -- a function without bridge numbers is no bridge
   pub no_facts : (w : BridgeWindow) (r : Record) → w.bridge < length records → r ≡ get_or records w.bridge r → r.bridge ≡ None → is_bridge (bridge_of s w) ≡ false

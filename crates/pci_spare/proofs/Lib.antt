@@ -7,6 +7,7 @@ pub mod Ended
 pub mod Facts
 pub mod Weights
 pub mod Told
+pub mod Beside
 pub mod Endings
 pub mod Around
 pub mod Rooms

@@ -1,5 +1,5 @@
 -- A wish changes what one window has, and leaves what is behind its bridge's bus.
-use Rattle.std.proofs.Common.{◌≡◌, ℕ, zero, suc, ◌<◌, ◌≤◌, ap, refl, ◌∙◌, subst, arith, cond, true, false, ◌&&◌, not, List, Option, Some, None}
+use Rattle.std.proofs.Common.{◌≡◌, ℕ, zero, suc, ◌<◌, ◌≤◌, ap, refl, ◌∙◌, subst, arith, cond, true, false, ◌&&◌, not, List, ◌++◌, Option, Some, None}
 use Rattle.std.proofs.Math.Path.{fun_ext}
 use Rattle.std.specs.Bool.{◌==◌, nat_le}
 use Rattle.std.specs.Option.{option_map, option_or}
@@ -16,12 +16,12 @@ use Rattle.settle_spec.specs.FirstPlace.{Extent, first_place}
 use Rattle.settle_spec.specs.Lists.{Request, class_ranges}
 use Rattle.settle_spec.specs.Parts.{FunctionPart, bridge_over}
 use Rattle.settle_spec.specs.Stands.{rank, window_part, is_fixed_part, is_in_lists}
-use Rattle.settle_spec.specs.Items.{Placed, taken_by}
+use Rattle.settle_spec.specs.Items.{Placed, taken_by, place_each}
 use Rattle.settle_spec.specs.Places.{placed_of, place_among}
-use Rattle.settle_spec.specs.Growth.{place_each}
 use Rattle.settle_spec.specs.Kept.{Kept}
 use Rattle.settle_spec.specs.Keeping.Places.{space_items, taken_at, place_of_item, placing_within}
-use Rattle.settle_spec.specs.Wishes.{place_then, range_then, there_then, with_window, with_bridge, ending_at, end_over, Spared, can_end_at, with_room_above, ending_if, ending_within, ending, range_of_window, spot_behind, spared_above, held_by, opened_at, spared_if, spared_within}
+use Rattle.settle_spec.specs.Lines.{lines_behind, taken_for}
+use Rattle.settle_spec.specs.Wishes.{place_then, range_then, taken_then, with_window, with_bridge, ending_at, end_over, Spared, can_end_at, with_room_above, ending_if, ending_within, ending, range_of_window, spot_behind, spared_above, held_by, opened_at, spared_if, spared_within}
 use Rattle.settle_spec.proofs.BridgeOver.{over_leads}
 
 -- ---- what is placed hangs on no wish
@@ -34,10 +34,10 @@ module _ (q : Request) (s : System) (k : Kept) (wished : FunctionPart → Option
   unfolding placing_within
   placing_same space zero bus = refl
   placing_same Io (suc depth) bus =
-      ap (λ (placed : ℕ → List Placed). place_each (place_of_item q s k placed) (taken_at q s k Io bus) (space_items q s k Io bus))
+      ap (λ (placed : ℕ → List Placed). place_each (λ i taken. place_of_item q s k placed i (taken_for q i.region taken)) (taken_at q s k Io bus) (space_items q s k Io bus))
       (fun_ext (λ b. ap placed_of (placing_same Io depth b)))
   placing_same Memory (suc depth) bus =
-      ap (λ (placed : ℕ → List Placed). place_each (place_of_item q s k placed) (taken_at q s k Memory bus) (space_items q s k Memory bus))
+      ap (λ (placed : ℕ → List Placed). place_each (λ i taken. place_of_item q s k placed i (taken_for q i.region taken)) (taken_at q s k Memory bus) (space_items q s k Memory bus))
       (fun_ext (λ b. ap placed_of (placing_same Memory depth b)))
 
   pub place_same : (r : FunctionPart) → place_then q s (wishing k wished) r ≡ place_then q s k r
@@ -177,33 +177,33 @@ module _ (q : Request) (s : System) (system : IsSystem s) (nested : IsNested q.r
     opened_keeps b listed e k None keeps = tt
     opened_keeps b listed e k (Some found) keeps = with_keeps b listed b.slot.bus (omega arith) _ k found.kept keeps
 
-    module _ (b : Function) (listed : Contains s b) (k : Kept) (above : Function → Extent → Kept → Option Spared) (each : (over : Function) → Contains s over → (d : Extent) → KeepsSpared over.slot.bus k (above over d k)) where
+    module _ (b : Function) (listed : Contains s b) (k : Kept) (above : Function → Extent → List Range → Kept → Option Spared) (each : (over : Function) → Contains s over → (d : Extent) (behind : List Range) → KeepsSpared over.slot.bus k (above over d behind k)) where
       spared_above_keeps : (d : Extent) → KeepsSpared b.slot.bus k (spared_above q s c above b d k)
-      spared_above_keeps d = elim (is_root q.roots b.slot.bus) as (λ root. KeepsSpared b.slot.bus k (cond root (option_map (λ at. record { at = at; kept = k }) (first_place (class_ranges q c b.slot.bus) (there_then q s k (window_space c) b.slot.bus) d)) (with_bridge (λ over. above over d k) (bridge_over s b.slot.bus)))) [
-        | true ↦ place_keeps b.slot.bus k (first_place (class_ranges q c b.slot.bus) (there_then q s k (window_space c) b.slot.bus) d)
-        | false ↦ elim (bridge_over s b.slot.bus) as (λ (o : Option Function). bridge_over s b.slot.bus ≡ o → KeepsSpared b.slot.bus k (with_bridge (λ over. above over d k) o)) [
+      spared_above_keeps d = elim (is_root q.roots b.slot.bus) as (λ root. KeepsSpared b.slot.bus k (cond root (option_map (λ at. record { at = at; kept = k }) (first_place (class_ranges q c b.slot.bus) (lines_behind q (window_part c b) ++ taken_then q s k (window_space c) b.slot.bus) d)) (with_bridge (λ over. above over d (lines_behind q (window_part c b)) k) (bridge_over s b.slot.bus)))) [
+        | true ↦ place_keeps b.slot.bus k (first_place (class_ranges q c b.slot.bus) (lines_behind q (window_part c b) ++ taken_then q s k (window_space c) b.slot.bus) d)
+        | false ↦ elim (bridge_over s b.slot.bus) as (λ (o : Option Function). bridge_over s b.slot.bus ≡ o → KeepsSpared b.slot.bus k (with_bridge (λ over. above over d (lines_behind q (window_part c b)) k) o)) [
           | None ↦ λ is. tt
           | Some over ↦ λ is.
               let lower = over_lower b over is in
-              spared_weaker over.slot.bus b.slot.bus (omega (arith, lower)) k (above over d k) (each over (over_leads s b.slot.bus over is).0 d)
+              spared_weaker over.slot.bus b.slot.bus (omega (arith, lower)) k (above over d (lines_behind q (window_part c b)) k) (each over (over_leads s b.slot.bus over is).0 d (lines_behind q (window_part c b)))
         ] refl
       ]
 
-      spared_if_keeps : (e : Extent) (o : Option Range) → KeepsSpared b.slot.bus k (spared_if q s c above b e k o)
-      spared_if_keeps e None = elim (has_window c b.probe && not (is_fixed_part q (window_part c b))) as (λ can. KeepsSpared b.slot.bus k (cond can (option_map (opened_at q s c b e) (spared_above q s c above b (held_by q s c b e) k)) None)) [
+      spared_if_keeps : (e : Extent) (behind : List Range) (o : Option Range) → KeepsSpared b.slot.bus k (spared_if q s c above b e behind k o)
+      spared_if_keeps e behind None = elim (has_window c b.probe && not (is_fixed_part q (window_part c b))) as (λ can. KeepsSpared b.slot.bus k (cond can (option_map (opened_at q s c b e) (spared_above q s c above b (held_by q s c b e) k)) None)) [
         | true ↦ opened_keeps b listed e k (spared_above q s c above b (held_by q s c b e) k) (spared_above_keeps (held_by q s c b e))
         | false ↦ tt
       ]
-      spared_if_keeps e (Some w) = elim (nat_le (range_from (spot_behind q s c b e k w) e.size).last e.highest) as (λ fits. KeepsSpared b.slot.bus k (cond fits (option_map (λ kept. record { at = spot_behind q s c b e k w; kept = kept }) (ending q s c b (range_from (spot_behind q s c b e k w) e.size).last k)) None)) [
-        | true ↦ at_keeps b.slot.bus (spot_behind q s c b e k w) k (ending q s c b (range_from (spot_behind q s c b e k w) e.size).last k) (ending_keeps 256 b listed (range_from (spot_behind q s c b e k w) e.size).last k)
+      spared_if_keeps e behind (Some w) = elim (nat_le (range_from (spot_behind q s c b e behind k w) e.size).last e.highest) as (λ fits. KeepsSpared b.slot.bus k (cond fits (option_map (λ kept. record { at = spot_behind q s c b e behind k w; kept = kept }) (ending q s c b (range_from (spot_behind q s c b e behind k w) e.size).last k)) None)) [
+        | true ↦ at_keeps b.slot.bus (spot_behind q s c b e behind k w) k (ending q s c b (range_from (spot_behind q s c b e behind k w) e.size).last k) (ending_keeps 256 b listed (range_from (spot_behind q s c b e behind k w) e.size).last k)
         | false ↦ tt
       ]
 
-    spared_keeps : (depth : ℕ) (b : Function) → Contains s b → (e : Extent) (k : Kept) → KeepsSpared b.slot.bus k (spared_within q s c depth b e k)
+    spared_keeps : (depth : ℕ) (b : Function) → Contains s b → (e : Extent) (behind : List Range) (k : Kept) → KeepsSpared b.slot.bus k (spared_within q s c depth b e behind k)
     unfolding spared_within
-    spared_keeps zero b listed e k = tt
-    spared_keeps (suc depth) b listed e k =
-        spared_if_keeps b listed k (spared_within q s c depth) (λ over in_s d. spared_keeps depth over in_s d k) e (range_of_window q s c b k)
+    spared_keeps zero b listed e behind k = tt
+    spared_keeps (suc depth) b listed e behind k =
+        spared_if_keeps b listed k (spared_within q s c depth) (λ over in_s d held. spared_keeps depth over in_s d held k) e behind (range_of_window q s c b k)
 
-    pub spared_same : (depth : ℕ) (b : Function) → Contains s b → (e : Extent) (k : Kept) (found : Spared) → spared_within q s c depth b e k ≡ Some found → AreSameBehind q s b.slot.bus k found.kept
-    spared_same depth b listed e k found is = subst (KeepsSpared b.slot.bus k) is (spared_keeps depth b listed e k)
+    pub spared_same : (depth : ℕ) (b : Function) → Contains s b → (e : Extent) (behind : List Range) (k : Kept) (found : Spared) → spared_within q s c depth b e behind k ≡ Some found → AreSameBehind q s b.slot.bus k found.kept
+    spared_same depth b listed e behind k found is = subst (KeepsSpared b.slot.bus k) is (spared_keeps depth b listed e behind k)

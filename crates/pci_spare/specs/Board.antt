@@ -26,6 +26,7 @@ use Rattle.pci_spare.specs.declared.board.BridgeWindow.{BridgeWindow}
 use Rattle.pci_spare.specs.declared.board.Facts.{Facts}
 use Rattle.pci_spare.specs.declared.room.Room.{Room as CodeRoom}
 use Rattle.pci_settle.specs.Lists.{lists_value}
+use Rattle.pci_settle.specs.Lines.{AreLines}
 use Rattle.pci_spare.specs.Rows.{level, row_number, row_at, HasRanges, AreSameBut, IsEndedIn, IsAddedTo, LastsRise}
 use Rattle.pci_settle.specs.Spots.{FirstsRise}
 use Rattle.pci_settle.specs.Tables.{told, TellsSame}
@@ -37,6 +38,7 @@ pub record IsAsked (q : Request) (s : System) (b : Board) : Type 0 where
   pub nested : IsNested q.roots s
   pub roots : q.roots ≡ buses_of b.roots.now
   pub lists : q.lists ≡ lists_value b.lists.now
+  pub told : AreLines q.roots q.told.ranges b.lines.now
   pub over : IsBridgeToBus b.records.now b.over.now
   pub fixed : (k : ℕ) → k < length s
       → slice_index_or b.fixed.now k false ≡ list_any (same_slot (function_in s k).slot) q.fixed

@@ -1,13 +1,15 @@
 -- What granting a wish leaves, by what is kept then.
-use Rattle.std.specs.Prelude.{◌≡◌, ℕ, ◌<◌, Bool, true, false, Option, None, Some}
+use Rattle.std.specs.Prelude.{◌≡◌, ℕ, ◌<◌, ◌≤◌, map, Bool, true, false, List, ◌++◌, Option, None, Some}
 use Rattle.std.specs.Option.{option_map}
 use Rattle.pci_spec.specs.Decoded.{Range}
+use Rattle.pci_spec.specs.Window.{WindowKind}
+use Rattle.plan_spec.specs.Place.{range_from}
 use Rattle.pci_spec.specs.System.{System, Function, window_space}
-use Rattle.settle_spec.specs.FirstPlace.{first_place}
-use Rattle.settle_spec.specs.Lists.{Request, class_ranges}
+use Rattle.settle_spec.specs.FirstPlace.{first_spot, first_place}
+use Rattle.settle_spec.specs.Lists.{Request, class_ranges, list_of}
 use Rattle.settle_spec.specs.Stands.{window_part}
 use Rattle.settle_spec.specs.Kept.{Kept}
-use Rattle.settle_spec.specs.Wishes.{Spared, with_room_above, range_then, there_then, spot_behind, spared_at, opened_at}
+use Rattle.settle_spec.specs.Wishes.{Spared, with_room_above, range_then, taken_then, spot_behind, spared_at, opened_at}
 use Rattle.pci_place.specs.Items.{function_in}
 use Rattle.pci_spare.specs.declared.board.Board.{Board}
 use Rattle.pci_spare.specs.declared.board.BridgeWindow.{BridgeWindow}
@@ -18,6 +20,9 @@ use Rattle.pci_spare.specs.declared.board.Facts.{Facts}
 use Rattle.pci_spare.specs.declared.ending.Around.{Around}
 use Rattle.pci_spare.specs.declared.ending.Around.TheVariants.{Nothing, Lists, Window}
 use Rattle.pci_settle.specs.Spots.{extent_value}
+use Rattle.pci_settle.specs.Lists.{lists_value}
+use Rattle.pci_spare.specs.Lists.{ranges_had}
+use Rattle.pci_spare.specs.Rows.{HasRanges}
 use Rattle.pci_spare.specs.Board.{IsWindow, class_of, bridge_of, Room, IsTold}
 
 -- where nothing is kept that way nothing changed
@@ -30,26 +35,50 @@ abbrev pub IsSparedAs : Request → System → Board → Option Spared → Optio
 IsSparedAs q s b None place old new = (place ≡ None) × (new ≡ old)
 IsSparedAs q s b (Some found) place old new = (place ≡ Some found.at) × IsTold q s found.kept b new
 
+-- the first spot of an extent from an address on, where it ends by the highest address that the extent may have
+abbrev pub IsSpotBelow : List Range → ℕ → Extent → Option ℕ → Type 0
+IsSpotBelow taken low e None = e.highest < (range_from (first_spot low taken (extent_value e)) e.size).last
+IsSpotBelow taken low e (Some at) =
+    (at ≡ first_spot low taken (extent_value e)) × ((range_from at e.size).last ≤ e.highest)
+
+-- this is taken on a bus in the space of a class, with what is behind windows that are opened
+abbrev pub IsTakenOn : Board → Room → ℕ → WindowKind → List CodeRange → List CodeRange → Type 0
+IsTakenOn b room bus c behind taken =
+    (q : Request) (s : System) (k : Kept) (held : List Range) → IsTold q s k b room → HasRanges behind held
+    → HasRanges taken (held ++ taken_then q s k (window_space c) bus)
+
+-- such a spot beside all that
+pub record IsSpotBeside (b : Board) (room : Room) (bus : ℕ) (c : WindowKind) (behind : List CodeRange) (low : ℕ) (e : Extent) (spot : Option ℕ) : Type 0 where
+  pub taken : List CodeRange
+  pub taken_is : IsTakenOn b room bus c behind taken
+  pub spot_is : IsSpotBelow (map decoded_range_of taken) low e spot
+
+-- and the first place in the list of the class
+pub record IsPlaceBeside (b : Board) (room : Room) (bus : ℕ) (c : WindowKind) (behind : List CodeRange) (e : Extent) (place : Option ℕ) : Type 0 where
+  pub taken : List CodeRange
+  pub taken_is : IsTakenOn b room bus c behind taken
+  pub place_is : place ≡ first_place (ranges_had bus (list_of (lists_value b.lists.now) c)) (map decoded_range_of taken) (extent_value e)
+
 -- room for a spare in an open window
-abbrev pub IsSparedIn : Request → System → Kept → Board → BridgeWindow → CodeRange → Extent → Option ℕ → Room → Room → Type 0
-IsSparedIn q s k b w range e place old new =
+abbrev pub IsSparedIn : Request → System → Kept → Board → BridgeWindow → CodeRange → Extent → List Range → Option ℕ → Room → Room → Type 0
+IsSparedIn q s k b w range e behind place old new =
     IsSparedAs q s b
     (spared_at q s (class_of w) (bridge_of s w) (extent_value e) k
-    (spot_behind q s (class_of w) (bridge_of s w) (extent_value e) k (decoded_range_of range)))
+    (spot_behind q s (class_of w) (bridge_of s w) (extent_value e) behind k (decoded_range_of range)))
     place old new
 
 -- a closed window on a root is opened at its first place, if there is one
-abbrev pub spared_on_root : Request → System → Kept → BridgeWindow → Extent → Option Spared
-spared_on_root q s k w e =
+abbrev pub spared_on_root : Request → System → Kept → BridgeWindow → Extent → List Range → Option Spared
+spared_on_root q s k w e behind =
     option_map (opened_at q s (class_of w) (bridge_of s w) (extent_value e))
     (option_map (λ at. record { at = at; kept = k })
     (first_place (class_ranges q (class_of w) (bridge_of s w).slot.bus)
-    (there_then q s k (window_space (class_of w)) (bridge_of s w).slot.bus) (extent_value e)))
+    (behind ++ taken_then q s k (window_space (class_of w)) (bridge_of s w).slot.bus) (extent_value e)))
 
-abbrev pub IsSparedOnRoot : Request → System → Kept → Board → BridgeWindow → Facts → Extent → Option ℕ → Room → Room → Type 0
-IsSparedOnRoot q s k b w facts e place old new =
+abbrev pub IsSparedOnRoot : Request → System → Kept → Board → BridgeWindow → Facts → Extent → List Range → Option ℕ → Room → Room → Type 0
+IsSparedOnRoot q s k b w facts e behind place old new =
     facts.there ≡ true → range_then q s k (window_part (class_of w) (bridge_of s w)) ≡ None
-    → IsSparedAs q s b (spared_on_root q s k w e) place old new
+    → IsSparedAs q s b (spared_on_root q s k w e behind) place old new
 
 -- what is kept where something is around a window
 abbrev pub kept_around : System → (Function → ℕ → Kept → Option Kept) → ℕ → Kept → Around → Option Kept

@@ -8,6 +8,7 @@ ghost use Rattle.pci_spare.specs.Board.{IsAsked, bridge_of, class_of, HasFacts, 
 use pci_base::slot::BUSES;
 use pci_base::window_kind::WindowKind;
 use pci_function::record::Record;
+use pci_settle::lines::Line;
 use pci_settle::list::Lists;
 use pci_settle::new_window::highest_in;
 use pci_settle::table::WindowRanges;
@@ -22,6 +23,8 @@ pub struct Board<'a> {
     /// At each bus the index of the bridge that leads there.
     pub over: &'a [Option<usize>; BUSES],
     pub lists: &'a Lists<'a>,
+    /// The told ranges of the lists, by their buses.
+    pub lines: &'a [Line],
     /// Whether the registers of each function may not be written.
     pub fixed: &'a [bool],
     /// Where the windows of each function are before any wish; None of one that is closed.

@@ -5,23 +5,25 @@ ghost use Rattle.pci_spec.specs.System.{System, window_space};
 ghost use Rattle.settle_spec.specs.FirstPlace.{ranges_are_apart};
 ghost use Rattle.settle_spec.specs.Lists.{Request};
 ghost use Rattle.settle_spec.specs.Kept.{Kept};
-ghost use Rattle.settle_spec.specs.Wishes.{gained, ending_within};
+ghost use Rattle.settle_spec.specs.Wishes.{gained, is_off_lines, ending_within};
 ghost use Rattle.pci_base.specs.Ranges.{decoded_range_of};
 ghost use Rattle.pci_base.specs.WindowKinds.{kind_value};
 ghost use Rattle.pci_tree.specs.Roots.{buses_of};
 ghost use Rattle.pci_tree.specs.Ways.{IsBridgeToBus};
 ghost use Rattle.pci_spare.specs.Rows.{level, row_number, row_at};
 ghost use Rattle.pci_spare.specs.Board.{room_value, IsAsked, IsWindow, AreFacts, bridge_of, class_of, AreRising, IsRoom, IsTold};
+ghost use Rattle.pci_settle.specs.Lines.{AreLineRows};
 ghost use Rattle.pci_settle.specs.Spots.{FirstsRise};
 ghost use Rattle.pci_spare.specs.Endings.{IsEndedAs, IsAround, IsAroundIn};
 
 use crate::board::{Board, BridgeWindow, Facts};
 use crate::half::end_over;
 use crate::room::Room;
-use crate::row::{is_free_to, row};
+use crate::row::{is_free_to, level, row};
 use pci_base::range::Range;
 use pci_base::space::Space;
 use pci_base::window_kind::WindowKind;
+use pci_settle::lines::is_off_lines;
 use pci_settle::list::is_root;
 use std::alloc::Allocator;
 
@@ -63,6 +65,26 @@ fn can_end_at<A: Allocator>(
         && (last <= facts.highest && is_free_to(room.row(row), room.lasts_rise(row), window, last))
 }
 
+/// Whether no line keeps a window off what it gains by ending later.
+fn gains_no_line(board: &Board, window: BridgeWindow, range: Range, last: u64) -> bool
+    requires lines { AreLineRows board.now.lines.now }
+    requires window { window.bridge < length board.now.records.now }
+    requires later { range.last < last }
+    ensures { (q : Request) → (s : System) → IsAsked q s board.now → IsWindow s window
+        → result ≡ is_off_lines q s (class_of window) (bridge_of s window) (gained (decoded_range_of range) last) }
+{
+    let slot = board.records[window.bridge].slot;
+    let level = level(board.roots, slot.bus());
+    let first = range.last + 1;
+    is_off_lines(
+        board.lines,
+        level,
+        slot,
+        Space::of(window.class),
+        Range { first, last },
+    )
+}
+
 /// What is around a window with these addresses.
 fn what_is_around(board: &Board, facts: &Facts, class: WindowKind, window: Range) -> Around
     // the bridge over a bus is one of the functions
@@ -97,6 +119,8 @@ pub fn end_by<A: Allocator>(
 ) -> bool
     // the bridge over a bus is one of the functions
     requires over { IsBridgeToBus board.now.records.now board.now.over.now }
+    // those of a level are found by halving
+    requires lines { AreLineRows board.now.lines.now }
     // each function has its entry, and each bus its rows
     requires room { IsRoom (length board.now.records.now) (room_value room.old) }
     requires window { window.bridge < length board.now.records.now }
@@ -120,6 +144,9 @@ pub fn end_by<A: Allocator>(
     };
     let end = end_over(window.class, range, last);
     let row = window_row(board, facts.bus, window.class);
+    if !gains_no_line(board, window, range, end) {
+        return false;
+    }
     if !can_end_at(room, &facts, row, range, end) {
         return false;
     }

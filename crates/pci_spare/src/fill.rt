@@ -174,6 +174,7 @@ pub fn room_of<A: Allocator + Copy>(
     let wished = nothing_told(alloc, board.records.len())?;
     let rising = rising_rows(alloc, rows.as_slice())?;
     Ok(Room {
+        alloc,
         wished,
         rows,
         rising,

@@ -8,13 +8,14 @@ ghost use Rattle.settle_spec.specs.Lists.{Request};
 ghost use Rattle.settle_spec.specs.Kept.{Kept};
 ghost use Rattle.settle_spec.specs.Wishes.{Granted, with_spare_of, with_spares_of, granted};
 ghost use Rattle.pci_place.specs.Items.{function_in};
+ghost use Rattle.pci_settle.specs.Lines.{AreLineRows};
 ghost use Rattle.pci_tree.specs.Ways.{IsBridgeToBus};
 ghost use Rattle.pci_spare.specs.Board.{room_value, class_of, bridge_of, IsRoom, IsTold};
 ghost use Rattle.pci_spare.specs.Granting.{spare_in, AreExtents, AreSpares, AreGranted, SparesAreTold};
 
 use crate::board::{Board, BridgeWindow, flag_of};
 use crate::room::Room;
-use crate::sparing::{DEPTH, spared};
+use crate::sparing::{DEPTH, Sought, spared};
 use pci_base::memory::OutOfMemory;
 use pci_base::window_kind::{ByKind, WindowKind};
 use pci_settle::extent::Extent;
@@ -43,7 +44,7 @@ impl Wanted<'_> {
 }
 
 /// Grants the wish for a window, or notes it with those that are denied.
-fn grant_window<A: Allocator>(
+fn grant_window<A: Allocator + Copy>(
     board: &Board,
     room: &mut Room<A>,
     wanted: &Wanted,
@@ -51,6 +52,7 @@ fn grant_window<A: Allocator>(
     denied: &mut Vec<BridgeWindow, A>,
 ) -> Result<(), OutOfMemory>
     requires over { IsBridgeToBus board.now.records.now board.now.over.now }
+    requires lines { AreLineRows board.now.lines.now }
     requires room { IsRoom (length board.now.records.now) (room_value room.old) }
     requires window { window.bridge < length board.now.records.now }
     requires spares { AreExtents wanted.now.spares.now }
@@ -78,7 +80,11 @@ fn grant_window<A: Allocator>(
         alignment: spare.alignment,
         highest: facts.highest,
     };
-    if spared(board, room, window, extent, DEPTH)?.is_some() {
+    let sought = Sought {
+        extent,
+        behind: &[],
+    };
+    if spared(board, room, window, &sought, DEPTH)?.is_some() {
         return Ok(());
     }
     denied.push(window)?;
@@ -86,7 +92,7 @@ fn grant_window<A: Allocator>(
 }
 
 /// Grants the wishes of a bridge.
-fn grant_bridge<A: Allocator>(
+fn grant_bridge<A: Allocator + Copy>(
     board: &Board,
     room: &mut Room<A>,
     wanted: &Wanted,
@@ -94,6 +100,7 @@ fn grant_bridge<A: Allocator>(
     denied: &mut Vec<BridgeWindow, A>,
 ) -> Result<(), OutOfMemory>
     requires over { IsBridgeToBus board.now.records.now board.now.over.now }
+    requires lines { AreLineRows board.now.lines.now }
     requires room { IsRoom (length board.now.records.now) (room_value room.old) }
     requires bridge { bridge < length board.now.records.now }
     requires spares { AreExtents wanted.now.spares.now }
@@ -125,6 +132,8 @@ pub fn grant<A: Allocator + Copy>(
 ) -> Result<Vec<BridgeWindow, A>, OutOfMemory>
     // the bridge over a bus is one of the functions
     requires over { IsBridgeToBus board.now.records.now board.now.over.now }
+    // those of a level are found by halving
+    requires lines { AreLineRows board.now.lines.now }
     // each function has its entry, and each bus its rows
     requires room { IsRoom (length board.now.records.now) (room_value room.old) }
     // without an address an extent has no last one, and of 0 there is no multiple

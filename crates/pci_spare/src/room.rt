@@ -14,6 +14,8 @@ use std::alloc::Allocator;
 /// What is there, and the windows in which room is kept free.
 #[derive(Drop)]
 pub struct Room<A: Allocator> {
+    /// What lists are allocated by where room is looked for.
+    pub alloc: A,
     /// By function, what each window has by a wish; None of one that no wish changed.
     pub wished: Vec<WindowRanges, A>,
     /// Row by row the addresses of what is there, by rising first addresses.

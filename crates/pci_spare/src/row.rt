@@ -19,16 +19,24 @@ use std::alloc::Allocator;
 /// How many rows there are: one for each space on the roots, and on each of 256 buses.
 pub const ROWS: usize = 514;
 
+/// 0 for a root, else one more than the bus number: all roots are one bus.
+pub fn level(roots: &Roots, bus: u8) -> u16
+    ensures level { result ≡ level (buses_of roots.now) bus }
+    ensures small { result < 257 }
+{
+    if is_root(roots, bus) {
+        0
+    } else {
+        u16::from(bus) + 1
+    }
+}
+
 /// The row of what is on a bus in a space.
 pub fn row(roots: &Roots, bus: u8, space: Space) -> usize
     ensures row { result ≡ row_number (level (buses_of roots.now) bus) (space_of space) }
     ensures small { result < 514 }
 {
-    let level = if is_root(roots, bus) {
-        0
-    } else {
-        usize::from(bus) + 1
-    };
+    let level = level(roots, bus) as usize;
     match space {
         Space::Io => 2 * level,
         Space::Mem => 2 * level + 1,

@@ -1,4 +1,4 @@
-use Rattle.std.proofs.Common.{◌≡◌, rules, arith, sym, refl, true, false, ◌∙◌}
+use Rattle.std.proofs.Common.{◌≡◌, rules, arith, sym, refl, true, false, [], ◌∙◌}
 use Rattle.std.specs.Option.{is_some}
 use Rattle.pci_spare.proofs.Facts.{long}
 use Rattle.pci_spare.specs.Board.{room_value}
@@ -32,7 +32,7 @@ returns-then-is_some-clause-granted gg c = λ q s spare g are was.
     let some : is_some c.in_ok-spared.field-0 ≡ true = search rules in
     is_granted q s c.args.board.now _ _ spare are c.args.window (omega (arith, size, within)) g (room_value c.args.room.now) c.args.denied.now.items was c.in-Some-facts.facts known c.if-not-facts.false
     c.in-Some.spare (sym c.in-Some.ensures) _ refl refl refl c.in_ok-spared.field-0 some (room_value c.spared.new.room)
-    (c.in_ok-spared.ensures.spared q s g.kept was.told_is (record { within = omega (arith, size, within); bridge = known.bridge }))
+    (c.in_ok-spared.ensures.spared q s g.kept [] was.told_is (record { within = omega (arith, size, within); bridge = known.bridge }) (λ weight. refl))
 
 pub returns-clause-granted : goal.returns-clause-granted
 returns-clause-granted gg c = λ q s spare g are was.
@@ -42,4 +42,4 @@ returns-clause-granted gg c = λ q s spare g are was.
     let none : is_some c.in_ok-spared.field-0 ≡ false = search rules in
     is_denied q s c.args.board.now _ _ spare are c.args.window (omega (arith, size, within)) g (room_value c.args.room.now) c.args.denied.now.items was c.in-Some-facts.facts known c.if-not-facts.false
     c.in-Some.spare (sym c.in-Some.ensures) _ refl refl refl c.in_ok-spared.field-0 none (room_value c.spared.new.room) _ c.in_ok-push.ensures.items
-    (c.in_ok-spared.ensures.spared q s g.kept was.told_is (record { within = omega (arith, size, within); bridge = known.bridge }))
+    (c.in_ok-spared.ensures.spared q s g.kept [] was.told_is (record { within = omega (arith, size, within); bridge = known.bridge }) (λ weight. refl))
