@@ -18,7 +18,6 @@ use Rattle.settle_spec.specs.Lists.{Lists, Request}
 use Rattle.settle_spec.specs.Parts.{FunctionPart, is_part, parts_of, header_parts, function_parts, system_parts, addresses, are_same_space}
 use Rattle.settle_spec.specs.Stands.{part_space}
 use Rattle.settle_spec.specs.Kept.{Kept as Keeping, range_or}
-use Rattle.settle_spec.specs.Keeping.Places.{taken_at}
 use Rattle.settle_spec.proofs.SameTaken.{HaveSame}
 use Rattle.stand_laws.specs.Order.{level}
 use Rattle.stand_laws.proofs.Standing.{one_level}
@@ -288,8 +287,9 @@ module _ (held : List Held) (n : ℕ) (space : Space) (taken : List Range) (same
     abbrev passes : FunctionPart → Bool
     passes r = are_siblings q.roots bus r.function.slot.bus && are_same_space space (part_space r) && keep.stays r
 
-    pub same_taken : HaveSame (map decoded_range_of taken) (taken_at q s keep space bus)
-    same_taken = record {
+    -- what lines hold there is no part of it
+    pub same_parts : HaveSame (map decoded_range_of taken) (map keep.range (filter passes (system_parts q s)))
+    same_parts = record {
       to = λ t listed.
           let made : IsMade decoded_range_of taken t = in_map_to decoded_range_of taken t listed in
           let x = on_it made.from made.has in
@@ -300,7 +300,7 @@ module _ (held : List Held) (n : ℕ) (space : Space) (taken : List Range) (same
           let in_space = spaces_one space (part_space r) (x.space_is ∙ is.space_is) in
           let ok = and_from (are_siblings q.roots bus r.function.slot.bus && are_same_space space (part_space r)) (keep.stays r)
           (and_from (are_siblings q.roots bus r.function.slot.bus) (are_same_space space (part_space r)) beside in_space) is.stays_is in
-          subst (Contains (taken_at q s keep space bus)) (sym is.range_is ∙ ap decoded_range_of x.is ∙ made.is)
+          subst (Contains (map keep.range (filter passes (system_parts q s)))) (sym is.range_is ∙ ap decoded_range_of x.is ∙ made.is)
           (in_map_from keep.range (filter passes (system_parts q s)) r (in_filter_from passes (system_parts q s) r is.listed ok));
       back = λ t listed.
           let made : IsMade keep.range (filter passes (system_parts q s)) t = in_map_to keep.range (filter passes (system_parts q s)) t listed in

@@ -82,7 +82,7 @@ bar_space_is bar_kinds.Io = refl
 bar_space_is bar_kinds.Mem32 = refl
 bar_space_is bar_kinds.Mem64 = refl
 
-on_is : (n : ℕ) (f : Function) (space : Space) → n ≡ command f.image → code.is_on n space ≡ is_space_on f space
+pub on_is : (n : ℕ) (f : Function) (space : Space) → n ≡ command f.image → code.is_on n space ≡ is_space_on f space
 on_is n f Io same = ap (λ m. code.is_on m Io) same
 on_is n f Memory same = ap (λ m. code.is_on m Memory) same
 

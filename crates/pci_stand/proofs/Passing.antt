@@ -13,7 +13,7 @@ use Rattle.pci_spec.proofs.Members.{in_nil, in_map_to, in_map_from, IsMade}
 use Rattle.settle_spec.specs.FirstPlace.{ranges_are_apart}
 use Rattle.settle_spec.specs.Lists.{Request}
 use Rattle.settle_spec.specs.Parts.{FunctionPart, system_parts, addresses, is_part, are_same_space}
-use Rattle.settle_spec.specs.Stands.{part_space, is_in_place, takes_from, part_precedes, stands_if}
+use Rattle.settle_spec.specs.Stands.{part_space, is_in_place, takes_from, precedes, is_kept_off, leads_to_told, stands_if}
 use Rattle.stand_laws.specs.Order.{level, comes_first}
 use Rattle.stand_laws.specs.Passes.{IsAmong, AreTakenBeside}
 use Rattle.stand_laws.proofs.Order.{not_itself}
@@ -24,7 +24,7 @@ use Rattle.pci_base.specs.declared.range.Range.{Range}
 use Rattle.pci_stand.specs.declared.region.Region.{Region as CodeRegion}
 use Rattle.pci_settle.specs.declared.kept.Kept.{Kept}
 use Rattle.pci_stand.specs.Known.{Known, region_value}
-use Rattle.pci_stand.specs.Boards.{IsKnown}
+use Rattle.pci_stand.specs.Boards.{IsKnownPart}
 use Rattle.pci_stand.specs.Tables.{stands_in}
 use Rattle.pci_stand.specs.Taken.{is_free, IsWithTaken, in_space, in_other, taken_with, IsGoneTo}
 use Rattle.pci_stand.specs.Passing.{AreOrdered, IsStandingOn, AreTakenOn, AreFirstPassed}
@@ -112,14 +112,14 @@ module _ (q : Request) (s : System) (nested : IsNested q.roots s) (rs : List Cod
     v_is : get_or vs count v ≡ v
     v_is = get_or-map (region_value s) rs count r v within ∙ ap (region_value s) (sym r_is)
 
-    pub is_known : IsKnown q s r
-    is_known = subst (IsKnown q s) (sym r_is) (ordered.known count r within)
+    pub is_known : IsKnownPart q s r
+    is_known = subst (IsKnownPart q s) (sym r_is) (ordered.known count r within)
 
     level_is : r.level ≡ level q v.function.slot.bus
-    level_is = ap (λ (k : Known). k.level) is_known.all
+    level_is = ap (λ (k : Known). k.level) is_known.is.all
 
     range_is : decoded_range_of r.range ≡ addresses v
-    range_is = ap (λ (k : Known). k.range) is_known.all
+    range_is = ap (λ (k : Known). k.range) is_known.is.all
 
     -- the level of each part that follows isn't lower
     level_above : (k : ℕ) (d : CodeRegion) → count ≤ k → k < length rs → r.level ≤ (get_or rs k d).level
@@ -128,11 +128,11 @@ module _ (q : Request) (s : System) (nested : IsNested q.roots s) (rs : List Cod
           let here : (get_or rs k d).level ≡ r.level = ap (λ (x : CodeRegion). x.level) (ap (λ n. get_or rs n d) (sym same) ∙ get_or_default rs count d r within ∙ sym r_is) in
           omega (arith, here)
       | inr differ ↦
-          let first : comes_first q v (get_or vs k v) ≡ true = subst (λ x. comes_first q x (get_or vs k v) ≡ true) v_is (ordered.order.order count k v (omega (arith, from, differ)) (let l = long in omega (arith, inside, l))) in
+          let first : comes_first q s v (get_or vs k v) ≡ true = subst (λ x. comes_first q s x (get_or vs k v) ≡ true) v_is (ordered.order.order count k v (omega (arith, from, differ)) (let l = long in omega (arith, inside, l))) in
           let other = get_or rs k d in
           let other_is : get_or vs k v ≡ region_value s other = get_or-map (region_value s) rs k d v inside in
-          let up = first_level (level q v.function.slot.bus) (level q (region_value s other).function.slot.bus) (part_precedes q v (region_value s other)) (subst (λ x. comes_first q v x ≡ true) other_is first) in
-          let there : other.level ≡ level q (region_value s other).function.slot.bus = ap (λ (k : Known). k.level) (ordered.known k d inside).all in
+          let up = first_level (level q v.function.slot.bus) (level q (region_value s other).function.slot.bus) (precedes q s v (region_value s other)) (subst (λ x. comes_first q s v x ≡ true) other_is first) in
+          let there : other.level ≡ level q (region_value s other).function.slot.bus = ap (λ (k : Known). k.level) (ordered.known k d inside).is.all in
           let here = level_is in
           omega (arith, up, there, here)
     ]
@@ -203,31 +203,42 @@ module _ (q : Request) (s : System) (nested : IsNested q.roots s) (rs : List Cod
             subst (Contains (map decoded_range_of (taken_in space))) (sym has.2) (in_map_from decoded_range_of (taken_in space) has.0 has.1));
       }
 
-      free_is : (space : Space) → space ≡ part_space v → is_free r.range (taken_in space) ≡ list_all (λ t. not (takes_from q t v && test t)) (system_parts q s)
+      free_is : (space : Space) → space ≡ part_space v → is_free r.range (taken_in space) ≡ list_all (λ t. not (takes_from q s t v && test t)) (system_parts q s)
       free_is space of =
           ap (λ x. list_all (λ (t : Range). ranges_are_apart (decoded_range_of t) x) (taken_in space)) range_is
           ∙ sym (list_all-map (λ (x : DecodedRange). ranges_are_apart x (addresses v)) decoded_range_of (taken_in space))
           ∙ free_of_taken q s nested vs ordered.order count test passed.told (let l = long in omega (arith, within, l)) v v_is (map decoded_range_of (taken_in space)) (beside_taken space of)
 
-      -- so it stands where it is in place, and is free
-      pub stands_where : q.anew ≡ false → (space : Space) → space ≡ part_space v → stands_if q s test v ≡ (is_in_place q s test v && is_free r.range (taken_in space))
+      -- so it stands where no line keeps it off, it is in place, and is free
+      pub stands_where : q.anew ≡ false → (space : Space) → space ≡ part_space v → stands_if q s test v ≡ (not (is_kept_off q s v) && (is_in_place q s test v && is_free r.range (in_space space io mem)))
       stands_where none space of =
-          ap (λ b. not b && is_part q s v.function v.part && is_in_place q s test v && list_all (λ t. not (takes_from q t v && test t)) (system_parts q s)) none
-          ∙ ap (λ b. b && is_in_place q s test v && list_all (λ t. not (takes_from q t v && test t)) (system_parts q s)) (part_of q s v is_known.listed).is
-          ∙ ap (λ b. is_in_place q s test v && b) (sym (free_is space of))
+          let free = list_all (λ t. not (takes_from q s t v && test t)) (system_parts q s) in
+          ap (λ b. not (is_kept_off q s v) && (leads_to_told q s v || not b) && is_part q s v.function v.part && is_in_place q s test v && free) none
+          ∙ ap (λ b. not (is_kept_off q s v) && b && is_part q s v.function v.part && is_in_place q s test v && free) (or_true (leads_to_told q s v))
+          ∙ ap (λ b. not (is_kept_off q s v) && true && b && is_in_place q s test v && free) (part_of q s v is_known.is.listed).is
+          ∙ grouped (not (is_kept_off q s v)) (is_in_place q s test v) free
+          ∙ ap (λ b. not (is_kept_off q s v) && (is_in_place q s test v && b)) (sym (free_is space of))
+        where
+          or_true : (b : Bool) → (b || true) ≡ true
+          or_true true = refl
+          or_true false = refl
+
+          grouped : (a b c : Bool) → (a && true && true && b && c) ≡ (a && (b && c))
+          grouped true b c = refl
+          grouped false b c = refl
 
       -- it isn't told yet
       not_yet : test v ≡ false
-      not_yet = false_from_ne_true (test v) (λ is. never (passed.told.only v (part_of q s v is_known.listed).listed is))
+      not_yet = false_from_ne_true (test v) (λ is. never (passed.told.only v (part_of q s v is_known.is.listed).listed is))
         where
-          itself : comes_first q v v ≡ true → ⊥
-          itself first = both_ways (comes_first q v v) (not_itself q v) first
+          itself : comes_first q s v v ≡ true → ⊥
+          itself first = both_ways (comes_first q s v v) (not_itself q s v) first
 
           never : IsAmong vs count v → ⊥
           never among =
               let low = among.first in
               let l = long in
-              itself (subst (λ x. comes_first q x v ≡ true) among.is (subst (λ x. comes_first q (get_or vs among.at v) x ≡ true) v_is (ordered.order.order among.at count v low (omega (arith, within, l)))))
+              itself (subst (λ x. comes_first q s x v ≡ true) among.is (subst (λ x. comes_first q s (get_or vs among.at v) x ≡ true) v_is (ordered.order.order among.at count v low (omega (arith, within, l)))))
 
       pub told_not : stands_if q s test v ≡ false → AreFirstPassed q s rs (count + 1) (taken_with r.level io mem) table
       told_not off = record {
@@ -270,7 +281,7 @@ module _ (q : Request) (s : System) (nested : IsNested q.roots s) (rs : List Cod
             | inl same ↦ (
               v,
               record {
-                listed = is_known.listed;
+                listed = is_known.is.listed;
                 stands = here;
                 on = sym level_is;
                 in_space = sym of;

@@ -1,13 +1,13 @@
 -- What noting one part does to the pass, by what is found of it.
-use Rattle.std.proofs.Common.{◌≡◌, ℕ, ◌+◌, ◌<◌, List, length, get_or, set, Bool, true, false, arith, sym, ◌∙◌, ap, subst, refl}
-use Rattle.std.proofs.lemmas.Bool.{and_left, and_right, and_from}
+use Rattle.std.proofs.Common.{◌≡◌, ℕ, ◌+◌, ◌<◌, List, length, get_or, set, Bool, true, false, ◌&&◌, not, arith, sym, ◌∙◌, ap, subst, refl}
+use Rattle.std.proofs.lemmas.Bool.{and_right}
 use Rattle.std.proofs.lemmas.List.{length-set, get_or_default}
 use Rattle.std.proofs.lemmas.Option.{slice_get-get_or}
 use Rattle.pci_spec.specs.System.{System, Space, Io, Memory, Part, IsSystem}
 use Rattle.pci_spec.specs.Bus.{IsNested}
 use Rattle.settle_spec.specs.Lists.{Request}
 use Rattle.settle_spec.specs.Parts.{FunctionPart}
-use Rattle.settle_spec.specs.Stands.{part_space, is_in_place}
+use Rattle.settle_spec.specs.Stands.{part_space, is_in_place, is_kept_off, stands_if}
 use Rattle.pci_base.specs.Space as code
 use Rattle.pci_base.specs.declared.range.Range.{Range}
 use Rattle.pci_place.specs.Items.{function_in, no_function}
@@ -40,7 +40,7 @@ module _ (q : Request) (s : System) (system : IsSystem s) (nested : IsNested q.r
   space = code.space_of r.space
 
   of : space ≡ part_space v
-  of = ap (λ (k : Known). k.space) (is_known q s nested rs ordered count within r r_is).all
+  of = ap (λ (k : Known). k.space) (is_known q s nested rs ordered count within r r_is).is.all
 
   pub passed : AreFirstPassed q s rs count (taken_with level io mem) table
   passed = gone q s nested rs ordered count within r r_is bus level old_io old_mem io mem table to before
@@ -51,13 +51,27 @@ module _ (q : Request) (s : System) (system : IsSystem s) (nested : IsNested q.r
   there : (new_level : ℕ) (new_io new_mem : List Range) (next : List Kept) → new_level ≡ level → AreFirstPassed q s rs (count + 1) (taken_with r.level new_io new_mem) next → AreFirstPassed q s rs (count + 1) (taken_with new_level new_io new_mem) next
   there new_level new_io new_mem next same is = subst (λ n. AreFirstPassed q s rs (count + 1) (taken_with n new_io new_mem) next) (sym (same ∙ to.there)) is
 
+  abbrev free_there : Bool
+  free_there = is_free r.range (in_space space io mem)
+
+  where_so : (a b c : Bool) → a ≡ is_kept_off q s v → b ≡ is_in_place q s (stands_in s table) v → c ≡ free_there → stands_if q s (stands_in s table) v ≡ (not a && (b && c))
+  where_so a b c x y z =
+      stands_where q s nested rs ordered count within r r_is io mem table here none space of
+      ∙ ap (λ w. not w && (is_in_place q s (stands_in s table) v && free_there)) (sym x)
+      ∙ ap (λ w. not a && (w && free_there)) (sym y)
+      ∙ ap (λ w. not a && (b && w)) (sym z)
+
+  stands_not : stands_if q s (stands_in s table) v ≡ false → AreFirstPassed q s rs (count + 1) (taken_with level io mem) table
+  stands_not off = there level io mem table refl (told_not q s nested rs ordered count within r r_is io mem table here off)
+
+  -- what a line keeps off doesn't stand
+  pub kept_away : is_kept_off q s v ≡ true → AreFirstPassed q s rs (count + 1) (taken_with level io mem) table
+  kept_away on = stands_not (where_so true (is_in_place q s (stands_in s table) v) free_there (sym on) refl refl)
+
   module _ (in_place : Bool) (told : in_place ≡ is_in_place q s (stands_in s table) v) where
-    -- what isn't where it can stand doesn't
+    -- nor does what isn't where it can stand
     pub out_of_place : in_place ≡ false → AreFirstPassed q s rs (count + 1) (taken_with level io mem) table
-    out_of_place off =
-        there level io mem table refl
-        (told_not q s nested rs ordered count within r r_is io mem table here
-        (stands_where q s nested rs ordered count within r r_is io mem table here none space of ∙ and_left (is_in_place q s (stands_in s table) v) (is_free r.range (in_space space io mem)) (sym told ∙ off)))
+    out_of_place off = stands_not (where_so (is_kept_off q s v) false free_there refl (sym off ∙ told) refl ∙ and_right (not (is_kept_off q s v)) false refl)
 
     module _ (free : Bool) (free_is : free ≡ is_free r.range (in_space space io mem)) (new_level : ℕ) (new_io new_mem : List Range) (same : new_level ≡ level) (other : in_other space new_io new_mem ≡ in_other space io mem)
         (took : IsWithTaken free r.range (in_space space io mem) (in_space space new_io new_mem)) where
@@ -69,13 +83,13 @@ module _ (q : Request) (s : System) (system : IsSystem s) (nested : IsNested q.r
           (subst (λ xs. AreFirstPassed q s rs (count + 1) (taken_with new_level io xs) table) (sym kept.1)
           (there new_level io mem table same
           (told_not q s nested rs ordered count within r r_is io mem table here
-          (stands_where q s nested rs ordered count within r r_is io mem table here none space of ∙ and_right (is_in_place q s (stands_in s table) v) (is_free r.range (in_space space io mem)) (sym free_is ∙ off)))))
+          (where_so (is_kept_off q s v) in_place false refl told (sym off ∙ free_is) ∙ ap (λ b. not (is_kept_off q s v) && b) (and_right in_place false refl) ∙ and_right (not (is_kept_off q s v)) false refl))))
 
       -- all else does
-      pub stands_there : in_place ≡ true → free ≡ true → (entry : Kept) (next : List Kept) → next ≡ set table r.function entry → kept_of entry (spec_part r.part) ≡ true
+      pub stands_there : is_kept_off q s v ≡ false → in_place ≡ true → free ≡ true → (entry : Kept) (next : List Kept) → next ≡ set table r.function entry → kept_of entry (spec_part r.part) ≡ true
           → (d : Kept) → ((o : Part) → (o ≡ spec_part r.part → ⊥) → kept_of entry o ≡ kept_of (get_or table r.function d) o) → AreFirstPassed q s rs (count + 1) (taken_with new_level new_io new_mem) next
-      stands_there is free_on entry next put noted d others =
-          let low = (is_known q s nested rs ordered count within r r_is).within in
+      stands_there fine is free_on entry next put noted d others =
+          let low = (is_known q s nested rs ordered count within r r_is).is.within in
           let size = here.size in
           let inside : r.function < length table = omega (arith, low, size) in
           let at = slice_get-get_or s r.function no_function low in
@@ -86,6 +100,5 @@ module _ (q : Request) (s : System) (system : IsSystem s) (nested : IsNested q.r
           (told_so q s nested rs ordered count within r r_is io mem table here (set table r.function entry) (length-set table r.function entry ∙ size)
           (noted_here s system table r.function (function_in s r.function) at inside (spec_part r.part) entry true noted kept)
           (noted_others s system table r.function (function_in s r.function) at inside (spec_part r.part) entry true noted kept)
-          (stands_where q s nested rs ordered count within r r_is io mem table here none space of
-          ∙ and_from (is_in_place q s (stands_in s table) v) (is_free r.range (in_space space io mem)) (sym told ∙ is) (sym free_is ∙ free_on))
+          (where_so false true true (sym fine) (sym is ∙ told) (sym free_on ∙ free_is))
           space of new_io new_mem (subst (λ b. IsWithTaken b r.range (in_space space io mem) (in_space space new_io new_mem)) free_on took) other))

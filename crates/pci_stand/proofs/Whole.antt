@@ -1,5 +1,5 @@
 -- The parts that are collected and sorted are gone over in order, and in the end all that stand are noted.
-use Rattle.std.proofs.Common.{◌≡◌, ℕ, zero, suc, ◌+◌, ◌-◌, ◌<◌, ◌⊎◌, inl, inr, List, [], ◌∷◌, ◌++◌, map, length, take, drop, get_or, Bool, true, false, ◌&&◌, ◌||◌, arith, sym, ◌∙◌, ap, subst, refl}
+use Rattle.std.proofs.Common.{◌≡◌, ℕ, zero, suc, ◌+◌, ◌-◌, ◌<◌, ◌⊎◌, inl, inr, List, [], ◌∷◌, ◌++◌, map, length, take, drop, get_or, Bool, true, false, cond, ◌&&◌, ◌||◌, arith, sym, ◌∙◌, ap, subst, refl}
 use Rattle.std.specs.Bool.{nat_lt, ◌==◌}
 use Rattle.std.specs.List.{All, AllPairs, Contains, range_with_len}
 use Rattle.std.specs.List.Sorted.{IsPermutation}
@@ -17,7 +17,7 @@ use Rattle.pci_spec.proofs.Regions.{bar_count-le}
 use Rattle.plan_spec.proofs.Planning.AllItems.{pairs_unmap}
 use Rattle.settle_spec.specs.Lists.{Request}
 use Rattle.settle_spec.specs.Parts.{FunctionPart, system_parts, function_parts, parts_of, header_bars, header_parts, addresses, is_part}
-use Rattle.settle_spec.specs.Stands.{is_fixed_part, is_part_on, count, rank, first_by, part_precedes, stands}
+use Rattle.settle_spec.specs.Stands.{is_fixed_part, is_part_on, count, rank, first_by, precedes, leads_to_one_on, stands}
 use Rattle.stand_laws.specs.Order.{level, comes_first}
 use Rattle.stand_laws.specs.Passes.{IsAmong}
 use Rattle.stand_laws.proofs.Ranks.{ranks_rise}
@@ -30,7 +30,8 @@ use Rattle.pci_settle.specs.declared.kept.Part.TheVariants as parts
 use Rattle.pci_stand.specs.declared.region.Region.{Region as CodeRegion}
 use Rattle.pci_settle.specs.declared.kept.Kept.{Kept}
 use Rattle.pci_stand.specs.Known.{Known, region_value, known, known_of, HasAddress, AreParts}
-use Rattle.pci_stand.specs.Boards.{IsKnown, AreOpen}
+use Rattle.pci_stand.specs.Boards.{IsKnown, IsKnownPart, AreOpen}
+use Rattle.pci_stand.specs.Leads.{IsLeading}
 use Rattle.pci_stand.specs.Order.{span_of, turn_number, turn_of, IsPartInTurn}
 use Rattle.pci_settle.specs.Kept.{IsCodePart, spec_part, kept_of, nothing_kept, AreNone}
 use Rattle.pci_stand.specs.Tables.{index_of, stands_in}
@@ -49,21 +50,38 @@ slice_back len new old same long =
 
 -- ---- the order
 
-by_turn : (f o g p rest : Bool) → (turn_number f o < turn_number g p) ⊎ ((turn_number f o ≡ turn_number g p) × (rest ≡ true)) → first_by f g (first_by o p rest) ≡ true
-by_turn true true true true rest h = elim h [ inl less ↦ absurd (let no : ⊥ = omega (arith, less) in no) | inr both ↦ both.1 ]
-by_turn true true true false rest h = refl
-by_turn true true false p rest h = refl
-by_turn true false true true rest h = elim h [ inl less ↦ absurd (let no : ⊥ = omega (arith, less) in no) | inr both ↦ (let e = both.0 in absurd (let no : ⊥ = omega (arith, e) in no)) ]
-by_turn true false true false rest h = elim h [ inl less ↦ absurd (let no : ⊥ = omega (arith, less) in no) | inr both ↦ both.1 ]
-by_turn true false false p rest h = refl
-by_turn false true true true rest h = elim h [ inl less ↦ absurd (let no : ⊥ = omega (arith, less) in no) | inr both ↦ (let e = both.0 in absurd (let no : ⊥ = omega (arith, e) in no)) ]
-by_turn false true true false rest h = elim h [ inl less ↦ absurd (let no : ⊥ = omega (arith, less) in no) | inr both ↦ (let e = both.0 in absurd (let no : ⊥ = omega (arith, e) in no)) ]
-by_turn false true false true rest h = elim h [ inl less ↦ absurd (let no : ⊥ = omega (arith, less) in no) | inr both ↦ both.1 ]
-by_turn false true false false rest h = refl
-by_turn false false true true rest h = elim h [ inl less ↦ absurd (let no : ⊥ = omega (arith, less) in no) | inr both ↦ (let e = both.0 in absurd (let no : ⊥ = omega (arith, e) in no)) ]
-by_turn false false true false rest h = elim h [ inl less ↦ absurd (let no : ⊥ = omega (arith, less) in no) | inr both ↦ (let e = both.0 in absurd (let no : ⊥ = omega (arith, e) in no)) ]
-by_turn false false false true rest h = elim h [ inl less ↦ absurd (let no : ⊥ = omega (arith, less) in no) | inr both ↦ (let e = both.0 in absurd (let no : ⊥ = omega (arith, e) in no)) ]
-by_turn false false false false rest h = elim h [ inl less ↦ absurd (let no : ⊥ = omega (arith, less) in no) | inr both ↦ both.1 ]
+abbrev two_of : Bool → Bool → ℕ
+two_of f o = cond f 0 2 + cond o 0 1
+
+by_two : (f o g p rest : Bool) → (two_of f o < two_of g p) ⊎ ((two_of f o ≡ two_of g p) × (rest ≡ true)) → first_by f g (first_by o p rest) ≡ true
+by_two true true true true rest h = elim h [ inl less ↦ absurd (let no : ⊥ = omega (arith, less) in no) | inr both ↦ both.1 ]
+by_two true true true false rest h = refl
+by_two true true false p rest h = refl
+by_two true false true true rest h = elim h [ inl less ↦ absurd (let no : ⊥ = omega (arith, less) in no) | inr both ↦ (let e = both.0 in absurd (let no : ⊥ = omega (arith, e) in no)) ]
+by_two true false true false rest h = elim h [ inl less ↦ absurd (let no : ⊥ = omega (arith, less) in no) | inr both ↦ both.1 ]
+by_two true false false p rest h = refl
+by_two false true true true rest h = elim h [ inl less ↦ absurd (let no : ⊥ = omega (arith, less) in no) | inr both ↦ (let e = both.0 in absurd (let no : ⊥ = omega (arith, e) in no)) ]
+by_two false true true false rest h = elim h [ inl less ↦ absurd (let no : ⊥ = omega (arith, less) in no) | inr both ↦ (let e = both.0 in absurd (let no : ⊥ = omega (arith, e) in no)) ]
+by_two false true false true rest h = elim h [ inl less ↦ absurd (let no : ⊥ = omega (arith, less) in no) | inr both ↦ both.1 ]
+by_two false true false false rest h = refl
+by_two false false true true rest h = elim h [ inl less ↦ absurd (let no : ⊥ = omega (arith, less) in no) | inr both ↦ (let e = both.0 in absurd (let no : ⊥ = omega (arith, e) in no)) ]
+by_two false false true false rest h = elim h [ inl less ↦ absurd (let no : ⊥ = omega (arith, less) in no) | inr both ↦ (let e = both.0 in absurd (let no : ⊥ = omega (arith, e) in no)) ]
+by_two false false false true rest h = elim h [ inl less ↦ absurd (let no : ⊥ = omega (arith, less) in no) | inr both ↦ (let e = both.0 in absurd (let no : ⊥ = omega (arith, e) in no)) ]
+by_two false false false false rest h = elim h [ inl less ↦ absurd (let no : ⊥ = omega (arith, less) in no) | inr both ↦ both.1 ]
+
+few : (g p : Bool) → two_of g p < 4
+few true true = omega arith
+few true false = omega arith
+few false true = omega arith
+few false false = omega arith
+
+by_turn : (l f o m g p rest : Bool) → (turn_number l f o < turn_number m g p) ⊎ ((turn_number l f o ≡ turn_number m g p) × (rest ≡ true)) → first_by l m (first_by f g (first_by o p rest)) ≡ true
+by_turn true f o true g p rest h = by_two f o g p rest (elim h [ inl less ↦ inl (omega (arith, less)) | inr both ↦ (let e = both.0 in inr (omega (arith, e), both.1)) ])
+by_turn true f o false g p rest h = refl
+by_turn false f o true g p rest h =
+    let low = few g p in
+    absurd (elim h [ inl less ↦ (let no : ⊥ = omega (arith, less, low) in no) | inr both ↦ (let e = both.0 in let no : ⊥ = omega (arith, e, low) in no) ])
+by_turn false f o false g p rest h = by_two f o g p rest (elim h [ inl less ↦ inl (omega (arith, less)) | inr both ↦ (let e = both.0 in inr (omega (arith, e), both.1)) ])
 
 by_size : (a b m n : ℕ) → (b < a) ⊎ ((a ≡ b) × (m < n)) → (nat_lt b a || (a == b && nat_lt m n)) ≡ true
 by_size a b m n h = elim h [
@@ -81,7 +99,13 @@ module _ (q : Request) (s : System) where
   abbrev number : CodeRegion → ℕ
   number r = rank (region_value s r)
 
-  module _ (r t : CodeRegion) (r_is : IsKnown q s r) (t_is : IsKnown q s t) where
+  module _ (r t : CodeRegion) (r_known : IsKnownPart q s r) (t_known : IsKnownPart q s t) where
+    r_is : IsKnown q s r
+    r_is = r_known.is
+
+    t_is : IsKnown q s t
+    t_is = t_known.is
+
     abbrev v : FunctionPart
     v = region_value s r
 
@@ -112,26 +136,26 @@ module _ (q : Request) (s : System) where
           | inr both ↦ (let e = both.0 in inr (omega (arith, e, a, b), both.1))
         ])
 
-    turn_r : turn_of r ≡ turn_number (is_fixed_part q v) (is_part_on v)
-    turn_r = ap (λ (k : Known). turn_number k.fixed k.on) r_is.all
+    turn_r : turn_of r ≡ turn_number (leads_to_one_on q s v) (is_fixed_part q v) (is_part_on v)
+    turn_r = ap (λ b. turn_number b r.fixed r.on) r_known.leads ∙ ap (λ (k : Known). turn_number (leads_to_one_on q s v) k.fixed k.on) r_is.all
 
-    turn_t : turn_of t ≡ turn_number (is_fixed_part q w) (is_part_on w)
-    turn_t = ap (λ (k : Known). turn_number k.fixed k.on) t_is.all
+    turn_t : turn_of t ≡ turn_number (leads_to_one_on q s w) (is_fixed_part q w) (is_part_on w)
+    turn_t = ap (λ b. turn_number b t.fixed t.on) t_known.leads ∙ ap (λ (k : Known). turn_number (leads_to_one_on q s w) k.fixed k.on) t_is.all
 
-    turn_first : (turn_of r < turn_of t) ⊎ ((turn_of r ≡ turn_of t) × ((span_of t < span_of r) ⊎ ((span_of r ≡ span_of t) × (number r < number t)))) → part_precedes q v w ≡ true
+    turn_first : (turn_of r < turn_of t) ⊎ ((turn_of r ≡ turn_of t) × ((span_of t < span_of r) ⊎ ((span_of r ≡ span_of t) × (number r < number t)))) → precedes q s v w ≡ true
     turn_first h =
         let a = turn_r in
         let b = turn_t in
-        by_turn (is_fixed_part q v) (is_part_on v) (is_fixed_part q w) (is_part_on w) rest (elim h [
-          | inl less ↦ inl (subst (λ n. n < turn_number (is_fixed_part q w) (is_part_on w)) a (subst (λ n. turn_of r < n) b less))
+        by_turn (leads_to_one_on q s v) (is_fixed_part q v) (is_part_on v) (leads_to_one_on q s w) (is_fixed_part q w) (is_part_on w) rest (elim h [
+          | inl less ↦ inl (subst (λ n. n < turn_number (leads_to_one_on q s w) (is_fixed_part q w) (is_part_on w)) a (subst (λ n. turn_of r < n) b less))
           | inr both ↦ inr (sym a ∙ both.0 ∙ b, larger_first both.1)
         ])
 
-    comes : IsPartInTurn number r t → comes_first q v w ≡ true
+    comes : IsPartInTurn number r t → comes_first q s v w ≡ true
     comes h =
         let a : r.level ≡ level q v.function.slot.bus = ap (λ (k : Known). k.level) r_is.all in
         let b : t.level ≡ level q w.function.slot.bus = ap (λ (k : Known). k.level) t_is.all in
-        by_level (level q v.function.slot.bus) (level q w.function.slot.bus) (part_precedes q v w) (elim h [
+        by_level (level q v.function.slot.bus) (level q w.function.slot.bus) (precedes q s v w) (elim h [
           | inl less ↦ inl (subst (λ n. n < level q w.function.slot.bus) a (subst (λ n. r.level < n) b less))
           | inr both ↦ inr (sym a ∙ both.0 ∙ b, turn_first both.1)
         ])
@@ -155,7 +179,7 @@ module _ (q : Request) (s : System) where
         pairs_unmap (λ r t. rank r < rank t) (region_value s) collected
         (subst (AllPairs (λ r t. rank r < rank t)) (sym values_are) (ranks_rise q s system))
 
-    known_in : (x : CodeRegion) → Contains collected x → IsKnown q s x
+    pub known_in : (x : CodeRegion) → Contains collected x → IsKnown q s x
     known_in x listed =
         let has : Contains (map (known_of q s) (system_parts q s)) (known s x) = subst (λ ks. Contains ks (known s x)) are.same (in_map_from (known s) collected x listed) in
         let made : IsMade (known_of q s) (system_parts q s) (known s x) = in_map_to (known_of q s) (system_parts q s) (known s x) has in
@@ -174,6 +198,12 @@ module _ (q : Request) (s : System) where
       all_known : All (IsKnown q s) rs
       all_known k d low = known_sorted (get_or rs k d) (Contains-get_or rs k d low)
 
+      pub leads_sorted : All (IsLeading q s) collected → All (IsLeading q s) rs
+      leads_sorted leads k d low = All-contains (IsLeading q s) collected (get_or rs k d) leads (Contains-permutation rs collected (get_or rs k d) (IsPermutation-sym collected rs moved) (Contains-get_or rs k d low))
+
+      known_part : All (IsLeading q s) rs → All (IsKnownPart q s) rs
+      known_part leads k d low = record { is = all_known k d low; leads = leads k d low }
+
       has_all : (r : FunctionPart) → Contains (system_parts q s) r → Contains (map (region_value s) rs) r
       has_all r listed =
           let made : IsMade (region_value s) collected r = in_map_to (region_value s) collected r (subst (λ xs. Contains xs r) (sym values_are) listed) in
@@ -184,14 +214,14 @@ module _ (q : Request) (s : System) where
           let made : IsMade (region_value s) rs r = in_map_to (region_value s) rs r listed in
           subst (Contains (system_parts q s)) made.is (known_sorted made.from made.has).listed
 
-      pub ordered : AllPairs (IsPartInTurn number) rs → AreOrdered q s rs
-      ordered turn = record {
-        known = all_known;
+      pub ordered : All (IsLeading q s) rs → AllPairs (IsPartInTurn number) rs → AreOrdered q s rs
+      ordered leads turn = record {
+        known = λ k d low. known_part leads k d low;
         order = record {
           all = has_all;
           only = has_only;
-          order = pairs_map (λ r t. comes_first q r t ≡ true) (region_value s) rs
-              (λ i j d up inside. comes (get_or rs i d) (get_or rs j d) (all_known i d (omega (arith, up, inside))) (all_known j d inside) (turn i j d up inside));
+          order = pairs_map (λ r t. comes_first q s r t ≡ true) (region_value s) rs
+              (λ i j d up inside. comes (get_or rs i d) (get_or rs j d) (known_part leads i d (omega (arith, up, inside))) (known_part leads j d inside) (turn i j d up inside));
         };
       }
 

@@ -14,9 +14,16 @@ use Rattle.pci_function.specs.Values.{record_value}
 use Rattle.pci_stand.specs.declared.region.Region.{Region}
 use Rattle.pci_settle.specs.declared.kept.Kept.{Kept}
 use Rattle.pci_stand.specs.Known.{region_value, known, known_of, HasAddress}
+use Rattle.pci_stand.specs.Leads.{IsLeading}
 use Rattle.pci_stand.specs.Tables.{stands_in}
 
--- a lawful system with these records and lists, of which nothing is placed anew
+-- a lawful system with these records
+pub record IsTree (q : Request) (s : System) (records : List Record) : Type 0 where
+  pub has : HasRecords s (map record_value records)
+  pub system : IsSystem s
+  pub nested : IsNested q.roots s
+
+-- and with these lists, of which nothing is placed anew
 pub record IsBoard (q : Request) (s : System) (records : List Record) (lists : Lists) : Type 0 where
   pub has : HasRecords s (map record_value records)
   pub system : IsSystem s
@@ -24,12 +31,17 @@ pub record IsBoard (q : Request) (s : System) (records : List Record) (lists : L
   pub same : q.lists ≡ lists
   pub stands : IsFalse q.anew
 
--- a part of the system, of which the code knows all
+-- a part of the system, of which the code knows all but what it leads to
 pub record IsKnown (q : Request) (s : System) (r : Region) : Type 0 where
   pub listed : Contains (system_parts q s) (region_value s r)
   pub all : known s r ≡ known_of q s (region_value s r)
   pub within : r.function < length s
   pub forward : HasAddress r
+
+-- and that
+pub record IsKnownPart (q : Request) (s : System) (r : Region) : Type 0 where
+  pub is : IsKnown q s r
+  pub leads : IsLeading q s r
 
 -- no window stands that isn't open
 abbrev pub AreOpen : System → List Kept → Type 0

@@ -26,6 +26,7 @@ asked roots d fixed = record {
   anew = false;
   slots = d.slots;
   spares = d.spares;
+  told = d.told;
 }
 
 pub record Known : Type 0 where

@@ -4,7 +4,14 @@ pub mod Tables
 pub mod Places
 pub mod Known
 pub mod Order
+pub mod Leads
 pub mod Boards
 pub mod Passing
 pub mod Flags
 pub mod Held
+pub mod Rows
+pub mod ToldLines
+pub mod LineRows
+pub mod ApartRows
+pub mod StandingRanges
+pub mod RangePass

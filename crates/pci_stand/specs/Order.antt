@@ -5,12 +5,13 @@ use Rattle.pci_stand.specs.declared.region.Region.{Region}
 abbrev pub span_of : Region → ℕ
 span_of r = r.range.last - r.range.first
 
--- what is fixed comes before the rest, and then what is on
-abbrev pub turn_number : Bool → Bool → ℕ
-turn_number fixed on = (if fixed then 0 else 2) + (if on then 0 else 1)
+-- what leads to a told range that is on comes before the rest, then what is fixed, and then what is on
+abbrev pub turn_number : Bool → Bool → Bool → ℕ
+turn_number leads fixed on =
+    (if leads then 0 else 4) + (if fixed then 0 else 2) + (if on then 0 else 1)
 
 abbrev pub turn_of : Region → ℕ
-turn_of r = turn_number r.fixed r.on
+turn_of r = turn_number r.leads r.fixed r.on
 
 -- a part is larger than another, or as large and of a lower number
 abbrev pub IsLargerPart : (Region → ℕ) → Region → Region → Type 0

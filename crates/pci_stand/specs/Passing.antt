@@ -12,7 +12,7 @@ use Rattle.pci_base.specs.declared.range.Range.{Range}
 use Rattle.pci_stand.specs.declared.region.Region.{Region as CodeRegion}
 use Rattle.pci_settle.specs.declared.kept.Kept.{Kept}
 use Rattle.pci_stand.specs.Known.{region_value, HasAddress}
-use Rattle.pci_stand.specs.Boards.{IsKnown, AreOpen}
+use Rattle.pci_stand.specs.Boards.{IsKnownPart, AreOpen}
 use Rattle.pci_settle.specs.Kept.{IsCodePart, kept_of}
 use Rattle.pci_stand.specs.Tables.{stands_in}
 use Rattle.pci_stand.specs.Taken.{Taken}
@@ -25,7 +25,7 @@ pub record CanBeNoted (functions : ℕ) (r : CodeRegion) : Type 0 where
 
 -- all parts of a system, each after those that tell whether it stands
 pub record AreOrdered (q : Request) (s : System) (rs : List CodeRegion) : Type 0 where
-  pub known : All (IsKnown q s) rs
+  pub known : All (IsKnownPart q s) rs
   pub order : AreInOrder q s (map (region_value s) rs)
 
 -- a part that stands on a bus, in a space

@@ -32,6 +32,7 @@ owned_region o part space prefetch range = record {
   level = o.level;
   fixed = o.fixed;
   on = is_on o.command (space_of space);
+  leads = false;
   part = part;
   space = space;
   prefetch = prefetch;

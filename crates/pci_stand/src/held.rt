@@ -32,7 +32,7 @@ pub struct Held {
 }
 
 /// Whether a part keeps its place.
-fn is_kept(kept: &[Kept], region: &Region) -> bool
+pub fn is_kept(kept: &[Kept], region: &Region) -> bool
     ensures { result ≡ is_kept kept.now region.now }
 {
     kept_by(kept, region.function).keeps(region.part)

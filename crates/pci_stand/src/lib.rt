@@ -1,14 +1,22 @@
 //! Which parts of functions stand where they are: BARs, ROMs and windows that lie in the ranges of their root or in
-//! the window over them, and share no address with what comes before them.
+//! the window over them, and share no address with what comes before them. And which told ranges do.
 //!
 //! In the comments "Bridge 1.2" is the PCI-to-PCI Bridge Architecture Specification 1.2.
 #![tactic(auto)]
 
+pub mod apart;
+pub mod bridges;
 pub mod collect;
 pub mod fixed;
 pub mod held;
+pub mod leads;
+pub mod off;
 pub mod order;
 pub mod pass;
 pub mod place;
+pub mod ranges;
 pub mod region;
+pub mod rows;
+pub mod standing_ranges;
 pub mod taken;
+pub mod told_line;

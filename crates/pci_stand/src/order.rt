@@ -9,15 +9,20 @@ use pci_base::memory::OutOfMemory;
 use std::alloc::Allocator;
 use std::cmp::Reverse;
 
-/// Which parts of a bus have their turn first: those that are fixed, and among them those that are on.
+/// Which parts of a bus have their turn first: those that lead to a told range that is on, then those that are fixed, and among
+/// these those that are on.
 fn turn_of(region: &Region) -> u8
     ensures { result ≡ turn_of region.now }
 {
-    match (region.fixed, region.on) {
-        (true, true) => 0,
-        (true, false) => 1,
-        (false, true) => 2,
-        (false, false) => 3,
+    match (region.leads, region.fixed, region.on) {
+        (true, true, true) => 0,
+        (true, true, false) => 1,
+        (true, false, true) => 2,
+        (true, false, false) => 3,
+        (false, true, true) => 4,
+        (false, true, false) => 5,
+        (false, false, true) => 6,
+        (false, false, false) => 7,
     }
 }
 
@@ -41,7 +46,7 @@ fn sort_by_size<A: Allocator + Copy>(regions: &mut Vec<Region, A>) -> Result<(),
     }
 }
 
-/// Sorts parts by whether they are fixed and on; those of one kind stay in their order.
+/// Sorts parts by whether they lead to told ranges, are fixed and on; those of one kind stay in their order.
 fn sort_by_turn<A: Allocator + Copy>(regions: &mut Vec<Region, A>) -> Result<(), OutOfMemory>
     ensures permutation { IsPermutation regions.old.items regions.new.items }
     ensures sorted { OnOk result ((number : Region → ℕ) → AllPairs (IsLargerPart number) regions.old.items
@@ -66,7 +71,7 @@ fn sort_by_level<A: Allocator + Copy>(regions: &mut Vec<Region, A>) -> Result<()
 }
 
 /// Sorts parts that stand by slot and register into the order in which they are gone over: by bus, the roots being one;
-/// then what is fixed, what is on and what is larger comes first.
+/// then what leads to a told range that is on, what is fixed, what is on and what is larger comes first.
 pub fn sort_regions<A: Allocator + Copy>(regions: &mut Vec<Region, A>) -> Result<(), OutOfMemory>
     // nothing is lost or doubled, also where there was no memory to sort with
     ensures permutation { IsPermutation regions.old.items regions.new.items }

@@ -2,6 +2,7 @@
 ghost use Rattle.std.specs.Prelude.{◌≡◌, ◌+◌, ◌<◌, OnOk, IfOk, length};
 ghost use Rattle.std.specs.List.{All};
 ghost use Rattle.pci_spec.specs.System.{System};
+ghost use Rattle.given_spec.specs.Told.{IsTold};
 ghost use Rattle.settle_spec.specs.Lists.{Request};
 ghost use Rattle.pci_tree.specs.Ways.{IsBridgeToBus};
 ghost use Rattle.pci_place.specs.Above.{system_in};
@@ -10,13 +11,19 @@ ghost use Rattle.pci_settle.specs.Slots.{demand_value};
 ghost use Rattle.pci_stand.specs.Boards.{IsBoard};
 ghost use Rattle.pci_stand.specs.Known.{asked};
 ghost use Rattle.pci_stand.specs.Taken.{AreApartInOrder, taken_with};
+ghost use Rattle.pci_stand.specs.ToldLines.{AreToldLines};
+ghost use Rattle.pci_stand.specs.LineRows.{AreSearched, AreOffRows};
 ghost use Rattle.pci_stand.specs.Passing.{CanBeNoted, AreOrdered, AreFirstPassed, AreStanding};
 
 use crate::collect::regions;
+use crate::leads::{Told, note_leads};
+use crate::off::{Off, is_kept_off, line_rows};
 use crate::order::sort_regions;
 use crate::place::{bridges_over, is_in_place};
 use crate::region::Region;
+use crate::rows::{Rows, reaches};
 use crate::taken::Taken;
+use crate::told_line::told_lines;
 use pci_base::memory::OutOfMemory;
 use pci_base::slot::{BUSES, Slot};
 use pci_function::record::Record;
@@ -32,9 +39,12 @@ struct Board<'a, 'l> {
     /// Which function leads to each bus.
     over: &'a [Option<usize>; BUSES],
     lists: Lists<'l>,
+    /// Lines that keep parts off.
+    off: Off<'a>,
 }
 
-/// Notes a part that stands: it is where it can stand, and none of its addresses is taken by one before it.
+/// Notes a part that stands: no line keeps it off, it is where it can stand, and none of its addresses is taken by one before
+/// it.
 fn note_one<A: Allocator + Copy>(
     board: &Board,
     regions: &[Region],
@@ -44,6 +54,8 @@ fn note_one<A: Allocator + Copy>(
 ) -> Result<(), OutOfMemory>
     requires over { IsBridgeToBus board.now.records.now board.now.over.now }
     requires count { length table.old ≡ length board.now.records.now }
+    requires on { AreSearched board.now.off.on }
+    requires all { AreSearched board.now.off.all }
     requires ready { All (CanBeNoted (length board.now.records.now)) regions.now }
     requires index { index < length regions.now }
     requires io { AreApartInOrder taken.old.io.items }
@@ -51,7 +63,8 @@ fn note_one<A: Allocator + Copy>(
     ensures io { AreApartInOrder taken.new.io.items }
     ensures mem { AreApartInOrder taken.new.mem.items }
     ensures passed { OnOk result ((q : Request) → (s : System)
-        → IsBoard q s board.now.records.now (lists_value board.now.lists) → AreOrdered q s regions.now
+        → IsBoard q s board.now.records.now (lists_value board.now.lists) → IsTold q.told.ranges
+        → AreOffRows q s board.now.off → AreOrdered q s regions.now
         → AreFirstPassed q s regions.now index
         (taken_with taken.old.level taken.old.io.items taken.old.mem.items) table.old
         → AreFirstPassed q s regions.now (index + 1)
@@ -60,6 +73,10 @@ fn note_one<A: Allocator + Copy>(
     let region = &regions[index];
     taken.go_to(region.level);
     let lists = &board.lists;
+    let slot = board.records[region.function].slot;
+    if is_kept_off(&board.off, slot, region) {
+        return Ok(());
+    }
     if is_in_place(board.records, board.over, lists, region, table)
         && taken.take(region.space, region.range)?
     {
@@ -77,11 +94,14 @@ fn note_all<A: Allocator + Copy>(
 ) -> Result<(), OutOfMemory>
     requires over { IsBridgeToBus board.now.records.now board.now.over.now }
     requires count { length table.old ≡ length board.now.records.now }
+    requires on { AreSearched board.now.off.on }
+    requires all { AreSearched board.now.off.all }
     requires ready { All (CanBeNoted (length board.now.records.now)) regions.now }
     requires io { AreApartInOrder taken.old.io.items }
     requires mem { AreApartInOrder taken.old.mem.items }
     ensures passed { OnOk result ((q : Request) → (s : System)
-        → IsBoard q s board.now.records.now (lists_value board.now.lists) → AreOrdered q s regions.now
+        → IsBoard q s board.now.records.now (lists_value board.now.lists) → IsTold q.told.ranges
+        → AreOffRows q s board.now.off → AreOrdered q s regions.now
         → AreFirstPassed q s regions.now 0
         (taken_with taken.old.level taken.old.io.items taken.old.mem.items) table.old
         → AreFirstPassed q s regions.now (length regions.now)
@@ -91,6 +111,34 @@ fn note_all<A: Allocator + Copy>(
         note_one(board, regions, index, taken, table)?;
     }
     Ok(())
+}
+
+/// All parts of a system, each after those that tell whether it stands.
+fn ordered_regions<A: Allocator + Copy, B: Allocator>(
+    alloc: A,
+    admitted: &Admitted<B>,
+    lists: &Lists,
+    fixed: &[Slot],
+    told: &Told,
+) -> Result<Vec<Region, A>, OutOfMemory>
+    requires told { IsTold told.now.ranges.now }
+    requires count { length told.now.lines.now ≡ length told.now.ranges.now }
+    ensures ordered { IfOk result (λ regions. told.now.ranges.now ≡ lists.now.told.ranges.now
+        → AreToldLines (asked admitted.now.roots (demand_value lists.now) fixed.now)
+        (system_in admitted.now) told.now.lines.now
+        → AreOrdered (asked admitted.now.roots (demand_value lists.now) fixed.now)
+        (system_in admitted.now) regions.items) }
+    // each part names a function that has an entry
+    ensures ready { IfOk result (λ regions. told.now.ranges.now ≡ lists.now.told.ranges.now
+        → AreToldLines (asked admitted.now.roots (demand_value lists.now) fixed.now)
+        (system_in admitted.now) told.now.lines.now
+        → All (CanBeNoted (length (system_in admitted.now))) regions.items) }
+{
+    let records = admitted.outline().records();
+    let mut regions = regions(alloc, admitted, lists, fixed)?;
+    note_leads(records, told, regions.as_mut_slice());
+    sort_regions(&mut regions)?;
+    Ok(regions)
 }
 
 /// Which parts of each function stand where they are, in slot order: BARs but those of I/O that are left, open windows and
@@ -105,16 +153,37 @@ pub fn standing<A: Allocator + Copy, B: Allocator>(
         (asked admitted.now.roots (demand_value lists.now) fixed.now) (system_in admitted.now)
         table.items) }
 {
-    let records = admitted.outline().records();
+    let outline = admitted.outline();
+    let records = outline.records();
     let over = bridges_over(records);
-    let mut regions = regions(alloc, admitted, lists, fixed)?;
-    sort_regions(&mut regions)?;
+    let ranges = lists.told.as_slice();
+    let lines = told_lines(alloc, records, &over, &outline.roots(), ranges)?;
+    let told = Told {
+        ranges,
+        lines: lines.as_slice(),
+    };
+    let regions = ordered_regions(alloc, admitted, lists, fixed, &told)?;
+    let on = line_rows(alloc, &told, false)?;
+    let on_reaches = reaches(alloc, on.as_slice())?;
+    let all = line_rows(alloc, &told, true)?;
+    let all_reaches = reaches(alloc, all.as_slice())?;
+    let off = Off {
+        on: Rows {
+            rows: on.as_slice(),
+            reaches: on_reaches.as_slice(),
+        },
+        all: Rows {
+            rows: all.as_slice(),
+            reaches: all_reaches.as_slice(),
+        },
+    };
     let mut table = nothing_kept(alloc, records.len())?;
     let mut taken = Taken::none(alloc);
     let board = Board {
         records,
         over: &over,
         lists: *lists,
+        off,
     };
     note_all(&board, regions.as_slice(), &mut taken, table.as_mut_slice())?;
     Ok(table)

@@ -27,7 +27,7 @@ use pci_settle::list::Lists;
 use pci_settle::over::is_within;
 
 /// Whether a window of a bridge is there and open, and holds a range.
-fn is_held(windows: &Windows, kind: WindowKind, range: Range) -> bool
+pub fn is_held(windows: &Windows, kind: WindowKind, range: Range) -> bool
     ensures { result ≡ range_holds (range_in (window_of windows.now (kind_value kind)))
         (decoded_range_of range) }
 {

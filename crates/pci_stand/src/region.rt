@@ -43,6 +43,8 @@ pub struct Region {
     pub fixed: bool,
     /// Whether Command enables its space.
     pub on: bool,
+    /// Whether it leads to a told range that is on. It is noted when all parts are collected.
+    pub leads: bool,
     pub part: Part,
     pub space: Space,
     /// Whether it is a prefetchable BAR with a prefetchable window in each bridge above.
@@ -61,6 +63,7 @@ impl Owner {
             level: self.level,
             fixed: self.fixed,
             on: space.is_on(self.command),
+            leads: false,
             part,
             space,
             prefetch,

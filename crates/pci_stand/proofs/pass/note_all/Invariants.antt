@@ -1,9 +1,11 @@
 use Rattle.std.proofs.Common.{◌≡◌, length}
+use Rattle.given_spec.specs.Told.{IsTold}
 use Rattle.settle_spec.specs.Lists.{Request}
 use Rattle.pci_spec.specs.System.{System}
 use Rattle.pci_settle.specs.Lists.{lists_value}
 use Rattle.pci_stand.specs.Boards.{IsBoard}
 use Rattle.pci_stand.specs.Taken.{AreApartInOrder, taken_with}
+use Rattle.pci_stand.specs.LineRows.{AreOffRows}
 use Rattle.pci_stand.specs.Passing.{AreOrdered, AreFirstPassed}
 use Rattle.pci_stand.proofs.pass.note_all.Given as goal
 
@@ -12,7 +14,7 @@ invariant-loop-index g l = record {
   size : length l.table ≡ length l.board.records.now;
   io : AreApartInOrder l.taken.io.items;
   mem : AreApartInOrder l.taken.mem.items;
-  passed : (q : Request) (s : System) → IsBoard q s l.board.records.now (lists_value l.board.lists) → AreOrdered q s l.regions
+  passed : (q : Request) (s : System) → IsBoard q s l.board.records.now (lists_value l.board.lists) → IsTold q.told.ranges → AreOffRows q s l.board.off → AreOrdered q s l.regions
       → AreFirstPassed q s l.regions 0 (taken_with l.fn.taken.level l.fn.taken.io.items l.fn.taken.mem.items) l.fn.table
       → AreFirstPassed q s l.regions l.index (taken_with l.taken.level l.taken.io.items l.taken.mem.items) l.table;
 }

@@ -1,0 +1,92 @@
+//! Which parts of a bridge lead to a told range that is on: an open window of its class that holds it whole, and a BAR or a ROM
+//! of its space where it is answered whatever Command says.
+ghost use Rattle.std.specs.Prelude.{◌≡◌, ◌<◌, ◌≤◌, ℕ, IsTrue, IsFalse, length, slice_index_or};
+ghost use Rattle.std.specs.List.{All};
+ghost use Rattle.pci_spec.specs.System.{System};
+ghost use Rattle.settle_spec.specs.Lists.{Request};
+ghost use Rattle.settle_spec.specs.Stands.{leads_to_one_on};
+ghost use Rattle.given_spec.specs.Told.{IsTold, ToldRange as RangeValue};
+ghost use Rattle.pci_stand.specs.Boards.{IsTree, IsKnown};
+ghost use Rattle.pci_stand.specs.Known.{region_value, AreParts};
+ghost use Rattle.pci_stand.specs.ToldLines.{AreToldLines, leads_to_line};
+ghost use Rattle.pci_stand.specs.Leads.{AreKnownParts};
+
+use crate::region::Region;
+use crate::told_line::{ToldLine, extent, first_above, first_from};
+use pci_function::record::Record;
+use pci_settle::kept::Part;
+use pci_settle::over::is_within;
+use pci_told::told_range::{Mark, ToldRange};
+
+/// The ranges of a text, with what is known of each.
+#[derive(Clone, Copy)]
+pub struct Told<'a> {
+    pub ranges: &'a [ToldRange],
+    pub lines: &'a [ToldLine],
+}
+
+/// Whether a part of a bridge leads to a told range behind it, and that is on.
+fn leads_to(region: &Region, range: &ToldRange, line: ToldLine) -> bool
+    ensures { result ≡ leads_to_line region.now range.now line }
+{
+    if !line.on || range.is_held() {
+        return false;
+    }
+    match region.part {
+        Part::Window(kind) => kind == line.class && is_within(extent(range), region.range),
+        Part::Bar(_) | Part::Rom => {
+            matches!(range.mark, Mark::Always) && range.is_in(region.space)
+        }
+    }
+}
+
+/// Whether a part leads to a told range that is on, of those from an index up to another.
+fn leads_to_some(told: &Told, first: usize, end: usize, region: &Region) -> bool
+    requires count { length told.now.lines.now ≡ length told.now.ranges.now }
+    requires end { end ≤ length told.now.ranges.now }
+    ensures some { IsTrue result → (k : ℕ) × (first ≤ k) × (k < end)
+        × ((t : RangeValue) → (d : ToldLine) → IsTrue (leads_to_line region.now
+        (slice_index_or told.now.ranges.now k t) (slice_index_or told.now.lines.now k d))) }
+    ensures none { IsFalse result → (k : ℕ) → (t : RangeValue) → (d : ToldLine) → first ≤ k → k < end
+        → IsFalse (leads_to_line region.now
+        (slice_index_or told.now.ranges.now k t) (slice_index_or told.now.lines.now k d)) }
+{
+    for index in first..end {
+        if leads_to(region, &told.ranges[index], told.lines[index]) {
+            return true;
+        }
+    }
+    false
+}
+
+/// Whether a part leads to a told range that is on.
+fn leads_to_one_on(records: &[Record], told: &Told, region: &Region) -> bool
+    requires told { IsTold told.now.ranges.now }
+    requires count { length told.now.lines.now ≡ length told.now.ranges.now }
+    requires function { region.now.function < length records.now }
+    ensures { (q : Request) → (s : System) → IsTree q s records.now → q.told.ranges ≡ told.now.ranges.now
+        → AreToldLines q s told.now.lines.now → IsKnown q s region.now
+        → result ≡ leads_to_one_on q s (region_value s region.now) }
+{
+    let Some(bridge) = records[region.function].bridge else {
+        return false;
+    };
+    let first = first_from(told.ranges, u16::from(bridge.secondary));
+    let end = first_above(told.ranges, bridge.subordinate);
+    leads_to_some(told, first, end, region)
+}
+
+/// Notes of each part whether it leads to a told range that is on.
+pub fn note_leads(records: &[Record], told: &Told, regions: &mut [Region])
+    requires told { IsTold told.now.ranges.now }
+    requires count { length told.now.lines.now ≡ length told.now.ranges.now }
+    requires functions { All (λ r. r.function < length records.now) regions.old }
+    ensures { (q : Request) → (s : System) → IsTree q s records.now → q.told.ranges ≡ told.now.ranges.now
+        → AreToldLines q s told.now.lines.now → AreParts q s regions.old
+        → AreKnownParts q s regions.new }
+{
+    for index in 0..regions.len() {
+        let leads = leads_to_one_on(records, told, &regions[index]);
+        regions[index].leads = leads;
+    }
+}
